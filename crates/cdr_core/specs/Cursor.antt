@@ -1,5 +1,5 @@
 -- What contracts see of a `Reader`: where it stands, and what it hasn't read yet.
-use Rattle.std.specs.Prelude.{◌≡◌, ℕ, ◌+◌, ◌-◌, Bool, List, ◌++◌, length, ◌⊎◌}
+use Rattle.std.specs.Prelude.{◌≡◌, ℕ, ◌+◌, ◌-◌, Bool, List, [], ◌∷◌, ◌++◌, length, ◌⊎◌}
 use Rattle.cdr_core.specs.Field.{Field, ulong}
 use Rattle.cdr_core.specs.Spelling.{gap, Spells}
 
@@ -49,3 +49,7 @@ pub record Counts (bytes : List ℕ) (before after : Cursor) : Type 0 where
   pub behind : Cursor
   pub counted : Reads (ulong (length bytes)) before behind
   pub passed : Passes bytes behind after
+
+-- the bytes of a string are this text and a NUL, or neither
+abbrev pub EndsInNul : List ℕ → List ℕ → Type 0
+EndsInNul front bytes = (bytes ≡ front ++ 0 ∷ []) ⊎ ((bytes ≡ []) × (front ≡ []))

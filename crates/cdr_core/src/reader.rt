@@ -1,7 +1,9 @@
-ghost use Rattle.std.specs.Prelude.{◌≡◌, ◌+◌, ◌^◌, ◌<◌, ◌⊎◌, length, IfOk, IfErr, OnOk, OnErr};
+ghost use Rattle.std.specs.Prelude.{◌≡◌, ◌+◌, ◌^◌, ◌<◌, ◌-◌, ◌≢◌, ◌⊎◌, length, slice_index, IfOk, IfErr, OnOk, OnErr};
 ghost use Rattle.cdr_core.specs.Kind.{Octet, UShort, ULong, LongLong, Boolean, Text, Octets};
 ghost use Rattle.cdr_core.specs.Field.{octet, ushort, ulong, longlong, boolean, text, octets};
-ghost use Rattle.cdr_core.specs.Cursor.{Cursor, Reads, Skips, Takes, Counts, IsUnit};
+ghost use Rattle.std.specs.Int.{w64};
+ghost use Rattle.cdr_core.specs.Spelling.{number_bytes};
+ghost use Rattle.cdr_core.specs.Cursor.{Cursor, Reads, Skips, Takes, Counts, EndsInNul, IsUnit};
 ghost use Rattle.cdr_core.specs.Refusal.{Refuses, LacksPadding, LacksBytes, IsShort};
 
 use crate::fault::CdrFault;
@@ -120,16 +122,8 @@ impl<'a> Reader<'a> {
         ensures refused { IfErr result (λ e. Refuses LongLong self.old e) }
         ensures err { OnErr result (self.new ≡ self.old) }
     {
-        let little = self.little;
-        let body = self.number(8)?;
-        let bytes = [
-            body[0], body[1], body[2], body[3], body[4], body[5], body[6], body[7],
-        ];
-        Ok(if little {
-            i64::from_le_bytes(bytes)
-        } else {
-            i64::from_be_bytes(bytes)
-        })
+        let bits = self.eight()?;
+        Ok(bits.cast_signed())
     }
 
     /// A boolean, an octet 0 or 1. `Short` where no octet is left, `BadBool` where it is above 1.
@@ -157,15 +151,7 @@ impl<'a> Reader<'a> {
     {
         let mut ahead = self.copy();
         let counted = ahead.counted()?;
-        let bytes = match counted {
-            [] => counted,
-            [front @ .., last] => {
-                if *last != 0 {
-                    return Err(CdrFault::NoNul);
-                }
-                front
-            }
-        };
+        let bytes = without_nul(counted)?;
         let kept = Vec::from_slice(alloc, bytes)?;
         *self = ahead;
         Ok(kept)
@@ -215,6 +201,24 @@ impl<'a> Reader<'a> {
         Ok(body)
     }
 
+    // Eight bytes at a multiple of 8, as an unsigned number.
+    fn eight(&mut self) -> Result<u64, CdrFault>
+        ensures ok { IfOk result (λ n. Takes 8 (number_bytes self.old.little w64 n) self.old self.new) }
+        ensures refused { IfErr result (λ e. IsShort 8 self.old e) }
+        ensures err { OnErr result (self.new ≡ self.old) }
+    {
+        let little = self.little;
+        let body = self.number(8)?;
+        let bytes = [
+            body[0], body[1], body[2], body[3], body[4], body[5], body[6], body[7],
+        ];
+        Ok(if little {
+            u64::from_le_bytes(bytes)
+        } else {
+            u64::from_be_bytes(bytes)
+        })
+    }
+
     // A ulong length and as many bytes, which are not copied.
     fn counted(&mut self) -> Result<&'a [u8], CdrFault>
         ensures ok { IfOk result (λ bytes. Counts bytes.now self.old self.new) }
@@ -232,5 +236,17 @@ impl<'a> Reader<'a> {
         ahead.place += need;
         *self = ahead;
         Ok(bytes)
+    }
+}
+
+// What stands in front of the final NUL of a string's bytes; no bytes at all are an empty string too.
+fn without_nul<'a>(bytes: &'a [u8]) -> Result<&'a [u8], CdrFault>
+    ensures ok { IfOk result (λ front. EndsInNul front.now bytes.now) }
+    ensures refused { IfErr result (λ e. (e ≡ CdrFault.NoNul) × (0 < length bytes.now) × (slice_index bytes.now (length bytes.now - 1) ≢ 0)) }
+{
+    match bytes {
+        [] => Ok(bytes),
+        [front @ .., 0] => Ok(front),
+        [..] => Err(CdrFault::NoNul),
     }
 }

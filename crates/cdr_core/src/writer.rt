@@ -170,5 +170,6 @@ fn extend(
     out.extend_from_slice(&[0; 8][..gap as usize])?;
     out.extend_from_slice(head)?;
     out.extend_from_slice(body)?;
-    out.extend_from_slice(tail)
+    out.extend_from_slice(tail)?;
+    Ok(())
 }
