@@ -1,12 +1,12 @@
 -- What it means to pass bytes: the cursor behind them, one pass after another, and the fields read by them.
-use Rattle.std.proofs.Common.{◌≡◌, ℕ, ◌+◌, ◌^◌, ◌<◌, ℤ, Bool, true, false, List, [], ◌∷◌, ◌++◌, length, get_or, to_z, Fits as Fits64, refl, sym, ap, ◌∙◌, subst, inl, inr, arith, append_assoc, length-append}
-use Rattle.std.proofs.Math.Facts.{sfits_to_z, of_z-to_z}
+use Rattle.std.proofs.Common.{◌≡◌, ℕ, ◌+◌, ◌^◌, ◌<◌, Bool, true, false, List, [], ◌∷◌, ◌++◌, length, get_or, refl, sym, ap, ◌∙◌, subst, inl, inr, arith, append_assoc, length-append}
 use Rattle.std.proofs.lemmas.List.{append-nil}
 use Rattle.std.proofs.lemmas.Nat.{le_bytes_8, be_bytes_8}
 use Rattle.std.specs.Int.{w32, w64, from_le_bytes, from_be_bytes}
 use Rattle.cdr_core.specs.Kind.{unit_of}
-use Rattle.cdr_core.specs.Field.{Field, ulong, longlong, text, octets, kind_of, Fits}
-use Rattle.cdr_core.specs.Spelling.{gap, number_bytes, body_of, IsBody, Spells}
+use Rattle.cdr_core.specs.Field.{Field, ulong, text, octets, kind_of, Fits}
+use Rattle.cdr_core.specs.Spelling.{gap, number_bytes, IsBody, Spells}
+use Rattle.cdr_core.proofs.Bodies.{text_body}
 use Rattle.cdr_core.specs.Cursor.{Cursor, Passes, Reads, Takes, Counts, EndsInNul}
 
 -- a number's bytes are taken where the unread bytes were split twice, behind the padding and behind the body
@@ -32,22 +32,6 @@ passes_then xs ys a b c first second =
       order = second.order ∙ first.order;
       moved = omega (arith, length-append xs ys, first.moved, second.moved);
       split = first.split ∙ ap (λ x. xs ++ x) second.split ∙ sym (append_assoc xs ys c.rest);
-    }
-
--- a field is read where the bytes of a number were taken that are its body
-pub reads_taken : (field : Field) (body : List ℕ) (before after : Cursor) → Fits field → body ≡ body_of before.little field → Takes (unit_of (kind_of field)) body before after → Reads field before after
-reads_taken field body before after fits is_body taken =
-    record {
-      bytes = taken.padding ++ body;
-      spelled = record {
-        padding = taken.padding;
-        body = body;
-        fits = fits;
-        aligned = taken.aligned;
-        stands = inl is_body;
-        parts = refl;
-      };
-      passed = taken.passed;
     }
 
 -- a field is read where a length and as many bytes were passed that together are its body
@@ -92,23 +76,13 @@ text_counted bytes front kept ahead before after stood same ends counts =
 
     stands : EndsInNul front bytes → IsBody before.little (text front) (number_bytes before.little w32 (length bytes) ++ bytes)
     stands (inl e) =
-        inl
-        (ap (λ x. number_bytes before.little w32 (length x) ++ x) e
-        ∙ ap (λ n. number_bytes before.little w32 n ++ (front ++ 0 ∷ [])) (length-append front (0 ∷ []))
-        ∙ sym (append_assoc (number_bytes before.little w32 (length front + 1)) front (0 ∷ [])))
+        inl (ap (λ x. number_bytes before.little w32 (length x) ++ x) e ∙ sym (text_body before.little front))
     stands (inr e) =
         inr (
           ap text e.1,
           ap (λ x. number_bytes before.little w32 (length x) ++ x) e.0
               ∙ append-nil (number_bytes before.little w32 0),
         )
-
--- a long long is read where the eight bytes of its bits were taken
-pub longlong_taken : (bits : ℕ) (before after : Cursor) → Fits64 w64 bits → Takes 8 (number_bytes before.little w64 bits) before after → Reads (longlong (to_z w64 bits)) before after
-longlong_taken bits before after small taken =
-    reads_taken (longlong (to_z w64 bits)) (number_bytes before.little w64 bits) before after (sfits_to_z small)
-    (ap (λ n. number_bytes before.little w64 n) (sym (of_z-to_z small)))
-    taken
 
 -- eight bytes that were read as a number in the byte order of the cursor are that number's bytes
 pub takes_le : (body : List ℕ) (n : ℕ) (before after : Cursor) → before.little ≡ true → ((i : ℕ) → get_or body i 0 < 256) → n ≡ from_le_bytes w64 body → Takes 8 body before after → Takes 8 (number_bytes before.little w64 n) before after
