@@ -1,12 +1,12 @@
 -- Laws of readings, for the proofs of crates above: a place has at most one field of a kind, and none where the
 -- kind is refused.
-use Rattle.std.proofs.Common.{◌≡◌, ℕ, ◌+◌, ◌-◌, ◌^◌, ◌<◌, ◌≤◌, ℤ, Bool, List, [], ◌∷◌, ◌++◌, length, FitsSigned, refl, sym, ap, ◌∙◌, subst, inl, inr, arith, append_assoc, length-append}
+use Rattle.std.proofs.Common.{◌≡◌, ℕ, ◌+◌, ◌^◌, ◌<◌, ℤ, Bool, List, [], ◌∷◌, ◌++◌, length, refl, sym, ap, ◌∙◌, subst, inl, inr, arith, append_assoc, length-append}
 use Rattle.std.proofs.lemmas.List.{same_from_push, append-nil}
 use Rattle.std.specs.Int.{w32}
 use Rattle.cdr_core.specs.Kind.{unit_of}
 use Rattle.cdr_core.specs.Field.{Field, octet, ushort, ulong, longlong, boolean, text, octets, kind_of}
 use Rattle.cdr_core.specs.Spelling.{gap, number_bytes}
-use Rattle.cdr_core.specs.Cursor.{Cursor, Passes, Reads, Skips, Counts, EndsInNul}
+use Rattle.cdr_core.specs.Cursor.{Cursor, Passes, Reads, Counts, EndsInNul}
 use Rattle.cdr_core.specs.Laws.{OneReading, OneSkip}
 use Rattle.cdr_core.proofs.Bodies.{same_split, text_body, one_octet, one_boolean, one_longlong, one_ushort, one_ulong}
 

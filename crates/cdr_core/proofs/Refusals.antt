@@ -1,13 +1,13 @@
 -- Where a kind is refused no field of it stands, and it is refused with one fault.
-use Rattle.std.proofs.Common.{◌≡◌, ℕ, ◌+◌, ◌-◌, ◌<◌, ◌≤◌, Bool, true, false, List, [], ◌∷◌, ◌++◌, length, get_or, ◌⊎◌, refl, sym, ap, ◌∙◌, subst, inl, inr, arith, append_assoc, length-append}
+use Rattle.std.proofs.Common.{◌≡◌, ℕ, ◌+◌, ◌-◌, ◌<◌, ◌≤◌, Bool, true, false, List, [], ◌∷◌, ◌++◌, length, get_or, sym, ap, ◌∙◌, inl, inr, arith, append_assoc, length-append}
 use Rattle.std.proofs.lemmas.List.{get_or_at}
 use Rattle.cdr_core.specs.declared.fault.CdrFault.{CdrFault}
 use Rattle.cdr_core.specs.declared.fault.CdrFault.TheVariants.{Short, BadBool}
-use Rattle.cdr_core.specs.Kind.{Kind, Octet, UShort, ULong, LongLong, Boolean, Text, Octets, unit_of}
+use Rattle.cdr_core.specs.Kind.{Octet, UShort, ULong, LongLong, Boolean, Text, Octets, unit_of}
 use Rattle.cdr_core.specs.Field.{Field, octet, ushort, ulong, longlong, boolean, text, octets, kind_of}
 use Rattle.cdr_core.specs.Spelling.{gap}
-use Rattle.cdr_core.specs.Cursor.{Cursor, Reads, Skips, Counts, EndsInNul, left}
-use Rattle.cdr_core.specs.Refusal.{IsShort, LacksPadding, IsNoBool, LacksBytes, LacksNul, Refuses}
+use Rattle.cdr_core.specs.Cursor.{Cursor, Reads, Counts, EndsInNul, left}
+use Rattle.cdr_core.specs.Refusal.{IsShort, IsNoBool, LacksBytes, LacksNul}
 use Rattle.cdr_core.specs.Laws.{NoneWhereRefused, OneRefusal, NoSkipWhereLacking}
 use Rattle.cdr_core.proofs.Bodies.{bit_of, one_body, body_length}
 use Rattle.cdr_core.proofs.OneReading.{one_octet_read, one_ulong_read, octets_counts, text_counts}

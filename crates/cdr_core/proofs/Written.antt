@@ -1,5 +1,5 @@
 -- What is written of a field is a spelling of it, and is read back.
-use Rattle.std.proofs.Common.{◌≡◌, ℕ, ◌++◌, replicate, refl, inl}
+use Rattle.std.proofs.Common.{replicate, refl, inl}
 use Rattle.std.proofs.lemmas.List.{length-replicate}
 use Rattle.cdr_core.specs.Kind.{unit_of}
 use Rattle.cdr_core.specs.Field.{kind_of}

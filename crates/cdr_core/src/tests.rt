@@ -1,4 +1,6 @@
 use super::*;
+use std::alloc::Global;
+use std::process::Abort;
 use std::test::Fail;
 
 // One field of each kind at places 0 to 47, little-endian and big-endian.
@@ -12,16 +14,16 @@ const BIG: [u8; 44] = [
     0, 0, 0, 0, 0, 4, b'a', b'd', b'd', 0, 0, 0, 0, 3, 9, 8, 7, 0, 0, 0, 0, 1, 0, 0, 0, 0,
 ];
 
-fn reads_each_kind(rt: &HostRuntime, bytes: &[u8], little: bool) -> Result<(), Fail> {
+fn reads_each_kind(rt: &impl Abort, alloc: Global, bytes: &[u8], little: bool) -> Result<(), Fail> {
     let mut reader = Reader::new(bytes, little, 0);
     assert_eq!(rt; reader.octet(), Ok(7));
     assert_eq!(rt; reader.ushort(), Ok(0x1234));
     assert_eq!(rt; reader.ulong(), Ok(0x1234_5678));
     assert_eq!(rt; reader.longlong(), Ok(-2));
     assert_eq!(rt; reader.boolean(), Ok(true));
-    assert_eq!(rt; reader.text(rt.alloc())?.as_slice(), b"add".as_slice());
-    assert_eq!(rt; reader.octets(rt.alloc())?.as_slice(), [9, 8, 7].as_slice());
-    assert_eq!(rt; reader.text(rt.alloc())?.len(), 0);
+    assert_eq!(rt; reader.text(alloc)?.as_slice(), b"add".as_slice());
+    assert_eq!(rt; reader.octets(alloc)?.as_slice(), [9, 8, 7].as_slice());
+    assert_eq!(rt; reader.text(alloc)?.len(), 0);
     assert_eq!(rt; reader.place(), 41);
     assert_eq!(rt; reader.skip_to(4), Ok(()));
     assert_eq!(rt; reader.place(), 44);
@@ -32,8 +34,13 @@ fn reads_each_kind(rt: &HostRuntime, bytes: &[u8], little: bool) -> Result<(), F
     Ok(())
 }
 
-fn writes_each_kind(rt: &HostRuntime, bytes: &[u8], little: bool) -> Result<(), Fail> {
-    let mut writer = Writer::new(rt.alloc(), little, 0);
+fn writes_each_kind(
+    rt: &impl Abort,
+    alloc: Global,
+    bytes: &[u8],
+    little: bool,
+) -> Result<(), Fail> {
+    let mut writer = Writer::new(alloc, little, 0);
     writer.octet(7)?;
     writer.ushort(0x1234)?;
     writer.ulong(0x1234_5678)?;
@@ -43,16 +50,17 @@ fn writes_each_kind(rt: &HostRuntime, bytes: &[u8], little: bool) -> Result<(), 
     writer.octets(&[9, 8, 7])?;
     writer.text(b"")?;
     let written = writer.into_bytes();
-    assert_eq!(rt; written.as_slice(), &bytes[..41]);
+    assert_eq!(rt; written.len(), 41);
+    assert!(rt; bytes.starts_with(written.as_slice()));
     Ok(())
 }
 
 #[test]
 fn both_byte_orders_are_read_and_written(rt: HostRuntime) -> Result<(), Fail> {
-    reads_each_kind(&rt, &LITTLE, true)?;
-    reads_each_kind(&rt, &BIG, false)?;
-    writes_each_kind(&rt, &LITTLE, true)?;
-    writes_each_kind(&rt, &BIG, false)
+    reads_each_kind(&rt, rt.alloc(), &LITTLE, true)?;
+    reads_each_kind(&rt, rt.alloc(), &BIG, false)?;
+    writes_each_kind(&rt, rt.alloc(), &LITTLE, true)?;
+    writes_each_kind(&rt, rt.alloc(), &BIG, false)
 }
 
 #[test]
