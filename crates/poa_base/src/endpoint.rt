@@ -1,0 +1,9 @@
+//! Where a server listens.
+use crate::bytes::Bytes;
+
+/// The host and port of an IIOP profile: CORBA 3.3 Part 2, chapter 9.
+#[derive(Drop)]
+pub struct Endpoint {
+    pub host: Bytes,
+    pub port: u16,
+}

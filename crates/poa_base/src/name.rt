@@ -1,0 +1,51 @@
+//! The name of an adapter, a manager, a servant or a connection.
+ghost use Rattle.std.specs.Prelude.{◌≡◌, ◌↔◌, IsSome, IfSome};
+ghost use Rattle.poa_base.specs.Limits.{IsName};
+
+use std::marker::Model;
+
+/// 1 to 64 bytes.
+#[derive(Drop)]
+pub struct Name {
+    items: Vec<u8>,
+}
+
+impl Model for Name {
+    ghost use Rattle.std.specs.Prelude.{List, ℕ};
+    ghost use Rattle.poa_base.specs.Limits.{IsName};
+
+    ghost Value = { List ℕ };
+
+    ghost view = { λ n. n.items.items };
+
+    ghost invariant = { λ n. IsName n.items.items };
+}
+
+impl Name {
+    /// The name of these bytes; none where they are not 1 to 64. Takes no memory.
+    pub fn from_vec(items: Vec<u8>) -> Option<Self>
+        ensures exact { IsSome result ↔ IsName items.items }
+        ensures value { IfSome result (λ n. n ≡ items.items) }
+    {
+        if items.is_empty() || items.len() > 64 {
+            return None;
+        }
+        Some(Name { items })
+    }
+
+    /// The bytes, given back. Takes no memory.
+    pub fn into_vec(self) -> Vec<u8>
+        ensures { result.items ≡ self }
+    {
+        let Name { items } = self;
+        items
+    }
+
+    /// The bytes of the name, which are 1 to 64.
+    pub fn as_slice(&self) -> &[u8]
+        ensures value { result.now ≡ self.now }
+        ensures bounds { IsName self.now }
+    {
+        self.items.as_slice()
+    }
+}

@@ -1,0 +1,51 @@
+//! An object id: CORBA 3.3 Part 1, chapter 15, ObjectId.
+ghost use Rattle.std.specs.Prelude.{◌≡◌, ◌↔◌, IsSome, IfSome};
+ghost use Rattle.poa_base.specs.Limits.{IsOid};
+
+use std::marker::Model;
+
+/// At most 256 bytes, which name an object within its adapter.
+#[derive(Drop)]
+pub struct Oid {
+    items: Vec<u8>,
+}
+
+impl Model for Oid {
+    ghost use Rattle.std.specs.Prelude.{List, ℕ};
+    ghost use Rattle.poa_base.specs.Limits.{IsOid};
+
+    ghost Value = { List ℕ };
+
+    ghost view = { λ n. n.items.items };
+
+    ghost invariant = { λ n. IsOid n.items.items };
+}
+
+impl Oid {
+    /// The id of these bytes; none where they are more than 256. Takes no memory.
+    pub fn from_vec(items: Vec<u8>) -> Option<Self>
+        ensures exact { IsSome result ↔ IsOid items.items }
+        ensures value { IfSome result (λ n. n ≡ items.items) }
+    {
+        if items.len() > 256 {
+            return None;
+        }
+        Some(Oid { items })
+    }
+
+    /// The bytes, given back. Takes no memory.
+    pub fn into_vec(self) -> Vec<u8>
+        ensures { result.items ≡ self }
+    {
+        let Oid { items } = self;
+        items
+    }
+
+    /// The bytes of the id, which are at most 256.
+    pub fn as_slice(&self) -> &[u8]
+        ensures value { result.now ≡ self.now }
+        ensures bounds { IsOid self.now }
+    {
+        self.items.as_slice()
+    }
+}

@@ -1,0 +1,62 @@
+//! The path of an adapter: the names from below the root down to it.
+ghost use Rattle.std.specs.Prelude.{◌≡◌, ◌↔◌, [], IsSome, IfSome};
+ghost use Rattle.poa_base.specs.Limits.{IsPath};
+
+use crate::name::Name;
+use std::alloc::Global;
+use std::marker::Model;
+
+/// At most 16 names. The root's path has none.
+#[derive(Drop)]
+pub struct Path {
+    names: Vec<Name>,
+}
+
+impl Model for Path {
+    ghost use Rattle.std.specs.Prelude.{List, ℕ};
+    ghost use Rattle.poa_base.specs.Limits.{IsPath};
+
+    ghost Value = { List (List ℕ) };
+
+    ghost view = { λ p. p.names.items };
+
+    ghost invariant = { λ p. IsPath p.names.items };
+}
+
+impl Path {
+    /// The path of the root. Takes no memory.
+    pub fn root(alloc: Global) -> Self
+        ensures { result ≡ [] }
+    {
+        Path {
+            names: Vec::new(alloc),
+        }
+    }
+
+    /// The path of these names; none where they are more than 16. Takes no memory.
+    pub fn from_vec(names: Vec<Name>) -> Option<Self>
+        ensures exact { IsSome result ↔ IsPath names.items }
+        ensures value { IfSome result (λ p. p ≡ names.items) }
+    {
+        if names.len() > 16 {
+            return None;
+        }
+        Some(Path { names })
+    }
+
+    /// The names, given back. Takes no memory.
+    pub fn into_vec(self) -> Vec<Name>
+        ensures { result.items ≡ self }
+    {
+        let Path { names } = self;
+        names
+    }
+
+    /// The names from the root down, which are at most 16.
+    pub fn as_slice(&self) -> &[Name]
+        ensures value { result.now ≡ self.now }
+        ensures bounds { IsPath self.now }
+    {
+        self.names.as_slice()
+    }
+}

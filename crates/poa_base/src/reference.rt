@@ -1,0 +1,17 @@
+//! An interoperable object reference: CORBA 3.3 Part 2, chapter 7.
+use crate::bytes::Bytes;
+use crate::items::Items;
+
+/// A tagged profile: its tag and its data, an encapsulation.
+#[derive(Drop)]
+pub struct Profile {
+    pub tag: u32,
+    pub bytes: Bytes,
+}
+
+/// A reference: the type id and the profiles.
+#[derive(Drop)]
+pub struct Ior {
+    pub type_id: Bytes,
+    pub profiles: Items<Profile>,
+}
