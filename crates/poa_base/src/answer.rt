@@ -3,7 +3,7 @@ use crate::bytes::Bytes;
 use crate::oid::Oid;
 
 /// The answer to a command.
-#[derive(Drop)]
+#[derive(Clone, Debug, PartialEq, Eq, Drop)]
 pub enum Answer {
     Good,
     /// Good, with the id that was made.

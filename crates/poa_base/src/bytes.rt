@@ -1,11 +1,11 @@
 //! A sequence of bytes.
 ghost use Rattle.std.specs.Prelude.{◌≡◌, [], length};
 
-use std::alloc::Global;
+use std::alloc::{AllocError, Global};
 use std::marker::Model;
 
 /// Bytes of any number: a key as it stands in a message, an operation, a body, a host.
-#[derive(Drop)]
+#[derive(Debug, Drop)]
 pub struct Bytes {
     items: Vec<u8>,
 }
@@ -54,4 +54,35 @@ impl Bytes {
     {
         self.items.len()
     }
+}
+
+impl Clone for Bytes {
+    ghost is_clone = { λ x y. y ≡ x };
+
+    fn clone(&self) -> Result<Self, AllocError> {
+        let items = self.items.clone()?;
+        Ok(Bytes { items })
+    }
+}
+
+impl PartialEq for Bytes {
+    ghost use Rattle.std.specs.Prelude.{nat_eq};
+    ghost use Rattle.std.specs.Cmp.Lexicographic.{pointwise};
+    ghost use Rattle.std.specs.Cmp.Rules.{comparing};
+    ghost use Rattle.std.proofs.Common.{rules};
+
+    ghost eq = { pointwise nat_eq };
+
+    ghost laws = { Prim.search (comparing, rules) };
+
+    fn eq(&self, other: &Self) -> bool {
+        self.items == other.items
+    }
+}
+
+impl Eq for Bytes {
+    ghost use Rattle.std.specs.Cmp.Rules.{comparing};
+    ghost use Rattle.std.proofs.Common.{rules};
+
+    ghost laws = { Prim.search (comparing, rules) };
 }

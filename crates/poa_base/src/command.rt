@@ -14,7 +14,7 @@ pub enum Order {
 }
 
 /// An administrator's command.
-#[derive(Drop)]
+#[derive(Clone, Debug, PartialEq, Eq, Drop)]
 pub enum Command {
     Manager {
         manager: Name,

@@ -2,7 +2,7 @@
 use crate::bytes::Bytes;
 
 /// The host and port of an IIOP profile: CORBA 3.3 Part 2, chapter 9.
-#[derive(Drop)]
+#[derive(Clone, Debug, PartialEq, Eq, Drop)]
 pub struct Endpoint {
     pub host: Bytes,
     pub port: u16,

@@ -6,7 +6,7 @@ use crate::exception::SysExc;
 use crate::message::Head;
 
 /// A request to be written by a client.
-#[derive(Drop)]
+#[derive(Clone, Debug, PartialEq, Eq, Drop)]
 pub struct Ask {
     pub head: Head,
     pub key: Bytes,
@@ -15,7 +15,7 @@ pub struct Ask {
 }
 
 /// An argument or a result.
-#[derive(Drop)]
+#[derive(Clone, Debug, PartialEq, Eq, Drop)]
 pub enum Datum {
     /// `long long`.
     Long(i64),
@@ -30,7 +30,7 @@ pub enum Datum {
 }
 
 /// How an operation ended.
-#[derive(Drop)]
+#[derive(Clone, Debug, PartialEq, Eq, Drop)]
 pub enum Outcome {
     /// A result, or none.
     Value(Option<Datum>),
@@ -41,7 +41,7 @@ pub enum Outcome {
 }
 
 /// The answer to a call.
-#[derive(Drop)]
+#[derive(Clone, Debug, PartialEq, Eq, Drop)]
 pub enum Reply {
     /// How the operation ended.
     Outcome(Outcome),

@@ -1,11 +1,11 @@
 //! A list of any type.
 ghost use Rattle.std.specs.Prelude.{◌≡◌, [], length};
 
-use std::alloc::Global;
+use std::alloc::{AllocError, Global};
 use std::marker::Model;
 
 /// A list of values of one type.
-#[derive(Drop)]
+#[derive(Debug, Drop)]
 pub struct Items<T> {
     items: Vec<T>,
 }
@@ -54,4 +54,36 @@ impl<T> Items<T> {
     {
         self.items.len()
     }
+}
+
+impl<T: Clone> Clone for Items<T> {
+    ghost use Rattle.std.specs.List.{AllZip};
+
+    ghost is_clone = { λ x y. AllZip T.is_clone x y };
+
+    fn clone(&self) -> Result<Self, AllocError> {
+        let items = self.items.clone()?;
+        Ok(Items { items })
+    }
+}
+
+impl<T: PartialEq> PartialEq for Items<T> {
+    ghost use Rattle.std.specs.Cmp.Lexicographic.{pointwise};
+    ghost use Rattle.std.specs.Cmp.Rules.{comparing};
+    ghost use Rattle.std.proofs.Common.{rules};
+
+    ghost eq = { pointwise T.eq };
+
+    ghost laws = { Prim.search (comparing, rules) };
+
+    fn eq(&self, other: &Self) -> bool {
+        self.items == other.items
+    }
+}
+
+impl<T: Eq> Eq for Items<T> {
+    ghost use Rattle.std.specs.Cmp.Rules.{comparing};
+    ghost use Rattle.std.proofs.Common.{rules};
+
+    ghost laws = { Prim.search (comparing, rules) };
 }

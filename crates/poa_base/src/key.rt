@@ -17,7 +17,7 @@ pub struct Stamp {
 }
 
 /// An object key: the path of its adapter and the object id, and for a transient one its stamp.
-#[derive(Drop)]
+#[derive(Clone, Debug, PartialEq, Eq, Drop)]
 pub struct Key {
     pub stamp: Option<Stamp>,
     pub path: Path,

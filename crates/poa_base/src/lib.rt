@@ -5,8 +5,11 @@
 mod answer;
 mod bytes;
 mod command;
+mod config;
 mod endpoint;
+mod entry;
 mod exception;
+mod facts;
 mod invocation;
 mod items;
 mod key;
@@ -17,14 +20,23 @@ mod oid;
 mod path;
 mod policy;
 mod reference;
+mod script;
 mod servant;
 mod session;
+mod stage;
+mod verdict;
 
 pub use answer::{Answer, Reason};
 pub use bytes::Bytes;
 pub use command::{Command, Order};
+pub use config::{
+    AdapterConf, Children, Config, ForwardConf, Gives, Kind, ManagerConf, ObjectConf, RuleConf,
+    ServantConf,
+};
 pub use endpoint::Endpoint;
+pub use entry::{Attempt, Entry, Incarnation};
 pub use exception::{Completion, ExcName, SysExc};
+pub use facts::{Choice, Facts, KeyFact, Located, MapFact, WaitFacts, WalkFact};
 pub use invocation::{Ask, Datum, Outcome, Reply};
 pub use items::Items;
 pub use key::{Key, Lifespan, Stamp};
@@ -35,6 +47,9 @@ pub use oid::Oid;
 pub use path::Path;
 pub use policy::{Policy, PolicySet};
 pub use reference::{Ior, Profile};
+pub use script::ScriptLine;
 pub use servant::{Sid, State};
 pub use session::{Session, SessionEnd};
+pub use stage::{Cause, Point, Waiting};
 pub use std::alloc::AllocError as WantMemory;
+pub use verdict::Verdict;

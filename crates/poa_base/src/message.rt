@@ -20,7 +20,7 @@ pub struct Head {
 }
 
 /// The body of a request, whose arguments are not read yet.
-#[derive(Drop)]
+#[derive(Clone, Debug, PartialEq, Eq, Drop)]
 pub struct Body {
     pub bytes: Bytes,
     /// Whether numbers are little-endian.
@@ -30,7 +30,7 @@ pub struct Body {
 }
 
 /// One call. A target that gives no key is none.
-#[derive(Drop)]
+#[derive(Clone, Debug, PartialEq, Eq, Drop)]
 pub enum Call {
     Request {
         head: Head,

@@ -2,10 +2,11 @@
 ghost use Rattle.std.specs.Prelude.{◌≡◌, ◌↔◌, IsSome, IfSome};
 ghost use Rattle.poa_base.specs.Limits.{IsOid};
 
+use std::alloc::AllocError;
 use std::marker::Model;
 
 /// At most 256 bytes, which name an object within its adapter.
-#[derive(Drop)]
+#[derive(Debug, Drop)]
 pub struct Oid {
     items: Vec<u8>,
 }
@@ -48,4 +49,35 @@ impl Oid {
     {
         self.items.as_slice()
     }
+}
+
+impl Clone for Oid {
+    ghost is_clone = { λ x y. y ≡ x };
+
+    fn clone(&self) -> Result<Self, AllocError> {
+        let items = self.items.clone()?;
+        Ok(Oid { items })
+    }
+}
+
+impl PartialEq for Oid {
+    ghost use Rattle.std.specs.Prelude.{nat_eq};
+    ghost use Rattle.std.specs.Cmp.Lexicographic.{pointwise};
+    ghost use Rattle.std.specs.Cmp.Rules.{comparing};
+    ghost use Rattle.std.proofs.Common.{rules};
+
+    ghost eq = { pointwise nat_eq };
+
+    ghost laws = { Prim.search (comparing, rules) };
+
+    fn eq(&self, other: &Self) -> bool {
+        self.items == other.items
+    }
+}
+
+impl Eq for Oid {
+    ghost use Rattle.std.specs.Cmp.Rules.{comparing};
+    ghost use Rattle.std.proofs.Common.{rules};
+
+    ghost laws = { Prim.search (comparing, rules) };
 }

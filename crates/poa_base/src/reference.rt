@@ -3,14 +3,14 @@ use crate::bytes::Bytes;
 use crate::items::Items;
 
 /// A tagged profile: its tag and its data, an encapsulation.
-#[derive(Drop)]
+#[derive(Clone, Debug, PartialEq, Eq, Drop)]
 pub struct Profile {
     pub tag: u32,
     pub bytes: Bytes,
 }
 
 /// A reference: the type id and the profiles.
-#[derive(Drop)]
+#[derive(Clone, Debug, PartialEq, Eq, Drop)]
 pub struct Ior {
     pub type_id: Bytes,
     pub profiles: Items<Profile>,

@@ -10,7 +10,7 @@ pub enum Sid {
 }
 
 /// The state of a servant, by its kind.
-#[derive(Drop)]
+#[derive(Clone, Debug, PartialEq, Eq, Drop)]
 pub enum State {
     Register(i64),
     Book(Items<Bytes>),
