@@ -1,4 +1,6 @@
 //! The answers to an administrator's commands.
+use crate::copy::TryClone;
+use std::alloc::AllocError;
 use crate::bytes::Bytes;
 use crate::oid::Oid;
 
@@ -33,4 +35,10 @@ pub enum Reason {
     NoForward,
     /// The first word that is wrong, counted from 1.
     BadWord { word: u32 },
+}
+
+impl TryClone for Answer {
+    fn try_clone(&self) -> Result<Self, AllocError> {
+        self.clone()
+    }
 }

@@ -1,6 +1,7 @@
 //! A sequence of bytes.
 ghost use Rattle.std.specs.Prelude.{◌≡◌, [], length};
 
+use crate::copy::TryClone;
 use std::alloc::{AllocError, Global};
 use std::marker::Model;
 
@@ -85,4 +86,10 @@ impl Eq for Bytes {
     ghost use Rattle.std.proofs.Common.{rules};
 
     ghost laws = { Prim.search (comparing, rules) };
+}
+
+impl TryClone for Bytes {
+    fn try_clone(&self) -> Result<Self, AllocError> {
+        self.clone()
+    }
 }

@@ -1,4 +1,6 @@
 //! The administrator's commands.
+use crate::copy::TryClone;
+use std::alloc::AllocError;
 use crate::endpoint::Endpoint;
 use crate::name::Name;
 use crate::oid::Oid;
@@ -62,4 +64,10 @@ pub enum Command {
     Bad {
         word: u32,
     },
+}
+
+impl TryClone for Command {
+    fn try_clone(&self) -> Result<Self, AllocError> {
+        self.clone()
+    }
 }

@@ -1,4 +1,6 @@
 //! A configuration, with its names turned into numbers.
+use crate::copy::TryClone;
+use std::alloc::AllocError;
 use crate::bytes::Bytes;
 use crate::endpoint::Endpoint;
 use crate::exception::SysExc;
@@ -109,4 +111,52 @@ pub struct ObjectConf {
 pub struct ForwardConf {
     pub path: Path,
     pub endpoint: Endpoint,
+}
+
+impl TryClone for ManagerConf {
+    fn try_clone(&self) -> Result<Self, AllocError> {
+        self.clone()
+    }
+}
+
+impl TryClone for ServantConf {
+    fn try_clone(&self) -> Result<Self, AllocError> {
+        self.clone()
+    }
+}
+
+impl TryClone for AdapterConf {
+    fn try_clone(&self) -> Result<Self, AllocError> {
+        self.clone()
+    }
+}
+
+impl TryClone for RuleConf {
+    fn try_clone(&self) -> Result<Self, AllocError> {
+        self.clone()
+    }
+}
+
+impl TryClone for Gives {
+    fn try_clone(&self) -> Result<Self, AllocError> {
+        self.clone()
+    }
+}
+
+impl TryClone for ObjectConf {
+    fn try_clone(&self) -> Result<Self, AllocError> {
+        self.clone()
+    }
+}
+
+impl TryClone for ForwardConf {
+    fn try_clone(&self) -> Result<Self, AllocError> {
+        self.clone()
+    }
+}
+
+impl TryClone for Config {
+    fn try_clone(&self) -> Result<Self, AllocError> {
+        self.clone()
+    }
 }

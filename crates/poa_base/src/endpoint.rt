@@ -1,4 +1,6 @@
 //! Where a server listens.
+use crate::copy::TryClone;
+use std::alloc::AllocError;
 use crate::bytes::Bytes;
 
 /// The host and port of an IIOP profile: CORBA 3.3 Part 2, chapter 9.
@@ -6,4 +8,10 @@ use crate::bytes::Bytes;
 pub struct Endpoint {
     pub host: Bytes,
     pub port: u16,
+}
+
+impl TryClone for Endpoint {
+    fn try_clone(&self) -> Result<Self, AllocError> {
+        self.clone()
+    }
 }

@@ -1,4 +1,6 @@
 //! The entries of a history.
+use crate::copy::TryClone;
+use std::alloc::AllocError;
 use crate::endpoint::Endpoint;
 use crate::exception::SysExc;
 use crate::message::Call;
@@ -96,4 +98,16 @@ pub enum Entry {
     Abandon {
         worker: u32,
     },
+}
+
+impl TryClone for Incarnation {
+    fn try_clone(&self) -> Result<Self, AllocError> {
+        self.clone()
+    }
+}
+
+impl TryClone for Entry {
+    fn try_clone(&self) -> Result<Self, AllocError> {
+        self.clone()
+    }
 }

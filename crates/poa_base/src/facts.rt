@@ -1,4 +1,6 @@
 //! What the verdict on a request or a locate asks, and what it gives.
+use crate::copy::TryClone;
+use std::alloc::AllocError;
 use crate::endpoint::Endpoint;
 use crate::exception::SysExc;
 use crate::items::Items;
@@ -109,4 +111,28 @@ pub struct WaitFacts {
     pub ended: Items<u32>,
     /// The adapters that are gone.
     pub gone: Items<u32>,
+}
+
+impl TryClone for Located {
+    fn try_clone(&self) -> Result<Self, AllocError> {
+        self.clone()
+    }
+}
+
+impl TryClone for Facts {
+    fn try_clone(&self) -> Result<Self, AllocError> {
+        self.clone()
+    }
+}
+
+impl TryClone for Choice {
+    fn try_clone(&self) -> Result<Self, AllocError> {
+        self.clone()
+    }
+}
+
+impl TryClone for WaitFacts {
+    fn try_clone(&self) -> Result<Self, AllocError> {
+        self.clone()
+    }
 }

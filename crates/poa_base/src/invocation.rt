@@ -1,4 +1,6 @@
 //! What is asked of a servant, and what is answered.
+use crate::copy::TryClone;
+use std::alloc::AllocError;
 use crate::answer::Answer;
 use crate::bytes::Bytes;
 use crate::endpoint::Endpoint;
@@ -55,4 +57,28 @@ pub enum Reply {
     UnknownObject,
     /// The answer to an administrator's line.
     Answer { number: u64, answer: Answer },
+}
+
+impl TryClone for Ask {
+    fn try_clone(&self) -> Result<Self, AllocError> {
+        self.clone()
+    }
+}
+
+impl TryClone for Datum {
+    fn try_clone(&self) -> Result<Self, AllocError> {
+        self.clone()
+    }
+}
+
+impl TryClone for Outcome {
+    fn try_clone(&self) -> Result<Self, AllocError> {
+        self.clone()
+    }
+}
+
+impl TryClone for Reply {
+    fn try_clone(&self) -> Result<Self, AllocError> {
+        self.clone()
+    }
 }

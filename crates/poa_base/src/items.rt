@@ -1,6 +1,7 @@
 //! A list of any type.
 ghost use Rattle.std.specs.Prelude.{◌≡◌, [], length};
 
+use crate::copy::TryClone;
 use std::alloc::{AllocError, Global};
 use std::marker::Model;
 
@@ -56,13 +57,14 @@ impl<T> Items<T> {
     }
 }
 
-impl<T: Clone> Clone for Items<T> {
-    ghost use Rattle.std.specs.List.{AllZip};
-
-    ghost is_clone = { λ x y. AllZip T.is_clone x y };
+impl<T: TryClone> Clone for Items<T> {
+    ghost is_clone = { λ x y. y ≡ x };
 
     fn clone(&self) -> Result<Self, AllocError> {
-        let items = self.items.clone()?;
+        let mut items = Vec::with_capacity(self.items.allocator().clone()?, self.items.len())?;
+        for item in &self.items {
+            items.push(item.try_clone()?)?;
+        }
         Ok(Items { items })
     }
 }
@@ -86,4 +88,10 @@ impl<T: Eq> Eq for Items<T> {
     ghost use Rattle.std.proofs.Common.{rules};
 
     ghost laws = { Prim.search (comparing, rules) };
+}
+
+impl<T: TryClone> TryClone for Items<T> {
+    fn try_clone(&self) -> Result<Self, AllocError> {
+        self.clone()
+    }
 }

@@ -1,4 +1,6 @@
 //! What an object key says.
+use crate::copy::TryClone;
+use std::alloc::AllocError;
 use crate::oid::Oid;
 use crate::path::Path;
 
@@ -22,4 +24,10 @@ pub struct Key {
     pub stamp: Option<Stamp>,
     pub path: Path,
     pub oid: Oid,
+}
+
+impl TryClone for Key {
+    fn try_clone(&self) -> Result<Self, AllocError> {
+        self.clone()
+    }
 }

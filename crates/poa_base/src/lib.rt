@@ -6,6 +6,7 @@ mod answer;
 mod bytes;
 mod command;
 mod config;
+mod copy;
 mod endpoint;
 mod entry;
 mod exception;
@@ -33,6 +34,7 @@ pub use config::{
     AdapterConf, Children, Config, ForwardConf, Gives, Kind, ManagerConf, ObjectConf, RuleConf,
     ServantConf,
 };
+pub use copy::TryClone;
 pub use endpoint::Endpoint;
 pub use entry::{Attempt, Entry, Incarnation};
 pub use exception::{Completion, ExcName, SysExc};

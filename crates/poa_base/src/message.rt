@@ -1,4 +1,6 @@
 //! The calls that come in: requests and locates of GIOP, and an administrator's lines.
+use crate::copy::TryClone;
+use std::alloc::AllocError;
 use crate::bytes::Bytes;
 use crate::command::Command;
 
@@ -46,4 +48,16 @@ pub enum Call {
         number: u64,
         command: Command,
     },
+}
+
+impl TryClone for Body {
+    fn try_clone(&self) -> Result<Self, AllocError> {
+        self.clone()
+    }
+}
+
+impl TryClone for Call {
+    fn try_clone(&self) -> Result<Self, AllocError> {
+        self.clone()
+    }
 }

@@ -1,4 +1,6 @@
 //! An interoperable object reference: CORBA 3.3 Part 2, chapter 7.
+use crate::copy::TryClone;
+use std::alloc::AllocError;
 use crate::bytes::Bytes;
 use crate::items::Items;
 
@@ -14,4 +16,16 @@ pub struct Profile {
 pub struct Ior {
     pub type_id: Bytes,
     pub profiles: Items<Profile>,
+}
+
+impl TryClone for Profile {
+    fn try_clone(&self) -> Result<Self, AllocError> {
+        self.clone()
+    }
+}
+
+impl TryClone for Ior {
+    fn try_clone(&self) -> Result<Self, AllocError> {
+        self.clone()
+    }
 }

@@ -1,4 +1,6 @@
 //! The lines of a script that is replayed.
+use crate::copy::TryClone;
+use std::alloc::AllocError;
 use crate::bytes::Bytes;
 use crate::invocation::Datum;
 use crate::name::Name;
@@ -49,4 +51,10 @@ pub enum ScriptLine {
     Store,
     /// The journal is printed.
     Journal,
+}
+
+impl TryClone for ScriptLine {
+    fn try_clone(&self) -> Result<Self, AllocError> {
+        self.clone()
+    }
 }

@@ -1,4 +1,6 @@
 //! The servants: which one, and what it holds.
+use crate::copy::TryClone;
+use std::alloc::AllocError;
 use crate::bytes::Bytes;
 use crate::items::Items;
 
@@ -16,4 +18,10 @@ pub enum State {
     Book(Items<Bytes>),
     Echo,
     Fault,
+}
+
+impl TryClone for State {
+    fn try_clone(&self) -> Result<Self, AllocError> {
+        self.clone()
+    }
 }

@@ -1,4 +1,6 @@
 //! What is decided on a call.
+use crate::copy::TryClone;
+use std::alloc::AllocError;
 use crate::answer::Answer;
 use crate::endpoint::Endpoint;
 use crate::exception::SysExc;
@@ -29,4 +31,10 @@ pub enum Verdict {
     Answer(Answer),
     /// The command is done, and its answer waits.
     Wait,
+}
+
+impl TryClone for Verdict {
+    fn try_clone(&self) -> Result<Self, AllocError> {
+        self.clone()
+    }
 }
