@@ -1,8 +1,8 @@
 //! The answers to an administrator's commands.
-use crate::copy::TryClone;
-use std::alloc::AllocError;
 use crate::bytes::Bytes;
+use crate::copy::TryClone;
 use crate::oid::Oid;
+use std::alloc::AllocError;
 
 /// The answer to a command.
 #[derive(Clone, Debug, PartialEq, Eq, Drop)]

@@ -1,10 +1,10 @@
 //! The administrator's commands.
 use crate::copy::TryClone;
-use std::alloc::AllocError;
 use crate::endpoint::Endpoint;
 use crate::name::Name;
 use crate::oid::Oid;
 use crate::path::Path;
+use std::alloc::AllocError;
 
 /// What a manager is told to do.
 #[derive(Clone, Copy, Debug, PartialEq, Eq, Drop)]

@@ -1,7 +1,6 @@
 //! A configuration, with its names turned into numbers.
-use crate::copy::TryClone;
-use std::alloc::AllocError;
 use crate::bytes::Bytes;
+use crate::copy::TryClone;
 use crate::endpoint::Endpoint;
 use crate::exception::SysExc;
 use crate::items::Items;
@@ -11,6 +10,7 @@ use crate::oid::Oid;
 use crate::path::Path;
 use crate::policy::PolicySet;
 use crate::servant::State;
+use std::alloc::AllocError;
 
 /// What a server is configured with. Manager 0 is `root`, and the configured managers follow from 1
 /// on; a servant's number is its place in `servants`, from 0 on.

@@ -1,7 +1,7 @@
 //! Where a server listens.
+use crate::bytes::Bytes;
 use crate::copy::TryClone;
 use std::alloc::AllocError;
-use crate::bytes::Bytes;
 
 /// The host and port of an IIOP profile: CORBA 3.3 Part 2, chapter 9.
 #[derive(Clone, Debug, PartialEq, Eq, Drop)]

@@ -1,11 +1,11 @@
 //! What is asked of a servant, and what is answered.
-use crate::copy::TryClone;
-use std::alloc::AllocError;
 use crate::answer::Answer;
 use crate::bytes::Bytes;
+use crate::copy::TryClone;
 use crate::endpoint::Endpoint;
 use crate::exception::SysExc;
 use crate::message::Head;
+use std::alloc::AllocError;
 
 /// A request to be written by a client.
 #[derive(Clone, Debug, PartialEq, Eq, Drop)]

@@ -1,8 +1,8 @@
 //! What an object key says.
 use crate::copy::TryClone;
-use std::alloc::AllocError;
 use crate::oid::Oid;
 use crate::path::Path;
+use std::alloc::AllocError;
 
 /// How long a reference is good: the lifespan policy of CORBA 3.3 Part 1, chapter 15.
 #[derive(Clone, Copy, Debug, PartialEq, Eq, Drop)]

@@ -1,8 +1,8 @@
 //! The calls that come in: requests and locates of GIOP, and an administrator's lines.
-use crate::copy::TryClone;
-use std::alloc::AllocError;
 use crate::bytes::Bytes;
 use crate::command::Command;
+use crate::copy::TryClone;
+use std::alloc::AllocError;
 
 /// What a reply needs of the message that it answers: CORBA 3.3 Part 2, chapter 9.
 ///

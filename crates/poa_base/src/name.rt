@@ -3,8 +3,8 @@ ghost use Rattle.std.specs.Prelude.{◌≡◌, ◌↔◌, IsSome, IfSome};
 ghost use Rattle.poa_base.specs.Limits.{IsName};
 
 use crate::copy::TryClone;
-use std::cmp::Ordering;
 use std::alloc::AllocError;
+use std::cmp::Ordering;
 use std::marker::Model;
 
 /// 1 to 64 bytes.

@@ -3,8 +3,8 @@ ghost use Rattle.std.specs.Prelude.{◌≡◌, ◌↔◌, IsSome, IfSome};
 ghost use Rattle.poa_base.specs.Limits.{IsOid};
 
 use crate::copy::TryClone;
-use std::cmp::Ordering;
 use std::alloc::AllocError;
+use std::cmp::Ordering;
 use std::marker::Model;
 
 /// At most 256 bytes, which name an object within its adapter.

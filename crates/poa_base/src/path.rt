@@ -4,8 +4,8 @@ ghost use Rattle.poa_base.specs.Limits.{IsPath};
 
 use crate::copy::TryClone;
 use crate::name::Name;
-use std::cmp::Ordering;
 use std::alloc::{AllocError, Global};
+use std::cmp::Ordering;
 use std::marker::Model;
 
 /// At most 16 names. The root's path has none.

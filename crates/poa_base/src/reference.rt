@@ -1,8 +1,8 @@
 //! An interoperable object reference: CORBA 3.3 Part 2, chapter 7.
-use crate::copy::TryClone;
-use std::alloc::AllocError;
 use crate::bytes::Bytes;
+use crate::copy::TryClone;
 use crate::items::Items;
+use std::alloc::AllocError;
 
 /// A tagged profile: its tag and its data, an encapsulation.
 #[derive(Clone, Debug, PartialEq, Eq, Drop)]

@@ -1,11 +1,11 @@
 //! The lines of a script that is replayed.
-use crate::copy::TryClone;
-use std::alloc::AllocError;
 use crate::bytes::Bytes;
+use crate::copy::TryClone;
 use crate::invocation::Datum;
 use crate::name::Name;
 use crate::oid::Oid;
 use crate::path::Path;
+use std::alloc::AllocError;
 
 /// A line of a script.
 #[derive(Clone, Debug, PartialEq, Eq, Drop)]

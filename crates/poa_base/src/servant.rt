@@ -1,8 +1,8 @@
 //! The servants: which one, and what it holds.
-use crate::copy::TryClone;
-use std::alloc::AllocError;
 use crate::bytes::Bytes;
+use crate::copy::TryClone;
 use crate::items::Items;
+use std::alloc::AllocError;
 
 /// Which servant: a configured one by its place, or a fresh one by its activation.
 #[derive(Clone, Copy, Debug, PartialEq, Eq, Drop)]

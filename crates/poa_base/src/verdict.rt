@@ -1,10 +1,10 @@
 //! What is decided on a call.
-use crate::copy::TryClone;
-use std::alloc::AllocError;
 use crate::answer::Answer;
+use crate::copy::TryClone;
 use crate::endpoint::Endpoint;
 use crate::exception::SysExc;
 use crate::name::Name;
+use std::alloc::AllocError;
 
 /// What is done with a call when it is admitted.
 #[derive(Clone, Debug, PartialEq, Eq, Drop)]

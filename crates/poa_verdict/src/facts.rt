@@ -1,14 +1,6 @@
 //! What the verdict on a request or a locate asks, and what it gives.
-use crate::copy::TryClone;
+use poa_base::{Cause, Endpoint, Items, ManagerState, Name, PolicySet, SysExc, TryClone, Verdict};
 use std::alloc::AllocError;
-use crate::endpoint::Endpoint;
-use crate::exception::SysExc;
-use crate::items::Items;
-use crate::manager::ManagerState;
-use crate::name::Name;
-use crate::policy::PolicySet;
-use crate::stage::Cause;
-use crate::verdict::Verdict;
 
 /// What stands about a request or a locate, in the order in which the table of verdicts asks it.
 #[derive(Clone, Debug, PartialEq, Eq, Drop)]
