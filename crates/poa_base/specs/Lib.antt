@@ -1,3 +1,4 @@
 pub mod Limits
+pub mod Policies
 pub mod Shelves
 pub mod Store

@@ -1,14 +1,16 @@
 -- The verdict on a request or a locate, by its facts: the first row that applies. The rows stand in
 -- groups, and the last row of a group hands on to the next group.
-use Rattle.std.specs.Prelude.{◌==◌, ℕ, ◌+◌, Bool, true, false, ◌&&◌, ◌||◌, not, Option, None, Some, if◌then◌else◌}
+use Rattle.std.specs.Prelude.{◌==◌, ℕ, ◌+◌, Bool, true, false, ◌&&◌, not, List, Option, None, Some, if◌then◌else◌}
+use Rattle.poa_base.specs.Policies.{is_single_thread, is_main_thread, is_system_id, is_retain}
 use Rattle.poa_base.specs.declared.Cause.TheVariants.{Manager, Adapter, Id, Trial}
 use Rattle.poa_base.specs.declared.Completion.TheVariants.{No}
+use Rattle.poa_base.specs.declared.Endpoint.{Endpoint}
 use Rattle.poa_base.specs.declared.ExcName.{ExcName}
 use Rattle.poa_base.specs.declared.ExcName.TheVariants.{ObjectNotExist, Transient as Transiently, ObjAdapter}
+use Rattle.poa_base.specs.declared.ManagerState.{ManagerState}
 use Rattle.poa_base.specs.declared.ManagerState.TheVariants.{Holding, Active, Discarding, Inactive}
 use Rattle.poa_base.specs.declared.Policy.{Policy}
-use Rattle.poa_base.specs.declared.Policy.TheVariants.{SingleThread, MainThread, SystemId, Retain, MapOnly, DefaultServant, ServantManager}
-use Rattle.poa_base.specs.declared.SysExc.{SysExc}
+use Rattle.poa_base.specs.declared.Policy.TheVariants.{DefaultServant, ServantManager}
 use Rattle.poa_base.specs.declared.Verdict.{Verdict}
 use Rattle.poa_base.specs.declared.Verdict.TheVariants.{Serve, Preset, Locator, Incarnate, Try, Refuse, Forward, Addressing, Here, Unknown}
 use Rattle.poa_verdict.specs.declared.facts.Choice.{Choice}
@@ -42,47 +44,33 @@ abbrev pub is_transient : KeyFact → Bool
 is_transient Transient = true
 is_transient key = false
 
-abbrev pub is_single_thread : Policy → Bool
-is_single_thread SingleThread = true
-is_single_thread policy = false
+-- to where the endpoint table points, else that
+abbrev pub forward_or : Option Endpoint → Choice → Choice
+forward_or None other = other
+forward_or (Some endpoint) other = Go (Forward endpoint)
 
-abbrev pub is_main_thread : Policy → Bool
-is_main_thread MainThread = true
-is_main_thread policy = false
-
-abbrev pub is_system_id : Policy → Bool
-is_system_id SystemId = true
-is_system_id policy = false
-
-abbrev pub is_retain : Policy → Bool
-is_retain Retain = true
-is_retain policy = false
-
--- a manager that isn't ACTIVE: HOLDING queues, DISCARDING refuses, and INACTIVE forwards a persistent
--- key whose path the endpoint table finds
+-- INACTIVE: the endpoint table is asked for persistent keys
 abbrev pub inactive_rule : Facts → Choice
-inactive_rule f = elim f.entry [
-      | None ↦ refuse f ObjAdapter (own 5)
-      | Some endpoint ↦ if is_transient f.key then refuse f ObjAdapter (own 5) else Go (Forward endpoint)
-    ]
+inactive_rule f =
+    if is_transient f.key then refuse f ObjAdapter (own 5)
+    else forward_or f.entry (refuse f ObjAdapter (own 5))
 
-abbrev pub state_rule : Facts → Choice → Choice
-state_rule f on = elim f.state [
-      | Holding ↦ Held (Some (Manager f.manager))
-      | Active ↦ on
-      | Discarding ↦ refuse f Transiently (omg 1)
-      | Inactive ↦ inactive_rule f
-    ]
+-- what a manager's state says; ACTIVE hands on
+abbrev pub state_rule : Facts → ManagerState → Choice → Choice
+state_rule f Holding on = Held (Some (Manager f.manager))
+state_rule f Active on = on
+state_rule f Discarding on = refuse f Transiently (omg 1)
+state_rule f Inactive on = inactive_rule f
 
 -- NON_RETAIN: the locator's first rule that matches
+abbrev pub located_rows : Facts → Located → Choice
+located_rows f (Servant name) = Go (Locator name)
+located_rows f (Elsewhere endpoint) = Go (Forward endpoint)
+located_rows f (Raise exception) = Go (Refuse exception)
+located_rows f NoRule = refuse f ObjectNotExist (own 3)
+
 abbrev pub locator_rows : Facts → Choice
-locator_rows f =
-    if f.locate then Go Here else elim f.located [
-      | Servant name ↦ Go (Locator name)
-      | Elsewhere endpoint ↦ Go (Forward endpoint)
-      | Raise exception ↦ Go (Refuse exception)
-      | NoRule ↦ refuse f ObjectNotExist (own 3)
-    ]
+locator_rows f = if f.locate then Go Here else located_rows f f.located
 
 -- RETAIN: the activator
 abbrev pub activator_rows : Facts → Choice
@@ -99,76 +87,71 @@ manager_rows f =
     else locator_rows f
 
 -- USE_DEFAULT_SERVANT
-abbrev pub default_rows : Facts → Choice
-default_rows f = elim f.preset [
-      | None ↦ refuse f ObjAdapter (omg 3)
-      | Some name ↦ serve f (Preset name)
-    ]
+abbrev pub default_rows : Facts → Option (List ℕ) → Choice
+default_rows f None = refuse f ObjAdapter (omg 3)
+default_rows f (Some name) = serve f (Preset name)
 
--- an id that no active object has
-abbrev pub processing_rows : Facts → Choice
-processing_rows f = elim f.policies.processing [
-      | DefaultServant ↦ default_rows f
-      | ServantManager ↦
-          if is_retain f.policies.retention && (is_system_id f.policies.assignment && f.bad_id) then refuse f ObjectNotExist (own 3)
-          else manager_rows f
-      | other ↦ refuse f ObjectNotExist (own 3)
-    ]
+-- an adapter that makes its ids and keeps its objects has not made this one
+abbrev pub unmade : Facts → Bool
+unmade f = is_retain f.policies.retention && (is_system_id f.policies.assignment && f.bad_id)
+
+-- no active object has the id
+abbrev pub processing_rows : Facts → Policy → Choice
+processing_rows f DefaultServant = default_rows f f.preset
+processing_rows f ServantManager = if unmade f then refuse f ObjectNotExist (own 3) else manager_rows f
+processing_rows f _ = refuse f ObjectNotExist (own 3)
 
 -- RETAIN: what the map has for the id
-abbrev pub map_rows : Facts → Choice
-map_rows f = elim f.slot [
-      | ActiveAs activation ↦ serve f (Serve activation)
-      | Busy activation ↦ Held (Some (Id f.adapter activation))
-      | Free ↦ processing_rows f
-    ]
+abbrev pub map_rows : Facts → MapFact → Choice
+map_rows f (ActiveAs activation) = serve f (Serve activation)
+map_rows f (Busy activation) = Held (Some (Id f.adapter activation))
+map_rows f Free = processing_rows f f.policies.processing
 
 abbrev pub object_rows : Facts → Choice
-object_rows f = if is_retain f.policies.retention then map_rows f else processing_rows f
+object_rows f = if is_retain f.policies.retention then map_rows f f.slot else processing_rows f f.policies.processing
 
--- requests that wait for a thread
+-- SINGLE_THREAD_MODEL: a request waits for the one that runs
+abbrev pub awaits_turn : Facts → Bool
+awaits_turn f = not f.locate && (is_single_thread f.policies.thread && f.running)
+
+-- MAIN_THREAD_MODEL: a request waits for the first worker
+abbrev pub awaits_main : Facts → ℕ → Bool
+awaits_main f worker = not f.locate && (is_main_thread f.policies.thread && not (worker == 0))
+
 abbrev pub thread_rows : Facts → ℕ → Choice
 thread_rows f worker =
-    if not f.locate && (is_single_thread f.policies.thread && f.running) then Held (Some (Adapter f.adapter))
-    else if not f.locate && (is_main_thread f.policies.thread && not (worker == 0)) then Held None
+    if awaits_turn f then Held (Some (Adapter f.adapter))
+    else if awaits_main f worker then Held None
     else object_rows f
 
 -- the adapter is there
 abbrev pub found_rows : Facts → ℕ → Choice
-found_rows f worker = if f.differs then refuse f ObjectNotExist (own 2) else state_rule f (thread_rows f worker)
+found_rows f worker = if f.differs then refuse f ObjectNotExist (own 2) else state_rule f f.state (thread_rows f worker)
 
--- a child is missing, and its parent is ACTIVE
+-- a child is missing, and its parent's manager is ACTIVE
 abbrev pub trial_rows : Facts → Choice
 trial_rows f =
     if f.trial then Held (Some (Trial f.adapter))
     else if f.tries then Go Try
-    else elim f.entry [
-      | None ↦ refuse f ObjectNotExist (omg 2)
-      | Some endpoint ↦ Go (Forward endpoint)
-    ]
+    else forward_or f.entry (refuse f ObjectNotExist (omg 2))
 
 -- a child is missing
 abbrev pub missing_rows : Facts → Choice
-missing_rows f = if is_transient f.key then refuse f ObjectNotExist (own 2) else state_rule f (trial_rows f)
+missing_rows f = if is_transient f.key then refuse f ObjectNotExist (own 2) else state_rule f f.state (trial_rows f)
 
 -- the walk from the root
-abbrev pub walk_rows : Facts → ℕ → Choice
-walk_rows f worker = elim f.walk [
-      | Dying ↦ refuse f Transiently (omg 4)
-      | Missing ↦ missing_rows f
-      | Found ↦ found_rows f worker
-    ]
+abbrev pub walk_rows : Facts → ℕ → WalkFact → Choice
+walk_rows f worker Dying = refuse f Transiently (omg 4)
+walk_rows f worker Missing = missing_rows f
+walk_rows f worker Found = found_rows f worker
 
 -- the key
-abbrev pub key_rows : Facts → ℕ → Choice
-key_rows f worker = elim f.key [
-      | Absent ↦ Go Addressing
-      | Bad ↦ refuse f ObjectNotExist (own 1)
-      | OtherRun ↦ refuse f ObjectNotExist (own 2)
-      | Transient ↦ walk_rows f worker
-      | Persistent ↦ walk_rows f worker
-    ]
+abbrev pub key_rows : Facts → ℕ → KeyFact → Choice
+key_rows f worker Absent = Go Addressing
+key_rows f worker Bad = refuse f ObjectNotExist (own 1)
+key_rows f worker OtherRun = refuse f ObjectNotExist (own 2)
+key_rows f worker _ = walk_rows f worker f.walk
 
 -- the verdict for a worker
 unfoldable pub first_row : Facts → ℕ → Choice
-first_row f worker = if f.crowded then refuse f Transiently (omg 1) else key_rows f worker
+first_row f worker = if f.crowded then refuse f Transiently (omg 1) else key_rows f worker f.key

@@ -3,5 +3,7 @@
 #![tactic(auto)]
 
 mod facts;
+mod laws;
 
 pub use facts::{Choice, Facts, KeyFact, Located, MapFact, WaitFacts, WalkFact};
+pub use laws::{locates_run_nothing, servants_run_where_active};
