@@ -47,26 +47,26 @@ module _ (f : Facts) where
   no_missing : runs (missing_rows f) ≡ false
   no_missing = cond_both (is_transient f.key) _ _ (λ c. runs c ≡ false) (λ _. refused _ _) (λ _. no_state f.state _ no_trial)
 
-  impossible : {A : Type 0} (c : Choice) → runs c ≡ false → runs c ≡ true → A
-  impossible c never runs' = absurd (true≢false (sym runs' ∙ never))
+  impossible : {A : Type 0} {b : Bool} → b ≡ false → b ≡ true → A
+  impossible never runs' = absurd (true≢false (sym runs' ∙ never))
 
   active_by : (state : ManagerState) (on : Choice) → runs (state_rule f state on) ≡ true → state ≡ Active
-  active_by Holding on h = impossible _ refl h
+  active_by Holding on h = impossible refl h
   active_by Active on h = refl
-  active_by Discarding on h = impossible _ (refused Transiently (omg 1)) h
-  active_by Inactive on h = impossible _ inactive h
+  active_by Discarding on h = impossible (refused Transiently (omg 1)) h
+  active_by Inactive on h = impossible inactive h
 
   by_walk : (worker : ℕ) (walk : WalkFact) → runs (walk_rows f worker walk) ≡ true → (f.state ≡ Active) × (walk ≡ Found)
-  by_walk worker Dying h = impossible _ (refused Transiently (omg 4)) h
-  by_walk worker Missing h = impossible _ no_missing h
-  by_walk worker Found h = (cond_both f.differs _ _ (λ c. runs c ≡ true → f.state ≡ Active) (λ _. impossible _ (refused ObjectNotExist (own 2))) (λ _. active_by f.state (thread_rows f worker)) h, refl)
+  by_walk worker Dying h = impossible (refused Transiently (omg 4)) h
+  by_walk worker Missing h = impossible no_missing h
+  by_walk worker Found h = (cond_both f.differs _ _ (λ c. runs c ≡ true → f.state ≡ Active) (λ _. impossible (refused ObjectNotExist (own 2))) (λ _. active_by f.state (thread_rows f worker)) h, refl)
 
   by_key : (worker : ℕ) (key : KeyFact) → runs (key_rows f worker key) ≡ true → (f.state ≡ Active) × (f.walk ≡ Found)
-  by_key worker Absent h = impossible _ refl h
-  by_key worker Bad h = impossible _ (refused ObjectNotExist (own 1)) h
-  by_key worker OtherRun h = impossible _ (refused ObjectNotExist (own 2)) h
+  by_key worker Absent h = impossible refl h
+  by_key worker Bad h = impossible (refused ObjectNotExist (own 1)) h
+  by_key worker OtherRun h = impossible (refused ObjectNotExist (own 2)) h
   by_key worker _ h = by_walk worker f.walk h
 
   pub runs_where_active : (worker : ℕ) → runs (first_row f worker) ≡ true → (f.state ≡ Active) × (f.walk ≡ Found)
   unfolding first_row
-  runs_where_active worker = cond_both f.crowded _ _ (λ c. runs c ≡ true → (f.state ≡ Active) × (f.walk ≡ Found)) (λ _. impossible _ (refused Transiently (omg 1))) (λ _. by_key worker f.key)
+  runs_where_active worker = cond_both f.crowded _ _ (λ c. runs c ≡ true → (f.state ≡ Active) × (f.walk ≡ Found)) (λ _. impossible (refused Transiently (omg 1))) (λ _. by_key worker f.key)
