@@ -48,6 +48,10 @@ with_room slots path oid = finite.insert slots (path, oid) (stored slots path oi
 abbrev pub with_state : Slots → List (List ℕ) → List ℕ → State → Slots
 with_state slots path oid state = finite.insert slots (path, oid) (Some state)
 
+-- a state with its place
+abbrev pub with_place : Place × Option State → Option (Place × State)
+with_place e = option_map (λ state. (e.0, state)) e.1
+
 -- the states with their places, in order
 abbrev pub states : Slots → List (Place × State)
-states slots = filter_map (λ e. option_map (λ state. (e.0, state)) e.1) (finite.entries slots)
+states slots = filter_map with_place (finite.entries slots)

@@ -55,5 +55,5 @@ pub use servant::{Sid, State};
 pub use session::{Session, SessionEnd};
 pub use stage::{Cause, Point, Waiting};
 pub use std::alloc::AllocError as WantMemory;
-pub use store::Store;
+pub use store::{Row, Store};
 pub use verdict::Verdict;

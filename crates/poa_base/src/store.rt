@@ -1,11 +1,13 @@
 //! The states of servants that were etherealized, kept for their next incarnation.
-ghost use Rattle.std.specs.Prelude.{◌≡◌, ℕ, List, Some, IsSome, IfOk, OnOk, OnErr, if◌then◌else◌};
+ghost use Rattle.std.specs.Prelude.{◌≡◌, ◌++◌, [], map, ℕ, List, Some, IsSome, IfOk, OnOk, OnErr, if◌then◌else◌};
 ghost use Rattle.std.specs.BTreeMap as tree;
 ghost use Rattle.std.specs.BTreeMap.{is_at};
-ghost use Rattle.poa_base.specs.Shelves.{IsInOrder};
+ghost use Rattle.poa_base.specs.Rows.{row_seen};
+ghost use Rattle.poa_base.specs.Shelves.{IsInOrder, placed};
+ghost use Rattle.std.specs.List.{filter_map};
 ghost use Rattle.std.specs.Option.{option_copied};
 ghost use Rattle.std.specs.FinMap as finite;
-ghost use Rattle.poa_base.specs.Store.{filled, oid_cmp, stored, IsReserved, with_room, with_state, states};
+ghost use Rattle.poa_base.specs.Store.{filled, oid_cmp, stored, IsReserved, with_place, with_room, with_state, states};
 
 use crate::copy::TryClone;
 use crate::oid::Oid;
@@ -14,6 +16,14 @@ use crate::servant::State;
 use std::alloc::{AllocError, Global};
 use std::collections::BTreeMap;
 use std::marker::Model;
+
+/// A state with its place, as a store lends it.
+#[derive(Clone, Copy, Debug, Drop)]
+pub struct Row<'a> {
+    pub path: &'a Path,
+    pub oid: &'a Oid,
+    pub state: &'a State,
+}
 
 /// A finite map from an adapter's path and an object id to a state.
 #[derive(Debug, Drop)]
@@ -54,6 +64,17 @@ impl Store {
         ensures { option_copied result ≡ stored self.now path.now oid.now }
     {
         self.shelves.get(path)?.get(oid)?.as_ref()
+    }
+
+    /// The states with their places, by path and then by id.
+    pub fn rows(&self) -> Result<Vec<Row<'_>>, AllocError>
+        ensures { IfOk result (λ rows. map row_seen rows.items ≡ states self.now) }
+    {
+        let mut rows = Vec::new(self.alloc);
+        for (path, shelf) in &self.shelves {
+            add_rows(&mut rows, path, shelf)?;
+        }
+        Ok(rows)
     }
 
     /// Makes room for a state at a path and id, so that `set` there takes no memory. No state changes.
@@ -105,4 +126,15 @@ fn set_on(shelf: &mut BTreeMap<Oid, Option<State>>, oid: &Oid, state: State)
 {
     let slot = shelf.get_mut(oid).unwrap();
     *slot = Some(state);
+}
+
+fn add_rows<'a>(rows: &mut Vec<Row<'a>>, path: &'a Path, shelf: &'a BTreeMap<Oid, Option<State>>) -> Result<(), AllocError>
+    ensures { OnOk result (map row_seen rows.new.items ≡ map row_seen rows.old.items ++ filter_map with_place (placed path.now shelf.now.entries [])) }
+{
+    for (oid, slot) in shelf {
+        if let Some(state) = slot {
+            rows.push(Row { path, oid, state })?;
+        }
+    }
+    Ok(())
 }
