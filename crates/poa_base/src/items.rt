@@ -44,12 +44,14 @@ impl<T> Items<T> {
         items
     }
 
+    /// The values, lent.
     pub fn as_slice(&self) -> &[T]
         ensures { result.now ≡ self.now }
     {
         self.items.as_slice()
     }
 
+    /// How many values there are.
     pub fn len(&self) -> usize
         ensures { result ≡ length self.now }
     {

@@ -26,6 +26,8 @@ mod servant;
 mod session;
 mod stage;
 mod store;
+#[cfg(test)]
+mod tests;
 mod verdict;
 
 pub use answer::{Answer, Reason};

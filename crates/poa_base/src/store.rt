@@ -128,7 +128,11 @@ fn set_on(shelf: &mut BTreeMap<Oid, Option<State>>, oid: &Oid, state: State)
     *slot = Some(state);
 }
 
-fn add_rows<'a>(rows: &mut Vec<Row<'a>>, path: &'a Path, shelf: &'a BTreeMap<Oid, Option<State>>) -> Result<(), AllocError>
+fn add_rows<'a>(
+    rows: &mut Vec<Row<'a>>,
+    path: &'a Path,
+    shelf: &'a BTreeMap<Oid, Option<State>>,
+) -> Result<(), AllocError>
     ensures { OnOk result (map row_seen rows.new.items ≡ map row_seen rows.old.items ++ filter_map with_place (placed path.now shelf.now.entries [])) }
 {
     for (oid, slot) in shelf {
