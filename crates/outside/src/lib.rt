@@ -13,6 +13,8 @@ mod reading;
 mod standard_input;
 mod standard_output;
 mod steady_source;
+#[cfg(test)]
+mod tests;
 mod writing;
 
 pub use keeping::{Files, Put, Taken};

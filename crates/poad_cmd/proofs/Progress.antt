@@ -63,10 +63,10 @@ whole_front rest n header is within =
     let long : length (take n rest) ≡ n = length-take-le n rest within in
     let byte : (i : ℕ) → i < n → get_or (take n rest) i 0 ≡ get_or rest i 0 = λ i below. get_or-take n rest i 0 below in
     let size : size_of (take n rest) ≡ size_of rest =
-        ap (λ (b : ℕ). from_le_bytes w32 (b ∷ get_or (take n rest) 9 0 ∷ get_or (take n rest) 10 0 ∷ get_or (take n rest) 11 0 ∷ [])) (byte 8 (omega arith))
-        ∙ (ap (λ (b : ℕ). from_le_bytes w32 (get_or rest 8 0 ∷ b ∷ get_or (take n rest) 10 0 ∷ get_or (take n rest) 11 0 ∷ [])) (byte 9 (omega arith))
-        ∙ (ap (λ (b : ℕ). from_le_bytes w32 (get_or rest 8 0 ∷ get_or rest 9 0 ∷ b ∷ get_or (take n rest) 11 0 ∷ [])) (byte 10 (omega arith))
-        ∙ ap (λ (b : ℕ). from_le_bytes w32 (get_or rest 8 0 ∷ get_or rest 9 0 ∷ get_or rest 10 0 ∷ b ∷ [])) (byte 11 (omega arith)))) in
+    ap (λ (b : ℕ). from_le_bytes w32 (b ∷ get_or (take n rest) 9 0 ∷ get_or (take n rest) 10 0 ∷ get_or (take n rest) 11 0 ∷ [])) (byte 8 (omega arith))
+    ∙ (ap (λ (b : ℕ). from_le_bytes w32 (get_or rest 8 0 ∷ b ∷ get_or (take n rest) 10 0 ∷ get_or (take n rest) 11 0 ∷ [])) (byte 9 (omega arith))
+    ∙ (ap (λ (b : ℕ). from_le_bytes w32 (get_or rest 8 0 ∷ get_or rest 9 0 ∷ b ∷ get_or (take n rest) 11 0 ∷ [])) (byte 10 (omega arith))
+    ∙ ap (λ (b : ℕ). from_le_bytes w32 (get_or rest 8 0 ∷ get_or rest 9 0 ∷ get_or rest 10 0 ∷ b ∷ [])) (byte 11 (omega arith)))) in
     record {
       header = record { there = omega arith; start = take-take 8 n rest (omega arith) ∙ header.start; size = subst (λ (m : ℕ). m ≤ 1048576) (sym size) header.size };
       all = long ∙ (is ∙ ap (λ (m : ℕ). 12 + m) (sym size));

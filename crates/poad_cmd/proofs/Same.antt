@@ -12,8 +12,8 @@ use Rattle.std.proofs.lemmas.Slice.Eq.{bytes_eq-Decides}
 pub same_rest : (held key other wanted : List ℕ) (n : ℕ) (answer : Bool) → answer ≡ bytes_eq (take (length held - n) (drop n held)) other → held ≡ key → other ≡ wanted → Decides answer (drop n key ≡ wanted)
 same_rest held key other wanted n answer test is wants =
     Decides-at answer (bytes_eq (drop n key) wanted)
-        (test ∙ (ap (λ (bytes : List ℕ). bytes_eq bytes other) (take_rest held n) ∙ (ap (λ (bytes : List ℕ). bytes_eq (drop n bytes) other) is ∙ ap (bytes_eq (drop n key)) wants)))
-        (bytes_eq-Decides (drop n key) wanted)
+    (test ∙ (ap (λ (bytes : List ℕ). bytes_eq bytes other) (take_rest held n) ∙ (ap (λ (bytes : List ℕ). bytes_eq (drop n bytes) other) is ∙ ap (bytes_eq (drop n key)) wants)))
+    (bytes_eq-Decides (drop n key) wanted)
 
 -- a test that words are one word
 pub one_word : (words : List (String Global)) (word : String Global) (text wanted : List ℕ) (answer : Bool) → length words ≡ 1 → word ≡ get_or words 0 word → text ≡ string_bytes word → answer ≡ bytes_eq text wanted → Decides answer (map string_bytes words ≡ wanted ∷ [])

@@ -7,13 +7,11 @@ ghost use Rattle.poad_cmd.specs.Run.{Answers};
 ghost use Rattle.poad_cmd.specs.Service.{reach};
 ghost use Rattle.poad_cmd.specs.Piece.{TakesPiece, EndsAt};
 
-use std::alloc::Global;
-
-use outside::{Sink, Source, Took};
-
 use crate::delivery::deliver;
 use crate::serving::Service;
 use crate::status::Status;
+use outside::{Sink, Source, Took};
+use std::alloc::Global;
 
 /// How much a read takes at most.
 const PIECE: usize = 65_536;

@@ -5,10 +5,9 @@ ghost use Rattle.cdr_core.specs.Field.{octets as octets_field, text as text_fiel
 ghost use Rattle.cdr_core.specs.Cursor.{Cursor, Reads};
 ghost use Rattle.poad_cmd.specs.Refused.{IsRefused};
 
-use std::alloc::{AllocError, Global};
-
 use cdr_core::{CdrFault, Reader};
 use poa_base::Bytes;
+use std::alloc::{AllocError, Global};
 
 /// What the keys of the root adapter begin with in run 1: `POA`, form 1, transient, the run, the adapter's
 /// number 0, no names, and the length 8 of the object id.

@@ -14,6 +14,8 @@ mod register;
 mod replies;
 mod serving;
 mod status;
+#[cfg(test)]
+mod tests;
 mod unread;
 mod words;
 

@@ -3,13 +3,11 @@ ghost use Rattle.std.specs.Prelude.{◌≡◌, ◌≤◌, Ok, None, Some, IfOk, 
 ghost use Rattle.poad_cmd.specs.Plain.{Asks};
 ghost use Rattle.poad_cmd.specs.declared.operation.Operation.{Operation as OperationData};
 
-use std::alloc::{AllocError, Global};
-
-use cdr_core::Reader;
-
 use crate::head::Head;
 use crate::operation::Operation;
 use crate::register::Register;
+use cdr_core::Reader;
+use std::alloc::{AllocError, Global};
 
 /// What a plain message asks: the request's id, whether its key is that of the register, and the operation.
 #[derive(Clone, Copy, Debug, PartialEq, Eq)]

@@ -4,12 +4,10 @@ ghost use Rattle.cdr_core.specs.Draft.{Draft};
 ghost use Rattle.poad_cmd.specs.Register.{register_after, IsLong};
 ghost use Rattle.poad_cmd.specs.Reply.{framed as framed_bytes, value_reply as value_bytes, unknown_reply as unknown_bytes, reply_start as start_draft, reply_to, value_after};
 
-use std::alloc::{AllocError, Global};
-
-use cdr_core::Writer;
-
 use crate::plain_request::PlainRequest;
 use crate::register::Register;
+use cdr_core::Writer;
+use std::alloc::{AllocError, Global};
 
 /// NO_EXCEPTION (CORBA 3.3 Part 2, 9.4.3).
 const NO_EXCEPTION: u32 = 0;
@@ -31,14 +29,21 @@ pub(crate) struct Replied {
 }
 
 /// The reply to a request, and the register after it.
-pub(crate) fn reply(alloc: Global, register: &Register, request: PlainRequest) -> Result<Replied, AllocError>
+pub(crate) fn reply(
+    alloc: Global,
+    register: &Register,
+    request: PlainRequest,
+) -> Result<Replied, AllocError>
     requires { IsLong (register_after register.now.value request.operation) }
     ensures bytes { IfOk result (λ replied. replied.bytes.items ≡ reply_to register.now.value request) }
     ensures after { IfOk result (λ replied. replied.after.value ≡ value_after register.now.value request) }
 {
     if !request.known {
         let bytes = unknown_reply(alloc, request.id)?;
-        return Ok(Replied { bytes, after: *register });
+        return Ok(Replied {
+            bytes,
+            after: *register,
+        });
     }
     let after = register.after(request.operation).unwrap();
     let bytes = value_reply(alloc, request.id, after.value)?;

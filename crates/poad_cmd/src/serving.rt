@@ -2,13 +2,12 @@
 ghost use Rattle.std.specs.Prelude.{◌≡◌, ◌+◌, ◌^◌, ◌<◌, ◌≤◌, ◌++◌, [], pos, Ok, Some, None, IfOk, OnOk, OnErr, length};
 ghost use Rattle.poad_cmd.specs.Service.{reach, GivesFront, Progresses, StopsAt};
 
-use std::alloc::{AllocError, Global};
-
 use crate::front::{Front, front_of};
 use crate::plain_request::PlainRequest;
 use crate::register::Register;
 use crate::replies::reply;
 use crate::unread::Unread;
+use std::alloc::{AllocError, Global};
 
 /// What serves a stream of messages: the bytes that wait, the place of the first of them, what the
 /// register holds, and the replies that aren't written yet.

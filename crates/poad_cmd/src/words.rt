@@ -4,13 +4,11 @@ ghost use Rattle.outside.specs.Cause.{HasCause};
 ghost use Rattle.poad_cmd.specs.Run.{Answers};
 ghost use Rattle.poad_cmd.specs.Words.{IsAnswer};
 
-use std::alloc::Global;
-
-use outside::{Files, Sink, Source};
-
 use crate::answering::answer;
 use crate::host::Host;
 use crate::status::Status;
+use outside::{Files, Sink, Source};
+use std::alloc::Global;
 
 /// Does what the words say. The one command so far is `answer`, without a further word: it reads GIOP
 /// messages from the source and writes the replies to the sink.
