@@ -1,1 +1,10 @@
-
+pub mod Totals
+pub mod Rounds
+pub mod Histories
+pub mod Kept
+pub mod Draws
+pub mod Looks
+pub mod Marks
+pub mod Passes
+pub mod Joins
+pub mod InWords

@@ -1,10 +1,9 @@
 -- The rule in the words of who reads it: the words, the slot, the views, and one history.
 use Rattle.std.specs.Prelude.{◌≡◌, ℕ, ◌+◌, ◌%◌, ◌^◌, ◌<◌, ◌≤◌, ◌↔◌, ◌==◌, cond, List, [], ◌∷◌, length, Option, Some, slice_index}
-use mathlib.Core.Option.{some, none}
+use mathlib.Core.Option.{some}
 use lib.ListN.{get_elem?}
 use Rattle.atomic_table.specs.Table.{State}
-use Rattle.seat_lock.specs.declared.view.Stage.{Stage}
-use Rattle.seat_lock.specs.declared.view.Stage.TheVariants.{Idle, Waiting, Turn, Spent}
+use Rattle.seat_lock.specs.declared.view.Stage.TheVariants.{Turn, Spent}
 use Rattle.seat_lock.specs.declared.view.View.{View}
 use Rattle.seat_lock.specs.Histories.{total, times, In, IsPrefix, IsClosed, OwnsAll}
 use Rattle.seat_lock.specs.Views.{in_use, holding, tickets, weight}

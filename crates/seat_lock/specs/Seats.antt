@@ -1,5 +1,5 @@
 -- What clauses say of a lock and its seats.
-use Rattle.std.specs.Prelude.{◌≡◌, ℕ, Option, None, List, [], ◌∷◌}
+use Rattle.std.specs.Prelude.{◌≡◌, Option, None, [], ◌∷◌}
 pub use Rattle.atomic_table.specs.declared.shared.Seat.{Seat}
 use Rattle.seat_lock.specs.declared.lock.SeatLock.{SeatLock}
 use Rattle.seat_lock.specs.declared.view.Stage.TheVariants.{Idle, Turn}

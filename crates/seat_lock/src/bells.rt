@@ -38,7 +38,9 @@ impl<T: Chronicle> SeatLock<T> {
     pub fn sleep<R: Wait>(&self, rt: &R, bell: u32, heard: u32, most: Duration)
         requires { bell < BELLS }
     {
-        self.table.shared.park_timeout(rt, self.word_of(bell), heard, most);
+        self.table
+            .shared
+            .park_timeout(rt, self.word_of(bell), heard, most);
     }
 
     /// Wakes those who sleep at the bell or are about to. Answers whether there may be one: exactly where someone listened since the last ring.

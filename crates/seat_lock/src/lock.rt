@@ -12,7 +12,10 @@ use std::snapshot::Snapshot;
 use std::sync::Wait;
 
 /// A token with no bytes, with which a thread takes the value. It shows what the thread knows of the history.
-pub type Seat<T> = atomic_table::Seat<Option<T>, View<<T as Chronicle>::Givens, <T as Chronicle>::Entry>>;
+pub type Seat<T> = atomic_table::Seat<
+    Option<T>,
+    View<<T as Chronicle>::Givens, <T as Chronicle>::Entry>,
+>;
 
 /// A lock that is passed on in the order of tickets, over a value that stands for a history.
 #[derive(Drop)]
