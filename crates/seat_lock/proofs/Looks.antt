@@ -6,7 +6,7 @@ use mathlib.Core.Option as maybe
 use mathlib.Core.Logic.{dite}
 use native.Mathlib.Decide.{ℕ_discrete}
 use lib.ListN.{get_elem?}
-use Rattle.atomic_table.specs.Table.{State, Me, step, Allows, Act, keeps, takes, Valid, stepped, carried_after}
+use Rattle.atomic_table.specs.Table.{State, Me, step, Allows, Act, keeps, takes, Valid, stepped, carried_after, rest}
 use Rattle.atomic_table.proofs.Lists.{set_here, set_else, set_again}
 use Rattle.seat_lock.specs.declared.view.Stage.{Stage}
 use Rattle.seat_lock.specs.declared.view.Stage.TheVariants.{Idle, Waiting, Turn, Spent}
@@ -135,3 +135,8 @@ module _ {T G E : Type 0} (givens : T → G) (history : T → List E) (owner : E
             (subst (λ (ws : List ℕ). L record { words = ws; homes = s.homes; views = s.views }) (sym (set_self s.words 0)) r),
         ((λ hit. absurd (miss hit)), (λ _. refl)),
       ))
+
+module _ {T V : Type 0} where
+  -- the value that was taken last lies in the slot 0 of the seat
+  pub in_hand : (w : V) (x : T) (c : List (ℕ × Option T)) (m : Me (Option T) V) → m ≡ (w, (0, Some x) ∷ c) → m.1 ≡ (0, Some x) ∷ rest m.1
+  in_hand w x c m e = subst (λ (n : Me (Option T) V). n.1 ≡ (0, Some x) ∷ rest n.1) (sym e) refl

@@ -187,3 +187,11 @@ module _ {T G E : Type 0} (givens : T → G) (history : T → List E) (owner : E
   pub passes_after : (n id : ℕ) (v : View G E) (me : Me (Option T) (View G E)) (x : T) → me ≡ (v, (0, Some x) ∷ []) → v.stage ≡ Turn → v.givens ≡ Some (givens x) → MayPut owner v.kept v.mine (history x)
       → Allows L n id me 0 (λ k. (k + 1) % 2 ^ 64) (passed givens history owner (step n 0 1 0 none) me)
   passes_after n id v me x is turn gave may = subst (λ (m : Me (Option T) (View G E)). Allows L n id m 0 (λ k. (k + 1) % 2 ^ 64) (passed givens history owner (step n 0 1 0 none) m)) (sym is) (passes n id (v, (0, Some x) ∷ []) x refl turn gave may)
+
+module _ {G E : Type 0} where
+  -- what a put adds to the positions that the seat made
+  pub made_none_in : (v w : View G E) (h : List E) → w ≡ passed_on v h → h ≡ v.kept → w.mine ≡ v.mine
+  made_none_in v w h e is = ap (λ (u : View G E). u.mine) e ∙ made_none v.mine v.kept h is
+
+  pub made_one_in : (v w : View G E) (h : List E) → w ≡ passed_on v h → (x : E) → h ≡ v.kept ++ x ∷ [] → w.mine ≡ v.mine ++ length v.kept ∷ []
+  made_one_in v w h e x is = ap (λ (u : View G E). u.mine) e ∙ made_one v.mine v.kept x h is

@@ -25,7 +25,7 @@ pub struct SeatLock<T: Chronicle> {
 }
 
 impl<T: Chronicle> SeatLock<T> {
-    ghost use Rattle.std.specs.Prelude.{ℕ, ◌<◌, Some, IfOk};
+    ghost use Rattle.std.specs.Prelude.{◌<◌, ◌++◌, ◌∷◌, [], IfOk, Some, length, ℕ};
     ghost use Rattle.seat_lock.specs.Histories.{MayPut};
     ghost use Rattle.seat_lock.specs.Seats.{view, IsFree, IsSame, IsSeatOf, IsTaker};
     ghost use Rattle.seat_lock.specs.Steps.{Knows, Taken, Unites};
@@ -72,6 +72,8 @@ impl<T: Chronicle> SeatLock<T> {
         ensures lock { IsSame seat.old seat.new }
         ensures free { IsFree seat.new }
         ensures view { view seat.new ≡ passed_on (view seat.old) (T.history value) }
+        ensures none_made { T.history value ≡ (view seat.old).kept → (view seat.new).mine ≡ (view seat.old).mine }
+        ensures one_made { (e : T.Entry) → T.history value ≡ (view seat.old).kept ++ e ∷ [] → (view seat.new).mine ≡ (view seat.old).mine ++ length (view seat.old).kept ∷ [] }
         ensures known { Knows T.owner (view seat.new) (T.history value) }
     {
         let shared = &self.table.shared;
@@ -80,8 +82,7 @@ impl<T: Chronicle> SeatLock<T> {
             Some(_) => unreachable!(),
         }
         let served = shared.fetch_add::<PassOn>(seat, SERVED, 1);
-        self.call(seat, served.wrapping_add(1));
-        self.call(seat, served.wrapping_add(2));
+        self.call_next(seat, served.wrapping_add(1));
     }
 
     /// A new seat that knows as much and made nothing. It takes one from the room.

@@ -89,15 +89,40 @@ impl<T: Chronicle> SeatLock<T> {
     }
 
     /// Wakes the holder of the ticket, if it sleeps.
-    pub(crate) fn call(&self, seat: &mut Seat<T>, ticket: u64)
-        requires lock { IsSeatOf self.now seat.old }
+    fn call(&self, seat: &mut Seat<T>, ticket: u64)
+        requires { IsSeatOf self.now seat.old }
         ensures { IsUnchanged seat.old seat.new }
     {
         self.wake(seat, self.lane_of(ticket));
     }
 
-    /// Sleeps until the ticket is served.
+    /// Wakes the holder of the ticket that is served now, and ahead the one after it. Nobody is called where no more tickets are drawn: who draws one later finds this number served.
+    pub(crate) fn call_next(&self, seat: &mut Seat<T>, served: u64)
+        requires { IsSeatOf self.now seat.old }
+        ensures { IsUnchanged seat.old seat.new }
+    {
+        if self.table.shared.peek(NEXT) != served {
+            self.call(seat, served);
+            self.call(seat, served.wrapping_add(1));
+        }
+    }
+
+    /// Waits until the ticket is served.
     pub(crate) fn wait_for<R: Wait>(&self, rt: &R, seat: &mut Seat<T>, ticket: u64)
+        requires lock { IsSeatOf self.now seat.old }
+        requires waits { ((view seat.old).stage ≡ Waiting) × ((view seat.old).ticket ≡ ticket) }
+        ensures lock { IsSame seat.old seat.new }
+        ensures turn { IsTurned T.givens T.history T.owner seat.old.me ticket seat.new.me }
+    {
+        if !self.look(seat, ticket) {
+            self.sleep_until(rt, seat, ticket);
+        }
+    }
+
+    /// The same, once the ticket was found not to be served.
+    #[cold]
+    #[inline(never)]
+    fn sleep_until<R: Wait>(&self, rt: &R, seat: &mut Seat<T>, ticket: u64)
         requires lock { IsSeatOf self.now seat.old }
         requires waits { ((view seat.old).stage ≡ Waiting) × ((view seat.old).ticket ≡ ticket) }
         ensures lock { IsSame seat.old seat.new }

@@ -1,5 +1,5 @@
 use Rattle.std.proofs.Common.{◌≡◌}
-use Rattle.seat_lock.proofs.lock.SeatLock.wait_for.Given as goal
+use Rattle.seat_lock.proofs.lock.SeatLock.sleep_until.Given as goal
 
 -- the seat stays as it was while it waits
 abbrev pub invariant-loop : goal.invariant-loop
