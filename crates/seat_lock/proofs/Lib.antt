@@ -8,3 +8,5 @@ pub mod Marks
 pub mod Passes
 pub mod Joins
 pub mod InWords
+pub mod Lists
+pub mod Calls

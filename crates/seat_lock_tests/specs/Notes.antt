@@ -1,5 +1,7 @@
 -- Entries of writers, and what a seat may say of the writer whose entries it makes.
-use Rattle.std.specs.Prelude.{◌≡◌, ℕ, List, [], ◌∷◌, ◌++◌, length, Option, Some}
+use Rattle.std.specs.Prelude.{◌≡◌, ◌<◌, ℕ, List, [], ◌∷◌, ◌++◌, length, Option, Some}
+use mathlib.Core.Option.{some}
+use lib.ListN.{get_elem?}
 use Rattle.seat_lock.specs.Histories.{In, IsPrefix, Belongs}
 use Rattle.seat_lock.specs.declared.view.View.{View}
 use Rattle.seat_lock_tests.specs.declared.diary.Note.{Note}
@@ -9,6 +11,10 @@ note w n = record { writer = w; number = n }
 
 abbrev pub writer_of : Note → Option ℕ
 writer_of n = Some n.writer
+
+-- each writer is one of the first n
+abbrev pub HasWriters : List Note → ℕ → Type 0
+HasWriters notes n = (x : ℕ) (e : Note) → get_elem? notes x ≡ some e → e.writer < n
 
 -- the writer has no entry
 abbrev pub IsNew : List Note → ℕ → Type 0

@@ -1,7 +1,6 @@
 //! A diary of many writers.
-ghost use Rattle.std.specs.Prelude.{◌≡◌, ℕ, ◌<◌, ◌≤◌, length};
-ghost use mathlib.Core.Option.{some};
-ghost use lib.ListN.{get_elem?};
+ghost use Rattle.std.specs.Prelude.{◌≡◌, ◌<◌, ◌≤◌, length};
+ghost use Rattle.seat_lock_tests.specs.Notes.{HasWriters};
 
 use seat_lock::{Chronicle, WantMemory};
 use std::alloc::Global;
@@ -19,7 +18,7 @@ pub struct Diary {
     pub writers: u64,
     pub notes: Vec<Note>,
     ghost counted: { writers ≤ length notes.items },
-    ghost known: { (x : ℕ) (n : Note) → get_elem? notes.items x ≡ some n → n.writer < writers },
+    ghost known: { HasWriters notes.items writers },
 }
 
 impl Chronicle for Diary {

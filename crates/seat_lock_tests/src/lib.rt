@@ -3,6 +3,12 @@
 
 mod diary;
 mod shared;
+#[cfg(test)]
+mod tests;
+mod turns;
+mod writers;
 
 pub use diary::{Diary, Note};
-pub use shared::{enter, write};
+pub use shared::{count, enter, write};
+pub use turns::{take_turns, wait_for};
+pub use writers::{Made, write_all, write_one};

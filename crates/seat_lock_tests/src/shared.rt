@@ -1,5 +1,5 @@
 //! A diary under the lock. Each call takes it once and puts it back once.
-ghost use Rattle.std.specs.Prelude.{◌≡◌, IfOk, OnErr};
+ghost use Rattle.std.specs.Prelude.{◌≡◌, IfOk, OnErr, length, ℕ};
 ghost use Rattle.seat_lock.specs.Seats.{view, IsFree, IsSeatOf};
 ghost use Rattle.seat_lock_tests.specs.Notes.{note, IsWriter, Makes};
 
@@ -46,4 +46,18 @@ pub fn write<R: Wait>(
     lock.put(seat, diary);
     added?;
     Ok(at)
+}
+
+/// How many entries there are.
+pub fn count<R: Wait>(rt: &R, lock: &SeatLock<Diary>, seat: &mut Seat<Diary>) -> u64
+    requires { IsSeatOf lock.now seat.old × IsFree seat.old }
+    ensures free { IsSeatOf lock.now seat.new × IsFree seat.new }
+    ensures count { result ≡ length (view seat.new).seen }
+    ensures same { ((view seat.new).mine ≡ (view seat.old).mine) × ((view seat.new).room ≡ (view seat.old).room) }
+    ensures writer { (w : ℕ) → IsWriter (view seat.old) w → IsWriter (view seat.new) w }
+{
+    let diary = lock.take(rt, seat);
+    let count = diary.notes.len() as u64;
+    lock.put(seat, diary);
+    count
 }
