@@ -1,6 +1,6 @@
 -- What a diary keeps as it grows, and what its calls owe the lock.
-use Rattle.std.proofs.Common.{◌≡◌, ℕ, suc, ◌+◌, ◌<◌, ◌≤◌, ◌⊎◌, Bool, true, false, cond, ltb, eqb, List, [], ◌∷◌, ◌++◌, length, sym, refl, ap, ◌∙◌, subst, inl, inr, ⊎_elim, arith}
-use Rattle.std.specs.Prelude.{Option, Some, IfOk, OnOk, OnErr}
+use Rattle.std.proofs.Common.{◌≡◌, ℕ, ◌<◌, ◌≤◌, Bool, true, false, cond, List, [], ◌∷◌, ◌++◌, length, sym, refl, ap, ◌∙◌, subst, inl, inr, ⊎_elim, arith}
+use Rattle.std.specs.Prelude.{IfOk, OnOk, OnErr}
 use Rattle.std.specs.declared.result.Result.{Result}
 use Rattle.std.specs.declared.result.Result.TheVariants.{Ok, Err}
 use mathlib.Core.Option.{some}
@@ -8,10 +8,10 @@ use lib.ListN.{get_elem?}
 use Rattle.seat_lock.proofs.Lists.{at_last}
 use Rattle.seat_lock.proofs.Calls.{at_prefix, in_made, put_begins, belongs_prefix}
 use Rattle.seat_lock.specs.declared.view.View.{View}
-use Rattle.seat_lock.specs.Histories.{In, IsPrefix, entering, Belongs, IsClosed, MayPut, made_by}
+use Rattle.seat_lock.specs.Histories.{In, entering, MayPut}
 use Rattle.seat_lock.specs.Steps.{Knows}
 use Rattle.seat_lock.specs.Views.{turned_to, passed_on}
-use Rattle.seat_lock.proofs.Totals.{at_push, in_longer, in_last}
+use Rattle.seat_lock.proofs.Totals.{at_push, in_last}
 use Rattle.seat_lock_tests.specs.declared.diary.Note.{Note}
 use Rattle.seat_lock_tests.specs.Notes.{note, writer_of, HasWriters, IsNew, IsWriter}
 

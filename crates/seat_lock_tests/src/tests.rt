@@ -24,30 +24,45 @@ fn written<R: Threads + Wait + Sync>(
     Ok((diary, made?))
 }
 
-/// Whether each entry is there once, and each writer's own positions are those of its entries, in their order.
-fn is_whole(alloc: Global, diary: &Diary, made: &[Made], notes: u64) -> Result<bool, AllocError> {
+/// Marks the place, if it isn't marked yet.
+fn mark(found: &mut [bool], at: usize) -> bool {
+    match found.get_mut(at) {
+        Some(place) if !*place => {
+            *place = true;
+            true
+        }
+        _ => false,
+    }
+}
+
+/// Whether the writer's positions are those of its entries, in their order, and nobody else's.
+fn marks_its_own(diary: &Diary, found: &mut [bool], one: &Made) -> bool {
+    let mut least = 0;
+    for (number, at) in one.positions.iter().enumerate() {
+        let wanted = Note {
+            writer: one.writer,
+            number: number as u64,
+        };
+        let here = *at as usize;
+        if *at < least || diary.notes.get(here) != Some(&wanted) || !mark(found, here) {
+            return false;
+        }
+        least = *at;
+    }
+    true
+}
+
+/// Whether each entry is there once, and each writer made so many.
+fn is_whole(
+    alloc: Global,
+    diary: &Diary,
+    made: &[Made],
+    entries: usize,
+) -> Result<bool, AllocError> {
     let mut found = Vec::from_elem(alloc, false, diary.notes.len())?;
     for one in made {
-        if one.positions.len() as u64 != notes.saturating_add(1) {
+        if one.positions.len() != entries || !marks_its_own(diary, found.as_mut_slice(), one) {
             return Ok(false);
-        }
-        let mut number = 0;
-        let mut next = 0;
-        for at in &one.positions {
-            let wanted = Note {
-                writer: one.writer,
-                number,
-            };
-            let here = *at as usize;
-            if *at < next
-                || diary.notes.get(here) != Some(&wanted)
-                || found.get(here) != Some(&false)
-            {
-                return Ok(false);
-            }
-            found[here] = true;
-            next = *at;
-            number += 1;
         }
     }
     Ok(found.iter().all(|there| *there))
@@ -56,21 +71,21 @@ fn is_whole(alloc: Global, diary: &Diary, made: &[Made], notes: u64) -> Result<b
 #[test]
 fn two_threads_write_each_entry_once(rt: HostRuntime) -> Result<(), Fail> {
     let (diary, made) = written(&rt, rt.alloc(), 2, 2000)?;
-    assert!(rt; made.len() == 2 && is_whole(rt.alloc(), &diary, made.as_slice(), 2000)?);
+    assert!(rt; made.len() == 2 && is_whole(rt.alloc(), &diary, made.as_slice(), 2001)?);
     Ok(())
 }
 
 #[test]
 fn sixteen_threads_write_each_entry_once(rt: HostRuntime) -> Result<(), Fail> {
     let (diary, made) = written(&rt, rt.alloc(), 16, 500)?;
-    assert!(rt; made.len() == 16 && is_whole(rt.alloc(), &diary, made.as_slice(), 500)?);
+    assert!(rt; made.len() == 16 && is_whole(rt.alloc(), &diary, made.as_slice(), 501)?);
     Ok(())
 }
 
 #[test]
 fn sixty_four_threads_write_each_entry_once(rt: HostRuntime) -> Result<(), Fail> {
     let (diary, made) = written(&rt, rt.alloc(), 64, 200)?;
-    assert!(rt; made.len() == 64 && is_whole(rt.alloc(), &diary, made.as_slice(), 200)?);
+    assert!(rt; made.len() == 64 && is_whole(rt.alloc(), &diary, made.as_slice(), 201)?);
     Ok(())
 }
 
@@ -78,7 +93,7 @@ fn sixty_four_threads_write_each_entry_once(rt: HostRuntime) -> Result<(), Fail>
 #[test]
 fn two_hundred_threads_share_the_words(rt: HostRuntime) -> Result<(), Fail> {
     let (diary, made) = written(&rt, rt.alloc(), 200, 50)?;
-    assert!(rt; made.len() == 200 && is_whole(rt.alloc(), &diary, made.as_slice(), 50)?);
+    assert!(rt; made.len() == 200 && is_whole(rt.alloc(), &diary, made.as_slice(), 51)?);
     Ok(())
 }
 

@@ -1,6 +1,6 @@
 use Rattle.std.proofs.Common.{rules, arith}
 use Rattle.seat_lock_tests.specs.Notes.{note}
-use Rattle.seat_lock_tests.proofs.Notes.{has_push, is_new}
+use Rattle.seat_lock_tests.proofs.Notes.{has_push}
 use Rattle.seat_lock_tests.proofs.diary.Diary.enter.Goals as goal
 
 pub invariant_of-self-2 : goal.invariant_of-self-2
