@@ -1,0 +1,19 @@
+//! The messages of a stream of GIOP 1.2, whichever way its bytes are cut into pieces: each message of
+//! one part as it stands, each fragmented one joined, then what is left over or the first bad place.
+#![tactic(auto)]
+
+mod framer;
+mod header;
+mod message;
+mod next;
+mod open_messages;
+mod opened;
+mod rules;
+mod unread;
+mod why;
+
+pub use framer::Framer;
+pub use message::Message;
+pub use next::Next;
+pub use poa_base::WantMemory;
+pub use why::Why;
