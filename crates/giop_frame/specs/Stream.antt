@@ -40,12 +40,16 @@ open_after r part =
 abbrev pub after : Reading → List ℕ → Reading
 after r part = record { place = r.place + length part; pending = open_after r part }
 
+-- an open message that is closed by this Fragment
+abbrev pub closed_by : Open → List ℕ → Framed
+closed_by o part = record { at = o.at; bytes = (joined o part).bytes }
+
 -- the message that a part completes: itself, or the open one that its Fragment closes
 abbrev pub completed : Reading → List ℕ → List Framed
 completed r part =
     let h = header_of part in
     if h.more then []
-    else if continues h then option_to_list (option_map (λ o. record { at = o.at; bytes = (joined o part).bytes }) (find_open (id_of part) r.pending))
+    else if continues h then option_to_list (option_map (λ o. closed_by o part) (find_open (id_of part) r.pending))
     else record { at = r.place; bytes = part } ∷ []
 
 -- each part is whole and good after the parts before it

@@ -9,7 +9,6 @@ use crate::header::{Header, id_of};
 use crate::message::Message;
 use crate::next::Next;
 use crate::open_messages::OpenMessages;
-use crate::opened::Opened;
 use crate::rules::{Look, OPEN_LIMIT, look_at};
 use crate::unread::Unread;
 use crate::why::Why;
@@ -158,12 +157,11 @@ fn read_part(
 {
     let header = Header::read(part);
     if header.continues() {
-        let id = id_of(part);
-        pending.join(id, part)?;
-        if header.more {
-            return Ok(None);
+        if !header.more {
+            return pending.close(id_of(part), part);
         }
-        return Ok(pending.close(id).map(Opened::into_message));
+        pending.join(id_of(part), part)?;
+        return Ok(None);
     }
     if header.more {
         pending.open(id_of(part), at, part)?;

@@ -28,6 +28,7 @@ pub(crate) struct Header {
 
 impl Header {
     /// The header at the front of these bytes.
+    #[tactic(auto, unfolding(crate::specs::Part::header_of, crate::specs::Part::is_little))]
     pub(crate) fn read(part: &[u8]) -> Self
         requires { HEADER ≤ length part.now }
         ensures { result ≡ header_of part.now }
@@ -69,6 +70,7 @@ impl Header {
 }
 
 /// The request id behind a header.
+#[tactic(auto, unfolding(crate::specs::Part::id_of, crate::specs::Part::is_little))]
 pub(crate) fn id_of(part: &[u8]) -> u32
     requires { HEADER_AND_ID ≤ length part.now }
     ensures { result ≡ id_of part.now }
@@ -77,6 +79,7 @@ pub(crate) fn id_of(part: &[u8]) -> u32
 }
 
 /// The ulong at a place, in either byte order.
+#[tactic(auto, unfolding(crate::specs::Part::ulong_at))]
 fn ulong_at(part: &[u8], place: usize, little: bool) -> u32
     requires { place + 4 ≤ length part.now }
     ensures { result ≡ ulong_at little part.now place }

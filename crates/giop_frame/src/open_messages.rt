@@ -1,12 +1,14 @@
 //! The messages whose last parts haven't come yet.
-ghost use Rattle.std.specs.Prelude.{◌≡◌, ◌+◌, ◌<◌, ◌≤◌, ◌^◌, [], None, length, option_copied, IfSome, IsSome, OnOk, OnErr};
+ghost use Rattle.std.specs.Prelude.{◌≡◌, ◌+◌, ◌<◌, ◌≤◌, ◌^◌, [], None, length, option_copied, option_map, IfOk, IfSome, IsSome, OnOk, OnErr};
 ghost use Rattle.std.specs.Ordering.{nat_cmp};
 ghost use Rattle.std.specs.BTreeMap.{insert_entry};
 ghost use Rattle.std.specs.Map.{set_value, remove_entry};
 ghost use Rattle.giop_frame.specs.Open.{at_id, find_open, opened_by, joined, open_bytes, taken_bytes, nothing_open};
 ghost use Rattle.giop_frame.specs.Message.{IsMessage};
+ghost use Rattle.giop_frame.specs.Stream.{closed_by};
 
 use crate::header::HEADER_AND_ID;
+use crate::message::Message;
 use crate::opened::Opened;
 use poa_base::WantMemory;
 use std::alloc::Global;
@@ -110,8 +112,25 @@ impl OpenMessages {
         Ok(())
     }
 
+    /// Joins the last Fragment to the message of its id, and takes the joined one out.
+    pub(crate) fn close(&mut self, id: u32, part: &[u8]) -> Result<Option<Message>, WantMemory>
+        requires id { HEADER_AND_ID ≤ length part.now }
+        requires found { IsSome (find_open id self.old) }
+        requires bytes_fit { open_bytes self.old + length part.now < 2 ^ 64 }
+        requires taken_fit { taken_bytes self.old + length part.now < 2 ^ 64 }
+        ensures message { IfOk result (λ m. m ≡ option_map (λ o. closed_by o part.now) (find_open id self.old)) }
+        ensures closed { OnOk result (self.new ≡ remove_entry (at_id id) self.old) }
+        ensures refused { OnErr result (self.new ≡ self.old) }
+    {
+        self.join(id, part)?;
+        match self.take(id) {
+            Some(opened) => Ok(Some(opened.into_message())),
+            None => Ok(None),
+        }
+    }
+
     /// Takes the message of an id out.
-    pub(crate) fn close(&mut self, id: u32) -> Option<Opened>
+    fn take(&mut self, id: u32) -> Option<Opened>
         ensures found { result ≡ find_open id self.old }
         ensures closed { self.new ≡ remove_entry (at_id id) self.old }
     {

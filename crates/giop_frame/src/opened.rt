@@ -51,6 +51,7 @@ impl Opened {
     }
 
     /// Whether the first part is little-endian.
+    #[tactic(auto, unfolding(crate::specs::Part::is_little))]
     pub(crate) fn is_little(&self) -> bool
         ensures { result ≡ is_little self.now.bytes }
     {

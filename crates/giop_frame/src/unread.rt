@@ -48,13 +48,20 @@ impl Unread {
         ensures ok { OnOk result (self.new ≡ self.old ++ piece.now) }
         ensures refused { OnErr result (self.new ≡ self.old) }
     {
+        self.compact();
+        self.bytes.extend_from_slice(piece)
+    }
+
+    /// Drops what was read, where that is at least as much as what wasn't.
+    fn compact(&mut self)
+        ensures { self.new ≡ self.old }
+    {
         let left = self.bytes.len() - self.start;
         if left <= self.start {
             self.bytes.rotate_left(self.start);
             self.bytes.truncate(left);
             self.start = 0;
         }
-        self.bytes.extend_from_slice(piece)
     }
 
     /// Leaves the first bytes behind.

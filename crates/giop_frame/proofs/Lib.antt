@@ -1,0 +1,5 @@
+pub mod Sums
+pub mod Front
+pub mod Looking
+pub mod Messages
+pub mod Closing
