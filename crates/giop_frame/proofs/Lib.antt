@@ -3,3 +3,7 @@ pub mod Front
 pub mod Looking
 pub mod Messages
 pub mod Closing
+pub mod Taking
+pub mod Answering
+pub mod Bounds
+pub mod Streams

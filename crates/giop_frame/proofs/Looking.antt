@@ -2,13 +2,16 @@
 use Rattle.std.proofs.Common.{◌≡◌, ◌≢◌, ℕ, ◌+◌, ◌<◌, ◌≤◌, ltb, Bool, true, false, Option, Some, None, List, ◌++◌, length, take, drop, refl, ap, subst, ◌∙◌, sym, arith, length-append, ◌⊎◌, inl, inr, ⊎_elim}
 use Rattle.std.proofs.lemmas.Bool.{cases_lt, cond-true, le-ltb, lt-ltb}
 use Rattle.std.proofs.lemmas.Grind.{common_steps}
+use Rattle.std.proofs.lemmas.Bool.Decides.{nat_tests}
+use Rattle.std.proofs.lemmas.List.{length-take-le, take-append-drop}
+use Rattle.std.specs.Option.{option_or}
 use Rattle.giop_frame.specs.declared.header.Header.{Header}
 use Rattle.giop_frame.specs.declared.rules.Look.{Look}
 use Rattle.giop_frame.specs.declared.rules.Look.TheVariants.{Unfinished, Whole, Bad}
 use Rattle.giop_frame.specs.declared.why.Why.{Why}
 use Rattle.giop_frame.specs.Part.{header_of, id_end}
 use Rattle.giop_frame.specs.Open.{Opens}
-use Rattle.giop_frame.specs.Rules.{wait_for, unless, look_at, header_fault, id_fault}
+use Rattle.giop_frame.specs.Rules.{wait_for, unless, look_at, foreign_fault, size_fault, header_fault, id_fault}
 use Rattle.giop_frame.proofs.Front.{header_of-front, header_fault-front, id_fault-front}
 
 pub wait_over : (n : ℕ) (text : List ℕ) (r : Look) → n ≤ length text → wait_for n text r ≡ r
@@ -29,13 +32,13 @@ pub bad_cases : (f : Option Why) (l : Look) (why : Why) → unless f l ≡ Bad w
 bad_cases (Some other) l why e = inl cc
 bad_cases None l why e = inr (refl, e)
 
-whole≢unfinished : (n : ℕ) → Whole n ≢ Unfinished
+pub whole≢unfinished : (n : ℕ) → Whole n ≢ Unfinished
 whole≢unfinished n e = cc
 
 bad≢unfinished : (why : Why) → Bad why ≢ Unfinished
 bad≢unfinished why e = cc
 
-whole≢bad : (n : ℕ) (why : Why) → Whole n ≢ Bad why
+pub whole≢bad : (n : ℕ) (why : Why) → Whole n ≢ Bad why
 whole≢bad n why e = cc
 
 -- a whole part, and good: no rule is broken, and all its bytes are there
@@ -47,7 +50,7 @@ pub record IsWhole (limit : ℕ) (pending : Opens) (text : List ℕ) (n : ℕ) :
   pub size : 12 + (header_of text).size ≡ n
   pub whole : n ≤ length text
 
-whole_size : (m n : ℕ) → Whole m ≡ Whole n → m ≡ n
+pub whole_size : (m n : ℕ) → Whole m ≡ Whole n → m ≡ n
 whole_size m n e = cc
 
 -- what is left to see behind the header, and behind the id
@@ -159,3 +162,37 @@ bad_more limit pending text more why e =
     seen ∙ (ap (λ f. unless f (after_header limit pending both)) there.0 ∙ (then
     ∙ ap (λ f. unless f (after_id limit pending both)) (by_the_id limit pending text why d.1))))
     (bad_cases (header_fault limit pending text) (after_header limit pending text) why a.1)
+
+pub first_none : (f g : Option Why) → option_or f g ≡ None → f ≡ None
+first_none None g e = refl
+first_none (Some why) g e = cc
+
+pub second_none : (f g : Option Why) → option_or f g ≡ None → g ≡ None
+second_none None g e = e
+second_none (Some why) g e = cc
+
+-- a part whose id matters is long enough for one
+id_within : (limit : ℕ) (pending : Opens) (h : Header) → size_fault limit pending h ≡ None → id_end h ≤ 12 + h.size
+id_within limit pending h e = grind (arith, nat_tests)
+
+-- a whole part by itself
+pub whole_front : (limit : ℕ) (pending : Opens) (text : List ℕ) (n : ℕ) → IsWhole limit pending text n → IsWhole limit pending (take n text) n
+whole_front limit pending text n w =
+    let p = take n text in
+    let q = drop n text in
+    let long : length p ≡ n = length-take-le n text w.whole in
+    let v : IsWhole limit pending (p ++ q) n = subst (λ (t : List ℕ). IsWhole limit pending t n) (sym (take-append-drop n text)) w in
+    let least : 12 ≤ length p = omega (arith, w.size, long) in
+    let head : header_of (p ++ q) ≡ header_of p = header_of-front p q least in
+    let sound : header_fault limit pending p ≡ None = sym (header_fault-front limit pending p q least) ∙ v.sound in
+    let size : 12 + (header_of p).size ≡ n = ap (λ (h : Header). 12 + h.size) (sym head) ∙ v.size in
+    let fits = id_within limit pending (header_of p) (second_none (foreign_fault p) (size_fault limit pending (header_of p)) sound) in
+    let id : id_end (header_of p) ≤ length p = omega (arith, fits, size, long) in
+    record {
+      header = least;
+      sound = sound;
+      id = id;
+      placed = sym (id_fault-front limit pending p q least id) ∙ v.placed;
+      size = size;
+      whole = omega (arith, long);
+    }

@@ -2,22 +2,17 @@
 use Rattle.std.proofs.Common.{◌≡◌, ◌≢◌, ℕ, ◌+◌, ◌<◌, ◌≤◌, Bool, true, false, ◌&&◌, not, cond, Option, Some, None, List, length, take, slice_index, bytes_eq, codes, nat_eq, nat_lt, refl, ap, ◌∙◌, sym, arith}
 use Rattle.std.proofs.lemmas.Bool.{eqb-true, eqb-false, ltb-false}
 use Rattle.std.proofs.lemmas.Slice.Eq.{bytes_eq-Decides}
-use Rattle.std.specs.Option.{option_or}
 use Rattle.giop_frame.specs.declared.why.Why.{Why}
 use Rattle.giop_frame.specs.declared.why.Why.TheVariants.{BadMagic, BadVersion, BadType}
 use Rattle.giop_frame.specs.Part.{header_of, continues}
 use Rattle.giop_frame.specs.Open.{Opens}
 use Rattle.giop_frame.specs.Rules.{foreign_fault, header_fault, size_fault}
 use Rattle.giop_frame.specs.Message.{IsMessage}
-use Rattle.giop_frame.proofs.Looking.{IsWhole}
+use Rattle.giop_frame.proofs.Looking.{IsWhole, first_none}
 
 kind_is : (part : List ℕ) → (header_of part).kind ≡ slice_index part 7
 unfolding header_of
 kind_is part = refl
-
-no_fault : (f g : Option Why) → option_or f g ≡ None → f ≡ None
-no_fault None g e = refl
-no_fault (Some why) g e = cc
 
 passed : (b : Bool) (why : Why) (f : Option Why) → cond (not b) (Some why) f ≡ None → (b ≡ true) × (f ≡ None)
 passed true why f e = (refl, e)
@@ -33,7 +28,7 @@ both false b e = cc
 
 pub message_from_whole : (limit : ℕ) (pending : Opens) (part : List ℕ) (n : ℕ) → IsWhole limit pending part n → continues (header_of part) ≡ false → IsMessage part
 message_from_whole limit pending part n w first =
-    let clean : foreign_fault part ≡ None = no_fault (foreign_fault part) (size_fault limit pending (header_of part)) w.sound in
+    let clean : foreign_fault part ≡ None = first_none (foreign_fault part) (size_fault limit pending (header_of part)) w.sound in
     let magic = passed (bytes_eq (take 4 part) (codes "GIOP")) BadMagic _ clean in
     let version = passed (nat_eq (slice_index part 4) 1 && nat_eq (slice_index part 5) 2) BadVersion _ magic.1 in
     let numbers = both (nat_eq (slice_index part 4) 1) (nat_eq (slice_index part 5) 2) version.0 in

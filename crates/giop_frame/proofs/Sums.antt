@@ -1,25 +1,34 @@
 -- The sums over the open messages, as messages are opened, joined and closed.
-use Rattle.std.proofs.Common.{◌≡◌, ℕ, ◌+◌, ◌-◌, ◌≤◌, List, Some, None, length, drop, ap, arith, length-append, length-drop}
+use Rattle.std.proofs.Common.{◌≡◌, ℕ, ◌+◌, ◌-◌, ◌≤◌, List, [], ◌∷◌, Some, None, Ordering, length, drop, refl, ap, sym, ◌∙◌, add_comm, add_assoc, arith, length-append, length-drop}
 use Rattle.std.specs.Ordering.{nat_cmp}
-use Rattle.std.specs.Cmp.{nat_cmp_total}
+use Rattle.std.specs.declared.cmp.Ordering.TheVariants.{Less, Equal, Greater}
 use Rattle.std.specs.BTreeMap.{insert_entry}
 use Rattle.std.specs.List.{sum_by}
-use Rattle.std.specs.List.Sorted.{IsStrictlySortedBy}
-use Rattle.std.specs.Map.{set_value, remove_entry, keys_of, values_of}
+use Rattle.std.specs.Map.{set_value, remove_entry, values_of}
 use Rattle.std.specs.Option.{option_map, unwrap_or}
-use Rattle.std.proofs.lemmas.Map.Entries.{sum_by-insert_entry, sum_by-set_value, sum_by-remove_entry}
+use Rattle.std.proofs.lemmas.List.Sums.{sum_by-cons}
+use Rattle.std.proofs.lemmas.Map.Entries.{sum_by-set_value, sum_by-remove_entry}
 use Rattle.giop_frame.specs.Open.{Open, Opens, at_id, find_open, joined, opened_by, open_bytes, taken_bytes}
 
 -- a sum of what each open message weighs
 abbrev pub weight : (Open → ℕ) → Opens → ℕ
 weight f pending = sum_by f (values_of pending)
 
-pub weight-open : (f : Open → ℕ) (pending : Opens) (id : ℕ) (o : Open) → IsStrictlySortedBy nat_cmp (keys_of pending) → find_open id pending ≡ None
+weight_at : (f : Open → ℕ) (e : ℕ × Open) (pending : Opens) (id : ℕ) (o : Open) (order : Ordering) → nat_cmp id e.0 ≡ order → find_open id (e ∷ pending) ≡ None
+    → (find_open id pending ≡ None → weight f (insert_entry nat_cmp pending id o) ≡ weight f pending + f o)
+    → weight f (insert_entry nat_cmp (e ∷ pending) id o) ≡ weight f (e ∷ pending) + f o
+weight_at f e pending id o Less is absent below =
+    simp is (sum_by-cons f o (e.1 ∷ values_of pending) ∙ add_comm (f o) (weight f (e ∷ pending)))
+weight_at f e pending id o Equal is absent below = let found : Some e.1 ≡ None = simp is at absent in cc
+weight_at f e pending id o Greater is absent below =
+    let under : find_open id pending ≡ None = simp is at absent in
+    simp is (sum_by-cons f e.1 (values_of (insert_entry nat_cmp pending id o))
+    ∙ (ap (λ n. f e.1 + n) (below under) ∙ (sym (add_assoc (f e.1) (weight f pending) (f o)) ∙ ap (λ n. n + f o) (sym (sum_by-cons f e.1 (values_of pending))))))
+
+pub weight-open : (f : Open → ℕ) (pending : Opens) (id : ℕ) (o : Open) → find_open id pending ≡ None
     → weight f (insert_entry nat_cmp pending id o) ≡ weight f pending + f o
-weight-open f pending id o sorted absent =
-    let e = sum_by-insert_entry f nat_cmp_total pending id o sorted in
-    let none = ap (λ x. unwrap_or (option_map f x) 0) absent in
-    omega (arith, e, none)
+weight-open f [] id o absent = omega arith
+weight-open f (e ∷ pending) id o absent = weight_at f e pending id o (nat_cmp id e.0) refl absent (weight-open f pending id o)
 
 pub weight-set : (f : Open → ℕ) (pending : Opens) (id : ℕ) (o p : Open) (more : ℕ) → find_open id pending ≡ Some o → f p ≡ f o + more
     → weight f (set_value (at_id id) pending p) ≡ weight f pending + more

@@ -111,8 +111,10 @@ impl Framer {
     {
         match look_at(self.limit, &self.pending, self.unread.as_slice()) {
             Look::Whole(length) => {
-                let message = self.take_part(length)?;
-                Ok(message.map(Next::Message))
+                match self.take_part(length)? {
+                    Some(message) => Ok(Some(Next::Message(message))),
+                    None => Ok(None),
+                }
             }
             Look::Unfinished => {
                 let have = self.pending.taken() + self.unread.as_slice().len() as u64;
