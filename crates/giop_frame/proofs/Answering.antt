@@ -72,14 +72,19 @@ taken_reach f g n done seen t =
     let w = whole_from_look f.limit f.reading.pending f.unread n seen in
     ap reach t.goes_on ∙ omega (arith, length-take-le n f.unread w.whole, length-drop n f.unread, w.whole)
 
+pub taken_shorter : (f g : Framing) (n : ℕ) (done : List Framed) → look_at f.limit f.reading.pending f.unread ≡ Whole n → TakesPart f n done g
+    → length g.unread < length f.unread
+taken_shorter f g n done seen t =
+    let w = whole_from_look f.limit f.reading.pending f.unread n seen in
+    omega (arith, ap (λ (k : Framing). length k.unread) t.goes_on, length-drop n f.unread, w.whole, w.size)
+
 -- a part that completed nothing
 pub joins_part : (f g : Framing) (n : ℕ) → f.closed ≡ None → look_at f.limit f.reading.pending f.unread ≡ Whole n → TakesPart f n [] g → JoinsPart f g
 joins_part f g n none seen t =
-    let w = whole_from_look f.limit f.reading.pending f.unread n seen in
     record {
       same = taken_gives f g n [] none seen t;
       unclosed = ap (λ (k : Framing). k.closed) t.goes_on ∙ none;
-      shorter = omega (arith, ap (λ (k : Framing). length k.unread) t.goes_on, length-drop n f.unread, w.whole, w.size);
+      shorter = taken_shorter f g n [] seen t;
     }
 
 -- a bad place in front

@@ -5,5 +5,6 @@ pub mod Messages
 pub mod Closing
 pub mod Taking
 pub mod Answering
+pub mod Cutting
 pub mod Bounds
 pub mod Streams

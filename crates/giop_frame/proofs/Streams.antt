@@ -126,3 +126,43 @@ unfinished_stream limit r text e = ended limit r text (left_over (taken_bytes r.
 pub bad_stream : (limit : ℕ) (r : Reading) (text more : List ℕ) (why : Why) → look_at limit r.pending text ≡ Bad why
     → StreamFrom limit r (text ++ more) [] (bad_place r.place why)
 bad_stream limit r text more why e = ended limit r (text ++ more) (bad_place r.place why) (bad_more limit r.pending text more why e, refl)
+
+-- from the stream behind the part in front, where there is one
+some_seen : (fuel limit : ℕ) (r : Reading) (text : List ℕ) (seen : Look) → look_at limit r.pending text ≡ seen → length text ≤ fuel
+    → ((n : ℕ) → look_at limit r.pending text ≡ Whole n → (s : Reading) → SomeStream limit s (drop n text)) → SomeStream limit r text
+some_seen fuel limit r text Unfinished e short next = record { messages = []; end = _; stream = unfinished_stream limit r text e }
+some_seen fuel limit r text (Bad why) e short next = record { messages = []; end = bad_place r.place why; stream = ended limit r text (bad_place r.place why) (e, refl) }
+some_seen fuel limit r text (Whole n) e short next =
+    let w = whole_from_look limit r.pending text n e in
+    let p = take n text in
+    let good : look_at limit r.pending p ≡ Whole (length p) =
+    look_from_whole limit r.pending p n (whole_front limit r.pending text n w) ∙ ap Whole (sym (length-take-le n text w.whole)) in
+    let rest = next n e (after r p) in
+    record {
+      messages = completed r p ++ rest.messages;
+      end = rest.end;
+      stream = subst (λ (t : List ℕ). StreamFrom limit r t (completed r p ++ rest.messages) rest.end) (take-append-drop n text)
+          (stream_put limit r p (drop n text) rest.messages rest.end good rest.stream);
+    }
+
+-- by the bytes that are left, which each part makes fewer
+some_within : (fuel limit : ℕ) (r : Reading) (text : List ℕ) → length text ≤ fuel → SomeStream limit r text
+some_within zero limit r text short =
+    some_seen zero limit r text (look_at limit r.pending text) refl short
+    (λ n e s. let w = whole_from_look limit r.pending text n e in absurd (omega (arith, w.header, short)))
+some_within (suc fuel) limit r text short =
+    some_seen (suc fuel) limit r text (look_at limit r.pending text) refl short
+    (λ n e s. let w = whole_from_look limit r.pending text n e in some_within fuel limit s (drop n text) (omega (arith, length-drop n text, w.size, w.whole, short)))
+
+pub some_stream : (limit : ℕ) (r : Reading) (text : List ℕ) → SomeStream limit r text
+some_stream limit r text = some_within (length text) limit r text (omega arith)
+
+pub stream_alone : (limit : ℕ) (text : List ℕ) → OneStream limit text
+stream_alone limit text =
+    let s = some_stream limit start text in
+    record {
+      messages = s.messages;
+      end = s.end;
+      is_stream = s.stream;
+      alone = λ others other t. let same = one_stream limit start text others s.messages other s.end t s.stream in (same.messages_same, same.end_same);
+    }

@@ -30,6 +30,12 @@ Answers f (answer.Message m) g = (text : List ℕ) (messages : List Framed) (end
 Answers f (answer.NeedMore have) g = Gives f [] [] (left_over have) × GiveTheSame f g
 Answers f (answer.Bad at why) g = ((text : List ℕ) → Gives f text [] (bad_place at why)) × GiveTheSame f g
 
+-- a message takes unread bytes away, so that a loop over the messages ends
+abbrev pub TakesBytes : Framing → Next → Framing → Type 0
+TakesBytes f (answer.Message m) g = length g.unread < length f.unread
+TakesBytes f (answer.NeedMore have) g = Unit {0}
+TakesBytes f (answer.Bad at why) g = Unit {0}
+
 -- a framer that read the part of this length in front, which completed these messages
 pub record TakesPart (f : Framing) (size : ℕ) (messages : List Framed) (g : Framing) : Type 0 where
   pub completes : messages ≡ completed f.reading (take size f.unread)

@@ -5,3 +5,4 @@ pub mod Stream
 pub mod Message
 pub mod Framing
 pub mod Framer
+pub mod Frames

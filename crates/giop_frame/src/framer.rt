@@ -1,9 +1,9 @@
 //! The framer.
-ghost use Rattle.std.specs.Prelude.{◌≡◌, ◌+◌, ◌<◌, ◌≤◌, ◌^◌, ◌++◌, ◌↔◌, List, ℕ, [], None, length, take, drop, option_to_list, IfOk, OnOk, OnErr, IsSome, MatchOption};
+ghost use Rattle.std.specs.Prelude.{◌≡◌, ◌+◌, ◌<◌, ◌≤◌, ◌^◌, ◌++◌, ◌↔◌, List, ℕ, [], None, length, take, drop, option_to_list, IfOk, OnOk, OnErr, IsSome, MatchOption, ⊤};
 ghost use Rattle.giop_frame.specs.Open.{taken_bytes};
 ghost use Rattle.giop_frame.specs.Rules.{look_at, IsGood};
 ghost use Rattle.giop_frame.specs.Stream.{Framed, End, Stream, after, open_after, completed};
-ghost use Rattle.giop_frame.specs.Framer.{Gives, HasGiven, GiveTheSame, Answers, JoinsPart, TakesPart, reach};
+ghost use Rattle.giop_frame.specs.Framer.{Gives, HasGiven, GiveTheSame, Answers, TakesBytes, JoinsPart, TakesPart, reach};
 
 use crate::header::{Header, id_of};
 use crate::message::Message;
@@ -86,6 +86,7 @@ impl Framer {
     /// given.
     pub fn next(&mut self) -> Result<Next, WantMemory>
         ensures answer { IfOk result (λ n. Answers self.old n self.new) }
+        ensures shorter { IfOk result (λ n. TakesBytes self.old n self.new) }
         ensures reached { reach self.new ≡ reach self.old }
         ensures refused { OnErr result (GiveTheSame self.old self.new) }
     {
@@ -106,6 +107,7 @@ impl Framer {
     fn step(&mut self) -> Result<Option<Next>, WantMemory>
         requires { self.old.closed ≡ None }
         ensures answer { IfOk result (λ n. MatchOption n (JoinsPart self.old self.new) (λ a. Answers self.old a self.new)) }
+        ensures shorter { IfOk result (λ n. MatchOption n ⊤ (λ a. TakesBytes self.old a self.new)) }
         ensures reached { reach self.new ≡ reach self.old }
         ensures refused { OnErr result (self.new ≡ self.old) }
     {

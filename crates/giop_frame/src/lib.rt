@@ -3,7 +3,9 @@
 #![tactic(auto)]
 
 mod framer;
+mod frames;
 mod header;
+mod laws;
 mod message;
 mod next;
 mod open_messages;
@@ -13,6 +15,8 @@ mod unread;
 mod why;
 
 pub use framer::Framer;
+pub use frames::{Frames, frame};
+pub use laws::each_text_has_one_stream;
 pub use message::Message;
 pub use next::Next;
 pub use poa_base::WantMemory;
