@@ -3,11 +3,13 @@ use Rattle.std.proofs.Common.{◌≡◌, ◌↔◌, ℕ, ◌+◌, ◌<◌, ◌�
 use Rattle.std.proofs.lemmas.List.{take-append-drop, length-take-le}
 use Rattle.giop_frame.specs.declared.rules.Look.TheVariants.{Unfinished, Whole, Bad}
 use Rattle.giop_frame.specs.declared.why.Why.{Why}
+use Rattle.giop_frame.specs.declared.next.Next.{Next}
+use Rattle.giop_frame.specs.declared.next.Next.TheVariants as answer
 use Rattle.giop_frame.specs.Open.{taken_bytes}
 use Rattle.giop_frame.specs.Rules.{look_at}
 use Rattle.giop_frame.specs.Stream.{Framed, Reading, End, left_over, bad_place, after, completed, StreamFrom}
 use Rattle.giop_frame.specs.Framing.{Framing}
-use Rattle.giop_frame.specs.Framer.{Gives, GiveTheSame, TakesPart, JoinsPart, reach}
+use Rattle.giop_frame.specs.Framer.{Gives, GiveTheSame, Answers, TakesPart, JoinsPart, reach}
 use Rattle.giop_frame.proofs.Looking.{IsWhole, whole_from_look, look_from_whole, whole_front}
 use Rattle.giop_frame.proofs.Streams.{stream_put, stream_behind, Behind, one_stream, bad_stream, unfinished_stream}
 
@@ -106,8 +108,9 @@ closed_gives f why none seen text messages end =
     )
 
 -- a framer that met a bad place, where its value is also f
-pub closed_answers : (f g : Framing) (why : Why) → f ≡ g → g.closed ≡ None → look_at g.limit g.reading.pending g.unread ≡ Bad why
-    → ((text : List ℕ) → Gives g text [] (bad_place f.reading.place why)) × GiveTheSame g (record f { closed = Some why })
-closed_answers f g why same none seen =
-    subst (λ (k : Framing). ((text : List ℕ) → Gives g text [] (bad_place k.reading.place why)) × GiveTheSame g (record k { closed = Some why })) (sym same)
-    (bad_given g why none seen, closed_gives g why none seen)
+pub closed_answers : (f g : Framing) (why : Why) (n : Next) → n ≡ answer.Bad f.reading.place why → f ≡ g → g.closed ≡ None
+    → look_at g.limit g.reading.pending g.unread ≡ Bad why → Answers g n (record f { closed = Some why })
+closed_answers f g why n says same none seen =
+    subst (λ (m : Next). Answers g m (record f { closed = Some why })) (sym says)
+    (subst (λ (k : Framing). Answers g (answer.Bad k.reading.place why) (record k { closed = Some why })) (sym same)
+    (bad_given g why none seen, closed_gives g why none seen))

@@ -91,10 +91,7 @@ impl Framer {
         ensures refused { OnErr result (GiveTheSame self.old self.new) }
     {
         if let Some(why) = self.closed {
-            return Ok(Next::Bad {
-                at: self.place,
-                why,
-            });
+            return Ok(self.bad(why));
         }
         loop {
             if let Some(next) = self.step()? {
@@ -124,12 +121,17 @@ impl Framer {
             }
             Look::Bad(why) => {
                 self.closed = Some(why);
-                Ok(Some(Next::Bad {
-                    at: self.place,
-                    why,
-                }))
+                Ok(Some(self.bad(why)))
             }
         }
+    }
+
+    /// The answer at a bad place, which is that of the first unread byte.
+    fn bad(&self, why: Why) -> Next
+        ensures { result ≡ Next.Bad self.now.reading.place why }
+    {
+        let at = self.place;
+        Next::Bad { at, why }
     }
 
     /// Reads the part in front, which has this length.

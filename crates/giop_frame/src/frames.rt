@@ -35,7 +35,7 @@ pub fn frame(alloc: Global, limit: u32, pieces: &[&[u8]]) -> Result<Frames, Want
 }
 
 /// Takes the messages that are whole, and gives what is said after them.
-fn drain(framer: &mut Framer, messages: &mut Vec<Message>) -> Result<Next, WantMemory>
+pub(crate) fn drain(framer: &mut Framer, messages: &mut Vec<Message>) -> Result<Next, WantMemory>
     ensures given { IfOk result (λ last. (limit : ℕ) (fed : List ℕ) → HasGiven limit fed messages.old.items framer.old
         → HasGiven limit fed messages.new.items framer.new × Closes limit fed messages.new.items last) }
     ensures reached { reach framer.new ≡ reach framer.old }

@@ -11,6 +11,8 @@ mod next;
 mod open_messages;
 mod opened;
 mod rules;
+#[cfg(test)]
+mod tests;
 mod unread;
 mod why;
 

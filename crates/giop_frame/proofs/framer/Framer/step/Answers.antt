@@ -38,4 +38,4 @@ returns-in-Bad-clause-answer c =
     let f = c.args.self.now in
     let seen = seen_in_front _ f (Bad c.in-Bad.why) c.self.view_is
     (sym (c.in-Bad.ensures ∙ ap (look_at c.self.inside.limit c.self.inside.pending) c.as_slice.ensures)) in
-    closed_answers _ f c.in-Bad.why c.self.view_is c.requires seen
+    closed_answers _ f c.in-Bad.why c.bad.result c.bad.ensures c.self.view_is c.requires seen
