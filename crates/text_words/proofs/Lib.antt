@@ -1,0 +1,5 @@
+pub mod Tokens
+pub mod Joining
+pub mod NamesRead
+pub mod Cutting
+pub mod Numbers
