@@ -1,3 +1,6 @@
+pub mod Paths
+pub mod ReadBack
+pub mod Lines
 pub mod Tokens
 pub mod Joining
 pub mod NamesRead

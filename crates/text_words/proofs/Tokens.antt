@@ -1,22 +1,24 @@
 -- The text of a token is a word: not empty, with no space and no end of line in it.
-use Rattle.std.proofs.Common.{◌≡◌, ℕ, ◌+◌, ◌/◌, ◌%◌, ◌^◌, ◌<◌, ◌≤◌, ◌==◌, ◌&&◌, ◌||◌, Bool, true, false, not, List, [], ◌∷◌, ◌++◌, length, get_or, refl, ap, sym, ◌∙◌, arith, rules, suc, zero, subst, absurd}
+use Rattle.std.proofs.Common.{◌≡◌, ℕ, ◌+◌, ◌/◌, ◌%◌, ◌^◌, ◌<◌, ◌≤◌, ◌==◌, ◌&&◌, ◌||◌, Bool, true, false, not, List, [], ◌∷◌, ◌++◌, length, get_or, refl, ap, sym, ◌∙◌, arith, rules, suc, ℤ, nat_le}
 use Rattle.std.proofs.lemmas.Bool.{and_parts, and_from, or_cases, leb-true, lt-ltb, ltb-true, ne_eqb, not_from_false, agree_below_at, agree_below, false≢true}
+use Rattle.std.proofs.lemmas.Bool.Decides.{nat_tests}
+use Rattle.std.proofs.lemmas.Str.Parse.{tells_digits}
 use Rattle.std.proofs.lemmas.List.Folds.{list_all-append}
 use Rattle.std.proofs.lemmas.Fmt.{decimal_is_IsNumeral}
-use Rattle.std.specs.Prelude.{codes, pos, negsuc, FitsSigned}
+use Rattle.std.specs.Prelude.{codes, pos, negsuc}
 use Rattle.std.specs.List.{list_all}
 use Rattle.std.specs.Fmt.{decimal, signed_decimal}
-use Rattle.std.specs.Int.{to_be_bytes, w32, w64}
+use Rattle.std.specs.Int.{to_be_bytes, w32}
 use Rattle.std.specs.Str.Parse.{AllDigits, IsNumeral}
 use Rattle.std.specs.Char.{digit_value}
 use Rattle.hex.specs.Hex.{lower_digits, encode_with, encode_lower, IsBytes}
 use Rattle.text_words.specs.Name.{is_alphanumeric, is_name_byte, is_host_byte, is_name, is_host}
 use Rattle.text_words.specs.Path.{below_root, path_text}
-use Rattle.text_words.specs.Cuts.{lacks}
-use Rattle.text_words.specs.Token.{Token, keyword, number, signed, minor, named, host, path, octets, identity, spell, is_ink, is_word, Fits, AllFit, texts, tails, spelled}
+use Rattle.text_words.specs.Cuts.{lacks, is_filled}
+use Rattle.text_words.specs.Token.{Token, keyword, number, signed, minor, named, host, path, octets, identity, spell, is_ink, is_word, IsLong, Fits, AllFit, texts, tails, spelled}
 
 -- a test that every element passes, by a weaker one
-all_weaker : (p q : ℕ → Bool) → ((x : ℕ) → p x ≡ true → q x ≡ true) → (xs : List ℕ) → list_all p xs ≡ true → list_all q xs ≡ true
+pub all_weaker : (p q : ℕ → Bool) → ((x : ℕ) → p x ≡ true → q x ≡ true) → (xs : List ℕ) → list_all p xs ≡ true → list_all q xs ≡ true
 all_weaker p q weaker [] h = refl
 all_weaker p q weaker (x ∷ xs) h =
     let parts = and_parts (p x) (list_all p xs) h in
@@ -31,17 +33,19 @@ above : (c low : ℕ) → 32 < low → low ≤ c → is_ink c ≡ true
 above c low h k = lt-ltb 32 c (omega arith)
 
 alphanumeric_ink : (c : ℕ) → is_alphanumeric c ≡ true → is_ink c ≡ true
-alphanumeric_ink c h = ?
+alphanumeric_ink c h = grind (arith, nat_tests)
 
 name_ink : (c : ℕ) → is_name_byte c ≡ true → is_ink c ≡ true
-name_ink c h = ?
+name_ink c h = grind (arith, nat_tests)
 
 host_ink : (c : ℕ) → is_host_byte c ≡ true → is_ink c ≡ true
-host_ink c h = ?
+host_ink c h = grind (arith, nat_tests)
 
 digits_ink : (ds : List ℕ) → AllDigits 10 ds → list_all is_ink ds ≡ true
 digits_ink [] h = refl
-digits_ink (c ∷ cs) h = ?
+digits_ink (c ∷ cs) h =
+    let first = tells_digits.parts c cs h in
+    and_from (is_ink c) (list_all is_ink cs) (above c 48 (omega arith) first.0.0) (digits_ink cs first.1)
 
 hex_digit_ink : (k : ℕ) → k < 16 → is_ink (get_or lower_digits k 0) ≡ true
 hex_digit_ink k h = agree_below_at (λ n. is_ink (get_or lower_digits n 0)) (λ n. true) 16 k refl h
@@ -49,4 +53,80 @@ hex_digit_ink k h = agree_below_at (λ n. is_ink (get_or lower_digits n 0)) (λ 
 hex_ink : (bytes : List ℕ) → IsBytes bytes → list_all is_ink (encode_lower bytes) ≡ true
 unfolding encode_with
 hex_ink [] h = refl
-hex_ink (b ∷ bs) h = ?
+hex_ink (b ∷ bs) h =
+    let small : b < 256 = h 0 in
+    let high : b / 16 < 16 = omega arith in
+    let low : b % 16 < 16 = omega arith in
+    and_from _ _ (hex_digit_ink (b / 16) high) (and_from _ _ (hex_digit_ink (b % 16) low) (hex_ink bs (λ i. h (suc i))))
+
+-- hexadecimal of one byte or more is not empty
+hex_filled : (b : ℕ) (bs : List ℕ) → 0 < length (encode_lower (b ∷ bs))
+unfolding encode_with
+hex_filled b bs = omega arith
+
+-- ink that is not empty is a word
+word_from_ink : (w : List ℕ) → 0 < length w → list_all is_ink w ≡ true → is_word w ≡ true
+word_from_ink [] filled h = absurd (omega arith)
+word_from_ink (c ∷ cs) filled h = h
+
+ink_from_word : (w : List ℕ) → is_word w ≡ true → list_all is_ink w ≡ true
+ink_from_word [] h = refl
+ink_from_word (c ∷ cs) h = h
+
+-- more ink behind a word
+word_longer : (w more : List ℕ) → is_word w ≡ true → list_all is_ink more ≡ true → is_word (w ++ more) ≡ true
+word_longer [] more h k = absurd (false≢true h)
+word_longer (c ∷ cs) more h k = list_all-append is_ink (c ∷ cs) more ∙ and_from _ _ h k
+
+decimal_word : (n : ℕ) → n < 2 ^ 64 → is_word (decimal n) ≡ true
+decimal_word n h = let numeral = (decimal_is_IsNumeral n h).0 in word_from_ink (decimal n) numeral.0 (digits_ink (decimal n) numeral.1)
+
+signed_word : (z : ℤ) → IsLong z → is_word (signed_decimal z) ≡ true
+signed_word (pos n) h = decimal_word n (omega arith)
+signed_word (negsuc n) h =
+    and_from true (list_all is_ink (decimal (suc n))) refl (ink_from_word (decimal (suc n)) (decimal_word (suc n) (omega arith)))
+
+name_word : (w : List ℕ) → is_name w ≡ true → is_word w ≡ true
+name_word w h =
+    let outer = and_parts (nat_le 1 (length w) && nat_le (length w) 64) (list_all is_name_byte w) h in
+    let bounds = and_parts (nat_le 1 (length w)) (nat_le (length w) 64) outer.0 in
+    let filled : 1 ≤ length w = leb-true 1 (length w) bounds.0 in
+    word_from_ink w (omega arith) (all_weaker is_name_byte is_ink name_ink w outer.1)
+
+host_word : (w : List ℕ) → is_host w ≡ true → is_word w ≡ true
+host_word w h =
+    let outer = and_parts (nat_le 1 (length w) && nat_le (length w) 255) (list_all is_host_byte w) h in
+    let bounds = and_parts (nat_le 1 (length w)) (nat_le (length w) 255) outer.0 in
+    let filled : 1 ≤ length w = leb-true 1 (length w) bounds.0 in
+    word_from_ink w (omega arith) (all_weaker is_host_byte is_ink host_ink w outer.1)
+
+below_root_ink : (names : List (List ℕ)) → list_all is_name names ≡ true → list_all is_ink (below_root names) ≡ true
+below_root_ink [] h = refl
+below_root_ink (n ∷ ns) h =
+    let parts = and_parts (is_name n) (list_all is_name ns) h in
+    list_all-append is_ink (47 ∷ n) (below_root ns)
+    ∙ and_from (list_all is_ink (47 ∷ n)) (list_all is_ink (below_root ns)) (ink_from_word n (name_word n parts.0)) (below_root_ink ns parts.1)
+
+path_word : (names : List (List ℕ)) → list_all is_name names ≡ true → is_word (path_text names) ≡ true
+path_word [] h = refl
+path_word (n ∷ ns) h = below_root_ink (n ∷ ns) h
+
+-- the text of a token is a word
+pub printable : (t : Token) → Fits t → is_word (spell t) ≡ true
+printable (keyword w) h = h
+printable (number limit n) h = decimal_word n (omega arith)
+printable (signed z) h = signed_word z h
+printable (minor n) h = word_from_ink (encode_lower (to_be_bytes w32 n)) (hex_filled _ _) (hex_ink (to_be_bytes w32 n) (search rules))
+printable (named w) h = name_word w h
+printable (host w) h = host_word w h
+printable (path names) h = path_word names h.1
+printable (octets prefix bytes) h = word_longer prefix (encode_lower bytes) h.0 (hex_ink bytes h.1)
+printable (identity bytes) h = word_longer (codes "h:") (encode_lower bytes) refl (hex_ink bytes h.1)
+
+-- a word has neither a space nor an end of line
+pub word_lacks : (s : ℕ) → s ≤ 32 → (w : List ℕ) → is_word w ≡ true → lacks s w ≡ true
+word_lacks s low w h = ink_lacks s low w (ink_from_word w h)
+
+pub word_filled : (w : List ℕ) → is_word w ≡ true → is_filled w ≡ true
+word_filled [] h = absurd (false≢true h)
+word_filled (c ∷ cs) h = not_from_false (length (c ∷ cs) == 0) (ne_eqb (length (c ∷ cs)) 0 (λ same. omega arith))

@@ -3,7 +3,7 @@ use Rattle.std.specs.Prelude.{◌≡◌, ℕ, List, [], ◌∷◌, ◌++◌, len
 use Rattle.std.specs.Result.{result_ok}
 use Rattle.std.specs.Str.{bytes_eq}
 use Rattle.text_words.specs.Chain.{◌>>=◌}
-use Rattle.std.specs.Int.{from_be_bytes, w32}
+use Rattle.std.specs.Int.{from_be_bytes, to_be_bytes, w32}
 use Rattle.hex.specs.Hex.{encode_lower, decode_of, decode_sized}
 use Rattle.hex.specs.declared.error.FromHexError.{FromHexError}
 
@@ -30,9 +30,10 @@ prefixed_of prefix w = do
   text ← behind prefix w
   hex_of text
 
--- the number of the bytes that were decoded, where the text is the one in lower case
+-- the number of the bytes that were decoded, where the text is that of the number
 abbrev pub number_spelled : List ℕ → Result (List ℕ) FromHexError → Option ℕ
-number_spelled text (Ok bytes) = if bytes_eq (encode_lower bytes) text then Some (from_be_bytes w32 bytes) else None
+number_spelled text (Ok bytes) =
+    let n = from_be_bytes w32 bytes in if bytes_eq (encode_lower (to_be_bytes w32 n)) text then Some n else None
 number_spelled text (Err e) = None
 
 -- the number of eight digits, as the minor of a system exception is written

@@ -1,9 +1,8 @@
 -- The words that a value is written in. From its list of tokens follow its text, its words and the range of its parts.
-use Rattle.std.specs.Prelude.{◌≡◌, ℕ, ℤ, ◌^◌, ◌<◌, ◌≤◌, ◌==◌, ◌||◌, ◌+◌, nat_le, nat_lt, Bool, true, false, List, [], ◌∷◌, ◌++◌, length, codes, decimal, IsTrue}
+use Rattle.std.specs.Prelude.{◌≡◌, ℕ, ℤ, pos, negsuc, ◌^◌, ◌<◌, ◌≤◌, ◌==◌, ◌||◌, ◌+◌, nat_le, nat_lt, Bool, true, false, List, [], ◌∷◌, ◌++◌, length, codes, decimal, IsTrue}
 use Rattle.std.specs.Fmt.{signed_decimal}
 use Rattle.std.specs.List.{list_all}
-use Rattle.std.specs.Prelude.{FitsSigned}
-use Rattle.std.specs.Int.{to_be_bytes, w32, w64}
+use Rattle.std.specs.Int.{to_be_bytes, w32}
 use Rattle.hex.specs.Hex.{encode_lower, IsBytes}
 use Rattle.text_words.specs.Name.{is_name, is_host}
 use Rattle.text_words.specs.Path.{path_text}
@@ -39,11 +38,16 @@ abbrev pub is_word : List ℕ → Bool
 is_word [] = false
 is_word (c ∷ cs) = list_all is_ink (c ∷ cs)
 
+-- a number that 64 bits with a sign hold
+abbrev pub IsLong : ℤ → Type 0
+IsLong (pos n) = n < 2 ^ 63
+IsLong (negsuc n) = n < 2 ^ 63
+
 -- the values that have a text
 abbrev pub Fits : Token → Type 0
 Fits (keyword w) = is_word w ≡ true
 Fits (number limit n) = (n < limit) × (limit ≤ 2 ^ 64)
-Fits (signed z) = FitsSigned w64 z
+Fits (signed z) = IsLong z
 Fits (minor n) = n < 2 ^ 32
 Fits (named w) = is_name w ≡ true
 Fits (host w) = is_host w ≡ true

@@ -1,5 +1,6 @@
-ghost use Rattle.std.specs.Prelude.{◌≡◌, map};
+ghost use Rattle.std.specs.Prelude.{◌≡◌, IfOk, map};
 ghost use Rattle.text_words.specs.Gives.{Gives};
+ghost use Rattle.text_words.specs.Token.{Token, spell};
 ghost use Rattle.text_words.specs.Path.{all_names_of, few_enough, named, path_of};
 
 use crate::cuts::parts;
@@ -10,6 +11,13 @@ use std::alloc::{AllocError, Global};
 
 /// The path that `word` writes: `/`, or at most 16 names each of which stands behind a `/`.
 pub fn path(alloc: Global, word: &[u8]) -> Result<Path, WordFault>
+    ensures value { Gives result (path_of word.now) }
+    ensures text { IfOk result (λ names. word.now ≡ spell (Token.path names)) }
+{
+    read_path(alloc, word)
+}
+
+fn read_path(alloc: Global, word: &[u8]) -> Result<Path, WordFault>
     ensures { Gives result (path_of word.now) }
 {
     match word {

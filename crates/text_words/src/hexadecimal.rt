@@ -54,7 +54,6 @@ pub fn octets(alloc: Global, prefix: &[u8], word: &[u8]) -> Result<Bytes, WordFa
     lower_hex(alloc, text)
 }
 
-#[tactic(auto, using(std::proofs::lemmas::Nat::be_bytes_4))]
 /// The number of a word of eight lower-case hexadecimal digits.
 pub fn minor(word: &[u8]) -> Result<u32, WordFault>
     ensures value { Gives result (minor_of word.now) }
@@ -63,10 +62,11 @@ pub fn minor(word: &[u8]) -> Result<u32, WordFault>
     let Ok(bytes) = <[u8; 4] as FromHex>::from_hex(word) else {
         return Err(WordFault::OutOfForm);
     };
+    let n = u32::from_be_bytes(bytes);
     let mut digits = [0; 8];
-    let _ = hex::encode_to_slice(bytes, &mut digits);
+    let _ = hex::encode_to_slice(n.to_be_bytes(), &mut digits);
     if digits.as_slice() == word {
-        Ok(u32::from_be_bytes(bytes))
+        Ok(n)
     } else {
         Err(WordFault::OutOfForm)
     }
