@@ -1,12 +1,11 @@
 -- A word that is read as a path is the path's text.
-use Rattle.std.proofs.Common.{◌≡◌, ℕ, ◌==◌, Bool, true, false, List, [], ◌∷◌, ◌++◌, length, Option, Some, None, Result, Ok, Err, IfOk, refl, ap, sym, ◌∙◌, cond}
+use Rattle.std.proofs.Common.{◌≡◌, ℕ, ◌==◌, Bool, true, false, List, [], ◌∷◌, ◌++◌, Option, Some, None, Result, Ok, Err, IfOk, refl, ap, sym, ◌∙◌, cond}
 use Rattle.std.proofs.lemmas.Bool.{eqb-true}
 use Rattle.std.proofs.lemmas.Option.{none-some, same_Some, cond_some}
-use Rattle.std.specs.Prelude.{nat_le}
 use Rattle.text_words.specs.Name.{is_name, name_of}
 use Rattle.text_words.specs.Cuts.{parts_of}
 use Rattle.text_words.specs.Chain.{◌>>=◌}
-use Rattle.text_words.specs.Path.{below_root, path_text, all_names_of, few_enough, named, names_behind, path_of}
+use Rattle.text_words.specs.Path.{below_root, path_text, all_names_of, names_behind, path_names_of}
 use Rattle.text_words.specs.declared.fault.WordFault.{WordFault}
 use Rattle.text_words.specs.declared.fault.WordFault.TheVariants.{OutOfForm, WantMemory}
 use Rattle.text_words.specs.Gives.{Gives}
@@ -26,10 +25,6 @@ names_same [] ns h = sym (same_Some [] ns h)
 names_same (w ∷ ws) ns h =
     names_same_by w ws ns (name_of w) (all_names_of ws) (λ n e. sym (cond_some (is_name w) w n e).1) (λ ms e. names_same ws ms e) h
 
-few_same : (read : Option (List (List ℕ))) (ns : List (List ℕ)) → (read >>= few_enough) ≡ Some ns → read ≡ Some ns
-few_same None ns h = absurd (none-some ns h)
-few_same (Some ms) ns h = ap Some (cond_some (nat_le (length ms) 16) ms ns h).1
-
 path_text_below : (names : List (List ℕ)) (c : ℕ) (cs : List ℕ) → below_root names ≡ c ∷ cs → path_text names ≡ c ∷ cs
 path_text_below [] c cs h = cc
 path_text_below (n ∷ ns) c cs h = h
@@ -37,7 +32,7 @@ path_text_below (n ∷ ns) c cs h = h
 names_spelled : (rest : List ℕ) (ns : List (List ℕ)) → names_behind rest ≡ Some ns → 47 ∷ rest ≡ path_text ns
 names_spelled [] ns h = ap path_text (same_Some [] ns h)
 names_spelled (c ∷ cs) ns h =
-    let same : ns ≡ parts_of 47 (c ∷ cs) = names_same (parts_of 47 (c ∷ cs)) ns (few_same (all_names_of (parts_of 47 (c ∷ cs))) ns h) in
+    let same : ns ≡ parts_of 47 (c ∷ cs) = names_same (parts_of 47 (c ∷ cs)) ns h in
     sym (path_text_below ns 47 (c ∷ cs) (below_root_each ns ∙ ap (behind_each 47) same ∙ together 47 (c ∷ cs)))
 
 path_spelled_by : (c : ℕ) (cs : List ℕ) (ns : List (List ℕ)) (slash : Bool) → (slash ≡ true → c ≡ 47)
@@ -45,11 +40,11 @@ path_spelled_by : (c : ℕ) (cs : List ℕ) (ns : List (List ℕ)) (slash : Bool
 path_spelled_by c cs ns true at h = rw (at refl) (names_spelled cs ns h)
 path_spelled_by c cs ns false at h = absurd (none-some ns h)
 
-pub path_spelled : (w : List ℕ) (ns : List (List ℕ)) → path_of w ≡ Some ns → w ≡ path_text ns
-path_spelled [] ns h = absurd (none-some ns h)
-path_spelled (c ∷ cs) ns h = path_spelled_by c cs ns (c == 47) (eqb-true c 47) h
+names_path_spelled : (w : List ℕ) (ns : List (List ℕ)) → path_names_of w ≡ Some ns → w ≡ path_text ns
+names_path_spelled [] ns h = absurd (none-some ns h)
+names_path_spelled (c ∷ cs) ns h = path_spelled_by c cs ns (c == 47) (eqb-true c 47) h
 
 -- the same of what a reader of paths answers
-pub path_given : (w : List ℕ) (r : Result (List (List ℕ)) WordFault) → Gives r (path_of w) → IfOk r (λ ns. w ≡ path_text ns)
-path_given w (Ok ns) h = path_spelled w ns h
+pub path_given : (w : List ℕ) (r : Result (List (List ℕ)) WordFault) → Gives r (path_names_of w) → IfOk r (λ ns. w ≡ path_text ns)
+path_given w (Ok ns) h = names_path_spelled w ns h
 path_given w (Err e) h = tt

@@ -15,10 +15,10 @@ use Rattle.std.specs.List.{list_all}
 use Rattle.std.specs.Str.{bytes_eq}
 use Rattle.hex.specs.Hex.{encode_lower, decode_of, IsBytes}
 use Rattle.hex.proofs.HexLemmas.{decode_of-encode_lower, decode_sized-encode_lower}
-use Rattle.text_words.specs.Number.{number_of, signed_of, negated, not_negated}
-use Rattle.text_words.specs.Hexadecimal.{hex_of, any_hex_of, prefixed_of, behind, minor_of}
+use Rattle.text_words.specs.Number.{number_of, port_of, signed_of, negated, not_negated}
+use Rattle.text_words.specs.Hexadecimal.{hex_of, any_hex_of, prefixed_of, behind, minor_of, is_reference, reference_of}
 use Rattle.text_words.specs.Name.{is_name, is_name_byte, name_of, is_host, host_of}
-use Rattle.text_words.specs.Path.{below_root, path_text, all_names_of, path_of}
+use Rattle.text_words.specs.Path.{below_root, path_text, all_names_of, few_enough, path_of}
 use Rattle.text_words.specs.Cuts.{lacks}
 use Rattle.text_words.specs.Identity.{printed_id_of, id_of}
 use Rattle.text_words.specs.Token.{IsLong}
@@ -94,3 +94,9 @@ path_back ([] ∷ ns) few all = absurd (false≢true all)
 path_back ((c ∷ cs) ∷ ns) few all =
     let parts = and_parts (is_name (c ∷ cs)) (list_all is_name ns) all in
     rw (below_root_each ns, cut_again 47 (c ∷ cs) ns (name_lacks (c ∷ cs) parts.0) (names_lack ns parts.1), all_names_back ((c ∷ cs) ∷ ns) all, le-leb (length ((c ∷ cs) ∷ ns)) 16 few) refl
+
+pub reference_back : (w : List ℕ) → is_reference w ≡ true → reference_of w ≡ Some w
+reference_back w h = rw h refl
+
+pub port_back : (n : ℕ) → 1 ≤ n → n < 2 ^ 16 → port_of (decimal n) ≡ Some n
+port_back n low high = rw (number_back (2 ^ 16) n high (omega arith), ne_eqb n 0 (λ same. omega arith)) refl

@@ -1,5 +1,9 @@
 -- The text of a token is a word: not empty, with no space and no end of line in it.
-use Rattle.std.proofs.Common.{◌≡◌, ℕ, ◌+◌, ◌/◌, ◌%◌, ◌^◌, ◌<◌, ◌≤◌, ◌==◌, ◌&&◌, ◌||◌, Bool, true, false, not, List, [], ◌∷◌, ◌++◌, length, get_or, refl, ap, sym, ◌∙◌, arith, rules, suc, ℤ, nat_le}
+use Rattle.std.proofs.Common.{◌≡◌, ℕ, ◌+◌, ◌/◌, ◌%◌, ◌^◌, ◌<◌, ◌≤◌, ◌==◌, ◌&&◌, ◌||◌, Bool, true, false, not, List, [], ◌∷◌, ◌++◌, length, get_or, refl, ap, sym, ◌∙◌, arith, rules, suc, ℤ, nat_le, take, drop, subst, cond, Option, Some, None}
+use Rattle.std.proofs.lemmas.List.{take-append-drop}
+use Rattle.std.proofs.lemmas.Slice.Eq.{bytes_eq-Decides}
+use Rattle.std.specs.Str.{bytes_eq}
+use Rattle.text_words.specs.Hexadecimal.{is_lower_digit, is_hex_behind, is_reference}
 use Rattle.std.proofs.lemmas.Bool.{and_parts, and_from, or_cases, leb-true, lt-ltb, ltb-true, ne_eqb, not_from_false, agree_below_at, agree_below, false≢true}
 use Rattle.std.proofs.lemmas.Bool.Decides.{nat_tests}
 use Rattle.std.proofs.lemmas.Str.Parse.{tells_digits}
@@ -15,7 +19,7 @@ use Rattle.hex.specs.Hex.{lower_digits, encode_with, encode_lower, IsBytes}
 use Rattle.text_words.specs.Name.{is_alphanumeric, is_name_byte, is_host_byte, is_name, is_host}
 use Rattle.text_words.specs.Path.{below_root, path_text}
 use Rattle.text_words.specs.Cuts.{lacks, is_filled}
-use Rattle.text_words.specs.Token.{Token, keyword, number, signed, minor, named, host, path, octets, identity, spell, is_ink, is_word, IsLong, Fits, AllFit, texts, tails, spelled}
+use Rattle.text_words.specs.Token.{Token, keyword, number, signed, minor, named, host, path, octets, identity, reference, port, spell, is_ink, is_word, IsLong, Fits, AllFit, texts, tails, spelled}
 
 -- a test that every element passes, by a weaker one
 pub all_weaker : (p q : ℕ → Bool) → ((x : ℕ) → p x ≡ true → q x ≡ true) → (xs : List ℕ) → list_all p xs ≡ true → list_all q xs ≡ true
@@ -111,6 +115,21 @@ path_word : (names : List (List ℕ)) → list_all is_name names ≡ true → is
 path_word [] h = refl
 path_word (n ∷ ns) h = below_root_ink (n ∷ ns) h
 
+lower_digit_ink : (c : ℕ) → is_lower_digit c ≡ true → is_ink c ≡ true
+lower_digit_ink c h = grind (arith, nat_tests)
+
+reference_word_by : (w : List ℕ) (starts : Bool) → (starts ≡ true → codes "IOR:" ≡ take 4 w)
+    → is_hex_behind (cond starts (Some (drop 4 w)) None) ≡ true → is_word w ≡ true
+reference_word_by w true starts h =
+    let whole : codes "IOR:" ++ drop 4 w ≡ w = ap (λ front. front ++ drop 4 w) (starts refl) ∙ take-append-drop 4 w in
+    let digits = (and_parts (length (drop 4 w) % 2 == 0) (list_all is_lower_digit (drop 4 w)) h).1 in
+    subst (λ (v : List ℕ). is_word v ≡ true) whole
+    (word_longer (codes "IOR:") (drop 4 w) refl (all_weaker is_lower_digit is_ink lower_digit_ink (drop 4 w) digits))
+reference_word_by w false starts h = absurd (false≢true h)
+
+reference_word : (w : List ℕ) → is_reference w ≡ true → is_word w ≡ true
+reference_word w h = reference_word_by w (bytes_eq (codes "IOR:") (take 4 w)) (bytes_eq-Decides (codes "IOR:") (take 4 w)).0 h
+
 -- the text of a token is a word
 pub printable : (t : Token) → Fits t → is_word (spell t) ≡ true
 printable (keyword w) h = h
@@ -119,9 +138,11 @@ printable (signed z) h = signed_word z h
 printable (minor n) h = word_from_ink (encode_lower (to_be_bytes w32 n)) (hex_filled _ _) (hex_ink (to_be_bytes w32 n) (search rules))
 printable (named w) h = name_word w h
 printable (host w) h = host_word w h
+printable (port n) h = decimal_word n (omega arith)
 printable (path names) h = path_word names h.1
 printable (octets prefix bytes) h = word_longer prefix (encode_lower bytes) h.0 (hex_ink bytes h.1)
 printable (identity bytes) h = word_longer (codes "h:") (encode_lower bytes) refl (hex_ink bytes h.1)
+printable (reference w) h = reference_word w h
 
 -- a word has neither a space nor an end of line
 pub word_lacks : (s : ℕ) → s ≤ 32 → (w : List ℕ) → is_word w ≡ true → lacks s w ≡ true

@@ -1,5 +1,6 @@
 -- Bytes in hexadecimal, two lower-case digits each, behind a prefix as `h:`.
-use Rattle.std.specs.Prelude.{◌≡◌, ℕ, List, [], ◌∷◌, ◌++◌, length, take, drop, codes, Bool, Option, Some, None, Result, Ok, Err, if◌then◌else◌}
+use Rattle.std.specs.Prelude.{◌≡◌, ℕ, ◌%◌, ◌==◌, ◌&&◌, ◌||◌, nat_le, false, List, [], ◌∷◌, ◌++◌, length, take, drop, codes, Bool, Option, Some, None, Result, Ok, Err, if◌then◌else◌}
+use Rattle.std.specs.List.{list_all}
 use Rattle.std.specs.Result.{result_ok}
 use Rattle.std.specs.Str.{bytes_eq}
 use Rattle.text_words.specs.Chain.{◌>>=◌}
@@ -39,3 +40,23 @@ number_spelled text (Err e) = None
 -- the number of eight digits, as the minor of a system exception is written
 abbrev pub minor_of : List ℕ → Option ℕ
 minor_of w = number_spelled w (decode_sized w 4)
+
+-- a digit of lower-case hexadecimal
+abbrev pub is_lower_digit : ℕ → Bool
+is_lower_digit c = (nat_le 48 c && nat_le c 57) || (nat_le 97 c && nat_le c 102)
+
+-- two digits a byte
+abbrev pub is_lower_hex : List ℕ → Bool
+is_lower_hex text = length text % 2 == 0 && list_all is_lower_digit text
+
+abbrev pub is_hex_behind : Option (List ℕ) → Bool
+is_hex_behind None = false
+is_hex_behind (Some text) = is_lower_hex text
+
+-- the text of an interoperable object reference, as CORBA 3.3 Part 2, 7.6.9, writes it, in lower case
+abbrev pub is_reference : List ℕ → Bool
+is_reference w = is_hex_behind (behind (codes "IOR:") w)
+
+-- the reference that a word is
+abbrev pub reference_of : List ℕ → Option (List ℕ)
+reference_of w = if is_reference w then Some w else None

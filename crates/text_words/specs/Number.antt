@@ -24,3 +24,11 @@ not_negated (Some n) = Some (pos n)
 abbrev pub signed_of : List ℕ → Option ℤ
 signed_of [] = None
 signed_of (c ∷ cs) = if c == 45 then negated (number_of (2 ^ 63 + 1) cs) else not_negated (number_of (2 ^ 63) (c ∷ cs))
+
+abbrev pub not_zero : Option ℕ → Option ℕ
+not_zero None = None
+not_zero (Some n) = if n == 0 then None else Some n
+
+-- the port whose text the word is
+abbrev pub port_of : List ℕ → Option ℕ
+port_of w = not_zero (number_of (2 ^ 16) w)

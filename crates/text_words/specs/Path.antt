@@ -21,21 +21,22 @@ all_names_of (w ∷ ws) = do
   ns ← all_names_of ws
   Some (n ∷ ns)
 
+-- the names of a path below the root
+abbrev pub names_behind : List ℕ → Option (List (List ℕ))
+names_behind [] = Some []
+names_behind (c ∷ cs) = all_names_of (parts_of 47 (c ∷ cs))
+
+-- the names of a path of any depth, none for `/`
+abbrev pub path_names_of : List ℕ → Option (List (List ℕ))
+path_names_of [] = None
+path_names_of (c ∷ cs) = if c == 47 then names_behind cs else None
+
 -- at most 16 names
 abbrev pub few_enough : List (List ℕ) → Option (List (List ℕ))
 few_enough ns = if nat_le (length ns) 16 then Some ns else None
 
-abbrev pub named : List (List ℕ) → Option (List (List ℕ))
-named ws = do
-  ns ← all_names_of ws
-  few_enough ns
-
--- the names of a path below the root
-abbrev pub names_behind : List ℕ → Option (List (List ℕ))
-names_behind [] = Some []
-names_behind (c ∷ cs) = named (parts_of 47 (c ∷ cs))
-
 -- the names of the path whose text the word is
 abbrev pub path_of : List ℕ → Option (List (List ℕ))
-path_of [] = None
-path_of (c ∷ cs) = if c == 47 then names_behind cs else None
+path_of w = do
+  ns ← path_names_of w
+  few_enough ns

@@ -5,6 +5,7 @@ use Rattle.std.specs.List.{list_all}
 use Rattle.std.specs.Int.{to_be_bytes, w32}
 use Rattle.hex.specs.Hex.{encode_lower, IsBytes}
 use Rattle.text_words.specs.Name.{is_name, is_host}
+use Rattle.text_words.specs.Hexadecimal.{is_reference}
 use Rattle.text_words.specs.Path.{path_text}
 
 pub data Token : Type 0 where
@@ -14,9 +15,11 @@ pub data Token : Type 0 where
   minor : ℕ → Token  -- a 32-bit number in eight hexadecimal digits
   named : List ℕ → Token
   host : List ℕ → Token
+  port : ℕ → Token  -- from 1 to 65535
   path : List (List ℕ) → Token
   octets : List ℕ → List ℕ → Token  -- a prefix, and bytes in hexadecimal
   identity : List ℕ → Token  -- an object id
+  reference : List ℕ → Token  -- the text of an IOR
 
 abbrev pub spell : Token → List ℕ
 spell (keyword w) = w
@@ -25,9 +28,11 @@ spell (signed z) = signed_decimal z
 spell (minor n) = encode_lower (to_be_bytes w32 n)
 spell (named w) = w
 spell (host w) = w
+spell (port n) = decimal n
 spell (path names) = path_text names
 spell (octets prefix bytes) = prefix ++ encode_lower bytes
 spell (identity bytes) = codes "h:" ++ encode_lower bytes
+spell (reference w) = w
 
 -- neither a space nor the end of a line
 abbrev pub is_ink : ℕ → Bool
@@ -51,9 +56,11 @@ Fits (signed z) = IsLong z
 Fits (minor n) = n < 2 ^ 32
 Fits (named w) = is_name w ≡ true
 Fits (host w) = is_host w ≡ true
+Fits (port n) = (1 ≤ n) × (n < 2 ^ 16)
 Fits (path names) = (length names ≤ 16) × (list_all is_name names ≡ true)
 Fits (octets prefix bytes) = (is_word prefix ≡ true) × IsBytes bytes
 Fits (identity bytes) = (length bytes ≤ 256) × IsBytes bytes
+Fits (reference w) = is_reference w ≡ true
 
 abbrev pub AllFit : List Token → Type 0
 AllFit [] = Unit {0}

@@ -1,8 +1,8 @@
 ghost use Rattle.std.specs.Prelude.{◌≡◌, ◌+◌, ◌*◌, ◌-◌, ◌<◌, ◌≤◌, ◌^◌, ◌∷◌, decimal, IfOk, IfSome};
 ghost use Rattle.std.specs.Option.{SomeIff};
 ghost use Rattle.text_words.specs.Gives.{Gives};
-ghost use Rattle.text_words.specs.Number.{negated, number_of, signed_of};
-ghost use Rattle.text_words.specs.Token.{spell, number as number_token, signed as signed_token};
+ghost use Rattle.text_words.specs.Number.{negated, number_of, port_of, signed_of};
+ghost use Rattle.text_words.specs.Token.{spell, number as number_token, port as port_token, signed as signed_token};
 
 use crate::fault::WordFault;
 use itoa::Buffer;
@@ -66,6 +66,19 @@ pub fn number8(word: &[u8]) -> Result<u8, WordFault>
 {
     let n = number_within(word, u64::from(u8::MAX)).ok_or(WordFault::OutOfForm)?;
     Ok(n as u8)
+}
+
+/// The port from 1 to 65535 that `word` writes, as for `number64`.
+pub fn port(word: &[u8]) -> Result<u16, WordFault>
+    ensures value { Gives result (port_of word.now) }
+    ensures text { IfOk result (λ n. word.now ≡ spell (port_token n)) }
+{
+    let n = number16(word)?;
+    if n == 0 {
+        Err(WordFault::OutOfForm)
+    } else {
+        Ok(n)
+    }
 }
 
 /// The 64-bit number with a sign that `word` writes: digits as for `number64`, behind a `-` where it is below 0.

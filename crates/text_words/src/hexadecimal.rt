@@ -1,9 +1,10 @@
 ghost use Rattle.std.specs.Prelude.{◌≡◌, ◌++◌, IfOk, IfSome};
+ghost use Rattle.std.specs.List.{list_all};
 ghost use Rattle.std.specs.Option.{option_copied};
 ghost use Rattle.text_words.specs.Gives.{Gives};
 ghost use Rattle.hex.specs.Hex.{encode_lower};
 ghost use Rattle.text_words.specs.Token.{Token, spell};
-ghost use Rattle.text_words.specs.Hexadecimal.{any_hex_of, behind, hex_of, minor_of, prefixed_of};
+ghost use Rattle.text_words.specs.Hexadecimal.{any_hex_of, behind, hex_of, is_lower_digit, is_lower_hex, is_reference as is_reference_of, minor_of, prefixed_of, reference_of};
 
 use crate::fault::WordFault;
 use hex::{FromHex, FromHexError};
@@ -70,4 +71,44 @@ pub fn minor(word: &[u8]) -> Result<u32, WordFault>
     } else {
         Err(WordFault::OutOfForm)
     }
+}
+
+fn is_hex_digit(c: u8) -> bool
+    ensures { result ≡ is_lower_digit c }
+{
+    matches!(c, b'0'..=b'9' | b'a'..=b'f')
+}
+
+fn has_hex_digits(text: &[u8]) -> bool
+    ensures { result ≡ list_all is_lower_digit text.now }
+{
+    text.iter().all(|c| is_hex_digit(*c))
+}
+
+fn is_hex_text(text: &[u8]) -> bool
+    ensures { result ≡ is_lower_hex text.now }
+{
+    text.len() % 2 == 0 && has_hex_digits(text)
+}
+
+/// Whether `word` is the text of a reference: `IOR:` and two lower-case hexadecimal digits a byte.
+pub fn is_reference(word: &[u8]) -> bool
+    ensures { result ≡ is_reference_of word.now }
+{
+    match text_behind(word, b"IOR:") {
+        Some(text) => is_hex_text(text),
+        None => false,
+    }
+}
+
+/// The text of a reference that `word` is.
+pub fn reference(alloc: Global, word: &[u8]) -> Result<Bytes, WordFault>
+    ensures value { Gives result (reference_of word.now) }
+    ensures text { IfOk result (λ text. word.now ≡ spell (Token.reference text)) }
+{
+    if !is_reference(word) {
+        return Err(WordFault::OutOfForm);
+    }
+    let bytes = Vec::from_slice(alloc, word)?;
+    Ok(Bytes::from_vec(bytes))
 }

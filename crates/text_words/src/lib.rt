@@ -14,12 +14,14 @@ mod names;
 mod object_id;
 mod writing;
 
-pub use adapter_path::path;
+pub use adapter_path::{path, path_names, path_text};
 pub use cuts::{loose_words, next_line, parts, words};
-pub use decimal::{number8, number16, number32, number64, signed};
+pub use decimal::{number8, number16, number32, number64, port, signed};
 pub use fault::WordFault;
-pub use hexadecimal::{any_hex, minor, octets};
+pub use hexadecimal::{any_hex, is_reference, minor, octets, reference};
 pub use keyword::{Worded, find_word};
 pub use names::{host, is_host, is_name, name};
-pub use object_id::{any_identity, identity};
-pub use writing::{put_minor, put_number, put_octets, put_signed, put_word};
+pub use object_id::{any_identity, identity, identity_text};
+pub use writing::{
+    put_identity, put_minor, put_number, put_octets, put_path, put_signed, put_word,
+};

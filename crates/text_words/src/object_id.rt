@@ -8,7 +8,7 @@ use crate::fault::WordFault;
 use crate::hexadecimal::{any_hex, octets, text_behind};
 use crate::names::name;
 use poa_base::{Bytes, Oid};
-use std::alloc::Global;
+use std::alloc::{AllocError, Global};
 
 fn short(bytes: Bytes) -> Result<Oid, WordFault>
     ensures value { Gives result (short_enough bytes) }
@@ -43,4 +43,14 @@ fn named(alloc: Global, text: &[u8]) -> Result<Oid, WordFault>
 {
     let id = name(alloc, text)?;
     Oid::from_vec(id.into_vec()).ok_or(WordFault::OutOfForm)
+}
+
+/// The text of an object id, as poad prints it.
+pub fn identity_text(alloc: Global, id: &Oid) -> Result<Bytes, AllocError>
+    ensures { IfOk result (λ text. text ≡ spell (Token.identity id.now)) }
+{
+    let digits = hex::encode(alloc, id.as_slice())?;
+    let mut text = Vec::from_slice(alloc, b"h:")?;
+    text.extend_from_slice(digits.as_bytes())?;
+    Ok(Bytes::from_vec(text))
 }

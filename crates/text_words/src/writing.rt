@@ -1,7 +1,9 @@
 ghost use Rattle.std.specs.Prelude.{◌≡◌, ◌∷◌, ◌++◌, [], OnOk, OnErr, length, take, ◌^◌};
 ghost use Rattle.text_words.specs.Token.{Token, tails};
 
+use crate::adapter_path::path_text;
 use itoa::Buffer;
+use poa_base::{Oid, Path};
 use std::alloc::AllocError;
 
 // Adds a space and two pieces, with nothing taken back where memory ends in between.
@@ -71,4 +73,21 @@ pub fn put_octets(out: &mut Vec<u8>, prefix: &[u8], bytes: &[u8]) -> Result<(), 
 {
     let text = hex::encode(*out.allocator(), bytes)?;
     put_pieces(out, prefix, text.as_bytes())
+}
+
+/// Adds an object id.
+pub fn put_identity(out: &mut Vec<u8>, id: &Oid) -> Result<(), AllocError>
+    ensures added { OnOk result (out.new.items ≡ out.old.items ++ tails (Token.identity id.now ∷ [])) }
+    ensures refused { OnErr result (out.new.items ≡ out.old.items) }
+{
+    put_octets(out, b"h:", id.as_slice())
+}
+
+/// Adds a path.
+pub fn put_path(out: &mut Vec<u8>, path: &Path) -> Result<(), AllocError>
+    ensures added { OnOk result (out.new.items ≡ out.old.items ++ tails (Token.path path.now ∷ [])) }
+    ensures refused { OnErr result (out.new.items ≡ out.old.items) }
+{
+    let text = path_text(*out.allocator(), path)?;
+    put_word(out, text.as_slice())
 }

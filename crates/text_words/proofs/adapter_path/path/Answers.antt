@@ -1,5 +1,0 @@
-use Rattle.text_words.proofs.Paths.{path_given}
-use Rattle.text_words.proofs.adapter_path.path.Goals as goal
-
-pub returns-clause-text : goal.returns-clause-text
-returns-clause-text c = path_given c.args.word.now c.read_path.result c.read_path.ensures
