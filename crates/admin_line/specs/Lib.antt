@@ -1,0 +1,4 @@
+pub mod Fixed
+pub mod Command
+pub mod Place
+pub mod Reading

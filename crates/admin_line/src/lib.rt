@@ -1,0 +1,14 @@
+//! The administrator's lines: the command of a line, the line of a command, and the line that answers it.
+//!
+//! A line is words with spaces between. `specs/Command.antt` says which words each command has,
+//! `specs/Reading.antt` which command a line gives, or the first word of it that is wrong.
+#![tactic(auto)]
+
+mod fixed;
+mod line;
+mod place;
+mod reading;
+
+pub use line::read_line;
+pub use place::Wrong;
+pub use reading::{Spelling, read_words};
