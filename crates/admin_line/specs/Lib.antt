@@ -2,3 +2,4 @@ pub mod Fixed
 pub mod Command
 pub mod Place
 pub mod Reading
+pub mod Answer

@@ -4,11 +4,14 @@
 //! `specs/Reading.antt` which command a line gives, or the first word of it that is wrong.
 #![tactic(auto)]
 
+mod answer;
 mod fixed;
 mod line;
 mod place;
 mod reading;
+mod writing;
 
-pub use line::read_line;
+pub use answer::{answer_text, read_answer, write_answer};
+pub use line::{read_line, write_line};
 pub use place::Wrong;
 pub use reading::{Spelling, read_words};

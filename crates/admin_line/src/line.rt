@@ -6,7 +6,8 @@ ghost use Rattle.admin_line.specs.Reading.{command_of_line};
 
 use crate::place::Wrong;
 use crate::reading::{Spelling, read_words};
-use poa_base::{Command, WantMemory};
+use crate::writing::command_bytes;
+use poa_base::{Bytes, Command, WantMemory};
 use std::alloc::Global;
 use text_words::loose_words;
 
@@ -23,4 +24,14 @@ pub fn read_line(alloc: Global, bytes: &[u8]) -> Result<Command, WantMemory>
         Err(Wrong::Word(word)) => Ok(Command::Bad { word }),
         Err(Wrong::WantMemory) => Err(WantMemory),
     }
+}
+
+/// The line of a command, without its LF: single spaces, and object ids as `h:` and hexadecimal.
+pub fn write_line(alloc: Global, command: &Command) -> Result<Bytes, WantMemory>
+    requires { IsCommand command.now }
+    ensures text { IfOk result (λ line. line ≡ spelled (command_tokens command.now)) }
+    ensures back { IfOk result (λ line. AllFit (command_tokens command.now) → command_of_line line ≡ command.now) }
+{
+    let out = command_bytes(alloc, command)?;
+    Ok(Bytes::from_vec(out))
 }

@@ -35,8 +35,9 @@ filled_texts [] h = refl
 filled_texts (t ∷ ts) h = rw (word_filled (spell t) (printable t h.0)) (ap (λ more. spell t ∷ more) (filled_texts ts h.1))
 
 -- where spaces are loose, a line of tokens has the same words
-pub loose_spelled : (t : Token) (ts : List Token) → AllFit (t ∷ ts) → loose_words_of (spelled (t ∷ ts)) ≡ texts (t ∷ ts)
-loose_spelled t ts h = ap (filter is_filled) (words_spelled t ts h) ∙ filled_texts (t ∷ ts) h
+pub loose_spelled : (ts : List Token) → AllFit ts → loose_words_of (spelled ts) ≡ texts ts
+loose_spelled [] h = refl
+loose_spelled (t ∷ ts) h = ap (filter is_filled) (words_spelled t ts h) ∙ filled_texts (t ∷ ts) h
 
 tails_lack : (ts : List Token) → AllFit ts → lacks 10 (tails ts) ≡ true
 tails_lack [] h = refl

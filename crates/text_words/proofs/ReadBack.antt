@@ -16,7 +16,8 @@ use Rattle.std.specs.Str.{bytes_eq}
 use Rattle.hex.specs.Hex.{encode_lower, decode_of, IsBytes}
 use Rattle.hex.proofs.HexLemmas.{decode_of-encode_lower, decode_sized-encode_lower}
 use Rattle.text_words.specs.Number.{number_of, port_of, signed_of, negated, not_negated}
-use Rattle.text_words.specs.Hexadecimal.{hex_of, any_hex_of, prefixed_of, behind, minor_of, is_reference, reference_of}
+use Rattle.text_words.specs.Hexadecimal.{hex_of, any_hex_of, prefixed_of, behind, minor_of, is_hex_behind, is_reference, reference_of}
+use Rattle.std.proofs.lemmas.List.{take-append-drop}
 use Rattle.text_words.specs.Name.{is_name, is_name_byte, name_of, is_host, host_of}
 use Rattle.text_words.specs.Path.{below_root, path_text, all_names_of, few_enough, path_of}
 use Rattle.text_words.specs.Cuts.{lacks}
@@ -100,3 +101,14 @@ reference_back w h = rw h refl
 
 pub port_back : (n : ℕ) → 1 ≤ n → n < 2 ^ 16 → port_of (decimal n) ≡ Some n
 port_back n low high = rw (number_back (2 ^ 16) n high (omega arith), ne_eqb n 0 (λ same. omega arith)) refl
+
+reference_no_id_by : (w : List ℕ) (starts : Bool) → (starts ≡ true → codes "IOR:" ≡ take 4 w)
+    → is_hex_behind (cond starts (Some (drop 4 w)) None) ≡ true → printed_id_of w ≡ None
+reference_no_id_by w true starts h =
+    let whole : codes "IOR:" ++ drop 4 w ≡ w = ap (λ front. front ++ drop 4 w) (starts refl) ∙ take-append-drop 4 w in
+    subst (λ (v : List ℕ). printed_id_of v ≡ None) whole refl
+reference_no_id_by w false starts h = absurd (false≢true h)
+
+-- the text of a reference is no object id
+pub reference_no_id : (w : List ℕ) → is_reference w ≡ true → printed_id_of w ≡ None
+reference_no_id w h = reference_no_id_by w (bytes_eq (codes "IOR:") (take 4 w)) (bytes_eq-Decides (codes "IOR:") (take 4 w)).0 h
