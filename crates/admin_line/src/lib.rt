@@ -15,3 +15,6 @@ pub use answer::{answer_text, read_answer, write_answer};
 pub use line::{read_line, write_line};
 pub use place::Wrong;
 pub use reading::{Spelling, read_words};
+
+#[cfg(test)]
+mod tests;
