@@ -12,8 +12,8 @@ use Rattle.text_words.specs.Token.{Fits, spell, identity, AllFit, texts, spelled
 use Rattle.text_words.proofs.ReadBack.{name_back, path_back, host_back, port_back, id_back, printed_id_back, reference_back, reference_no_id}
 use Rattle.text_words.proofs.Numbers.{number_back}
 use Rattle.text_words.proofs.Lines.{loose_spelled}
-use Rattle.admin_line.specs.declared.reading.Spelling.{Spelling}
-use Rattle.admin_line.specs.declared.reading.Spelling.TheVariants.{Any, Printed}
+use Rattle.admin_line.specs.declared.reading.Source.{Source}
+use Rattle.admin_line.specs.declared.reading.Source.TheVariants.{Link, Journal}
 use Rattle.admin_line.specs.declared.fixed.Shift.TheVariants as shift
 use Rattle.admin_line.specs.Fixed.{verb_word, shift_word, pace_word, pace, end_word, ending, success_word, objection_word}
 use Rattle.admin_line.specs.Answer.{reason_tokens, reason_of, answer_tokens, answer_of}
@@ -31,40 +31,46 @@ unfolding end_word
 end_back true = refl
 end_back false = refl
 
-spelled_id_back : (spelling : Spelling) (bytes : List ℕ) → Fits (identity bytes) → spelled_id_of spelling (spell (identity bytes)) ≡ Some bytes
-spelled_id_back Any bytes h = id_back bytes h.0 h.1
-spelled_id_back Printed bytes h = printed_id_back bytes h.0 h.1
+spelled_id_back : (source : Source) (bytes : List ℕ) → Fits (identity bytes) → spelled_id_of source (spell (identity bytes)) ≡ Some bytes
+spelled_id_back Link bytes h = id_back bytes h.0 h.1
+spelled_id_back Journal bytes h = printed_id_back bytes h.0 h.1
+
+-- the commands that a source has words for
+abbrev pub HasWords : Source → Command → Type 0
+HasWords Link c = IsCommand c
+HasWords Journal c = Unit {0}
 
 -- the words of a command give the command
-pub command_back : (spelling : Spelling) (c : Command) → IsCommand c → AllFit (command_tokens c) → command_of spelling (texts (command_tokens c)) ≡ Ok c
+pub command_back : (source : Source) (c : Command) → HasWords source c → AllFit (command_tokens c) → command_of source (texts (command_tokens c)) ≡ Ok c
 unfolding verb_word shift_word pace_word end_word
-command_back spelling (Manager m order.Activate) ok h = rw (name_back m h.1.0) refl
-command_back spelling (Manager m (order.Hold true)) ok h = rw (name_back m h.1.0) refl
-command_back spelling (Manager m (order.Hold false)) ok h = rw (name_back m h.1.0) refl
-command_back spelling (Manager m (order.Discard true)) ok h = rw (name_back m h.1.0) refl
-command_back spelling (Manager m (order.Discard false)) ok h = rw (name_back m h.1.0) refl
-command_back spelling (Manager m (order.Deactivate true true)) ok h = rw (name_back m h.1.0) refl
-command_back spelling (Manager m (order.Deactivate true false)) ok h = rw (name_back m h.1.0) refl
-command_back spelling (Manager m (order.Deactivate false true)) ok h = rw (name_back m h.1.0) refl
-command_back spelling (Manager m (order.Deactivate false false)) ok h = rw (name_back m h.1.0) refl
-command_back spelling (Create a) ok h = rw (path_back a h.1.0.0 h.1.0.1) refl
-command_back spelling (Destroy a true true) ok h = rw (path_back a h.1.0.0 h.1.0.1) refl
-command_back spelling (Destroy a true false) ok h = rw (path_back a h.1.0.0 h.1.0.1) refl
-command_back spelling (Destroy a false true) ok h = rw (path_back a h.1.0.0 h.1.0.1) refl
-command_back spelling (Destroy a false false) ok h = rw (path_back a h.1.0.0 h.1.0.1) refl
-command_back spelling (Activate a s) ok h = rw (path_back a h.1.0.0 h.1.0.1, name_back s h.1.1.0) refl
-command_back spelling (ActivateId a i s) ok h = rw (path_back a h.1.0.0 h.1.0.1, spelled_id_back spelling i h.1.1.0, name_back s h.1.1.1.0) refl
-command_back spelling (Deactivate a i) ok h = rw (path_back a h.1.0.0 h.1.0.1, spelled_id_back spelling i h.1.1.0) refl
-command_back spelling (Reference a s) ok h = rw (path_back a h.1.0.0 h.1.0.1, name_back s h.1.1.0) refl
-command_back spelling (Preset a s) ok h = rw (path_back a h.1.0.0 h.1.0.1, name_back s h.1.1.0) refl
-command_back spelling (Forward a e) ok h = rw (path_back a h.1.0.0 h.1.0.1, host_back e.host h.1.1.0, port_back e.port h.1.1.1.0.0 h.1.1.1.0.1) refl
-command_back spelling (Unforward a) ok h = rw (path_back a h.1.0.0 h.1.0.1) refl
-command_back spelling Shutdown ok h = refl
-command_back spelling (Bad k) ok h = absurd ok
+command_back source (Manager m order.Activate) ok h = rw (name_back m h.1.0) refl
+command_back source (Manager m (order.Hold true)) ok h = rw (name_back m h.1.0) refl
+command_back source (Manager m (order.Hold false)) ok h = rw (name_back m h.1.0) refl
+command_back source (Manager m (order.Discard true)) ok h = rw (name_back m h.1.0) refl
+command_back source (Manager m (order.Discard false)) ok h = rw (name_back m h.1.0) refl
+command_back source (Manager m (order.Deactivate true true)) ok h = rw (name_back m h.1.0) refl
+command_back source (Manager m (order.Deactivate true false)) ok h = rw (name_back m h.1.0) refl
+command_back source (Manager m (order.Deactivate false true)) ok h = rw (name_back m h.1.0) refl
+command_back source (Manager m (order.Deactivate false false)) ok h = rw (name_back m h.1.0) refl
+command_back source (Create a) ok h = rw (path_back a h.1.0.0 h.1.0.1) refl
+command_back source (Destroy a true true) ok h = rw (path_back a h.1.0.0 h.1.0.1) refl
+command_back source (Destroy a true false) ok h = rw (path_back a h.1.0.0 h.1.0.1) refl
+command_back source (Destroy a false true) ok h = rw (path_back a h.1.0.0 h.1.0.1) refl
+command_back source (Destroy a false false) ok h = rw (path_back a h.1.0.0 h.1.0.1) refl
+command_back source (Activate a s) ok h = rw (path_back a h.1.0.0 h.1.0.1, name_back s h.1.1.0) refl
+command_back source (ActivateId a i s) ok h = rw (path_back a h.1.0.0 h.1.0.1, spelled_id_back source i h.1.1.0, name_back s h.1.1.1.0) refl
+command_back source (Deactivate a i) ok h = rw (path_back a h.1.0.0 h.1.0.1, spelled_id_back source i h.1.1.0) refl
+command_back source (Reference a s) ok h = rw (path_back a h.1.0.0 h.1.0.1, name_back s h.1.1.0) refl
+command_back source (Preset a s) ok h = rw (path_back a h.1.0.0 h.1.0.1, name_back s h.1.1.0) refl
+command_back source (Forward a e) ok h = rw (path_back a h.1.0.0 h.1.0.1, host_back e.host h.1.1.0, port_back e.port h.1.1.1.0.0 h.1.1.1.0.1) refl
+command_back source (Unforward a) ok h = rw (path_back a h.1.0.0 h.1.0.1) refl
+command_back source Shutdown ok h = refl
+command_back Link (Bad k) ok h = absurd ok
+command_back Journal (Bad k) ok h = rw (number_back (2 ^ 32) k h.1.0.0 (omega arith)) refl
 
 -- the line of a command gives the command
 pub line_back : (c : Command) → IsCommand c → AllFit (command_tokens c) → command_of_line (spelled (command_tokens c)) ≡ c
-line_back c ok h = ap (λ ws. settled (command_of Any ws)) (loose_spelled (command_tokens c) h) ∙ ap settled (command_back Any c ok h)
+line_back c ok h = ap (λ ws. settled (command_of Link ws)) (loose_spelled (command_tokens c) h) ∙ ap settled (command_back Link c ok h)
 
 -- the words of a reason give the reason
 reason_back : (r : Reason) → AllFit (reason_tokens r) → reason_of (texts (reason_tokens r)) ≡ Some r

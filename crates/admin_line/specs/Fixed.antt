@@ -13,7 +13,7 @@ use Rattle.admin_line.specs.declared.fixed.Success.TheVariants as success
 use Rattle.admin_line.specs.declared.fixed.Objection.{Objection}
 use Rattle.admin_line.specs.declared.fixed.Objection.TheVariants as objection
 
--- the first word of each command
+-- the first word of each command; `bad` stands in journals alone
 unfoldable pub verb_word : Verb → List ℕ
 verb_word verb.Manager = codes "manager"
 verb_word verb.Create = codes "create"
@@ -26,6 +26,7 @@ verb_word verb.Preset = codes "default"
 verb_word verb.Forward = codes "forward"
 verb_word verb.Unforward = codes "unforward"
 verb_word verb.Shutdown = codes "shutdown"
+verb_word verb.Bad = codes "bad"
 
 -- what a manager is told
 unfoldable pub shift_word : Shift → List ℕ
@@ -83,7 +84,7 @@ objection_word objection.BadWord = codes "BadWord"
 abbrev pub verbs : List Verb
 verbs =
     verb.Manager ∷ verb.Create ∷ verb.Destroy ∷ verb.Activate ∷ verb.ActivateId ∷ verb.Deactivate ∷ verb.Reference ∷ verb.Preset
-    ∷ verb.Forward ∷ verb.Unforward ∷ verb.Shutdown ∷ []
+    ∷ verb.Forward ∷ verb.Unforward ∷ verb.Shutdown ∷ verb.Bad ∷ []
 
 abbrev pub shifts : List Shift
 shifts = shift.Activate ∷ shift.Hold ∷ shift.Discard ∷ shift.Deactivate ∷ []

@@ -1,17 +1,17 @@
 -- The command of a line's words, or the number of the first that is wrong.
-use Rattle.std.specs.Prelude.{ℕ, ◌+◌, List, [], ◌∷◌, Option, Result, Ok, Err}
+use Rattle.std.specs.Prelude.{ℕ, ◌+◌, ◌^◌, List, [], ◌∷◌, Option, Result, Ok, Err}
 use Rattle.poa_base.specs.declared.Command.{Command}
 use Rattle.poa_base.specs.declared.Command.TheVariants.{Manager, Create, Destroy, Activate, ActivateId, Deactivate, Reference, Preset, Forward, Unforward, Shutdown, Bad}
 use Rattle.poa_base.specs.declared.Order.{Order}
 use Rattle.poa_base.specs.declared.Order.TheVariants as order
-use Rattle.text_words.specs.Number.{port_of}
+use Rattle.text_words.specs.Number.{number_of, port_of}
 use Rattle.text_words.specs.Name.{name_of, host_of}
 use Rattle.text_words.specs.Path.{path_of}
 use Rattle.text_words.specs.Identity.{id_of, printed_id_of}
 use Rattle.text_words.specs.Keyword.{named_in}
 use Rattle.text_words.specs.Cuts.{loose_words_of}
-use Rattle.admin_line.specs.declared.reading.Spelling.{Spelling}
-use Rattle.admin_line.specs.declared.reading.Spelling.TheVariants.{Any, Printed}
+use Rattle.admin_line.specs.declared.reading.Source.{Source}
+use Rattle.admin_line.specs.declared.reading.Source.TheVariants.{Link, Journal}
 use Rattle.admin_line.specs.declared.fixed.Verb.{Verb}
 use Rattle.admin_line.specs.declared.fixed.Verb.TheVariants as verb
 use Rattle.admin_line.specs.declared.fixed.Shift.{Shift}
@@ -34,9 +34,9 @@ abbrev pub end_of : List ℕ → Option End
 end_of w = named_in end_word ends w
 
 -- an object id in any spelling, or only as it is printed
-abbrev pub spelled_id_of : Spelling → List ℕ → Option (List ℕ)
-spelled_id_of Any w = id_of w
-spelled_id_of Printed w = printed_id_of w
+abbrev pub spelled_id_of : Source → List ℕ → Option (List ℕ)
+spelled_id_of Link w = id_of w
+spelled_id_of Journal w = printed_id_of w
 
 -- `now` or `wait` as the last word, at k
 abbrev pub last_pace_of : ℕ → List (List ℕ) → Result Pace ℕ
@@ -71,17 +71,17 @@ destroy_of ws = do
   p ← last_pace_of 4 e.1
   Ok (Destroy a.0 (etherealizes_of e.0) (waits_of p))
 
-abbrev pub activate_id_of : Spelling → List (List ℕ) → Result Command ℕ
-activate_id_of spelling ws = do
+abbrev pub activate_id_of : Source → List (List ℕ) → Result Command ℕ
+activate_id_of source ws = do
   a ← at 2 path_of ws
-  i ← at 3 (spelled_id_of spelling) a.1
+  i ← at 3 (spelled_id_of source) a.1
   s ← at 4 name_of i.1
   end 5 s.1 (ActivateId a.0 i.0 s.0)
 
-abbrev pub deactivate_of : Spelling → List (List ℕ) → Result Command ℕ
-deactivate_of spelling ws = do
+abbrev pub deactivate_of : Source → List (List ℕ) → Result Command ℕ
+deactivate_of source ws = do
   a ← at 2 path_of ws
-  i ← at 3 (spelled_id_of spelling) a.1
+  i ← at 3 (spelled_id_of source) a.1
   end 4 i.1 (Deactivate a.0 i.0)
 
 abbrev pub forward_of : List (List ℕ) → Result Command ℕ
@@ -104,34 +104,42 @@ served_of ws = do
   s ← at 3 name_of a.1
   end 4 s.1 (a.0, s.0)
 
-abbrev pub behind_verb : Spelling → Verb → List (List ℕ) → Result Command ℕ
-behind_verb spelling verb.Manager ws = manager_of ws
-behind_verb spelling verb.Create ws = do
+-- the place of a wrong word, which stands in journals alone
+abbrev pub bad_of : Source → List (List ℕ) → Result Command ℕ
+bad_of Link ws = Err 1
+bad_of Journal ws = do
+  n ← at 2 (number_of (2 ^ 32)) ws
+  end 3 n.1 (Bad n.0)
+
+abbrev pub behind_verb : Source → Verb → List (List ℕ) → Result Command ℕ
+behind_verb source verb.Manager ws = manager_of ws
+behind_verb source verb.Create ws = do
   a ← adapter_of ws
   Ok (Create a)
-behind_verb spelling verb.Destroy ws = destroy_of ws
-behind_verb spelling verb.Activate ws = do
+behind_verb source verb.Destroy ws = destroy_of ws
+behind_verb source verb.Activate ws = do
   s ← served_of ws
   Ok (Activate s.0 s.1)
-behind_verb spelling verb.ActivateId ws = activate_id_of spelling ws
-behind_verb spelling verb.Deactivate ws = deactivate_of spelling ws
-behind_verb spelling verb.Reference ws = do
+behind_verb source verb.ActivateId ws = activate_id_of source ws
+behind_verb source verb.Deactivate ws = deactivate_of source ws
+behind_verb source verb.Reference ws = do
   s ← served_of ws
   Ok (Reference s.0 s.1)
-behind_verb spelling verb.Preset ws = do
+behind_verb source verb.Preset ws = do
   s ← served_of ws
   Ok (Preset s.0 s.1)
-behind_verb spelling verb.Forward ws = forward_of ws
-behind_verb spelling verb.Unforward ws = do
+behind_verb source verb.Forward ws = forward_of ws
+behind_verb source verb.Unforward ws = do
   a ← adapter_of ws
   Ok (Unforward a)
-behind_verb spelling verb.Shutdown ws = end 2 ws Shutdown
+behind_verb source verb.Shutdown ws = end 2 ws Shutdown
+behind_verb source verb.Bad ws = bad_of source ws
 
 -- the command of words
-abbrev pub command_of : Spelling → List (List ℕ) → Result Command ℕ
-command_of spelling ws = do
+abbrev pub command_of : Source → List (List ℕ) → Result Command ℕ
+command_of source ws = do
   v ← at 1 verb_of ws
-  behind_verb spelling v.0 v.1
+  behind_verb source v.0 v.1
 
 abbrev pub settled : Result Command ℕ → Command
 settled (Ok command) = command
@@ -139,4 +147,4 @@ settled (Err k) = Bad k
 
 -- the command of a line, a bad one with its first wrong word
 abbrev pub command_of_line : List ℕ → Command
-command_of_line line = settled (command_of Any (loose_words_of line))
+command_of_line line = settled (command_of Link (loose_words_of line))

@@ -18,6 +18,7 @@ pub(crate) enum Verb {
     Forward,
     Unforward,
     Shutdown,
+    Bad,
 }
 
 impl Worded for Verb {
@@ -39,6 +40,7 @@ impl Worded for Verb {
             Verb::Forward => b"forward",
             Verb::Unforward => b"unforward",
             Verb::Shutdown => b"shutdown",
+            Verb::Bad => b"bad",
         }
     }
 }

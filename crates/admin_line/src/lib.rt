@@ -12,9 +12,9 @@ mod reading;
 mod writing;
 
 pub use answer::{answer_text, read_answer, write_answer};
-pub use line::{read_line, write_line};
+pub use line::{command_text, read_line, write_line};
 pub use place::Wrong;
-pub use reading::{Spelling, read_words};
+pub use reading::{Source, read_words};
 
 #[cfg(test)]
 mod tests;

@@ -5,7 +5,7 @@ ghost use Rattle.admin_line.specs.Command.{IsCommand, command_tokens};
 ghost use Rattle.admin_line.specs.Reading.{command_of_line};
 
 use crate::place::Wrong;
-use crate::reading::{Spelling, read_words};
+use crate::reading::{Source, read_words};
 use crate::writing::command_bytes;
 use poa_base::{Bytes, Command, WantMemory};
 use std::alloc::Global;
@@ -19,7 +19,7 @@ pub fn read_line(alloc: Global, bytes: &[u8]) -> Result<Command, WantMemory>
     ensures { IfOk result (λ command. command ≡ command_of_line bytes.now) }
 {
     let words = loose_words(alloc, bytes)?;
-    match read_words(alloc, Spelling::Any, words.as_slice()) {
+    match read_words(alloc, Source::Link, words.as_slice()) {
         Ok(command) => Ok(command),
         Err(Wrong::Word(word)) => Ok(Command::Bad { word }),
         Err(Wrong::WantMemory) => Err(WantMemory),
@@ -31,6 +31,14 @@ pub fn write_line(alloc: Global, command: &Command) -> Result<Bytes, WantMemory>
     requires { IsCommand command.now }
     ensures text { IfOk result (λ line. line ≡ spelled (command_tokens command.now)) }
     ensures back { IfOk result (λ line. AllFit (command_tokens command.now) → command_of_line line ≡ command.now) }
+{
+    let out = command_bytes(alloc, command)?;
+    Ok(Bytes::from_vec(out))
+}
+
+/// The words of a command as a journal has them: those of its line, or `bad K` for a line that was no command.
+pub fn command_text(alloc: Global, command: &Command) -> Result<Bytes, WantMemory>
+    ensures { IfOk result (λ text. text ≡ spelled (command_tokens command.now)) }
 {
     let out = command_bytes(alloc, command)?;
     Ok(Bytes::from_vec(out))

@@ -1,15 +1,15 @@
 //! Words read one after another.
-ghost use Rattle.std.specs.Prelude.{◌≡◌, ◌∷◌, [], IfOk, map};
+ghost use Rattle.std.specs.Prelude.{◌≡◌, ◌∷◌, ◌^◌, [], IfOk, map};
 ghost use Rattle.text_words.specs.Gives.{Gives};
 ghost use Rattle.text_words.specs.Keyword.{named_in};
 ghost use Rattle.text_words.specs.Name.{host_of, name_of};
-ghost use Rattle.text_words.specs.Number.{port_of};
+ghost use Rattle.text_words.specs.Number.{number_of, port_of};
 ghost use Rattle.text_words.specs.Path.{path_of};
 ghost use Rattle.text_words.specs.Token.{Token, spell};
 ghost use Rattle.admin_line.specs.Place.{Finds, at, end};
 ghost use Rattle.admin_line.specs.Reading.{spelled_id_of};
 
-use crate::reading::Spelling;
+use crate::reading::Source;
 use poa_base::{Bytes, Name, Oid, Path};
 use std::alloc::{AllocError, Global};
 use text_words::{WordFault, Worded, any_identity, find_word, identity};
@@ -108,33 +108,48 @@ pub(crate) fn port_at<'a>(k: u32, words: Words<'a>) -> Result<(u16, Words<'a>), 
     }
 }
 
-// Word k as an object id, and the words behind it.
-pub(crate) fn identity_at<'a>(
-    alloc: Global,
-    k: u32,
-    spelling: Spelling,
-    words: Words<'a>,
-) -> Result<(Oid, Words<'a>), Wrong>
-    ensures value { Finds (λ x. (x.0, map (λ w. w.now) x.1.now)) result (at k (spelled_id_of spelling) (map (λ w. w.now) words.now)) }
-    ensures text { IfOk result (λ x. spelling ≡ Spelling.Printed → map (λ w. w.now) words.now ≡ spell (Token.identity x.0) ∷ map (λ w. w.now) x.1.now) }
+// Word k as a number, and the words behind it.
+pub(crate) fn number_at<'a>(k: u32, words: Words<'a>) -> Result<(u32, Words<'a>), Wrong>
+    ensures value { Finds (λ x. (x.0, map (λ w. w.now) x.1.now)) result (at k (number_of (2 ^ 32)) (map (λ w. w.now) words.now)) }
+    ensures text { IfOk result (λ x. map (λ w. w.now) words.now ≡ spell (Token.number (2 ^ 32) x.0) ∷ map (λ w. w.now) x.1.now) }
 {
     let [word, rest @ ..] = words else {
         return Err(Wrong::Word(k));
     };
-    match spelled_identity(alloc, spelling, word) {
+    match text_words::number32(word) {
         Ok(found) => Ok((found, rest)),
         Err(WordFault::OutOfForm) => Err(Wrong::Word(k)),
         Err(WordFault::WantMemory) => Err(Wrong::WantMemory),
     }
 }
 
-fn spelled_identity(alloc: Global, spelling: Spelling, word: &[u8]) -> Result<Oid, WordFault>
-    ensures value { Gives result (spelled_id_of spelling word.now) }
-    ensures text { IfOk result (λ id. spelling ≡ Spelling.Printed → word.now ≡ spell (Token.identity id)) }
+// Word k as an object id, and the words behind it.
+pub(crate) fn identity_at<'a>(
+    alloc: Global,
+    k: u32,
+    source: Source,
+    words: Words<'a>,
+) -> Result<(Oid, Words<'a>), Wrong>
+    ensures value { Finds (λ x. (x.0, map (λ w. w.now) x.1.now)) result (at k (spelled_id_of source) (map (λ w. w.now) words.now)) }
+    ensures text { IfOk result (λ x. source ≡ Source.Journal → map (λ w. w.now) words.now ≡ spell (Token.identity x.0) ∷ map (λ w. w.now) x.1.now) }
 {
-    match spelling {
-        Spelling::Any => any_identity(alloc, word),
-        Spelling::Printed => identity(alloc, word),
+    let [word, rest @ ..] = words else {
+        return Err(Wrong::Word(k));
+    };
+    match spelled_identity(alloc, source, word) {
+        Ok(found) => Ok((found, rest)),
+        Err(WordFault::OutOfForm) => Err(Wrong::Word(k)),
+        Err(WordFault::WantMemory) => Err(Wrong::WantMemory),
+    }
+}
+
+fn spelled_identity(alloc: Global, source: Source, word: &[u8]) -> Result<Oid, WordFault>
+    ensures value { Gives result (spelled_id_of source word.now) }
+    ensures text { IfOk result (λ id. source ≡ Source.Journal → word.now ≡ spell (Token.identity id)) }
+{
+    match source {
+        Source::Link => any_identity(alloc, word),
+        Source::Journal => identity(alloc, word),
     }
 }
 

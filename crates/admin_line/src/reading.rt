@@ -4,29 +4,32 @@ ghost use Rattle.text_words.specs.Token.{Token, texts};
 ghost use Rattle.admin_line.specs.Command.{command_tokens, order_tokens};
 ghost use Rattle.admin_line.specs.Fixed.{end_word, pace_word, shift_word, verb_word};
 ghost use Rattle.admin_line.specs.Place.{Finds, at};
-ghost use Rattle.admin_line.specs.Reading.{activate_id_of, adapter_of, behind_verb, command_of, deactivate_of, destroy_of, end_of, forward_of, last_pace_of, manager_of, order_behind, pace_of, served_of, shift_of, verb_of};
+ghost use Rattle.admin_line.specs.Reading.{activate_id_of, adapter_of, bad_of, behind_verb, command_of, deactivate_of, destroy_of, end_of, forward_of, last_pace_of, manager_of, order_behind, pace_of, served_of, shift_of, verb_of};
 
 use crate::fixed::{End, Pace, Shift, Verb};
-use crate::place::{Wrong, end_at, host_at, identity_at, keyword_at, name_at, path_at, port_at};
+use crate::place::{
+    Wrong, end_at, host_at, identity_at, keyword_at, name_at, number_at, path_at, port_at,
+};
 use poa_base::{Command, Endpoint, Name, Order, Path};
 use std::alloc::Global;
 
-/// In which spellings object ids are read.
+/// Where the words of a command stand.
 #[derive(Clone, Copy, Debug, PartialEq, Eq, Drop)]
-pub enum Spelling {
-    /// Each that an administrator may write: `t:` and a name, or `h:` and hexadecimal in either case.
-    Any,
-    /// The one that is printed: `h:` and lower-case hexadecimal.
-    Printed,
+pub enum Source {
+    /// On an administrator's link: object ids are `t:` and a name, or `h:` and hexadecimal in either case.
+    Link,
+    /// In a journal, as they were printed: object ids are `h:` and lower-case hexadecimal, and `bad K` stands for a line
+    /// that was no command.
+    Journal,
 }
 
 /// The command of the words of a line.
-pub fn read_words(alloc: Global, spelling: Spelling, words: &[&[u8]]) -> Result<Command, Wrong>
-    ensures value { Finds (λ command. command) result (command_of spelling (map (λ w. w.now) words.now)) }
-    ensures text { IfOk result (λ command. spelling ≡ Spelling.Printed → map (λ w. w.now) words.now ≡ texts (command_tokens command)) }
+pub fn read_words(alloc: Global, source: Source, words: &[&[u8]]) -> Result<Command, Wrong>
+    ensures value { Finds (λ command. command) result (command_of source (map (λ w. w.now) words.now)) }
+    ensures text { IfOk result (λ command. source ≡ Source.Journal → map (λ w. w.now) words.now ≡ texts (command_tokens command)) }
 {
     let (verb, rest) = verb_at(1, words)?;
-    behind(alloc, spelling, verb, rest)
+    behind(alloc, source, verb, rest)
 }
 
 fn verb_at<'a>(k: u32, words: &'a [&'a [u8]]) -> Result<(Verb, &'a [&'a [u8]]), Wrong>
@@ -45,6 +48,7 @@ fn verb_at<'a>(k: u32, words: &'a [&'a [u8]]) -> Result<(Verb, &'a [&'a [u8]]), 
         Verb::Forward,
         Verb::Unforward,
         Verb::Shutdown,
+        Verb::Bad,
     ];
     keyword_at(k, &all, words)
 }
@@ -80,9 +84,9 @@ fn ending_at<'a>(k: u32, words: &'a [&'a [u8]]) -> Result<(End, &'a [&'a [u8]]),
 }
 
 // What stands behind the first word.
-fn behind(alloc: Global, spelling: Spelling, verb: Verb, words: &[&[u8]]) -> Result<Command, Wrong>
-    ensures value { Finds (λ command. command) result (behind_verb spelling verb (map (λ w. w.now) words.now)) }
-    ensures text { IfOk result (λ command. spelling ≡ Spelling.Printed → verb_word verb ∷ map (λ w. w.now) words.now ≡ texts (command_tokens command)) }
+fn behind(alloc: Global, source: Source, verb: Verb, words: &[&[u8]]) -> Result<Command, Wrong>
+    ensures value { Finds (λ command. command) result (behind_verb source verb (map (λ w. w.now) words.now)) }
+    ensures text { IfOk result (λ command. source ≡ Source.Journal → verb_word verb ∷ map (λ w. w.now) words.now ≡ texts (command_tokens command)) }
 {
     match verb {
         Verb::Manager => manager(alloc, words),
@@ -95,8 +99,8 @@ fn behind(alloc: Global, spelling: Spelling, verb: Verb, words: &[&[u8]]) -> Res
             let (path, servant) = served(alloc, words)?;
             Ok(Command::Activate { path, servant })
         }
-        Verb::ActivateId => activate_id(alloc, spelling, words),
-        Verb::Deactivate => deactivate(alloc, spelling, words),
+        Verb::ActivateId => activate_id(alloc, source, words),
+        Verb::Deactivate => deactivate(alloc, source, words),
         Verb::Reference => {
             let (path, servant) = served(alloc, words)?;
             Ok(Command::Reference { path, servant })
@@ -114,6 +118,7 @@ fn behind(alloc: Global, spelling: Spelling, verb: Verb, words: &[&[u8]]) -> Res
             end_at(2, words)?;
             Ok(Command::Shutdown)
         }
+        Verb::Bad => bad(source, words),
     }
 }
 
@@ -199,23 +204,23 @@ fn last_pace(k: u32, words: &[&[u8]]) -> Result<Pace, Wrong>
     Ok(pace)
 }
 
-fn activate_id(alloc: Global, spelling: Spelling, words: &[&[u8]]) -> Result<Command, Wrong>
-    ensures value { Finds (λ command. command) result (activate_id_of spelling (map (λ w. w.now) words.now)) }
-    ensures text { IfOk result (λ command. spelling ≡ Spelling.Printed → verb_word Verb.ActivateId ∷ map (λ w. w.now) words.now ≡ texts (command_tokens command)) }
+fn activate_id(alloc: Global, source: Source, words: &[&[u8]]) -> Result<Command, Wrong>
+    ensures value { Finds (λ command. command) result (activate_id_of source (map (λ w. w.now) words.now)) }
+    ensures text { IfOk result (λ command. source ≡ Source.Journal → verb_word Verb.ActivateId ∷ map (λ w. w.now) words.now ≡ texts (command_tokens command)) }
 {
     let (path, rest) = path_at(alloc, 2, words)?;
-    let (oid, rest) = identity_at(alloc, 3, spelling, rest)?;
+    let (oid, rest) = identity_at(alloc, 3, source, rest)?;
     let (servant, rest) = name_at(alloc, 4, rest)?;
     end_at(5, rest)?;
     Ok(Command::ActivateId { path, oid, servant })
 }
 
-fn deactivate(alloc: Global, spelling: Spelling, words: &[&[u8]]) -> Result<Command, Wrong>
-    ensures value { Finds (λ command. command) result (deactivate_of spelling (map (λ w. w.now) words.now)) }
-    ensures text { IfOk result (λ command. spelling ≡ Spelling.Printed → verb_word Verb.Deactivate ∷ map (λ w. w.now) words.now ≡ texts (command_tokens command)) }
+fn deactivate(alloc: Global, source: Source, words: &[&[u8]]) -> Result<Command, Wrong>
+    ensures value { Finds (λ command. command) result (deactivate_of source (map (λ w. w.now) words.now)) }
+    ensures text { IfOk result (λ command. source ≡ Source.Journal → verb_word Verb.Deactivate ∷ map (λ w. w.now) words.now ≡ texts (command_tokens command)) }
 {
     let (path, rest) = path_at(alloc, 2, words)?;
-    let (oid, rest) = identity_at(alloc, 3, spelling, rest)?;
+    let (oid, rest) = identity_at(alloc, 3, source, rest)?;
     end_at(4, rest)?;
     Ok(Command::Deactivate { path, oid })
 }
@@ -232,4 +237,19 @@ fn forward(alloc: Global, words: &[&[u8]]) -> Result<Command, Wrong>
         path,
         endpoint: Endpoint { host, port },
     })
+}
+
+// A line that was no command: its first wrong word.
+fn bad(source: Source, words: &[&[u8]]) -> Result<Command, Wrong>
+    ensures value { Finds (λ command. command) result (bad_of source (map (λ w. w.now) words.now)) }
+    ensures text { IfOk result (λ command. verb_word Verb.Bad ∷ map (λ w. w.now) words.now ≡ texts (command_tokens command)) }
+{
+    match source {
+        Source::Link => Err(Wrong::Word(1)),
+        Source::Journal => {
+            let (word, rest) = number_at(2, words)?;
+            end_at(3, rest)?;
+            Ok(Command::Bad { word })
+        }
+    }
 }

@@ -45,7 +45,7 @@ fn each_command_is_read_and_written(rt: HostRuntime) -> Result<(), Fail> {
 #[test]
 fn a_bad_line_gives_its_first_wrong_word(rt: HostRuntime) -> Result<(), Fail> {
     let alloc = rt.alloc();
-    let cases: [(&[u8], u32); 12] = [
+    let cases: [(&[u8], u32); 13] = [
         (b"manger root activate", 1),
         (b"   ", 1),
         (b"manager", 2),
@@ -58,6 +58,7 @@ fn a_bad_line_gives_its_first_wrong_word(rt: HostRuntime) -> Result<(), Fail> {
         (b"forward /a host 0", 4),
         (b"shutdown now", 2),
         (b"shutdown\t", 1),
+        (b"bad 3", 1),
     ];
     for (line, want) in &cases {
         let command = read_line(alloc, line)?;
@@ -67,7 +68,7 @@ fn a_bad_line_gives_its_first_wrong_word(rt: HostRuntime) -> Result<(), Fail> {
 }
 
 #[test]
-fn spaces_and_spellings_of_ids_are_loose(rt: HostRuntime) -> Result<(), Fail> {
+fn spaces_and_sources_of_ids_are_loose(rt: HostRuntime) -> Result<(), Fail> {
     let alloc = rt.alloc();
     let again = rewritten(alloc, b"  activate-id   /s t:q   counter ")?;
     assert_eq!(rt; again.as_slice(), b"activate-id /s h:71 counter".as_slice());
@@ -111,7 +112,7 @@ fn texts_of_answers_are_read_again(rt: HostRuntime) -> Result<(), Fail> {
     let parts = words(alloc, b"no NoServant 1")?;
     assert!(rt; read_answer(alloc, parts.as_slice()).is_err());
     let parts = words(alloc, b"activate-id /s t:q counter")?;
-    assert!(rt; read_words(alloc, Spelling::Printed, parts.as_slice()).is_err());
-    assert!(rt; read_words(alloc, Spelling::Any, parts.as_slice()).is_ok());
+    assert!(rt; read_words(alloc, Source::Journal, parts.as_slice()).is_err());
+    assert!(rt; read_words(alloc, Source::Link, parts.as_slice()).is_ok());
     Ok(())
 }

@@ -1,7 +1,7 @@
 //! The bytes of a command.
 ghost use Rattle.std.specs.Prelude.{◌≡◌, ◌∷◌, ◌++◌, [], IfOk, OnOk};
 ghost use Rattle.text_words.specs.Token.{Token, spelled, tails};
-ghost use Rattle.admin_line.specs.Command.{IsCommand, command_tokens, order_tokens};
+ghost use Rattle.admin_line.specs.Command.{command_tokens, order_tokens};
 ghost use Rattle.admin_line.specs.Fixed.{verb_word};
 
 use crate::fixed::{End, Pace, Shift, Verb};
@@ -10,7 +10,6 @@ use std::alloc::Global;
 use text_words::{Worded, put_identity, put_number, put_path, put_word};
 
 pub(crate) fn command_bytes(alloc: Global, command: &Command) -> Result<Vec<u8>, WantMemory>
-    requires { IsCommand command.now }
     ensures { IfOk result (λ out. out.items ≡ spelled (command_tokens command.now)) }
 {
     match command {
@@ -29,7 +28,7 @@ pub(crate) fn command_bytes(alloc: Global, command: &Command) -> Result<Vec<u8>,
         Command::Forward { path, endpoint } => forward_bytes(alloc, path, endpoint),
         Command::Unforward { path } => adapter_bytes(alloc, Verb::Unforward, path),
         Command::Shutdown => verb_bytes(alloc, Verb::Shutdown),
-        Command::Bad { .. } => unreachable!(),
+        Command::Bad { word } => bad_bytes(alloc, *word),
     }
 }
 
@@ -132,5 +131,13 @@ fn forward_bytes(alloc: Global, path: &Path, endpoint: &Endpoint) -> Result<Vec<
     let mut out = adapter_bytes(alloc, Verb::Forward, path)?;
     put_word(&mut out, endpoint.host.as_slice())?;
     put_number(&mut out, u64::from(endpoint.port))?;
+    Ok(out)
+}
+
+fn bad_bytes(alloc: Global, word: u32) -> Result<Vec<u8>, WantMemory>
+    ensures { IfOk result (λ out. out.items ≡ spelled (command_tokens (Command.Bad word))) }
+{
+    let mut out = verb_bytes(alloc, Verb::Bad)?;
+    put_number(&mut out, u64::from(word))?;
     Ok(out)
 }
