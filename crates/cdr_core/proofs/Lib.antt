@@ -1,0 +1,6 @@
+pub mod Passing
+pub mod Appending
+pub mod Bodies
+pub mod OneReading
+pub mod Refusals
+pub mod Written

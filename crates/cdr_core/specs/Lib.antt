@@ -1,0 +1,7 @@
+pub mod Kind
+pub mod Field
+pub mod Spelling
+pub mod Cursor
+pub mod Draft
+pub mod Refusal
+pub mod Laws

@@ -1,0 +1,38 @@
+//! Laws of the CDR spelling, which hold of every message. The functions do nothing: their contracts are the
+//! laws, and the lemmas of the same content are exported for the proofs of crates above.
+ghost use Rattle.cdr_core.specs.Laws.{OneReading, NoneWhereRefused, OneRefusal, OneSkip, NoSkipWhereLacking, WrittenSpells, WrittenReadsBack};
+
+/// A place has at most one field of a kind, and one end of it.
+pub fn one_reading()
+    ensures { OneReading }
+{}
+
+/// Where a kind is refused no field of it stands: each fault comes exactly where its cause does.
+pub fn none_where_refused()
+    ensures { NoneWhereRefused }
+{}
+
+/// A place refuses a kind with one fault.
+pub fn one_refusal()
+    ensures { OneRefusal }
+{}
+
+/// A skip to a multiple of a unit has one end.
+pub fn one_skip()
+    ensures { OneSkip }
+{}
+
+/// Where the padding up to a multiple of a unit isn't whole, none is passed.
+pub fn no_skip_where_lacking()
+    ensures { NoSkipWhereLacking }
+{}
+
+/// What is written of a field spells it.
+pub fn written_spells()
+    ensures { WrittenSpells }
+{}
+
+/// What is written of a field is read back as that field, whatever follows.
+pub fn written_reads_back()
+    ensures { WrittenReadsBack }
+{}

@@ -1,0 +1,4 @@
+pub mod Arguments
+pub mod Exceptions
+pub mod Log
+pub mod Act
