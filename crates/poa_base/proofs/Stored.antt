@@ -1,9 +1,8 @@
 -- What a store has at each place after a change.
-use Rattle.std.proofs.Common.{◌≡◌, ℕ, Bool, true, false, cond, List, Option, None, Some, IsSome, refl, sym, ap, subst, ◌∙◌}
+use Rattle.std.proofs.Common.{◌≡◌, ℕ, true, false, cond, List, Option, Some, IsSome, refl, sym, ap, subst, ◌∙◌}
 use Rattle.std.specs.Cmp.{tied_itself}
 use Rattle.std.specs.FinMap as finite
 use Rattle.std.specs.Ordering.{is_eq}
-use Rattle.std.specs.declared.cmp.Ordering.{Ordering}
 use Rattle.std.specs.declared.cmp.Ordering.TheVariants.{Less, Equal, Greater}
 use Rattle.poa_base.specs.declared.servant.State.{State}
 use Rattle.poa_base.specs.Store.{Place, Slots, place_cmp, filled, stored, IsReserved, with_room, with_state}
@@ -30,13 +29,13 @@ stored-with_state slots path oid state q j =
 pub reserved-with_room : (slots : Slots) (path : List (List ℕ)) (oid : List ℕ) → IsReserved (with_room slots path oid) path oid
 reserved-with_room slots path oid =
     subst IsSome (sym (finite.get-insert place_total slots (path, oid) (stored slots path oid) (path, oid)
-      ∙ ap (λ r. cond (is_eq r) (Some (stored slots path oid)) (finite.get slots (path, oid))) (tied_itself place_total (path, oid)))) refl
+    ∙ ap (λ r. cond (is_eq r) (Some (stored slots path oid)) (finite.get slots (path, oid))) (tied_itself place_total (path, oid)))) refl
 
 -- what is reserved stays reserved
 pub reserved-insert : (slots : Slots) (path : List (List ℕ)) (oid : List ℕ) (slot : Option State) (q : List (List ℕ)) (j : List ℕ) → IsReserved slots q j → IsReserved (finite.insert slots (path, oid) slot) q j
 reserved-insert slots path oid slot q j there =
     subst IsSome (sym (finite.get-insert place_total slots (path, oid) slot (q, j)))
-      (elim (is_eq (place_cmp (q, j) (path, oid))) as (λ b. IsSome (cond b (Some slot) (finite.get slots (q, j)))) [ true ↦ refl | false ↦ there ])
+    (elim (is_eq (place_cmp (q, j) (path, oid))) as (λ b. IsSome (cond b (Some slot) (finite.get slots (q, j)))) [ true ↦ refl | false ↦ there ])
 
 pub reserved_after : (slots after : Slots) (path : List (List ℕ)) (oid : List ℕ) → after ≡ with_room slots path oid → IsReserved after path oid
 reserved_after slots after path oid is = subst (λ s. IsReserved s path oid) (sym is) (reserved-with_room slots path oid)

@@ -155,5 +155,4 @@ pub fn stores_change_one_place()
         stored (with_state slots path oid state) q j ≡ (if is_eq (place_cmp (q, j) (path, oid)) then Some state else stored slots q j) }
     ensures stays { (slots : Slots) (path : List (List ℕ)) (oid : List ℕ) (slot : Option State) (q : List (List ℕ)) (j : List ℕ) →
         IsReserved slots q j → IsReserved (finite.insert slots (path, oid) slot) q j }
-{
-}
+{}
