@@ -23,7 +23,7 @@ abbrev pub is_a : List ℕ → Option (List ℕ) → Outcome
 is_a type_id None = bad_arguments
 is_a type_id (Some asked) = Value (Some (Flag (bytes_eq asked type_id || bytes_eq asked (codes "IDL:omg.org/CORBA/Object:1.0"))))
 
--- the operations that every object has (CORBA 3.3 Part 1, 8.2); no other is known
+-- the operations that every object has (CORBA 3.3 Part 1, 8.3); no other is known
 abbrev pub object_outcome : List ℕ → List ℕ → Body → Outcome
 object_outcome type_id operation body =
     if bytes_eq operation (codes "_is_a") then is_a type_id (text_of body)

@@ -1,4 +1,4 @@
--- The exceptions that servants raise (CORBA 3.3 Part 1, A.5). No completion but that of a fault servant is MAYBE.
+-- The exceptions that servants raise (CORBA 3.3 Part 1, 8.12). No completion but that of a fault servant is MAYBE.
 use Rattle.std.specs.Prelude.{List, ℕ, codes}
 use Rattle.poa_base.specs.declared.Outcome.{Outcome}
 use Rattle.poa_base.specs.declared.Outcome.TheVariants.{User, System}

@@ -1,4 +1,4 @@
-//! The operations that every object has (CORBA 3.3 Part 1, 8.2).
+//! The operations that every object has (CORBA 3.3 Part 1, 8.3).
 ghost use Rattle.std.specs.Prelude.{◌≡◌, IfOk};
 ghost use Rattle.servant_kinds.specs.Act.{object_outcome};
 
