@@ -1,10 +1,11 @@
 -- Texts that are added one behind the other.
-use Rattle.std.proofs.Common.{◌≡◌, ℕ, ◌+◌, ◌<◌, List, [], ◌∷◌, ◌++◌, length, take, get_or, refl, sym, ◌∙◌, ap, subst, arith, append_assoc, append-nil, length-take-le, inl, inr}
+use Rattle.std.proofs.Common.{◌≡◌, ℕ, ◌+◌, ◌<◌, List, [], ◌∷◌, ◌++◌, length, take, get_or, refl, sym, ◌∙◌, ap, subst, arith, append_assoc, append-nil, length-take-le, inl}
 use Rattle.std.proofs.lemmas.List.{take_more}
 use Rattle.poa_base.specs.declared.Profile.{Profile}
 use Rattle.ior_text.specs.declared.ProfileBody.{ProfileBody}
 use Rattle.ior_text.specs.Body.{HasBody}
-use Rattle.ior_show.specs.Shown.{Adds, KeyShown, body_line, ProfileShown, ProfilesShown}
+use Rattle.ior_show.specs.KeyLine.{KeyShown}
+use Rattle.ior_show.specs.Shown.{Adds, body_line, ProfileShown, ProfilesShown}
 
 -- the address and then the key
 pub body_added : (index : ℕ) (profile : Profile) (body : ProfileBody) (before between after : List ℕ) → HasBody profile body → between ≡ before ++ body_line index body → Adds (KeyShown body.key) between after → Adds (ProfileShown index profile) before after

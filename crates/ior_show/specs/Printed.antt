@@ -11,6 +11,7 @@ is_visible byte = nat_le 0x21 byte && nat_le byte 0x7e
 abbrev pub is_plain : List ℕ → Bool
 is_plain bytes = nat_lt 0 (length bytes) && list_all is_visible bytes
 
+-- bytes in hexadecimal
 abbrev pub hexed : List ℕ → List ℕ
 hexed bytes = codes "h:" ++ encode_lower bytes
 

@@ -3,7 +3,8 @@ ghost use Rattle.std.specs.Prelude.{◌≡◌, ◌++◌, OnOk};
 ghost use Rattle.std.specs.List.{list_all};
 ghost use Rattle.object_key.specs.Spelling.{key_spelling};
 ghost use Rattle.ior_show.specs.Printed as spec;
-ghost use Rattle.ior_show.specs.Shown.{Adds, KeyShown, stamp_words, hexed_key, key_line};
+ghost use Rattle.ior_show.specs.KeyLine.{KeyShown, stamp_words, hexed_key, key_line};
+ghost use Rattle.ior_show.specs.Shown.{Adds};
 
 use crate::printed::{is_plain, put_hexed};
 use object_key::{KeyFault, read_key};

@@ -18,6 +18,7 @@ pub record Counted (c : Cursor) : Type 0 where
   pub after : Cursor
   pub count : Reads (ulong number) c after
 
+-- the fields of a body
 pub record ReadsBody (body : ProfileBody) (c : Cursor) : Type 0 where
   pub behind_major : Cursor
   pub behind_minor : Cursor

@@ -1,6 +1,7 @@
 use Rattle.std.proofs.Common.{subst, List, ℕ}
 use Rattle.std.proofs.lemmas.Result.{on_ok_weaker}
-use Rattle.ior_show.specs.Shown.{Adds, KeyShown}
+use Rattle.ior_show.specs.KeyLine.{KeyShown}
+use Rattle.ior_show.specs.Shown.{Adds}
 use Rattle.ior_show.proofs.Adding.{body_added}
 use Rattle.ior_show.proofs.profile.put_profile.Goals as goal
 
