@@ -39,7 +39,7 @@ one_id : (bytes : List ℕ) (m n : ℕ) → HasId m bytes → HasId n bytes → 
 one_id bytes m n here there = (one_ulong_read m n (fields_start bytes) here.behind there.behind here.read there.read).0
 
 -- a call that is asked is that of a Request
-asks_request : (bytes : List ℕ) (call : Call) → AsksCall bytes call → message_type bytes ≡ REQUEST
+pub asks_request : (bytes : List ℕ) (call : Call) → AsksCall bytes call → message_type bytes ≡ REQUEST
 asks_request bytes (Request head target operation body) asks = asks.0
 asks_request bytes (Locate head target) asks = absurd asks
 asks_request bytes (Line number command) asks = absurd asks
@@ -77,25 +77,25 @@ one_asked bytes incoming.Closing (incoming.Cancel n) is has = absurd (omega (ari
 one_asked bytes incoming.Closing incoming.Closing is has = refl
 
 -- what is for a client asks nothing of a server
-for_client : (bytes : List ℕ) (n : ℕ) → IsForClient (message_type bytes) → message_type bytes ≡ n → IsForClient n
+pub for_client : (bytes : List ℕ) (n : ℕ) → IsForClient (message_type bytes) → message_type bytes ≡ n → IsForClient n
 for_client bytes n client kind = subst IsForClient kind client
 
-no_client_request : IsForClient REQUEST → ⊥
+pub no_client_request : IsForClient REQUEST → ⊥
 no_client_request (inl e) = omega (arith, e)
 no_client_request (inr (inl e)) = omega (arith, e)
 no_client_request (inr (inr e)) = omega (arith, e)
 
-no_client_cancel : IsForClient CANCEL_REQUEST → ⊥
+pub no_client_cancel : IsForClient CANCEL_REQUEST → ⊥
 no_client_cancel (inl e) = omega (arith, e)
 no_client_cancel (inr (inl e)) = omega (arith, e)
 no_client_cancel (inr (inr e)) = omega (arith, e)
 
-no_client_locate : IsForClient LOCATE_REQUEST → ⊥
+pub no_client_locate : IsForClient LOCATE_REQUEST → ⊥
 no_client_locate (inl e) = omega (arith, e)
 no_client_locate (inr (inl e)) = omega (arith, e)
 no_client_locate (inr (inr e)) = omega (arith, e)
 
-no_client_closing : IsForClient CLOSE_CONNECTION → ⊥
+pub no_client_closing : IsForClient CLOSE_CONNECTION → ⊥
 no_client_closing (inl e) = omega (arith, e)
 no_client_closing (inr (inl e)) = omega (arith, e)
 no_client_closing (inr (inr e)) = omega (arith, e)

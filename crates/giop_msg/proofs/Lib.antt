@@ -4,3 +4,4 @@ pub mod Targets
 pub mod Places
 pub mod Requests
 pub mod Calls
+pub mod Messages
