@@ -54,3 +54,10 @@ not_memory Text c fault (inr (inl refused)) memory = cc (refused.told, memory)
 not_memory Text c fault (inr (inr refused)) memory = cc (refused.told, memory)
 not_memory Octets c fault (inl refused) memory = cc (refused.1, memory)
 not_memory Octets c fault (inr refused) memory = cc (refused.told, memory)
+
+-- and part again
+pub reads_split : (xs ys : List Field) (a c : Cursor) → ReadsAll (xs ++ ys) a c → (b : Cursor) × (ReadsAll xs a b × ReadsAll ys b c)
+reads_split [] ys a c all = (a, (refl, all))
+reads_split (x ∷ xs) ys a c all =
+    let later = reads_split xs ys all.0 c all.1.1 in
+    (later.0, ((all.0, (all.1.0, later.1.0)), later.1.1))

@@ -5,3 +5,7 @@ pub mod Places
 pub mod Requests
 pub mod Calls
 pub mod Messages
+pub mod Written
+pub mod Headers
+pub mod Asking
+pub mod Answering
