@@ -1,8 +1,12 @@
+ghost use Rattle.std.specs.Prelude.{◌≡◌, false};
+
 use super::*;
 use giop_msg::{write_reply, write_request};
+use ior_text::IorFault;
 use outside::{MemFiles, MemSink, MemSource};
 use poa_base::{Ask, Bytes, Completion, Datum, ExcName, Head, Outcome, Reply, SysExc};
 use std::alloc::Global;
+use std::process::Abort;
 use std::test::Fail;
 
 // `add` 5 of the register, id 1.
@@ -56,6 +60,27 @@ struct Ran {
     written: Vec<u8>,
 }
 
+// What these words do over a source, where these writes fail.
+fn run(
+    alloc: Global,
+    words: &[&str],
+    source: MemSource,
+    failing_writes: &[u64],
+) -> Result<Ran, Fail> {
+    let mut all = Vec::new(alloc);
+    for word in words {
+        all.push(String::from_str(alloc, *word)?)?;
+    }
+    let mut host = Host {
+        source,
+        sink: MemSink::new(alloc, failing_writes.to_vec(alloc)?),
+        files: MemFiles::new(alloc, Vec::new(alloc), Vec::new(alloc)),
+    };
+    let status = run_words(alloc, all.as_slice(), &mut host);
+    let written = Vec::from_slice(alloc, host.sink.held())?;
+    Ok(Ran { status, written })
+}
+
 // `answer` over this input in pieces of at most `piece` bytes, where these reads and writes fail.
 fn answered(
     alloc: Global,
@@ -69,15 +94,14 @@ fn answered(
         bytes.extend_from_slice(*part)?;
     }
     let pieces = vec![in alloc; piece]?;
-    let mut host = Host {
-        source: MemSource::new(bytes, pieces, failing_reads.to_vec(alloc)?),
-        sink: MemSink::new(alloc, failing_writes.to_vec(alloc)?),
-        files: MemFiles::new(alloc, Vec::new(alloc), Vec::new(alloc)),
-    };
-    let words = vec![in alloc; String::from_str(alloc, "answer")?]?;
-    let status = run_words(alloc, words.as_slice(), &mut host);
-    let written = Vec::from_slice(alloc, host.sink.held())?;
-    Ok(Ran { status, written })
+    let source = MemSource::new(bytes, pieces, failing_reads.to_vec(alloc)?);
+    run(alloc, &["answer"], source, failing_writes)
+}
+
+// What these words do over no input.
+fn run_alone(alloc: Global, words: &[&str]) -> Result<Ran, Fail> {
+    let source = MemSource::new(Vec::new(alloc), Vec::new(alloc), Vec::new(alloc));
+    run(alloc, words, source, &[])
 }
 
 #[test]
@@ -107,12 +131,12 @@ fn tells_where_the_input_ends(rt: HostRuntime) -> Result<(), Fail> {
 
 // Asserts how a run over this input ends, and that it writes these messages.
 fn answers(
-    rt: HostRuntime,
+    rt: &impl Abort,
+    alloc: Global,
     input: &[&[u8]],
     status: Status,
     messages: &[&[u8]],
 ) -> Result<(), Fail> {
-    let alloc = rt.alloc();
     let mut want = Vec::new(alloc);
     for message in messages {
         want.extend_from_slice(*message)?;
@@ -125,17 +149,20 @@ fn answers(
 
 #[test]
 fn answers_in_the_byte_order_of_each_request(rt: HostRuntime) -> Result<(), Fail> {
+    let alloc = rt.alloc();
     answers(
-        rt,
+        &rt,
+        alloc,
         &[ADD, BIG_GET],
         Status::Ok,
         &[FIVE_FOR_1, BIG_FIVE_FOR_2],
     )?;
-    answers(rt, &[NON_EXISTENT], Status::Ok, &[FALSE_FOR_1])
+    answers(&rt, alloc, &[NON_EXISTENT], Status::Ok, &[FALSE_FOR_1])
 }
 
 #[test]
 fn joins_fragments_and_answers_in_the_order_of_last_parts(rt: HostRuntime) -> Result<(), Fail> {
+    let alloc = rt.alloc();
     let first = b"GIOP\x01\x02\x03\0\x14\0\0\0".as_slice();
     let second = b"GIOP\x01\x02\x03\x07\x1c\0\0\0\x01\0\0\0".as_slice();
     let third = b"GIOP\x01\x02\x01\x07\x14\0\0\0\x01\0\0\0".as_slice();
@@ -148,31 +175,36 @@ fn joins_fragments_and_answers_in_the_order_of_last_parts(rt: HostRuntime) -> Re
         third,
         &ADD[56..],
     ];
-    answers(rt, &input, Status::Ok, &[ZERO_FOR_2, FIVE_FOR_1])
+    answers(&rt, alloc, &input, Status::Ok, &[ZERO_FOR_2, FIVE_FOR_1])
 }
 
 #[test]
 fn tells_the_place_of_a_bad_message_behind_the_replies(rt: HostRuntime) -> Result<(), Fail> {
+    let alloc = rt.alloc();
     answers(
-        rt,
+        &rt,
+        alloc,
         &[ADD, b"GIOP\x01\x03\x01\0\0\0\0\0", GET],
         Status::Malformed { at: 72 },
         &[FIVE_FOR_1, ERROR],
     )?;
     answers(
-        rt,
+        &rt,
+        alloc,
         &[ADD, ERROR, GET],
         Status::Malformed { at: 72 },
         &[FIVE_FOR_1, ERROR],
     )?;
     answers(
-        rt,
+        &rt,
+        alloc,
         &[&CANCEL[..8], b"\0\0\0\0"],
         Status::Malformed { at: 0 },
         &[ERROR],
     )?;
     answers(
-        rt,
+        &rt,
+        alloc,
         &[ADD, LOCATE, ERROR],
         Status::Unbuilt { at: 72 },
         &[FIVE_FOR_1],
@@ -182,17 +214,15 @@ fn tells_the_place_of_a_bad_message_behind_the_replies(rt: HostRuntime) -> Resul
 #[test]
 fn refuses_a_message_above_the_limit_at_its_header(rt: HostRuntime) -> Result<(), Fail> {
     let alloc = rt.alloc();
+    let mut input = Vec::from_slice(alloc, b"GIOP\x01\x02\x01\0\0\0\x10\0")?;
+    input.extend_from_slice(&GET[12..])?;
     let rest = vec![in alloc; 0u8; 1_048_524]?;
-    let long = b"GIOP\x01\x02\x01\0\x01\0\x10\0".as_slice();
-    let input = [
-        b"GIOP\x01\x02\x01\0\0\0\x10\0".as_slice(),
-        &GET[12..],
-        rest.as_slice(),
-        long,
-    ];
+    input.extend_from_slice(rest.as_slice())?;
+    input.extend_from_slice(b"GIOP\x01\x02\x01\0\x01\0\x10\0")?;
     answers(
-        rt,
-        &input,
+        &rt,
+        alloc,
+        &[input.as_slice()],
         Status::Malformed { at: 1_048_588 },
         &[ZERO_FOR_2, ERROR],
     )
@@ -201,15 +231,16 @@ fn refuses_a_message_above_the_limit_at_its_header(rt: HostRuntime) -> Result<()
 #[test]
 fn refuses_the_message_that_opens_too_many_bytes(rt: HostRuntime) -> Result<(), Fail> {
     let alloc = rt.alloc();
+    let rest = vec![in alloc; 0u8; 999_999]?;
     let mut input = Vec::new(alloc);
     for id in 0u8..17 {
         input.extend_from_slice(b"GIOP\x01\x02\x03\0\x40\x42\x0f\0")?;
         input.push(id)?;
-        let rest = vec![in alloc; 0u8; 999_999]?;
         input.extend_from_slice(rest.as_slice())?;
     }
     answers(
-        rt,
+        &rt,
+        alloc,
         &[input.as_slice()],
         Status::Malformed { at: 16_000_192 },
         &[ERROR],
@@ -218,8 +249,10 @@ fn refuses_the_message_that_opens_too_many_bytes(rt: HostRuntime) -> Result<(), 
 
 #[test]
 fn ends_at_a_close_and_ignores_a_cancel(rt: HostRuntime) -> Result<(), Fail> {
+    let alloc = rt.alloc();
     answers(
-        rt,
+        &rt,
+        alloc,
         &[CANCEL, ADD, CANCEL, CLOSING, ERROR],
         Status::Ok,
         &[FIVE_FOR_1],
@@ -228,20 +261,24 @@ fn ends_at_a_close_and_ignores_a_cancel(rt: HostRuntime) -> Result<(), Fail> {
 
 #[test]
 fn replies_as_the_response_flags_ask(rt: HostRuntime) -> Result<(), Fail> {
+    let alloc = rt.alloc();
     answers(
-        rt,
+        &rt,
+        alloc,
         &[&ADD[..16], &[0], &ADD[17..], GET],
         Status::Ok,
         &[FIVE_FOR_2],
     )?;
     answers(
-        rt,
+        &rt,
+        alloc,
         &[&ADD[..16], &[1], &ADD[17..]],
         Status::Ok,
         &[NOTHING_FOR_1],
     )?;
     answers(
-        rt,
+        &rt,
+        alloc,
         &[&ADD[..16], &[2], &ADD[17..], GET],
         Status::Ok,
         &[FIVE_FOR_2],
@@ -249,7 +286,10 @@ fn replies_as_the_response_flags_ask(rt: HostRuntime) -> Result<(), Fail> {
 }
 
 // The head of a request with this id.
-fn head(id: u32) -> Head {
+fn head(id: u32) -> Head
+    ensures version { result.minor ≡ 2 }
+    ensures request { result.locate ≡ false }
+{
     Head {
         id,
         minor: 2,
@@ -261,13 +301,13 @@ fn head(id: u32) -> Head {
 
 // Asserts that an operation of the object with this key, id 1, has this outcome.
 fn outcome_is(
-    rt: HostRuntime,
+    rt: &impl Abort,
+    alloc: Global,
     key: &[u8],
     operation: &[u8],
     argument: Option<Datum>,
     outcome: Outcome,
 ) -> Result<(), Fail> {
-    let alloc = rt.alloc();
     let ask = Ask {
         head: head(1),
         key: Bytes::from_vec(key.to_vec(alloc)?),
@@ -276,7 +316,13 @@ fn outcome_is(
     };
     let message = write_request(alloc, &ask)?;
     let reply = write_reply(alloc, &head(1), &Reply::Outcome(outcome))?;
-    answers(rt, &[message.as_slice()], Status::Ok, &[reply.as_slice()])
+    answers(
+        rt,
+        alloc,
+        &[message.as_slice()],
+        Status::Ok,
+        &[reply.as_slice()],
+    )
 }
 
 fn raised(name: ExcName, minor: u32) -> Outcome {
@@ -289,18 +335,34 @@ const KEY: &[u8] = b"POA\x01\0\0\0\0\x01\0\0\0\0\0\0\x08\0\0\0\x01\0\0\0\x01";
 #[test]
 fn serves_the_operations_of_a_register(rt: HostRuntime) -> Result<(), Fail> {
     let alloc = rt.alloc();
-    outcome_is(rt, KEY, b"set", Some(Datum::Long(7)), Outcome::Value(None))?;
     outcome_is(
-        rt,
+        &rt,
+        alloc,
+        KEY,
+        b"set",
+        Some(Datum::Long(7)),
+        Outcome::Value(None),
+    )?;
+    outcome_is(
+        &rt,
+        alloc,
         KEY,
         b"sing",
         None,
         raised(ExcName::BadOperation, 0xFFFF_F007),
     )?;
-    outcome_is(rt, KEY, b"add", None, raised(ExcName::Marshal, 0xFFFF_F008))?;
+    outcome_is(
+        &rt,
+        alloc,
+        KEY,
+        b"add",
+        None,
+        raised(ExcName::Marshal, 0xFFFF_F008),
+    )?;
     let object = Datum::Text(Bytes::from_vec(b"IDL:poad/Register:1.0".to_vec(alloc)?));
     outcome_is(
-        rt,
+        &rt,
+        alloc,
         KEY,
         b"_is_a",
         Some(object),
@@ -310,6 +372,7 @@ fn serves_the_operations_of_a_register(rt: HostRuntime) -> Result<(), Fail> {
 
 #[test]
 fn finds_nothing_but_the_register_of_the_root(rt: HostRuntime) -> Result<(), Fail> {
+    let alloc = rt.alloc();
     for (key, minor) in [
         (
             b"POA\x02\0\0\0\0\x01\0\0\0\0\0\0\x08\0\0\0\x01\0\0\0\x01".as_slice(),
@@ -338,7 +401,8 @@ fn finds_nothing_but_the_register_of_the_root(rt: HostRuntime) -> Result<(), Fai
         ),
     ] {
         outcome_is(
-            rt,
+            &rt,
+            alloc,
             key,
             b"get",
             None,
@@ -363,28 +427,53 @@ fn writes_what_is_owed_before_a_fault_is_told(rt: HostRuntime) -> Result<(), Fai
     Ok(())
 }
 
-// The status of these words over no input.
-fn status_of(alloc: Global, words: &[String]) -> Status {
-    let mut host = Host {
-        source: MemSource::new(Vec::new(alloc), Vec::new(alloc), Vec::new(alloc)),
-        sink: MemSink::new(alloc, Vec::new(alloc)),
-        files: MemFiles::new(alloc, Vec::new(alloc), Vec::new(alloc)),
-    };
-    run_words(alloc, words, &mut host)
-}
-
 #[test]
 fn refuses_other_words(rt: HostRuntime) -> Result<(), Fail> {
     let alloc = rt.alloc();
-    assert_eq!(rt; status_of(alloc, &[]), Status::BadWords);
-    let mut words = Vec::new(alloc);
-    words.push(String::from_str(alloc, "fly")?)?;
-    assert_eq!(rt; status_of(alloc, words.as_slice()), Status::BadWords);
-    words.clear();
-    words.push(String::from_str(alloc, "answer")?)?;
-    assert_eq!(rt; status_of(alloc, words.as_slice()), Status::Ok);
-    words.push(String::from_str(alloc, "answer")?)?;
-    assert_eq!(rt; status_of(alloc, words.as_slice()), Status::BadWords);
+    assert_eq!(rt; run_alone(alloc, &[])?.status, Status::BadWords);
+    assert_eq!(rt; run_alone(alloc, &["fly"])?.status, Status::BadWords);
+    assert_eq!(rt; run_alone(alloc, &["answer"])?.status, Status::Ok);
+    assert_eq!(rt;
+        run_alone(alloc, &["answer", "answer"])?.status,
+        Status::BadWords
+    );
+    assert_eq!(rt; run_alone(alloc, &["show"])?.status, Status::BadWords);
+    assert_eq!(rt; run_alone(alloc, &["show", ""])?.status, Status::BadWords);
+    assert_eq!(rt;
+        run_alone(alloc, &["show", "IOR:", "IOR:"])?.status,
+        Status::BadWords
+    );
+    Ok(())
+}
+
+// The reference of the register at port 2809 of 127.0.0.1.
+const REFERENCE: &str =
+    "IOR:000000000000001649444c3a706f61642f52656769737465723a312e30000000000000010000000000000034000102000000000a3132372e302e302e31000af900000018504f4101000000000100000000000008000000010000000100000000";
+
+#[test]
+fn shows_a_reference(rt: HostRuntime) -> Result<(), Fail> {
+    let shown = run_alone(rt.alloc(), &["show", REFERENCE])?;
+    assert_eq!(rt; shown.status, Status::Ok);
+    let want =
+        b"type IDL:poad/Register:1.0\nprofile 0 iiop 1.2 127.0.0.1 2809\nkey transient 1 0 / h:0000000100000001\n";
+    assert_eq!(rt; shown.written.as_slice(), want.as_slice());
+    Ok(())
+}
+
+#[test]
+fn tells_why_a_text_is_no_reference(rt: HostRuntime) -> Result<(), Fail> {
+    let alloc = rt.alloc();
+    for (text, fault) in [
+        ("IOR:0", IorFault::OddDigits),
+        ("IOR:0g", IorFault::BadDigit { at: 5 }),
+        ("ior:0", IorFault::OddDigits),
+        ("ior", IorFault::NoPrefix),
+        ("IOR:", IorFault::Malformed { at: 0 }),
+    ] {
+        let shown = run_alone(alloc, &["show", text])?;
+        assert_eq!(rt; shown.status, Status::TextRefused(fault));
+        assert_eq!(rt; shown.written.len(), 0);
+    }
     Ok(())
 }
 
@@ -398,6 +487,11 @@ fn each_status_has_a_number_and_a_line(rt: HostRuntime) -> Result<(), Fail> {
             Status::ScriptRefused { line: 3 },
             4,
             b"script: line 3".as_slice(),
+        ),
+        (
+            Status::TextRefused(IorFault::BadDigit { at: 5 }),
+            5,
+            b"ior: BadDigit 5".as_slice(),
         ),
         (Status::ReadFault, 6, b"read fault".as_slice()),
         (Status::WriteFault, 7, b"write fault".as_slice()),
