@@ -62,11 +62,9 @@ pub fn count<R: Threads + Wait + Sync>(
 ) -> Result<u64, AllocError> {
     let (lock, mut seat) = SeatLock::new(alloc, Tally { count: 0 })?;
     let lock = Arc::new(alloc, lock)?;
-    // The first seat has room for so many.
-    let threads = plan.threads.min(1024);
-    let start = Arc::new(alloc, Barrier::new(threads as usize))?;
-    let mut jobs = Vec::with_capacity(alloc, threads as usize)?;
-    for _ in 0..threads {
+    let start = Arc::new(alloc, Barrier::new(plan.threads as usize))?;
+    let mut jobs = Vec::with_capacity(alloc, plan.threads as usize)?;
+    for _ in 0..plan.threads.min(1024) {
         let job = Job {
             lock: Arc::try_clone(&lock)?,
             start: Arc::try_clone(&start)?,
