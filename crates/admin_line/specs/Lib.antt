@@ -1,0 +1,5 @@
+pub mod Fixed
+pub mod Command
+pub mod Place
+pub mod Reading
+pub mod Answer

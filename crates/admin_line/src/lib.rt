@@ -1,0 +1,20 @@
+//! The administrator's lines: the command of a line, the line of a command, and the line that answers it.
+//!
+//! A line is words with spaces between. `specs/Command.antt` says which words each command has,
+//! `specs/Reading.antt` which command a line gives, or the first word of it that is wrong.
+#![tactic(auto)]
+
+mod answer;
+mod fixed;
+mod line;
+mod place;
+mod reading;
+mod writing;
+
+pub use answer::{answer_text, read_answer, write_answer};
+pub use line::{command_text, read_line, write_line};
+pub use place::Wrong;
+pub use reading::{Source, read_words};
+
+#[cfg(test)]
+mod tests;

@@ -1,0 +1,10 @@
+pub mod Sums
+pub mod Front
+pub mod Looking
+pub mod Messages
+pub mod Closing
+pub mod Taking
+pub mod Answering
+pub mod Cutting
+pub mod Bounds
+pub mod Streams

@@ -1,0 +1,47 @@
+-- What a framer still gives.
+use Rattle.std.specs.Prelude.{◌≡◌, ◌↔◌, ℕ, ◌+◌, ◌<◌, List, [], ◌∷◌, ◌++◌, None, MatchOption, length, take, drop}
+use Rattle.giop_frame.specs.declared.next.Next.{Next}
+use Rattle.giop_frame.specs.declared.next.Next.TheVariants as answer
+use Rattle.giop_frame.specs.Stream.{Framed, End, left_over, bad_place, after, completed, StreamFrom, Stream}
+use Rattle.giop_frame.specs.Framing.{Framing}
+
+-- fed this text from here on, the framer gives these messages, and then says that this is the end
+abbrev pub Gives : Framing → List ℕ → List Framed → End → Type 0
+Gives f text messages end =
+    MatchOption f.closed (StreamFrom f.limit f.reading (f.unread ++ text) messages end) (λ why. (messages ≡ []) × (end ≡ bad_place f.reading.place why))
+
+-- a framer that was fed these bytes and has given these messages: it goes on as the stream of all bytes does
+abbrev pub HasGiven : ℕ → List ℕ → List Framed → Framing → Type 0
+HasGiven limit fed given f =
+    (text : List ℕ) (messages : List Framed) (end : End) → Gives f text messages end ↔ Stream limit (fed ++ text) (given ++ messages) end
+
+-- two framers give the same, whatever they are fed
+abbrev pub GiveTheSame : Framing → Framing → Type 0
+GiveTheSame f g = (text : List ℕ) (messages : List Framed) (end : End) → Gives g text messages end ↔ Gives f text messages end
+
+-- the place behind the last byte that was fed
+abbrev pub reach : Framing → ℕ
+reach f = f.reading.place + length f.unread
+
+-- what an answer says, and what is left to give after it
+abbrev pub Answers : Framing → Next → Framing → Type 0
+Answers f (answer.Message m) g = (text : List ℕ) (messages : List Framed) (end : End) → Gives g text messages end ↔ Gives f text (m ∷ messages) end
+Answers f (answer.NeedMore have) g = Gives f [] [] (left_over have) × GiveTheSame f g
+Answers f (answer.Bad at why) g = ((text : List ℕ) → Gives f text [] (bad_place at why)) × GiveTheSame f g
+
+-- a message takes unread bytes away, so that a loop over the messages ends
+abbrev pub TakesBytes : Framing → Next → Framing → Type 0
+TakesBytes f (answer.Message m) g = length g.unread < length f.unread
+TakesBytes f (answer.NeedMore have) g = Unit {0}
+TakesBytes f (answer.Bad at why) g = Unit {0}
+
+-- a framer that read the part of this length in front, which completed these messages
+pub record TakesPart (f : Framing) (size : ℕ) (messages : List Framed) (g : Framing) : Type 0 where
+  pub completes : messages ≡ completed f.reading (take size f.unread)
+  pub goes_on : g ≡ record f { reading = after f.reading (take size f.unread); unread = drop size f.unread }
+
+-- a framer that joined a part, and gives what it would have given
+pub record JoinsPart (f g : Framing) : Type 0 where
+  pub same : GiveTheSame f g
+  pub unclosed : g.closed ≡ None
+  pub shorter : length g.unread < length f.unread

@@ -1,0 +1,144 @@
+//! The rules that make a place of a stream bad.
+ghost use Rattle.std.specs.Prelude.{◌≡◌, ◌+◌, ◌<◌, ◌≤◌, ◌^◌, length, option_copied};
+ghost use Rattle.giop_frame.specs.Part.{header_of, id_end};
+ghost use Rattle.giop_frame.specs.Open.{open_bytes};
+ghost use Rattle.giop_frame.specs.Rules.{look_at, foreign_fault, is_too_long, is_stray, is_bad_start, header_fault, fragment_fault, id_fault};
+
+use crate::header::{FRAGMENT, HEADER, Header, id_of};
+use crate::open_messages::OpenMessages;
+use crate::opened::Opened;
+use crate::why::Why;
+
+/// The bytes of all open messages of one stream together.
+pub(crate) const OPEN_LIMIT: u64 = 16_777_216;
+
+/// What a text shows of its first part.
+#[derive(Clone, Copy, Debug, PartialEq, Eq)]
+pub(crate) enum Look {
+    /// Not enough to say anything.
+    Unfinished,
+    /// A good part of so many bytes, which are all there.
+    Whole(usize),
+    /// It is bad.
+    Bad(Why),
+}
+
+/// What a text shows of its first part, while these messages are open.
+pub(crate) fn look_at(limit: u32, pending: &OpenMessages, text: &[u8]) -> Look
+    requires { open_bytes pending.now ≤ OPEN_LIMIT }
+    ensures { result ≡ look_at limit pending.now text.now }
+{
+    if text.len() < HEADER {
+        return Look::Unfinished;
+    }
+    if let Some(why) = header_fault(limit, pending, text) {
+        return Look::Bad(why);
+    }
+    let header = Header::read(text);
+    if text.len() < header.id_end() {
+        return Look::Unfinished;
+    }
+    if let Some(why) = id_fault(limit, pending, text) {
+        return Look::Bad(why);
+    }
+    let whole = HEADER + header.size as usize;
+    if text.len() < whole {
+        Look::Unfinished
+    } else {
+        Look::Whole(whole)
+    }
+}
+
+/// The first rule that a header breaks, whatever id follows it.
+fn header_fault(limit: u32, pending: &OpenMessages, text: &[u8]) -> Option<Why>
+    requires header { HEADER ≤ length text.now }
+    requires bounded { open_bytes pending.now ≤ OPEN_LIMIT }
+    ensures { result ≡ header_fault limit pending.now text.now }
+{
+    if let Some(why) = foreign_fault(text) {
+        return Some(why);
+    }
+    let header = Header::read(text);
+    if is_too_long(limit, pending, header) {
+        return Some(Why::TooLong);
+    }
+    if header.continues() && (header.size < 4 || pending.is_empty()) {
+        return Some(Why::StrayFragment);
+    }
+    if header.more && !header.continues() && (!header.opens() || header.size < 4) {
+        return Some(Why::BadFragment);
+    }
+    None
+}
+
+/// The rule that a text breaks which begins with no header of GIOP 1.2.
+fn foreign_fault(text: &[u8]) -> Option<Why>
+    requires { HEADER ≤ length text.now }
+    ensures { result ≡ foreign_fault text.now }
+{
+    if &text[..4] != b"GIOP".as_slice() {
+        return Some(Why::BadMagic);
+    }
+    if text[4] != 1 || text[5] != 2 {
+        return Some(Why::BadVersion);
+    }
+    if text[7] > FRAGMENT {
+        Some(Why::BadType)
+    } else {
+        None
+    }
+}
+
+/// Whether a part of this header is too long, whatever its id is.
+fn is_too_long(limit: u32, pending: &OpenMessages, header: Header) -> bool
+    requires { open_bytes pending.now ≤ OPEN_LIMIT }
+    ensures { result ≡ is_too_long limit pending.now header }
+{
+    let size = u64::from(header.size);
+    header.size > limit || header.opens() && pending.bytes() + 12 + size > OPEN_LIMIT
+}
+
+/// The first rule that a part breaks by its id.
+fn id_fault(limit: u32, pending: &OpenMessages, text: &[u8]) -> Option<Why>
+    requires id { id_end (header_of text.now) ≤ length text.now }
+    requires header { HEADER ≤ length text.now }
+    requires bounded { open_bytes pending.now ≤ OPEN_LIMIT }
+    ensures { result ≡ id_fault limit pending.now text.now }
+{
+    let header = Header::read(text);
+    if header.continues() {
+        return fragment_fault(limit, pending, header, pending.find(id_of(text)));
+    }
+    if header.opens() && pending.find(id_of(text)).is_some() {
+        return Some(Why::BadFragment);
+    }
+    None
+}
+
+/// The first rule that a Fragment breaks, whose message is this one.
+fn fragment_fault(
+    limit: u32,
+    pending: &OpenMessages,
+    header: Header,
+    found: Option<&Opened>,
+) -> Option<Why>
+    requires { open_bytes pending.now ≤ OPEN_LIMIT }
+    ensures { result ≡ fragment_fault limit pending.now header (option_copied found.entry) }
+{
+    let size = u64::from(header.size).saturating_sub(4);
+    if pending.bytes() + size > OPEN_LIMIT {
+        return Some(Why::TooLong);
+    }
+    let Some(opened) = found else {
+        return Some(Why::StrayFragment);
+    };
+    let joined = opened.len().saturating_sub(12).saturating_add(size);
+    if joined > u64::from(limit) {
+        return Some(Why::TooLong);
+    }
+    if header.little != opened.is_little() {
+        Some(Why::BadFragment)
+    } else {
+        None
+    }
+}

@@ -1,0 +1,19 @@
+//! Why a place of a stream is bad.
+
+/// Why a place of a stream is bad: the first of these that its message breaks.
+#[derive(Clone, Copy, Debug, PartialEq, Eq)]
+pub enum Why {
+    /// The first four bytes aren't `GIOP`.
+    BadMagic,
+    /// The version isn't 1.2.
+    BadVersion,
+    /// The type is above 7.
+    BadType,
+    /// The message is above the limit, or the open messages together are above theirs.
+    TooLong,
+    /// A Fragment that continues no open message, or that is too short for its id.
+    StrayFragment,
+    /// A Fragment in another byte order than its first part; fragments of a type that has none; a
+    /// first part that is too short for its id, or whose id is open.
+    BadFragment,
+}

@@ -1,0 +1,51 @@
+-- What the bytes of a key say of its parts.
+use Rattle.std.proofs.Common.{◌≡◌, ◌≢◌, ℕ, ◌<◌, ◌^◌, List, [], ◌++◌, length, arith, append-nil, sym, ◌∙◌, ap, refl, Option, Result, Ok, Err}
+use Rattle.std.specs.Prelude.{IfOk, MatchResult}
+use Rattle.std.proofs.lemmas.List.{append_cancel_left}
+use Rattle.poa_base.specs.declared.Key.{Key}
+use Rattle.poa_base.specs.declared.Stamp.{Stamp}
+use Rattle.poa_base.specs.Limits.{IsOid}
+use Rattle.object_key.specs.declared.fault.KeyFault.{KeyFault}
+use Rattle.object_key.specs.declared.fault.KeyFault.TheVariants.{BadKey, WantMemory}
+use Rattle.object_key.specs.Spelling.{key_mark, stamp_bytes, path_bytes, oid_bytes, key_spelling, IsStamp, ArePathNames, IsKey}
+use Rattle.object_key.specs.Reading.{OnBadKey, Reads}
+use Rattle.object_key.proofs.OneReading.{one_stamp, one_path, one_oid}
+
+abbrev key_with : Option Stamp → List (List ℕ) → List ℕ → Key
+key_with stamp path oid = record { stamp = stamp; path = path; oid = oid }
+
+-- a key is its three parts
+pub same_key : (a b : Key) → a.stamp ≡ b.stamp → a.path ≡ b.path → a.oid ≡ b.oid → a ≡ b
+same_key a b stamp path oid =
+    ap (λ s. key_with s a.path a.oid) stamp ∙ ap (λ p. key_with b.stamp p a.oid) path ∙ ap (λ o. key_with b.stamp b.path o) oid
+
+pub one_key : (a b : Key) → IsKey a → IsKey b → key_spelling a ≡ key_spelling b → a ≡ b
+one_key a b fits_a fits_b e =
+    let stamp = one_stamp a.stamp b.stamp (path_bytes a.path ++ oid_bytes a.oid) (path_bytes b.path ++ oid_bytes b.oid) fits_a.stamp fits_b.stamp (cc) in
+    let path = one_path a.path b.path (oid_bytes a.oid) (oid_bytes b.oid) stamp.1 in
+    let short_a : length a.oid < 2 ^ 16 = omega (arith, fits_a.oid) in
+    let short_b : length b.oid < 2 ^ 16 = omega (arith, fits_b.oid) in
+    let oid = one_oid a.oid b.oid [] [] short_a short_b (append-nil _ ∙ path.1 ∙ sym (append-nil _)) in
+    same_key a b stamp.0 path.0 oid.0
+
+-- what is left of a key behind its mark, stamp and path is its object id
+pub oid_is_left : (bytes unmarked unstamped left : List ℕ) (stamp : Option Stamp) (path : List (List ℕ)) → bytes ≡ key_mark ++ unmarked → Reads stamp_bytes IsStamp stamp unmarked unstamped → Reads path_bytes ArePathNames path unstamped left → (key : Key) → IsKey key → key_spelling key ≡ bytes → Reads oid_bytes IsOid key.oid left []
+oid_is_left bytes unmarked unstamped left stamp path mark stamp_read path_read key fits spelled =
+    let marked : key_mark ++ (stamp_bytes key.stamp ++ (path_bytes key.path ++ oid_bytes key.oid)) ≡ key_mark ++ unmarked = spelled ∙ mark in
+    let behind_mark : stamp_bytes key.stamp ++ (path_bytes key.path ++ oid_bytes key.oid) ≡ unmarked = append_cancel_left key_mark _ _ marked in
+    let behind_stamp = one_stamp key.stamp stamp (path_bytes key.path ++ oid_bytes key.oid) unstamped fits.stamp stamp_read.fits (behind_mark ∙ stamp_read.begins) in
+    let behind_path = one_path key.path path (oid_bytes key.oid) left (behind_stamp.1 ∙ path_read.begins) in
+    record { begins = sym behind_path.1 ∙ sym (append-nil (oid_bytes key.oid)); fits = fits.oid }
+
+-- behind a key's object id nothing is left
+pub nothing_left : (oid found text left : List ℕ) → Reads oid_bytes IsOid oid text [] → Reads oid_bytes IsOid found text left → left ≡ []
+nothing_left oid found text left whole read =
+    let short_whole : length oid < 2 ^ 16 = omega (arith, whole.fits) in
+    let short_read : length found < 2 ^ 16 = omega (arith, read.fits) in
+    sym (one_oid oid found [] left short_whole short_read (sym whole.begins ∙ read.begins)).1
+
+-- what is not refused as bad, where a key spells the bytes, is that key, or memory ran out
+pub read_back : (read : Result Key KeyFault) (bytes : List ℕ) → IfOk read (λ key. IsKey key × (key_spelling key ≡ bytes)) → OnBadKey read ((key : Key) → IsKey key → key_spelling key ≢ bytes) → (key : Key) → IsKey key → key_spelling key ≡ bytes → MatchResult read (λ found. found ≡ key) (λ fault. fault ≡ WantMemory)
+read_back (Ok found) bytes spelled bad key fits is = one_key found key spelled.0 fits (spelled.1 ∙ sym is)
+read_back (Err WantMemory) bytes spelled bad key fits is = refl
+read_back (Err BadKey) bytes spelled bad key fits is = absurd (bad refl key fits is)

@@ -1,0 +1,59 @@
+-- One reading: two values whose bytes begin one text are one value, and leave the same rest.
+use Rattle.std.proofs.Common.{◌≡◌, ℕ, ◌<◌, ◌^◌, List, [], ◌∷◌, ◌++◌, length, refl, sym, ◌∙◌, ap, ap₂, arith, append_assoc, Option, Some, None}
+use Rattle.std.specs.Int.{w16, w32, to_be_bytes, from_be_bytes}
+use Rattle.std.proofs.lemmas.Nat.{from_be_bytes-to_be_bytes_2, from_be_bytes-to_be_bytes_4}
+use Rattle.poa_base.specs.declared.Stamp.{Stamp}
+use Rattle.object_key.specs.Spelling.{stamp_bytes, name_bytes, path_bytes, oid_bytes, IsStamp}
+use Rattle.object_key.specs.Reading.{names_bytes}
+
+-- two lists of one length at the front of one list
+pub same_front : (a b x y : List ℕ) → length a ≡ length b → a ++ x ≡ b ++ y → (a ≡ b) × (x ≡ y)
+same_front [] [] x y len e = (refl, e)
+same_front [] (v ∷ b) x y len e = absurd (omega arith)
+same_front (u ∷ a) [] x y len e = absurd (omega arith)
+same_front (u ∷ a) (v ∷ b) x y len e =
+    let head : u ≡ v = cc in
+    let tail : a ++ x ≡ b ++ y = cc in
+    let short : length a ≡ length b = omega arith in
+    let rest = same_front a b x y short tail in
+    (ap₂ (λ z zs. z ∷ zs) head rest.0, rest.1)
+
+pub one_ushort : (m n : ℕ) (x y : List ℕ) → m < 2 ^ 16 → n < 2 ^ 16 → to_be_bytes w16 m ++ x ≡ to_be_bytes w16 n ++ y → (m ≡ n) × (x ≡ y)
+one_ushort m n x y fits_m fits_n e =
+    let both = same_front (to_be_bytes w16 m) (to_be_bytes w16 n) x y refl e in
+    (sym (from_be_bytes-to_be_bytes_2 m fits_m) ∙ ap (from_be_bytes w16) both.0 ∙ from_be_bytes-to_be_bytes_2 n fits_n, both.1)
+
+pub one_ulong : (m n : ℕ) (x y : List ℕ) → m < 2 ^ 32 → n < 2 ^ 32 → to_be_bytes w32 m ++ x ≡ to_be_bytes w32 n ++ y → (m ≡ n) × (x ≡ y)
+one_ulong m n x y fits_m fits_n e =
+    let both = same_front (to_be_bytes w32 m) (to_be_bytes w32 n) x y refl e in
+    (sym (from_be_bytes-to_be_bytes_4 m fits_m) ∙ ap (from_be_bytes w32) both.0 ∙ from_be_bytes-to_be_bytes_4 n fits_n, both.1)
+
+pub one_stamp : (a b : Option Stamp) (x y : List ℕ) → IsStamp a → IsStamp b → stamp_bytes a ++ x ≡ stamp_bytes b ++ y → (a ≡ b) × (x ≡ y)
+one_stamp None None x y fits_a fits_b e = (refl, cc)
+one_stamp None (Some t) x y fits_a fits_b e = absurd (cc)
+one_stamp (Some s) None x y fits_a fits_b e = absurd (cc)
+one_stamp (Some s) (Some t) x y fits_a fits_b e =
+    let run = one_ulong s.run t.run (to_be_bytes w32 s.number ++ x) (to_be_bytes w32 t.number ++ y) fits_a.0 fits_b.0 (cc) in
+    let number = one_ulong s.number t.number x y fits_a.1 fits_b.1 run.1 in
+    (ap₂ (λ r n. let it : Stamp = record { run = r; number = n } in Some it) run.0 number.0, number.1)
+
+pub one_name : (a b x y : List ℕ) → name_bytes a ++ x ≡ name_bytes b ++ y → (a ≡ b) × (x ≡ y)
+one_name a b x y e = let len : length a ≡ length b = cc in same_front a b x y len (cc)
+
+pub one_names : (a b : List (List ℕ)) (x y : List ℕ) → length a ≡ length b → names_bytes a ++ x ≡ names_bytes b ++ y → (a ≡ b) × (x ≡ y)
+one_names [] [] x y len e = (refl, e)
+one_names [] (v ∷ b) x y len e = absurd (omega arith)
+one_names (u ∷ a) [] x y len e = absurd (omega arith)
+one_names (u ∷ a) (v ∷ b) x y len e =
+    let name = one_name u v (names_bytes a ++ x) (names_bytes b ++ y) (sym (append_assoc (name_bytes u) (names_bytes a) x) ∙ e ∙ append_assoc (name_bytes v) (names_bytes b) y) in
+    let short : length a ≡ length b = omega arith in
+    let names = one_names a b x y short name.1 in
+    (ap₂ (λ n ns. n ∷ ns) name.0 names.0, names.1)
+
+pub one_path : (a b : List (List ℕ)) (x y : List ℕ) → path_bytes a ++ x ≡ path_bytes b ++ y → (a ≡ b) × (x ≡ y)
+one_path a b x y e = let len : length a ≡ length b = cc in one_names a b x y len (cc)
+
+pub one_oid : (a b x y : List ℕ) → length a < 2 ^ 16 → length b < 2 ^ 16 → oid_bytes a ++ x ≡ oid_bytes b ++ y → (a ≡ b) × (x ≡ y)
+one_oid a b x y fits_a fits_b e =
+    let len = one_ushort (length a) (length b) (a ++ x) (b ++ y) fits_a fits_b e in
+    same_front a b x y len.0 len.1

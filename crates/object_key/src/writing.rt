@@ -1,0 +1,74 @@
+//! From a key to its octets.
+ghost use Rattle.std.specs.Prelude.{◌≡◌, ◌++◌, IfOk, OnOk};
+ghost use Rattle.object_key.specs.Spelling.{stamp_bytes, name_bytes, path_bytes, oid_bytes, key_spelling, IsStamp, ArePathNames, IsKey};
+ghost use Rattle.object_key.specs.Reading.{names_bytes};
+ghost use Rattle.poa_base.specs.Limits.{IsOid, IsName};
+ghost use Rattle.std.specs.Prelude.{All};
+
+use poa_base::{Bytes, Key, Name, Oid, Path, Stamp, WantMemory};
+use std::alloc::Global;
+
+/// The octets that every key begins with: `POA`, and the number of this form.
+const MARK: [u8; 4] = [b'P', b'O', b'A', 1];
+
+/// The spelling of a key.
+pub fn write_key(alloc: Global, key: &Key) -> Result<Bytes, WantMemory>
+    ensures spelling { IfOk result (λ bytes. bytes ≡ key_spelling key.now) }
+    // Whatever is written is within the limits, so `read_key` gives it back.
+    ensures key { OnOk result (IsKey key.now) }
+{
+    let mut out = Vec::from_slice(alloc, &MARK)?;
+    write_stamp(&mut out, key.stamp)?;
+    write_path(&mut out, &key.path)?;
+    write_oid(&mut out, &key.oid)?;
+    Ok(Bytes::from_vec(out))
+}
+
+/// The lifespan, and a transient key's stamp.
+fn write_stamp(out: &mut Vec<u8>, stamp: Option<Stamp>) -> Result<(), WantMemory>
+    ensures bytes { OnOk result (out.new.items ≡ out.old.items ++ stamp_bytes stamp) }
+    ensures stamp { IsStamp stamp }
+{
+    match stamp {
+        None => out.push(1)?,
+        Some(stamp) => {
+            out.push(0)?;
+            out.extend_from_slice(&stamp.run.to_be_bytes())?;
+            out.extend_from_slice(&stamp.number.to_be_bytes())?;
+        }
+    }
+    Ok(())
+}
+
+/// The count of the names, and each of them.
+fn write_path(out: &mut Vec<u8>, path: &Path) -> Result<(), WantMemory>
+    ensures bytes { OnOk result (out.new.items ≡ out.old.items ++ path_bytes path.now) }
+    ensures names { OnOk result (ArePathNames path.now) }
+{
+    let names = path.as_slice();
+    out.push(names.len() as u8)?;
+    for name in names {
+        write_name(out, name)?;
+    }
+    Ok(())
+}
+
+/// The length of a name, and the name.
+fn write_name(out: &mut Vec<u8>, name: &Name) -> Result<(), WantMemory>
+    ensures bytes { OnOk result (out.new.items ≡ out.old.items ++ name_bytes name.now) }
+    ensures name { IsName name.now }
+{
+    let bytes = name.as_slice();
+    out.push(bytes.len() as u8)?;
+    out.extend_from_slice(bytes)
+}
+
+/// The length of the object id, and the id.
+fn write_oid(out: &mut Vec<u8>, oid: &Oid) -> Result<(), WantMemory>
+    ensures bytes { OnOk result (out.new.items ≡ out.old.items ++ oid_bytes oid.now) }
+    ensures oid { IsOid oid.now }
+{
+    let bytes = oid.as_slice();
+    out.extend_from_slice(&(bytes.len() as u16).to_be_bytes())?;
+    out.extend_from_slice(bytes)
+}

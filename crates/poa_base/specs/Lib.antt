@@ -1,0 +1,5 @@
+pub mod Limits
+pub mod Policies
+pub mod Rows
+pub mod Shelves
+pub mod Store

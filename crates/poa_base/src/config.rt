@@ -1,0 +1,162 @@
+//! A configuration, with its names turned into numbers.
+use crate::bytes::Bytes;
+use crate::copy::TryClone;
+use crate::endpoint::Endpoint;
+use crate::exception::SysExc;
+use crate::items::Items;
+use crate::manager::ManagerState;
+use crate::name::Name;
+use crate::oid::Oid;
+use crate::path::Path;
+use crate::policy::PolicySet;
+use crate::servant::State;
+use std::alloc::AllocError;
+
+/// What a server is configured with. Manager 0 is `root`, and the configured managers follow from 1
+/// on; a servant's number is its place in `servants`, from 0 on.
+#[derive(Clone, Debug, PartialEq, Eq, Drop)]
+pub struct Config {
+    /// The number of the run.
+    pub run: u32,
+    pub host: Bytes,
+    pub port: u16,
+    pub admin_port: u16,
+    /// How long, in milliseconds, a started server holds its door.
+    pub gate_ms: u32,
+    /// The state in which the manager `root` starts.
+    pub root: ManagerState,
+    pub managers: Items<ManagerConf>,
+    pub servants: Items<ServantConf>,
+    pub adapters: Items<AdapterConf>,
+    pub objects: Items<ObjectConf>,
+    pub forwards: Items<ForwardConf>,
+}
+
+/// A manager and the state in which it starts.
+#[derive(Clone, Debug, PartialEq, Eq, Drop)]
+pub struct ManagerConf {
+    pub name: Name,
+    pub start: ManagerState,
+}
+
+/// A servant, with its kind and the state in which it starts.
+#[derive(Clone, Debug, PartialEq, Eq, Drop)]
+pub struct ServantConf {
+    pub name: Name,
+    pub state: State,
+}
+
+/// The template of an adapter.
+#[derive(Clone, Debug, PartialEq, Eq, Drop)]
+pub struct AdapterConf {
+    pub path: Path,
+    pub policies: PolicySet,
+    /// The number of its manager.
+    pub manager: u32,
+    /// Whether it is created when the server starts.
+    pub boot: bool,
+    /// What its adapter activator does; none where it has no activator.
+    pub children: Option<Children>,
+    /// The number of its default servant.
+    pub preset: Option<u32>,
+    /// The rules of its servant manager, of which the first that matches counts.
+    pub rules: Items<RuleConf>,
+}
+
+/// What an adapter activator does about a missing child.
+#[derive(Clone, Copy, Debug, PartialEq, Eq, Drop)]
+pub enum Children {
+    Create,
+    Refuse,
+    Raise,
+}
+
+/// The kinds of servants.
+#[derive(Clone, Copy, Debug, PartialEq, Eq, Drop)]
+pub enum Kind {
+    Register,
+    Log,
+    Echo,
+    Fault,
+}
+
+/// A rule of a servant manager. Without an id it matches every id.
+#[derive(Clone, Debug, PartialEq, Eq, Drop)]
+pub struct RuleConf {
+    pub oid: Option<Oid>,
+    pub gives: Gives,
+}
+
+/// What a rule gives.
+#[derive(Clone, Debug, PartialEq, Eq, Drop)]
+pub enum Gives {
+    /// A new servant of this kind.
+    Fresh(Kind),
+    /// The configured servant of this number.
+    Servant(u32),
+    Forward(Endpoint),
+    Raise(SysExc),
+}
+
+/// An object that is active from the start. Without an id it gets a system-made one.
+#[derive(Clone, Debug, PartialEq, Eq, Drop)]
+pub struct ObjectConf {
+    pub adapter: Path,
+    pub oid: Option<Oid>,
+    pub servant: u32,
+}
+
+/// An entry of the endpoint table.
+#[derive(Clone, Debug, PartialEq, Eq, Drop)]
+pub struct ForwardConf {
+    pub path: Path,
+    pub endpoint: Endpoint,
+}
+
+impl TryClone for ManagerConf {
+    fn try_clone(&self) -> Result<Self, AllocError> {
+        self.clone()
+    }
+}
+
+impl TryClone for ServantConf {
+    fn try_clone(&self) -> Result<Self, AllocError> {
+        self.clone()
+    }
+}
+
+impl TryClone for AdapterConf {
+    fn try_clone(&self) -> Result<Self, AllocError> {
+        self.clone()
+    }
+}
+
+impl TryClone for RuleConf {
+    fn try_clone(&self) -> Result<Self, AllocError> {
+        self.clone()
+    }
+}
+
+impl TryClone for Gives {
+    fn try_clone(&self) -> Result<Self, AllocError> {
+        self.clone()
+    }
+}
+
+impl TryClone for ObjectConf {
+    fn try_clone(&self) -> Result<Self, AllocError> {
+        self.clone()
+    }
+}
+
+impl TryClone for ForwardConf {
+    fn try_clone(&self) -> Result<Self, AllocError> {
+        self.clone()
+    }
+}
+
+impl TryClone for Config {
+    fn try_clone(&self) -> Result<Self, AllocError> {
+        self.clone()
+    }
+}

@@ -1,0 +1,39 @@
+//! What a worker is at, what an administrator waits for, and what a call is held by.
+
+/// What a worker is at between two of its turns.
+#[derive(Clone, Copy, Debug, PartialEq, Eq, Drop)]
+pub enum Point {
+    /// A servant runs for this arrival.
+    Serving { arrival: u64 },
+    /// A servant is brought for this arrival.
+    Incarnating { arrival: u64 },
+    /// An adapter activator is asked for this arrival.
+    Trying { arrival: u64 },
+    /// This activation was taken out, and its servant is etherealized.
+    Etherealizing { activation: u32 },
+    Free,
+}
+
+/// What a command with `wait` waits for.
+#[derive(Clone, Copy, Debug, PartialEq, Eq, Drop)]
+pub enum Waiting {
+    /// Nothing is in flight in the adapters of this manager.
+    Quiet { manager: u32 },
+    /// The same; where it etherealizes, its activations have ended too.
+    Off { manager: u32, etherealize: bool },
+    /// This adapter is gone.
+    Gone { adapter: u32 },
+}
+
+/// What holds a call, so that it is looked at again when that changes.
+#[derive(Clone, Copy, Debug, PartialEq, Eq, Drop)]
+pub enum Cause {
+    /// The state of this manager.
+    Manager(u32),
+    /// What runs in this adapter.
+    Adapter(u32),
+    /// The id of this number in this adapter.
+    Id { adapter: u32, number: u32 },
+    /// A trial of a missing child of this adapter.
+    Trial { parent: u32 },
+}

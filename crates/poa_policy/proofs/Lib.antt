@@ -1,0 +1,4 @@
+pub mod Listing
+pub mod Completing
+pub mod SettledLaws
+pub mod Turns

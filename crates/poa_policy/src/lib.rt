@@ -1,0 +1,16 @@
+//! Settling the policies of an adapter: which policy of each kind a list of policies gives, or the
+//! policy of the list that is wrong. CORBA 3.3 Part 1, chapter 15, "POA Policy Objects".
+#![tactic(auto)]
+
+mod kind;
+mod rule;
+mod settling;
+mod which;
+
+pub use kind::{PolicyKind, kind_of};
+pub use rule::Rule;
+pub use settling::{InvalidPolicy, defaults, settle};
+pub use which::{
+    is_default_servant, is_implicit, is_map_only, is_multiple_id, is_retain, is_servant_manager,
+    is_system_id,
+};

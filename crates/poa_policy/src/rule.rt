@@ -1,0 +1,70 @@
+//! The rules that the policies of one adapter keep together.
+ghost use Rattle.std.specs.Prelude.{◌≡◌};
+ghost use Rattle.poa_policy.specs.Rules.{keeps as the_keeps, names as the_names, first_broken as the_first_broken};
+
+use crate::kind::PolicyKind;
+use crate::which::{
+    is_default_servant, is_implicit, is_map_only, is_multiple_id, is_retain, is_system_id,
+};
+use poa_base::PolicySet;
+
+/// A rule on the policies of one adapter, named by its numbers' order in the POA chapter.
+#[derive(Clone, Copy, Debug, PartialEq, Eq, Drop)]
+pub enum Rule {
+    /// USE_ACTIVE_OBJECT_MAP_ONLY needs RETAIN.
+    MapOnlyRetains,
+    /// USE_DEFAULT_SERVANT needs MULTIPLE_ID.
+    DefaultServantIsShared,
+    /// IMPLICIT_ACTIVATION needs SYSTEM_ID and RETAIN.
+    ImplicitMakesIds,
+}
+
+impl Rule {
+    /// Whether the set keeps this rule.
+    pub fn keeps(self, set: &PolicySet) -> bool
+        ensures { result ≡ the_keeps self set.now }
+    {
+        match self {
+            Rule::MapOnlyRetains => !is_map_only(set.processing) || is_retain(set.retention),
+            Rule::DefaultServantIsShared => {
+                !is_default_servant(set.processing) || is_multiple_id(set.uniqueness)
+            }
+            Rule::ImplicitMakesIds => {
+                !is_implicit(set.implicit)
+                    || is_system_id(set.assignment) && is_retain(set.retention)
+            }
+        }
+    }
+
+    /// Whether the rule speaks of policies of this kind.
+    pub fn names(self, kind: PolicyKind) -> bool
+        ensures { result ≡ the_names self kind }
+    {
+        match self {
+            Rule::MapOnlyRetains => matches!(kind, PolicyKind::Processing | PolicyKind::Retention),
+            Rule::DefaultServantIsShared => {
+                matches!(kind, PolicyKind::Processing | PolicyKind::Uniqueness)
+            }
+            Rule::ImplicitMakesIds => matches!(
+                kind,
+                PolicyKind::Implicit | PolicyKind::Assignment | PolicyKind::Retention
+            ),
+        }
+    }
+}
+
+/// The first rule that the set breaks.
+pub(crate) fn first_broken(set: &PolicySet) -> Option<Rule>
+    ensures { result ≡ the_first_broken set.now }
+{
+    if !Rule::MapOnlyRetains.keeps(set) {
+        return Some(Rule::MapOnlyRetains);
+    }
+    if !Rule::DefaultServantIsShared.keeps(set) {
+        return Some(Rule::DefaultServantIsShared);
+    }
+    if !Rule::ImplicitMakesIds.keeps(set) {
+        return Some(Rule::ImplicitMakesIds);
+    }
+    None
+}

@@ -1,0 +1,42 @@
+//! The program: it makes the real parts, does what its words say, writes the line of any status but `ok`
+//! to standard error, and ends with the status' number.
+#![tactic(auto)]
+
+use outside::{MemFiles, StandardInput, StandardOutput};
+use poad_cmd::{Host, Status, run_words};
+use std::env;
+use std::io::ErrorKind;
+use std::process::ExitCode;
+
+fn main(rt: HostRuntime) -> ExitCode {
+    let status = match words(&rt) {
+        Ok(words) => run(&rt, words.as_slice()),
+        Err(status) => status,
+    };
+    if status != Status::Ok {
+        let _ = eprintln!(rt; "poad: {status}");
+    }
+    ExitCode::from(status.number())
+}
+
+// The words behind the program's name. Words that aren't text are no command.
+fn words(rt: &HostRuntime) -> Result<Vec<String>, Status> {
+    let mut all = match env::args(rt) {
+        Ok(all) => all,
+        Err(error) if error.kind() == ErrorKind::OutOfMemory => return Err(Status::WantMemory),
+        Err(_) => return Err(Status::BadWords),
+    };
+    let _ = all.next();
+    all.collect(rt.alloc()).map_err(|_| Status::WantMemory)
+}
+
+// Does what the words say over standard input and output. No command reads files yet.
+fn run(rt: &HostRuntime, words: &[String]) -> Status {
+    let alloc = rt.alloc();
+    let mut host = Host {
+        source: StandardInput::new(rt.stdin()),
+        sink: StandardOutput::new(rt.stdout()),
+        files: MemFiles::new(alloc, Vec::new(alloc), Vec::new(alloc)),
+    };
+    run_words(alloc, words, &mut host)
+}

@@ -1,0 +1,9 @@
+pub mod Told
+pub mod Causes
+pub mod Delivered
+pub mod Same
+pub mod Stuck
+pub mod Heads
+pub mod Plainly
+pub mod Progress
+pub mod Running

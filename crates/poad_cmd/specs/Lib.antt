@@ -1,0 +1,13 @@
+pub mod Words
+pub mod Header
+pub mod Fields
+pub mod Refused
+pub mod Plain
+pub mod Register
+pub mod Reply
+pub mod Serving
+pub mod Run
+pub mod Front
+pub mod Service
+pub mod Delivery
+pub mod Piece

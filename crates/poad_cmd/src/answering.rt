@@ -1,0 +1,106 @@
+//! `answer`: the loop over the source.
+ghost use Rattle.std.specs.Prelude.{◌≡◌, ◌+◌, ◌^◌, ◌<◌, ◌≤◌, false, ◌≢◌, [], length, Some};
+ghost use Rattle.outside.specs.Cause.{HasCause};
+ghost use Rattle.outside.specs.Reading.{IsWithin, Delivers};
+ghost use Rattle.outside.specs.Told.{IfTold};
+ghost use Rattle.poad_cmd.specs.Run.{Answers};
+ghost use Rattle.poad_cmd.specs.Service.{reach};
+ghost use Rattle.poad_cmd.specs.Piece.{TakesPiece, EndsAt};
+
+use crate::delivery::deliver;
+use crate::serving::Service;
+use crate::status::Status;
+use outside::{Sink, Source, Took};
+use std::alloc::Global;
+
+/// How much a read takes at most.
+const PIECE: usize = 65_536;
+
+/// How much a run takes of its source at most.
+const INPUT_LIMIT: u64 = 1 << 32;
+
+/// Serves the plain requests of the source in order, from a register that holds 0, and writes the replies
+/// that a piece of input owes before it reads the next piece.
+pub(crate) fn answer<S: Source, K: Sink>(alloc: Global, source: &mut S, sink: &mut K) -> Status
+    requires { S.is_waiting source.old ≡ false }
+    ensures answers { Answers result (S.left source.old) (S.left source.new) (K.held sink.old) (K.held sink.new) }
+    ensures read { HasCause (S.read_faults source.old) (S.read_faults source.new) (result ≡ Status.ReadFault) }
+    ensures written { HasCause (K.write_faults sink.old) (K.write_faults sink.new) (result ≡ Status.WriteFault) }
+{
+    let Ok(mut buffer) = Vec::from_elem(alloc, 0u8, PIECE) else {
+        return Status::WantMemory;
+    };
+    let mut service = Service::new(alloc);
+    let mut taken = 0;
+    while taken < INPUT_LIMIT {
+        match read_front(source, &mut buffer, INPUT_LIMIT - taken) {
+            Took::Got(count) => {
+                taken += count as u64;
+                if let Some(status) = take_piece(alloc, &mut service, &buffer[..count], sink) {
+                    return status;
+                }
+            }
+            Took::End => return ended(&service),
+            Took::Failed => return Status::ReadFault,
+            // Never comes, since the source doesn't wait.
+            Took::Quiet => return Status::ReadFault,
+        }
+    }
+    Status::InputLimit { taken }
+}
+
+// Reads no more than `most` bytes into the front of the buffer.
+fn read_front<S: Source>(source: &mut S, buffer: &mut [u8], most: u64) -> Took
+    requires some { 0 < length buffer.old }
+    requires allowed { 0 < most }
+    requires patient { S.is_waiting source.old ≡ false }
+    ensures within { IsWithin result (length buffer.old) }
+    ensures most { IsWithin result most }
+    ensures bytes { IfTold (S.left source.old) (S.left source.new) (Delivers result buffer.new) }
+    ensures patient { S.is_waiting source.new ≡ false }
+    ensures failed { HasCause (S.read_faults source.old) (S.read_faults source.new) (result ≡ Took.Failed) }
+    ensures loud { result ≢ Took.Quiet }
+{
+    let room = most.min(buffer.len() as u64) as usize;
+    source.read(&mut buffer[..room])
+}
+
+// Serves the messages that a piece makes whole and writes their replies. A status where the run ends.
+fn take_piece<K: Sink>(
+    alloc: Global,
+    service: &mut Service,
+    piece: &[u8],
+    sink: &mut K,
+) -> Option<Status>
+    requires room { reach service.old + length piece.now < 2 ^ 62 }
+    requires delivered { service.old.replies.items ≡ [] }
+    ensures takes { TakesPiece result piece.now service.old service.new (K.held sink.old) (K.held sink.new) }
+    ensures written { HasCause (K.write_faults sink.old) (K.write_faults sink.new) (result ≡ Some Status.WriteFault) }
+{
+    if service.unread.push(piece).is_err() {
+        return Some(Status::WantMemory);
+    }
+    let served = service.serve(alloc);
+    let delivered = deliver(sink, service.replies.as_slice());
+    service.replies.clear();
+    if !delivered {
+        return Some(Status::WriteFault);
+    }
+    let Ok(stop) = served else {
+        return Some(Status::WantMemory);
+    };
+    match stop {
+        None => None,
+        Some(at) => Some(Status::Unbuilt { at }),
+    }
+}
+
+// The status at the end of the source.
+fn ended(service: &Service) -> Status
+    ensures { EndsAt result service.now }
+{
+    match service.unread.as_slice().len() {
+        0 => Status::Ok,
+        have => Status::Truncated { have: have as u64 },
+    }
+}

@@ -1,0 +1,12 @@
+pub mod Totals
+pub mod Rounds
+pub mod Histories
+pub mod Kept
+pub mod Draws
+pub mod Looks
+pub mod Marks
+pub mod Passes
+pub mod Joins
+pub mod InWords
+pub mod Lists
+pub mod Calls

@@ -1,0 +1,10 @@
+pub mod Chain
+pub mod Number
+pub mod Hexadecimal
+pub mod Name
+pub mod Cuts
+pub mod Path
+pub mod Identity
+pub mod Keyword
+pub mod Token
+pub mod Gives
