@@ -9,8 +9,8 @@ use Rattle.cdr_core.specs.Refusal.{Refuses}
 use Rattle.cdr_core.proofs.OneReading.{one_ulong_read, one_octets_read, one_text_read}
 use Rattle.cdr_core.proofs.Refusals.{none_where_refused}
 use Rattle.giop_msg.specs.Fields.{ReadsAll}
-use Rattle.giop_msg.specs.Request.{Context, context_fields, closing_fields}
-use Rattle.giop_msg.specs.Reading.{IsContext, HasContexts, IsClosing}
+use Rattle.giop_msg.specs.Request.{Context, context_fields, IsClosing}
+use Rattle.giop_msg.specs.Reading.{IsContext, HasContexts}
 use Rattle.giop_msg.proofs.Fields.{reads_append}
 
 pub no_contexts : (c : Cursor) → HasContexts 0 c c
