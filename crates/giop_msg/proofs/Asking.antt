@@ -79,14 +79,16 @@ written_asks ask is =
     let content : List ℕ = (request_draft ask).bytes ++ argument_bytes ask.head.little (request_end ask) ask.argument in
     let whole = fields_read ask is in
     let parts = reads_split (opening_fields ask.head.id ask.head.flags 0 0 0 ++ target_fields (by_key ask.key)) (closing_fields ask.operation []) (fields_start (request_bytes ask)) (behind ask) whole in
-    let front = reads_split (opening_fields ask.head.id ask.head.flags 0 0 0) (target_fields (by_key ask.key)) (fields_start (request_bytes ask)) parts.0 parts.1.0 in
-    (framed-type MINOR REQUEST ask.head.little content, record {
-      behind_opening = front.0;
-      behind_target = parts.0;
-      behind = behind ask;
-      opening = record { a = 0; b = 0; c = 0; read = front.1.0 };
-      addressed = record { object = by_key ask.key; read = front.1.1; gives = refl };
-      closing = record { contexts = []; read = parts.1.1 };
-      is_head = same_head ask.head (is_little (request_bytes ask)) is.minor is.no_locate (framed-order MINOR REQUEST ask.head.little content);
-      is_body = sym (body_of_argument ask.head.little (request_end ask) ask.argument);
-    })
+    let front = reads_split (opening_fields ask.head.id ask.head.flags 0 0 0) (target_fields (by_key ask.key)) (fields_start (request_bytes ask)) parts.0 parts.1.0 in (
+      framed-type MINOR REQUEST ask.head.little content,
+      record {
+        behind_opening = front.0;
+        behind_target = parts.0;
+        behind = behind ask;
+        opening = record { a = 0; b = 0; c = 0; read = front.1.0 };
+        addressed = record { object = by_key ask.key; read = front.1.1; gives = refl };
+        closing = record { contexts = []; read = parts.1.1 };
+        is_head = same_head ask.head (is_little (request_bytes ask)) is.minor is.no_locate (framed-order MINOR REQUEST ask.head.little content);
+        is_body = sym (body_of_argument ask.head.little (request_end ask) ask.argument);
+      },
+    )

@@ -26,16 +26,19 @@ more_contexts n a b c has next = record {
   contexts = has.contexts ++ next.context ∷ [];
   counted = omega (arith, length-append has.contexts (next.context ∷ []), has.counted);
   read = subst (λ (fs : List Field). ReadsAll fs a c) (sym (context_fields-append has.contexts (next.context ∷ [])))
-    (reads_append (context_fields has.contexts) (context_fields (next.context ∷ [])) a b c has.read next.read);
+      (reads_append (context_fields has.contexts) (context_fields (next.context ∷ [])) a b c has.read next.read);
 }
 
 -- where more contexts stand than were read, one more stands behind these
 next_context : (xs ys : List Context) (a b c : Cursor) → length xs < length ys → ReadsAll (context_fields xs) a b → ReadsAll (context_fields ys) a c → (d : Cursor) × IsContext b d
 next_context [] [] a b c fewer here there = absurd (omega arith)
-next_context [] (y ∷ ys) a b c fewer here there = (there.1.1.0, record {
-  context = y;
-  read = (there.0, (subst (λ (x : Cursor). Reads (ulong y.0) x there.0) (sym here) there.1.0, (there.1.1.0, (there.1.1.1.0, refl))));
-})
+next_context [] (y ∷ ys) a b c fewer here there = (
+  there.1.1.0,
+  record {
+    context = y;
+    read = (there.0, (subst (λ (x : Cursor). Reads (ulong y.0) x there.0) (sym here) there.1.0, (there.1.1.0, (there.1.1.1.0, refl))));
+  },
+)
 next_context (x ∷ xs) [] a b c fewer here there = absurd (omega arith)
 next_context (x ∷ xs) (y ∷ ys) a b c fewer here there =
     let id = one_ulong_read x.0 y.0 a here.0 there.0 here.1.0 there.1.0 in

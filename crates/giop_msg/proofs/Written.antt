@@ -36,8 +36,7 @@ reads_written [] c after fit split little place = same_cursor after c little (om
 reads_written (f ∷ fs) c after fit split little place =
     let w : List ℕ = written c.little c.place f in
     let later : List ℕ = written_all c.little (c.place + length w) fs in
-    let behind : Cursor = record { little = c.little; place = c.place + length w; rest = later ++ after.rest } in
-    (
+    let behind : Cursor = record { little = c.little; place = c.place + length w; rest = later ++ after.rest } in (
       behind,
       (
         written_reads_back f c (later ++ after.rest) fit.0 (split ∙ append_assoc w later after.rest),
