@@ -1,5 +1,5 @@
 -- A Request that is written is read as the call that it was written for.
-use Rattle.std.proofs.Common.{◌≡◌, ℕ, ◌+◌, ◌-◌, Bool, false, List, [], ◌∷◌, ◌++◌, Option, Some, None, length, drop, replicate, refl, sym, ap, ap₂, ◌∙◌, subst, arith}
+use Rattle.std.proofs.Common.{◌≡◌, ℕ, ◌+◌, Bool, false, List, [], ◌++◌, Option, Some, None, length, drop, replicate, refl, sym, ap, ap₂, ◌∙◌, subst, arith}
 use Rattle.std.specs.Prelude.{min}
 use Rattle.std.proofs.lemmas.List.{length-replicate}
 use Rattle.std.proofs.Math.Seq.{drop-append_seam, drop-nil}
@@ -17,7 +17,7 @@ use Rattle.giop_frame.specs.Part.{is_little}
 use Rattle.giop_msg.specs.declared.kind.TheConstants.{HEADER, MINOR, REQUEST}
 use Rattle.giop_msg.specs.Fields.{ReadsAll, fields_start}
 use Rattle.giop_msg.specs.Target.{by_key, target_fields}
-use Rattle.giop_msg.specs.Request.{opening_fields, closing_fields, body_at, request_head, IsRequest}
+use Rattle.giop_msg.specs.Request.{opening_fields, closing_fields, body_at, request_head}
 use Rattle.giop_msg.specs.Reply.{datum_field}
 use Rattle.giop_msg.specs.Ask.{request_draft, request_end, argument_bytes, request_bytes, asked_body, IsAsk}
 use Rattle.giop_msg.specs.Laws.{WrittenIsMessage, WrittenAsks}

@@ -1,7 +1,6 @@
 -- A message gives one answer.
-use Rattle.std.proofs.Common.{◌≡◌, ◌≢◌, ℕ, Bool, List, [], ◌∷◌, Option, Some, Result, Ok, Err, refl, sym, ap, ap₂, ◌∙◌, subst, arith, ◌⊎◌, inl, inr}
-use Rattle.cdr_core.specs.Cursor.{Cursor}
-use Rattle.cdr_core.proofs.OneReading.{one_ulong_read, one_ushort_read}
+use Rattle.std.proofs.Common.{◌≡◌, ℕ, List, Option, Ok, Err, refl, sym, ap, ap₂, ◌∙◌, subst, arith, inl, inr}
+use Rattle.cdr_core.proofs.OneReading.{one_ulong_read}
 use Rattle.poa_base.specs.declared.Body.{Body}
 use Rattle.poa_base.specs.declared.Call.{Call}
 use Rattle.poa_base.specs.declared.Call.TheVariants.{Request, Locate, Line}

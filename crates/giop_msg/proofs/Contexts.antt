@@ -1,7 +1,6 @@
 -- Service contexts, one behind the other.
-use Rattle.std.proofs.Common.{◌≡◌, ◌≢◌, ℕ, ◌+◌, ◌<◌, List, [], ◌∷◌, ◌++◌, length, refl, sym, ap, ◌∙◌, subst, arith, length-append, ◌⊎◌, inl, inr}
+use Rattle.std.proofs.Common.{◌≡◌, ℕ, ◌+◌, ◌<◌, List, [], ◌∷◌, ◌++◌, length, refl, sym, ap, ◌∙◌, subst, arith, length-append, ◌⊎◌, inl, inr}
 use Rattle.cdr_core.specs.declared.CdrFault.{CdrFault}
-use Rattle.cdr_core.specs.declared.CdrFault.TheVariants.{WantMemory}
 use Rattle.cdr_core.specs.Kind.{Text, ULong, Octets}
 use Rattle.cdr_core.specs.Field.{Field, ulong, octets, text}
 use Rattle.cdr_core.specs.Cursor.{Cursor, Reads}

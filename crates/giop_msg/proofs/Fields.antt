@@ -1,10 +1,10 @@
 -- Fields that are read one behind the other: there is one reading of given kinds, and none through a refused field.
-use Rattle.std.proofs.Common.{◌≡◌, ◌≢◌, inl, inr, List, [], ◌∷◌, ◌++◌, length, refl, sym, ap, ◌∙◌, subst}
+use Rattle.std.proofs.Common.{◌≡◌, ◌≢◌, inl, inr, List, [], ◌∷◌, ◌++◌, refl, sym, ap, ◌∙◌, subst}
 use Rattle.cdr_core.specs.declared.CdrFault.{CdrFault}
 use Rattle.cdr_core.specs.declared.CdrFault.TheVariants.{WantMemory}
 use Rattle.cdr_core.specs.Kind.{Kind, Octet, UShort, ULong, LongLong, Boolean, Text, Octets}
 use Rattle.cdr_core.specs.Field.{Field, kind_of}
-use Rattle.cdr_core.specs.Cursor.{Cursor, Reads}
+use Rattle.cdr_core.specs.Cursor.{Cursor}
 use Rattle.cdr_core.specs.Refusal.{Refuses}
 use Rattle.cdr_core.proofs.OneReading.{one_reading}
 use Rattle.cdr_core.proofs.Refusals.{none_where_refused}

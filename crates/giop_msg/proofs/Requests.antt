@@ -1,8 +1,7 @@
 -- The parts of a Request, each read where the one before it ends.
-use Rattle.std.proofs.Common.{◌≡◌, ◌≢◌, ℕ, ◌≤◌, Bool, false, List, [], ◌∷◌, Option, length, drop, refl, sym, ap, ◌∙◌, subst, ◌⊎◌, inl, inr}
+use Rattle.std.proofs.Common.{◌≡◌, ℕ, ◌≤◌, Bool, false, List, Option, length, drop, refl, ap, ◌∙◌, subst, ◌⊎◌, inl, inr}
 use Rattle.cdr_core.specs.declared.CdrFault.{CdrFault}
 use Rattle.cdr_core.specs.declared.CdrFault.TheVariants.{Short, BadBool, NoNul, WantMemory}
-use Rattle.cdr_core.specs.Field.{octet, ulong}
 use Rattle.cdr_core.specs.Cursor.{Cursor}
 use Rattle.poa_base.specs.declared.Body.{Body}
 use Rattle.poa_base.specs.declared.Call.{Call}
@@ -18,7 +17,6 @@ use Rattle.giop_msg.specs.Request.{opening_fields, closing_fields, body_at, requ
 use Rattle.giop_msg.specs.Call.{MakesCall}
 use Rattle.giop_msg.specs.Reading.{fault_of, TargetFault, RequestFault}
 use Rattle.giop_msg.proofs.Fields.{one_reading_of_all}
-use Rattle.giop_msg.proofs.Contexts.{one_closing}
 use Rattle.giop_msg.proofs.Targets.{one_target, no_later_target}
 use Rattle.giop_msg.proofs.Places.{IsWithin, start_within, fields_within, by_place}
 

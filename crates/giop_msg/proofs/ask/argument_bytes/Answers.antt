@@ -1,5 +1,5 @@
 -- The padding and then the argument.
-use Rattle.std.proofs.Common.{◌≡◌, ℕ, ◌+◌, List, ap, ap₂, ◌++◌, ◌∙◌, add-zero, arith}
+use Rattle.std.proofs.Common.{ℕ, ◌+◌, List, ap, ap₂, ◌++◌, ◌∙◌, add-zero, arith}
 use Rattle.std.proofs.lemmas.List.{take-replicate}
 use Rattle.cdr_core.specs.Spelling.{gap, written}
 use Rattle.cdr_core.specs.Draft.{Draft, with_field}

@@ -1,5 +1,5 @@
 -- Each exit but the last is at a field that can't be read.
-use Rattle.std.proofs.Common.{◌≡◌, ℕ, List, [], ◌∷◌, refl}
+use Rattle.std.proofs.Common.{[], ◌∷◌, refl}
 use Rattle.std.proofs.lemmas.Result.{err_from_is_err_and}
 use Rattle.cdr_core.specs.Kind.{Octet}
 use Rattle.cdr_core.specs.Field.{ulong, octet}
