@@ -1,17 +1,16 @@
 -- What a framer gives, before and behind a part, and at a bad place.
-use Rattle.std.proofs.Common.{◌≡◌, ◌↔◌, ℕ, ◌+◌, ◌<◌, ◌≤◌, Option, Some, None, List, [], ◌∷◌, ◌++◌, length, take, drop, refl, ap, subst, ◌∙◌, sym, arith, MatchOption, append_assoc, length-drop}
+use Rattle.std.proofs.Common.{◌≡◌, ◌↔◌, ℕ, ◌<◌, Option, Some, None, List, [], ◌∷◌, ◌++◌, length, take, drop, ap, subst, ◌∙◌, sym, arith, MatchOption, append_assoc, length-drop}
 use Rattle.std.proofs.lemmas.List.{take-append-drop, length-take-le}
-use Rattle.giop_frame.specs.declared.rules.Look.TheVariants.{Unfinished, Whole, Bad}
+use Rattle.giop_frame.specs.declared.rules.Look.TheVariants.{Whole, Bad}
 use Rattle.giop_frame.specs.declared.why.Why.{Why}
 use Rattle.giop_frame.specs.declared.next.Next.{Next}
 use Rattle.giop_frame.specs.declared.next.Next.TheVariants as answer
-use Rattle.giop_frame.specs.Open.{taken_bytes}
 use Rattle.giop_frame.specs.Rules.{look_at}
-use Rattle.giop_frame.specs.Stream.{Framed, Reading, End, left_over, bad_place, after, completed, StreamFrom}
+use Rattle.giop_frame.specs.Stream.{Framed, End, bad_place, after, completed, StreamFrom}
 use Rattle.giop_frame.specs.Framing.{Framing}
 use Rattle.giop_frame.specs.Framer.{Gives, GiveTheSame, Answers, TakesPart, JoinsPart, reach}
-use Rattle.giop_frame.proofs.Looking.{IsWhole, whole_from_look, look_from_whole, whole_front}
-use Rattle.giop_frame.proofs.Streams.{stream_put, stream_behind, Behind, one_stream, bad_stream, unfinished_stream}
+use Rattle.giop_frame.proofs.Looking.{whole_from_look, look_from_whole, whole_front}
+use Rattle.giop_frame.proofs.Streams.{stream_put, stream_behind, one_stream, bad_stream}
 
 -- what a framer gives that hasn't met a bad place
 pub stream_given : (f : Framing) (text : List ℕ) (messages : List Framed) (end : End) → f.closed ≡ None

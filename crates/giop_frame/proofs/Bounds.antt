@@ -1,5 +1,5 @@
 -- A good part keeps the open messages together within their limit.
-use Rattle.std.proofs.Common.{◌≡◌, ℕ, ◌+◌, ◌-◌, ◌<◌, ◌≤◌, Bool, true, false, Option, Some, None, List, length, refl, ap, subst, ◌∙◌, sym, arith, ⊎_elim}
+use Rattle.std.proofs.Common.{◌≡◌, ℕ, ◌+◌, ◌-◌, ◌≤◌, true, false, Option, Some, None, List, length, refl, arith, ⊎_elim}
 use Rattle.std.proofs.lemmas.Bool.{cases_Bool}
 use Rattle.std.proofs.lemmas.Bool.Decides.{nat_tests}
 use Rattle.std.specs.Ordering.{nat_cmp}
@@ -14,7 +14,7 @@ use Rattle.giop_frame.specs.Open.{Open, Opens, at_id, find_open, opened_by, join
 use Rattle.giop_frame.specs.Rules.{foreign_fault, size_fault, fragment_fault, id_fault}
 use Rattle.giop_frame.specs.Stream.{Reading, open_after}
 use Rattle.giop_frame.proofs.Looking.{IsWhole, second_none}
-use Rattle.giop_frame.proofs.Sums.{weight, weight-open, open_bytes-join, taken_bytes-join}
+use Rattle.giop_frame.proofs.Sums.{weight-open, open_bytes-join, taken_bytes-join}
 
 fragment_sum : (limit : ℕ) (pending : Opens) (h : Header) (found : Option Open) → fragment_fault limit pending h found ≡ None → open_bytes pending + (h.size - 4) ≤ OPEN_LIMIT
 fragment_sum limit pending h None e = grind (arith, nat_tests)

@@ -1,5 +1,5 @@
 -- What closing an open message leaves, and what it takes out.
-use Rattle.std.proofs.Common.{◌≡◌, ℕ, Bool, true, false, cond, Option, Some, None, List, [], ◌∷◌, refl, ⊎_elim, ap, ◌∙◌, sym, IsSome, IfSome, option_map}
+use Rattle.std.proofs.Common.{◌≡◌, ℕ, Bool, true, false, Option, Some, None, List, [], ◌∷◌, refl, ⊎_elim, ap, ◌∙◌, sym, IsSome, IfSome, option_map}
 use Rattle.std.proofs.lemmas.Bool.{cases_Bool}
 use Rattle.std.specs.Map.{lookup, set_value, remove_entry}
 use Rattle.giop_frame.specs.Open.{Open, Opens, at_id, find_open, joined}

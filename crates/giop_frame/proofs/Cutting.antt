@@ -1,5 +1,5 @@
 -- What the calls of a framer say together: a run over pieces keeps `HasGiven`, and ends in the stream.
-use Rattle.std.proofs.Common.{◌≡◌, ◌↔◌, ℕ, List, [], ◌∷◌, ◌++◌, subst, sym, append_assoc, append-nil}
+use Rattle.std.proofs.Common.{◌↔◌, ℕ, List, [], ◌∷◌, ◌++◌, subst, sym, append_assoc, append-nil}
 use Rattle.giop_frame.specs.declared.why.Why.{Why}
 use Rattle.giop_frame.specs.declared.next.Next.TheVariants as answer
 use Rattle.giop_frame.specs.Stream.{Framed, End, left_over, bad_place, Stream}

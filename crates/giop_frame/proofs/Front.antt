@@ -1,9 +1,8 @@
 -- A part's front says the same of it, whatever follows.
-use Rattle.std.proofs.Common.{◌≡◌, ℕ, ◌+◌, ◌<◌, ◌≤◌, Bool, true, false, ◌&&◌, ◌||◌, ⊎_elim, cond, Option, Some, None, List, [], ◌∷◌, ◌++◌, length, take, slice_index, refl, ap, ap₂, ◌∙◌, sym, arith, rules, bytes_eq, codes, not, bit_and, nat_eq}
+use Rattle.std.proofs.Common.{◌≡◌, ℕ, ◌+◌, ◌<◌, ◌≤◌, Bool, true, false, ◌&&◌, ◌||◌, ⊎_elim, cond, Option, Some, None, List, ◌++◌, length, slice_index, refl, ap, sym, arith, bit_and, nat_eq}
 use Rattle.std.proofs.lemmas.List.{get_or_append_left, take-append-le}
 use Rattle.std.proofs.lemmas.Bool.{false≢true, cases_Bool}
 use Rattle.std.specs.Option.{is_some}
-use Rattle.giop_frame.specs.declared.header.Header.{Header}
 use Rattle.giop_frame.specs.declared.why.Why.{Why}
 use Rattle.giop_frame.specs.declared.why.Why.TheVariants.{BadFragment}
 use Rattle.giop_frame.specs.Part.{header_of, is_little, id_of, ulong_at, opens, continues, id_end}

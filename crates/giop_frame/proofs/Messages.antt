@@ -1,12 +1,12 @@
 -- A whole part that is no Fragment is a message, or begins one.
-use Rattle.std.proofs.Common.{◌≡◌, ◌≢◌, ℕ, ◌+◌, ◌<◌, ◌≤◌, Bool, true, false, ◌&&◌, not, cond, Option, Some, None, List, length, take, slice_index, bytes_eq, codes, nat_eq, nat_lt, refl, ap, ◌∙◌, sym, arith}
+use Rattle.std.proofs.Common.{◌≡◌, ◌≢◌, ℕ, ◌≤◌, Bool, true, false, ◌&&◌, not, cond, Option, Some, None, List, take, slice_index, bytes_eq, codes, nat_eq, nat_lt, refl, ◌∙◌, arith}
 use Rattle.std.proofs.lemmas.Bool.{eqb-true, eqb-false, ltb-false}
 use Rattle.std.proofs.lemmas.Slice.Eq.{bytes_eq-Decides}
 use Rattle.giop_frame.specs.declared.why.Why.{Why}
 use Rattle.giop_frame.specs.declared.why.Why.TheVariants.{BadMagic, BadVersion, BadType}
 use Rattle.giop_frame.specs.Part.{header_of, continues}
 use Rattle.giop_frame.specs.Open.{Opens}
-use Rattle.giop_frame.specs.Rules.{foreign_fault, header_fault, size_fault}
+use Rattle.giop_frame.specs.Rules.{foreign_fault, size_fault}
 use Rattle.giop_frame.specs.Message.{IsMessage}
 use Rattle.giop_frame.proofs.Looking.{IsWhole, first_none}
 

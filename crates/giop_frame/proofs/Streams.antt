@@ -1,16 +1,15 @@
 -- Streams of texts: a whole part in front, and that each text has one stream.
-use Rattle.std.proofs.Common.{◌≡◌, ◌≢◌, ◌↔◌, ℕ, ◌+◌, ◌-◌, ◌<◌, ◌≤◌, zero, suc, Option, Some, None, List, [], ◌∷◌, ◌++◌, length, take, drop, refl, ap, subst, ◌∙◌, sym, arith, length-append, length-drop, append_assoc}
+use Rattle.std.proofs.Common.{◌≡◌, ◌≢◌, ℕ, ◌+◌, ◌≤◌, zero, suc, List, [], ◌∷◌, ◌++◌, length, take, drop, refl, ap, subst, ◌∙◌, sym, arith, length-drop, append_assoc}
 use Rattle.std.specs.List.{concat}
 use Rattle.std.proofs.lemmas.List.{take-append-drop, length-take-le}
 use Rattle.std.proofs.Math.Seq.{take-append_seam, drop-append_seam}
 use Rattle.giop_frame.specs.declared.rules.Look.{Look}
 use Rattle.giop_frame.specs.declared.rules.Look.TheVariants.{Unfinished, Whole, Bad}
 use Rattle.giop_frame.specs.declared.why.Why.{Why}
-use Rattle.giop_frame.specs.Part.{header_of}
-use Rattle.giop_frame.specs.Open.{Opens, taken_bytes}
+use Rattle.giop_frame.specs.Open.{taken_bytes}
 use Rattle.giop_frame.specs.Rules.{look_at}
-use Rattle.giop_frame.specs.Stream.{Framed, Reading, End, left_over, bad_place, after, after_all, completed, messages_of, AreGood, Ends, StreamFrom, Stream, OneStream, start}
-use Rattle.giop_frame.proofs.Looking.{IsWhole, whole_from_look, look_from_whole, whole_more, whole_front, bad_more, whole_size, whole≢unfinished, whole≢bad}
+use Rattle.giop_frame.specs.Stream.{Framed, Reading, End, left_over, bad_place, after, after_all, completed, messages_of, AreGood, Ends, StreamFrom, OneStream, start}
+use Rattle.giop_frame.proofs.Looking.{whole_from_look, look_from_whole, whole_more, whole_front, bad_more, whole_size, whole≢unfinished, whole≢bad}
 
 -- a text that begins with a good part p
 good_front : (limit : ℕ) (r : Reading) (p rest : List ℕ) → look_at limit r.pending p ≡ Whole (length p) → look_at limit r.pending (p ++ rest) ≡ Whole (length p)

@@ -8,7 +8,7 @@ use Rattle.std.specs.Map.{set_value, remove_entry, values_of}
 use Rattle.std.specs.Option.{option_map, unwrap_or}
 use Rattle.std.proofs.lemmas.List.Sums.{sum_by-cons}
 use Rattle.std.proofs.lemmas.Map.Entries.{sum_by-set_value, sum_by-remove_entry}
-use Rattle.giop_frame.specs.Open.{Open, Opens, at_id, find_open, joined, opened_by, open_bytes, taken_bytes}
+use Rattle.giop_frame.specs.Open.{Open, Opens, at_id, find_open, joined, open_bytes, taken_bytes}
 
 -- a sum of what each open message weighs
 abbrev pub weight : (Open → ℕ) → Opens → ℕ

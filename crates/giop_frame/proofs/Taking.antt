@@ -1,5 +1,5 @@
 -- A framer whose unread bytes begin with a whole part.
-use Rattle.std.proofs.Common.{◌≡◌, ℕ, List, subst, sym}
+use Rattle.std.proofs.Common.{◌≡◌, ℕ, subst, sym}
 use Rattle.giop_frame.specs.declared.rules.Look.{Look}
 use Rattle.giop_frame.specs.declared.rules.Look.TheVariants.{Whole}
 use Rattle.giop_frame.specs.Rules.{look_at}

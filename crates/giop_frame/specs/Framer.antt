@@ -1,9 +1,8 @@
 -- What a framer still gives.
-use Rattle.std.specs.Prelude.{◌≡◌, ◌↔◌, ℕ, ◌+◌, ◌<◌, List, [], ◌∷◌, ◌++◌, Option, None, MatchOption, length, take, drop}
-use Rattle.giop_frame.specs.declared.why.Why.{Why}
+use Rattle.std.specs.Prelude.{◌≡◌, ◌↔◌, ℕ, ◌+◌, ◌<◌, List, [], ◌∷◌, ◌++◌, None, MatchOption, length, take, drop}
 use Rattle.giop_frame.specs.declared.next.Next.{Next}
 use Rattle.giop_frame.specs.declared.next.Next.TheVariants as answer
-use Rattle.giop_frame.specs.Stream.{Framed, Reading, End, left_over, bad_place, after, completed, StreamFrom, Stream}
+use Rattle.giop_frame.specs.Stream.{Framed, End, left_over, bad_place, after, completed, StreamFrom, Stream}
 use Rattle.giop_frame.specs.Framing.{Framing}
 
 -- fed this text from here on, the framer gives these messages, and then says that this is the end

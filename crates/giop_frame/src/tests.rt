@@ -7,7 +7,7 @@ use crate::laws::each_text_has_one_stream;
 use crate::message::Message;
 use crate::next::Next;
 use crate::why::Why;
-use poa_base::{Bytes, WantMemory};
+use poa_base::WantMemory;
 use std::alloc::Global;
 use std::test::Fail;
 
@@ -66,13 +66,28 @@ fn put_part(
     text.extend_from_slice(filling)
 }
 
-/// Why the text is bad at its front.
-fn why(alloc: Global, text: &[u8]) -> Result<Option<Why>, WantMemory>
-    requires { length text.now < 2 ^ 40 }
-{
-    match frame(alloc, LIMIT, &[text])?.last {
-        Next::Bad { at: 0, why } => Ok(Some(why)),
-        _ => Ok(None),
+/// Whether these are the messages, by their places and bytes.
+fn gives(frames: &Frames, messages: &[(u64, &[u8])]) -> bool {
+    let mut same = frames.messages.len() == messages.len();
+    for (message, (at, bytes)) in frames.messages.iter().zip(messages) {
+        same = same && message.at() == *at && message.bytes() == *bytes;
+    }
+    same
+}
+
+/// Whether the text ends with so many bytes of no message.
+fn leaves(frames: &Frames, count: u64) -> bool {
+    match frames.last {
+        Next::NeedMore { have } => have == count,
+        _ => false,
+    }
+}
+
+/// Whether this place is bad for this reason.
+fn fails(frames: &Frames, place: u64, reason: Why) -> bool {
+    match frames.last {
+        Next::Bad { at, why } => at == place && why == reason,
+        _ => false,
     }
 }
 
@@ -82,49 +97,26 @@ fn gives_two_requests_cut_after_every_byte(rt: HostRuntime) -> Result<(), Fail> 
     text.extend_from_slice(GET)?;
     assert_eq!(rt; text.len(), 136);
     let frames = frame_bytewise(rt.alloc(), text.as_slice())?;
-    assert_eq!(rt; frames.messages.len(), 2);
-    assert_eq!(rt; frames.messages[0].bytes(), ADD);
-    assert_eq!(rt; frames.messages[0].at(), 0);
-    assert_eq!(rt; frames.messages[1].bytes(), GET);
-    assert_eq!(rt; frames.messages[1].at(), 72);
-    assert!(rt; matches!(frames.last, Next::NeedMore { have: 0 }));
+    assert!(rt; gives(&frames, &[(0, ADD), (72, GET)]));
+    assert!(rt; leaves(&frames, 0));
     Ok(())
 }
 
 #[test]
 fn joins_three_parts_with_a_request_between(rt: HostRuntime) -> Result<(), Fail> {
+    let mut joined = Vec::from_slice(rt.alloc(), &FIRST[..12])?;
+    joined.extend_from_slice(&ADD[12..])?;
     let frames = frame(rt.alloc(), LIMIT, &[FIRST, GET, MIDDLE, LAST])?;
-    assert_eq!(rt; frames.messages.len(), 2);
-    assert_eq!(rt; frames.messages[0].bytes(), GET);
-    assert_eq!(rt; frames.messages[0].at(), 32);
-    let joined = frames.messages[1].bytes();
-    assert_eq!(rt; joined.len(), 72);
-    assert_eq!(rt; &joined[..12], &FIRST[..12]);
-    assert_eq!(rt; &joined[12..], &ADD[12..]);
-    assert_eq!(rt; frames.messages[1].at(), 0);
+    assert!(rt; gives(&frames, &[(32, GET), (0, joined.as_slice())]));
+    assert!(rt; leaves(&frames, 0));
     Ok(())
 }
 
 #[test]
 fn counts_what_belongs_to_no_message(rt: HostRuntime) -> Result<(), Fail> {
-    assert!(rt;
-        matches!(
-            frame(rt.alloc(), LIMIT, &[])?.last,
-            Next::NeedMore { have: 0 }
-        )
-    );
-    assert!(rt;
-        matches!(
-            frame(rt.alloc(), LIMIT, &[&ADD[..11]])?.last,
-            Next::NeedMore { have: 11 }
-        )
-    );
-    assert!(rt;
-        matches!(
-            frame(rt.alloc(), LIMIT, &[FIRST, GET, MIDDLE, &LAST[..12]])?.last,
-            Next::NeedMore { have: 84 }
-        )
-    );
+    assert!(rt; leaves(&frame(rt.alloc(), LIMIT, &[])?, 0));
+    assert!(rt; leaves(&frame(rt.alloc(), LIMIT, &[&ADD[..11]])?, 11));
+    assert!(rt; leaves(&frame(rt.alloc(), LIMIT, &[FIRST, GET, MIDDLE])?, 72));
     Ok(())
 }
 
@@ -133,20 +125,12 @@ fn takes_a_message_of_the_limit_and_refuses_one_byte_more(rt: HostRuntime) -> Re
     let mut text = Vec::new(rt.alloc());
     let filling = vec![in rt.alloc(); 0u8; 1_048_572]?;
     put_part(&mut text, 1, 0, 1, filling.as_slice())?;
+    let message = text.clone()?;
     text.extend_from_slice(&header(1, 0, 1_048_577))?;
-    assert!(rt; text.len() < 2_000_000);
-    let frames = frame(rt.alloc(), LIMIT, &[text.as_slice()])?;
-    assert_eq!(rt; frames.messages.len(), 1);
-    assert_eq!(rt; frames.messages[0].bytes().len(), 1_048_588);
-    assert!(rt;
-        matches!(
-            frames.last,
-            Next::Bad {
-                at: 1_048_588,
-                why: Why::TooLong
-            }
-        )
-    );
+    assert_eq!(rt; text.len(), 1_048_600);
+    let frames = frame_bytewise(rt.alloc(), text.as_slice())?;
+    assert!(rt; gives(&frames, &[(0, message.as_slice())]));
+    assert!(rt; fails(&frames, 1_048_588, Why::TooLong));
     Ok(())
 }
 
@@ -159,16 +143,8 @@ fn refuses_the_seventeenth_open_message_of_a_million_bytes(rt: HostRuntime) -> R
     }
     assert_eq!(rt; text.len(), 17_000_204);
     let frames = frame(rt.alloc(), LIMIT, &[text.as_slice()])?;
-    assert_eq!(rt; frames.messages.len(), 0);
-    assert!(rt;
-        matches!(
-            frames.last,
-            Next::Bad {
-                at: 16_000_192,
-                why: Why::TooLong
-            }
-        )
-    );
+    assert!(rt; gives(&frames, &[]));
+    assert!(rt; fails(&frames, 16_000_192, Why::TooLong));
     Ok(())
 }
 
@@ -180,16 +156,7 @@ fn opens_a_million_messages_and_refuses_one_more(rt: HostRuntime) -> Result<(), 
     }
     assert_eq!(rt; text.len(), 16_777_232);
     let frames = frame(rt.alloc(), LIMIT, &[text.as_slice()])?;
-    assert_eq!(rt; frames.messages.len(), 0);
-    assert!(rt;
-        matches!(
-            frames.last,
-            Next::Bad {
-                at: 16_777_216,
-                why: Why::TooLong
-            }
-        )
-    );
+    assert!(rt; fails(&frames, 16_777_216, Why::TooLong));
     Ok(())
 }
 
@@ -203,103 +170,50 @@ fn joins_a_hundred_thousand_empty_fragments(rt: HostRuntime) -> Result<(), Fail>
     put_part(&mut text, 1, 7, 9, b"end")?;
     assert_eq!(rt; text.len(), 1_600_035);
     let frames = frame(rt.alloc(), LIMIT, &[text.as_slice()])?;
-    assert_eq!(rt; frames.messages.len(), 1);
-    assert_eq!(rt;
-        &frames.messages[0].bytes()[12..],
-        b"\x09\x00\x00\x00end".as_slice()
-    );
-    assert!(rt; matches!(frames.last, Next::NeedMore { have: 0 }));
-    Ok(())
-}
-
-#[test]
-fn gives_a_long_message_fed_byte_by_byte(rt: HostRuntime) -> Result<(), Fail> {
-    let mut text = Vec::new(rt.alloc());
-    let filling = vec![in rt.alloc(); 7u8; 1_048_572]?;
-    put_part(&mut text, 1, 0, 1, filling.as_slice())?;
-    assert!(rt; text.len() < 2_000_000);
-    let frames = frame_bytewise(rt.alloc(), text.as_slice())?;
-    assert_eq!(rt; frames.messages.len(), 1);
-    assert_eq!(rt; frames.messages[0].bytes(), text.as_slice());
+    let joined = b"GIOP\x01\x02\x03\x00\x04\x00\x00\x00\x09\x00\x00\x00end";
+    assert!(rt; gives(&frames, &[(0, joined)]));
     Ok(())
 }
 
 #[test]
 fn tells_why_a_header_is_bad(rt: HostRuntime) -> Result<(), Fail> {
-    let alloc = rt.alloc();
-    assert_eq!(rt;
-        why(alloc, b"GIOQ\x01\x02\x01\x00\x00\x00\x00\x00")?,
-        Some(Why::BadMagic)
-    );
-    assert_eq!(rt;
-        why(alloc, b"GIOP\x01\x01\x01\x00\x00\x00\x00\x00")?,
-        Some(Why::BadVersion)
-    );
-    assert_eq!(rt; why(alloc, &header(1, 8, 0))?, Some(Why::BadType));
-    assert_eq!(rt; why(alloc, &header(3, 1, 1_048_577))?, Some(Why::TooLong));
-    assert_eq!(rt; why(alloc, &header(1, 7, 4))?, Some(Why::StrayFragment));
-    assert_eq!(rt; why(alloc, &header(3, 1, 4))?, Some(Why::BadFragment));
-    assert_eq!(rt; why(alloc, &header(3, 0, 3))?, Some(Why::BadFragment));
-    assert_eq!(rt; why(alloc, b"GIOP\x01\x02\x01\x00\x00\x00\x00")?, None);
+    let cases = [
+        (b"GIOQ\x01\x02\x01\x00\x00\x00\x00\x00", Why::BadMagic),
+        (b"GIOP\x01\x01\x01\x00\x00\x00\x00\x00", Why::BadVersion),
+        (b"GIOP\x01\x02\x01\x08\x00\x00\x00\x00", Why::BadType),
+        (b"GIOP\x01\x02\x03\x01\x01\x00\x10\x00", Why::TooLong),
+        (b"GIOP\x01\x02\x01\x07\x04\x00\x00\x00", Why::StrayFragment),
+        (b"GIOP\x01\x02\x03\x01\x04\x00\x00\x00", Why::BadFragment),
+        (b"GIOP\x01\x02\x03\x00\x03\x00\x00\x00", Why::BadFragment),
+    ];
+    for (text, why) in cases {
+        assert!(rt; fails(&frame(rt.alloc(), LIMIT, &[text.as_slice()])?, 0, why));
+    }
     Ok(())
 }
 
 #[test]
-fn tells_why_a_fragment_or_a_start_is_bad_by_its_id(rt: HostRuntime) -> Result<(), Fail> {
+fn tells_why_a_part_is_bad_by_its_id(rt: HostRuntime) -> Result<(), Fail> {
     let alloc = rt.alloc();
-    let stray = frame(
-        alloc,
-        LIMIT,
-        &[FIRST, &header(1, 7, 4), b"\x02\x00\x00\x00"],
-    )?;
+    let stray = b"GIOP\x01\x02\x01\x07\x04\x00\x00\x00\x02\x00\x00\x00";
+    let other_order = b"GIOP\x01\x02\x00\x07\x00\x00\x00\x04\x00\x00\x00\x01";
+    assert!(rt; leaves(&frame(alloc, LIMIT, &[FIRST, &stray[..15]])?, 47));
     assert!(rt;
-        matches!(
-            stray.last,
-            Next::Bad {
-                at: 32,
-                why: Why::StrayFragment
-            }
+        fails(
+            &frame(alloc, LIMIT, &[FIRST, stray])?,
+            32,
+            Why::StrayFragment
         )
     );
-    let waits = frame(alloc, LIMIT, &[FIRST, &header(1, 7, 4), b"\x02\x00\x00"])?;
-    assert!(rt; matches!(waits.last, Next::NeedMore { have: 47 }));
-    let order = frame(
-        alloc,
-        LIMIT,
-        &[
-            FIRST,
-            b"GIOP\x01\x02\x00\x07\x00\x00\x00\x04\x00\x00\x00\x01",
-        ],
-    )?;
     assert!(rt;
-        matches!(
-            order.last,
-            Next::Bad {
-                at: 32,
-                why: Why::BadFragment
-            }
+        fails(
+            &frame(alloc, LIMIT, &[FIRST, other_order])?,
+            32,
+            Why::BadFragment
         )
     );
-    let twice = frame(alloc, LIMIT, &[FIRST, FIRST])?;
-    assert!(rt;
-        matches!(
-            twice.last,
-            Next::Bad {
-                at: 32,
-                why: Why::BadFragment
-            }
-        )
-    );
-    let long = frame(alloc, 24, &[FIRST, MIDDLE])?;
-    assert!(rt;
-        matches!(
-            long.last,
-            Next::Bad {
-                at: 32,
-                why: Why::TooLong
-            }
-        )
-    );
+    assert!(rt; fails(&frame(alloc, LIMIT, &[FIRST, FIRST])?, 32, Why::BadFragment));
+    assert!(rt; fails(&frame(alloc, 24, &[FIRST, MIDDLE])?, 32, Why::TooLong));
     Ok(())
 }
 
@@ -332,11 +246,9 @@ fn answers_the_same_bad_place_from_then_on(rt: HostRuntime) -> Result<(), Fail> 
 #[test]
 fn makes_a_message_and_gives_its_bytes(rt: HostRuntime) -> Result<(), Fail> {
     each_text_has_one_stream();
-    let frames = frame(rt.alloc(), LIMIT, &[GET])?;
-    for message in frames.messages {
-        let at = message.at();
-        assert_eq!(rt; message.bytes(), GET);
-        let again = Message::new(at, message.into_bytes());
+    for message in frame(rt.alloc(), LIMIT, &[GET])?.messages {
+        let again = Message::new(7, message.into_bytes());
+        assert_eq!(rt; again.at(), 7);
         assert_eq!(rt; again.into_bytes().as_slice(), GET);
     }
     Ok(())

@@ -1,4 +1,4 @@
-use Rattle.std.proofs.Common.{◌≡◌, false, length, sym, subst, ◌∙◌, ap, List, ℕ}
+use Rattle.std.proofs.Common.{◌≡◌, false, length, sym, subst, ◌∙◌}
 use Rattle.giop_frame.specs.Part.{header_of, continues}
 use Rattle.giop_frame.specs.Message.{IsMessage}
 use Rattle.giop_frame.proofs.Looking.{whole_from_look}

@@ -1,4 +1,4 @@
-use Rattle.std.proofs.Common.{◌≡◌, ◌++◌, ℕ, List, [], ◌∷◌, subst, sym, ◌∙◌}
+use Rattle.std.proofs.Common.{List, subst, sym, ◌∙◌}
 use Rattle.giop_frame.specs.declared.next.Next.{Next}
 use Rattle.giop_frame.specs.Stream.{Framed}
 use Rattle.giop_frame.specs.Framer.{HasGiven, Answers}

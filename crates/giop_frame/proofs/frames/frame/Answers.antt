@@ -1,8 +1,8 @@
-use Rattle.std.proofs.Common.{◌≡◌, ◌+◌, ◌<◌, ◌≤◌, ◌++◌, ℕ, List, [], length, get_or, take, ap, subst, sym, ◌∙◌, arith, length-append}
+use Rattle.std.proofs.Common.{◌≡◌, ◌+◌, ◌<◌, ◌++◌, ℕ, List, [], length, get_or, take, ap, subst, sym, ◌∙◌, arith, length-append}
 use Rattle.std.specs.Borrow.{Bor}
 use Rattle.std.proofs.lemmas.List.{take_more, flat_map_more}
 use Rattle.std.proofs.lemmas.List.Folds.{length-flat_map-take}
-use Rattle.giop_frame.specs.Framer.{HasGiven, reach}
+use Rattle.giop_frame.specs.Framer.{HasGiven}
 use Rattle.giop_frame.specs.Frames.{joined_pieces}
 use Rattle.giop_frame.proofs.Cutting.{given_fed}
 use Rattle.giop_frame.proofs.frames.frame.Goals as goal

@@ -1,4 +1,4 @@
-use Rattle.std.proofs.Common.{◌≡◌, ◌≤◌, take, length}
+use Rattle.std.proofs.Common.{◌≤◌, take, length}
 use Rattle.giop_frame.specs.Framer.{HasGiven, reach}
 use Rattle.giop_frame.specs.Frames.{joined_pieces}
 use Rattle.giop_frame.proofs.frames.frame.Given as goal

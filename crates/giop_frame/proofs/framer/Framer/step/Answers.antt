@@ -1,9 +1,8 @@
-use Rattle.std.proofs.Common.{◌≡◌, List, [], ◌∷◌, Option, Some, None, subst, sym, ◌∙◌, ap, rules, ℕ}
+use Rattle.std.proofs.Common.{[], ◌∷◌, Option, subst, sym, ◌∙◌, ap}
 use Rattle.std.specs.Option.{option_to_list}
 use Rattle.giop_frame.specs.declared.rules.Look.TheVariants.{Whole, Bad}
 use Rattle.giop_frame.specs.Rules.{look_at}
 use Rattle.giop_frame.specs.Stream.{Framed}
-use Rattle.giop_frame.specs.Framing.{Framing}
 use Rattle.giop_frame.specs.Framer.{TakesPart}
 use Rattle.giop_frame.proofs.Taking.{seen_in_front}
 use Rattle.giop_frame.proofs.Answering.{taken_gives, taken_shorter, joins_part, closed_answers}

@@ -1,10 +1,9 @@
-use Rattle.std.proofs.Common.{◌≡◌, ℕ, ◌+◌, ◌<◌, ◌≤◌, List, length, take, drop, ap, subst, ◌∙◌, sym, arith, length-drop}
+use Rattle.std.proofs.Common.{◌≡◌, ℕ, ◌+◌, ◌≤◌, List, length, take, ap, subst, ◌∙◌, sym, arith, length-drop}
 use Rattle.std.proofs.lemmas.List.{length-take-le}
 use Rattle.std.specs.Option.{option_to_list}
 use Rattle.giop_frame.specs.declared.rules.Look.TheVariants.{Whole}
 use Rattle.giop_frame.specs.Open.{Opens, open_bytes, taken_bytes}
-use Rattle.giop_frame.specs.Rules.{look_at}
-use Rattle.giop_frame.specs.Stream.{Reading, after, open_after, completed}
+use Rattle.giop_frame.specs.Stream.{Reading, open_after, completed}
 use Rattle.giop_frame.specs.Framing.{Framing}
 use Rattle.giop_frame.specs.Framer.{TakesPart}
 use Rattle.giop_frame.proofs.Looking.{IsWhole, look_from_whole, whole_front}

@@ -1,5 +1,5 @@
-use Rattle.std.proofs.Common.{◌≡◌, None, Some, ◌∙◌, ap, sym, option_map}
-use Rattle.giop_frame.proofs.Closing.{IsJoined, framed, joined_from}
+use Rattle.std.proofs.Common.{Some, ◌∙◌, ap, option_map}
+use Rattle.giop_frame.proofs.Closing.{framed, joined_from}
 use Rattle.giop_frame.proofs.open_messages.OpenMessages.close.Goals as goal
 
 pub returns-in-Some-clause-message : goal.returns-in-Some-clause-message

@@ -1,4 +1,4 @@
-use Rattle.std.proofs.Common.{◌≡◌, ◌+◌, ◌-◌, ◌≤◌, Some, length, ap, ◌∙◌, sym, arith, rules}
+use Rattle.std.proofs.Common.{◌≡◌, Some, length, ap, arith, rules}
 use Rattle.std.specs.Map.{remove_entry}
 use Rattle.giop_frame.specs.Open.{at_id, find_open, open_bytes, taken_bytes}
 use Rattle.giop_frame.proofs.Sums.{weight-close}

@@ -1,0 +1,11 @@
+pub mod Fields
+pub mod Contexts
+pub mod Targets
+pub mod Places
+pub mod Requests
+pub mod Calls
+pub mod Messages
+pub mod Written
+pub mod Headers
+pub mod Asking
+pub mod Answering

@@ -1,0 +1,25 @@
+-- System exceptions: CORBA 3.3 Part 1, A.5, and Part 2, 9.4.3.2.
+use Rattle.std.specs.Prelude.{ℕ, ◌==◌, if◌then◌else◌, List, [], ◌∷◌, codes}
+use Rattle.cdr_core.specs.Field.{Field, ulong, text}
+use Rattle.poa_base.specs.declared.ExcName.{ExcName}
+use Rattle.poa_base.specs.declared.ExcName.TheVariants.{ObjectNotExist, Transient, ObjAdapter, BadOperation, Marshal, Unknown}
+use Rattle.poa_base.specs.declared.SysExc.{SysExc}
+use Rattle.giop_msg.specs.declared.exception.TheConstants.{FAULT_SERVANT, COMPLETED_NO, COMPLETED_MAYBE}
+
+-- the repository id of an exception
+abbrev pub exception_id : ExcName → List ℕ
+exception_id ObjectNotExist = codes "IDL:omg.org/CORBA/OBJECT_NOT_EXIST:1.0"
+exception_id Transient = codes "IDL:omg.org/CORBA/TRANSIENT:1.0"
+exception_id ObjAdapter = codes "IDL:omg.org/CORBA/OBJ_ADAPTER:1.0"
+exception_id BadOperation = codes "IDL:omg.org/CORBA/BAD_OPERATION:1.0"
+exception_id Marshal = codes "IDL:omg.org/CORBA/MARSHAL:1.0"
+exception_id Unknown = codes "IDL:omg.org/CORBA/UNKNOWN:1.0"
+
+-- the completion that is told follows from the minor code alone: what a fault servant raises may have happened
+abbrev pub completion_of : ℕ → ℕ
+completion_of minor = if minor == FAULT_SERVANT then COMPLETED_MAYBE else COMPLETED_NO
+
+-- the body of a system exception
+abbrev pub exception_fields : SysExc → List Field
+exception_fields raised =
+    text (exception_id raised.name) ∷ ulong raised.minor ∷ ulong (completion_of raised.minor) ∷ []

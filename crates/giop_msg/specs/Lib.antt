@@ -1,0 +1,11 @@
+pub mod Fields
+pub mod Header
+pub mod Target
+pub mod Request
+pub mod Call
+pub mod Reading
+pub mod Outgoing
+pub mod Exception
+pub mod Reply
+pub mod Ask
+pub mod Laws

@@ -1,0 +1,56 @@
+//! Why a message asks nothing.
+use cdr_core::CdrFault;
+use std::alloc::AllocError;
+use std::error::Error;
+use std::fmt;
+
+/// Why a message asks nothing of a server.
+#[derive(Clone, Copy, Debug, PartialEq, Eq)]
+pub enum MsgFault {
+    /// The fields of a Request, CancelRequest or LocateRequest can't be read.
+    Malformed,
+    /// A Reply, a LocateReply or a MessageError.
+    NotForServer,
+    /// A LocateRequest, or a Request whose target is told by a profile or by a reference: not read yet.
+    Unbuilt,
+    /// No memory was left for the call.
+    WantMemory,
+}
+
+impl From<AllocError> for MsgFault {
+    ghost use Rattle.std.specs.Prelude.{◌≡◌};
+    ghost use Rattle.giop_msg.specs.declared.fault.MsgFault.TheVariants.{WantMemory};
+
+    ghost from_gives = { λ _ e. e ≡ WantMemory };
+
+    fn from(_refused: AllocError) -> MsgFault {
+        MsgFault::WantMemory
+    }
+}
+
+impl From<CdrFault> for MsgFault {
+    ghost use Rattle.std.specs.Prelude.{◌≡◌};
+    ghost use Rattle.giop_msg.specs.Reading.{fault_of};
+
+    ghost from_gives = { λ refused fault. fault ≡ fault_of refused };
+
+    fn from(refused: CdrFault) -> MsgFault {
+        match refused {
+            CdrFault::WantMemory => MsgFault::WantMemory,
+            _ => MsgFault::Malformed,
+        }
+    }
+}
+
+impl fmt::Display for MsgFault {
+    fn fmt<W: fmt::Write>(&self, f: &mut fmt::Formatter<W>) -> fmt::Result {
+        match self {
+            MsgFault::Malformed => write!(f, "the message can't be read"),
+            MsgFault::NotForServer => write!(f, "the message isn't for a server"),
+            MsgFault::Unbuilt => write!(f, "the message isn't served yet"),
+            MsgFault::WantMemory => write!(f, "out of memory"),
+        }
+    }
+}
+
+impl Error for MsgFault {}

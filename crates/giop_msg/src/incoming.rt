@@ -1,0 +1,13 @@
+//! What a message asks of a server.
+use poa_base::Call;
+
+/// What a message asks.
+#[derive(Debug, Drop)]
+pub enum Incoming {
+    /// A Request.
+    Call(Call),
+    /// A CancelRequest, with the id of the request.
+    Cancel { id: u32 },
+    /// A CloseConnection.
+    Closing,
+}

@@ -1,0 +1,28 @@
+//! Messages of GIOP (CORBA 3.3 Part 2, 9.4): the call that a message makes, and the bytes of the messages that
+//! are written: replies, requests, and those that end a connection.
+#![tactic(auto)]
+
+mod ask;
+mod closing;
+mod exception;
+mod fault;
+mod field;
+mod incoming;
+mod kind;
+pub mod laws;
+mod outgoing;
+mod reading;
+mod reply;
+mod request;
+mod status;
+mod target;
+#[cfg(test)]
+mod tests;
+
+pub use ask::write_request;
+pub use closing::{write_closing, write_error};
+pub use fault::MsgFault;
+pub use incoming::Incoming;
+pub use poa_base::WantMemory;
+pub use reading::read_call;
+pub use reply::write_reply;

@@ -1,0 +1,30 @@
+//! Fields of any length.
+ghost use Rattle.std.specs.Prelude.{◌≡◌, ◌+◌, ◌^◌, ◌<◌, length, OnOk};
+ghost use Rattle.cdr_core.specs.Field.{text, octets};
+ghost use Rattle.cdr_core.specs.Draft.{with_field};
+
+use cdr_core::Writer;
+use poa_base::WantMemory;
+
+/// What a CDR writer takes as one field stays below this.
+const LIMIT: usize = 1 << 31;
+
+/// A string, where a CDR writer takes it.
+pub(crate) fn put_text(writer: &mut Writer, bytes: &[u8]) -> Result<(), WantMemory>
+    ensures { OnOk result (writer.new ≡ with_field (text bytes.now) writer.old) }
+{
+    if bytes.len() >= LIMIT {
+        return Err(WantMemory);
+    }
+    writer.text(bytes)
+}
+
+/// A sequence of octets, where a CDR writer takes it.
+pub(crate) fn put_octets(writer: &mut Writer, bytes: &[u8]) -> Result<(), WantMemory>
+    ensures { OnOk result (writer.new ≡ with_field (octets bytes.now) writer.old) }
+{
+    if bytes.len() >= LIMIT {
+        return Err(WantMemory);
+    }
+    writer.octets(bytes)
+}

@@ -1,0 +1,16 @@
+pub mod Members
+pub mod Leading
+pub mod TreeKept
+pub mod SoundKept
+pub mod SettledKept
+pub mod Finding
+pub mod WalkStands
+pub mod ChangeSound
+pub mod TurnIs
+pub mod TableTells
+pub mod VerdictMoves
+pub mod CommandMoves
+pub mod TrialMoves
+pub mod IdsMade
+pub mod StepMoves
+pub mod LegalSound

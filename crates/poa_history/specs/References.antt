@@ -1,0 +1,22 @@
+-- The reference of an object, as `reference` answers it and as the configured objects have it.
+use Rattle.std.specs.Prelude.{ℕ, List, [], ◌∷◌, Option, Some, None, slice_get, if◌then◌else◌}
+use Rattle.poa_base.specs.declared.Config.{Config}
+use Rattle.poa_base.specs.declared.Key.{Key}
+use Rattle.object_key.specs.Spelling.{key_spelling}
+use Rattle.iiop_profile.specs.Profile.{profile_of}
+use Rattle.ior_text.specs.Written.{ior_text}
+use Rattle.servant_kinds.specs.Object.{type_id_of}
+use Rattle.poa_history.specs.Templates.{policies_at, lasts}
+
+-- a persistent key has no stamp; a transient one has the run and the adapter's number (CORBA 3.3 Part 1, section 15.3.8)
+abbrev pub key_for : Config → ℕ → ℕ → List (List ℕ) → List ℕ → Key
+key_for c run k p oid = record { stamp = if lasts (policies_at c p) then None else Some (record { run = run; number = k }); path = p; oid = oid }
+
+-- the repository id of a configured servant's interface
+abbrev pub type_of : Config → ℕ → List ℕ
+type_of c servant = elim (slice_get c.servants servant) [ Some conf ↦ type_id_of conf.state | None ↦ [] ]
+
+-- the text of the reference: one profile, at the configured host and port
+abbrev pub reference_text : Config → ℕ → ℕ → List (List ℕ) → List ℕ → ℕ → List ℕ
+reference_text c run k p oid servant =
+    ior_text (record { type_id = type_of c servant; profiles = profile_of (record { host = c.host; port = c.port }) (key_spelling (key_for c run k p oid)) ∷ [] })

@@ -1,0 +1,124 @@
+-- What stands about a request or a locate: the facts that the table of verdicts asks.
+use Rattle.std.specs.Prelude.{ℕ, suc, Bool, true, false, not, ◌&&◌, ◌||◌, ◌==◌, nat_le, if◌then◌else◌, List, [], ◌∷◌, take, length, find, Option, Some, None, is_some, option_map}
+use Rattle.std.specs.List.{list_any}
+use Rattle.poa_base.specs.declared.Config.{Config}
+use Rattle.poa_base.specs.declared.Key.{Key}
+use Rattle.poa_base.specs.declared.Call.{Call}
+use Rattle.poa_base.specs.declared.Entry.{Entry}
+use Rattle.poa_base.specs.declared.Entry.TheVariants.{Arrive}
+use Rattle.poa_verdict.specs.declared.Facts.{Facts}
+use Rattle.poa_verdict.specs.declared.KeyFact.{KeyFact}
+use Rattle.poa_verdict.specs.declared.KeyFact.TheVariants.{Absent, Bad, OtherRun, Transient, Persistent}
+use Rattle.poa_verdict.specs.declared.WalkFact.{WalkFact}
+use Rattle.poa_verdict.specs.declared.WalkFact.TheVariants.{Dying as MeetsDying, Missing as MeetsMissing, Found as MeetsAdapter}
+use Rattle.poa_verdict.specs.declared.MapFact.{MapFact}
+use Rattle.poa_verdict.specs.declared.MapFact.TheVariants.{Active, Busy, Free}
+use Rattle.poa_history.specs.declared.act.Act.{Act}
+use Rattle.poa_history.specs.Searches.{count_below}
+use Rattle.poa_history.specs.Templates.{template_or_root, policies_at, manager_at, rules_at, lasts}
+use Rattle.poa_history.specs.Arrivals.{arrivals, call_of, is_message, is_locate, target_of}
+use Rattle.poa_history.specs.Stages.{is_unadmitted}
+use Rattle.poa_history.specs.Standings.{Standing, is_begun, is_active, is_of, is_running, is_tried}
+use Rattle.poa_history.specs.Walks.{Found, Live, Dying, Missing, walk}
+use Rattle.poa_history.specs.Ends.{is_finished, is_over}
+use Rattle.poa_history.specs.Keys.{key_of, key_in}
+use Rattle.poa_history.specs.Logs.{manager_state, preset_of, forward_of}
+use Rattle.poa_history.specs.Rules.{located}
+use Rattle.poa_history.specs.Commands.{is_bad_id}
+use Rattle.poa_history.specs.Changes.{adapter_met, child_met, standing}
+
+-- how many requests and locates stand unadmitted
+abbrev pub waiting_messages : List Entry → ℕ
+waiting_messages past = count_below (λ r. is_unadmitted past r && is_message (call_of past r)) (arrivals past)
+
+-- so many stood unadmitted when it arrived
+abbrev pub is_crowded : List Entry → ℕ → Bool
+is_crowded [] r = false
+is_crowded (Arrive conn size call ∷ past) r = if r == arrivals past then nat_le 65536 (waiting_messages past) else is_crowded past r
+is_crowded (e ∷ past) r = is_crowded past r
+
+abbrev pub key_fact : ℕ → Option (List ℕ) → KeyFact
+key_fact run None = Absent
+key_fact run (Some bytes) =
+    elim (key_of bytes) [
+      | None ↦ Bad
+      | Some key ↦ elim key.stamp [
+        | None ↦ Persistent
+        | Some stamp ↦ (if stamp.run == run then Transient else OtherRun)
+      ]
+    ]
+
+abbrev pub walk_fact : Found → WalkFact
+walk_fact (Live k) = MeetsAdapter
+walk_fact (Dying k) = MeetsDying
+walk_fact (Missing k depth) = MeetsMissing
+
+-- the path of the adapter found, or of the parent of the missing child
+abbrev pub place_met : Found → List (List ℕ) → List (List ℕ)
+place_met (Missing k depth) p = take depth p
+place_met found p = p
+
+-- the lifespan differs, or the number that a transient key gives
+abbrev pub differs : Config → Key → ℕ → Bool
+differs c key k =
+    elim key.stamp [
+      | None ↦ not (lasts (policies_at c key.path))
+      | Some stamp ↦ lasts (policies_at c key.path) || not (stamp.number == k)
+    ]
+
+-- the activation of the id that is active, or the one that is on its way in or out
+abbrev pub slot_of : Config → List Act → ℕ → List ℕ → MapFact
+slot_of c acts k oid =
+    elim (find (λ a. is_of k oid a && is_active a) acts) [
+      | Some a ↦ Active a.number
+      | None ↦ elim (find (λ a. is_of k oid a && not (is_over c a)) acts) [ Some a ↦ Busy a.number | None ↦ Free ]
+    ]
+
+-- its incarnation or etherealization hasn't ended
+abbrev pub is_unfinished : Config → Act → Bool
+is_unfinished c a = is_begun a || (a.out && not (is_finished c a))
+
+abbrev pub is_changing : Config → List Act → ℕ → Bool
+is_changing c acts k = list_any (λ a. (a.adapter == k) && is_unfinished c a) acts
+
+-- what stands about a key, given what the walk meets
+abbrev pub facts_met : Config → ℕ → List Entry → Standing → Bool → Bool → KeyFact → Key → Found → Facts
+facts_met c run past s locate crowded fact key found =
+    record {
+      locate = locate;
+      crowded = crowded;
+      key = fact;
+      walk = walk_fact found;
+      adapter = adapter_met found;
+      manager = manager_at c (place_met found key.path);
+      state = manager_state c past (manager_at c (place_met found key.path));
+      trial = is_tried s.flights (child_met found key.path);
+      tries = is_some (template_or_root c (place_met found key.path)).children;
+      entry = forward_of c past key.path;
+      differs = differs c key (adapter_met found);
+      policies = policies_at c key.path;
+      running = is_running s.flights (adapter_met found);
+      slot = slot_of c s.acts (adapter_met found) key.oid;
+      bad_id = is_bad_id c run s.made key.path key.oid;
+      preset = preset_of c past key.path;
+      rules = elim (rules_at c key.path) [ [] ↦ false | _ ∷ _ ↦ true ];
+      busy = is_changing c s.acts (adapter_met found);
+      next = length s.acts;
+      located = located c key.path key.oid;
+    }
+
+-- where there is no key the table asks for none of what a key would tell
+abbrev pub no_key : Key
+no_key = record { stamp = None; path = []; oid = [] }
+
+abbrev pub key_or_none : Option Key → Key
+key_or_none None = no_key
+key_or_none (Some key) = key
+
+-- what stands about an arrival
+abbrev pub facts_of : Config → ℕ → List Entry → ℕ → Facts
+facts_of c run past r =
+    let call = call_of past r in
+    let key = key_or_none (key_in call) in
+    let s = standing c run past in
+    facts_met c run past s (is_locate call) (is_crowded past r) (key_fact run (target_of call)) key (walk s.nodes key.path)

@@ -1,0 +1,70 @@
+-- What holds of all that stands after a legal history.
+use Rattle.std.specs.Prelude.{◌≡◌, ℕ, ◌+◌, ◌^◌, ◌<◌, Bool, true, false, List, [], ◌∷◌, ◌++◌, length, Option, Some, None}
+use Rattle.poa_base.specs.declared.Config.{Config}
+use Rattle.poa_history.specs.declared.node.Node.{Node}
+use Rattle.poa_history.specs.declared.flight.Flight.{Flight}
+use Rattle.poa_history.specs.declared.act.Act.{Act}
+use Rattle.poa_base.specs.declared.Entry.{Entry}
+use Rattle.poa_history.specs.Templates.{policies_at, makes_ids, activates_implicitly}
+use Rattle.poa_history.specs.Standings.{Standing}
+use Rattle.poa_history.specs.Opening.{opening}
+use Rattle.poa_history.specs.Changes.{standing}
+use Rattle.poa_history.specs.Ends.{is_over}
+use Rattle.poa_history.specs.Commands.{is_bad_id}
+use Rattle.poa_history.specs.Trees.{In, IsTree}
+
+-- an adapter of this number stands
+abbrev pub Stands : List Node → ℕ → Type 0
+Stands ns k = (n : Node) × In n ns × (n.number ≡ k)
+
+-- nothing stands at the path
+abbrev pub IsFreePath : List Node → List (List ℕ) → Type 0
+IsFreePath ns p = (n : Node) → In n ns → n.path ≡ p → ⊥
+
+-- the path is that of a child of the adapter, which doesn't stand
+pub record IsMissingChild (ns : List Node) (k : ℕ) (p : List (List ℕ)) : Type 0 where
+  pub parent : Node
+  pub name : List ℕ
+  pub stands : In parent ns
+  pub numbered : parent.number ≡ k
+  pub child : p ≡ parent.path ++ name ∷ []
+  pub free : IsFreePath ns p
+
+-- the adapter of the activation stands, at its path
+pub record IsHome (ns : List Node) (a : Act) : Type 0 where
+  pub node : Node
+  pub stands : In node ns
+  pub numbered : node.number ≡ a.adapter
+  pub placed : node.path ≡ a.path
+
+pub record IsSound (c : Config) (run : ℕ) (s : Standing) : Type 0 where
+  -- of one path one adapter stands, its parent stands, and what is below a dying one is dying
+  pub tree : IsTree s.nodes s.count
+  -- what is in flight is in flight in an adapter that stands
+  pub homes : (f : Flight) → In f s.flights → Stands s.nodes f.adapter
+  -- a trial is of a missing child of that adapter, and of one child there is one
+  pub trials : (f : Flight) (p : List (List ℕ)) → In f s.flights → f.child ≡ Some p → IsMissingChild s.nodes f.adapter p
+  pub trial_alone : (f g : Flight) (p : List (List ℕ)) → In f s.flights → In g s.flights → f.child ≡ Some p → g.child ≡ Some p → f ≡ g
+  -- an activation that isn't over is one of an adapter that stands
+  pub owners : (a : Act) → In a s.acts → is_over c a ≡ false → IsHome s.nodes a
+  -- activations are numbered in the order of their begin
+  pub counted : (a : Act) → In a s.acts → a.number < length s.acts
+  pub act_alone : (a b : Act) → In a s.acts → In b s.acts → a.number ≡ b.number → a ≡ b
+  -- of one id of one adapter at most one activation isn't over
+  pub life_alone : (a b : Act) → In a s.acts → In b s.acts → a.adapter ≡ b.adapter → a.oid ≡ b.oid → is_over c a ≡ false → is_over c b ≡ false → a ≡ b
+  -- where an adapter makes its ids, each that it has is eight bytes, and one of this run was made
+  pub ids : (a : Act) → In a s.acts → is_bad_id c run s.made a.path a.oid ≡ false
+
+-- the next system-made id has an ordinal of 32 bits
+abbrev pub HasOrdinal : Config → ℕ → List Entry → Entry → Type 0
+HasOrdinal c run past e = (standing c run past).made + 1 < 2 ^ 32
+
+-- IMPLICIT_ACTIVATION needs SYSTEM_ID, as in every policy set that settles (CORBA 3.3 Part 1, section 15.3.8)
+abbrev pub ImplicitMakes : Config → Type 0
+ImplicitMakes c = (p : List (List ℕ)) → activates_implicitly (policies_at c p) ≡ true → makes_ids (policies_at c p) ≡ true
+
+-- what a run is given, so far as it bears on what stands: the opening is sound, and the run is a number of 32 bits
+pub record IsGiven (c : Config) (run : ℕ) : Type 0 where
+  pub opens : IsSound c run (opening c run)
+  pub numbered : run < 2 ^ 32
+  pub implicit : ImplicitMakes c

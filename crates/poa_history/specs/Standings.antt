@@ -1,0 +1,89 @@
+-- What stands after a history: adapters, what is in flight, activations (CORBA 3.3 Part 1, sections 15.2 and 15.3).
+use Rattle.std.specs.Prelude.{ℕ, suc, ◌+◌, Bool, true, false, not, ◌&&◌, ◌||◌, ◌==◌, nat_eq, if◌then◌else◌, List, [], ◌∷◌, ◌++◌, map, filter, find, length, Option, Some, None}
+use Rattle.std.specs.List.{list_any}
+use Rattle.poa_base.specs.declared.Sid.{Sid}
+use Rattle.poa_base.specs.declared.Sid.TheVariants.{Named, Fresh}
+use Rattle.poa_history.specs.declared.node.Node.{Node}
+use Rattle.poa_history.specs.declared.flight.Flight.{Flight}
+use Rattle.poa_history.specs.declared.act.Act.{Act}
+use Rattle.poa_history.specs.declared.act.Phase.{Phase}
+use Rattle.poa_history.specs.declared.act.Phase.TheVariants.{Begun, Complete, Void}
+use Rattle.poa_history.specs.Paths.{same_bytes, same_path, leads_to}
+
+pub record Standing : Type 0 where
+  -- the adapters that were created and aren't gone, in the order of their creation
+  pub nodes : List Node
+  -- how many adapters were created
+  pub count : ℕ
+  -- how many system-made object ids were made
+  pub made : ℕ
+  -- the requests and trials in flight
+  pub flights : List Flight
+  -- the activations, in the order in which they were begun
+  pub acts : List Act
+
+-- an adapter of this number stands
+abbrev pub stands : List Node → ℕ → Bool
+stands ns k = list_any (λ n. n.number == k) ns
+
+-- an adapter of this number stands at the path, or below it
+abbrev pub stands_under : List Node → List (List ℕ) → ℕ → Bool
+stands_under ns p k = list_any (λ n. (n.number == k) && leads_to p n.path) ns
+
+-- the adapter that stands at a path
+abbrev pub node_at : List Node → List (List ℕ) → Option Node
+node_at ns p = find (λ n. same_path n.path p) ns
+
+abbrev pub is_complete : Act → Bool
+is_complete a = elim a.phase [ Complete s ↦ true | Begun ↦ false | Void ↦ false ]
+
+abbrev pub is_void : Act → Bool
+is_void a = elim a.phase [ Void ↦ true | Begun ↦ false | Complete s ↦ false ]
+
+abbrev pub is_begun : Act → Bool
+is_begun a = elim a.phase [ Begun ↦ true | Complete s ↦ false | Void ↦ false ]
+
+-- an activation that isn't void is ending once it was deactivated, or its adapter destroyed, or its manager so deactivated
+abbrev pub is_ending : Act → Bool
+is_ending a = a.ending && not (is_void a)
+
+-- the id can be served by this activation
+abbrev pub is_active : Act → Bool
+is_active a = is_complete a && not a.ending
+
+-- the servant is in the active object map by this activation
+abbrev pub is_mapped : Act → Bool
+is_mapped a = is_complete a && not a.out
+
+abbrev pub same_servant : Sid → Sid → Bool
+same_servant (Named j) (Named k) = j == k
+same_servant (Fresh m) (Fresh n) = m == n
+same_servant s t = false
+
+-- the activation has this servant
+abbrev pub has_servant : Sid → Act → Bool
+has_servant s a = elim a.phase [ Complete t ↦ same_servant t s | Begun ↦ false | Void ↦ false ]
+
+-- the activation is of this id of this adapter
+abbrev pub is_of : ℕ → List ℕ → Act → Bool
+is_of k oid a = (a.adapter == k) && same_bytes a.oid oid
+
+-- the servant is in the map of the adapter
+abbrev pub is_in_map : List Act → ℕ → Sid → Bool
+is_in_map acts k s = list_any (λ a. (a.adapter == k) && (is_mapped a && has_servant s a)) acts
+
+-- a request is in flight in the activation
+abbrev pub is_used : List Flight → ℕ → Bool
+is_used fs n = list_any (λ f. elim f.activation [ Some m ↦ m == n | None ↦ false ]) fs
+
+-- a request is in flight in the adapter
+abbrev pub is_running : List Flight → ℕ → Bool
+is_running fs k = list_any (λ f. (f.adapter == k) && (elim f.child [ None ↦ true | Some p ↦ false ])) fs
+
+-- a request or a trial is in flight in the adapter
+abbrev pub is_busy : List Flight → ℕ → Bool
+is_busy fs k = list_any (λ f. f.adapter == k) fs
+
+-- a trial of the missing child is in flight
+abbrev pub is_tried : List Flight → List (List ℕ) → Bool
+is_tried fs p = list_any (λ f. elim f.child [ Some q ↦ same_path q p | None ↦ false ]) fs

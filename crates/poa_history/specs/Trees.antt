@@ -1,0 +1,22 @@
+-- What holds of the adapters that stand, whatever was created, destroyed and ended.
+use Rattle.std.specs.Prelude.{◌≡◌, ℕ, ◌<◌, Bool, true, false, List, [], ◌∷◌, ◌++◌, ◌⊎◌}
+use Rattle.poa_history.specs.declared.node.Node.{Node}
+use Rattle.poa_history.specs.Paths.{leads_to}
+
+-- x is an element of the list
+abbrev pub In : {A : Type 0} → A → List A → Type 0
+In x [] = ⊥
+In x (y ∷ ys) = (x ≡ y) ⊎ In x ys
+
+pub record IsTree (ns : List Node) (count : ℕ) : Type 0 where
+  -- a number was given by a creation, to one adapter
+  pub numbered : (n : Node) → In n ns → n.number < count
+  pub number_alone : (n m : Node) → In n ns → In m ns → n.number ≡ m.number → n ≡ m
+  -- of one path one adapter stands
+  pub path_alone : (n m : Node) → In n ns → In m ns → n.path ≡ m.path → n ≡ m
+  -- the root stands
+  pub rooted : (n : Node) × In n ns × (n.path ≡ [])
+  -- the parent of an adapter that stands stands
+  pub closed : (n : Node) (q : List (List ℕ)) (x : List ℕ) → In n ns → n.path ≡ q ++ x ∷ [] → (m : Node) × In m ns × (m.path ≡ q)
+  -- what is below an adapter that is being destroyed is being destroyed
+  pub below : (n m : Node) → In n ns → In m ns → leads_to n.path m.path ≡ true → n.dying ≡ true → m.dying ≡ true
