@@ -2,8 +2,7 @@ pub mod Told
 pub mod Causes
 pub mod Delivered
 pub mod Same
-pub mod Stuck
-pub mod Heads
-pub mod Plainly
-pub mod Progress
+pub mod Decisions
+pub mod Serving
+pub mod Pieces
 pub mod Running

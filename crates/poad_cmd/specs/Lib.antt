@@ -1,13 +1,9 @@
 pub mod Words
-pub mod Header
-pub mod Fields
-pub mod Refused
-pub mod Plain
-pub mod Register
-pub mod Reply
+pub mod Adapter
 pub mod Serving
+pub mod Stop
 pub mod Run
-pub mod Front
+pub mod Showing
 pub mod Service
 pub mod Delivery
 pub mod Piece

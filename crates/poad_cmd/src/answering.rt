@@ -4,11 +4,10 @@ ghost use Rattle.outside.specs.Cause.{HasCause};
 ghost use Rattle.outside.specs.Reading.{IsWithin, Delivers};
 ghost use Rattle.outside.specs.Told.{IfTold};
 ghost use Rattle.poad_cmd.specs.Run.{Answers};
-ghost use Rattle.poad_cmd.specs.Service.{reach};
+ghost use Rattle.giop_frame.specs.Framer.{reach};
 ghost use Rattle.poad_cmd.specs.Piece.{TakesPiece, EndsAt};
 
-use crate::delivery::deliver;
-use crate::serving::Service;
+use crate::service::Service;
 use crate::status::Status;
 use outside::{Sink, Source, Took};
 use std::alloc::Global;
@@ -19,8 +18,8 @@ const PIECE: usize = 65_536;
 /// How much a run takes of its source at most.
 const INPUT_LIMIT: u64 = 1 << 32;
 
-/// Serves the plain requests of the source in order, from a register that holds 0, and writes the replies
-/// that a piece of input owes before it reads the next piece.
+/// Serves the messages of the source in order, from a register that holds 0, and writes the replies that a piece
+/// of input owes before it reads the next piece. Where a message is bad, MessageError follows the replies.
 pub(crate) fn answer<S: Source, K: Sink>(alloc: Global, source: &mut S, sink: &mut K) -> Status
     requires { S.is_waiting source.old ≡ false }
     ensures answers { Answers result (S.left source.old) (S.left source.new) (K.held sink.old) (K.held sink.new) }
@@ -72,35 +71,27 @@ fn take_piece<K: Sink>(
     piece: &[u8],
     sink: &mut K,
 ) -> Option<Status>
-    requires room { reach service.old + length piece.now < 2 ^ 62 }
+    requires room { reach service.old.framer + length piece.now < 2 ^ 62 }
     requires delivered { service.old.replies.items ≡ [] }
     ensures takes { TakesPiece result piece.now service.old service.new (K.held sink.old) (K.held sink.new) }
     ensures written { HasCause (K.write_faults sink.old) (K.write_faults sink.new) (result ≡ Some Status.WriteFault) }
 {
-    if service.unread.push(piece).is_err() {
-        return Some(Status::WantMemory);
-    }
-    let served = service.serve(alloc);
-    let delivered = deliver(sink, service.replies.as_slice());
-    service.replies.clear();
-    if !delivered {
-        return Some(Status::WriteFault);
-    }
-    let Ok(stop) = served else {
+    let Ok(()) = service.framer.feed(piece) else {
         return Some(Status::WantMemory);
     };
-    match stop {
-        None => None,
-        Some(at) => Some(Status::Unbuilt { at }),
+    let why = service.serve(alloc);
+    if !service.write_replies(why, sink) {
+        return Some(Status::WriteFault);
     }
+    service.settle(why)
 }
 
 // The status at the end of the source.
 fn ended(service: &Service) -> Status
-    ensures { EndsAt result service.now }
+    ensures { EndsAt result service.now.waiting }
 {
-    match service.unread.as_slice().len() {
+    match service.waiting {
         0 => Status::Ok,
-        have => Status::Truncated { have: have as u64 },
+        have => Status::Truncated { have },
     }
 }

@@ -1,22 +1,19 @@
 //! The commands of the program: `run_words` does what the words of a command line say, over a source, a
-//! sink and files, and answers how it ended. `answer` serves the plain requests of the source, in order,
-//! from one register.
+//! sink and files, and answers how it ended. `answer` serves the GIOP messages of the source, in order, by one
+//! register in a tree that has the root adapter alone. `show` prints a reference.
 #![tactic(auto)]
 
+mod adapter;
 mod answering;
 mod delivery;
-mod front;
-mod head;
 mod host;
-mod operation;
-mod plain_request;
-mod register;
-mod replies;
-mod serving;
+mod service;
+mod showing;
 mod status;
+mod stop;
 #[cfg(test)]
 mod tests;
-mod unread;
+mod verdict;
 mod words;
 
 pub use host::Host;

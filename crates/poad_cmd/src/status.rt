@@ -1,6 +1,7 @@
 //! How a command ended.
 ghost use Rattle.std.specs.Prelude.{◌≡◌};
 
+use ior_text::IorFault;
 use std::fmt;
 
 /// How a command ended: each status has a number, with which the program ends, and a line.
@@ -12,6 +13,8 @@ pub enum Status {
     BadWords,
     /// This line of the script is no line of a script.
     ScriptRefused { line: u64 },
+    /// The text is no reference.
+    TextRefused(IorFault),
     /// A read of the source failed.
     ReadFault,
     /// A write to the sink failed.
@@ -49,6 +52,7 @@ impl Status {
             Status::Ok => 0,
             Status::BadWords => 2,
             Status::ScriptRefused { .. } => 4,
+            Status::TextRefused(_) => 5,
             Status::ReadFault => 6,
             Status::WriteFault => 7,
             Status::FileFault => 8,
@@ -73,6 +77,7 @@ impl fmt::Display for Status {
             Status::Ok => write!(f, "ok"),
             Status::BadWords => write!(f, "bad words"),
             Status::ScriptRefused { line } => write!(f, "script: line {line}"),
+            Status::TextRefused(fault) => write!(f, "{fault}"),
             Status::ReadFault => write!(f, "read fault"),
             Status::WriteFault => write!(f, "write fault"),
             Status::FileFault => write!(f, "file fault"),

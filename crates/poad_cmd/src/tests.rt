@@ -1,5 +1,7 @@
 use super::*;
+use giop_msg::{write_reply, write_request};
 use outside::{MemFiles, MemSink, MemSource};
+use poa_base::{Ask, Bytes, Completion, Datum, ExcName, Head, Outcome, Reply, SysExc};
 use std::alloc::Global;
 use std::test::Fail;
 
@@ -15,19 +17,37 @@ const GET: &[u8] =
 const BIG_GET: &[u8] =
     b"GIOP\x01\x02\0\0\0\0\04\0\0\0\x02\x03\0\0\0\0\0\0\0\0\0\0\x18POA\x01\0\0\0\0\x01\0\0\0\0\0\0\x08\0\0\0\x01\0\0\0\x01\0\0\0\x04get\0\0\0\0\0";
 
-// `get` of the object with ordinal 2, id 2.
-const GET_OTHER: &[u8] =
-    b"GIOP\x01\x02\x01\04\0\0\0\x02\0\0\0\x03\0\0\0\0\0\0\0\x18\0\0\0POA\x01\0\0\0\0\x01\0\0\0\0\0\0\x08\0\0\0\x01\0\0\0\x02\x04\0\0\0get\0\0\0\0\0";
+// `_non_existent` of the register without a body, id 1.
+const NON_EXISTENT: &[u8] =
+    b"GIOP\x01\x02\x01\0@\0\0\0\x01\0\0\0\x03\0\0\0\0\0\0\0\x18\0\0\0POA\x01\0\0\0\0\x01\0\0\0\0\0\0\x08\0\0\0\x01\0\0\0\x01\x0e\0\0\0_non_existent\0\0\0\0\0\0\0";
 
-// The value 5 for id 1 and for id 2, and OBJECT_NOT_EXIST for id 2.
+// A CancelRequest of id 1, a CloseConnection, a MessageError, and a LocateRequest of the register, id 3.
+const CANCEL: &[u8] = b"GIOP\x01\x02\x01\x02\x04\0\0\0\x01\0\0\0";
+
+const CLOSING: &[u8] = b"GIOP\x01\x02\0\x05\0\0\0\0";
+
+const ERROR: &[u8] = b"GIOP\x01\x02\0\x06\0\0\0\0";
+
+const LOCATE: &[u8] =
+    b"GIOP\x01\x02\x01\x03$\0\0\0\x03\0\0\0\0\0\0\0\x18\0\0\0POA\x01\0\0\0\0\x01\0\0\0\0\0\0\x08\0\0\0\x01\0\0\0\x01";
+
+// The value 5 for id 1 and for id 2, also in the other byte order, and false for id 1.
 const FIVE_FOR_1: &[u8] =
     b"GIOP\x01\x02\x01\x01\x14\0\0\0\x01\0\0\0\0\0\0\0\0\0\0\0\x05\0\0\0\0\0\0\0";
 
 const FIVE_FOR_2: &[u8] =
     b"GIOP\x01\x02\x01\x01\x14\0\0\0\x02\0\0\0\0\0\0\0\0\0\0\0\x05\0\0\0\0\0\0\0";
 
-const NOT_THERE_FOR_2: &[u8] =
-    b"GIOP\x01\x02\x01\x01@\0\0\0\x02\0\0\0\x02\0\0\0\0\0\0\0'\0\0\0IDL:omg.org/CORBA/OBJECT_NOT_EXIST:1.0\0\0\x03\xf0\xff\xff\x01\0\0\0";
+const BIG_FIVE_FOR_2: &[u8] =
+    b"GIOP\x01\x02\0\x01\0\0\0\x14\0\0\0\x02\0\0\0\0\0\0\0\0\0\0\0\0\0\0\0\x05";
+
+const ZERO_FOR_2: &[u8] =
+    b"GIOP\x01\x02\x01\x01\x14\0\0\0\x02\0\0\0\0\0\0\0\0\0\0\0\0\0\0\0\0\0\0\0";
+
+const FALSE_FOR_1: &[u8] = b"GIOP\x01\x02\x01\x01\x0d\0\0\0\x01\0\0\0\0\0\0\0\0\0\0\0\0";
+
+// No result for id 1.
+const NOTHING_FOR_1: &[u8] = b"GIOP\x01\x02\x01\x01\x0c\0\0\0\x01\0\0\0\0\0\0\0\0\0\0\0";
 
 // How a run ended, and what it wrote.
 #[derive(Drop)]
@@ -85,19 +105,246 @@ fn tells_where_the_input_ends(rt: HostRuntime) -> Result<(), Fail> {
     Ok(())
 }
 
-#[test]
-fn stops_at_a_message_that_is_not_plain(rt: HostRuntime) -> Result<(), Fail> {
-    let ran = answered(rt.alloc(), &[ADD, BIG_GET, GET], 100_000, &[], &[])?;
-    assert_eq!(rt; ran.status, Status::Unbuilt { at: 72 });
-    assert_eq!(rt; ran.written.as_slice(), FIVE_FOR_1);
+// Asserts how a run over this input ends, and that it writes these messages.
+fn answers(
+    rt: HostRuntime,
+    input: &[&[u8]],
+    status: Status,
+    messages: &[&[u8]],
+) -> Result<(), Fail> {
+    let alloc = rt.alloc();
+    let mut want = Vec::new(alloc);
+    for message in messages {
+        want.extend_from_slice(*message)?;
+    }
+    let ran = answered(alloc, input, 100_000, &[], &[])?;
+    assert_eq!(rt; ran.status, status);
+    assert_eq!(rt; ran.written.as_slice(), want.as_slice());
     Ok(())
 }
 
 #[test]
-fn answers_object_not_exist_for_another_id(rt: HostRuntime) -> Result<(), Fail> {
-    let ran = answered(rt.alloc(), &[GET_OTHER], 100_000, &[], &[])?;
-    assert_eq!(rt; ran.status, Status::Ok);
-    assert_eq!(rt; ran.written.as_slice(), NOT_THERE_FOR_2);
+fn answers_in_the_byte_order_of_each_request(rt: HostRuntime) -> Result<(), Fail> {
+    answers(
+        rt,
+        &[ADD, BIG_GET],
+        Status::Ok,
+        &[FIVE_FOR_1, BIG_FIVE_FOR_2],
+    )?;
+    answers(rt, &[NON_EXISTENT], Status::Ok, &[FALSE_FOR_1])
+}
+
+#[test]
+fn joins_fragments_and_answers_in_the_order_of_last_parts(rt: HostRuntime) -> Result<(), Fail> {
+    let first = b"GIOP\x01\x02\x03\0\x14\0\0\0".as_slice();
+    let second = b"GIOP\x01\x02\x03\x07\x1c\0\0\0\x01\0\0\0".as_slice();
+    let third = b"GIOP\x01\x02\x01\x07\x14\0\0\0\x01\0\0\0".as_slice();
+    let input = [
+        first,
+        &ADD[12..32],
+        GET,
+        second,
+        &ADD[32..56],
+        third,
+        &ADD[56..],
+    ];
+    answers(rt, &input, Status::Ok, &[ZERO_FOR_2, FIVE_FOR_1])
+}
+
+#[test]
+fn tells_the_place_of_a_bad_message_behind_the_replies(rt: HostRuntime) -> Result<(), Fail> {
+    answers(
+        rt,
+        &[ADD, b"GIOP\x01\x03\x01\0\0\0\0\0", GET],
+        Status::Malformed { at: 72 },
+        &[FIVE_FOR_1, ERROR],
+    )?;
+    answers(
+        rt,
+        &[ADD, ERROR, GET],
+        Status::Malformed { at: 72 },
+        &[FIVE_FOR_1, ERROR],
+    )?;
+    answers(
+        rt,
+        &[&CANCEL[..8], b"\0\0\0\0"],
+        Status::Malformed { at: 0 },
+        &[ERROR],
+    )?;
+    answers(
+        rt,
+        &[ADD, LOCATE, ERROR],
+        Status::Unbuilt { at: 72 },
+        &[FIVE_FOR_1],
+    )
+}
+
+#[test]
+fn refuses_a_message_above_the_limit_at_its_header(rt: HostRuntime) -> Result<(), Fail> {
+    let alloc = rt.alloc();
+    let rest = vec![in alloc; 0u8; 1_048_524]?;
+    let long = b"GIOP\x01\x02\x01\0\x01\0\x10\0".as_slice();
+    let input = [
+        b"GIOP\x01\x02\x01\0\0\0\x10\0".as_slice(),
+        &GET[12..],
+        rest.as_slice(),
+        long,
+    ];
+    answers(
+        rt,
+        &input,
+        Status::Malformed { at: 1_048_588 },
+        &[ZERO_FOR_2, ERROR],
+    )
+}
+
+#[test]
+fn refuses_the_message_that_opens_too_many_bytes(rt: HostRuntime) -> Result<(), Fail> {
+    let alloc = rt.alloc();
+    let mut input = Vec::new(alloc);
+    for id in 0u8..17 {
+        input.extend_from_slice(b"GIOP\x01\x02\x03\0\x40\x42\x0f\0")?;
+        input.push(id)?;
+        let rest = vec![in alloc; 0u8; 999_999]?;
+        input.extend_from_slice(rest.as_slice())?;
+    }
+    answers(
+        rt,
+        &[input.as_slice()],
+        Status::Malformed { at: 16_000_192 },
+        &[ERROR],
+    )
+}
+
+#[test]
+fn ends_at_a_close_and_ignores_a_cancel(rt: HostRuntime) -> Result<(), Fail> {
+    answers(
+        rt,
+        &[CANCEL, ADD, CANCEL, CLOSING, ERROR],
+        Status::Ok,
+        &[FIVE_FOR_1],
+    )
+}
+
+#[test]
+fn replies_as_the_response_flags_ask(rt: HostRuntime) -> Result<(), Fail> {
+    answers(
+        rt,
+        &[&ADD[..16], &[0], &ADD[17..], GET],
+        Status::Ok,
+        &[FIVE_FOR_2],
+    )?;
+    answers(
+        rt,
+        &[&ADD[..16], &[1], &ADD[17..]],
+        Status::Ok,
+        &[NOTHING_FOR_1],
+    )?;
+    answers(
+        rt,
+        &[&ADD[..16], &[2], &ADD[17..], GET],
+        Status::Ok,
+        &[FIVE_FOR_2],
+    )
+}
+
+// The head of a request with this id.
+fn head(id: u32) -> Head {
+    Head {
+        id,
+        minor: 2,
+        little: true,
+        flags: 3,
+        locate: false,
+    }
+}
+
+// Asserts that an operation of the object with this key, id 1, has this outcome.
+fn outcome_is(
+    rt: HostRuntime,
+    key: &[u8],
+    operation: &[u8],
+    argument: Option<Datum>,
+    outcome: Outcome,
+) -> Result<(), Fail> {
+    let alloc = rt.alloc();
+    let ask = Ask {
+        head: head(1),
+        key: Bytes::from_vec(key.to_vec(alloc)?),
+        operation: Bytes::from_vec(operation.to_vec(alloc)?),
+        argument,
+    };
+    let message = write_request(alloc, &ask)?;
+    let reply = write_reply(alloc, &head(1), &Reply::Outcome(outcome))?;
+    answers(rt, &[message.as_slice()], Status::Ok, &[reply.as_slice()])
+}
+
+fn raised(name: ExcName, minor: u32) -> Outcome {
+    let done = Completion::No;
+    Outcome::System(SysExc { name, minor, done })
+}
+
+const KEY: &[u8] = b"POA\x01\0\0\0\0\x01\0\0\0\0\0\0\x08\0\0\0\x01\0\0\0\x01";
+
+#[test]
+fn serves_the_operations_of_a_register(rt: HostRuntime) -> Result<(), Fail> {
+    let alloc = rt.alloc();
+    outcome_is(rt, KEY, b"set", Some(Datum::Long(7)), Outcome::Value(None))?;
+    outcome_is(
+        rt,
+        KEY,
+        b"sing",
+        None,
+        raised(ExcName::BadOperation, 0xFFFF_F007),
+    )?;
+    outcome_is(rt, KEY, b"add", None, raised(ExcName::Marshal, 0xFFFF_F008))?;
+    let object = Datum::Text(Bytes::from_vec(b"IDL:poad/Register:1.0".to_vec(alloc)?));
+    outcome_is(
+        rt,
+        KEY,
+        b"_is_a",
+        Some(object),
+        Outcome::Value(Some(Datum::Flag(true))),
+    )
+}
+
+#[test]
+fn finds_nothing_but_the_register_of_the_root(rt: HostRuntime) -> Result<(), Fail> {
+    for (key, minor) in [
+        (
+            b"POA\x02\0\0\0\0\x01\0\0\0\0\0\0\x08\0\0\0\x01\0\0\0\x01".as_slice(),
+            0xFFFF_F001,
+        ),
+        (
+            b"POA\x01\0\0\0\0\x02\0\0\0\0\0\0\x08\0\0\0\x01\0\0\0\x01".as_slice(),
+            0xFFFF_F002,
+        ),
+        (
+            b"POA\x01\0\0\0\0\x01\0\0\0\x01\0\0\x08\0\0\0\x01\0\0\0\x01".as_slice(),
+            0xFFFF_F002,
+        ),
+        (
+            b"POA\x01\0\0\0\0\x01\0\0\0\0\x01\x01a\0\0".as_slice(),
+            0xFFFF_F002,
+        ),
+        (
+            b"POA\x01\x01\0\0\x08\0\0\0\x01\0\0\0\x01".as_slice(),
+            0xFFFF_F002,
+        ),
+        (b"POA\x01\x01\x01\x01a\0\0".as_slice(), 0x4F4D_0002),
+        (
+            b"POA\x01\0\0\0\0\x01\0\0\0\0\0\0\x08\0\0\0\x01\0\0\0\x02".as_slice(),
+            0xFFFF_F003,
+        ),
+    ] {
+        outcome_is(
+            rt,
+            key,
+            b"get",
+            None,
+            raised(ExcName::ObjectNotExist, minor),
+        )?;
+    }
     Ok(())
 }
 

@@ -1,17 +1,21 @@
 //! The words of a command line.
-ghost use Rattle.std.specs.Prelude.{◌≡◌, ◌↔◌, false, IsTrue};
+ghost use Rattle.std.specs.Prelude.{◌≡◌, ◌↔◌, ℕ, List, MatchOption, false, IsTrue};
 ghost use Rattle.outside.specs.Cause.{HasCause};
 ghost use Rattle.poad_cmd.specs.Run.{Answers};
-ghost use Rattle.poad_cmd.specs.Words.{IsAnswer};
+ghost use Rattle.poad_cmd.specs.Showing.{Tells};
+ghost use Rattle.poad_cmd.specs.Words.{IsAnswer, IsShow, IsCommand};
 
 use crate::answering::answer;
 use crate::host::Host;
+use crate::showing::show_text;
 use crate::status::Status;
 use outside::{Files, Sink, Source};
 use std::alloc::Global;
 
-/// Does what the words say. The one command so far is `answer`, without a further word: it reads GIOP
-/// messages from the source and writes the replies to the sink.
+/// Does what the words say.
+///
+/// - `answer`: reads GIOP messages from the source and writes the replies to the sink.
+/// - `show IOR`: prints the reference to the sink.
 ///
 /// The source is one that doesn't wait: a read of it waits until something is there.
 pub fn run_words<S: Source, K: Sink, F: Files>(
@@ -21,19 +25,24 @@ pub fn run_words<S: Source, K: Sink, F: Files>(
 ) -> Status
     requires patient { S.is_waiting host.old.source ≡ false }
 
-    ensures bad_words { result ≡ Status.BadWords ↔ (IsAnswer words.now → ⊥) }
+    ensures bad_words { result ≡ Status.BadWords ↔ (IsCommand words.now → ⊥) }
     ensures untouched { result ≡ Status.BadWords → host.new ≡ host.old }
     ensures files { host.new.files ≡ host.old.files }
 
     ensures answers { IsAnswer words.now
         → Answers result (S.left host.old.source) (S.left host.new.source) (K.held host.old.sink) (K.held host.new.sink) }
+    ensures shows { (text : List ℕ) → IsShow words.now text
+        → Tells result text (K.held host.old.sink) (K.held host.new.sink) × (host.new.source ≡ host.old.source) }
     ensures read_fault { HasCause (S.read_faults host.old.source) (S.read_faults host.new.source) (result ≡ Status.ReadFault) }
     ensures write_fault { HasCause (K.write_faults host.old.sink) (K.write_faults host.new.sink) (result ≡ Status.WriteFault) }
 {
-    if !is_answer(words) {
-        return Status::BadWords;
+    if is_answer(words) {
+        return answer(alloc, &mut host.source, &mut host.sink);
     }
-    answer(alloc, &mut host.source, &mut host.sink)
+    match shown(words) {
+        Some(text) => show_text(alloc, text, &mut host.sink),
+        None => Status::BadWords,
+    }
 }
 
 // Whether the words are `answer` alone.
@@ -41,4 +50,18 @@ fn is_answer(words: &[String]) -> bool
     ensures { IsTrue result ↔ IsAnswer words.now }
 {
     words.len() == 1 && words[0].as_str() == "answer"
+}
+
+// The text behind `show`, where there is one.
+fn shown(words: &[String]) -> Option<&[u8]>
+    ensures { MatchOption result ((text : List ℕ) → IsShow words.now text → ⊥) (λ text. IsShow words.now text.now) }
+{
+    if words.len() != 2 || words[0].as_str() != "show" {
+        return None;
+    }
+    let text = words[1].as_bytes();
+    if text.is_empty() {
+        return None;
+    }
+    Some(text)
 }

@@ -12,7 +12,7 @@ returns-in_default-clause-answers g c = run_refused _ _
 
 pub loop-taken-init : goal.loop-taken-init
 loop-taken-init g c = record {
-  runs = run_starts _ _ c.new-service.result c.new-service.ensures.unread c.new-service.ensures.at c.new-service.ensures.register c.new-service.ensures.replies;
+  runs = run_starts _ _ c.new-service.result c.new-service.ensures.served c.new-service.ensures.reached c.new-service.ensures.servant c.new-service.ensures.replies c.new-service.ensures.waiting;
   within = omega arith;
   room_is = c.in-Ok.ensures.len;
   reads = omega arith;
@@ -24,7 +24,7 @@ pub returns-in-Some-clause-answers : goal.returns-in-Some-clause-answers
 returns-in-Some-clause-answers g c = run_ends c.in-Some.status _ _ _ _ _ _ c.loop-taken.taken (take c.in-Got.count c.read_front.new.buffer) c.loop-taken.service c.take_piece.new.service c.loop-taken.invariant.runs c.in-Got.ensures.bytes (piece_same _ _ (take c.in-Got.count c.read_front.new.buffer) c.loop-taken.service c.take_piece.new.service _ _ (cut_piece c.in-Got.count c.loop-taken.buffer.len c.deref.result.now c.read_front.new.buffer _ c.deref.ensures.value (omega (arith, c.in-Got.ensures.within.1, c.deref_mut.ensures.len)) (omega (arith, c.in-Got.ensures.within.1, c.read_front.auto.buffer))) c.in-Some.ensures.takes)
 
 pub returns-in-Some-clause-read : goal.returns-in-Some-clause-read
-returns-in-Some-clause-read g c = cause_still _ _ _ (omega (arith, c.loop-taken.invariant.reads, c.in-Got.ensures.failed.later)) (λ e. subst (λ (status : Status). EndsPiece status c.in-Some.ensures.takes.rest c.take_piece.new.service) e c.in-Some.ensures.takes.ends)
+returns-in-Some-clause-read g c = cause_still _ _ _ (omega (arith, c.loop-taken.invariant.reads, c.in-Got.ensures.failed.later)) (λ e. subst (λ (status : Status). EndsPiece status c.in-Some.ensures.takes.why) e c.in-Some.ensures.takes.ends)
 
 pub returns-in-Some-clause-written : goal.returns-in-Some-clause-written
 returns-in-Some-clause-written g c = cause_from _ _ _ _ _ c.loop-taken.invariant.writes c.in-Some.ensures.written (λ e. ap (λ (status : Status). Some status) e)
@@ -44,10 +44,10 @@ returns-in-End-clause-answers g c =
     run_finished c.ended.result _ _ _ _ c.loop-taken.taken c.loop-taken.service (run_still _ _ _ _ _ c.loop-taken.taken c.loop-taken.service c.loop-taken.invariant.runs (end_still _ _ c.in-End.ensures.bytes)) (end_left _ _ c.in-End.ensures.bytes) c.ended.ensures
 
 pub returns-in-End-clause-read : goal.returns-in-End-clause-read
-returns-in-End-clause-read g c = cause_still _ _ _ (omega (arith, c.loop-taken.invariant.reads, c.in-End.ensures.failed.later)) (λ e. subst (λ (status : Status). EndsAt status c.loop-taken.service) e c.ended.ensures)
+returns-in-End-clause-read g c = cause_still _ _ _ (omega (arith, c.loop-taken.invariant.reads, c.in-End.ensures.failed.later)) (λ e. subst (λ (status : Status). EndsAt status c.loop-taken.service.waiting) e c.ended.ensures)
 
 pub returns-in-End-clause-written : goal.returns-in-End-clause-written
-returns-in-End-clause-written g c = cause_still _ _ _ c.loop-taken.invariant.writes (λ e. subst (λ (status : Status). EndsAt status c.loop-taken.service) e c.ended.ensures)
+returns-in-End-clause-written g c = cause_still _ _ _ c.loop-taken.invariant.writes (λ e. subst (λ (status : Status). EndsAt status c.loop-taken.service.waiting) e c.ended.ensures)
 
 pub returns-in-Failed-clause-answers : goal.returns-in-Failed-clause-answers
 returns-in-Failed-clause-answers g c = run_fails _ _ _ _ c.loop-taken.taken c.loop-taken.service (run_still _ _ _ _ _ c.loop-taken.taken c.loop-taken.service c.loop-taken.invariant.runs c.in-Failed.ensures.bytes)

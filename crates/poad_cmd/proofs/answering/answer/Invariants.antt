@@ -1,5 +1,5 @@
 use Rattle.std.proofs.Common.{◌≡◌, ℕ, ◌-◌, ◌≤◌, ◌^◌, Bool, false, List, Option, vec_len}
-use Rattle.poad_cmd.specs.declared.serving.Service.{Service}
+use Rattle.poad_cmd.specs.declared.service.Service.{Service}
 use Rattle.poad_cmd.proofs.Running.{Runs}
 use Rattle.poad_cmd.proofs.answering.answer.Given as goal
 

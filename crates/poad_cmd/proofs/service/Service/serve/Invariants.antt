@@ -1,0 +1,9 @@
+use Rattle.std.proofs.Common.{length}
+use Rattle.poad_cmd.proofs.Serving.{ServesSome}
+use Rattle.poad_cmd.proofs.service.Service.serve.Given as goal
+
+abbrev pub invariant-loop-why : goal.invariant-loop-why
+invariant-loop-why l = ServesSome l.initial.self l.self
+
+abbrev pub decreases-loop-why : goal.decreases-loop-why
+decreases-loop-why l = length l.self.framer.unread
