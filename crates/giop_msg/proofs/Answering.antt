@@ -1,5 +1,5 @@
 -- What a message gives is answered, and nothing else.
-use Rattle.std.proofs.Common.{◌≡◌, ℕ, List, Result, Ok, Err, refl, ap, subst, sym, ◌⊎◌, inl, inr}
+use Rattle.std.proofs.Common.{◌≡◌, ℕ, List, Result, Ok, Err, ap, subst, sym, ◌⊎◌, inl, inr}
 use Rattle.std.specs.Prelude.{IfOk, IfErr}
 use Rattle.poa_base.specs.declared.Ask.{Ask}
 use Rattle.giop_msg.specs.declared.incoming.Incoming.{Incoming}

@@ -1,5 +1,5 @@
 -- A Request that is written is read as the call that it was written for.
-use Rattle.std.proofs.Common.{◌≡◌, ℕ, ◌+◌, ◌-◌, Bool, false, List, [], ◌∷◌, ◌++◌, Option, Some, None, length, drop, replicate, refl, sym, ap, ap₂, ◌∙◌, subst, arith}
+use Rattle.std.proofs.Common.{◌≡◌, ℕ, ◌+◌, Bool, false, List, [], ◌++◌, Option, Some, None, length, drop, replicate, refl, sym, ap, ap₂, ◌∙◌, subst, arith}
 use Rattle.std.specs.Prelude.{min}
 use Rattle.std.proofs.lemmas.List.{length-replicate}
 use Rattle.std.proofs.Math.Seq.{drop-append_seam, drop-nil}
@@ -17,7 +17,7 @@ use Rattle.giop_frame.specs.Part.{is_little}
 use Rattle.giop_msg.specs.declared.kind.TheConstants.{HEADER, MINOR, REQUEST}
 use Rattle.giop_msg.specs.Fields.{ReadsAll, fields_start}
 use Rattle.giop_msg.specs.Target.{by_key, target_fields}
-use Rattle.giop_msg.specs.Request.{opening_fields, closing_fields, body_at, request_head, IsRequest}
+use Rattle.giop_msg.specs.Request.{opening_fields, closing_fields, body_at, request_head}
 use Rattle.giop_msg.specs.Reply.{datum_field}
 use Rattle.giop_msg.specs.Ask.{request_draft, request_end, argument_bytes, request_bytes, asked_body, IsAsk}
 use Rattle.giop_msg.specs.Laws.{WrittenIsMessage, WrittenAsks}
@@ -79,20 +79,16 @@ written_asks ask is =
     let content : List ℕ = (request_draft ask).bytes ++ argument_bytes ask.head.little (request_end ask) ask.argument in
     let whole = fields_read ask is in
     let parts = reads_split (opening_fields ask.head.id ask.head.flags 0 0 0 ++ target_fields (by_key ask.key)) (closing_fields ask.operation []) (fields_start (request_bytes ask)) (behind ask) whole in
-    let front = reads_split (opening_fields ask.head.id ask.head.flags 0 0 0) (target_fields (by_key ask.key)) (fields_start (request_bytes ask)) parts.0 parts.1.0 in
-    (framed-type MINOR REQUEST ask.head.little content, record {
-      a = 0;
-      b = 0;
-      c = 0;
-      object = by_key ask.key;
-      contexts = [];
-      behind_opening = front.0;
-      behind_target = parts.0;
-      behind = behind ask;
-      opening = front.1.0;
-      target_read = front.1.1;
-      closing = parts.1.1;
-      is_head = same_head ask.head (is_little (request_bytes ask)) is.minor is.no_locate (framed-order MINOR REQUEST ask.head.little content);
-      is_target = refl;
-      is_body = sym (body_of_argument ask.head.little (request_end ask) ask.argument);
-    })
+    let front = reads_split (opening_fields ask.head.id ask.head.flags 0 0 0) (target_fields (by_key ask.key)) (fields_start (request_bytes ask)) parts.0 parts.1.0 in (
+      framed-type MINOR REQUEST ask.head.little content,
+      record {
+        behind_opening = front.0;
+        behind_target = parts.0;
+        behind = behind ask;
+        opening = record { a = 0; b = 0; c = 0; read = front.1.0 };
+        addressed = record { object = by_key ask.key; read = front.1.1; gives = refl };
+        closing = record { contexts = []; read = parts.1.1 };
+        is_head = same_head ask.head (is_little (request_bytes ask)) is.minor is.no_locate (framed-order MINOR REQUEST ask.head.little content);
+        is_body = sym (body_of_argument ask.head.little (request_end ask) ask.argument);
+      },
+    )

@@ -1,7 +1,6 @@
 -- A message gives one answer.
-use Rattle.std.proofs.Common.{◌≡◌, ◌≢◌, ℕ, Bool, List, [], ◌∷◌, Option, Some, Result, Ok, Err, refl, sym, ap, ap₂, ◌∙◌, subst, arith, ◌⊎◌, inl, inr}
-use Rattle.cdr_core.specs.Cursor.{Cursor}
-use Rattle.cdr_core.proofs.OneReading.{one_ulong_read, one_ushort_read}
+use Rattle.std.proofs.Common.{◌≡◌, ℕ, List, Option, Ok, Err, refl, sym, ap, ap₂, ◌∙◌, subst, arith, inl, inr}
+use Rattle.cdr_core.proofs.OneReading.{one_ulong_read}
 use Rattle.poa_base.specs.declared.Body.{Body}
 use Rattle.poa_base.specs.declared.Call.{Call}
 use Rattle.poa_base.specs.declared.Call.TheVariants.{Request, Locate, Line}
@@ -14,13 +13,12 @@ use Rattle.giop_msg.specs.declared.fault.MsgFault.TheVariants.{Malformed, NotFor
 use Rattle.giop_msg.specs.declared.kind.TheConstants.{REQUEST, CANCEL_REQUEST, LOCATE_REQUEST, CLOSE_CONNECTION}
 use Rattle.giop_msg.specs.Fields.{fields_start}
 use Rattle.giop_msg.specs.Header.{message_type, IsForClient}
-use Rattle.giop_msg.specs.Request.{body_at, request_head, IsRequest}
-use Rattle.giop_msg.specs.Reading.{IsOpening, IsTarget, IsLaterTarget, IsClosing, RequestCall, IsLaterRequest, RequestFault}
-use Rattle.giop_msg.specs.Call.{HasId, AsksCall, Asks, AsksLater, LocatesLater, IsUnbuilt, IsMalformed, CallOf}
+use Rattle.giop_msg.specs.Request.{body_at, request_head, IsRequest, IsLaterRequest}
+use Rattle.giop_msg.specs.Call.{HasId, MakesCall, Asks, IsUnbuilt, CallOf}
 use Rattle.giop_msg.specs.Laws.{OneCall}
 use Rattle.giop_msg.proofs.Contexts.{one_closing}
 use Rattle.giop_msg.proofs.Targets.{one_target, no_later_target}
-use Rattle.giop_msg.proofs.Requests.{one_opening, opening_of, target_of, closing_of, target_at, closing_at}
+use Rattle.giop_msg.proofs.Requests.{one_opening, target_at, closing_at}
 
 -- the parts of a Request tell its call
 same_call : (h k : Head) (t u : Option (List ℕ)) (o p : List ℕ) (x y : Body) → h ≡ k → t ≡ u → o ≡ p → x ≡ y → Request h t o x ≡ Request k u p y
@@ -28,9 +26,9 @@ same_call h k t u o p x y head target operation body = cc
 
 one_request : (bytes : List ℕ) (h k : Head) (t u : Option (List ℕ)) (o p : List ℕ) (x y : Body) → IsRequest bytes h t o x → IsRequest bytes k u p y → Request h t o x ≡ Request k u p y
 one_request bytes h k t u o p x y is has =
-    let opening = one_opening h.id k.id h.flags k.flags (fields_start bytes) is.behind_opening has.behind_opening (opening_of bytes h t o x is) (opening_of bytes k u p y has) in
-    let target = one_target t u has.behind_opening is.behind_target has.behind_target (target_at bytes h t o x k.id k.flags has.behind_opening (opening_of bytes k u p y has) is) (target_of bytes k u p y has) in
-    let closing = one_closing o p has.behind_target is.behind has.behind (closing_at bytes h t o x k.id k.flags u has.behind_opening has.behind_target (opening_of bytes k u p y has) (target_of bytes k u p y has) is) (closing_of bytes k u p y has) in
+    let opening = one_opening h.id k.id h.flags k.flags (fields_start bytes) is.behind_opening has.behind_opening is.opening has.opening in
+    let target = one_target t u has.behind_opening is.behind_target has.behind_target (target_at bytes h t o x k.id k.flags has.behind_opening has.opening is) has.addressed in
+    let closing = one_closing o p has.behind_target is.behind has.behind (closing_at bytes h t o x k.id k.flags u has.behind_opening has.behind_target has.opening has.addressed is) has.closing in
     same_call h k t u o p x y
     (is.is_head ∙ (ap₂ (λ (i f : ℕ). request_head i f (is_little bytes)) opening.0 opening.1 ∙ sym has.is_head)) target.0 closing.0
     (is.is_body ∙ (ap body_at closing.1 ∙ sym has.is_body))
@@ -38,41 +36,23 @@ one_request bytes h k t u o p x y is has =
 one_id : (bytes : List ℕ) (m n : ℕ) → HasId m bytes → HasId n bytes → m ≡ n
 one_id bytes m n here there = (one_ulong_read m n (fields_start bytes) here.behind there.behind here.read there.read).0
 
--- a call that is asked is that of a Request
-pub asks_request : (bytes : List ℕ) (call : Call) → AsksCall bytes call → message_type bytes ≡ REQUEST
-asks_request bytes (Request head target operation body) asks = asks.0
-asks_request bytes (Locate head target) asks = absurd asks
-asks_request bytes (Line number command) asks = absurd asks
+-- a message makes one call
+one_made : (bytes : List ℕ) (a b : Call) → MakesCall bytes a → MakesCall bytes b → a ≡ b
+one_made bytes (Request h t o x) (Request k u p y) is has = one_request bytes h k t u o p x y is has
+one_made bytes (Request h t o x) (Locate k u) is has = absurd has
+one_made bytes (Request h t o x) (Line n c) is has = absurd has
+one_made bytes (Locate h t) b is has = absurd is
+one_made bytes (Line n c) b is has = absurd is
 
-pub request_asks : (bytes : List ℕ) (call : Call) → AsksCall bytes call → RequestCall bytes call
-request_asks bytes (Request head target operation body) asks = asks.1
-request_asks bytes (Locate head target) asks = asks
-request_asks bytes (Line number command) asks = asks
-
-pub asks_read : (bytes : List ℕ) (call : Call) → message_type bytes ≡ REQUEST → RequestCall bytes call → AsksCall bytes call
-asks_read bytes (Request head target operation body) kind is = (kind, is)
-asks_read bytes (Locate head target) kind is = is
-asks_read bytes (Line number command) kind is = is
-
-one_call_asked : (bytes : List ℕ) (a b : Call) → AsksCall bytes a → AsksCall bytes b → a ≡ b
-one_call_asked bytes (Request h t o x) (Request k u p y) is has = one_request bytes h k t u o p x y is.1 has.1
-one_call_asked bytes (Request h t o x) (Locate k u) is has = absurd has
-one_call_asked bytes (Request h t o x) (Line n c) is has = absurd has
-one_call_asked bytes (Locate h t) b is has = absurd is
-one_call_asked bytes (Line n c) b is has = absurd is
-
--- a message of one type isn't of another
-two_types : (k m n : ℕ) → k ≡ m → k ≡ n → (m ≡ n → ⊥) → ⊥
-two_types k m n here there other = other (sym here ∙ there)
-
+-- and asks one thing
 one_asked : (bytes : List ℕ) (a b : Incoming) → Asks bytes a → Asks bytes b → a ≡ b
-one_asked bytes (incoming.Call a) (incoming.Call b) is has = ap (λ (c : Call). incoming.Call c) (one_call_asked bytes a b is has)
-one_asked bytes (incoming.Call a) (incoming.Cancel n) is has = let kind = asks_request bytes a is in absurd (omega (arith, kind, has.0))
-one_asked bytes (incoming.Call a) incoming.Closing is has = let kind = asks_request bytes a is in absurd (omega (arith, kind, has))
-one_asked bytes (incoming.Cancel m) (incoming.Call b) is has = let kind = asks_request bytes b has in absurd (omega (arith, kind, is.0))
+one_asked bytes (incoming.Call a) (incoming.Call b) is has = ap (λ (c : Call). incoming.Call c) (one_made bytes a b is.1 has.1)
+one_asked bytes (incoming.Call a) (incoming.Cancel n) is has = absurd (omega (arith, is.0, has.0))
+one_asked bytes (incoming.Call a) incoming.Closing is has = absurd (omega (arith, is.0, has))
+one_asked bytes (incoming.Cancel m) (incoming.Call b) is has = absurd (omega (arith, has.0, is.0))
 one_asked bytes (incoming.Cancel m) (incoming.Cancel n) is has = ap (λ (i : ℕ). incoming.Cancel i) (one_id bytes m n is.1 has.1)
 one_asked bytes (incoming.Cancel m) incoming.Closing is has = absurd (omega (arith, is.0, has))
-one_asked bytes incoming.Closing (incoming.Call b) is has = let kind = asks_request bytes b has in absurd (omega (arith, kind, is))
+one_asked bytes incoming.Closing (incoming.Call b) is has = absurd (omega (arith, has.0, is))
 one_asked bytes incoming.Closing (incoming.Cancel n) is has = absurd (omega (arith, is, has.0))
 one_asked bytes incoming.Closing incoming.Closing is has = refl
 
@@ -101,55 +81,30 @@ no_client_closing (inr (inl e)) = omega (arith, e)
 no_client_closing (inr (inr e)) = omega (arith, e)
 
 pub not_for_client : (bytes : List ℕ) (asked : Incoming) → Asks bytes asked → IsForClient (message_type bytes) → ⊥
-not_for_client bytes (incoming.Call call) asks client = no_client_request (for_client bytes REQUEST client (asks_request bytes call asks))
+not_for_client bytes (incoming.Call call) asks client = no_client_request (for_client bytes REQUEST client asks.0)
 not_for_client bytes (incoming.Cancel id) asks client = no_client_cancel (for_client bytes CANCEL_REQUEST client asks.0)
 not_for_client bytes incoming.Closing asks client = no_client_closing (for_client bytes CLOSE_CONNECTION client asks)
 
 pub unbuilt_not_for_client : (bytes : List ℕ) → IsUnbuilt bytes → IsForClient (message_type bytes) → ⊥
-unbuilt_not_for_client bytes (inl later) client = no_client_request (for_client bytes REQUEST client later.is_request)
+unbuilt_not_for_client bytes (inl later) client = no_client_request (for_client bytes REQUEST client later.0)
 unbuilt_not_for_client bytes (inr later) client = no_client_locate (for_client bytes LOCATE_REQUEST client later.is_locate)
 
--- a target that is told in another way
-pub later_target : (bytes : List ℕ) → AsksLater bytes → IsLaterRequest bytes
-later_target bytes later = record {
-  id = later.id;
-  flags = later.flags;
-  behind = later.behind_opening;
-  opening = record { a = later.a; b = later.b; c = later.c; read = later.opening };
-  target = record { disposition = later.disposition; behind = later.behind; read = later.disposition_read; later = later.later };
-}
-
-pub later_asks : (bytes : List ℕ) → message_type bytes ≡ REQUEST → IsLaterRequest bytes → AsksLater bytes
-later_asks bytes kind later = record {
-  id = later.id;
-  flags = later.flags;
-  a = later.opening.a;
-  b = later.opening.b;
-  c = later.opening.c;
-  disposition = later.target.disposition;
-  behind_opening = later.behind;
-  behind = later.target.behind;
-  is_request = kind;
-  opening = later.opening.read;
-  disposition_read = later.target.read;
-  later = later.target.later;
-}
-
+-- a Request that is read is none that isn't read yet
 read_or_later : (bytes : List ℕ) (head : Head) (t : Option (List ℕ)) (o : List ℕ) (body : Body) → IsRequest bytes head t o body → IsLaterRequest bytes → ⊥
 read_or_later bytes head t o body is later =
     no_later_target t later.behind is.behind_target (target_at bytes head t o body later.id later.flags later.behind later.opening is) later.target
 
-asked_or_later : (bytes : List ℕ) (call : Call) → RequestCall bytes call → IsLaterRequest bytes → ⊥
+asked_or_later : (bytes : List ℕ) (call : Call) → MakesCall bytes call → IsLaterRequest bytes → ⊥
 asked_or_later bytes (Request head target operation body) is later = read_or_later bytes head target operation body is later
 asked_or_later bytes (Locate head target) is later = is
 asked_or_later bytes (Line number command) is later = is
 
 pub not_unbuilt : (bytes : List ℕ) (asked : Incoming) → Asks bytes asked → IsUnbuilt bytes → ⊥
-not_unbuilt bytes (incoming.Call call) asks (inl later) = asked_or_later bytes call (request_asks bytes call asks) (later_target bytes later)
-not_unbuilt bytes (incoming.Call call) asks (inr later) = let kind = asks_request bytes call asks in omega (arith, kind, later.is_locate)
-not_unbuilt bytes (incoming.Cancel id) asks (inl later) = omega (arith, asks.0, later.is_request)
+not_unbuilt bytes (incoming.Call call) asks (inl later) = asked_or_later bytes call asks.1 later.1
+not_unbuilt bytes (incoming.Call call) asks (inr later) = omega (arith, asks.0, later.is_locate)
+not_unbuilt bytes (incoming.Cancel id) asks (inl later) = omega (arith, asks.0, later.0)
 not_unbuilt bytes (incoming.Cancel id) asks (inr later) = omega (arith, asks.0, later.is_locate)
-not_unbuilt bytes incoming.Closing asks (inl later) = omega (arith, asks, later.is_request)
+not_unbuilt bytes incoming.Closing asks (inl later) = omega (arith, asks, later.0)
 not_unbuilt bytes incoming.Closing asks (inr later) = omega (arith, asks, later.is_locate)
 
 one_fault : (bytes : List ℕ) (e f : MsgFault) → CallOf bytes (Err e) → CallOf bytes (Err f) → e ≡ f

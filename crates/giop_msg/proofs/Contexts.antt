@@ -1,7 +1,6 @@
 -- Service contexts, one behind the other.
-use Rattle.std.proofs.Common.{◌≡◌, ◌≢◌, ℕ, ◌+◌, ◌<◌, List, [], ◌∷◌, ◌++◌, length, refl, sym, ap, ◌∙◌, subst, arith, length-append, ◌⊎◌, inl, inr}
+use Rattle.std.proofs.Common.{◌≡◌, ℕ, ◌+◌, ◌<◌, List, [], ◌∷◌, ◌++◌, length, refl, sym, ap, ◌∙◌, subst, arith, length-append, ◌⊎◌, inl, inr}
 use Rattle.cdr_core.specs.declared.CdrFault.{CdrFault}
-use Rattle.cdr_core.specs.declared.CdrFault.TheVariants.{WantMemory}
 use Rattle.cdr_core.specs.Kind.{Text, ULong, Octets}
 use Rattle.cdr_core.specs.Field.{Field, ulong, octets, text}
 use Rattle.cdr_core.specs.Cursor.{Cursor, Reads}
@@ -9,8 +8,8 @@ use Rattle.cdr_core.specs.Refusal.{Refuses}
 use Rattle.cdr_core.proofs.OneReading.{one_ulong_read, one_octets_read, one_text_read}
 use Rattle.cdr_core.proofs.Refusals.{none_where_refused}
 use Rattle.giop_msg.specs.Fields.{ReadsAll}
-use Rattle.giop_msg.specs.Request.{Context, context_fields, closing_fields}
-use Rattle.giop_msg.specs.Reading.{IsContext, HasContexts, IsClosing}
+use Rattle.giop_msg.specs.Request.{Context, context_fields, IsClosing}
+use Rattle.giop_msg.specs.Reading.{IsContext, HasContexts}
 use Rattle.giop_msg.proofs.Fields.{reads_append}
 
 pub no_contexts : (c : Cursor) → HasContexts 0 c c
@@ -26,16 +25,19 @@ more_contexts n a b c has next = record {
   contexts = has.contexts ++ next.context ∷ [];
   counted = omega (arith, length-append has.contexts (next.context ∷ []), has.counted);
   read = subst (λ (fs : List Field). ReadsAll fs a c) (sym (context_fields-append has.contexts (next.context ∷ [])))
-    (reads_append (context_fields has.contexts) (context_fields (next.context ∷ [])) a b c has.read next.read);
+      (reads_append (context_fields has.contexts) (context_fields (next.context ∷ [])) a b c has.read next.read);
 }
 
 -- where more contexts stand than were read, one more stands behind these
 next_context : (xs ys : List Context) (a b c : Cursor) → length xs < length ys → ReadsAll (context_fields xs) a b → ReadsAll (context_fields ys) a c → (d : Cursor) × IsContext b d
 next_context [] [] a b c fewer here there = absurd (omega arith)
-next_context [] (y ∷ ys) a b c fewer here there = (there.1.1.0, record {
-  context = y;
-  read = (there.0, (subst (λ (x : Cursor). Reads (ulong y.0) x there.0) (sym here) there.1.0, (there.1.1.0, (there.1.1.1.0, refl))));
-})
+next_context [] (y ∷ ys) a b c fewer here there = (
+  there.1.1.0,
+  record {
+    context = y;
+    read = (there.0, (subst (λ (x : Cursor). Reads (ulong y.0) x there.0) (sym here) there.1.0, (there.1.1.0, (there.1.1.1.0, refl))));
+  },
+)
 next_context (x ∷ xs) [] a b c fewer here there = absurd (omega arith)
 next_context (x ∷ xs) (y ∷ ys) a b c fewer here there =
     let id = one_ulong_read x.0 y.0 a here.0 there.0 here.1.0 there.1.0 in

@@ -1,14 +1,19 @@
 -- Fields that are read one behind the other: there is one reading of given kinds, and none through a refused field.
-use Rattle.std.proofs.Common.{◌≡◌, ◌≢◌, inl, inr, List, [], ◌∷◌, ◌++◌, length, refl, sym, ap, ◌∙◌, subst}
+use Rattle.std.proofs.Common.{◌≡◌, ◌≢◌, inl, inr, List, [], ◌∷◌, ◌++◌, refl, sym, ap, ◌∙◌, subst}
 use Rattle.cdr_core.specs.declared.CdrFault.{CdrFault}
 use Rattle.cdr_core.specs.declared.CdrFault.TheVariants.{WantMemory}
 use Rattle.cdr_core.specs.Kind.{Kind, Octet, UShort, ULong, LongLong, Boolean, Text, Octets}
 use Rattle.cdr_core.specs.Field.{Field, kind_of}
-use Rattle.cdr_core.specs.Cursor.{Cursor, Reads}
+use Rattle.cdr_core.specs.Cursor.{Cursor}
 use Rattle.cdr_core.specs.Refusal.{Refuses}
 use Rattle.cdr_core.proofs.OneReading.{one_reading}
 use Rattle.cdr_core.proofs.Refusals.{none_where_refused}
-use Rattle.giop_msg.specs.Fields.{ReadsAll, kinds_of}
+use Rattle.giop_msg.specs.Fields.{ReadsAll}
+
+-- the kinds of fields
+abbrev pub kinds_of : List Field → List Kind
+kinds_of [] = []
+kinds_of (field ∷ fields) = kind_of field ∷ kinds_of fields
 
 -- what was read up to a refused field is the start of no whole reading
 pub stuck : (read others : List Field) (kind : Kind) (kinds : List Kind) (before after last : Cursor) (fault : CdrFault) → kinds_of others ≡ kinds_of read ++ kind ∷ kinds → ReadsAll read before after → Refuses kind after fault → ReadsAll others before last → ⊥

@@ -1,6 +1,5 @@
 -- What a written header says.
-use Rattle.std.proofs.Common.{◌≡◌, ℕ, ◌+◌, ◌≤◌, ◌<◌, Bool, true, false, List, length, drop, take, get_or, refl, arith}
-use Rattle.std.specs.Prelude.{codes, slice_index}
+use Rattle.std.proofs.Common.{◌≡◌, ℕ, ◌<◌, Bool, true, false, List, drop, refl, arith}
 use Rattle.giop_frame.specs.Part.{is_little}
 use Rattle.giop_frame.specs.Message.{IsMessage}
 use Rattle.giop_msg.specs.declared.kind.TheConstants.{HEADER, MINOR}

@@ -7,18 +7,19 @@ use Rattle.giop_msg.specs.declared.fault.MsgFault.{MsgFault}
 use Rattle.giop_msg.specs.declared.fault.MsgFault.TheVariants.{Malformed, NotForServer, Unbuilt, WantMemory}
 use Rattle.giop_msg.specs.declared.kind.TheConstants.{REQUEST, CANCEL_REQUEST, LOCATE_REQUEST}
 use Rattle.giop_msg.specs.Header.{message_type}
-use Rattle.giop_msg.specs.Reading.{RequestCall, IsLaterRequest, RequestFault}
-use Rattle.giop_msg.specs.Call.{HasId, Asks, IsUnbuilt, IsMalformed, CallOf}
-use Rattle.giop_msg.proofs.Calls.{asks_request, request_asks, later_target, later_asks, for_client, no_client_request, no_client_cancel, no_client_locate}
+use Rattle.giop_msg.specs.Request.{IsLaterRequest}
+use Rattle.giop_msg.specs.Reading.{RequestFault}
+use Rattle.giop_msg.specs.Call.{HasId, MakesCall, Asks, IsUnbuilt, IsMalformed, CallOf}
+use Rattle.giop_msg.proofs.Calls.{for_client, no_client_request, no_client_cancel, no_client_locate}
 
 -- a Request
-request_asks_nothing : (bytes : List ℕ) → message_type bytes ≡ REQUEST → ((call : Call) → RequestCall bytes call → ⊥) → (asked : Incoming) → Asks bytes asked → ⊥
-request_asks_nothing bytes kind none (incoming.Call call) asks = none call (request_asks bytes call asks)
+request_asks_nothing : (bytes : List ℕ) → message_type bytes ≡ REQUEST → ((call : Call) → MakesCall bytes call → ⊥) → (asked : Incoming) → Asks bytes asked → ⊥
+request_asks_nothing bytes kind none (incoming.Call call) asks = none call asks.1
 request_asks_nothing bytes kind none (incoming.Cancel id) asks = omega (arith, kind, asks.0)
 request_asks_nothing bytes kind none incoming.Closing asks = omega (arith, kind, asks)
 
 request_built : (bytes : List ℕ) → message_type bytes ≡ REQUEST → (IsLaterRequest bytes → ⊥) → IsUnbuilt bytes → ⊥
-request_built bytes kind none (inl later) = none (later_target bytes later)
+request_built bytes kind none (inl later) = none later.1
 request_built bytes kind none (inr later) = omega (arith, kind, later.is_locate)
 
 pub request_refused : (bytes : List ℕ) (fault : MsgFault) → message_type bytes ≡ REQUEST → RequestFault bytes fault → (fault ≡ WantMemory) ⊎ CallOf bytes (Err fault)
@@ -28,17 +29,17 @@ request_refused bytes Malformed kind bad = inr (record {
   built = request_built bytes kind bad.1;
 })
 request_refused bytes NotForServer kind bad = absurd bad
-request_refused bytes Unbuilt kind bad = inr (inl (later_asks bytes kind bad))
+request_refused bytes Unbuilt kind bad = inr (inl (kind, bad))
 request_refused bytes WantMemory kind bad = inl refl
 
 -- a CancelRequest without an id
 cancel_asks_nothing : (bytes : List ℕ) → message_type bytes ≡ CANCEL_REQUEST → ((id : ℕ) → HasId id bytes → ⊥) → (asked : Incoming) → Asks bytes asked → ⊥
-cancel_asks_nothing bytes kind none (incoming.Call call) asks = let request = asks_request bytes call asks in omega (arith, kind, request)
+cancel_asks_nothing bytes kind none (incoming.Call call) asks = omega (arith, kind, asks.0)
 cancel_asks_nothing bytes kind none (incoming.Cancel id) asks = none id asks.1
 cancel_asks_nothing bytes kind none incoming.Closing asks = omega (arith, kind, asks)
 
 cancel_built : (bytes : List ℕ) → message_type bytes ≡ CANCEL_REQUEST → IsUnbuilt bytes → ⊥
-cancel_built bytes kind (inl later) = omega (arith, kind, later.is_request)
+cancel_built bytes kind (inl later) = omega (arith, kind, later.0)
 cancel_built bytes kind (inr later) = omega (arith, kind, later.is_locate)
 
 pub cancel_malformed : (bytes : List ℕ) → message_type bytes ≡ CANCEL_REQUEST → ((id : ℕ) → HasId id bytes → ⊥) → IsMalformed bytes
@@ -50,12 +51,12 @@ cancel_malformed bytes kind none = record {
 
 -- a LocateRequest without an id
 locate_asks_nothing : (bytes : List ℕ) → message_type bytes ≡ LOCATE_REQUEST → (asked : Incoming) → Asks bytes asked → ⊥
-locate_asks_nothing bytes kind (incoming.Call call) asks = let request = asks_request bytes call asks in omega (arith, kind, request)
+locate_asks_nothing bytes kind (incoming.Call call) asks = omega (arith, kind, asks.0)
 locate_asks_nothing bytes kind (incoming.Cancel id) asks = omega (arith, kind, asks.0)
 locate_asks_nothing bytes kind incoming.Closing asks = omega (arith, kind, asks)
 
 locate_built : (bytes : List ℕ) → message_type bytes ≡ LOCATE_REQUEST → ((id : ℕ) → HasId id bytes → ⊥) → IsUnbuilt bytes → ⊥
-locate_built bytes kind none (inl later) = omega (arith, kind, later.is_request)
+locate_built bytes kind none (inl later) = omega (arith, kind, later.0)
 locate_built bytes kind none (inr later) = none later.id later.has_id
 
 pub locate_malformed : (bytes : List ℕ) → message_type bytes ≡ LOCATE_REQUEST → ((id : ℕ) → HasId id bytes → ⊥) → IsMalformed bytes

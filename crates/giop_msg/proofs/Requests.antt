@@ -1,8 +1,7 @@
 -- The parts of a Request, each read where the one before it ends.
-use Rattle.std.proofs.Common.{◌≡◌, ◌≢◌, ℕ, ◌≤◌, Bool, false, List, [], ◌∷◌, Option, length, drop, refl, sym, ap, ◌∙◌, subst, ◌⊎◌, inl, inr}
+use Rattle.std.proofs.Common.{◌≡◌, ℕ, ◌≤◌, Bool, false, List, Option, length, drop, refl, ap, ◌∙◌, subst, ◌⊎◌, inl, inr}
 use Rattle.cdr_core.specs.declared.CdrFault.{CdrFault}
 use Rattle.cdr_core.specs.declared.CdrFault.TheVariants.{Short, BadBool, NoNul, WantMemory}
-use Rattle.cdr_core.specs.Field.{octet, ulong}
 use Rattle.cdr_core.specs.Cursor.{Cursor}
 use Rattle.poa_base.specs.declared.Body.{Body}
 use Rattle.poa_base.specs.declared.Call.{Call}
@@ -13,11 +12,11 @@ use Rattle.giop_msg.specs.declared.fault.MsgFault.{MsgFault}
 use Rattle.giop_msg.specs.declared.fault.MsgFault.TheVariants as fault
 use Rattle.giop_msg.specs.declared.kind.TheConstants.{HEADER, MINOR}
 use Rattle.giop_msg.specs.Fields.{fields_start}
-use Rattle.giop_msg.specs.Target.{target_fields}
-use Rattle.giop_msg.specs.Request.{opening_fields, closing_fields, body_at, request_head, IsRequest}
-use Rattle.giop_msg.specs.Reading.{fault_of, IsOpening, IsTarget, IsLaterTarget, TargetFault, IsClosing, RequestCall, IsLaterRequest, RequestFault}
+use Rattle.giop_msg.specs.Target.{target_fields, IsTarget, IsLaterTarget}
+use Rattle.giop_msg.specs.Request.{opening_fields, closing_fields, body_at, request_head, IsOpening, IsClosing, IsRequest, IsLaterRequest}
+use Rattle.giop_msg.specs.Call.{MakesCall}
+use Rattle.giop_msg.specs.Reading.{fault_of, TargetFault, RequestFault}
 use Rattle.giop_msg.proofs.Fields.{one_reading_of_all}
-use Rattle.giop_msg.proofs.Contexts.{one_closing}
 use Rattle.giop_msg.proofs.Targets.{one_target, no_later_target}
 use Rattle.giop_msg.proofs.Places.{IsWithin, start_within, fields_within, by_place}
 
@@ -30,31 +29,21 @@ one_opening i j f g a b c here there =
     same : opening_fields i f here.a here.b here.c ≡ opening_fields j g there.a there.b there.c → b ≡ c → (i ≡ j) × (f ≡ g) × (b ≡ c)
     same fields end = (cc, cc, end)
 
--- the parts of a Request
-pub opening_of : (bytes : List ℕ) (head : Head) (t : Option (List ℕ)) (o : List ℕ) (body : Body) (is : IsRequest bytes head t o body) → IsOpening head.id head.flags (fields_start bytes) is.behind_opening
-opening_of bytes head t o body is = record { a = is.a; b = is.b; c = is.c; read = is.opening }
-
-pub target_of : (bytes : List ℕ) (head : Head) (t : Option (List ℕ)) (o : List ℕ) (body : Body) (is : IsRequest bytes head t o body) → IsTarget t is.behind_opening is.behind_target
-target_of bytes head t o body is = record { object = is.object; read = is.target_read; gives = is.is_target }
-
-pub closing_of : (bytes : List ℕ) (head : Head) (t : Option (List ℕ)) (o : List ℕ) (body : Body) (is : IsRequest bytes head t o body) → IsClosing o is.behind_target is.behind
-closing_of bytes head t o body is = record { contexts = is.contexts; read = is.closing }
-
 -- its target and what follows stand where the parts that were read end
 pub target_at : (bytes : List ℕ) (head : Head) (t : Option (List ℕ)) (o : List ℕ) (body : Body) (i f : ℕ) (b : Cursor) → IsOpening i f (fields_start bytes) b → (is : IsRequest bytes head t o body) → IsTarget t b is.behind_target
 target_at bytes head t o body i f b opening is =
-    subst (λ (z : Cursor). IsTarget t z is.behind_target) (one_opening head.id i head.flags f (fields_start bytes) is.behind_opening b (opening_of bytes head t o body is) opening).2 (target_of bytes head t o body is)
+    subst (λ (z : Cursor). IsTarget t z is.behind_target) (one_opening head.id i head.flags f (fields_start bytes) is.behind_opening b is.opening opening).2 is.addressed
 
 pub closing_at : (bytes : List ℕ) (head : Head) (t : Option (List ℕ)) (o : List ℕ) (body : Body) (i f : ℕ) (u : Option (List ℕ)) (b d : Cursor) → IsOpening i f (fields_start bytes) b → IsTarget u b d → (is : IsRequest bytes head t o body) → IsClosing o d is.behind
 closing_at bytes head t o body i f u b d opening target is =
-    subst (λ (z : Cursor). IsClosing o z is.behind) (one_target t u b is.behind_target d (target_at bytes head t o body i f b opening is) target).1 (closing_of bytes head t o body is)
+    subst (λ (z : Cursor). IsClosing o z is.behind) (one_target t u b is.behind_target d (target_at bytes head t o body i f b opening is) target).1 is.closing
 
 pub later_at : (bytes : List ℕ) (i f : ℕ) (b : Cursor) → IsOpening i f (fields_start bytes) b → IsLaterRequest bytes → IsLaterTarget b
 later_at bytes i f b opening later =
     subst IsLaterTarget (one_opening later.id i later.flags f (fields_start bytes) later.behind b later.opening opening).2 later.target
 
 -- no Request, so no call of one
-no_call : (bytes : List ℕ) → ((head : Head) (t : Option (List ℕ)) (o : List ℕ) (body : Body) → IsRequest bytes head t o body → ⊥) → (call : Call) → RequestCall bytes call → ⊥
+no_call : (bytes : List ℕ) → ((head : Head) (t : Option (List ℕ)) (o : List ℕ) (body : Body) → IsRequest bytes head t o body → ⊥) → (call : Call) → MakesCall bytes call → ⊥
 no_call bytes none (Request head t o body) is = none head t o body is
 no_call bytes none (Locate head t) is = is
 no_call bytes none (Line number command) is = is
@@ -72,7 +61,7 @@ refusal bytes NoNul (inr bad) = bad
 -- the opening can't be read
 pub no_opening : (bytes : List ℕ) (refused : CdrFault) → ((id flags : ℕ) (after : Cursor) → IsOpening id flags (fields_start bytes) after → ⊥) → RequestFault bytes (fault_of refused)
 no_opening bytes refused none = refusal bytes refused (inr (
-  no_call bytes (λ head t o body is. none head.id head.flags is.behind_opening (opening_of bytes head t o body is)),
+  no_call bytes (λ head t o body is. none head.id head.flags is.behind_opening is.opening),
   λ later. none later.id later.flags later.behind later.opening,
 ))
 
@@ -104,18 +93,12 @@ within bytes i f t o b d e whole opening target closing =
 -- the parts make a Request
 pub request_read : (bytes : List ℕ) (i f place : ℕ) (t : Option (List ℕ)) (o : List ℕ) (body : Body) (b d e : Cursor) → HEADER ≤ length bytes → IsOpening i f (fields_start bytes) b → IsTarget t b d → IsClosing o d e → place ≡ e.place → body ≡ body_at (record { little = is_little bytes; place = place; rest = drop place bytes }) → IsRequest bytes (record { id = i; minor = MINOR; little = body.little; flags = f; locate = false }) t o body
 request_read bytes i f place t o body b d e whole opening target closing at is_body = record {
-  a = opening.a;
-  b = opening.b;
-  c = opening.c;
-  object = target.object;
-  contexts = closing.contexts;
   behind_opening = b;
   behind_target = d;
   behind = e;
-  opening = opening.read;
-  target_read = target.read;
-  closing = closing.read;
+  opening = opening;
+  addressed = target;
+  closing = closing;
   is_head = ap (λ (little : Bool). request_head i f little) (ap (λ (x : Body). x.little) is_body);
-  is_target = target.gives;
   is_body = is_body ∙ ap body_at (by_place bytes e place (within bytes i f t o b d e whole opening target closing) at);
 }

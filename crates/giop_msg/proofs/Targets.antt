@@ -9,10 +9,10 @@ use Rattle.cdr_core.specs.Refusal.{Refuses}
 use Rattle.cdr_core.proofs.OneReading.{one_ushort_read, one_octets_read}
 use Rattle.cdr_core.proofs.Refusals.{none_where_refused}
 use Rattle.giop_msg.specs.declared.fault.MsgFault.TheVariants as fault
-use Rattle.giop_msg.specs.declared.target.TheConstants.{KEY_ADDRESS, PROFILE_ADDRESS, REFERENCE_ADDRESS}
+use Rattle.giop_msg.specs.declared.target.TheConstants.{KEY_ADDRESS}
 use Rattle.giop_msg.specs.Fields.{ReadsAll}
-use Rattle.giop_msg.specs.Target.{Target, by_key, target_fields, key_of, IsLaterAddress}
-use Rattle.giop_msg.specs.Reading.{fault_of, IsTarget, IsLaterTarget, TargetFault}
+use Rattle.giop_msg.specs.Target.{Target, by_key, target_fields, key_of, IsTarget, IsLaterAddress, IsLaterTarget}
+use Rattle.giop_msg.specs.Reading.{fault_of, TargetFault}
 
 -- a key was read
 pub key_read : (key target : List ℕ) (a b c : Cursor) → Reads (ushort KEY_ADDRESS) a b → Reads (octets key) b c → target ≡ key → IsTarget (Some target) a c

@@ -1,5 +1,5 @@
 -- Fields that were written one behind the other are read one behind the other.
-use Rattle.std.proofs.Common.{◌≡◌, ℕ, ◌+◌, Bool, List, [], ◌∷◌, ◌++◌, length, refl, sym, ap, ◌∙◌, subst, arith, append_assoc, length-append}
+use Rattle.std.proofs.Common.{◌≡◌, ℕ, ◌+◌, Bool, List, [], ◌∷◌, ◌++◌, length, refl, sym, ap, ◌∙◌, arith, append_assoc, length-append}
 use Rattle.std.proofs.lemmas.List.{append-nil}
 use Rattle.cdr_core.specs.Field.{Field, Fits}
 use Rattle.cdr_core.specs.Spelling.{written}
@@ -36,8 +36,7 @@ reads_written [] c after fit split little place = same_cursor after c little (om
 reads_written (f ∷ fs) c after fit split little place =
     let w : List ℕ = written c.little c.place f in
     let later : List ℕ = written_all c.little (c.place + length w) fs in
-    let behind : Cursor = record { little = c.little; place = c.place + length w; rest = later ++ after.rest } in
-    (
+    let behind : Cursor = record { little = c.little; place = c.place + length w; rest = later ++ after.rest } in (
       behind,
       (
         written_reads_back f c (later ++ after.rest) fit.0 (split ∙ append_assoc w later after.rest),

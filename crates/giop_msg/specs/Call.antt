@@ -1,6 +1,6 @@
 -- The call of a message: what it asks of a server, or why it asks nothing.
-use Rattle.std.specs.Prelude.{◌≡◌, ℕ, List, [], ◌∷◌, ◌++◌, Result, Ok, Err, ◌⊎◌}
-use Rattle.cdr_core.specs.Field.{ulong, ushort}
+use Rattle.std.specs.Prelude.{◌≡◌, ℕ, List, Result, Ok, Err, ◌⊎◌}
+use Rattle.cdr_core.specs.Field.{ulong}
 use Rattle.cdr_core.specs.Cursor.{Cursor, Reads}
 use Rattle.poa_base.specs.declared.Call.{Call}
 use Rattle.poa_base.specs.declared.Call.TheVariants.{Request, Locate, Line}
@@ -9,44 +9,27 @@ use Rattle.giop_msg.specs.declared.incoming.Incoming.TheVariants as incoming
 use Rattle.giop_msg.specs.declared.fault.MsgFault.{MsgFault}
 use Rattle.giop_msg.specs.declared.fault.MsgFault.TheVariants.{Malformed, NotForServer, Unbuilt, WantMemory}
 use Rattle.giop_msg.specs.declared.kind.TheConstants.{REQUEST, CANCEL_REQUEST, LOCATE_REQUEST, CLOSE_CONNECTION}
-use Rattle.giop_msg.specs.Fields.{ReadsAll, fields_start}
+use Rattle.giop_msg.specs.Fields.{fields_start}
 use Rattle.giop_msg.specs.Header.{message_type, IsForClient}
-use Rattle.giop_msg.specs.Target.{IsLaterAddress}
-use Rattle.giop_msg.specs.Request.{opening_fields, IsRequest}
+use Rattle.giop_msg.specs.Request.{IsRequest, IsLaterRequest}
 
 -- the id with which the fields of the message begin
 pub record HasId (id : ℕ) (bytes : List ℕ) : Type 0 where
   pub behind : Cursor
   pub read : Reads (ulong id) (fields_start bytes) behind
 
--- a Request asks its call; a LocateRequest isn't read yet; no message asks a line
-abbrev pub AsksCall : List ℕ → Call → Type 0
-AsksCall bytes (Request head target operation body) =
-    (message_type bytes ≡ REQUEST) × IsRequest bytes head target operation body
-AsksCall bytes (Locate head target) = ⊥
-AsksCall bytes (Line number command) = ⊥
+-- the fields of the message make this call. A LocateRequest isn't read yet, and no message makes a line
+abbrev pub MakesCall : List ℕ → Call → Type 0
+MakesCall bytes (Request head target operation body) = IsRequest bytes head target operation body
+MakesCall bytes (Locate head target) = ⊥
+MakesCall bytes (Line number command) = ⊥
 
 -- what the message asks: a call, or that a request is cancelled, or that the connection is closed. Bytes behind
 -- the id of a CancelRequest and behind the header of a CloseConnection are ignored
 abbrev pub Asks : List ℕ → Incoming → Type 0
-Asks bytes (incoming.Call call) = AsksCall bytes call
+Asks bytes (incoming.Call call) = (message_type bytes ≡ REQUEST) × MakesCall bytes call
 Asks bytes (incoming.Cancel id) = (message_type bytes ≡ CANCEL_REQUEST) × HasId id bytes
 Asks bytes incoming.Closing = message_type bytes ≡ CLOSE_CONNECTION
-
--- a Request whose target is told by a profile or by a reference
-pub record AsksLater (bytes : List ℕ) : Type 0 where
-  pub id : ℕ
-  pub flags : ℕ
-  pub a : ℕ
-  pub b : ℕ
-  pub c : ℕ
-  pub disposition : ℕ
-  pub behind_opening : Cursor
-  pub behind : Cursor
-  pub is_request : message_type bytes ≡ REQUEST
-  pub opening : ReadsAll (opening_fields id flags a b c) (fields_start bytes) behind_opening
-  pub disposition_read : Reads (ushort disposition) behind_opening behind
-  pub later : IsLaterAddress disposition
 
 -- a LocateRequest with an id
 pub record LocatesLater (bytes : List ℕ) : Type 0 where
@@ -56,7 +39,7 @@ pub record LocatesLater (bytes : List ℕ) : Type 0 where
 
 -- messages that this server doesn't read yet
 abbrev pub IsUnbuilt : List ℕ → Type 0
-IsUnbuilt bytes = AsksLater bytes ⊎ LocatesLater bytes
+IsUnbuilt bytes = ((message_type bytes ≡ REQUEST) × IsLaterRequest bytes) ⊎ LocatesLater bytes
 
 -- a message for a server whose fields can't be read
 pub record IsMalformed (bytes : List ℕ) : Type 0 where

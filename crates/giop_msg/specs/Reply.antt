@@ -1,5 +1,5 @@
 -- The bytes of a reply: CORBA 3.3 Part 2, 9.4.3 and 9.4.5.
-use Rattle.std.specs.Prelude.{ℕ, ◌==◌, ◌&&◌, Bool, true, false, if◌then◌else◌, List, [], ◌∷◌, Option, None, Some, IsTrue, IsFalse}
+use Rattle.std.specs.Prelude.{ℕ, ◌==◌, Bool, if◌then◌else◌, List, [], ◌∷◌, Option, None, Some, IsTrue, IsFalse}
 use Rattle.cdr_core.specs.Field.{Field, ushort, ulong, longlong, boolean, text, octets}
 use Rattle.cdr_core.specs.Draft.{Draft}
 use Rattle.poa_base.specs.declared.Head.{Head}

@@ -1,6 +1,8 @@
 //! Requests that are written: CORBA 3.3 Part 2, 9.4.2.
 ghost use Rattle.std.specs.Prelude.{◌≡◌, ◌<◌, ◌^◌, IfOk, OnOk, IsFalse};
 ghost use Rattle.giop_frame.specs.Message.{IsMessage};
+ghost use Rattle.giop_msg.specs.Outgoing.{fields_draft};
+ghost use Rattle.giop_msg.specs.Request.{opening_fields};
 ghost use Rattle.giop_msg.specs.Ask.{request_bytes, request_draft, argument_bytes as bytes_of_argument, IsAsk};
 
 use crate::field::{put_datum, put_octets, put_text};
@@ -34,19 +36,32 @@ pub fn write_request(alloc: Global, ask: &Ask) -> Result<Bytes, WantMemory>
 
 // The fields in front of the body.
 fn request_fields(alloc: Global, ask: &Ask) -> Result<Vec<u8>, WantMemory>
+    requires minor { ask.now.head.minor ≡ MINOR }
+    requires request { IsFalse ask.now.head.locate }
     ensures bytes { IfOk result (λ bytes. bytes.items ≡ (request_draft ask.now).bytes) }
+    ensures ask { OnOk result (IsAsk ask.now) }
 {
-    let mut writer = Writer::new(alloc, ask.head.little, HEADER);
-    writer.ulong(ask.head.id)?;
-    writer.octet(ask.head.flags)?;
-    writer.octet(0)?;
-    writer.octet(0)?;
-    writer.octet(0)?;
+    let mut writer = opening(alloc, ask.head.little, ask.head.id, ask.head.flags)?;
     writer.ushort(KEY_ADDRESS)?;
     put_octets(&mut writer, ask.key.as_slice())?;
     put_text(&mut writer, ask.operation.as_slice())?;
     writer.ulong(0)?;
     Ok(writer.into_bytes())
+}
+
+// The id, the response flags and three octets that are reserved.
+fn opening(alloc: Global, little: bool, id: u32, flags: u8) -> Result<Writer, WantMemory>
+    ensures fields { IfOk result (λ writer. writer ≡ fields_draft little (opening_fields id flags 0 0 0)) }
+    ensures id { id < 2 ^ 32 }
+    ensures flags { flags < 2 ^ 8 }
+{
+    let mut writer = Writer::new(alloc, little, HEADER);
+    writer.ulong(id)?;
+    writer.octet(flags)?;
+    writer.octet(0)?;
+    writer.octet(0)?;
+    writer.octet(0)?;
+    Ok(writer)
 }
 
 // The body behind the fields that end at `place`.

@@ -12,7 +12,8 @@ const LIMIT: usize = 1 << 31;
 
 /// A string, where a CDR writer takes it.
 pub(crate) fn put_text(writer: &mut Writer, bytes: &[u8]) -> Result<(), WantMemory>
-    ensures { OnOk result (writer.new ≡ with_field (text bytes.now) writer.old) }
+    ensures written { OnOk result (writer.new ≡ with_field (text bytes.now) writer.old) }
+    ensures fits { OnOk result (length bytes.now < 2 ^ 31) }
 {
     if bytes.len() >= LIMIT {
         return Err(WantMemory);
@@ -22,7 +23,8 @@ pub(crate) fn put_text(writer: &mut Writer, bytes: &[u8]) -> Result<(), WantMemo
 
 /// A sequence of octets, where a CDR writer takes it.
 pub(crate) fn put_octets(writer: &mut Writer, bytes: &[u8]) -> Result<(), WantMemory>
-    ensures { OnOk result (writer.new ≡ with_field (octets bytes.now) writer.old) }
+    ensures written { OnOk result (writer.new ≡ with_field (octets bytes.now) writer.old) }
+    ensures fits { OnOk result (length bytes.now < 2 ^ 31) }
 {
     if bytes.len() >= LIMIT {
         return Err(WantMemory);

@@ -2,8 +2,9 @@
 ghost use Rattle.std.specs.Prelude.{◌≡◌, ◌≢◌, ◌⊎◌, ◌≤◌, ◌+◌, ◌<◌, ◌^◌, ℕ, List, [], drop, length, IfOk, IfErr, OnOk};
 ghost use Rattle.cdr_core.specs.Cursor.{Cursor};
 ghost use Rattle.giop_frame.specs.Part.{is_little as little_flag};
-ghost use Rattle.giop_msg.specs.Request.{body_at as body_behind};
-ghost use Rattle.giop_msg.specs.Reading.{IsOpening, IsContext, HasContexts, IsClosing, RequestCall, RequestFault};
+ghost use Rattle.giop_msg.specs.Request.{body_at as body_behind, IsOpening, IsClosing};
+ghost use Rattle.giop_msg.specs.Call.{MakesCall};
+ghost use Rattle.giop_msg.specs.Reading.{IsContext, HasContexts, RequestFault};
 
 use crate::fault::MsgFault;
 use crate::kind::{HEADER, MINOR};
@@ -23,7 +24,7 @@ struct Opening {
 /// The call that the fields of a message make, where they are those of a Request.
 pub(crate) fn read_request(alloc: Global, bytes: &[u8]) -> Result<Call, MsgFault>
     requires { HEADER ≤ length bytes.now }
-    ensures ok { IfOk result (λ call. RequestCall bytes.now call) }
+    ensures ok { IfOk result (λ call. MakesCall bytes.now call) }
     ensures bad { IfErr result (λ fault. RequestFault bytes.now fault) }
 {
     let mut reader = enter(bytes);

@@ -1,6 +1,7 @@
 //! The target of a request: CORBA 3.3 Part 2, 9.4.2.1.
 ghost use Rattle.std.specs.Prelude.{◌≡◌, IfOk, IfErr};
-ghost use Rattle.giop_msg.specs.Reading.{IsTarget, TargetFault};
+ghost use Rattle.giop_msg.specs.Target.{IsTarget};
+ghost use Rattle.giop_msg.specs.Reading.{TargetFault};
 
 use crate::fault::MsgFault;
 use cdr_core::Reader;

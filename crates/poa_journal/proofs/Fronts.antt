@@ -1,9 +1,16 @@
--- Rows and entries that were read, before those to come.
-use Rattle.std.proofs.Common.{◌≡◌, ℕ, List, [], ◌∷◌, ◌++◌, Option, Some, None, Result, Ok, Err, refl, ap, append_assoc, append-nil}
+-- Rows and entries that were read line by line.
+use Rattle.std.proofs.Common.{◌≡◌, ℕ, ◌+◌, ◌<◌, ◌≤◌, Bool, true, false, cond, List, [], ◌∷◌, ◌++◌, length, map, Option, Some, None, Result, Ok, Err, refl, ap, sym, ◌∙◌, arith, append_assoc, append-nil}
+use Rattle.std.proofs.lemmas.List.{map-append}
 use Rattle.poa_base.specs.declared.Entry.{Entry}
 use Rattle.poa_base.specs.declared.State.{State}
-use Rattle.poa_base.specs.Store.{Place}
-use Rattle.poa_journal.specs.Whole.{Front, put_row, put_entry}
+use Rattle.poa_base.specs.Store.{Place, Slots, states, with_room, with_state}
+use Rattle.text_words.specs.Cuts.{lines_of, words_of}
+use Rattle.text_words.specs.Token.{spelled}
+use Rattle.poa_journal.specs.Entry.{entry_tokens}
+use Rattle.poa_journal.specs.Reading.{entry_of}
+use Rattle.poa_journal.specs.Row.{row_tokens, row_behind}
+use Rattle.poa_journal.specs.Whole.{Front, is_above, row_above, put_row, after_row, row_words_of, at_line, rows_front, entry_at, put_entry, entries_of}
+use Rattle.poa_journal.proofs.Stored.{IsEnd, states_stored, end_stored}
 
 abbrev pub behind_rows : List (Place × State) → Result Front ℕ → Result Front ℕ
 behind_rows rows (Err k) = Err k
@@ -13,23 +20,159 @@ abbrev pub behind_entries : List Entry → Result (List Entry) ℕ → Result (L
 behind_entries entries (Err k) = Err k
 behind_entries entries (Ok more) = Ok (entries ++ more)
 
--- one more row was read
-pub behind_row : (rows : List (Place × State)) (row : Place × State) (more : Result Front ℕ)
+behind_row : (rows : List (Place × State)) (row : Place × State) (more : Result Front ℕ)
     → behind_rows (rows ++ row ∷ []) more ≡ behind_rows rows (put_row row more)
 behind_row rows row (Err k) = refl
 behind_row rows row (Ok front) = ap (λ all. Ok (all, front.1, front.2)) (simp append_assoc)
 
--- one more entry was read
-pub behind_entry : (entries : List Entry) (entry : Entry) (more : Result (List Entry) ℕ)
+behind_entry : (entries : List Entry) (entry : Entry) (more : Result (List Entry) ℕ)
     → behind_entries (entries ++ entry ∷ []) more ≡ behind_entries entries (put_entry (Ok entry) more)
 behind_entry entries entry (Err k) = refl
 behind_entry entries entry (Ok es) = ap Ok (simp append_assoc)
 
--- no row stands before the first
-pub behind_none : (more : Result Front ℕ) → behind_rows [] more ≡ more
+behind_none : (more : Result Front ℕ) → behind_rows [] more ≡ more
 behind_none (Err k) = refl
 behind_none (Ok front) = refl
 
-pub behind_no_entry : (more : Result (List Entry) ℕ) → behind_entries [] more ≡ more
+behind_no_entry : (more : Result (List Entry) ℕ) → behind_entries [] more ≡ more
 behind_no_entry (Err k) = refl
 behind_no_entry (Ok es) = refl
+
+-- entries were read of a text from line `first` on; the next line is `line`, where `rest` begins
+pub record EntriesRead (first : ℕ) (text : List ℕ) (entries : List Entry) (line : ℕ) (rest : List ℕ) : Type 0 where
+  pub read : behind_entries entries (entries_of line (lines_of rest)) ≡ entries_of first (lines_of text)
+  pub lines : map spelled (map entry_tokens entries) ++ lines_of rest ≡ lines_of text
+  pub bound : line + length rest ≤ first + length text
+
+pub entries_begin : (first : ℕ) (text : List ℕ) → EntriesRead first text [] first text
+entries_begin first text = record { read = behind_no_entry (entries_of first (lines_of text)); lines = refl; bound = omega arith }
+
+spelled_last : (entries : List Entry) (e : Entry) (more : List (List ℕ))
+    → map spelled (map entry_tokens (entries ++ e ∷ [])) ++ more ≡ map spelled (map entry_tokens entries) ++ spelled (entry_tokens e) ∷ more
+spelled_last [] e more = refl
+spelled_last (x ∷ entries) e more = ap (λ ls. spelled (entry_tokens x) ∷ ls) (spelled_last entries e more)
+
+-- one more entry was read
+pub entries_step : (first : ℕ) (text : List ℕ) (entries : List Entry) (line : ℕ) (rest l after : List ℕ) (e : Entry)
+    → EntriesRead first text entries line rest → lines_of rest ≡ l ∷ lines_of after → length after < length rest
+    → entry_at line (entry_of (words_of l)) ≡ Ok e → l ≡ spelled (entry_tokens e)
+    → EntriesRead first text (entries ++ e ∷ []) (line + 1) after
+entries_step first text entries line rest l after e so_far cut shorter is spells = record {
+  read =
+      behind_entry entries e (entries_of (line + 1) (lines_of after))
+      ∙ ap (λ r. behind_entries entries (put_entry r (entries_of (line + 1) (lines_of after)))) (sym is)
+      ∙ ap (λ ls. behind_entries entries (entries_of line ls)) (sym cut) ∙ so_far.read;
+  lines =
+      spelled_last entries e (lines_of after) ∙ ap (λ x. map spelled (map entry_tokens entries) ++ x ∷ lines_of after) (sym spells)
+      ∙ ap (λ ls. map spelled (map entry_tokens entries) ++ ls) (sym cut) ∙ so_far.lines;
+  bound = omega (arith, so_far.bound);
+}
+
+-- a line is no entry's
+pub entries_refused : (first : ℕ) (text : List ℕ) (entries : List Entry) (line : ℕ) (rest l after : List ℕ) (k : ℕ)
+    → EntriesRead first text entries line rest → lines_of rest ≡ l ∷ lines_of after
+    → entry_at line (entry_of (words_of l)) ≡ Err k → entries_of first (lines_of text) ≡ Err k
+entries_refused first text entries line rest l after k so_far cut is =
+    sym so_far.read ∙ ap (λ ls. behind_entries entries (entries_of line ls)) cut
+    ∙ ap (λ r. behind_entries entries (put_entry r (entries_of (line + 1) (lines_of after)))) is
+
+-- no line is left
+pub entries_ended : (first : ℕ) (text : List ℕ) (entries : List Entry) (line : ℕ) (rest : List ℕ)
+    → EntriesRead first text entries line rest → lines_of rest ≡ []
+    → entries_of first (lines_of text) ≡ Ok entries
+entries_ended first text entries line rest so_far none =
+    sym so_far.read ∙ ap (λ ls. behind_entries entries (entries_of line ls)) none ∙ ap Ok (append-nil entries)
+
+pub entries_lines : (first : ℕ) (text : List ℕ) (entries : List Entry) (line : ℕ) (rest : List ℕ)
+    → EntriesRead first text entries line rest → lines_of rest ≡ []
+    → lines_of text ≡ map spelled (map entry_tokens entries)
+entries_lines first text entries line rest so_far none =
+    sym so_far.lines ∙ ap (λ ls. map spelled (map entry_tokens entries) ++ ls) none ∙ append-nil (map spelled (map entry_tokens entries))
+
+-- rows were read of a text from line 2 on, into the store; the last stands at `last`
+pub record RowsRead (text : List ℕ) (store : Slots) (last : Option Place) (line : ℕ) (rest : List ℕ) : Type 0 where
+  pub read : behind_rows (states store) (rows_front line last (lines_of rest)) ≡ rows_front 2 None (lines_of text)
+  pub lines : map spelled (map row_tokens (states store)) ++ lines_of rest ≡ lines_of text
+  pub end : IsEnd last store
+  pub bound : line + length rest ≤ 2 + length text
+
+pub rows_begin : (text : List ℕ) (store : Slots) → IsEnd None store → states store ≡ [] → RowsRead text store None 2 text
+rows_begin text store end none = record {
+  read = ap (λ rows. behind_rows rows (rows_front 2 None (lines_of text))) none ∙ behind_none (rows_front 2 None (lines_of text));
+  lines = ap (λ rows. map spelled (map row_tokens rows) ++ lines_of text) none;
+  end = end;
+  bound = omega arith;
+}
+
+spelled_last_row : (rows : List (Place × State)) (r : Place × State) (more : List (List ℕ))
+    → map spelled (map row_tokens (rows ++ r ∷ [])) ++ more ≡ map spelled (map row_tokens rows) ++ spelled (row_tokens r) ∷ more
+spelled_last_row [] r more = refl
+spelled_last_row (x ∷ rows) r more = ap (λ ls. spelled (row_tokens x) ∷ ls) (spelled_last_row rows r more)
+
+-- what the next line gives, where it is a row's
+row_line : (text : List ℕ) (store : Slots) (last : Option Place) (line : ℕ) (rest l after : List ℕ) (ws : List (List ℕ))
+    → RowsRead text store last line rest → lines_of rest ≡ l ∷ lines_of after → row_words_of (words_of l) ≡ Some ws
+    → rows_front 2 None (lines_of text) ≡ behind_rows (states store) (after_row (λ place. rows_front (line + 1) (Some place) (lines_of after)) (row_above line last (row_behind ws)))
+row_line text store last line rest l after ws so_far cut is =
+    sym so_far.read ∙ ap (λ ls. behind_rows (states store) (rows_front line last ls)) cut
+    ∙ ap (λ o. behind_rows (states store) (at_line line last (l ∷ lines_of after) (λ place. rows_front (line + 1) (Some place) (lines_of after)) o)) is
+
+above_by : (line : ℕ) (test : Bool) (read row : Place × State) (last : Option Place) → is_above last read.0 ≡ test
+    → cond test (Ok {E = ℕ} read) (Err line) ≡ Ok row → is_above last row.0 ≡ true
+above_by line true read row last is h = let same : read ≡ row = cc in ap (λ r. is_above last r.0) (sym same) ∙ is
+above_by line false read row last is h = cc
+
+above_from : (line : ℕ) (last : Option Place) (read : Option (Place × State)) (row : Place × State)
+    → row_above line last read ≡ Ok row → is_above last row.0 ≡ true
+above_from line last None row h = cc
+above_from line last (Some r) row h = above_by line (is_above last r.0) r row last refl h
+
+-- one more row was read and stored
+pub rows_step : (text : List ℕ) (store : Slots) (last : Option Place) (line : ℕ) (rest l after : List ℕ) (ws : List (List ℕ)) (place : Place) (state : State)
+    → RowsRead text store last line rest → lines_of rest ≡ l ∷ lines_of after → length after < length rest
+    → row_words_of (words_of l) ≡ Some ws → row_above line last (row_behind ws) ≡ Ok (place, state) → l ≡ spelled (row_tokens (place, state))
+    → RowsRead text (with_state (with_room store place.0 place.1) place.0 place.1 state) (Some place) (line + 1) after
+rows_step text store last line rest l after ws place state so_far cut shorter begins is spells =
+    let higher : is_above last place ≡ true = above_from line last (row_behind ws) (place, state) is in
+    let stored = states_stored store last place state so_far.end higher in
+    record {
+      read =
+          ap (λ rows. behind_rows rows (rows_front (line + 1) (Some place) (lines_of after))) stored
+          ∙ behind_row (states store) (place, state) (rows_front (line + 1) (Some place) (lines_of after))
+          ∙ ap (λ r. behind_rows (states store) (after_row (λ p. rows_front (line + 1) (Some p) (lines_of after)) r)) (sym is)
+          ∙ sym (row_line text store last line rest l after ws so_far cut begins);
+      lines =
+          ap (λ rows. map spelled (map row_tokens rows) ++ lines_of after) stored
+          ∙ spelled_last_row (states store) (place, state) (lines_of after)
+          ∙ ap (λ x. map spelled (map row_tokens (states store)) ++ x ∷ lines_of after) (sym spells)
+          ∙ ap (λ ls. map spelled (map row_tokens (states store)) ++ ls) (sym cut) ∙ so_far.lines;
+      end = end_stored store last place state so_far.end higher;
+      bound = omega (arith, so_far.bound);
+    }
+
+-- a row's line is refused
+pub rows_refused : (text : List ℕ) (store : Slots) (last : Option Place) (line : ℕ) (rest l after : List ℕ) (ws : List (List ℕ)) (k : ℕ)
+    → RowsRead text store last line rest → lines_of rest ≡ l ∷ lines_of after
+    → row_words_of (words_of l) ≡ Some ws → row_above line last (row_behind ws) ≡ Err k → rows_front 2 None (lines_of text) ≡ Err k
+rows_refused text store last line rest l after ws k so_far cut begins is =
+    row_line text store last line rest l after ws so_far cut begins
+    ∙ ap (λ r. behind_rows (states store) (after_row (λ p. rows_front (line + 1) (Some p) (lines_of after)) r)) is
+
+-- the next line is no row's
+pub rows_ended : (text : List ℕ) (store : Slots) (last : Option Place) (line : ℕ) (rest l after : List ℕ)
+    → RowsRead text store last line rest → lines_of rest ≡ l ∷ lines_of after → row_words_of (words_of l) ≡ None
+    → rows_front 2 None (lines_of text) ≡ Ok (states store, line, lines_of rest)
+rows_ended text store last line rest l after so_far cut ends =
+    sym so_far.read ∙ ap (λ ls. behind_rows (states store) (rows_front line last ls)) cut
+    ∙ ap (λ o. behind_rows (states store) (at_line line last (l ∷ lines_of after) (λ place. rows_front (line + 1) (Some place) (lines_of after)) o)) ends
+    ∙ ap (λ rows. Ok (rows, line, l ∷ lines_of after)) (append-nil (states store))
+    ∙ ap (λ ls. Ok (states store, line, ls)) (sym cut)
+
+-- no line is left
+pub rows_all : (text : List ℕ) (store : Slots) (last : Option Place) (line : ℕ) (rest : List ℕ)
+    → RowsRead text store last line rest → lines_of rest ≡ []
+    → rows_front 2 None (lines_of text) ≡ Ok (states store, line, lines_of rest)
+rows_all text store last line rest so_far none =
+    sym so_far.read ∙ ap (λ ls. behind_rows (states store) (rows_front line last ls)) none
+    ∙ ap (λ rows. Ok (rows, line, [])) (append-nil (states store))
+    ∙ ap (λ ls. Ok (states store, line, ls)) (sym none)

@@ -4,3 +4,4 @@ pub mod Stored
 pub mod Entries
 pub mod RowTexts
 pub mod PrintedBack
+pub mod FirstBad

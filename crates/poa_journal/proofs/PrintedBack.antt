@@ -63,8 +63,13 @@ rows_fit [] [] fits h = tt
 rows_fit [] (e ∷ es) fits h = (h.0.fits, rows_fit [] es tt h.1)
 rows_fit (r ∷ rows) es fits h = (fits.0, rows_fit rows es fits.1 h)
 
+-- what a journal's lines read as
+pub journal_lines_back : (journal : Journal) → IsJournal journal → contents_of_lines (map spelled (journal_lines journal)) ≡ Ok (contents journal)
+journal_lines_back journal h =
+    rw (head_back journal.run h.run, rows_back 2 None (states journal.opening) journal.entries h.rows (states_ascend journal.opening) h.entries, entries_back (2 + length (states journal.opening)) journal.entries h.entries) refl
+
 -- what a journal's text reads as
 pub journal_back : (journal : Journal) → IsJournal journal → contents_of (journal_text journal) ≡ Ok (contents journal)
 journal_back journal h =
-    rw (lines_back (journal_lines journal) (h.run, rows_fit (states journal.opening) journal.entries h.rows h.entries))
-    (rw (head_back journal.run h.run, rows_back 2 None (states journal.opening) journal.entries h.rows (states_ascend journal.opening) h.entries, entries_back (2 + length (states journal.opening)) journal.entries h.entries) refl)
+    ap contents_of_lines (lines_back (journal_lines journal) (h.run, rows_fit (states journal.opening) journal.entries h.rows h.entries))
+    ∙ journal_lines_back journal h

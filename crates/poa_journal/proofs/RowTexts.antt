@@ -89,9 +89,10 @@ ascends_from : (last : Option Place) (es : List (Place × Option State)) → Has
 ascends_from last [] below sorted = tt
 ascends_from last ((place, None) ∷ es) below sorted =
     ascends_from last es (below_rest last place None es below) (second (below_all place_cmp place es) (is_sorted place_cmp es) sorted)
-ascends_from last ((place, Some state) ∷ es) below sorted =
-    (above_first last place (Some state) es below,
-     ascends_from (Some place) es (first (below_all place_cmp place es) (is_sorted place_cmp es) sorted) (second (below_all place_cmp place es) (is_sorted place_cmp es) sorted))
+ascends_from last ((place, Some state) ∷ es) below sorted = (
+  above_first last place (Some state) es below,
+  ascends_from (Some place) es (first (below_all place_cmp place es) (is_sorted place_cmp es) sorted) (second (below_all place_cmp place es) (is_sorted place_cmp es) sorted),
+)
 
 pub states_ascend : (store : Slots) → Ascends None (states store)
 states_ascend store = ascends_from None (finite.entries store) tt (finite.entries_sorted store)

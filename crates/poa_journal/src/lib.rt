@@ -20,3 +20,6 @@ mod writing;
 pub use fault::JournalFault;
 pub use reading::read;
 pub use writing::{print, print_entry};
+
+#[cfg(test)]
+mod tests;

@@ -1,11 +1,14 @@
 //! Whole texts read.
-ghost use Rattle.std.specs.Prelude.{◌≡◌, ◌∷◌, ◌++◌, ◌+◌, ◌<◌, ◌≤◌, ◌^◌, [], IfOk, length, map, OnOk};
+ghost use Rattle.std.specs.Prelude.{◌≡◌, ◌∷◌, ◌++◌, ◌+◌, ◌<◌, ◌≤◌, ◌^◌, [], IfOk, IfSome, length, map, OnOk};
 ghost use Rattle.std.specs.Option.{option_map};
 ghost use Rattle.poa_base.specs.Store.{with_room, with_state, states};
 ghost use Rattle.text_words.specs.Cuts.{lines_of, words_of};
-ghost use Rattle.text_words.specs.Gives.{Gives};
+ghost use Rattle.text_words.specs.Token.{spelled, texts};
+ghost use Rattle.poa_journal.specs.Entry.{entry_tokens};
+ghost use Rattle.poa_journal.specs.Fixed.{mark_word};
+ghost use Rattle.poa_journal.specs.Journal.{head_tokens, journal_lines, journal_text, IsJournal};
 ghost use Rattle.poa_journal.specs.Reading.{entry_of};
-ghost use Rattle.poa_journal.specs.Row.{row_behind};
+ghost use Rattle.poa_journal.specs.Row.{row_behind, row_tokens};
 ghost use Rattle.poa_journal.specs.Whole.{Reads, contents, contents_of, entries_of, entry_at as entry_at_of, front_seen, head_of, is_above as is_above_of, row_above, row_words_of, rows_front};
 
 use crate::entry::read_entry;
@@ -14,12 +17,13 @@ use crate::fixed::Mark;
 use crate::row::read_row;
 use poa_base::{Entry, Items, Journal, Oid, Path, State, Store};
 use std::alloc::{AllocError, Global};
-use std::cmp::Ordering;
 use text_words::{WordFault, Worded, next_line, number32, words};
 
 /// The journal of a text. The last LF may be missing.
 pub fn read(alloc: Global, bytes: &[u8]) -> Result<Journal, JournalFault>
     ensures value { Reads contents result (contents_of bytes.now) }
+    ensures text { IfOk result (λ journal. lines_of bytes.now ≡ map spelled (journal_lines journal)) }
+    ensures back { (journal : Journal) → IsJournal journal → bytes.now ≡ journal_text journal → Reads contents result (Ok (contents journal)) }
 {
     let Some((head, rest)) = next_line(bytes) else {
         return Err(JournalFault::BadLine { line: 1 });
@@ -36,7 +40,8 @@ pub fn read(alloc: Global, bytes: &[u8]) -> Result<Journal, JournalFault>
 
 // The run of the head line, which is line 1.
 fn read_head(alloc: Global, line: &[u8]) -> Result<u32, JournalFault>
-    ensures { Reads (λ run. run) result (head_of (words_of line.now)) }
+    ensures value { Reads (λ run. run) result (head_of (words_of line.now)) }
+    ensures text { IfOk result (λ run. line.now ≡ spelled (head_tokens run)) }
 {
     let words = words(alloc, line)?;
     let [journal, one, run, number] = words.as_slice() else {
@@ -63,6 +68,7 @@ struct Opening<'a> {
 // The rows from line 2 on.
 fn read_rows(alloc: Global, text: &[u8]) -> Result<Opening<'_>, JournalFault>
     ensures value { Reads front_seen result (rows_front 2 None (lines_of text.now)) }
+    ensures text { IfOk result (λ front. lines_of text.now ≡ map spelled (map row_tokens (states front.store)) ++ lines_of front.rest.now) }
     ensures bound { IfOk result (λ front. front.line + length front.rest.now ≤ 2 + length text.now) }
 {
     let mut store = Store::new(alloc);
@@ -72,7 +78,7 @@ fn read_rows(alloc: Global, text: &[u8]) -> Result<Opening<'_>, JournalFault>
     while let Some((first, after)) = next_line(rest) {
         let words = words(alloc, first)?;
         let Some(more) = row_words(words.as_slice()) else {
-            break;
+            return Ok(Opening { store, line, rest });
         };
         let (place, state) = row_at(alloc, line, &last, more)?;
         store_row(&mut store, &place, state)?;
@@ -85,7 +91,8 @@ fn read_rows(alloc: Global, text: &[u8]) -> Result<Opening<'_>, JournalFault>
 
 // The words behind `store`, where a line is that of a row.
 fn row_words<'a>(words: &'a [&'a [u8]]) -> Option<&'a [&'a [u8]]>
-    ensures { option_map (λ ws. map (λ w. w.now) ws.now) result ≡ row_words_of (map (λ w. w.now) words.now) }
+    ensures value { option_map (λ ws. map (λ w. w.now) ws.now) result ≡ row_words_of (map (λ w. w.now) words.now) }
+    ensures text { IfSome result (λ ws. map (λ w. w.now) words.now ≡ mark_word Mark.Store ∷ map (λ w. w.now) ws.now) }
 {
     match words {
         [word, rest @ ..] => {
@@ -106,7 +113,8 @@ fn row_at(
     last: &Option<(Path, Oid)>,
     words: &[&[u8]],
 ) -> Result<((Path, Oid), State), JournalFault>
-    ensures { Reads (λ row. row) result (row_above line last.now (row_behind (map (λ w. w.now) words.now))) }
+    ensures value { Reads (λ row. row) result (row_above line last.now (row_behind (map (λ w. w.now) words.now))) }
+    ensures text { IfOk result (λ row. mark_word Mark.Store ∷ map (λ w. w.now) words.now ≡ texts (row_tokens row)) }
 {
     match read_row(alloc, words) {
         Ok((place, state)) => {
@@ -126,7 +134,7 @@ fn is_above(last: &Option<(Path, Oid)>, place: &(Path, Oid)) -> bool
 {
     match last {
         None => true,
-        Some(before) => before.0.cmp(&place.0).then(before.1.cmp(&place.1)) == Ordering::Less,
+        Some(before) => before.0.cmp(&place.0).then(before.1.cmp(&place.1)).is_lt(),
     }
 }
 
@@ -141,7 +149,8 @@ fn store_row(store: &mut Store, place: &(Path, Oid), state: State) -> Result<(),
 // The entries from line `first` on.
 fn read_entries(alloc: Global, text: &[u8], first: u64) -> Result<Items<Entry>, JournalFault>
     requires { first + length text.now < 2 ^ 64 }
-    ensures { Reads (λ entries. entries) result (entries_of first (lines_of text.now)) }
+    ensures value { Reads (λ entries. entries) result (entries_of first (lines_of text.now)) }
+    ensures text { IfOk result (λ entries. lines_of text.now ≡ map spelled (map entry_tokens entries)) }
 {
     let mut entries = Vec::new(alloc);
     let mut line = first;
@@ -158,7 +167,8 @@ fn read_entries(alloc: Global, text: &[u8], first: u64) -> Result<Items<Entry>, 
 }
 
 fn entry_at(alloc: Global, number: u64, line: &[u8]) -> Result<Entry, JournalFault>
-    ensures { Reads (λ entry. entry) result (entry_at_of number (entry_of (words_of line.now))) }
+    ensures value { Reads (λ entry. entry) result (entry_at_of number (entry_of (words_of line.now))) }
+    ensures text { IfOk result (λ entry. line.now ≡ spelled (entry_tokens entry)) }
 {
     let words = words(alloc, line)?;
     match read_entry(alloc, words.as_slice()) {

@@ -1,9 +1,6 @@
 -- By the type of the message.
-use Rattle.std.proofs.Common.{ℕ, Err, ◌≡◌, sym, subst, ◌⊎◌, inr}
+use Rattle.std.proofs.Common.{inr}
 use Rattle.std.proofs.lemmas.Result.{err_from_is_err_and}
-use Rattle.giop_msg.specs.declared.fault.MsgFault.{MsgFault}
-use Rattle.giop_msg.specs.declared.fault.MsgFault.TheVariants.{WantMemory}
-use Rattle.giop_msg.specs.Call.{CallOf}
 use Rattle.giop_msg.proofs.Messages.{request_refused, cancel_malformed, locate_malformed}
 use Rattle.giop_msg.proofs.reading.read_message.Goals as goal
 

@@ -1,7 +1,7 @@
 -- The operation, the count of the contexts and the contexts were read.
 use Rattle.std.proofs.Common.{ℕ, List, sym, subst, inr}
 use Rattle.std.proofs.lemmas.Result.{err_from_is_err_and}
-use Rattle.giop_msg.specs.Reading.{IsClosing}
+use Rattle.giop_msg.specs.Request.{IsClosing}
 use Rattle.giop_msg.proofs.Contexts.{no_operation, no_count, no_contexts_behind, closing_read, or_else}
 use Rattle.giop_msg.proofs.request.read_closing.Goals as goal
 

@@ -1,5 +1,5 @@
 -- Each exit but the last is at a field that can't be read.
-use Rattle.std.proofs.Common.{◌≡◌, ℕ, List, [], ◌∷◌, refl}
+use Rattle.std.proofs.Common.{[], ◌∷◌, refl}
 use Rattle.std.proofs.lemmas.Result.{err_from_is_err_and}
 use Rattle.cdr_core.specs.Kind.{Octet}
 use Rattle.cdr_core.specs.Field.{ulong, octet}
@@ -12,15 +12,21 @@ pub returns-in_err-octet-2-clause-bad : goal.returns-in_err-octet-2-clause-bad
 returns-in_err-octet-2-clause-bad c =
     let passed = err_from_is_err_and c.from_residual-in_err-octet-2.result c.from_residual-in_err-octet-2.ensures.1 in
     let here : ReadsAll (ulong c.in_ok-id.id ∷ octet c.in_ok-flags.flags ∷ octet c.in_ok-octet.field-0 ∷ []) c.args.reader.now c.octet-2.new.self = (c.ulong.new.self, (c.in_ok-id.ensures.ok, (c.octet.new.self, (c.in_ok-flags.ensures.ok, (c.octet-2.new.self, (c.in_ok-octet.ensures.ok, refl)))))) in
-    rw (passed.1, passed.2) (not_memory Octet c.octet-2.new.self c.in_err-octet-2.field-0.0 c.in_err-octet-2.ensures.refused, λ id flags after is.
-      stuck (ulong c.in_ok-id.id ∷ octet c.in_ok-flags.flags ∷ octet c.in_ok-octet.field-0 ∷ []) (opening_fields id flags is.a is.b is.c) Octet (Octet ∷ []) c.args.reader.now c.octet-2.new.self after c.in_err-octet-2.field-0.0 refl here c.in_err-octet-2.ensures.refused is.read)
+    rw (passed.1, passed.2) (
+      not_memory Octet c.octet-2.new.self c.in_err-octet-2.field-0.0 c.in_err-octet-2.ensures.refused,
+      λ id flags after is.
+          stuck (ulong c.in_ok-id.id ∷ octet c.in_ok-flags.flags ∷ octet c.in_ok-octet.field-0 ∷ []) (opening_fields id flags is.a is.b is.c) Octet (Octet ∷ []) c.args.reader.now c.octet-2.new.self after c.in_err-octet-2.field-0.0 refl here c.in_err-octet-2.ensures.refused is.read,
+    )
 
 pub returns-in_err-octet-3-clause-bad : goal.returns-in_err-octet-3-clause-bad
 returns-in_err-octet-3-clause-bad c =
     let passed = err_from_is_err_and c.from_residual-in_err-octet-3.result c.from_residual-in_err-octet-3.ensures.1 in
     let here : ReadsAll (ulong c.in_ok-id.id ∷ octet c.in_ok-flags.flags ∷ octet c.in_ok-octet.field-0 ∷ octet c.in_ok-octet-2.field-0 ∷ []) c.args.reader.now c.octet-3.new.self = (c.ulong.new.self, (c.in_ok-id.ensures.ok, (c.octet.new.self, (c.in_ok-flags.ensures.ok, (c.octet-2.new.self, (c.in_ok-octet.ensures.ok, (c.octet-3.new.self, (c.in_ok-octet-2.ensures.ok, refl)))))))) in
-    rw (passed.1, passed.2) (not_memory Octet c.octet-3.new.self c.in_err-octet-3.field-0.0 c.in_err-octet-3.ensures.refused, λ id flags after is.
-      stuck (ulong c.in_ok-id.id ∷ octet c.in_ok-flags.flags ∷ octet c.in_ok-octet.field-0 ∷ octet c.in_ok-octet-2.field-0 ∷ []) (opening_fields id flags is.a is.b is.c) Octet [] c.args.reader.now c.octet-3.new.self after c.in_err-octet-3.field-0.0 refl here c.in_err-octet-3.ensures.refused is.read)
+    rw (passed.1, passed.2) (
+      not_memory Octet c.octet-3.new.self c.in_err-octet-3.field-0.0 c.in_err-octet-3.ensures.refused,
+      λ id flags after is.
+          stuck (ulong c.in_ok-id.id ∷ octet c.in_ok-flags.flags ∷ octet c.in_ok-octet.field-0 ∷ octet c.in_ok-octet-2.field-0 ∷ []) (opening_fields id flags is.a is.b is.c) Octet [] c.args.reader.now c.octet-3.new.self after c.in_err-octet-3.field-0.0 refl here c.in_err-octet-3.ensures.refused is.read,
+    )
 
 pub returns-clause-ok : goal.returns-clause-ok
 returns-clause-ok c = record {

@@ -3,7 +3,7 @@ use Rattle.std.proofs.Common.{ℕ, subst, sym, arith}
 use Rattle.std.proofs.lemmas.Result.{err_from_is_err_and}
 use Rattle.cdr_core.specs.Cursor.{Cursor}
 use Rattle.giop_msg.specs.Fields.{fields_start}
-use Rattle.giop_msg.specs.Reading.{IsOpening}
+use Rattle.giop_msg.specs.Request.{IsOpening}
 use Rattle.giop_msg.proofs.Requests.{no_opening, no_target, no_closing, within, request_read}
 use Rattle.giop_msg.proofs.request.read_request.Goals as goal
 

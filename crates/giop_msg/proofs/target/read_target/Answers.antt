@@ -1,5 +1,5 @@
 -- The disposition tells what follows.
-use Rattle.std.proofs.Common.{◌≡◌, ℕ, sym, subst, arith}
+use Rattle.std.proofs.Common.{ℕ, subst, arith}
 use Rattle.std.proofs.lemmas.Result.{err_from_is_err_and}
 use Rattle.cdr_core.specs.Field.{ushort}
 use Rattle.cdr_core.specs.Cursor.{Reads}

@@ -1,10 +1,11 @@
-use Rattle.std.proofs.Common.{rules}
+use Rattle.std.proofs.Common.{rules, arith}
 use Rattle.seat_lock_tests.proofs.Notes.{may_add, still_writer, writer_low}
 use Rattle.seat_lock.proofs.Calls.{entered, put_taken}
 use Rattle.seat_lock_tests.proofs.shared.write.Goals as goal
 
 pub add-added-requires : goal.add-added-requires
-add-added-requires g c = writer_low c.args.seat.now.me.0 c.take-diary.result.notes.items _ _ c.take-diary.ensures.taken.1 c.requires.writer c.take-diary.result.known
+add-added-requires g c =
+    let low = writer_low c.args.seat.now.me.0 c.take-diary.result.notes.items c.take-diary.result.writers c.args.entry.writer c.take-diary.ensures.taken.1 c.requires.writer c.take-diary.result.known in omega arith
 
 pub put-requires-clause-history : goal.put-requires-clause-history
 put-requires-clause-history g c = put_taken _ c.args.seat.now.me.0 _ _ c.take-diary.result.notes.items _ c.take-diary.ensures.view.1

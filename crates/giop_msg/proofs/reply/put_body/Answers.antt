@@ -1,0 +1,11 @@
+-- The reference is that of the forward.
+use Rattle.std.proofs.Common.{◌≡◌, ℕ, List, subst}
+use Rattle.std.specs.Prelude.{OnOk}
+use Rattle.iiop_profile.specs.Profile.{with_fields, profile_of}
+use Rattle.giop_msg.specs.Reply.{reference_fields}
+use Rattle.giop_msg.proofs.reply.put_body.Goals as goal
+
+pub returns-in-Forward : goal.returns-in-Forward
+returns-in-Forward c =
+    rw c.in-Forward.is
+    (subst (λ (key : List ℕ). OnOk c.put_reference.result (c.put_reference.new.writer ≡ with_fields (reference_fields (profile_of c.in-Forward.endpoint key)) c.args.writer.now)) c.as_slice.ensures c.put_reference.ensures)
