@@ -1,10 +1,10 @@
 -- One reading of the data of a profile: each field of a body stands where the fields before it end.
-use Rattle.std.proofs.Common.{◌≡◌, ◌≢◌, ℕ, ℤ, Bool, true, false, List, Option, Some, None, Result, Ok, Err, refl, sym, ◌∙◌, ap, subst, ◌⊎◌, inl, inr}
+use Rattle.std.proofs.Common.{◌≡◌, ◌≢◌, ℕ, Bool, true, List, Option, Some, None, Result, Ok, Err, refl, sym, ◌∙◌, ap, subst, ◌⊎◌, inl, inr}
 use Rattle.std.specs.Prelude.{IfOk, OnOk, MatchOption, MatchBool, ⊤, slice_get}
 use Rattle.cdr_core.specs.declared.CdrFault.{CdrFault}
 use Rattle.cdr_core.specs.declared.CdrFault.TheVariants.{WantMemory}
 use Rattle.cdr_core.specs.Kind.{Text, UShort, Octets}
-use Rattle.cdr_core.specs.Field.{octet, ushort, ulong, text, octets}
+use Rattle.cdr_core.specs.Field.{octet, ushort, text, octets}
 use Rattle.cdr_core.specs.Cursor.{Cursor, Reads}
 use Rattle.cdr_core.specs.Refusal.{Refuses}
 use Rattle.cdr_core.proofs.OneReading.{one_octet_read, one_ushort_read, one_text_read, one_octets_read}
@@ -13,7 +13,7 @@ use Rattle.poa_base.specs.declared.Ior.{Ior}
 use Rattle.poa_base.specs.declared.Profile.{Profile}
 use Rattle.ior_text.specs.declared.body.ProfileBody.{ProfileBody}
 use Rattle.ior_text.specs.Encapsulation.{inside}
-use Rattle.ior_text.specs.Body.{has_components, Counted, ReadsBody, EnclosesBody, HasBody, HasKey}
+use Rattle.ior_text.specs.Body.{has_components, Counted, ReadsBody, HasBody, HasKey}
 
 -- the version was read up to here
 pub record Versioned (c : Cursor) (major minor : ℕ) (at : Cursor) : Type 0 where

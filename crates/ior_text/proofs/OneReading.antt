@@ -1,14 +1,12 @@
 -- One reading: from one cursor one reference is read, or reading breaks at one place, and never both.
-use Rattle.std.proofs.Common.{◌≡◌, ℕ, ◌+◌, ◌<◌, List, [], ◌∷◌, length, refl, sym, ◌∙◌, ap, ap₂, subst, arith, ◌⊎◌, inl, inr}
-use Rattle.cdr_core.specs.Kind.{ULong, Text, Octets}
+use Rattle.std.proofs.Common.{◌≡◌, ℕ, ◌<◌, List, [], ◌∷◌, length, refl, sym, ◌∙◌, ap, ap₂, subst, arith, inl, inr}
 use Rattle.cdr_core.specs.Field.{ulong, text, octets}
 use Rattle.cdr_core.specs.Cursor.{Cursor, Reads}
 use Rattle.cdr_core.proofs.OneReading.{one_ulong_read, one_octets_read, one_text_read}
 use Rattle.poa_base.specs.declared.Ior.{Ior}
 use Rattle.poa_base.specs.declared.Profile.{Profile}
-use Rattle.ior_text.specs.Fields.{Breaks}
-use Rattle.ior_text.specs.Profiles.{ReadsProfile, DataBreaks, ProfileBreaks, ReadsProfiles, ProfilesBreak}
-use Rattle.ior_text.specs.Encapsulation.{ReadsIor, CountBreaks, ListBreaks, IorBreaks}
+use Rattle.ior_text.specs.Profiles.{ReadsProfile, ProfileBreaks, ReadsProfiles}
+use Rattle.ior_text.specs.Encapsulation.{ReadsIor, IorBreaks}
 
 abbrev profile_with : ℕ → List ℕ → Profile
 profile_with tag bytes = record { tag = tag; bytes = bytes }

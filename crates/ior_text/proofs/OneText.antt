@@ -1,11 +1,11 @@
 -- A text gives one answer.
-use Rattle.std.proofs.Common.{◌≡◌, ℕ, List, Option, Some, None, Result, Ok, Err, refl, sym, ◌∙◌, ap, subst, ◌⊎◌, inl, inr}
+use Rattle.std.proofs.Common.{◌≡◌, ℕ, List, Result, Ok, Err, refl, sym, ◌∙◌, ap, subst, ◌⊎◌, inl, inr}
 use Rattle.std.specs.Prelude.{IfOk, IfErr}
 use Rattle.cdr_core.specs.Cursor.{Cursor}
 use Rattle.poa_base.specs.declared.Ior.{Ior}
 use Rattle.ior_text.specs.declared.fault.IorFault.{IorFault}
 use Rattle.ior_text.specs.declared.fault.IorFault.TheVariants.{NoPrefix, OddDigits, BadDigit, Malformed, WantMemory}
-use Rattle.ior_text.specs.Encapsulation.{inside, ReadsIor, IorBreaks, Encloses, InsideBreaks, Spoils}
+use Rattle.ior_text.specs.Encapsulation.{ReadsIor, IorBreaks, Encloses, Spoils}
 use Rattle.ior_text.specs.Text.{bytes_of, TextGives}
 use Rattle.ior_text.proofs.OneReading.{one_ior, ior_stands, one_ior_place}
 

@@ -1,9 +1,9 @@
 -- What is written of a reference is read as that reference.
-use Rattle.std.proofs.Common.{◌≡◌, ℕ, ◌+◌, ◌<◌, ◌^◌, false, List, [], ◌∷◌, ◌++◌, length, refl, sym, ◌∙◌, ap, ap₂, subst, arith, append_assoc, append-nil, length-append, Option, Some, Result, Ok, Err, ◌⊎◌}
+use Rattle.std.proofs.Common.{◌≡◌, ℕ, ◌+◌, false, List, [], ◌∷◌, ◌++◌, length, refl, sym, ◌∙◌, ap, ap₂, arith, append_assoc, append-nil, length-append, Ok}
 use Rattle.std.specs.List.{AllByRecursion}
 use Rattle.std.proofs.lemmas.List.{append_cancel_left}
 use Rattle.std.proofs.lemmas.List.Elements.{recursion_from_All}
-use Rattle.hex.specs.Hex.{IsBytes, encode_lower}
+use Rattle.hex.specs.Hex.{IsBytes}
 use Rattle.hex.proofs.HexLemmas.{decode_of-encode_lower}
 use Rattle.cdr_core.specs.Field.{Field, octet, ulong, text, octets, Fits}
 use Rattle.cdr_core.specs.Spelling.{written}
@@ -12,9 +12,9 @@ use Rattle.cdr_core.specs.Draft.{Draft, empty_draft, with_field}
 use Rattle.cdr_core.proofs.Written.{written_reads_back}
 use Rattle.poa_base.specs.declared.Ior.{Ior}
 use Rattle.poa_base.specs.declared.Profile.{Profile}
-use Rattle.ior_text.specs.Profiles.{ReadsProfile, ReadsProfiles}
-use Rattle.ior_text.specs.Encapsulation.{inside, ReadsIor, Encloses}
-use Rattle.ior_text.specs.Text.{bytes_of, digits_of, TextGives}
+use Rattle.ior_text.specs.Profiles.{ReadsProfiles}
+use Rattle.ior_text.specs.Encapsulation.{inside, Encloses}
+use Rattle.ior_text.specs.Text.{digits_of, TextGives}
 use Rattle.ior_text.specs.Written.{with_profile, with_profiles, encapsulation, ior_text, IsProfile, IsIor}
 use Rattle.ior_text.proofs.WrittenBytes.{IsBytes-append, IsBytes-zeros, IsBytes-text, IsBytes-ulong, IsBytes-profiles}
 

@@ -1,12 +1,11 @@
 -- What is written of a reference are bytes, where its strings and its data are.
-use Rattle.std.proofs.Common.{◌≡◌, ℕ, zero, suc, ◌+◌, ◌<◌, Bool, true, false, List, [], ◌∷◌, ◌++◌, length, replicate, arith, rules}
-use Rattle.std.specs.Prelude.{slice_index}
+use Rattle.std.proofs.Common.{ℕ, zero, suc, ◌+◌, Bool, true, false, List, [], ◌∷◌, ◌++◌, length, replicate, arith, rules}
 use Rattle.std.specs.List.{AllByRecursion}
 use Rattle.std.specs.Int.{w32}
 use Rattle.hex.specs.Hex.{IsBytes}
-use Rattle.cdr_core.specs.Field.{octet, ulong, text, octets}
+use Rattle.cdr_core.specs.Field.{ulong, text, octets}
 use Rattle.cdr_core.specs.Spelling.{gap, number_bytes, written}
-use Rattle.cdr_core.specs.Draft.{Draft, with_field}
+use Rattle.cdr_core.specs.Draft.{Draft}
 use Rattle.poa_base.specs.declared.Profile.{Profile}
 use Rattle.ior_text.specs.Written.{with_profile, with_profiles, IsProfile}
 

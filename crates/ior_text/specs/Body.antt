@@ -1,6 +1,6 @@
 -- The data of an IIOP profile (CORBA 3.3 Part 2, 9.7.2): an encapsulation of the version, the host, the port, the
 -- object key and, from version 1.1 on, a count of components. What stands behind is ignored.
-use Rattle.std.specs.Prelude.{◌≡◌, ℕ, nat_lt, ◌==◌, ◌||◌, ◌&&◌, nat_le, Bool, List, Option, Some, None, MatchBool, ⊤, slice_get}
+use Rattle.std.specs.Prelude.{◌≡◌, ℕ, nat_lt, ◌==◌, ◌||◌, ◌&&◌, nat_le, Bool, List, Some, MatchBool, ⊤, slice_get}
 use Rattle.cdr_core.specs.Field.{octet, ushort, ulong, text, octets}
 use Rattle.cdr_core.specs.Cursor.{Cursor, Reads}
 use Rattle.poa_base.specs.declared.Ior.{Ior}
@@ -18,6 +18,7 @@ pub record Counted (c : Cursor) : Type 0 where
   pub after : Cursor
   pub count : Reads (ulong number) c after
 
+-- the fields of a body
 pub record ReadsBody (body : ProfileBody) (c : Cursor) : Type 0 where
   pub behind_major : Cursor
   pub behind_minor : Cursor

@@ -13,6 +13,7 @@ abbrev pub inside : List ℕ → Option Cursor
 inside [] = None
 inside (order ∷ rest) = if nat_lt 1 order then None else Some (record { little = order == 1; place = 1; rest = rest })
 
+-- the fields of a reference
 pub record ReadsIor (ior : Ior) (c : Cursor) : Type 0 where
   pub named : Cursor
   pub counted : Cursor
@@ -48,6 +49,7 @@ pub record Encloses (bytes : List ℕ) (ior : Ior) : Type 0 where
   pub opened : inside bytes ≡ Some start
   pub read : ReadsIor ior start
 
+-- the byte order can be read, and not all fields
 pub record InsideBreaks (bytes : List ℕ) (at : ℕ) : Type 0 where
   pub start : Cursor
   pub opened : inside bytes ≡ Some start

@@ -6,6 +6,7 @@ use Rattle.cdr_core.specs.Cursor.{Cursor, Reads}
 use Rattle.poa_base.specs.declared.Profile.{Profile}
 use Rattle.ior_text.specs.Fields.{Breaks}
 
+-- one profile
 pub record ReadsProfile (profile : Profile) (c after : Cursor) : Type 0 where
   pub tagged : Cursor
   pub tag : Reads (ulong profile.tag) c tagged

@@ -1,6 +1,6 @@
 -- The reference of a text (CORBA 3.3 Part 2, 7.6.9): `IOR:` and the hexadecimal of an encapsulation, every letter
 -- in either case.
-use Rattle.std.specs.Prelude.{◌≡◌, ℕ, ◌+◌, ◌==◌, ◌||◌, ◌&&◌, Bool, if◌then◌else◌, List, [], ◌∷◌, Option, Some, None, Result, Ok, Err}
+use Rattle.std.specs.Prelude.{◌≡◌, ℕ, ◌+◌, ◌==◌, ◌||◌, ◌&&◌, Bool, if◌then◌else◌, List, ◌∷◌, Option, Some, None, Result, Ok, Err}
 use Rattle.hex.specs.Hex.{decode_of}
 use Rattle.hex.specs.declared.error.FromHexError.{FromHexError}
 use Rattle.hex.specs.declared.error.FromHexError.TheVariants.{InvalidHexCharacter, OddLength, InvalidStringLength, OutOfMemory}
@@ -26,10 +26,12 @@ digit_fault (InvalidHexCharacter _ i) = BadDigit (4 + i)
 digit_fault InvalidStringLength = OddDigits
 digit_fault OutOfMemory = WantMemory
 
+-- the bytes of the digits, or their fault
 abbrev pub digits_of : Result (List ℕ) FromHexError → Result (List ℕ) IorFault
 digits_of (Ok bytes) = Ok bytes
 digits_of (Err fault) = Err (digit_fault fault)
 
+-- the same of what stands behind the prefix, where there is one
 abbrev pub prefixed_of : Option (List ℕ) → Result (List ℕ) IorFault
 prefixed_of None = Err NoPrefix
 prefixed_of (Some digits) = digits_of (decode_of digits)

@@ -6,9 +6,11 @@ use Rattle.cdr_core.specs.Draft.{Draft, empty_draft, with_field}
 use Rattle.poa_base.specs.declared.Ior.{Ior}
 use Rattle.poa_base.specs.declared.Profile.{Profile}
 
+-- a tag and the profile's data
 abbrev pub with_profile : Profile → Draft → Draft
 with_profile profile d = with_field (octets profile.bytes) (with_field (ulong profile.tag) d)
 
+-- profiles, one behind the other
 abbrev pub with_profiles : List Profile → Draft → Draft
 with_profiles [] d = d
 with_profiles (profile ∷ profiles) d = with_profiles profiles (with_profile profile d)

@@ -57,5 +57,5 @@ pub use servant::{Sid, State};
 pub use session::{Session, SessionEnd};
 pub use stage::{Cause, Point, Waiting};
 pub use std::alloc::AllocError as WantMemory;
-pub use store::{Row, Store};
+pub use store::{Row, Store, stores_change_one_place};
 pub use verdict::Verdict;

@@ -1,13 +1,15 @@
 //! The states of servants that were etherealized, kept for their next incarnation.
-ghost use Rattle.std.specs.Prelude.{◌≡◌, ◌++◌, [], map, ℕ, List, Some, IsSome, IfOk, OnOk, OnErr, if◌then◌else◌};
+ghost use Rattle.std.specs.Prelude.{◌≡◌, ◌++◌, [], map, ℕ, List, Option, Some, IsSome, IfOk, OnOk, OnErr, if◌then◌else◌};
 ghost use Rattle.std.specs.BTreeMap as tree;
 ghost use Rattle.std.specs.BTreeMap.{is_at};
+ghost use Rattle.std.specs.Ordering.{is_eq};
+ghost use Rattle.poa_base.specs.declared.servant.State.{State};
 ghost use Rattle.poa_base.specs.Rows.{row_seen};
 ghost use Rattle.poa_base.specs.Shelves.{IsInOrder, placed};
 ghost use Rattle.std.specs.List.{filter_map};
 ghost use Rattle.std.specs.Option.{option_copied};
 ghost use Rattle.std.specs.FinMap as finite;
-ghost use Rattle.poa_base.specs.Store.{filled, oid_cmp, stored, IsReserved, with_place, with_room, with_state, states};
+ghost use Rattle.poa_base.specs.Store.{Slots, filled, oid_cmp, place_cmp, stored, IsReserved, with_place, with_room, with_state, states};
 
 use crate::copy::TryClone;
 use crate::oid::Oid;
@@ -80,6 +82,7 @@ impl Store {
     /// Makes room for a state at a path and id, so that `set` there takes no memory. No state changes.
     pub fn reserve(&mut self, path: &Path, oid: &Oid) -> Result<(), AllocError>
         ensures ok { OnOk result (self.new ≡ with_room self.old path.now oid.now) }
+        ensures reserved { OnOk result (IsReserved self.new path.now oid.now) }
         ensures err { OnErr result (self.new ≡ self.old) }
     {
         match self.shelves.get_mut(path) {
@@ -142,3 +145,14 @@ fn add_rows<'a>(
     }
     Ok(())
 }
+
+/// What stands after `reserve` and `set`: reserving changes no state, setting changes one, and what is
+/// reserved stays so.
+pub fn stores_change_one_place()
+    ensures room { (slots : Slots) (path : List (List ℕ)) (oid : List ℕ) (q : List (List ℕ)) (j : List ℕ) →
+        stored (with_room slots path oid) q j ≡ stored slots q j }
+    ensures state { (slots : Slots) (path : List (List ℕ)) (oid : List ℕ) (state : State) (q : List (List ℕ)) (j : List ℕ) →
+        stored (with_state slots path oid state) q j ≡ (if is_eq (place_cmp (q, j) (path, oid)) then Some state else stored slots q j) }
+    ensures stays { (slots : Slots) (path : List (List ℕ)) (oid : List ℕ) (slot : Option State) (q : List (List ℕ)) (j : List ℕ) →
+        IsReserved slots q j → IsReserved (finite.insert slots (path, oid) slot) q j }
+{}

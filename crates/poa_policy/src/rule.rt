@@ -1,9 +1,12 @@
 //! The rules that the policies of one adapter keep together.
 ghost use Rattle.std.specs.Prelude.{◌≡◌};
-ghost use Rattle.poa_policy.specs.Rules.{is_multiple_id as the_multiple_id, is_system_id as the_system_id, is_implicit as the_implicit, is_retain as the_retain, is_map_only as the_map_only, is_default_servant as the_default_servant, keeps as the_keeps, names as the_names, first_broken as the_first_broken};
+ghost use Rattle.poa_policy.specs.Rules.{keeps as the_keeps, names as the_names, first_broken as the_first_broken};
 
 use crate::kind::PolicyKind;
-use poa_base::{Policy, PolicySet};
+use crate::which::{
+    is_default_servant, is_implicit, is_map_only, is_multiple_id, is_retain, is_system_id,
+};
+use poa_base::PolicySet;
 
 /// A rule on the policies of one adapter, named by its numbers' order in the POA chapter.
 #[derive(Clone, Copy, Debug, PartialEq, Eq, Drop)]
@@ -14,42 +17,6 @@ pub enum Rule {
     DefaultServantIsShared,
     /// IMPLICIT_ACTIVATION needs SYSTEM_ID and RETAIN.
     ImplicitMakesIds,
-}
-
-fn is_multiple_id(policy: Policy) -> bool
-    ensures { result ≡ the_multiple_id policy }
-{
-    matches!(policy, Policy::MultipleId)
-}
-
-fn is_system_id(policy: Policy) -> bool
-    ensures { result ≡ the_system_id policy }
-{
-    matches!(policy, Policy::SystemId)
-}
-
-fn is_implicit(policy: Policy) -> bool
-    ensures { result ≡ the_implicit policy }
-{
-    matches!(policy, Policy::Implicit)
-}
-
-fn is_retain(policy: Policy) -> bool
-    ensures { result ≡ the_retain policy }
-{
-    matches!(policy, Policy::Retain)
-}
-
-fn is_map_only(policy: Policy) -> bool
-    ensures { result ≡ the_map_only policy }
-{
-    matches!(policy, Policy::MapOnly)
-}
-
-fn is_default_servant(policy: Policy) -> bool
-    ensures { result ≡ the_default_servant policy }
-{
-    matches!(policy, Policy::DefaultServant)
 }
 
 impl Rule {

@@ -44,7 +44,7 @@ pub fn settle(list: &[Policy]) -> Result<PolicySet, InvalidPolicy>
 }
 
 /// The default of each kind.
-fn defaults() -> PolicySet
+pub fn defaults() -> PolicySet
     ensures { result ≡ the_defaults }
 {
     PolicySet {

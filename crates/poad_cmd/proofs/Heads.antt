@@ -1,8 +1,7 @@
 -- A place has at most one head, and one operation behind it.
-use Rattle.std.proofs.Common.{◌≡◌, ℕ, ℤ, List, [], ◌∷◌, get_or, refl, sym, ap, ◌∙◌, subst, arith}
+use Rattle.std.proofs.Common.{◌≡◌, ℕ, ℤ, List, get_or, refl, sym, ap, ◌∙◌, arith}
 use Rattle.std.specs.Prelude.{codes}
-use Rattle.cdr_core.specs.Field.{Field, ulong, octet, ushort, octets, text, longlong}
-use Rattle.cdr_core.specs.Cursor.{Cursor, Reads}
+use Rattle.cdr_core.specs.Cursor.{Cursor}
 use Rattle.cdr_core.proofs.OneReading.{one_longlong_read}
 use Rattle.poad_cmd.specs.declared.head.Head.{Head}
 use Rattle.poad_cmd.specs.declared.operation.Operation.{Operation}

@@ -1,5 +1,5 @@
 -- Why a message isn't plain.
-use Rattle.std.proofs.Common.{◌≡◌, ℕ, ℤ, List, drop, true, refl, sym, ap, ◌∙◌, subst}
+use Rattle.std.proofs.Common.{◌≡◌, ℕ, ℤ, List, drop, true, sym, ap, ◌∙◌, subst}
 use Rattle.cdr_core.specs.Cursor.{Cursor}
 use Rattle.poad_cmd.specs.declared.head.Head.{Head}
 use Rattle.poad_cmd.specs.declared.operation.Operation.{Operation}

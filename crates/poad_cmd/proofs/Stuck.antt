@@ -1,9 +1,9 @@
 -- Fields that are read one behind the other: there is one reading of given kinds, and none through a refused field.
-use Rattle.std.proofs.Common.{◌≡◌, ℕ, List, [], ◌∷◌, ◌++◌, refl, sym, ap, ◌∙◌, subst}
+use Rattle.std.proofs.Common.{◌≡◌, List, [], ◌∷◌, ◌++◌, refl, sym, ap, ◌∙◌, subst}
 use Rattle.cdr_core.specs.declared.CdrFault.{CdrFault}
 use Rattle.cdr_core.specs.Kind.{Kind}
 use Rattle.cdr_core.specs.Field.{Field, kind_of}
-use Rattle.cdr_core.specs.Cursor.{Cursor, Reads}
+use Rattle.cdr_core.specs.Cursor.{Cursor}
 use Rattle.cdr_core.specs.Refusal.{Refuses}
 use Rattle.cdr_core.proofs.OneReading.{one_reading}
 use Rattle.cdr_core.proofs.Refusals.{none_where_refused}

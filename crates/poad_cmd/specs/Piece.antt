@@ -1,5 +1,5 @@
 -- What a piece of input brings: the messages that it makes whole are served, and their replies are written.
-use Rattle.std.specs.Prelude.{◌≡◌, ℕ, ◌+◌, ◌<◌, List, [], ◌++◌, Option, Some, None, All, MatchOption, IfSome, length, ⊤}
+use Rattle.std.specs.Prelude.{◌≡◌, ℕ, ◌+◌, ◌<◌, List, [], ◌++◌, Option, All, MatchOption, length, ⊤}
 use Rattle.std.specs.List.{concat}
 use Rattle.outside.specs.Told.{IfTold}
 use Rattle.poad_cmd.specs.declared.serving.Service.{Service}

@@ -1,5 +1,5 @@
 -- The bytes of a reply of GIOP 1.2, little-endian (CORBA 3.3 Part 2, 9.4.3).
-use Rattle.std.specs.Prelude.{ℕ, ℤ, List, [], ◌∷◌, ◌++◌, Bool, true, if◌then◌else◌, length, codes}
+use Rattle.std.specs.Prelude.{ℕ, ℤ, List, [], ◌∷◌, ◌++◌, true, if◌then◌else◌, length, codes}
 use Rattle.std.specs.Int.{w32, to_le_bytes}
 use Rattle.cdr_core.specs.Field.{ulong, longlong, text}
 use Rattle.cdr_core.specs.Draft.{Draft, empty_draft, with_field}

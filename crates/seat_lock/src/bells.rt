@@ -7,22 +7,17 @@ ghost use Rattle.seat_lock.specs.Seats.{IsSeatOf, IsUnchanged};
 
 use crate::chronicle::Chronicle;
 use crate::lock::{Seat, SeatLock};
+use crate::words::{BELLS, FIRST_BELL, LINE, WORDS};
 use std::sync::Wait;
 use std::time::Duration;
-
-/// How many bells a lock has.
-pub const BELLS: u32 = 96;
-
-/// The word of the first bell. Each lies in a cache line of its own.
-const FIRST: usize = 520;
 
 impl<T: Chronicle> SeatLock<T> {
     /// The word of a bell.
     fn word_of(&self, bell: u32) -> usize
         requires { bell < BELLS }
-        ensures { (2 ≤ result) × (result < 1288) }
+        ensures { (2 ≤ result) × (result < WORDS) }
     {
-        FIRST + 8 * (bell as usize)
+        FIRST_BELL + LINE * (bell as usize)
     }
 
     /// Says that one is about to sleep at the bell. The answer is for `sleep`: any ring from now on makes it outdated.

@@ -9,10 +9,11 @@ mod lock;
 mod plays;
 mod view;
 mod waiting;
+mod words;
 
-pub use bells::BELLS;
 pub use chronicle::Chronicle;
 pub use law::has_its_parts;
 pub use lock::{Seat, SeatLock};
 pub use std::alloc::AllocError as WantMemory;
 pub use view::{Stage, View};
+pub use words::BELLS;

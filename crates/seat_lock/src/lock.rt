@@ -5,7 +5,7 @@ use crate::WantMemory;
 use crate::chronicle::Chronicle;
 use crate::plays::{Draw, Learn, OneHistory, Pair, PassOn, Twin};
 use crate::view::View;
-use crate::waiting::{NEXT, SERVED, SLOT, WORDS};
+use crate::words::{NEXT, SERVED, SLOT, WORDS};
 use atomic_table::Table;
 use std::alloc::Global;
 use std::snapshot::Snapshot;
@@ -46,7 +46,7 @@ impl<T: Chronicle> SeatLock<T> {
         Ok((SeatLock { table }, seat))
     }
 
-    /// Takes the value, in the order in which the tickets are drawn. It sleeps until then.
+    /// Takes the value, in the order in which the tickets are drawn, and sleeps until its turn. Every take needs its `put`: a seat that is let go in its turn leaves the lock closed.
     pub fn take<R: Wait>(&self, rt: &R, seat: &mut Seat<T>) -> T
         requires lock { IsSeatOf self.now seat.old }
         requires free { IsFree seat.old }

@@ -12,25 +12,8 @@ ghost use Rattle.seat_lock.specs.declared.view.Stage.TheVariants.{Waiting};
 use crate::chronicle::Chronicle;
 use crate::lock::{Seat, SeatLock};
 use crate::plays::{Look, Mark};
+use crate::words::{FIRST_BELL, FIRST_LANE, LANES, LINE, NEXT, SERVED, WORDS};
 use std::sync::Wait;
-
-/// The word with the number that is served.
-pub(crate) const SERVED: usize = 0;
-
-/// The word with the next ticket.
-pub(crate) const NEXT: usize = 1;
-
-/// The slot of the value.
-pub(crate) const SLOT: usize = 0;
-
-/// The first word on which waiting threads sleep. Each lies in a cache line of its own, of eight words.
-const LANES: usize = 8;
-
-/// The number of such words.
-const LANE_COUNT: u64 = 64;
-
-/// How many words there are: two lines for the rule and the lanes, and then the bells.
-pub(crate) const WORDS: usize = 1288;
 
 /// How often the next in line looks before it sleeps. It was woken ahead, so its turn is near.
 const SPINS: u32 = 100;
@@ -38,12 +21,12 @@ const SPINS: u32 = 100;
 impl<T: Chronicle> SeatLock<T> {
     /// The word on which the holder of a ticket sleeps.
     fn lane_of(&self, ticket: u64) -> usize
-        ensures { (2 ≤ result) × (result < 520) }
+        ensures { (2 ≤ result) × (result < FIRST_BELL) }
     {
-        LANES + 8 * ((ticket % LANE_COUNT) as usize)
+        FIRST_LANE + LINE * ((ticket % LANES) as usize)
     }
 
-    /// Waits a little if the ticket is next but one step.
+    /// Looks for a little while, if the ticket is the next one.
     fn spin(&self, ticket: u64) {
         for _ in 0..SPINS {
             if ticket.wrapping_sub(self.table.shared.peek(SERVED)) != 1 {
@@ -66,7 +49,7 @@ impl<T: Chronicle> SeatLock<T> {
     /// Says that one sleeps on the word, and gives the word's low half as it stands then.
     pub(crate) fn mark(&self, seat: &mut Seat<T>, word: usize) -> u32
         requires lock { IsSeatOf self.now seat.old }
-        requires word { (2 ≤ word) × (word < 1288) }
+        requires word { (2 ≤ word) × (word < WORDS) }
         ensures { IsUnchanged seat.old seat.new }
     {
         let found = self.table.shared.fetch_or::<Mark>(seat, word, 1);
@@ -76,7 +59,7 @@ impl<T: Chronicle> SeatLock<T> {
     /// Wakes those who sleep on the word, and answers whether it was marked.
     pub(crate) fn wake(&self, seat: &mut Seat<T>, word: usize) -> bool
         requires lock { IsSeatOf self.now seat.old }
-        requires word { (2 ≤ word) × (word < 1288) }
+        requires word { (2 ≤ word) × (word < WORDS) }
         ensures { IsUnchanged seat.old seat.new }
     {
         let shared = &self.table.shared;

@@ -39,6 +39,7 @@ impl Diary {
     ghost use Rattle.std.specs.Prelude.{[], ◌∷◌, ◌++◌, IfOk, OnOk, OnErr};
     ghost use Rattle.seat_lock_tests.specs.Notes.{note, IsNew};
 
+    /// A diary with no entry.
     pub fn new(alloc: Global) -> Diary
         ensures { result.notes.items ≡ [] }
     {

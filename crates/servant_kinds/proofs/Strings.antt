@@ -1,5 +1,5 @@
 -- Where CDR refuses a string none is read.
-use Rattle.std.proofs.Common.{◌≡◌, ◌≢◌, ℕ, zero, suc, ◌+◌, ◌-◌, ◌<◌, ◌≤◌, ◌%◌, List, [], ◌∷◌, ◌++◌, length, take, drop, get_or, refl, sym, ◌∙◌, ap, subst, inl, inr, arith, ◌⊎◌, Option, Some, None, Result, Ok, Err, IfOk, OnOk, nat_lt, false, length-take-le, get_or-take, ne_eqb}
+use Rattle.std.proofs.Common.{◌≡◌, ◌≢◌, ℕ, zero, suc, ◌-◌, ◌<◌, ◌%◌, List, length, take, get_or, sym, ◌∙◌, ap, subst, inl, inr, arith, ◌⊎◌, Option, Some, None, Result, Ok, Err, IfOk, OnOk, nat_lt, false, length-take-le, get_or-take, ne_eqb}
 use Rattle.std.proofs.lemmas.Bool.{cond-false, le-ltb}
 use Rattle.std.proofs.lemmas.Grind.{common_steps}
 use Rattle.cdr_core.specs.declared.CdrFault.{CdrFault}

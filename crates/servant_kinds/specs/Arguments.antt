@@ -1,6 +1,6 @@
 -- The argument of an operation: one field at the front of a request's body, in CDR (CORBA 3.3 Part 2, 9.3).
 -- Bytes behind it are ignored.
-use Rattle.std.specs.Prelude.{ℕ, zero, suc, ℤ, ◌≡◌, ◌%◌, ◌==◌, nat_lt, if◌then◌else◌, Bool, List, [], length, take, drop, slice_index, Option, Some, None}
+use Rattle.std.specs.Prelude.{ℕ, zero, suc, ℤ, ◌%◌, ◌==◌, nat_lt, if◌then◌else◌, Bool, List, [], length, take, drop, slice_index, Option, Some, None}
 use Rattle.std.specs.Option.{option_map}
 use Rattle.std.specs.Int.{Width, w32, w64, byte_len, from_le_bytes, from_be_bytes, cast_signed}
 use Rattle.cdr_core.specs.Spelling.{gap}
@@ -55,6 +55,7 @@ abbrev pub front_of : ℕ → List ℕ → Option (List ℕ)
 front_of zero bytes = Some []
 front_of (suc n) bytes = if slice_index bytes n == 0 then Some (take n bytes) else None
 
+-- the bytes of a string that were counted with their NUL
 abbrev pub ended_of : Option (List ℕ) → Option (List ℕ)
 ended_of None = None
 ended_of (Some bytes) = front_of (length bytes) bytes

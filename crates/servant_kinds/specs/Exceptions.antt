@@ -1,5 +1,5 @@
--- The exceptions that servants raise (CORBA 3.3 Part 1, A.5). No completion but that of a fault servant is MAYBE.
-use Rattle.std.specs.Prelude.{List, ℕ, codes}
+-- The exceptions that servants raise (CORBA 3.3 Part 1, 8.12). No completion but that of a fault servant is MAYBE.
+use Rattle.std.specs.Prelude.{codes}
 use Rattle.poa_base.specs.declared.Outcome.{Outcome}
 use Rattle.poa_base.specs.declared.Outcome.TheVariants.{User, System}
 use Rattle.poa_base.specs.declared.ExcName.TheVariants.{BadOperation, Marshal, Unknown}

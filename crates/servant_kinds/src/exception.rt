@@ -1,4 +1,4 @@
-//! The exceptions that servants raise (CORBA 3.3 Part 1, A.5).
+//! The exceptions that servants raise (CORBA 3.3 Part 1, 8.12).
 ghost use Rattle.std.specs.Prelude.{◌≡◌, IfOk};
 ghost use Rattle.poa_base.specs.declared.Outcome.TheVariants.{User};
 ghost use Rattle.servant_kinds.specs.Exceptions.{unknown_operation, bad_arguments, fault_outcome};

@@ -1,7 +1,6 @@
 //! A log: a list of entries, to which one is added at the end.
 ghost use Rattle.std.specs.Prelude.{◌≡◌, IfOk, OnErr};
-ghost use Rattle.servant_kinds.specs.Act.{log_act, append_log, read_log};
-ghost use Rattle.servant_kinds.specs.Log.{room_of};
+ghost use Rattle.servant_kinds.specs.Log.{room_of, log_act, append_log, read_log};
 
 use crate::argument::{octets, ulong};
 use crate::exception::{raise, refuse_arguments};

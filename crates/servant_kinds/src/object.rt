@@ -1,6 +1,6 @@
-//! The operations that every object has (CORBA 3.3 Part 1, 8.2).
+//! The operations that every object has (CORBA 3.3 Part 1, 8.3).
 ghost use Rattle.std.specs.Prelude.{◌≡◌, IfOk};
-ghost use Rattle.servant_kinds.specs.Act.{object_outcome};
+ghost use Rattle.servant_kinds.specs.Object.{object_outcome};
 
 use crate::argument::text;
 use crate::exception::{refuse_arguments, refuse_operation};

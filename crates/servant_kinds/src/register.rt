@@ -1,6 +1,6 @@
 //! A register: one long long.
 ghost use Rattle.std.specs.Prelude.{◌≡◌, IfOk, OnErr};
-ghost use Rattle.servant_kinds.specs.Act.{register_act, set_register, add_register};
+ghost use Rattle.servant_kinds.specs.Register.{register_act, set_register, add_register};
 
 use crate::argument::longlong;
 use crate::exception::{raise, refuse_arguments};

@@ -1,4 +1,4 @@
-ghost use Rattle.std.specs.Prelude.{◌≡◌, ◌∷◌, [], ◌++◌, map, MatchOption, IfOk, filter, true};
+ghost use Rattle.std.specs.Prelude.{◌≡◌, ◌<◌, IfSome, length, ◌∷◌, [], ◌++◌, map, MatchOption, IfOk, filter, true};
 ghost use Rattle.text_words.specs.Cuts.{is_filled, lacks, lines_of, loose_words_of, parts_of, words_of};
 
 use std::alloc::{AllocError, Global};
@@ -18,7 +18,8 @@ fn split_front(text: &[u8], separator: u8) -> (&[u8], Option<&[u8]>)
 
 /// The first line of a text and what stands behind its LF; none of an empty text. The last LF may be missing.
 pub fn next_line(text: &[u8]) -> Option<(&[u8], &[u8])>
-    ensures { MatchOption result (lines_of text.now ≡ []) (λ x. lines_of text.now ≡ x.0.now ∷ lines_of x.1.now) }
+    ensures lines { MatchOption result (lines_of text.now ≡ []) (λ x. lines_of text.now ≡ x.0.now ∷ lines_of x.1.now) }
+    ensures shorter { IfSome result (λ x. length x.1.now < length text.now) }
 {
     if text.is_empty() {
         return None;

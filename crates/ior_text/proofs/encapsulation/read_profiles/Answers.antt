@@ -1,4 +1,4 @@
-use Rattle.std.proofs.Common.{arith, ap, length, length-append, subst, sym, List}
+use Rattle.std.proofs.Common.{arith, length-append, subst, sym, List}
 use Rattle.poa_base.specs.declared.Profile.{Profile}
 use Rattle.ior_text.specs.Profiles.{ReadsProfiles}
 use Rattle.ior_text.proofs.Pushing.{reads_push}

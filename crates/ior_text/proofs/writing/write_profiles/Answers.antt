@@ -1,4 +1,4 @@
-use Rattle.std.proofs.Common.{◌≡◌, ap, subst, sym, ◌∙◌, rules, List, ℕ, length, ◌<◌, ◌^◌}
+use Rattle.std.proofs.Common.{ap, subst, sym, ◌∙◌, rules, List, ℕ, length, ◌<◌, ◌^◌}
 use Rattle.hex.specs.Hex.{IsBytes}
 use Rattle.std.proofs.lemmas.List.Elements.{All-more}
 use Rattle.ior_text.specs.Written.{with_profile, IsProfile}

@@ -1,6 +1,5 @@
 -- The run between two pieces, and each of its ends.
-use Rattle.std.proofs.Common.{◌≡◌, ℕ, ◌+◌, ◌≤◌, ◌^◌, List, [], ◌++◌, take, Option, Some, refl, sym, ap, ◌∙◌, subst, arith}
-use Rattle.outside.specs.Told.{IfTold}
+use Rattle.std.proofs.Common.{take, Some, refl, ap, subst, arith}
 use Rattle.poad_cmd.specs.declared.status.Status.{Status}
 use Rattle.poad_cmd.specs.Piece.{EndsPiece, EndsAt}
 use Rattle.std.proofs.lemmas.List.{length-take-le}

@@ -1,4 +1,4 @@
-use Rattle.std.proofs.Common.{ℕ, ◌≤◌, length}
+use Rattle.std.proofs.Common.{◌≤◌, length}
 use Rattle.poad_cmd.proofs.Delivered.{Delivered}
 use Rattle.poad_cmd.proofs.delivery.deliver.Given as goal
 

@@ -1,4 +1,4 @@
-use Rattle.std.proofs.Common.{arith, ap, length, length-append}
+use Rattle.std.proofs.Common.{arith, length-append}
 use Rattle.servant_kinds.proofs.Rooms.{length-le-size_of}
 use Rattle.servant_kinds.proofs.log.append.Goals as goal
 

@@ -6,6 +6,7 @@ use Rattle.poa_base.proofs.Shelves.{all_at, room_at, unchanged_at, first_slot, a
 use Rattle.std.specs.BTreeMap.{is_at}
 use Rattle.std.specs.Map.{lookup}
 use Rattle.poa_base.specs.Store.{path_cmp}
+use Rattle.poa_base.proofs.Stored.{reserved_after}
 use Rattle.poa_base.proofs.store.Store.reserve.Goals as goal
 
 pub reserve_on-requires : goal.reserve_on-requires
@@ -45,3 +46,9 @@ returns-in_ok-insert-in-None-clause-ok c =
     (ap (lookup (is_at (path_cmp c.args.path.now))) same ∙ sym c.get_mut.ensures.value ∙ ap option_copied_mut c.in-None.is)
     (at_key _ _ _ _ _ c.in_ok-try_clone-in-None.ensures.equal put.updates.0)
     (first_slot c.new-shelf.result c.reserve_on-in-None.new.shelf _ c.new-shelf.ensures.empty c.in_ok-reserve_on-in-None.ensures.ok)
+
+pub returns-in-Some-clause-reserved : goal.returns-in-Some-clause-reserved
+returns-in-Some-clause-reserved c = on_ok_weaker _ (reserved_after _ _ _ _) (returns-in-Some-clause-ok c)
+
+pub returns-in_ok-insert-in-None-clause-reserved : goal.returns-in_ok-insert-in-None-clause-reserved
+returns-in_ok-insert-in-None-clause-reserved c = reserved_after _ _ _ _ (returns-in_ok-insert-in-None-clause-ok c)

@@ -1,4 +1,4 @@
-use Rattle.std.proofs.Common.{arith, ap, sym, ◌∙◌}
+use Rattle.std.proofs.Common.{arith}
 use Rattle.std.proofs.lemmas.Grind.{common_steps}
 use Rattle.poa_base.proofs.Rows.{more_rows, rows_of_shelves}
 use Rattle.poa_base.proofs.store.Store.rows.Goals as goal

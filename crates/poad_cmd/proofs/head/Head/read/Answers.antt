@@ -1,8 +1,8 @@
 -- Each exit but the last is at a field that can't be read, so no head stands there.
-use Rattle.std.proofs.Common.{◌≡◌, ℕ, List, [], ◌∷◌, Option, Some, Ok, IfSome, refl, ap}
+use Rattle.std.proofs.Common.{ℕ, List, [], ◌∷◌, Option, Ok, refl, ap}
 use Rattle.cdr_core.specs.Kind.{Octet, UShort, ULong, Text, Octets}
 use Rattle.cdr_core.specs.Field.{octet, ushort, ulong, text, octets}
-use Rattle.cdr_core.specs.Cursor.{Cursor, Reads}
+use Rattle.cdr_core.specs.Cursor.{Reads}
 use Rattle.poad_cmd.specs.Fields.{ReadsAll, fields_of}
 use Rattle.poad_cmd.proofs.Stuck.{stuck}
 use Rattle.poad_cmd.proofs.head.Head.read.Goals as goal

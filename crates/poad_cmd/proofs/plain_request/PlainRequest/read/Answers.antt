@@ -1,11 +1,9 @@
 -- The message's head, operation and argument are the ones that were read.
-use Rattle.std.proofs.Common.{◌≡◌, ℕ, List, ap, Option, Some, Ok, refl, subst}
+use Rattle.std.proofs.Common.{◌≡◌, ℕ, List, ap, Option, Ok, refl, subst}
 use Rattle.std.proofs.lemmas.Bool.Decides.{not_from_Decides}
-use Rattle.cdr_core.specs.Cursor.{Cursor}
 use Rattle.poad_cmd.specs.declared.head.Head.{Head}
-use Rattle.poad_cmd.specs.declared.operation.Operation.{Operation}
 use Rattle.poad_cmd.specs.Fields.{fields_start, HasHead}
-use Rattle.poad_cmd.specs.Plain.{IsPlainHead, Asks}
+use Rattle.poad_cmd.specs.Plain.{Asks}
 use Rattle.poad_cmd.proofs.Plainly.{starts, reads_head, no_head, no_plain_head, no_operation, no_sum}
 use Rattle.poad_cmd.proofs.plain_request.PlainRequest.read.Goals as goal
 

@@ -1,6 +1,6 @@
 -- The turns make progress together.
 use Rattle.std.proofs.Common.{◌≡◌, arith}
-use Rattle.poad_cmd.specs.Service.{Progresses, reach}
+use Rattle.poad_cmd.specs.Service.{reach}
 use Rattle.poad_cmd.proofs.Progress.{progress_then, reach_same}
 use Rattle.poad_cmd.proofs.serving.Service.serve.Goals as goal
 

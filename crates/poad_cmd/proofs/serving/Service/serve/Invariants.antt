@@ -1,4 +1,4 @@
-use Rattle.std.proofs.Common.{ℕ, ◌<◌, ◌^◌, length}
+use Rattle.std.proofs.Common.{◌<◌, ◌^◌, length}
 use Rattle.poad_cmd.specs.Service.{Progresses, reach}
 use Rattle.poad_cmd.proofs.serving.Service.serve.Given as goal
 

@@ -1,5 +1,5 @@
 -- The message in front is whole: either it is served, or it isn't plain.
-use Rattle.std.proofs.Common.{◌≡◌, ℕ, List, ◌++◌, take, Option, Ok, Some, ap, refl, ◌∙◌}
+use Rattle.std.proofs.Common.{ℕ, List, ◌++◌, take, Option, Ok, ap, refl, ◌∙◌}
 use Rattle.std.proofs.lemmas.Slice.{pushed}
 use Rattle.poad_cmd.specs.declared.plain_request.PlainRequest.{PlainRequest}
 use Rattle.poad_cmd.specs.Plain.{IsPlain}

@@ -1,0 +1,8 @@
+pub mod Chain
+pub mod Gives
+pub mod Place
+pub mod Words
+pub mod Look
+pub mod Paths
+pub mod Numbers
+pub mod Entries

@@ -1,0 +1,5 @@
+pub mod Managers
+pub mod Servants
+pub mod Policies
+pub mod Rules
+pub mod Adapters

@@ -1,0 +1,96 @@
+//! The managers of a configuration.
+ghost use Rattle.std.specs.Prelude.{◌≡◌, ◌≤◌, ◌<◌, ◌+◌, [], length, None, IfOk, IfErr};
+ghost use Rattle.toml.specs.View.{view, table_view, items_view};
+ghost use Rattle.conf_fields.specs.Entries.{entries_of};
+ghost use Rattle.conf_fields.specs.Gives.{Gives, GivesView};
+ghost use Rattle.conf_fields.specs.Numbers.{find_in, noted, place_of};
+ghost use Rattle.conf_fields.specs.declared.Place.TheVariants as place;
+ghost use Rattle.conf_fields.specs.declared.ConfFault.TheVariants as fault;
+ghost use Rattle.conf_rows.specs.Managers.{manager_at as the_manager_at, manager_in, manager_after, manager_names, managers_of};
+
+use conf_fields::{
+    ConfFault, Numbers, Place, entries_at, known_keys, name_at, no_numbers, not_twice, note,
+    table_in, word_or,
+};
+use poa_base::{Items, ManagerConf, ManagerState};
+use std::alloc::Global;
+use toml::{Table, Value};
+
+/// A manager, and its name's text.
+#[tactic(auto, unfolding(crate::specs::Managers::manager_at))]
+fn manager_at<'a>(
+    alloc: Global,
+    at: Place,
+    numbers: &Numbers,
+    table: &'a Table,
+) -> Result<(ManagerConf, &'a str), ConfFault>
+    ensures value { GivesView (λ p. p.0) result (the_manager_at at (find_in numbers.now) (table_view table.now)) }
+    ensures name { IfOk result (λ p. p.1.now ≡ p.0.name) }
+    ensures fresh { IfOk result (λ p. find_in numbers.now p.0.name ≡ None) }
+{
+    let (name, text) = name_at(alloc, at, table, "name")?;
+    not_twice(alloc, numbers, at, "name", text)?;
+    let start = word_or(alloc, at, table, "start", ManagerState::Holding)?;
+    known_keys(alloc, at, table, &["name", "start"])?;
+    Ok((ManagerConf { name, start }, text))
+}
+
+/// Reads the entry at index `i`, and notes its name.
+fn next_manager(
+    alloc: Global,
+    i: u32,
+    value: &Value,
+    numbers: &mut Numbers,
+) -> Result<ManagerConf, ConfFault>
+    requires { i < 1024 }
+    ensures entry { Gives result (manager_in (place.Manager i) (find_in numbers.old) (view value.now)) }
+    ensures fresh { IfOk result (λ m. find_in numbers.old m.name ≡ None) }
+    ensures noted { IfOk result (λ m. find_in numbers.new ≡ noted m.name (i + 1) (find_in numbers.old)) }
+{
+    let at = Place::Manager(i);
+    let table = table_in(alloc, at, value)?;
+    let (manager, text) = manager_at(alloc, at, numbers, table)?;
+    note(alloc, numbers, text, i + 1)?;
+    Ok(manager)
+}
+
+fn entries(
+    alloc: Global,
+    values: &[Value],
+    numbers: &mut Numbers,
+) -> Result<Items<ManagerConf>, ConfFault>
+    requires few { length values.now ≤ 1024 }
+    requires start { find_in numbers.old ≡ place_of (manager_names []) }
+    ensures value { Gives result (entries_of manager_after [] (items_view values.now)) }
+    ensures numbers { IfOk result (λ managers. find_in numbers.new ≡ place_of (manager_names managers)) }
+{
+    let mut managers = Vec::new(alloc);
+    for (i, value) in values.iter().enumerate() {
+        let manager = next_manager(alloc, i as u32, value, numbers)?;
+        let Ok(()) = managers.push(manager) else {
+            return Err(ConfFault::WantMemory);
+        };
+    }
+    Ok(Items::from_vec(managers))
+}
+
+fn root_alone(alloc: Global) -> Result<Numbers, ConfFault>
+    ensures value { IfOk result (λ numbers. find_in numbers ≡ place_of (manager_names [])) }
+    ensures memory { IfErr result (λ e. e ≡ fault.WantMemory) }
+{
+    let mut numbers = no_numbers(alloc);
+    note(alloc, &mut numbers, "root", 0)?;
+    Ok(numbers)
+}
+
+/// The managers of the document, and the numbers of their names: 0 is `root`.
+#[tactic(auto, unfolding(crate::specs::Managers::managers_of))]
+pub fn managers(alloc: Global, top: &Table) -> Result<(Items<ManagerConf>, Numbers), ConfFault>
+    ensures value { GivesView (λ p. p.0) result (managers_of (table_view top.now)) }
+    ensures numbers { IfOk result (λ p. find_in p.1 ≡ place_of (manager_names p.0)) }
+{
+    let values = entries_at(alloc, Place::Top, top, "manager", 1024)?;
+    let mut numbers = root_alone(alloc)?;
+    let managers = entries(alloc, values, &mut numbers)?;
+    Ok((managers, numbers))
+}

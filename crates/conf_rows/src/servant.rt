@@ -1,0 +1,113 @@
+//! The servants of a configuration.
+ghost use Rattle.std.specs.Prelude.{◌≡◌, ◌≤◌, ◌<◌, ◌+◌, [], length, None, IfOk};
+ghost use Rattle.toml.specs.View.{view, table_view, items_view};
+ghost use Rattle.conf_fields.specs.Entries.{entries_of};
+ghost use Rattle.conf_fields.specs.Gives.{Gives, GivesView};
+ghost use Rattle.conf_fields.specs.Numbers.{find_in, noted, place_of};
+ghost use Rattle.conf_fields.specs.declared.Place.TheVariants as place;
+ghost use Rattle.conf_rows.specs.Servants.{without_value as the_without_value, register_opening, opening as the_opening, servant_at as the_servant_at, servant_in, servant_after, servant_names, servants_of};
+
+use conf_fields::{
+    ConfFault, Numbers, Place, entries_at, integer_or, known_keys, name_at, no_numbers, none_of,
+    not_twice, note, table_in, word_at,
+};
+use poa_base::{Items, Kind, ServantConf, State};
+use std::alloc::Global;
+use toml::{Table, Value};
+
+fn without_value(alloc: Global, state: State, at: Place, table: &Table) -> Result<State, ConfFault>
+    ensures { Gives result (the_without_value state at (table_view table.now)) }
+{
+    none_of(alloc, at, table, &["value"])?;
+    Ok(state)
+}
+
+fn register(alloc: Global, at: Place, table: &Table) -> Result<State, ConfFault>
+    ensures { Gives result (register_opening at (table_view table.now)) }
+{
+    let value = integer_or(alloc, at, table, "value", 0)?;
+    Ok(State::Register(value))
+}
+
+/// The state in which a servant of this kind starts.
+#[tactic(auto, unfolding(crate::specs::Servants::opening))]
+fn opening(alloc: Global, kind: Kind, at: Place, table: &Table) -> Result<State, ConfFault>
+    ensures { Gives result (the_opening kind at (table_view table.now)) }
+{
+    match kind {
+        Kind::Register => register(alloc, at, table),
+        Kind::Log => without_value(alloc, State::Book(Items::new(alloc)), at, table),
+        Kind::Echo => without_value(alloc, State::Echo, at, table),
+        Kind::Fault => without_value(alloc, State::Fault, at, table),
+    }
+}
+
+/// A servant, and its name's text.
+#[tactic(auto, unfolding(crate::specs::Servants::servant_at))]
+fn servant_at<'a>(
+    alloc: Global,
+    at: Place,
+    numbers: &Numbers,
+    table: &'a Table,
+) -> Result<(ServantConf, &'a str), ConfFault>
+    ensures value { GivesView (λ p. p.0) result (the_servant_at at (find_in numbers.now) (table_view table.now)) }
+    ensures name { IfOk result (λ p. p.1.now ≡ p.0.name) }
+    ensures fresh { IfOk result (λ p. find_in numbers.now p.0.name ≡ None) }
+{
+    let (name, text) = name_at(alloc, at, table, "name")?;
+    not_twice(alloc, numbers, at, "name", text)?;
+    let kind = word_at(alloc, at, table, "kind")?;
+    let state = opening(alloc, kind, at, table)?;
+    known_keys(alloc, at, table, &["name", "kind", "value"])?;
+    Ok((ServantConf { name, state }, text))
+}
+
+/// Reads the entry at index `i`, and notes its name.
+fn next_servant(
+    alloc: Global,
+    i: u32,
+    value: &Value,
+    numbers: &mut Numbers,
+) -> Result<ServantConf, ConfFault>
+    ensures entry { Gives result (servant_in (place.Servant i) (find_in numbers.old) (view value.now)) }
+    ensures fresh { IfOk result (λ s. find_in numbers.old s.name ≡ None) }
+    ensures noted { IfOk result (λ s. find_in numbers.new ≡ noted s.name i (find_in numbers.old)) }
+{
+    let at = Place::Servant(i);
+    let table = table_in(alloc, at, value)?;
+    let (servant, text) = servant_at(alloc, at, numbers, table)?;
+    note(alloc, numbers, text, i)?;
+    Ok(servant)
+}
+
+fn entries(
+    alloc: Global,
+    values: &[Value],
+    numbers: &mut Numbers,
+) -> Result<Items<ServantConf>, ConfFault>
+    requires few { length values.now ≤ 1024 }
+    requires start { find_in numbers.old ≡ place_of (servant_names []) }
+    ensures value { Gives result (entries_of servant_after [] (items_view values.now)) }
+    ensures numbers { IfOk result (λ servants. find_in numbers.new ≡ place_of (servant_names servants)) }
+{
+    let mut servants = Vec::new(alloc);
+    for (i, value) in values.iter().enumerate() {
+        let servant = next_servant(alloc, i as u32, value, numbers)?;
+        let Ok(()) = servants.push(servant) else {
+            return Err(ConfFault::WantMemory);
+        };
+    }
+    Ok(Items::from_vec(servants))
+}
+
+/// The servants of the document, and the numbers of their names, from 0 on.
+#[tactic(auto, unfolding(crate::specs::Servants::servants_of))]
+pub fn servants(alloc: Global, top: &Table) -> Result<(Items<ServantConf>, Numbers), ConfFault>
+    ensures value { GivesView (λ p. p.0) result (servants_of (table_view top.now)) }
+    ensures numbers { IfOk result (λ p. find_in p.1 ≡ place_of (servant_names p.0)) }
+{
+    let values = entries_at(alloc, Place::Top, top, "servant", 1024)?;
+    let mut numbers = no_numbers(alloc);
+    let servants = entries(alloc, values, &mut numbers)?;
+    Ok((servants, numbers))
+}

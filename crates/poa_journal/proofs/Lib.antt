@@ -1,0 +1,6 @@
+pub mod Pages
+pub mod Fronts
+pub mod Stored
+pub mod Entries
+pub mod RowTexts
+pub mod PrintedBack

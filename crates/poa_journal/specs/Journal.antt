@@ -1,0 +1,40 @@
+-- The text of a journal: a head line with the run, a line for each row of the opening store, and one for each entry.
+use Rattle.std.specs.Prelude.{◌≡◌, ℕ, ◌^◌, List, [], ◌∷◌, ◌++◌, map}
+use Rattle.std.specs.List.{AllByRecursion}
+use Rattle.poa_base.specs.declared.Journal.{Journal}
+use Rattle.poa_base.specs.declared.State.{State}
+use Rattle.poa_base.specs.Store.{Place, states}
+use Rattle.text_words.specs.Token.{Token, keyword, number, spelled, AllFit}
+use Rattle.poa_journal.specs.declared.fixed.Mark.TheVariants as mark
+use Rattle.poa_journal.specs.Fixed.{mark_word}
+use Rattle.poa_journal.specs.Row.{row_tokens}
+use Rattle.poa_journal.specs.Entry.{entry_tokens, IsWritten}
+
+-- `journal 1 run N`
+abbrev pub head_tokens : ℕ → List Token
+head_tokens run = keyword (mark_word mark.Journal) ∷ keyword (mark_word mark.One) ∷ keyword (mark_word mark.Run) ∷ number (2 ^ 32) run ∷ []
+
+-- lines, each with its end
+abbrev pub text_of : List (List Token) → List ℕ
+text_of [] = []
+text_of (line ∷ lines) = spelled line ++ 10 ∷ text_of lines
+
+-- the rows of the opening store and the entries
+abbrev pub body_lines : Journal → List (List Token)
+body_lines journal = map row_tokens (states journal.opening) ++ map entry_tokens journal.entries
+
+abbrev pub journal_lines : Journal → List (List Token)
+journal_lines journal = head_tokens journal.run ∷ body_lines journal
+
+abbrev pub journal_text : Journal → List ℕ
+journal_text journal = text_of (journal_lines journal)
+
+-- a row that can be written
+abbrev pub IsRow : Place × State → Type 0
+IsRow row = AllFit (row_tokens row)
+
+-- a journal whose names, numbers and bytes are such as can be written
+pub record IsJournal (journal : Journal) : Type 0 where
+  pub run : AllFit (head_tokens journal.run)
+  pub rows : AllByRecursion IsRow (states journal.opening)
+  pub entries : AllByRecursion IsWritten journal.entries
