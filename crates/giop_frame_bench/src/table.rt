@@ -10,6 +10,7 @@ use std::time::{Clock, CpuClock};
 const TIMES: u32 = 5;
 
 /// A stream and the length of its pieces.
+#[derive(Clone, Copy)]
 struct Row<'a> {
     name: &'a str,
     text: &'a [u8],
@@ -40,21 +41,56 @@ pub fn print<R: Clock + CpuClock + Print>(rt: &R, alloc: Global, measure: bool) 
     let open = open_requests(alloc, if measure { 1_048_576 } else { 1_024 })?;
     let empty = empty_fragments(alloc, 100_000)?;
     let rows = [
-        Row { name: "64-byte messages in one piece", text: small.as_slice(), piece: 1 << 30 },
-        Row { name: "64-byte messages, 4096 bytes a piece", text: small.as_slice(), piece: 4096 },
-        Row { name: "64-byte messages byte by byte", text: small.as_slice(), piece: 1 },
-        Row { name: "1 MiB message in one piece", text: large.as_slice(), piece: 1 << 30 },
-        Row { name: "1 MiB message, 4096 bytes a piece", text: large.as_slice(), piece: 4096 },
-        Row { name: "1 MiB message byte by byte", text: large.as_slice(), piece: 1 },
-        Row { name: "open 16-byte messages", text: open.as_slice(), piece: 4096 },
-        Row { name: "100,000 empty fragments", text: empty.as_slice(), piece: 4096 },
+        Row {
+            name: "64-byte messages in one piece",
+            text: small.as_slice(),
+            piece: 1 << 30,
+        },
+        Row {
+            name: "64-byte messages, 4096 bytes a piece",
+            text: small.as_slice(),
+            piece: 4096,
+        },
+        Row {
+            name: "64-byte messages byte by byte",
+            text: small.as_slice(),
+            piece: 1,
+        },
+        Row {
+            name: "1 MiB message in one piece",
+            text: large.as_slice(),
+            piece: 1 << 30,
+        },
+        Row {
+            name: "1 MiB message, 4096 bytes a piece",
+            text: large.as_slice(),
+            piece: 4096,
+        },
+        Row {
+            name: "1 MiB message byte by byte",
+            text: large.as_slice(),
+            piece: 1,
+        },
+        Row {
+            name: "open 16-byte messages",
+            text: open.as_slice(),
+            piece: 4096,
+        },
+        Row {
+            name: "100,000 empty fragments",
+            text: empty.as_slice(),
+            piece: 4096,
+        },
     ];
     for row in &rows {
         let name = row.name;
         if measure {
             let nanos = fastest(rt, alloc, row)?;
             let speed = (row.text.len() as u64).saturating_mul(1000) / nanos;
-            println!(rt; "{name}: {} bytes, {nanos} ns, {speed} MB/s", row.text.len())?;
+            println!(rt;
+                "{name}: {} bytes, {nanos} ns, {speed} MB/s",
+                row.text.len()
+            )?;
         } else {
             let messages = messages_of(alloc, row.text, row.piece)?;
             println!(rt; "{name}: {messages}")?;
