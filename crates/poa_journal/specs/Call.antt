@@ -64,14 +64,20 @@ body_of little b d = do
   bytes ← prefixed_of (codes "h:") d
   Some (record { bytes = bytes; little = little; base = base })
 
+-- the target, the operation and its arguments
+abbrev pub arguments_of : Bool → List ℕ → List ℕ → List ℕ → List ℕ → Option (Option (List ℕ) × List ℕ × Body)
+arguments_of little t p b d = do
+  target ← target_of t
+  operation ← prefixed_of (codes "h:") p
+  body ← body_of little b d
+  Some (target, operation, body)
+
 abbrev pub request_of : List (List ℕ) → Option Call
 request_of (i ∷ m ∷ o ∷ f ∷ t ∷ p ∷ b ∷ d ∷ []) = do
   start ← start_of i m o
   flags ← number_of 256 f
-  target ← target_of t
-  operation ← prefixed_of (codes "h:") p
-  body ← body_of start.2 b d
-  Some (Request (record { id = start.0; minor = start.1; little = start.2; flags = flags; locate = false }) target operation body)
+  rest ← arguments_of start.2 t p b d
+  Some (Request (record { id = start.0; minor = start.1; little = start.2; flags = flags; locate = false }) rest.0 rest.1 rest.2)
 request_of ws = None
 
 abbrev pub locate_of : List (List ℕ) → Option Call
