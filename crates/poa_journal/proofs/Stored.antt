@@ -86,3 +86,10 @@ no_slots (e ∷ es) none place = absurd (omega arith)
 -- nothing stands in an empty store
 pub end_empty : IsEnd None finite.empty
 end_empty = record { above = λ place above. no_slots (finite.entries finite.empty) (sym (finite.len-entries finite.empty) ∙ finite.len-empty place_cmp (Option State)) place }
+
+no_items : {X : Type 0} (xs : List X) → length xs ≡ 0 → xs ≡ []
+no_items [] none = refl
+no_items (x ∷ xs) none = absurd (omega arith)
+
+pub states_empty : states finite.empty ≡ []
+states_empty = ap (filter_map with_place) (no_items (finite.entries finite.empty) (sym (finite.len-entries finite.empty) ∙ finite.len-empty place_cmp (Option State)))

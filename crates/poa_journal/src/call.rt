@@ -60,12 +60,12 @@ fn request(alloc: Global, words: &[&[u8]]) -> Result<Call, WordFault>
     ensures value { Gives result (request_of (map (λ w. w.now) words.now)) }
     ensures text { IfOk result (λ call. call_word CallKind.Request ∷ (map (λ w. w.now) words.now) ≡ texts (call_tokens call)) }
 {
-    let [id, minor, order, flags, key, name, base, bytes] = words else {
+    let [id, minor, order, flags, rest @ ..] = words else {
         return Err(WordFault::OutOfForm);
     };
     let (id, minor, little) = start(id, minor, order)?;
     let flags = number8(flags)?;
-    let (target, operation, body) = arguments(alloc, little, key, name, base, bytes)?;
+    let (target, operation, body) = arguments(alloc, little, rest)?;
     Ok(Call::Request {
         head: Head {
             id,
@@ -118,17 +118,14 @@ fn start(id: &[u8], minor: &[u8], order: &[u8]) -> Result<(u32, u8, bool), WordF
 fn arguments(
     alloc: Global,
     little: bool,
-    key: &[u8],
-    name: &[u8],
-    base: &[u8],
-    bytes: &[u8],
+    words: &[&[u8]],
 ) -> Result<(Option<Bytes>, Bytes, Body), WordFault>
-    ensures value { Gives result (arguments_of little key.now name.now base.now bytes.now) }
-    ensures key_text { IfOk result (λ x. key.now ≡ spell (target_token x.0)) }
-    ensures name_text { IfOk result (λ x. name.now ≡ spell (Token.octets (codes "h:") x.1)) }
-    ensures base_text { IfOk result (λ x. base.now ≡ spell (Token.number (2 ^ 64) x.2.base)) }
-    ensures bytes_text { IfOk result (λ x. bytes.now ≡ spell (Token.octets (codes "h:") x.2.bytes)) }
+    ensures value { Gives result (arguments_of little (map (λ w. w.now) words.now)) }
+    ensures text { IfOk result (λ x. map (λ w. w.now) words.now ≡ texts (target_token x.0 ∷ Token.octets (codes "h:") x.1 ∷ Token.number (2 ^ 64) x.2.base ∷ Token.octets (codes "h:") x.2.bytes ∷ [])) }
 {
+    let [key, name, base, bytes] = words else {
+        return Err(WordFault::OutOfForm);
+    };
     let target = target(alloc, key)?;
     let operation = octets(alloc, b"h:", name)?;
     let body = body(alloc, little, base, bytes)?;

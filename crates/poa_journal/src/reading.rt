@@ -1,5 +1,5 @@
 //! Whole texts read.
-ghost use Rattle.std.specs.Prelude.{◌≡◌, ◌∷◌, ◌++◌, ◌+◌, ◌<◌, ◌≤◌, ◌^◌, [], IfOk, IfSome, length, map, OnOk, true};
+ghost use Rattle.std.specs.Prelude.{◌≡◌, ◌∷◌, ◌++◌, ◌+◌, ◌<◌, ◌≤◌, ◌^◌, [], IfOk, IfSome, length, map, OnOk, take, true, ℕ};
 ghost use Rattle.std.specs.Option.{option_map};
 ghost use Rattle.poa_base.specs.Store.{with_room, with_state, states};
 ghost use Rattle.text_words.specs.Cuts.{lines_of, words_of};
@@ -25,7 +25,16 @@ use text_words::{WordFault, Worded, next_line, number32, words};
 pub fn read(alloc: Global, bytes: &[u8]) -> Result<Journal, JournalFault>
     ensures value { Reads contents result (contents_of bytes.now) }
     ensures text { IfOk result (λ journal. lines_of bytes.now ≡ map spelled (journal_lines journal)) }
+    ensures bad { (line : ℕ) → result ≡ Err (JournalFault.BadLine line) → (journal : Journal) → IsJournal journal
+        → take line (lines_of bytes.now) ≡ take line (map spelled (journal_lines journal)) → ⊥ }
     ensures back { (journal : Journal) → IsJournal journal → bytes.now ≡ journal_text journal → Reads contents result (Ok (contents journal)) }
+{
+    read_lines(alloc, bytes)
+}
+
+fn read_lines(alloc: Global, bytes: &[u8]) -> Result<Journal, JournalFault>
+    ensures value { Reads contents result (contents_of bytes.now) }
+    ensures text { IfOk result (λ journal. lines_of bytes.now ≡ map spelled (journal_lines journal)) }
 {
     let Some((head, rest)) = next_line(bytes) else {
         return Err(JournalFault::BadLine { line: 1 });
