@@ -5,6 +5,8 @@ use Rattle.poa_base.specs.declared.Entry.{Entry}
 use Rattle.poa_base.specs.declared.Entry.TheVariants.{Entered, Arrive, Filled, Left, Collect, Admit, Tried, Incarnated, Run, Done, TakeOut, Etherealized, Abandon}
 use Rattle.poa_base.specs.declared.Call.{Call}
 use Rattle.poa_base.specs.declared.Call.TheVariants.{Request, Locate, Line}
+use Rattle.poa_base.specs.declared.Head.{Head}
+use Rattle.poa_base.specs.declared.Body.{Body}
 use Rattle.poa_base.specs.declared.Verdict.{Verdict}
 use Rattle.poa_base.specs.declared.Verdict.TheVariants.{Serve, Preset, Locator, Incarnate, Try, Refuse, Forward, Addressing, Here, Unknown, Answer, Wait}
 use Rattle.poa_base.specs.declared.Attempt.{Attempt}
@@ -24,7 +26,7 @@ use Rattle.admin_line.specs.Command.{endpoint_tokens}
 use Rattle.admin_line.proofs.ReadBack.{command_back, answer_back}
 use Rattle.admin_line.specs.declared.Source.TheVariants.{Journal}
 use Rattle.poa_journal.specs.declared.fixed.Flag.{Flag}
-use Rattle.poa_journal.specs.Fixed.{kind_word, call_word, order_word, order_for, ruling_word, trial_word, bringing_word, removal_word, removal_for, flag_word, flag_for, mark_word, exception_word}
+use Rattle.poa_journal.specs.Fixed.{kind_word, call_word, order_word, order_for, is_little, ruling_word, trial_word, bringing_word, removal_word, removal_for, flag_word, flag_for, mark_word, exception_word}
 use Rattle.poa_journal.specs.Parts.{last_endpoint}
 use Rattle.poa_journal.specs.Exception.{exception_tokens, exception_of, exception_name_of, completion_of}
 use Rattle.poa_journal.specs.Verdict.{verdict_tokens, verdict_of}
@@ -107,10 +109,33 @@ incarnation_back incarnation.Double h told = refl
 incarnation_back (incarnation.Forward e) h told = rw (endpoint_back e h.1) refl
 incarnation_back (incarnation.Raise e) h told = rw (exception_back e h.1 told) refl
 
+little_back : (little : Bool) → is_little (order_for little) ≡ little
+little_back true = refl
+little_back false = refl
+
+-- what a request's text leaves out
+request_same : (head : Head) (target : Option (List ℕ)) (operation : List ℕ) (body : Body) → head.locate ≡ false → body.little ≡ head.little
+    → ◌≡◌ {A = Option Call} (Some (Request (record { id = head.id; minor = head.minor; little = head.little; flags = head.flags; locate = false }) target operation (record { bytes = body.bytes; little = head.little; base = body.base })))
+    (Some (Request head target operation body))
+request_same head target operation body request same =
+    ap (λ (l : Bool). Some (Request (record { id = head.id; minor = head.minor; little = head.little; flags = head.flags; locate = l }) target operation (record { bytes = body.bytes; little = head.little; base = body.base }))) (sym request)
+    ∙ ap (λ (l : Bool). Some (Request head target operation (record { bytes = body.bytes; little = l; base = body.base }))) (sym same)
+
+-- what a locate's text leaves out
+locate_same : (head : Head) (target : Option (List ℕ)) → head.locate ≡ true → head.flags ≡ 0
+    → ◌≡◌ {A = Option Call} (Some (Locate (record { id = head.id; minor = head.minor; little = head.little; flags = 0; locate = true }) target)) (Some (Locate head target))
+locate_same head target locate none =
+    ap (λ (l : Bool). Some (Locate (record { id = head.id; minor = head.minor; little = head.little; flags = 0; locate = l }) target)) (sym locate)
+    ∙ ap (λ (n : ℕ). Some (Locate (record { id = head.id; minor = head.minor; little = head.little; flags = n; locate = head.locate }) target)) (sym none)
+
 call_back : (c : Call) → AllFit (call_tokens c) → calls.IsTold c → call_of (texts (call_tokens c)) ≡ Some c
 unfolding call_word
-call_back (Request head target operation body) h told = ?
-call_back (Locate head target) h told = ?
+call_back (Request head target operation body) h told =
+    rw (back32 head.id h.1.0.0, back8 head.minor h.1.1.0.0, order_back head.little, back8 head.flags h.1.1.1.1.0.0, target_back target h.1.1.1.1.1.0, prefixed_back (codes "h:") operation h.1.1.1.1.1.1.0.1, back64 body.base h.1.1.1.1.1.1.1.0.0, prefixed_back (codes "h:") body.bytes h.1.1.1.1.1.1.1.1.0.1, little_back head.little)
+    (request_same head target operation body told.0 told.1)
+call_back (Locate head target) h told =
+    rw (back32 head.id h.1.0.0, back8 head.minor h.1.1.0.0, order_back head.little, target_back target h.1.1.1.1.0, little_back head.little)
+    (locate_same head target told.0 told.1)
 call_back (Line n command) h told = rw (back64 n h.1.0.0, command_back Journal command tt h.1.1) refl
 
 -- the words of an entry give the entry

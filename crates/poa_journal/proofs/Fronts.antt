@@ -118,7 +118,7 @@ row_line text store last line rest l after ws so_far cut is =
     ∙ ap (λ o. behind_rows (states store) (at_line line last (l ∷ lines_of after) (λ place. rows_front (line + 1) (Some place) (lines_of after)) o)) is
 
 above_by : (line : ℕ) (test : Bool) (read row : Place × State) (last : Option Place) → is_above last read.0 ≡ test
-    → cond test (Ok {E = ℕ} read) (Err line) ≡ Ok row → is_above last row.0 ≡ true
+    → ◌≡◌ {A = Result (Place × State) ℕ} (cond test (Ok read) (Err line)) (Ok row) → is_above last row.0 ≡ true
 above_by line true read row last is h = let same : read ≡ row = cc in ap (λ r. is_above last r.0) (sym same) ∙ is
 above_by line false read row last is h = cc
 

@@ -5,3 +5,4 @@ pub mod Entries
 pub mod RowTexts
 pub mod PrintedBack
 pub mod FirstBad
+pub mod Printed

@@ -6,10 +6,11 @@ use Rattle.poa_base.specs.declared.Journal.{Journal}
 use Rattle.poa_base.specs.declared.State.{State}
 use Rattle.poa_base.specs.Store.{Place, states}
 use Rattle.text_words.specs.Cuts.{lines_of, words_of}
-use Rattle.text_words.specs.Token.{Token, AllFit, texts, spelled, path, identity}
+use Rattle.text_words.specs.Token.{Token, AllFit, texts, spelled, keyword, number, path, identity}
 use Rattle.text_words.proofs.Lines.{words_spelled, line_first}
 use Rattle.text_words.proofs.Numbers.{number_back}
-use Rattle.poa_journal.specs.Fixed.{mark_word}
+use Rattle.poa_journal.specs.Fixed.{mark_word, kind_word}
+use Rattle.poa_journal.specs.declared.fixed.Mark.TheVariants as mark
 use Rattle.poa_journal.specs.Row.{row_tokens, row_behind, state_tokens}
 use Rattle.poa_journal.specs.Entry.{entry_tokens, body_tokens, kind_in, IsWritten}
 use Rattle.poa_journal.specs.Reading.{entry_of}
@@ -28,7 +29,7 @@ lines_back [] h = refl
 lines_back (l ∷ ls) h = line_first l (text_of ls) h.0 ∙ ap (λ more. spelled l ∷ more) (lines_back ls h.1)
 
 entry_words : (e : Entry) → IsWritten e → words_of (spelled (entry_tokens e)) ≡ texts (entry_tokens e)
-entry_words e w = words_spelled _ (body_tokens e) w.fits
+entry_words e w = words_spelled (keyword (kind_word (kind_in e))) (body_tokens e) w.fits
 
 -- the entries of their lines
 pub entries_back : (k : ℕ) (es : List Entry) → AllByRecursion IsWritten es → entries_of k (map spelled (map entry_tokens es)) ≡ Ok es
@@ -43,7 +44,7 @@ no_rows k last [] h = refl
 no_rows k last (e ∷ es) h = rw (entry_words e h.0, entry_starts (kind_in e) (texts (body_tokens e))) refl
 
 row_words : (place : Place) (state : State) → IsRow (place, state) → words_of (spelled (row_tokens (place, state))) ≡ texts (row_tokens (place, state))
-row_words place state h = words_spelled _ (path place.0 ∷ identity place.1 ∷ state_tokens state) h
+row_words place state h = words_spelled (keyword (mark_word mark.Store)) (path place.0 ∷ identity place.1 ∷ state_tokens state) h
 
 -- the rows of their lines, before entries
 pub rows_back : (k : ℕ) (last : Option Place) (rows : List (Place × State)) (es : List Entry)
@@ -56,7 +57,7 @@ rows_back k last ((place, state) ∷ rows) es fits rise h =
 
 head_back : (run : ℕ) → AllFit (head_tokens run) → head_of (words_of (spelled (head_tokens run))) ≡ Ok run
 unfolding mark_word
-head_back run h = ap head_of (words_spelled _ _ h) ∙ ap numbered (number_back (2 ^ 32) run h.1.1.1.0.0 (omega arith))
+head_back run h = ap head_of (words_spelled (keyword (mark_word mark.Journal)) (keyword (mark_word mark.One) ∷ keyword (mark_word mark.Run) ∷ number (2 ^ 32) run ∷ []) h) ∙ ap numbered (number_back (2 ^ 32) run h.1.1.1.0.0 (omega arith))
 
 rows_fit : (rows : List (Place × State)) (es : List Entry) → AllByRecursion IsRow rows → AllByRecursion IsWritten es → AllLinesFit (map row_tokens rows ++ map entry_tokens es)
 rows_fit [] [] fits h = tt

@@ -1,5 +1,5 @@
 -- Rows that ascend are stored at the end.
-use Rattle.std.proofs.Common.{◌≡◌, ℕ, Bool, true, false, List, [], ◌∷◌, ◌++◌, length, Option, Some, None, refl, sym, ap, ◌∙◌, arith, cond}
+use Rattle.std.proofs.Common.{◌≡◌, ℕ, Bool, true, false, List, [], ◌∷◌, ◌++◌, length, Option, Some, None, refl, sym, ap, ◌∙◌, arith, cond, subst}
 use Rattle.std.specs.Cmp.{tied_itself, IsTotalOrder}
 use Rattle.std.specs.FinMap as finite
 use Rattle.std.specs.FinMap.{put}
@@ -23,7 +23,7 @@ pub record IsEnd (last : Option Place) (store : Slots) : Type 0 where
   pub above : (place : Place) → is_above last place ≡ true → AllBelow place (finite.entries store)
 
 greater_from_less : (a b : Place) → place_cmp a b ≡ Less → place_cmp b a ≡ Greater
-greater_from_less a b less = place_total.antisymm a b ∙ ap ordering_reverse less
+greater_from_less a b less = place_total.antisymm b a ∙ ap ordering_reverse less
 
 -- a slot above all others goes to the end
 put_last : (place : Place) (slot : Option State) (es : List (Place × Option State)) → AllBelow place es
@@ -86,3 +86,10 @@ no_slots (e ∷ es) none place = absurd (omega arith)
 -- nothing stands in an empty store
 pub end_empty : IsEnd None finite.empty
 end_empty = record { above = λ place above. no_slots (finite.entries finite.empty) (sym (finite.len-entries finite.empty) ∙ finite.len-empty place_cmp (Option State)) place }
+
+no_items : {X : Type 0} (xs : List X) → length xs ≡ 0 → xs ≡ []
+no_items [] none = refl
+no_items (x ∷ xs) none = absurd (omega arith)
+
+pub states_empty : states finite.empty ≡ []
+states_empty = ap (filter_map with_place) (no_items (finite.entries finite.empty) (sym (finite.len-entries finite.empty) ∙ finite.len-empty place_cmp (Option State)))

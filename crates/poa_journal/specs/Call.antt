@@ -64,14 +64,21 @@ body_of little b d = do
   bytes ← prefixed_of (codes "h:") d
   Some (record { bytes = bytes; little = little; base = base })
 
-abbrev pub request_of : List (List ℕ) → Option Call
-request_of (i ∷ m ∷ o ∷ f ∷ t ∷ p ∷ b ∷ d ∷ []) = do
-  start ← start_of i m o
-  flags ← number_of 256 f
+-- the target, the operation and its arguments
+abbrev pub arguments_of : Bool → List (List ℕ) → Option (Option (List ℕ) × List ℕ × Body)
+arguments_of little (t ∷ p ∷ b ∷ d ∷ []) = do
   target ← target_of t
   operation ← prefixed_of (codes "h:") p
-  body ← body_of start.2 b d
-  Some (Request (record { id = start.0; minor = start.1; little = start.2; flags = flags; locate = false }) target operation body)
+  body ← body_of little b d
+  Some (target, operation, body)
+arguments_of little ws = None
+
+abbrev pub request_of : List (List ℕ) → Option Call
+request_of (i ∷ m ∷ o ∷ f ∷ ws) = do
+  start ← start_of i m o
+  flags ← number_of 256 f
+  rest ← arguments_of start.2 ws
+  Some (Request (record { id = start.0; minor = start.1; little = start.2; flags = flags; locate = false }) rest.0 rest.1 rest.2)
 request_of ws = None
 
 abbrev pub locate_of : List (List ℕ) → Option Call

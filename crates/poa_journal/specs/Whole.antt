@@ -11,6 +11,8 @@ use Rattle.text_words.specs.Number.{number_of}
 use Rattle.poa_journal.specs.declared.reading.Opening.{Opening}
 use Rattle.poa_journal.specs.declared.fault.JournalFault.{JournalFault}
 use Rattle.poa_journal.specs.declared.fault.JournalFault.TheVariants.{BadLine, WantMemory}
+use Rattle.text_words.specs.Chain.{◌>>=◌}
+use Rattle.poa_journal.specs.declared.fixed.Mark.{Mark}
 use Rattle.poa_journal.specs.declared.fixed.Mark.TheVariants as mark
 use Rattle.poa_journal.specs.Fixed.{mark_word}
 use Rattle.poa_journal.specs.Row.{row_behind}
@@ -67,10 +69,17 @@ abbrev pub entries_of : ℕ → List (List ℕ) → Result (List Entry) ℕ
 entries_of k [] = Ok []
 entries_of k (l ∷ ls) = put_entry (entry_at k (entry_of (words_of l))) (entries_of (k + 1) ls)
 
+-- the word that has to stand at a place
+abbrev pub expected : Mark → List ℕ → Option (Unit {0})
+expected m w = if bytes_eq (mark_word m) w then Some tt else None
+
 -- the run of a head line
 abbrev pub run_of : List (List ℕ) → Option ℕ
-run_of (j ∷ o ∷ r ∷ n ∷ []) =
-    if bytes_eq (mark_word mark.Journal) j then (if bytes_eq (mark_word mark.One) o then (if bytes_eq (mark_word mark.Run) r then number_of (2 ^ 32) n else None) else None) else None
+run_of (j ∷ o ∷ r ∷ n ∷ []) = do
+  first ← expected mark.Journal j
+  second ← expected mark.One o
+  third ← expected mark.Run r
+  number_of (2 ^ 32) n
 run_of ws = None
 
 -- what a journal holds: the run, the rows of the opening store, and the entries

@@ -6,7 +6,7 @@ ghost use Rattle.admin_line.specs.Command.{command_tokens};
 ghost use Rattle.admin_line.specs.Reading.{command_of};
 ghost use Rattle.admin_line.specs.declared.Source.TheVariants.{Journal};
 ghost use Rattle.poa_journal.specs.Fixed.{call_word, order_for, order_word};
-ghost use Rattle.poa_journal.specs.Call.{accepted, body_of, call_behind, call_kind_of, call_of, call_tokens, line_of, locate_of, order_of, request_of, start_of, target_of, target_token};
+ghost use Rattle.poa_journal.specs.Call.{accepted, arguments_of, body_of, call_behind, call_kind_of, call_of, call_tokens, line_of, locate_of, order_of, request_of, start_of, target_of, target_token};
 
 use crate::fixed::{ByteOrder, CallKind, Mark};
 use admin_line::{Source, Wrong, command_text, read_words};
@@ -60,14 +60,12 @@ fn request(alloc: Global, words: &[&[u8]]) -> Result<Call, WordFault>
     ensures value { Gives result (request_of (map (λ w. w.now) words.now)) }
     ensures text { IfOk result (λ call. call_word CallKind.Request ∷ (map (λ w. w.now) words.now) ≡ texts (call_tokens call)) }
 {
-    let [id, minor, order, flags, key, name, base, bytes] = words else {
+    let [id, minor, order, flags, rest @ ..] = words else {
         return Err(WordFault::OutOfForm);
     };
     let (id, minor, little) = start(id, minor, order)?;
     let flags = number8(flags)?;
-    let target = target(alloc, key)?;
-    let operation = octets(alloc, b"h:", name)?;
-    let body = body(alloc, little, base, bytes)?;
+    let (target, operation, body) = arguments(alloc, little, rest)?;
     Ok(Call::Request {
         head: Head {
             id,
@@ -114,6 +112,24 @@ fn start(id: &[u8], minor: &[u8], order: &[u8]) -> Result<(u32, u8, bool), WordF
     let minor = number8(minor)?;
     let order = byte_order(order)?;
     Ok((id, minor, order.is_little()))
+}
+
+// The target, the operation and its arguments.
+fn arguments(
+    alloc: Global,
+    little: bool,
+    words: &[&[u8]],
+) -> Result<(Option<Bytes>, Bytes, Body), WordFault>
+    ensures value { Gives result (arguments_of little (map (λ w. w.now) words.now)) }
+    ensures text { IfOk result (λ x. map (λ w. w.now) words.now ≡ texts (target_token x.0 ∷ Token.octets (codes "h:") x.1 ∷ Token.number (2 ^ 64) x.2.base ∷ Token.octets (codes "h:") x.2.bytes ∷ [])) }
+{
+    let [key, name, base, bytes] = words else {
+        return Err(WordFault::OutOfForm);
+    };
+    let target = target(alloc, key)?;
+    let operation = octets(alloc, b"h:", name)?;
+    let body = body(alloc, little, base, bytes)?;
+    Ok((target, operation, body))
 }
 
 fn body(alloc: Global, little: bool, base: &[u8], bytes: &[u8]) -> Result<Body, WordFault>

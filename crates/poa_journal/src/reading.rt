@@ -1,15 +1,17 @@
 //! Whole texts read.
-ghost use Rattle.std.specs.Prelude.{◌≡◌, ◌∷◌, ◌++◌, ◌+◌, ◌<◌, ◌≤◌, ◌^◌, [], IfOk, IfSome, length, map, OnOk};
+ghost use Rattle.std.specs.Prelude.{◌≡◌, ◌∷◌, ◌++◌, ◌+◌, ◌<◌, ◌≤◌, ◌^◌, [], IfOk, IfSome, length, map, OnOk, take, true, ℕ};
 ghost use Rattle.std.specs.Option.{option_map};
 ghost use Rattle.poa_base.specs.Store.{with_room, with_state, states};
 ghost use Rattle.text_words.specs.Cuts.{lines_of, words_of};
+ghost use Rattle.std.specs.Str.{bytes_eq};
+ghost use Rattle.text_words.specs.Gives.{Gives};
 ghost use Rattle.text_words.specs.Token.{spelled, texts};
 ghost use Rattle.poa_journal.specs.Entry.{entry_tokens};
 ghost use Rattle.poa_journal.specs.Fixed.{mark_word};
 ghost use Rattle.poa_journal.specs.Journal.{head_tokens, journal_lines, journal_text, IsJournal};
 ghost use Rattle.poa_journal.specs.Reading.{entry_of};
 ghost use Rattle.poa_journal.specs.Row.{row_behind, row_tokens};
-ghost use Rattle.poa_journal.specs.Whole.{Reads, contents, contents_of, entries_of, entry_at as entry_at_of, front_seen, head_of, is_above as is_above_of, row_above, row_words_of, rows_front};
+ghost use Rattle.poa_journal.specs.Whole.{Reads, contents, contents_of, entries_of, entry_at as entry_at_of, expected, front_seen, head_of, is_above as is_above_of, row_above, row_words_of, rows_front, run_of};
 
 use crate::entry::read_entry;
 use crate::fault::JournalFault;
@@ -23,7 +25,16 @@ use text_words::{WordFault, Worded, next_line, number32, words};
 pub fn read(alloc: Global, bytes: &[u8]) -> Result<Journal, JournalFault>
     ensures value { Reads contents result (contents_of bytes.now) }
     ensures text { IfOk result (λ journal. lines_of bytes.now ≡ map spelled (journal_lines journal)) }
+    ensures bad { (line : ℕ) → result ≡ Err (JournalFault.BadLine line) → (journal : Journal) → IsJournal journal
+        → take line (lines_of bytes.now) ≡ take line (map spelled (journal_lines journal)) → ⊥ }
     ensures back { (journal : Journal) → IsJournal journal → bytes.now ≡ journal_text journal → Reads contents result (Ok (contents journal)) }
+{
+    read_lines(alloc, bytes)
+}
+
+fn read_lines(alloc: Global, bytes: &[u8]) -> Result<Journal, JournalFault>
+    ensures value { Reads contents result (contents_of bytes.now) }
+    ensures text { IfOk result (λ journal. lines_of bytes.now ≡ map spelled (journal_lines journal)) }
 {
     let Some((head, rest)) = next_line(bytes) else {
         return Err(JournalFault::BadLine { line: 1 });
@@ -44,17 +55,43 @@ fn read_head(alloc: Global, line: &[u8]) -> Result<u32, JournalFault>
     ensures text { IfOk result (λ run. line.now ≡ spelled (head_tokens run)) }
 {
     let words = words(alloc, line)?;
-    let [journal, one, run, number] = words.as_slice() else {
-        return Err(JournalFault::BadLine { line: 1 });
-    };
-    if Mark::Journal.word() != *journal || Mark::One.word() != *one || Mark::Run.word() != *run {
-        return Err(JournalFault::BadLine { line: 1 });
-    }
-    match number32(number) {
+    match read_run(words.as_slice()) {
         Ok(run) => Ok(run),
         Err(WordFault::OutOfForm) => Err(JournalFault::BadLine { line: 1 }),
         Err(WordFault::WantMemory) => Err(JournalFault::WantMemory),
     }
+}
+
+fn read_run(words: &[&[u8]]) -> Result<u32, WordFault>
+    ensures value { Gives result (run_of (map (λ w. w.now) words.now)) }
+    ensures text { IfOk result (λ run. map (λ w. w.now) words.now ≡ texts (head_tokens run)) }
+{
+    let [journal, one, run, number] = words else {
+        return Err(WordFault::OutOfForm);
+    };
+    expect(Mark::Journal, journal)?;
+    expect(Mark::One, one)?;
+    expect(Mark::Run, run)?;
+    number32(number)
+}
+
+// The word that has to stand there.
+fn expect(mark: Mark, word: &[u8]) -> Result<(), WordFault>
+    ensures value { Gives result (expected mark word.now) }
+    ensures text { IfOk result (λ x. word.now ≡ mark_word mark) }
+{
+    if is_mark(mark, word) {
+        Ok(())
+    } else {
+        Err(WordFault::OutOfForm)
+    }
+}
+
+fn is_mark(mark: Mark, word: &[u8]) -> bool
+    ensures value { result ≡ bytes_eq (mark_word mark) word.now }
+    ensures text { result ≡ true → word.now ≡ mark_word mark }
+{
+    mark.word() == word
 }
 
 /// The store of the rows at the front of a text, with the text behind them and the number of its first line.
@@ -96,7 +133,7 @@ fn row_words<'a>(words: &'a [&'a [u8]]) -> Option<&'a [&'a [u8]]>
 {
     match words {
         [word, rest @ ..] => {
-            if Mark::Store.word() == *word {
+            if is_mark(Mark::Store, word) {
                 Some(rest)
             } else {
                 None

@@ -2,8 +2,8 @@ use Rattle.std.proofs.Common.{length}
 use Rattle.poa_journal.proofs.Fronts.{RowsRead}
 use Rattle.poa_journal.proofs.reading.read_rows.Given as goal
 
-abbrev pub invariant-loop-rest : goal.invariant-loop-rest
-invariant-loop-rest l = RowsRead l.fn.text l.store l.last l.line l.rest
+abbrev pub invariant-loop-first : goal.invariant-loop-first
+invariant-loop-first l = RowsRead l.fn.text l.store l.last l.line l.rest
 
-abbrev pub decreases-loop-rest : goal.decreases-loop-rest
-decreases-loop-rest l = length l.rest
+abbrev pub decreases-loop-first : goal.decreases-loop-first
+decreases-loop-first l = length l.rest
