@@ -20,6 +20,3 @@ mod writing;
 pub use fault::JournalFault;
 pub use reading::read;
 pub use writing::{print, print_entry};
-
-#[cfg(test)]
-mod tests;
