@@ -16,8 +16,6 @@ mod reply;
 mod request;
 mod status;
 mod target;
-#[cfg(test)]
-mod tests;
 
 pub use ask::write_request;
 pub use closing::{write_closing, write_error};
