@@ -10,40 +10,40 @@ use Rattle.poa_base.specs.declared.Command.TheVariants.{Manager, Create, Destroy
 use Rattle.poa_base.specs.declared.Order.TheVariants.{Activate as ActivateAll, Hold, Discard, Deactivate as DeactivateAll}
 use Rattle.poa_base.specs.declared.Verdict.{Verdict}
 use Rattle.poa_base.specs.declared.Verdict.TheVariants.{Serve, Preset, Locator, Incarnate, Try, Refuse, Forward, Addressing, Here, Unknown, Answer, Wait}
-use Rattle.poa_history.specs.declared.node.Node.{Node}
+use Rattle.poa_tree.specs.declared.node.Node.{Node}
 use Rattle.poa_history.specs.declared.flight.Flight.{Flight}
 use Rattle.poa_history.specs.declared.act.Act.{Act}
 use Rattle.poa_history.specs.declared.act.Phase.TheVariants.{Begun, Complete, Void}
 use Rattle.poa_history.specs.Templates.{policies_at, makes_ids, has_activator, manager_at, manager_number, servant_number}
-use Rattle.poa_history.specs.Standings.{Standing, stands_under, is_begun, is_of, is_void}
+use Rattle.poa_history.specs.Standings.{Standing, is_begun, is_of, is_void}
+use Rattle.poa_tree.specs.Nodes.{stands_under}
 use Rattle.poa_history.specs.Ends.{is_finished, is_over}
-use Rattle.poa_history.specs.Walks.{Found, Live, Dying, Missing, walk}
+use Rattle.poa_tree.specs.Walks.{Found, Live, Dying, Missing, walk, adapter_met, child_met}
 use Rattle.poa_history.specs.Opening.{with_node, with_act, with_made, made_id, number_at}
 use Rattle.poa_history.specs.Commands.{is_bad_id, is_implicit, live_at}
 use Rattle.poa_history.specs.declared.stage.Stage.{Stage}
 use Rattle.poa_history.specs.declared.stage.Stage.TheVariants.{Free, Trying, Incarnating, Serving, Ran, Removing}
 use Rattle.poa_history.specs.declared.act.Phase.{Phase}
+use Rattle.poa_history.specs.Arrivals.{call_of}
+use Rattle.poa_history.specs.Stages.{stage, arrival_in}
+use Rattle.poa_history.specs.Keys.{key_in}
+use Rattle.poa_history.specs.Logs.{is_accepted, command_in, command_done}
+use Rattle.poa_history.specs.Changes.{without_flight, child_tried, with_child, with_tried, at_number, come_to, with_incarnated, is_elsewhere, with_takeout, with_etherealized, changed, with_flight, with_acts, with_dying, with_request, with_trial, with_incarnation, with_admitted, ended_by_destroy, with_destroyed, with_manager_off, with_deactivated, servant_of, with_made_act, with_reference, with_command}
+use Rattle.poa_tree.specs.Trees.{In, IsTree, Stands, IsFreePath, IsMissingChild, MayCreate}
+use Rattle.poa_history.specs.Sound.{IsHome, IsSound}
+use Rattle.poa_history.proofs.SoundKept.{IsUntried, MayFly, MayLive, Follows, fewer_flights_sound, with_node_sound, with_dying_sound, with_flight_sound, with_act_sound, with_acts_sound}
+use Rattle.poa_history.proofs.SettledKept.{or_first, or_second}
+use Rattle.poa_tree.proofs.Members.{in_kept}
+use Rattle.poa_tree.proofs.Finding.{find_in}
+use Rattle.poa_tree.proofs.WalkStands.{met_stands}
 use Rattle.poa_base.specs.declared.Entry.{Entry}
 use Rattle.poa_base.specs.declared.Entry.TheVariants.{Entered, Arrive, Filled, Left, Collect, Admit, Tried, Incarnated, Run, Done, TakeOut, Etherealized, Abandon}
 use Rattle.poa_base.specs.declared.Attempt.{Attempt}
 use Rattle.poa_base.specs.declared.Attempt.TheVariants.{Yes, No, Raised, Dying as ParentDying}
 use Rattle.poa_base.specs.declared.Incarnation.{Incarnation}
 use Rattle.poa_base.specs.declared.Incarnation.TheVariants.{Fresh, Named, Double, Forward as ForwardTo, Raise}
-use Rattle.poa_history.specs.Arrivals.{call_of}
-use Rattle.poa_history.specs.Stages.{stage, arrival_in}
-use Rattle.poa_history.specs.Keys.{key_in}
-use Rattle.poa_history.specs.Logs.{is_accepted, command_in, command_done}
 use Rattle.poa_base.specs.declared.Call.{Call}
 use Rattle.poa_base.specs.declared.Call.TheVariants.{Request, Locate, Line}
-use Rattle.poa_history.specs.Changes.{without_flight, child_tried, with_child, with_tried, at_number, come_to, with_incarnated, is_elsewhere, with_takeout, with_etherealized, changed, with_flight, with_acts, with_dying, adapter_met, child_met, with_request, with_trial, with_incarnation, with_admitted, ended_by_destroy, with_destroyed, with_manager_off, with_deactivated, servant_of, with_made_act, with_reference, with_command}
-use Rattle.poa_history.specs.Trees.{In, IsTree}
-use Rattle.poa_history.specs.Sound.{Stands, IsFreePath, IsMissingChild, IsHome, IsSound}
-use Rattle.poa_history.proofs.TreeKept.{MayCreate}
-use Rattle.poa_history.proofs.SoundKept.{IsUntried, MayFly, MayLive, Follows, fewer_flights_sound, with_node_sound, with_dying_sound, with_flight_sound, with_act_sound, with_acts_sound}
-use Rattle.poa_history.proofs.SettledKept.{or_first, or_second}
-use Rattle.poa_history.proofs.Members.{in_kept}
-use Rattle.poa_history.proofs.Finding.{find_in}
-use Rattle.poa_history.proofs.WalkStands.{met_stands}
 use Rattle.poa_base.specs.declared.Sid.TheVariants.{Named as NamedServant, Fresh as FreshServant}
 
 module _ (c : Config) (run : ℕ) (s : Standing) (sound : IsSound c run s) where

@@ -12,22 +12,22 @@ use Rattle.poa_base.specs.declared.Reason.TheVariants.{AdapterNonExistent, NoTem
 use Rattle.poa_base.specs.declared.Answer.TheVariants.{Good, GoodId, GoodIor, No}
 use Rattle.poa_base.specs.declared.Verdict.{Verdict}
 use Rattle.poa_base.specs.declared.Verdict.TheVariants.{Answer, Wait}
-use Rattle.poa_history.specs.declared.node.Node.{Node}
+use Rattle.poa_tree.specs.declared.node.Node.{Node}
 use Rattle.poa_history.specs.declared.act.Act.{Act}
-use Rattle.poa_history.specs.Paths.{same_bytes, same_path}
+use Rattle.poa_tree.specs.Paths.{same_bytes, same_path, parent_path}
 use Rattle.poa_history.specs.Templates.{template, policies_at, retains, makes_ids, servant_number}
-use Rattle.poa_history.specs.Standings.{Standing, node_at, is_active, is_of, is_tried}
+use Rattle.poa_history.specs.Standings.{Standing, is_active, is_of, is_tried}
+use Rattle.poa_tree.specs.Nodes.{node_at}
 use Rattle.poa_history.specs.Ends.{is_over}
 use Rattle.poa_history.specs.Logs.{is_accepted}
 use Rattle.poa_history.specs.Opening.{with_made, made_id, number_at}
-use Rattle.poa_history.specs.Commands.{refusal, live_at, with_live, with_servant, is_taken, is_bad_id, is_implicit, parent_path, create_row, activate_row, activate_id_row, command_verdict}
-use Rattle.poa_history.specs.Trees.{In, IsTree}
+use Rattle.poa_history.specs.Commands.{refusal, live_at, with_live, with_servant, is_taken, is_bad_id, is_implicit, create_row, activate_row, activate_id_row, command_verdict}
+use Rattle.poa_tree.specs.Trees.{In, IsTree, MayCreate}
 use Rattle.poa_history.specs.Sound.{IsSound}
-use Rattle.poa_history.proofs.Leading.{same_self}
-use Rattle.poa_history.proofs.TreeKept.{MayCreate}
+use Rattle.poa_tree.proofs.Leading.{same_self}
 use Rattle.poa_history.proofs.SettledKept.{none_by, or_first}
 use Rattle.poa_history.proofs.SoundKept.{IsUntried, MayLive}
-use Rattle.poa_history.proofs.WalkStands.{node_found, node_missing}
+use Rattle.poa_tree.proofs.WalkStands.{node_found, node_missing}
 use Rattle.poa_history.proofs.VerdictMoves.{untried_by}
 use Rattle.poa_history.proofs.ChangeSound.{MayDo, with_made_sound}
 

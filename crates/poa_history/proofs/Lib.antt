@@ -1,10 +1,5 @@
-pub mod Members
-pub mod Leading
-pub mod TreeKept
 pub mod SoundKept
 pub mod SettledKept
-pub mod Finding
-pub mod WalkStands
 pub mod ChangeSound
 pub mod TurnIs
 pub mod TableTells

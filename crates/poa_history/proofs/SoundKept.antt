@@ -4,7 +4,7 @@ use Rattle.std.proofs.Common.{inl, inr, sym, subst, ap, ap₂, ◌∙◌, arith,
 use Rattle.std.proofs.lemmas.List.{length-map}
 use Rattle.std.proofs.lemmas.Bool.{cases_Bool, cond_both}
 use Rattle.poa_base.specs.declared.Config.{Config}
-use Rattle.poa_history.specs.declared.node.Node.{Node}
+use Rattle.poa_tree.specs.declared.node.Node.{Node}
 use Rattle.poa_history.specs.declared.flight.Flight.{Flight}
 use Rattle.poa_history.specs.declared.act.Act.{Act}
 use Rattle.poa_history.specs.declared.act.Phase.{Phase}
@@ -12,11 +12,12 @@ use Rattle.poa_history.specs.Standings.{Standing}
 use Rattle.poa_history.specs.Ends.{is_over}
 use Rattle.poa_history.specs.Commands.{is_bad_id}
 use Rattle.poa_history.specs.Opening.{with_node, with_act}
-use Rattle.poa_history.specs.Changes.{with_flight, without_flight, with_acts, with_dying, marked}
-use Rattle.poa_history.specs.Trees.{In, IsTree}
-use Rattle.poa_history.specs.Sound.{Stands, IsFreePath, IsMissingChild, IsHome, IsSound}
-use Rattle.poa_history.proofs.Members.{in_front, in_back, in_either, in_image, image_in, in_kept, kept_in}
-use Rattle.poa_history.proofs.TreeKept.{MayCreate, created, created_kept, marked_number, marked_path, marked_kept}
+use Rattle.poa_history.specs.Changes.{with_flight, without_flight, with_acts, with_dying}
+use Rattle.poa_tree.specs.Nodes.{marked, created}
+use Rattle.poa_tree.specs.Trees.{In, IsTree, Stands, IsFreePath, IsMissingChild, MayCreate}
+use Rattle.poa_history.specs.Sound.{IsHome, IsSound}
+use Rattle.poa_tree.proofs.Members.{in_front, in_back, in_either, in_image, image_in, in_kept, kept_in}
+use Rattle.poa_tree.proofs.TreeKept.{created_kept, marked_number, marked_path, marked_kept}
 
 module _ (c : Config) (run : ℕ) (s : Standing) (sound : IsSound c run s) where
   -- no trial of the child is in flight

@@ -16,7 +16,7 @@ use Rattle.poa_base.specs.declared.Verdict.{Verdict}
 use Rattle.poa_verdict.specs.declared.Choice.{Choice}
 use Rattle.poa_verdict.specs.declared.Choice.TheVariants.{Go, Held}
 use Rattle.poa_verdict.specs.Table.{first_row}
-use Rattle.poa_history.specs.declared.node.Node.{Node}
+use Rattle.poa_tree.specs.declared.node.Node.{Node}
 use Rattle.poa_history.specs.declared.act.Act.{Act}
 use Rattle.poa_history.specs.declared.stage.Stage.{Stage}
 use Rattle.poa_history.specs.declared.stage.Stage.TheVariants.{Free, Trying, Incarnating, Serving, Ran, Removing}
@@ -24,7 +24,7 @@ use Rattle.poa_history.specs.Templates.{policies_at, makes_ids, retains, activat
 use Rattle.poa_history.specs.Arrivals.{arrivals, call_of, is_locate, target_of}
 use Rattle.poa_history.specs.Stages.{stage, arrival_in}
 use Rattle.poa_history.specs.Standings.{Standing}
-use Rattle.poa_history.specs.Walks.{walk}
+use Rattle.poa_tree.specs.Walks.{walk}
 use Rattle.poa_history.specs.Keys.{key_in}
 use Rattle.poa_history.specs.Logs.{is_accepted, command_in, command_done}
 use Rattle.poa_history.specs.Opening.{with_made, made_id, number_at}

@@ -26,6 +26,7 @@ use Rattle.poa_verdict.specs.declared.MapFact.TheVariants.{Active as ActiveAs, B
 use Rattle.poa_verdict.specs.declared.WalkFact.{WalkFact}
 use Rattle.poa_verdict.specs.declared.WalkFact.TheVariants.{Dying, Missing, Found}
 use Rattle.poa_verdict.specs.Table.{refuse, serve, is_transient, forward_or, inactive_rule, state_rule, located_rows, locator_rows, activator_rows, manager_rows, default_rows, unmade, processing_rows, map_rows, object_rows, awaits_turn, awaits_main, thread_rows, found_rows, trial_rows, missing_rows, walk_rows, key_rows, first_row, own, omg}
+use Rattle.poa_tree.specs.Walks.{walk}
 
 -- a test that passes no choice but those that ask an activator
 pub record AsksAlone (P : Choice → Bool) : Type 0 where

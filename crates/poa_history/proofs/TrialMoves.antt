@@ -6,16 +6,15 @@ use Rattle.poa_base.specs.declared.Config.{Config}
 use Rattle.poa_base.specs.declared.Children.{Children}
 use Rattle.poa_base.specs.declared.Attempt.{Attempt}
 use Rattle.poa_base.specs.declared.Attempt.TheVariants.{Yes, No, Raised, Dying}
-use Rattle.poa_history.specs.declared.node.Node.{Node}
+use Rattle.poa_tree.specs.declared.node.Node.{Node}
 use Rattle.poa_history.specs.declared.flight.Flight.{Flight}
 use Rattle.poa_history.specs.Standings.{Standing}
 use Rattle.poa_history.specs.Changes.{child_tried}
 use Rattle.poa_history.specs.Templates.{template_or_root}
 use Rattle.poa_history.specs.Turns.{flight_of, node_of, attempt_by, attempt_at, attempt}
-use Rattle.poa_history.specs.Trees.{In, IsTree}
-use Rattle.poa_history.specs.Sound.{IsMissingChild, IsSound}
-use Rattle.poa_history.proofs.Finding.{find_in}
-use Rattle.poa_history.proofs.TreeKept.{MayCreate}
+use Rattle.poa_tree.specs.Trees.{In, IsTree, IsMissingChild, MayCreate}
+use Rattle.poa_history.specs.Sound.{IsSound}
+use Rattle.poa_tree.proofs.Finding.{find_in}
 use Rattle.poa_history.proofs.ChangeSound.{MayMake}
 
 module _ (c : Config) (run : ℕ) (s : Standing) (sound : IsSound c run s) where

@@ -20,25 +20,25 @@ use Rattle.std.specs.Int.{w32, from_be_bytes}
 use Rattle.poa_base.specs.Policies.{is_retain}
 use Rattle.poa_history.specs.Templates.{policies_at, makes_ids}
 use Rattle.poa_history.specs.Commands.{is_bad_id}
-use Rattle.poa_history.specs.declared.node.Node.{Node}
+use Rattle.poa_tree.specs.declared.node.Node.{Node}
 use Rattle.poa_history.specs.declared.flight.Flight.{Flight}
 use Rattle.poa_history.specs.declared.act.Act.{Act}
-use Rattle.poa_history.specs.Paths.{same_bytes, same_path}
+use Rattle.poa_tree.specs.Paths.{same_bytes, same_path}
 use Rattle.poa_history.specs.Arrivals.{call_of, is_locate, target_of}
 use Rattle.poa_history.specs.Standings.{Standing, is_active, is_of, is_tried}
 use Rattle.poa_history.specs.Ends.{is_over}
-use Rattle.poa_history.specs.Walks.{Found, Live, Dying, Missing, walk}
+use Rattle.poa_tree.specs.Walks.{Found, Live, Dying, Missing, walk, adapter_met, child_met}
 use Rattle.poa_history.specs.Keys.{key_in}
-use Rattle.poa_history.specs.Changes.{adapter_met, child_met, standing}
+use Rattle.poa_history.specs.Changes.{standing}
 use Rattle.poa_history.specs.Situations.{walk_fact, slot_of, key_fact, key_or_none, is_crowded, facts_met, facts_of}
 use Rattle.poa_history.specs.Verdicts.{chosen, verdict_on}
-use Rattle.poa_history.specs.Trees.{In, IsTree}
-use Rattle.poa_history.specs.Sound.{Stands, IsFreePath, IsMissingChild, IsSound}
-use Rattle.poa_history.proofs.Finding.{find_none, same_path_self}
-use Rattle.poa_history.proofs.Leading.{same_self}
+use Rattle.poa_tree.specs.Trees.{In, IsTree, Stands, IsFreePath, IsMissingChild}
+use Rattle.poa_history.specs.Sound.{IsSound}
+use Rattle.poa_tree.proofs.Finding.{find_none, same_path_self}
+use Rattle.poa_tree.proofs.Leading.{same_self}
 use Rattle.poa_history.proofs.SettledKept.{none_by}
 use Rattle.poa_history.proofs.SoundKept.{IsUntried, MayFly, MayLive}
-use Rattle.poa_history.proofs.WalkStands.{Tells, walk_tells, met_stands}
+use Rattle.poa_tree.proofs.WalkStands.{Tells, walk_tells, met_stands}
 use Rattle.poa_history.proofs.ChangeSound.{MayAdmit}
 use Rattle.poa_history.proofs.TableTells.{AsksAlone, Asks, servant, adapter, asked}
 

@@ -16,19 +16,20 @@ use Rattle.poa_base.specs.declared.Incarnation.{Incarnation}
 use Rattle.poa_base.specs.declared.Incarnation.TheVariants.{Fresh, Named}
 use Rattle.poa_base.specs.declared.Verdict.{Verdict}
 use Rattle.poa_base.specs.declared.Verdict.TheVariants.{Serve, Preset, Locator, Incarnate, Try}
-use Rattle.poa_history.specs.declared.node.Node.{Node}
+use Rattle.poa_tree.specs.declared.node.Node.{Node}
 use Rattle.poa_history.specs.declared.flight.Flight.{Flight}
 use Rattle.poa_history.specs.declared.act.Act.{Act}
 use Rattle.poa_history.specs.declared.act.Phase.{Phase}
 use Rattle.poa_history.specs.declared.act.Phase.TheVariants.{Begun, Complete, Void}
 use Rattle.poa_history.specs.declared.stage.Stage.{Stage}
 use Rattle.poa_history.specs.declared.stage.Stage.TheVariants.{Incarnating, Removing}
-use Rattle.poa_history.specs.Paths.{leads_to, same_bytes}
+use Rattle.poa_tree.specs.Paths.{leads_to, same_bytes}
 use Rattle.poa_history.specs.Templates.{has_activator, manager_at, manager_number, servant_number}
 use Rattle.poa_history.specs.Arrivals.{call_of}
 use Rattle.poa_history.specs.Stages.{stage, arrival_in}
-use Rattle.poa_history.specs.Standings.{Standing, stands_under, node_at, is_of, is_begun, is_mapped, has_servant}
-use Rattle.poa_history.specs.Walks.{Found, Live, Dying, Missing, walk}
+use Rattle.poa_history.specs.Standings.{Standing, is_of, is_begun, is_mapped, has_servant}
+use Rattle.poa_tree.specs.Nodes.{stands_under, node_at}
+use Rattle.poa_tree.specs.Walks.{Found, Live, Dying, Missing, walk, adapter_met, child_met}
 use Rattle.poa_history.specs.Ends.{settled}
 use Rattle.poa_history.specs.Keys.{key_in}
 use Rattle.poa_history.specs.Logs.{command_done}
@@ -46,27 +47,12 @@ without_flight (Some r) s = record s { flights = filter (λ f. not (f.arrival ==
 abbrev pub with_acts : (Act → Act) → Standing → Standing
 with_acts f s = record s { acts = map f s.acts }
 
--- the adapter of the path and its descendants are being destroyed
-abbrev pub marked : List (List ℕ) → Node → Node
-marked p n = if leads_to p n.path then record n { dying = true } else n
-
 abbrev pub with_dying : List (List ℕ) → Standing → Standing
 with_dying p s = record s { nodes = map (marked p) s.nodes }
-
--- the adapter that the walk found, or the parent of the missing child
-abbrev pub adapter_met : Found → ℕ
-adapter_met (Live k) = k
-adapter_met (Dying k) = k
-adapter_met (Missing k depth) = k
 
 -- a request is admitted to the adapter of its key
 abbrev pub with_request : ℕ → Key → Option ℕ → Standing → Standing
 with_request r key n s = with_flight (record { arrival = r; adapter = adapter_met (walk s.nodes key.path); activation = n; child = None }) s
-
--- the path of the missing child
-abbrev pub child_met : Found → List (List ℕ) → List (List ℕ)
-child_met (Missing k depth) p = take (suc depth) p
-child_met found p = p
 
 -- an adapter activator is asked for the missing child
 abbrev pub with_trial : ℕ → Key → Standing → Standing

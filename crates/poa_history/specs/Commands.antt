@@ -16,11 +16,12 @@ use Rattle.poa_base.specs.declared.Answer.TheVariants.{Good, GoodId, GoodIor, No
 use Rattle.poa_base.specs.declared.Reason.{Reason}
 use Rattle.poa_base.specs.declared.Reason.TheVariants.{NoManager, AdapterInactive, AdapterNonExistent, NoTemplate, AdapterAlreadyExists, TooMany, WrongPolicy, NoServant, ServantAlreadyActive, BadId, ObjectAlreadyActive, ObjectNotActive, ServantNotActive, NoForward, BadWord}
 use Rattle.poa_base.specs.declared.Sid.TheVariants.{Named}
-use Rattle.poa_history.specs.declared.node.Node.{Node}
+use Rattle.poa_tree.specs.declared.node.Node.{Node}
 use Rattle.poa_history.specs.declared.act.Act.{Act}
-use Rattle.poa_history.specs.Paths.{same_bytes, same_path}
+use Rattle.poa_tree.specs.Paths.{same_bytes, same_path, parent_path}
 use Rattle.poa_history.specs.Templates.{template, policies_at, retains, is_unique, makes_ids, activates_implicitly, uses_default_servant, manager_number, servant_number}
-use Rattle.poa_history.specs.Standings.{Standing, node_at, is_active, is_mapped, has_servant, is_of, is_in_map, is_tried}
+use Rattle.poa_history.specs.Standings.{Standing, is_active, is_mapped, has_servant, is_of, is_in_map, is_tried}
+use Rattle.poa_tree.specs.Nodes.{node_at}
 use Rattle.poa_history.specs.Ends.{is_over}
 use Rattle.poa_history.specs.Logs.{manager_state, endpoint_of}
 use Rattle.poa_history.specs.Opening.{made_id}
@@ -75,12 +76,6 @@ manager_row c past name order =
       | None ↦ refusal NoManager
       | Some m ↦ (if is_inactive (manager_state c past m) then refusal AdapterInactive else good_or_wait (waits order))
     ]
-
--- all names but the last
-abbrev pub parent_path : List (List ℕ) → List (List ℕ)
-parent_path [] = []
-parent_path (x ∷ []) = []
-parent_path (x ∷ y ∷ p) = x ∷ parent_path (y ∷ p)
 
 -- held while the old adapter of the path is being destroyed, or an adapter activator is asked for it
 abbrev pub create_row : Config → Standing → List (List ℕ) → Option Verdict

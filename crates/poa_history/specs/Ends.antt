@@ -2,10 +2,12 @@
 use Rattle.std.specs.Prelude.{ℕ, Bool, true, false, not, ◌&&◌, ◌||◌, ◌==◌, nat_lt, if◌then◌else◌, List, [], ◌∷◌, map, filter, find, Option, Some, None}
 use Rattle.std.specs.List.{list_any}
 use Rattle.poa_base.specs.declared.Config.{Config}
-use Rattle.poa_history.specs.declared.node.Node.{Node}
+use Rattle.poa_tree.specs.declared.node.Node.{Node}
 use Rattle.poa_history.specs.declared.act.Act.{Act}
 use Rattle.poa_history.specs.Templates.{has_activator}
-use Rattle.poa_history.specs.Standings.{Standing, stands, stands_under, is_complete, is_void, is_ending, is_used}
+use Rattle.poa_history.specs.Standings.{Standing, is_complete, is_void, is_ending, is_used}
+use Rattle.poa_tree.specs.Nodes.{stands, stands_under}
+use Rattle.poa_tree.specs.Paths.{is_root}
 
 -- out of the map, and etherealized where that is due
 abbrev pub is_finished : Config → Act → Bool
@@ -26,10 +28,6 @@ let_out c s a = if is_left c s a then record a { out = true } else a
 abbrev pub is_clear : Config → Standing → List (List ℕ) → Bool
 is_clear c s p =
     not (list_any (λ f. stands_under s.nodes p f.adapter) s.flights) && not (list_any (λ a. not (is_over c a) && stands_under s.nodes p a.adapter) s.acts)
-
-abbrev pub is_root : List (List ℕ) → Bool
-is_root [] = true
-is_root (x ∷ p) = false
 
 -- being destroyed, with nothing left to end in it or below it
 abbrev pub is_done_with : Config → Standing → Node → Bool

@@ -1,10 +1,8 @@
-pub mod Paths
 pub mod Searches
 pub mod Templates
 pub mod Arrivals
 pub mod Stages
 pub mod Standings
-pub mod Walks
 pub mod Ends
 pub mod Keys
 pub mod Logs
@@ -21,5 +19,4 @@ pub mod States
 pub mod Replies
 pub mod Legal
 pub mod Lifetime
-pub mod Trees
 pub mod Sound

@@ -15,7 +15,7 @@ use Rattle.poa_base.specs.declared.Entry.TheVariants.{Admit}
 use Rattle.poa_base.specs.declared.Verdict.{Verdict}
 use Rattle.poa_base.specs.declared.Verdict.TheVariants.{Answer, Wait}
 use Rattle.poa_base.specs.declared.Answer.TheVariants.{Good, GoodId, GoodIor, No}
-use Rattle.poa_history.specs.Paths.{same_bytes, same_path, leads_to}
+use Rattle.poa_tree.specs.Paths.{same_bytes, same_path, leads_to}
 use Rattle.poa_history.specs.Templates.{template_or_root, manager_number}
 use Rattle.poa_history.specs.Arrivals.{call_of}
 

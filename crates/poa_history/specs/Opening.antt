@@ -5,16 +5,17 @@ use Rattle.poa_base.specs.declared.Config.{Config}
 use Rattle.poa_base.specs.declared.AdapterConf.{AdapterConf}
 use Rattle.poa_base.specs.declared.ObjectConf.{ObjectConf}
 use Rattle.poa_base.specs.declared.Sid.TheVariants.{Named}
-use Rattle.poa_history.specs.declared.node.Node.{Node}
+use Rattle.poa_tree.specs.declared.node.Node.{Node}
 use Rattle.poa_history.specs.declared.act.Act.{Act}
 use Rattle.poa_history.specs.declared.act.Phase.{Phase}
 use Rattle.poa_history.specs.declared.act.Phase.TheVariants.{Complete}
-use Rattle.poa_history.specs.Standings.{Standing, node_at}
-use Rattle.poa_history.specs.Ends.{is_root}
+use Rattle.poa_history.specs.Standings.{Standing}
+use Rattle.poa_tree.specs.Nodes.{node_at}
+use Rattle.poa_tree.specs.Paths.{is_root}
 
 -- the adapter is created, and gets the next number
 abbrev pub with_node : List (List ℕ) → Standing → Standing
-with_node p s = record s { nodes = s.nodes ++ record { number = s.count; path = p; dying = false } ∷ []; count = suc s.count }
+with_node p s = record s { nodes = created s.count p s.nodes; count = suc s.count }
 
 -- an activation is begun, and gets the next number
 abbrev pub with_act : ℕ → List (List ℕ) → List ℕ → Phase → Standing → Standing

@@ -14,7 +14,7 @@ use Rattle.poa_base.specs.declared.Incarnation.TheVariants.{Fresh, Named, Double
 use Rattle.poa_verdict.specs.declared.Located.{Located}
 use Rattle.poa_verdict.specs.declared.Located.TheVariants.{Servant as ByServant, Forward as ByForward, Raise as ByRaise, NoRule}
 use Rattle.poa_history.specs.declared.act.Act.{Act}
-use Rattle.poa_history.specs.Paths.{same_bytes}
+use Rattle.poa_tree.specs.Paths.{same_bytes}
 use Rattle.poa_history.specs.Templates.{rules_at, policies_at, is_unique, servant_name}
 use Rattle.poa_history.specs.Standings.{Standing, is_in_map}
 

@@ -11,7 +11,8 @@ use Rattle.poa_base.specs.declared.Entry.TheVariants.{Admit}
 use Rattle.poa_history.specs.declared.act.Act.{Act}
 use Rattle.poa_history.specs.Templates.{has_activator, manager_at, manager_number}
 use Rattle.poa_history.specs.Arrivals.{call_of}
-use Rattle.poa_history.specs.Standings.{Standing, stands}
+use Rattle.poa_history.specs.Standings.{Standing}
+use Rattle.poa_tree.specs.Nodes.{stands}
 use Rattle.poa_history.specs.Ends.{is_over, is_gone}
 use Rattle.poa_history.specs.Logs.{command_in, command_done, order_for}
 use Rattle.poa_history.specs.Opening.{number_at}

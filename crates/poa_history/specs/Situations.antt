@@ -19,13 +19,13 @@ use Rattle.poa_history.specs.Templates.{template_or_root, policies_at, manager_a
 use Rattle.poa_history.specs.Arrivals.{arrivals, call_of, is_message, is_locate, target_of}
 use Rattle.poa_history.specs.Stages.{is_unadmitted}
 use Rattle.poa_history.specs.Standings.{Standing, is_begun, is_active, is_of, is_running, is_tried}
-use Rattle.poa_history.specs.Walks.{Found, Live, Dying, Missing, walk}
+use Rattle.poa_tree.specs.Walks.{Found, Live, Dying, Missing, walk, adapter_met, child_met, place_met}
 use Rattle.poa_history.specs.Ends.{is_finished, is_over}
 use Rattle.poa_history.specs.Keys.{key_of, key_in}
 use Rattle.poa_history.specs.Logs.{manager_state, preset_of, forward_of}
 use Rattle.poa_history.specs.Rules.{located}
 use Rattle.poa_history.specs.Commands.{is_bad_id}
-use Rattle.poa_history.specs.Changes.{adapter_met, child_met, standing}
+use Rattle.poa_history.specs.Changes.{standing}
 
 -- how many requests and locates stand unadmitted
 abbrev pub waiting_messages : List Entry → ℕ
@@ -52,11 +52,6 @@ abbrev pub walk_fact : Found → WalkFact
 walk_fact (Live k) = MeetsAdapter
 walk_fact (Dying k) = MeetsDying
 walk_fact (Missing k depth) = MeetsMissing
-
--- the path of the adapter found, or of the parent of the missing child
-abbrev pub place_met : Found → List (List ℕ) → List (List ℕ)
-place_met (Missing k depth) p = take depth p
-place_met found p = p
 
 -- the lifespan differs, or the number that a transient key gives
 abbrev pub differs : Config → Key → ℕ → Bool

@@ -1,34 +1,17 @@
 -- What holds of all that stands after a legal history.
 use Rattle.std.specs.Prelude.{◌≡◌, ℕ, ◌+◌, ◌^◌, ◌<◌, Bool, true, false, List, [], ◌∷◌, ◌++◌, length, Option, Some, None}
 use Rattle.poa_base.specs.declared.Config.{Config}
-use Rattle.poa_history.specs.declared.node.Node.{Node}
+use Rattle.poa_tree.specs.declared.node.Node.{Node}
 use Rattle.poa_history.specs.declared.flight.Flight.{Flight}
 use Rattle.poa_history.specs.declared.act.Act.{Act}
-use Rattle.poa_base.specs.declared.Entry.{Entry}
 use Rattle.poa_history.specs.Templates.{policies_at, makes_ids, activates_implicitly}
 use Rattle.poa_history.specs.Standings.{Standing}
 use Rattle.poa_history.specs.Opening.{opening}
 use Rattle.poa_history.specs.Changes.{standing}
 use Rattle.poa_history.specs.Ends.{is_over}
 use Rattle.poa_history.specs.Commands.{is_bad_id}
-use Rattle.poa_history.specs.Trees.{In, IsTree}
-
--- an adapter of this number stands
-abbrev pub Stands : List Node → ℕ → Type 0
-Stands ns k = (n : Node) × In n ns × (n.number ≡ k)
-
--- nothing stands at the path
-abbrev pub IsFreePath : List Node → List (List ℕ) → Type 0
-IsFreePath ns p = (n : Node) → In n ns → n.path ≡ p → ⊥
-
--- the path is that of a child of the adapter, which doesn't stand
-pub record IsMissingChild (ns : List Node) (k : ℕ) (p : List (List ℕ)) : Type 0 where
-  pub parent : Node
-  pub name : List ℕ
-  pub stands : In parent ns
-  pub numbered : parent.number ≡ k
-  pub child : p ≡ parent.path ++ name ∷ []
-  pub free : IsFreePath ns p
+use Rattle.poa_tree.specs.Trees.{In, IsTree, Stands, IsMissingChild}
+use Rattle.poa_base.specs.declared.Entry.{Entry}
 
 -- the adapter of the activation stands, at its path
 pub record IsHome (ns : List Node) (a : Act) : Type 0 where

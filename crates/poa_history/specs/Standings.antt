@@ -3,12 +3,12 @@ use Rattle.std.specs.Prelude.{ℕ, suc, ◌+◌, Bool, true, false, not, ◌&&�
 use Rattle.std.specs.List.{list_any}
 use Rattle.poa_base.specs.declared.Sid.{Sid}
 use Rattle.poa_base.specs.declared.Sid.TheVariants.{Named, Fresh}
-use Rattle.poa_history.specs.declared.node.Node.{Node}
+use Rattle.poa_tree.specs.declared.node.Node.{Node}
 use Rattle.poa_history.specs.declared.flight.Flight.{Flight}
 use Rattle.poa_history.specs.declared.act.Act.{Act}
 use Rattle.poa_history.specs.declared.act.Phase.{Phase}
 use Rattle.poa_history.specs.declared.act.Phase.TheVariants.{Begun, Complete, Void}
-use Rattle.poa_history.specs.Paths.{same_bytes, same_path, leads_to}
+use Rattle.poa_tree.specs.Paths.{same_bytes, same_path, leads_to}
 
 pub record Standing : Type 0 where
   -- the adapters that were created and aren't gone, in the order of their creation
@@ -21,18 +21,6 @@ pub record Standing : Type 0 where
   pub flights : List Flight
   -- the activations, in the order in which they were begun
   pub acts : List Act
-
--- an adapter of this number stands
-abbrev pub stands : List Node → ℕ → Bool
-stands ns k = list_any (λ n. n.number == k) ns
-
--- an adapter of this number stands at the path, or below it
-abbrev pub stands_under : List Node → List (List ℕ) → ℕ → Bool
-stands_under ns p k = list_any (λ n. (n.number == k) && leads_to p n.path) ns
-
--- the adapter that stands at a path
-abbrev pub node_at : List Node → List (List ℕ) → Option Node
-node_at ns p = find (λ n. same_path n.path p) ns
 
 abbrev pub is_complete : Act → Bool
 is_complete a = elim a.phase [ Complete s ↦ true | Begun ↦ false | Void ↦ false ]

@@ -23,7 +23,7 @@ use Rattle.poa_history.specs.declared.act.Act.{Act}
 use Rattle.poa_history.specs.declared.act.Phase.TheVariants.{Begun, Complete, Void}
 use Rattle.poa_history.specs.declared.stage.Stage.{Stage}
 use Rattle.poa_history.specs.declared.stage.Stage.TheVariants.{Serving, Removing}
-use Rattle.poa_history.specs.Paths.{same_bytes, same_path}
+use Rattle.poa_tree.specs.Paths.{same_bytes, same_path}
 use Rattle.poa_history.specs.Templates.{rules_at, servant_number}
 use Rattle.poa_history.specs.Arrivals.{call_of}
 use Rattle.poa_history.specs.Stages.{stage, admitted}

@@ -6,10 +6,9 @@
 mod act;
 mod flight;
 pub mod laws;
-mod node;
 mod stage;
 
 pub use act::{Act, Phase};
 pub use flight::Flight;
-pub use node::Node;
+
 pub use stage::Stage;

@@ -4,14 +4,12 @@ use Rattle.std.proofs.Common.{inl, inr, sym, subst, ap, ap₂, ◌∙◌}
 use Rattle.std.proofs.lemmas.List.{append-nil}
 use Rattle.std.proofs.Math.Seq.{append_snoc}
 use Rattle.std.proofs.lemmas.Bool.{cases_Bool}
-use Rattle.poa_history.specs.declared.node.Node.{Node}
-use Rattle.poa_history.specs.Paths.{same_path}
-use Rattle.poa_history.specs.Standings.{node_at}
-use Rattle.poa_history.specs.Walks.{Found, Live, Dying, Missing, walk_from, walk}
-use Rattle.poa_history.specs.Changes.{adapter_met, child_met}
-use Rattle.poa_history.specs.Trees.{In, IsTree}
-use Rattle.poa_history.specs.Sound.{Stands, IsFreePath, IsMissingChild}
-use Rattle.poa_history.proofs.Finding.{find_in, find_none, path_same, same_path_self}
+use Rattle.poa_tree.specs.declared.node.Node.{Node}
+use Rattle.poa_tree.specs.Paths.{same_path}
+use Rattle.poa_tree.specs.Nodes.{node_at}
+use Rattle.poa_tree.specs.Walks.{Found, Live, Dying, Missing, walk_from, walk, adapter_met, child_met}
+use Rattle.poa_tree.specs.Trees.{In, IsTree, Stands, IsFreePath, IsMissingChild}
+use Rattle.poa_tree.proofs.Finding.{find_in, find_none, path_same, same_path_self}
 
 -- the adapter at a path
 pub node_found : (ns : List Node) (p : List (List ℕ)) (n : Node) → node_at ns p ≡ Some n → In n ns × (n.path ≡ p)

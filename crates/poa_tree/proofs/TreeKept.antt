@@ -2,24 +2,12 @@
 use Rattle.std.specs.Prelude.{◌≡◌, ℕ, suc, ◌<◌, Bool, true, false, cond, List, [], ◌∷◌, ◌++◌, map, filter, ◌⊎◌, refl}
 use Rattle.std.proofs.Common.{inl, inr, sym, subst, ap, ◌∙◌, arith}
 use Rattle.std.proofs.lemmas.Bool.{cases_Bool, cond_both}
-use Rattle.poa_history.specs.declared.node.Node.{Node}
-use Rattle.poa_history.specs.Paths.{leads_to}
-use Rattle.poa_history.specs.Trees.{In, IsTree}
-use Rattle.poa_history.specs.Changes.{marked}
-use Rattle.poa_history.proofs.Members.{in_front, in_back, in_either, in_image, image_in, in_kept, kept_in}
-use Rattle.poa_history.proofs.Leading.{leads_on, leads_shorter, leads_through, front_same}
-
--- the parent lives, and nothing stands at the path
-pub record MayCreate (ns : List Node) (p : List (List ℕ)) : Type 0 where
-  pub parent : Node
-  pub name : List ℕ
-  pub stands : In parent ns
-  pub living : parent.dying ≡ false
-  pub child : p ≡ parent.path ++ name ∷ []
-  pub free : (n : Node) → In n ns → n.path ≡ p → ⊥
-
-abbrev pub created : ℕ → List (List ℕ) → List Node → List Node
-created count p ns = ns ++ record { number = count; path = p; dying = false } ∷ []
+use Rattle.poa_tree.specs.declared.node.Node.{Node}
+use Rattle.poa_tree.specs.Paths.{leads_to}
+use Rattle.poa_tree.specs.Trees.{In, IsTree, MayCreate, MayDrop}
+use Rattle.poa_tree.specs.Nodes.{created, marked}
+use Rattle.poa_tree.proofs.Members.{in_front, in_back, in_either, in_image, image_in, in_kept, kept_in}
+use Rattle.poa_tree.proofs.Leading.{leads_on, leads_shorter, leads_through, front_same}
 
 module _ (ns : List Node) (count : ℕ) (p : List (List ℕ)) (tree : IsTree ns count) (may : MayCreate ns p) where
   abbrev new : Node
@@ -138,11 +126,6 @@ module _ (ns : List Node) (count : ℕ) (p : List (List ℕ)) (tree : IsTree ns 
     closed = closed_marked;
     below = below_marked;
   }
-
--- the root stays, and what goes takes all below it along
-pub record MayDrop (ns : List Node) (stays : Node → Bool) : Type 0 where
-  pub root : (n : Node) → In n ns → n.path ≡ [] → stays n ≡ true
-  pub along : (n m : Node) → In n ns → In m ns → leads_to n.path m.path ≡ true → stays n ≡ false → stays m ≡ false
 
 module _ (ns : List Node) (count : ℕ) (stays : Node → Bool) (tree : IsTree ns count) (may : MayDrop ns stays) where
   was : (n : Node) → In n (filter stays ns) → In n ns

@@ -3,9 +3,9 @@ use Rattle.std.specs.Prelude.{◌≡◌, ℕ, Bool, true, false, cond, ◌&&◌,
 use Rattle.std.specs.Cmp.Lexicographic.{pointwise}
 use Rattle.std.proofs.Common.{inl, inr, sym, subst, ap, ap₂, ◌∙◌}
 use Rattle.std.proofs.lemmas.Bool.{and_parts, cond_both}
-use Rattle.poa_history.specs.Paths.{same_bytes, same_path}
-use Rattle.poa_history.specs.Trees.{In}
-use Rattle.poa_history.proofs.Leading.{same_self, bytes_same}
+use Rattle.poa_tree.specs.Paths.{same_bytes, same_path}
+use Rattle.poa_tree.specs.Trees.{In}
+use Rattle.poa_tree.proofs.Leading.{same_self, bytes_same}
 
 -- what is found is an element that passes
 pub find_in : {A : Type 0} (test : A → Bool) (x : A) (xs : List A) → find test xs ≡ Some x → In x xs × (test x ≡ true)

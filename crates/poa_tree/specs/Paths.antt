@@ -14,3 +14,13 @@ abbrev pub leads_to : List (List ℕ) → List (List ℕ) → Bool
 leads_to [] q = true
 leads_to (x ∷ p) [] = false
 leads_to (x ∷ p) (y ∷ q) = same_bytes x y && leads_to p q
+
+abbrev pub is_root : List (List ℕ) → Bool
+is_root [] = true
+is_root (x ∷ p) = false
+
+-- all names but the last
+abbrev pub parent_path : List (List ℕ) → List (List ℕ)
+parent_path [] = []
+parent_path (x ∷ []) = []
+parent_path (x ∷ y ∷ p) = x ∷ parent_path (y ∷ p)

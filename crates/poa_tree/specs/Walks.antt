@@ -1,7 +1,7 @@
 -- The walk from the root along a key's path (CORBA 3.3 Part 1, section 15.2.3).
-use Rattle.std.specs.Prelude.{ℕ, Bool, if◌then◌else◌, List, [], ◌∷◌, ◌++◌, length, Option, Some, None}
-use Rattle.poa_history.specs.declared.node.Node.{Node}
-use Rattle.poa_history.specs.Standings.{node_at}
+use Rattle.std.specs.Prelude.{ℕ, suc, Bool, if◌then◌else◌, List, [], ◌∷◌, ◌++◌, take, length, Option, Some, None}
+use Rattle.poa_tree.specs.declared.node.Node.{Node}
+use Rattle.poa_tree.specs.Nodes.{node_at}
 
 pub data Found : Type 0 where
   -- the adapter of the path
@@ -19,3 +19,19 @@ walk_from ns here (x ∷ p) =
 
 abbrev pub walk : List Node → List (List ℕ) → Found
 walk ns p = elim (node_at ns []) [ Some root ↦ walk_from ns root p | None ↦ Missing 0 0 ]
+
+-- the adapter that the walk found, or the parent of the missing child
+abbrev pub adapter_met : Found → ℕ
+adapter_met (Live k) = k
+adapter_met (Dying k) = k
+adapter_met (Missing k depth) = k
+
+-- the path of the missing child
+abbrev pub child_met : Found → List (List ℕ) → List (List ℕ)
+child_met (Missing k depth) p = take (suc depth) p
+child_met found p = p
+
+-- the path of the adapter found, or of the parent of the missing child
+abbrev pub place_met : Found → List (List ℕ) → List (List ℕ)
+place_met (Missing k depth) p = take depth p
+place_met found p = p

@@ -1,0 +1,5 @@
+pub mod Members
+pub mod Leading
+pub mod Finding
+pub mod TreeKept
+pub mod WalkStands
