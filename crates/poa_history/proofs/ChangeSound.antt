@@ -1,8 +1,8 @@
 -- What an entry changes keeps what stands sound, where the entry has what it needs.
-use Rattle.std.specs.Prelude.{◌≡◌, ℕ, suc, ◌+◌, Bool, true, false, not, cond, ◌&&◌, ◌||◌, ◌==◌, if◌then◌else◌, List, [], ◌∷◌, ◌++◌, map, filter, take, drop, nat_lt, length, find, Option, Some, None, option_and_then, ◌⊎◌, refl}
-use Rattle.std.proofs.Common.{inl, inr, sym, subst, ap, ap₂, ◌∙◌, arith}
+use Rattle.std.specs.Prelude.{◌≡◌, ℕ, suc, Bool, true, false, not, ◌&&◌, ◌||◌, ◌==◌, if◌then◌else◌, List, [], take, drop, nat_lt, length, find, Option, Some, None, option_and_then, ◌⊎◌, refl}
+use Rattle.std.proofs.Common.{inl, inr, sym, ap, ap₂, ◌∙◌, arith}
 use Rattle.std.specs.Int.{w32, from_be_bytes}
-use Rattle.std.proofs.lemmas.Bool.{cases_Bool, cond_both, and_parts, or_cases, false_from_ne_true, true≢false, ltb-true, lt-ltb}
+use Rattle.std.proofs.lemmas.Bool.{cond_both, and_parts, or_cases, false_from_ne_true, true≢false, ltb-true, lt-ltb}
 use Rattle.poa_base.specs.declared.Config.{Config}
 use Rattle.poa_base.specs.declared.Key.{Key}
 use Rattle.poa_base.specs.declared.Command.{Command}
@@ -18,8 +18,8 @@ use Rattle.poa_history.specs.Templates.{policies_at, makes_ids, has_activator, m
 use Rattle.poa_history.specs.Standings.{Standing, is_begun, is_of, is_void}
 use Rattle.poa_tree.specs.Nodes.{stands_under}
 use Rattle.poa_history.specs.Ends.{is_finished, is_over}
-use Rattle.poa_tree.specs.Walks.{Found, Live, Dying, Missing, walk, adapter_met, child_met}
-use Rattle.poa_history.specs.Opening.{with_node, with_act, with_made, made_id, number_at}
+use Rattle.poa_tree.specs.Walks.{walk, adapter_met, child_met}
+use Rattle.poa_history.specs.Opening.{with_made, made_id, number_at}
 use Rattle.poa_history.specs.Commands.{is_bad_id, is_implicit, live_at}
 use Rattle.poa_history.specs.declared.stage.Stage.{Stage}
 use Rattle.poa_history.specs.declared.stage.Stage.TheVariants.{Free, Trying, Incarnating, Serving, Ran, Removing}
@@ -28,9 +28,9 @@ use Rattle.poa_history.specs.Arrivals.{call_of}
 use Rattle.poa_history.specs.Stages.{stage, arrival_in}
 use Rattle.poa_history.specs.Keys.{key_in}
 use Rattle.poa_history.specs.Logs.{is_accepted, command_in, command_done}
-use Rattle.poa_history.specs.Changes.{without_flight, child_tried, with_child, with_tried, at_number, come_to, with_incarnated, is_elsewhere, with_takeout, with_etherealized, changed, with_flight, with_acts, with_dying, with_request, with_trial, with_incarnation, with_admitted, ended_by_destroy, with_destroyed, with_manager_off, with_deactivated, servant_of, with_made_act, with_reference, with_command}
-use Rattle.poa_tree.specs.Trees.{In, IsTree, Stands, IsFreePath, IsMissingChild, MayCreate}
-use Rattle.poa_history.specs.Sound.{IsHome, IsSound}
+use Rattle.poa_history.specs.Changes.{without_flight, child_tried, with_child, with_tried, at_number, come_to, with_incarnated, is_elsewhere, with_takeout, with_etherealized, changed, with_flight, with_acts, with_request, with_incarnation, with_admitted, ended_by_destroy, with_destroyed, with_manager_off, with_deactivated, servant_of, with_made_act, with_reference, with_command}
+use Rattle.poa_tree.specs.Trees.{MayCreate}
+use Rattle.poa_history.specs.Sound.{IsSound}
 use Rattle.poa_history.proofs.SoundKept.{IsUntried, MayFly, MayLive, Follows, fewer_flights_sound, with_node_sound, with_dying_sound, with_flight_sound, with_act_sound, with_acts_sound}
 use Rattle.poa_history.proofs.SettledKept.{or_first, or_second}
 use Rattle.poa_tree.proofs.Members.{in_kept}
@@ -44,7 +44,7 @@ use Rattle.poa_base.specs.declared.Incarnation.{Incarnation}
 use Rattle.poa_base.specs.declared.Incarnation.TheVariants.{Fresh, Named, Double, Forward as ForwardTo, Raise}
 use Rattle.poa_base.specs.declared.Call.{Call}
 use Rattle.poa_base.specs.declared.Call.TheVariants.{Request, Locate, Line}
-use Rattle.poa_base.specs.declared.Sid.TheVariants.{Named as NamedServant, Fresh as FreshServant}
+use Rattle.poa_base.specs.declared.Sid.TheVariants.{Fresh as FreshServant}
 
 module _ (c : Config) (run : ℕ) (s : Standing) (sound : IsSound c run s) where
   -- a request is in flight in an adapter that stands, whatever the walk meets

@@ -1,35 +1,32 @@
 -- What the answer to a command tells of what stands: enough for what it does.
-use Rattle.std.specs.Prelude.{◌≡◌, ℕ, suc, Bool, true, false, not, cond, ◌&&◌, ◌||◌, ◌==◌, nat_le, if◌then◌else◌, List, [], ◌∷◌, ◌++◌, length, find, Option, Some, None, is_none, is_some, ◌⊎◌, refl}
+use Rattle.std.specs.Prelude.{◌≡◌, ℕ, suc, Bool, true, false, not, ◌&&◌, nat_le, if◌then◌else◌, List, [], ◌∷◌, ◌++◌, Option, Some, None, is_none, refl}
 use Rattle.std.specs.List.{list_any}
 use Rattle.std.proofs.Common.{inl, inr, sym, subst, ap, ap₂, ◌∙◌}
 use Rattle.std.proofs.lemmas.Bool.{cond_both, cases_Bool, and_parts, true≢false, eq-eqb}
 use Rattle.poa_base.specs.declared.Config.{Config}
-use Rattle.poa_base.specs.declared.Entry.{Entry}
-use Rattle.poa_base.specs.declared.Command.{Command}
-use Rattle.poa_base.specs.declared.Command.TheVariants.{Manager, Create, Destroy, Activate, ActivateId, Deactivate, Reference, Preset, Forward, Unforward, Shutdown, Bad}
 use Rattle.poa_base.specs.declared.Reason.{Reason}
 use Rattle.poa_base.specs.declared.Reason.TheVariants.{AdapterNonExistent, NoTemplate, AdapterAlreadyExists, TooMany, WrongPolicy, NoServant, ServantAlreadyActive, BadId, ObjectAlreadyActive}
-use Rattle.poa_base.specs.declared.Answer.TheVariants.{Good, GoodId, GoodIor, No}
+use Rattle.poa_base.specs.declared.Answer.TheVariants.{Good, GoodId, No}
 use Rattle.poa_base.specs.declared.Verdict.{Verdict}
-use Rattle.poa_base.specs.declared.Verdict.TheVariants.{Answer, Wait}
+use Rattle.poa_base.specs.declared.Verdict.TheVariants.{Answer}
 use Rattle.poa_tree.specs.declared.node.Node.{Node}
 use Rattle.poa_history.specs.declared.act.Act.{Act}
-use Rattle.poa_tree.specs.Paths.{same_bytes, same_path, parent_path}
+use Rattle.poa_tree.specs.Paths.{same_bytes, parent_path}
 use Rattle.poa_history.specs.Templates.{template, policies_at, retains, makes_ids, servant_number}
 use Rattle.poa_history.specs.Standings.{Standing, is_active, is_of, is_tried}
 use Rattle.poa_tree.specs.Nodes.{node_at}
 use Rattle.poa_history.specs.Ends.{is_over}
 use Rattle.poa_history.specs.Logs.{is_accepted}
 use Rattle.poa_history.specs.Opening.{with_made, made_id, number_at}
-use Rattle.poa_history.specs.Commands.{refusal, live_at, with_live, with_servant, is_taken, is_bad_id, is_implicit, create_row, activate_row, activate_id_row, command_verdict}
-use Rattle.poa_tree.specs.Trees.{In, IsTree, MayCreate}
+use Rattle.poa_history.specs.Commands.{refusal, live_at, with_live, with_servant, is_taken, is_bad_id, is_implicit, create_row, activate_row, activate_id_row}
+use Rattle.poa_tree.specs.Trees.{In, MayCreate}
 use Rattle.poa_history.specs.Sound.{IsSound}
 use Rattle.poa_tree.proofs.Leading.{same_self}
-use Rattle.poa_history.proofs.SettledKept.{none_by, or_first}
+use Rattle.poa_history.proofs.SettledKept.{none_by}
 use Rattle.poa_history.proofs.SoundKept.{IsUntried, MayLive}
 use Rattle.poa_tree.proofs.WalkStands.{node_found, node_missing}
 use Rattle.poa_history.proofs.VerdictMoves.{untried_by}
-use Rattle.poa_history.proofs.ChangeSound.{MayDo, with_made_sound}
+use Rattle.poa_history.proofs.ChangeSound.{with_made_sound}
 
 -- a refusal isn't accepted
 refused : {A : Type 0} (reason : Reason) (v : Verdict) → refusal reason ≡ Some v → is_accepted v ≡ true → A

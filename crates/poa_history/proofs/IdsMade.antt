@@ -1,20 +1,17 @@
 -- The next system-made id is new.
-use Rattle.std.specs.Prelude.{◌≡◌, ℕ, suc, ◌+◌, ◌^◌, ◌<◌, Bool, true, false, not, cond, ◌&&◌, ◌||◌, ◌==◌, nat_lt, List, [], ◌∷◌, ◌++◌, take, drop, length, refl}
-use Rattle.std.specs.Int.{w32, to_be_bytes, from_be_bytes}
-use Rattle.std.proofs.Common.{inl, inr, sym, subst, ap, ap₂, ◌∙◌, arith}
+use Rattle.std.specs.Prelude.{◌≡◌, ℕ, suc, ◌^◌, ◌<◌, true, not, ◌&&◌, ◌||◌, ◌==◌, nat_lt, List, take, drop, length, refl}
+use Rattle.std.specs.Int.{w32, from_be_bytes}
+use Rattle.std.proofs.Common.{inl, inr, sym, ap, ap₂, ◌∙◌, arith}
 use Rattle.std.proofs.lemmas.Bool.{cases_Bool, and_parts, or_cases, false_from_ne_true, true≢false, eq-eqb, eqb-true, lt-ltb, ltb-true}
 use Rattle.std.proofs.lemmas.Nat.{from_be_bytes-to_be_bytes_4}
 use Rattle.poa_base.specs.declared.Config.{Config}
-use Rattle.poa_tree.specs.declared.node.Node.{Node}
-use Rattle.poa_history.specs.declared.act.Act.{Act}
 use Rattle.poa_history.specs.Templates.{policies_at, makes_ids}
 use Rattle.poa_history.specs.Standings.{Standing}
 use Rattle.poa_history.specs.Ends.{is_over}
 use Rattle.poa_history.specs.Opening.{made_id}
 use Rattle.poa_history.specs.Commands.{is_bad_id}
-use Rattle.poa_tree.specs.Trees.{In}
 use Rattle.poa_history.specs.Sound.{IsSound}
-use Rattle.poa_history.proofs.SettledKept.{or_first, or_second}
+use Rattle.poa_history.proofs.SettledKept.{or_second}
 use Rattle.poa_history.proofs.CommandMoves.{FreshIds, NextFits}
 
 made_run : (run ordinal : ℕ) → run < 2 ^ 32 → from_be_bytes w32 (take 4 (made_id run ordinal)) ≡ run

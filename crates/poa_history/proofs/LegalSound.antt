@@ -1,10 +1,10 @@
 -- What stands after a legal history is sound.
-use Rattle.std.specs.Prelude.{◌≡◌, ℕ, suc, ◌+◌, ◌^◌, ◌<◌, List, [], ◌∷◌}
+use Rattle.std.specs.Prelude.{ℕ, List, [], ◌∷◌}
 use Rattle.std.proofs.Common.{arith}
 use Rattle.poa_base.specs.declared.Config.{Config}
 use Rattle.poa_base.specs.declared.Entry.{Entry}
 use Rattle.poa_history.specs.Changes.{standing}
-use Rattle.poa_history.specs.Legal.{EachEntry, MayFollow, IsLegal}
+use Rattle.poa_history.specs.Legal.{EachEntry, IsLegal}
 use Rattle.poa_history.specs.Sound.{IsSound, HasOrdinal, IsGiven}
 use Rattle.poa_history.proofs.StepMoves.{step_sound}
 

@@ -1,7 +1,7 @@
 -- What has ended goes, and what is sound stays sound.
-use Rattle.std.specs.Prelude.{◌≡◌, ℕ, Bool, true, false, not, cond, ◌&&◌, ◌||◌, ◌==◌, List, [], ◌∷◌, ◌++◌, map, filter, Option, Some, None, ◌⊎◌, refl}
+use Rattle.std.specs.Prelude.{◌≡◌, ℕ, Bool, true, false, not, ◌&&◌, ◌||◌, ◌==◌, List, [], ◌∷◌, map, filter, Some, refl}
 use Rattle.std.specs.List.{list_any}
-use Rattle.std.proofs.Common.{inl, inr, sym, subst, ap, ap₂, ◌∙◌}
+use Rattle.std.proofs.Common.{inl, inr, sym, ap, ap₂, ◌∙◌}
 use Rattle.std.proofs.lemmas.Bool.{cases_Bool, cond_both, and_parts, or_cases, false_from_ne_true, eq-eqb}
 use Rattle.poa_base.specs.declared.Config.{Config}
 use Rattle.poa_tree.specs.declared.node.Node.{Node}
@@ -12,10 +12,10 @@ use Rattle.poa_history.specs.Templates.{has_activator}
 use Rattle.poa_history.specs.Standings.{Standing, is_void}
 use Rattle.poa_tree.specs.Nodes.{stands_under}
 use Rattle.poa_history.specs.Ends.{is_finished, is_over, is_left, let_out, is_clear, is_done_with, without_ended, settled}
-use Rattle.poa_tree.specs.Trees.{In, IsTree, Stands, IsFreePath, IsMissingChild, MayDrop}
-use Rattle.poa_history.specs.Sound.{IsHome, IsSound}
+use Rattle.poa_tree.specs.Trees.{In, IsMissingChild, MayDrop}
+use Rattle.poa_history.specs.Sound.{IsSound}
 use Rattle.poa_tree.proofs.Members.{in_kept, kept_in}
-use Rattle.poa_tree.proofs.Leading.{leads_on, leads_through, leads_self}
+use Rattle.poa_tree.proofs.Leading.{leads_through, leads_self}
 use Rattle.poa_tree.proofs.TreeKept.{dropped_kept}
 use Rattle.poa_history.proofs.SoundKept.{Follows, with_acts_sound}
 

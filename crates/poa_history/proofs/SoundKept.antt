@@ -1,8 +1,8 @@
 -- What is sound stays sound, whatever an entry changes.
-use Rattle.std.specs.Prelude.{◌≡◌, ℕ, suc, ◌+◌, ◌<◌, Bool, true, false, not, cond, List, [], ◌∷◌, ◌++◌, map, filter, length, Option, Some, None, ◌⊎◌, refl}
+use Rattle.std.specs.Prelude.{◌≡◌, ℕ, suc, ◌<◌, Bool, true, false, List, [], ◌∷◌, ◌++◌, map, filter, length, Some}
 use Rattle.std.proofs.Common.{inl, inr, sym, subst, ap, ap₂, ◌∙◌, arith, length-append}
 use Rattle.std.proofs.lemmas.List.{length-map}
-use Rattle.std.proofs.lemmas.Bool.{cases_Bool, cond_both}
+use Rattle.std.proofs.lemmas.Bool.{cases_Bool}
 use Rattle.poa_base.specs.declared.Config.{Config}
 use Rattle.poa_tree.specs.declared.node.Node.{Node}
 use Rattle.poa_history.specs.declared.flight.Flight.{Flight}
@@ -12,11 +12,11 @@ use Rattle.poa_history.specs.Standings.{Standing}
 use Rattle.poa_history.specs.Ends.{is_over}
 use Rattle.poa_history.specs.Commands.{is_bad_id}
 use Rattle.poa_history.specs.Opening.{with_node, with_act}
-use Rattle.poa_history.specs.Changes.{with_flight, without_flight, with_acts, with_dying}
+use Rattle.poa_history.specs.Changes.{with_flight, with_acts, with_dying}
 use Rattle.poa_tree.specs.Nodes.{marked, created}
-use Rattle.poa_tree.specs.Trees.{In, IsTree, Stands, IsFreePath, IsMissingChild, MayCreate}
+use Rattle.poa_tree.specs.Trees.{In, Stands, IsMissingChild, MayCreate}
 use Rattle.poa_history.specs.Sound.{IsHome, IsSound}
-use Rattle.poa_tree.proofs.Members.{in_front, in_back, in_either, in_image, image_in, in_kept, kept_in}
+use Rattle.poa_tree.proofs.Members.{in_front, in_either, in_image, image_in, in_kept}
 use Rattle.poa_tree.proofs.TreeKept.{created_kept, marked_number, marked_path, marked_kept}
 
 module _ (c : Config) (run : ℕ) (s : Standing) (sound : IsSound c run s) where

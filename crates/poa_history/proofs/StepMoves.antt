@@ -1,14 +1,13 @@
 -- A legal entry has what its change needs.
-use Rattle.std.specs.Prelude.{◌≡◌, ℕ, suc, ◌^◌, ◌<◌, Bool, true, false, not, cond, if◌then◌else◌, List, [], ◌∷◌, find, Option, Some, None, option_map, is_none, ◌&&◌, ◌⊎◌, refl}
-use Rattle.std.proofs.Common.{inl, inr, sym, subst, ap, ap₂, ◌∙◌}
-use Rattle.std.proofs.lemmas.Bool.{cases_Bool, cond_both, and_parts, true≢false}
+use Rattle.std.specs.Prelude.{◌≡◌, ℕ, suc, ◌^◌, ◌<◌, true, not, if◌then◌else◌, List, ◌∷◌, Option, Some, None, option_map, is_none, ◌&&◌, refl}
+use Rattle.std.proofs.Common.{inl, inr, sym, subst, ap, ◌∙◌}
+use Rattle.std.proofs.lemmas.Bool.{cases_Bool, and_parts}
 use Rattle.poa_base.specs.declared.Config.{Config}
 use Rattle.poa_base.specs.declared.Key.{Key}
 use Rattle.poa_base.specs.declared.Call.{Call}
 use Rattle.poa_base.specs.declared.Call.TheVariants.{Request, Locate, Line}
 use Rattle.poa_base.specs.declared.Command.{Command}
 use Rattle.poa_base.specs.declared.Command.TheVariants.{Manager, Create, Destroy, Activate, ActivateId, Deactivate, Reference, Preset, Forward, Unforward, Shutdown, Bad}
-use Rattle.poa_base.specs.declared.Attempt.{Attempt}
 use Rattle.poa_base.specs.declared.Attempt.TheVariants.{Yes}
 use Rattle.poa_base.specs.declared.Entry.{Entry}
 use Rattle.poa_base.specs.declared.Entry.TheVariants.{Entered, Arrive, Filled, Left, Collect, Admit, Tried, Incarnated, Run, Done, TakeOut, Etherealized, Abandon}
@@ -20,23 +19,22 @@ use Rattle.poa_tree.specs.declared.node.Node.{Node}
 use Rattle.poa_history.specs.declared.act.Act.{Act}
 use Rattle.poa_history.specs.declared.stage.Stage.{Stage}
 use Rattle.poa_history.specs.declared.stage.Stage.TheVariants.{Free, Trying, Incarnating, Serving, Ran, Removing}
-use Rattle.poa_history.specs.Templates.{policies_at, makes_ids, retains, activates_implicitly, servant_number}
-use Rattle.poa_history.specs.Arrivals.{arrivals, call_of, is_locate, target_of}
+use Rattle.poa_history.specs.Templates.{policies_at, retains, activates_implicitly}
+use Rattle.poa_history.specs.Arrivals.{call_of, is_locate, target_of}
 use Rattle.poa_history.specs.Stages.{stage, arrival_in}
 use Rattle.poa_history.specs.Standings.{Standing}
 use Rattle.poa_tree.specs.Walks.{walk}
 use Rattle.poa_history.specs.Keys.{key_in}
 use Rattle.poa_history.specs.Logs.{is_accepted, command_in, command_done}
-use Rattle.poa_history.specs.Opening.{with_made, made_id, number_at}
 use Rattle.poa_history.specs.Commands.{live_at, is_implicit, command_verdict, referred}
 use Rattle.poa_history.specs.Changes.{changed, standing, child_tried}
 use Rattle.poa_history.specs.Situations.{key_fact, key_or_none, is_crowded, facts_met, facts_of}
 use Rattle.poa_history.specs.Verdicts.{chosen, verdict_on, verdict}
 use Rattle.poa_history.specs.Rules.{brought}
-use Rattle.poa_history.specs.Turns.{attempt, going_on, incarnation_entry, removal_entry, act_numbered}
+use Rattle.poa_history.specs.Turns.{attempt, going_on, act_numbered}
 use Rattle.poa_history.specs.Legal.{IsTurn, MayFollow}
 use Rattle.poa_history.specs.Sound.{IsSound, ImplicitMakes}
-use Rattle.poa_history.proofs.TurnIs.{Turned, goes_on, takes, admits, mapped_by, turned}
+use Rattle.poa_history.proofs.TurnIs.{goes_on, takes, admits, turned}
 use Rattle.poa_history.proofs.VerdictMoves.{may_admit}
 use Rattle.poa_history.proofs.CommandMoves.{live_tells, FreshIds, NextFits, may_create, may_activate, may_activate_id, may_reference}
 use Rattle.poa_history.proofs.TrialMoves.{may_make}

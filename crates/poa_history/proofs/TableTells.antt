@@ -1,6 +1,6 @@
 -- When the table of verdicts lets an adapter activator or a servant activator be asked.
-use Rattle.std.specs.Prelude.{◌≡◌, ℕ, Bool, true, false, not, cond, ◌&&◌, ◌==◌, if◌then◌else◌, List, Option, Some, None, ◌⊎◌, refl}
-use Rattle.std.proofs.Common.{inl, inr, sym, ◌∙◌}
+use Rattle.std.specs.Prelude.{◌≡◌, ℕ, Bool, true, false, not, List, Option, Some, None, refl}
+use Rattle.std.proofs.Common.{sym, ◌∙◌}
 use Rattle.std.proofs.lemmas.Bool.{cond_both, true≢false}
 use Rattle.poa_base.specs.Policies.{is_retain}
 use Rattle.poa_base.specs.declared.Endpoint.{Endpoint}
@@ -18,7 +18,7 @@ use Rattle.poa_verdict.specs.declared.Choice.{Choice}
 use Rattle.poa_verdict.specs.declared.Choice.TheVariants.{Go, Held}
 use Rattle.poa_verdict.specs.declared.Facts.{Facts}
 use Rattle.poa_verdict.specs.declared.KeyFact.{KeyFact}
-use Rattle.poa_verdict.specs.declared.KeyFact.TheVariants.{Absent, Bad, OtherRun, Transient, Persistent}
+use Rattle.poa_verdict.specs.declared.KeyFact.TheVariants.{Absent, Bad, OtherRun}
 use Rattle.poa_verdict.specs.declared.Located.{Located}
 use Rattle.poa_verdict.specs.declared.Located.TheVariants.{Servant, Forward as Elsewhere, Raise, NoRule}
 use Rattle.poa_verdict.specs.declared.MapFact.{MapFact}
@@ -26,7 +26,6 @@ use Rattle.poa_verdict.specs.declared.MapFact.TheVariants.{Active as ActiveAs, B
 use Rattle.poa_verdict.specs.declared.WalkFact.{WalkFact}
 use Rattle.poa_verdict.specs.declared.WalkFact.TheVariants.{Dying, Missing, Found}
 use Rattle.poa_verdict.specs.Table.{refuse, serve, is_transient, forward_or, inactive_rule, state_rule, located_rows, locator_rows, activator_rows, manager_rows, default_rows, unmade, processing_rows, map_rows, object_rows, awaits_turn, awaits_main, thread_rows, found_rows, trial_rows, missing_rows, walk_rows, key_rows, first_row, own, omg}
-use Rattle.poa_tree.specs.Walks.{walk}
 
 -- a test that passes no choice but those that ask an activator
 pub record AsksAlone (P : Choice → Bool) : Type 0 where

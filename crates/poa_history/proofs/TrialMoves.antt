@@ -1,18 +1,16 @@
 -- What the answer of an adapter activator tells of what stands: enough for the child that it makes.
-use Rattle.std.specs.Prelude.{◌≡◌, ℕ, suc, Bool, true, false, cond, ◌&&◌, ◌==◌, nat_lt, if◌then◌else◌, List, [], ◌∷◌, ◌++◌, find, Option, Some, None, option_and_then, is_some, ◌⊎◌, refl}
-use Rattle.std.proofs.Common.{inl, inr, sym, subst, ap, ap₂, ◌∙◌}
-use Rattle.std.proofs.lemmas.Bool.{cond_both, eqb-true}
+use Rattle.std.specs.Prelude.{◌≡◌, ℕ, Bool, true, false, ◌==◌, if◌then◌else◌, List, find, Option, Some, None, option_and_then, refl}
+use Rattle.std.proofs.Common.{sym, ap, ◌∙◌}
+use Rattle.std.proofs.lemmas.Bool.{eqb-true}
 use Rattle.poa_base.specs.declared.Config.{Config}
-use Rattle.poa_base.specs.declared.Children.{Children}
-use Rattle.poa_base.specs.declared.Attempt.{Attempt}
-use Rattle.poa_base.specs.declared.Attempt.TheVariants.{Yes, No, Raised, Dying}
+use Rattle.poa_base.specs.declared.Attempt.TheVariants.{Yes, No, Dying}
 use Rattle.poa_tree.specs.declared.node.Node.{Node}
 use Rattle.poa_history.specs.declared.flight.Flight.{Flight}
 use Rattle.poa_history.specs.Standings.{Standing}
 use Rattle.poa_history.specs.Changes.{child_tried}
 use Rattle.poa_history.specs.Templates.{template_or_root}
-use Rattle.poa_history.specs.Turns.{flight_of, node_of, attempt_by, attempt_at, attempt}
-use Rattle.poa_tree.specs.Trees.{In, IsTree, IsMissingChild, MayCreate}
+use Rattle.poa_history.specs.Turns.{node_of, attempt_by, attempt_at, attempt}
+use Rattle.poa_tree.specs.Trees.{IsMissingChild, MayCreate}
 use Rattle.poa_history.specs.Sound.{IsSound}
 use Rattle.poa_tree.proofs.Finding.{find_in}
 use Rattle.poa_history.proofs.ChangeSound.{MayMake}

@@ -1,12 +1,10 @@
 -- What the next entry of a worker tells: it goes on with what was begun, or takes an activation out, or admits an arrival.
-use Rattle.std.specs.Prelude.{◌≡◌, ℕ, zero, suc, ◌<◌, Bool, true, false, not, cond, if◌then◌else◌, List, [], ◌∷◌, find, Option, Some, None, option_map, ◌⊎◌, refl}
+use Rattle.std.specs.Prelude.{◌≡◌, ℕ, zero, suc, ◌<◌, true, false, not, if◌then◌else◌, List, find, Option, Some, None, option_map, refl}
 use Rattle.std.specs.Option.{option_or}
-use Rattle.std.proofs.Common.{inl, inr, sym, subst, ap, ◌∙◌, arith}
-use Rattle.std.proofs.lemmas.Bool.{cond_both}
+use Rattle.std.proofs.Common.{ap, ◌∙◌, arith}
 use Rattle.poa_base.specs.declared.Config.{Config}
 use Rattle.poa_base.specs.declared.Entry.{Entry}
-use Rattle.poa_base.specs.declared.Entry.TheVariants.{Admit, Tried, Incarnated, Run, Done, TakeOut, Etherealized}
-use Rattle.poa_base.specs.declared.Attempt.{Attempt}
+use Rattle.poa_base.specs.declared.Entry.TheVariants.{Admit, TakeOut}
 use Rattle.poa_base.specs.declared.Verdict.{Verdict}
 use Rattle.poa_history.specs.declared.act.Act.{Act}
 use Rattle.poa_history.specs.declared.stage.Stage.{Stage}
@@ -14,11 +12,9 @@ use Rattle.poa_history.specs.declared.stage.Stage.TheVariants.{Free, Trying, Inc
 use Rattle.poa_history.specs.Searches.{first_given}
 use Rattle.poa_history.specs.Arrivals.{arrivals}
 use Rattle.poa_history.specs.Stages.{stage, is_unadmitted}
-use Rattle.poa_history.specs.Rules.{brought}
-use Rattle.poa_history.specs.Standings.{Standing}
 use Rattle.poa_history.specs.Changes.{standing}
 use Rattle.poa_history.specs.Verdicts.{verdict}
-use Rattle.poa_history.specs.Turns.{attempt, incarnation_entry, removal_entry, going_on, is_due, removal, admission_of, admission, next_of, turn, act_numbered}
+use Rattle.poa_history.specs.Turns.{going_on, is_due, removal, admission_of, admission, next_of, turn}
 use Rattle.poa_tree.specs.Trees.{In}
 use Rattle.poa_tree.proofs.Finding.{find_in}
 

@@ -1,17 +1,15 @@
 -- What a verdict on a request tells of what stands: enough for what its Admit begins.
-use Rattle.std.specs.Prelude.{◌≡◌, ℕ, suc, Bool, true, false, not, cond, ◌&&◌, ◌||◌, ◌==◌, nat_lt, if◌then◌else◌, List, [], ◌∷◌, ◌++◌, take, drop, length, find, Option, Some, None, ◌⊎◌, refl}
-use Rattle.std.specs.List.{list_any}
+use Rattle.std.specs.Prelude.{◌≡◌, ℕ, suc, Bool, true, false, not, ◌&&◌, ◌||◌, ◌==◌, nat_lt, List, [], ◌∷◌, ◌++◌, take, drop, length, find, Option, Some, None, refl}
 use Rattle.std.proofs.Common.{inl, inr, sym, subst, ap, ap₂, ◌∙◌}
-use Rattle.std.proofs.lemmas.Bool.{cond_both, cases_Bool, and_parts, false_from_ne_true, true≢false, eq-eqb, eqb-true}
+use Rattle.std.proofs.lemmas.Bool.{cases_Bool, and_parts, false_from_ne_true, true≢false, eq-eqb}
 use Rattle.poa_base.specs.declared.Config.{Config}
 use Rattle.poa_base.specs.declared.Key.{Key}
 use Rattle.poa_base.specs.declared.Call.{Call}
-use Rattle.poa_base.specs.declared.Call.TheVariants.{Request, Locate, Line}
 use Rattle.poa_base.specs.declared.Entry.{Entry}
 use Rattle.poa_base.specs.declared.Verdict.{Verdict}
 use Rattle.poa_base.specs.declared.Verdict.TheVariants.{Incarnate, Try}
 use Rattle.poa_verdict.specs.declared.Choice.{Choice}
-use Rattle.poa_verdict.specs.declared.Choice.TheVariants.{Go, Held}
+use Rattle.poa_verdict.specs.declared.Choice.TheVariants.{Go}
 use Rattle.poa_verdict.specs.declared.Facts.{Facts}
 use Rattle.poa_verdict.specs.declared.MapFact.TheVariants.{Active, Busy, Free}
 use Rattle.poa_verdict.specs.declared.WalkFact.TheVariants.{Dying as MeetsDying, Missing as MeetsMissing, Found as MeetsAdapter}
@@ -20,27 +18,22 @@ use Rattle.std.specs.Int.{w32, from_be_bytes}
 use Rattle.poa_base.specs.Policies.{is_retain}
 use Rattle.poa_history.specs.Templates.{policies_at, makes_ids}
 use Rattle.poa_history.specs.Commands.{is_bad_id}
-use Rattle.poa_tree.specs.declared.node.Node.{Node}
-use Rattle.poa_history.specs.declared.flight.Flight.{Flight}
 use Rattle.poa_history.specs.declared.act.Act.{Act}
 use Rattle.poa_tree.specs.Paths.{same_bytes, same_path}
-use Rattle.poa_history.specs.Arrivals.{call_of, is_locate, target_of}
+use Rattle.poa_history.specs.Arrivals.{target_of}
 use Rattle.poa_history.specs.Standings.{Standing, is_active, is_of, is_tried}
 use Rattle.poa_history.specs.Ends.{is_over}
 use Rattle.poa_tree.specs.Walks.{Found, Live, Dying, Missing, walk, adapter_met, child_met}
-use Rattle.poa_history.specs.Keys.{key_in}
-use Rattle.poa_history.specs.Changes.{standing}
-use Rattle.poa_history.specs.Situations.{walk_fact, slot_of, key_fact, key_or_none, is_crowded, facts_met, facts_of}
-use Rattle.poa_history.specs.Verdicts.{chosen, verdict_on}
-use Rattle.poa_tree.specs.Trees.{In, IsTree, Stands, IsFreePath, IsMissingChild}
+use Rattle.poa_history.specs.Situations.{walk_fact, slot_of, key_fact, facts_met}
+use Rattle.poa_tree.specs.Trees.{In, IsFreePath}
 use Rattle.poa_history.specs.Sound.{IsSound}
 use Rattle.poa_tree.proofs.Finding.{find_none, same_path_self}
 use Rattle.poa_tree.proofs.Leading.{same_self}
 use Rattle.poa_history.proofs.SettledKept.{none_by}
 use Rattle.poa_history.proofs.SoundKept.{IsUntried, MayFly, MayLive}
-use Rattle.poa_tree.proofs.WalkStands.{Tells, walk_tells, met_stands}
+use Rattle.poa_tree.proofs.WalkStands.{Tells, walk_tells}
 use Rattle.poa_history.proofs.ChangeSound.{MayAdmit}
-use Rattle.poa_history.proofs.TableTells.{AsksAlone, Asks, servant, adapter, asked}
+use Rattle.poa_history.proofs.TableTells.{AsksAlone, servant, adapter, asked}
 
 abbrev tries_test : Choice → Bool
 tries_test (Go Try) = true

@@ -2,7 +2,6 @@
 use Rattle.std.specs.Prelude.{ℕ, suc, ◌+◌, Bool, true, false, ◌==◌, if◌then◌else◌, List, [], ◌∷◌, Option, Some, None}
 use Rattle.poa_base.specs.declared.Call.{Call}
 use Rattle.poa_base.specs.declared.Call.TheVariants.{Request, Locate, Line}
-use Rattle.poa_base.specs.declared.Head.{Head}
 use Rattle.poa_base.specs.declared.Entry.{Entry}
 use Rattle.poa_base.specs.declared.Entry.TheVariants.{Entered, Arrive}
 

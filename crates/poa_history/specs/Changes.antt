@@ -1,12 +1,11 @@
 -- What an entry changes, and so what stands after a history.
-use Rattle.std.specs.Prelude.{ℕ, suc, ◌+◌, Bool, true, false, not, ◌&&◌, ◌||◌, ◌==◌, if◌then◌else◌, List, [], ◌∷◌, ◌++◌, map, filter, take, length, find, Option, Some, None, option_map, option_and_then}
+use Rattle.std.specs.Prelude.{ℕ, suc, Bool, true, false, not, ◌&&◌, ◌||◌, ◌==◌, if◌then◌else◌, List, [], ◌∷◌, ◌++◌, map, filter, length, find, Option, Some, None, option_and_then}
 use Rattle.std.specs.List.{list_any}
 use Rattle.poa_base.specs.declared.Config.{Config}
 use Rattle.poa_base.specs.declared.Key.{Key}
 use Rattle.poa_base.specs.declared.Command.{Command}
 use Rattle.poa_base.specs.declared.Command.TheVariants.{Manager, Create, Destroy, Activate, ActivateId, Deactivate, Reference, Shutdown}
 use Rattle.poa_base.specs.declared.Order.TheVariants.{Deactivate as DeactivateAll}
-use Rattle.poa_base.specs.declared.Sid.{Sid}
 use Rattle.poa_base.specs.declared.Sid.TheVariants.{Named as NamedServant, Fresh as FreshServant}
 use Rattle.poa_base.specs.declared.Entry.{Entry}
 use Rattle.poa_base.specs.declared.Entry.TheVariants.{Admit, Tried, Incarnated, Done, TakeOut, Etherealized}
@@ -16,20 +15,18 @@ use Rattle.poa_base.specs.declared.Incarnation.{Incarnation}
 use Rattle.poa_base.specs.declared.Incarnation.TheVariants.{Fresh, Named}
 use Rattle.poa_base.specs.declared.Verdict.{Verdict}
 use Rattle.poa_base.specs.declared.Verdict.TheVariants.{Serve, Preset, Locator, Incarnate, Try}
-use Rattle.poa_tree.specs.declared.node.Node.{Node}
 use Rattle.poa_history.specs.declared.flight.Flight.{Flight}
 use Rattle.poa_history.specs.declared.act.Act.{Act}
 use Rattle.poa_history.specs.declared.act.Phase.{Phase}
 use Rattle.poa_history.specs.declared.act.Phase.TheVariants.{Begun, Complete, Void}
 use Rattle.poa_history.specs.declared.stage.Stage.{Stage}
 use Rattle.poa_history.specs.declared.stage.Stage.TheVariants.{Incarnating, Removing}
-use Rattle.poa_tree.specs.Paths.{leads_to, same_bytes}
 use Rattle.poa_history.specs.Templates.{has_activator, manager_at, manager_number, servant_number}
 use Rattle.poa_history.specs.Arrivals.{call_of}
 use Rattle.poa_history.specs.Stages.{stage, arrival_in}
 use Rattle.poa_history.specs.Standings.{Standing, is_of, is_begun, is_mapped, has_servant}
-use Rattle.poa_tree.specs.Nodes.{stands_under, node_at}
-use Rattle.poa_tree.specs.Walks.{Found, Live, Dying, Missing, walk, adapter_met, child_met}
+use Rattle.poa_tree.specs.Nodes.{stands_under, marked}
+use Rattle.poa_tree.specs.Walks.{walk, adapter_met, child_met}
 use Rattle.poa_history.specs.Ends.{settled}
 use Rattle.poa_history.specs.Keys.{key_in}
 use Rattle.poa_history.specs.Logs.{command_done}

@@ -1,5 +1,5 @@
 -- The verdict on an administrator's command: done with its answer, refused for the first reason of its row, or held.
-use Rattle.std.specs.Prelude.{ℕ, suc, ◌+◌, ◌^◌, ◌-◌, Bool, true, false, not, ◌&&◌, ◌||◌, ◌==◌, nat_lt, nat_le, if◌then◌else◌, List, [], ◌∷◌, ◌++◌, length, take, drop, find, Option, Some, None, is_some, is_none, option_and_then, option_map}
+use Rattle.std.specs.Prelude.{ℕ, suc, Bool, true, false, not, ◌&&◌, ◌||◌, ◌==◌, nat_lt, nat_le, if◌then◌else◌, List, [], ◌∷◌, length, take, drop, find, Option, Some, None, is_some, is_none}
 use Rattle.std.specs.List.{list_any}
 use Rattle.std.specs.Int.{w32, from_be_bytes}
 use Rattle.poa_base.specs.declared.Config.{Config}
@@ -18,7 +18,7 @@ use Rattle.poa_base.specs.declared.Reason.TheVariants.{NoManager, AdapterInactiv
 use Rattle.poa_base.specs.declared.Sid.TheVariants.{Named}
 use Rattle.poa_tree.specs.declared.node.Node.{Node}
 use Rattle.poa_history.specs.declared.act.Act.{Act}
-use Rattle.poa_tree.specs.Paths.{same_bytes, same_path, parent_path}
+use Rattle.poa_tree.specs.Paths.{parent_path}
 use Rattle.poa_history.specs.Templates.{template, policies_at, retains, is_unique, makes_ids, activates_implicitly, uses_default_servant, manager_number, servant_number}
 use Rattle.poa_history.specs.Standings.{Standing, is_active, is_mapped, has_servant, is_of, is_in_map, is_tried}
 use Rattle.poa_tree.specs.Nodes.{node_at}

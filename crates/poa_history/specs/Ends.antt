@@ -1,12 +1,12 @@
 -- When an activation is over, and when an adapter is gone.
-use Rattle.std.specs.Prelude.{ℕ, Bool, true, false, not, ◌&&◌, ◌||◌, ◌==◌, nat_lt, if◌then◌else◌, List, [], ◌∷◌, map, filter, find, Option, Some, None}
+use Rattle.std.specs.Prelude.{ℕ, Bool, true, not, ◌&&◌, ◌||◌, ◌==◌, nat_lt, if◌then◌else◌, List, map, filter, find, Some, None}
 use Rattle.std.specs.List.{list_any}
 use Rattle.poa_base.specs.declared.Config.{Config}
 use Rattle.poa_tree.specs.declared.node.Node.{Node}
 use Rattle.poa_history.specs.declared.act.Act.{Act}
 use Rattle.poa_history.specs.Templates.{has_activator}
 use Rattle.poa_history.specs.Standings.{Standing, is_complete, is_void, is_ending, is_used}
-use Rattle.poa_tree.specs.Nodes.{stands, stands_under}
+use Rattle.poa_tree.specs.Nodes.{stands_under}
 use Rattle.poa_tree.specs.Paths.{is_root}
 
 -- out of the map, and etherealized where that is due

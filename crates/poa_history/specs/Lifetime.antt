@@ -1,6 +1,6 @@
 -- The lifetime of an activation: it runs requests only between incarnation and removal, and is etherealized at most
 -- once, after its last request ended (CORBA 3.3 Part 1, sections 15.2.4 and 15.3.6).
-use Rattle.std.specs.Prelude.{◌≡◌, ℕ, ◌<◌, Bool, true, false, not, List, [], ◌∷◌, length, Option, Some, None, slice_get, All}
+use Rattle.std.specs.Prelude.{◌≡◌, ℕ, Bool, true, false, not, List, ◌∷◌, length, Option, Some, None, slice_get, All}
 use Rattle.poa_base.specs.declared.Config.{Config}
 use Rattle.poa_base.specs.declared.Entry.{Entry}
 use Rattle.poa_base.specs.declared.Entry.TheVariants.{Admit, Run, TakeOut, Etherealized}

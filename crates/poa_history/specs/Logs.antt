@@ -1,5 +1,5 @@
 -- What the administrator's commands have set: manager states, default servants, endpoints.
-use Rattle.std.specs.Prelude.{ℕ, suc, pred, Bool, true, false, not, ◌&&◌, ◌==◌, nat_lt, if◌then◌else◌, List, [], ◌∷◌, ◌++◌, length, find, map, Option, Some, None, option_map, option_and_then, slice_get}
+use Rattle.std.specs.Prelude.{ℕ, pred, Bool, true, false, ◌==◌, if◌then◌else◌, List, [], ◌∷◌, ◌++◌, find, Option, Some, None, option_map, option_and_then, slice_get}
 use Rattle.poa_base.specs.declared.Config.{Config}
 use Rattle.poa_base.specs.declared.Endpoint.{Endpoint}
 use Rattle.poa_base.specs.declared.ManagerState.{ManagerState}
@@ -14,8 +14,8 @@ use Rattle.poa_base.specs.declared.Entry.{Entry}
 use Rattle.poa_base.specs.declared.Entry.TheVariants.{Admit}
 use Rattle.poa_base.specs.declared.Verdict.{Verdict}
 use Rattle.poa_base.specs.declared.Verdict.TheVariants.{Answer, Wait}
-use Rattle.poa_base.specs.declared.Answer.TheVariants.{Good, GoodId, GoodIor, No}
-use Rattle.poa_tree.specs.Paths.{same_bytes, same_path, leads_to}
+use Rattle.poa_base.specs.declared.Answer.TheVariants.{No}
+use Rattle.poa_tree.specs.Paths.{same_path}
 use Rattle.poa_history.specs.Templates.{template_or_root, manager_number}
 use Rattle.poa_history.specs.Arrivals.{call_of}
 

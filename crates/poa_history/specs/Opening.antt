@@ -1,16 +1,14 @@
 -- What stands before the first entry: the root, the adapters created at opening and the configured objects.
-use Rattle.std.specs.Prelude.{ℕ, suc, ◌+◌, Bool, true, false, not, ◌&&◌, if◌then◌else◌, List, [], ◌∷◌, ◌++◌, length, Option, Some, None}
+use Rattle.std.specs.Prelude.{ℕ, suc, false, not, ◌&&◌, if◌then◌else◌, List, [], ◌∷◌, ◌++◌, length, Some, None}
 use Rattle.std.specs.Int.{w32, to_be_bytes}
 use Rattle.poa_base.specs.declared.Config.{Config}
 use Rattle.poa_base.specs.declared.AdapterConf.{AdapterConf}
 use Rattle.poa_base.specs.declared.ObjectConf.{ObjectConf}
 use Rattle.poa_base.specs.declared.Sid.TheVariants.{Named}
-use Rattle.poa_tree.specs.declared.node.Node.{Node}
-use Rattle.poa_history.specs.declared.act.Act.{Act}
 use Rattle.poa_history.specs.declared.act.Phase.{Phase}
 use Rattle.poa_history.specs.declared.act.Phase.TheVariants.{Complete}
 use Rattle.poa_history.specs.Standings.{Standing}
-use Rattle.poa_tree.specs.Nodes.{node_at}
+use Rattle.poa_tree.specs.Nodes.{node_at, created}
 use Rattle.poa_tree.specs.Paths.{is_root}
 
 -- the adapter is created, and gets the next number

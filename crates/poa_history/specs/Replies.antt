@@ -1,5 +1,5 @@
 -- Which entry decides an arrival, and which reply it fixes.
-use Rattle.std.specs.Prelude.{ℕ, ◌+◌, Bool, true, false, not, ◌&&◌, ◌||◌, ◌==◌, if◌then◌else◌, List, [], ◌∷◌, Option, Some, None, is_some, option_and_then, bit_and, ◌%◌}
+use Rattle.std.specs.Prelude.{ℕ, Bool, true, false, not, ◌&&◌, ◌||◌, ◌==◌, if◌then◌else◌, List, [], ◌∷◌, Option, Some, None, ◌%◌}
 use Rattle.std.specs.Option.{option_or}
 use Rattle.poa_base.specs.declared.Config.{Config}
 use Rattle.poa_base.specs.declared.Call.{Call}
@@ -8,7 +8,6 @@ use Rattle.poa_base.specs.declared.SysExc.{SysExc}
 use Rattle.poa_base.specs.declared.ExcName.TheVariants.{ObjectNotExist, Transient, ObjAdapter}
 use Rattle.poa_base.specs.declared.Completion.TheVariants.{No as NotCompleted}
 use Rattle.poa_base.specs.declared.Endpoint.{Endpoint}
-use Rattle.poa_base.specs.declared.Outcome.{Outcome}
 use Rattle.poa_base.specs.declared.Outcome.TheVariants.{System}
 use Rattle.poa_base.specs.declared.Reply.{Reply}
 use Rattle.poa_base.specs.declared.Reply.TheVariants.{Outcome as Ended, Forward as ForwardReply, Addressing as AddressingReply, Here as HereReply, UnknownObject, Answer as AnswerReply}
@@ -16,13 +15,12 @@ use Rattle.poa_base.specs.declared.Answer.TheVariants.{Good}
 use Rattle.poa_base.specs.declared.Entry.{Entry}
 use Rattle.poa_base.specs.declared.Entry.TheVariants.{Collect, Admit, Tried, Incarnated, Run}
 use Rattle.poa_base.specs.declared.Attempt.{Attempt}
-use Rattle.poa_base.specs.declared.Attempt.TheVariants.{Yes, No, Raised, Dying}
+use Rattle.poa_base.specs.declared.Attempt.TheVariants.{Yes, Raised, Dying}
 use Rattle.poa_base.specs.declared.Incarnation.{Incarnation}
-use Rattle.poa_base.specs.declared.Incarnation.TheVariants.{Fresh, Named, Double, Forward as ForwardTo, Raise}
+use Rattle.poa_base.specs.declared.Incarnation.TheVariants.{Double, Forward as ForwardTo, Raise}
 use Rattle.poa_base.specs.declared.Verdict.{Verdict}
 use Rattle.poa_base.specs.declared.Verdict.TheVariants.{Refuse, Forward, Addressing, Here, Unknown, Answer, Wait}
 use Rattle.poa_base.specs.declared.Sid.{Sid}
-use Rattle.poa_history.specs.declared.stage.Stage.{Stage}
 use Rattle.poa_history.specs.Searches.{least, count_below}
 use Rattle.poa_history.specs.Arrivals.{arrivals, call_of, conn_of, target_of}
 use Rattle.poa_history.specs.Stages.{stage, arrival_in, is_at, admitted, brings}

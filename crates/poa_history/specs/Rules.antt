@@ -1,9 +1,7 @@
 -- What the rules of a servant manager give (CORBA 3.3 Part 1, sections 15.3.6 and 15.3.7).
-use Rattle.std.specs.Prelude.{ℕ, Bool, true, false, ◌&&◌, ◌||◌, List, find, length, Option, Some, None, is_some}
-use Rattle.std.specs.List.{list_any}
+use Rattle.std.specs.Prelude.{ℕ, Bool, true, false, ◌&&◌, List, find, Option, Some, None}
 use Rattle.poa_base.specs.declared.Config.{Config}
 use Rattle.poa_base.specs.declared.RuleConf.{RuleConf}
-use Rattle.poa_base.specs.declared.Gives.{Gives}
 use Rattle.poa_base.specs.declared.Gives.TheVariants.{Fresh as FreshKind, Servant, Forward as ForwardTo, Raise as RaiseThis}
 use Rattle.poa_base.specs.declared.SysExc.{SysExc}
 use Rattle.poa_base.specs.declared.ExcName.TheVariants.{ObjectNotExist}

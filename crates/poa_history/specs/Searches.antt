@@ -1,5 +1,5 @@
 -- Searches over numbers.
-use Rattle.std.specs.Prelude.{ℕ, zero, suc, ◌+◌, Bool, true, false, ◌||◌, if◌then◌else◌, Option, Some, None}
+use Rattle.std.specs.Prelude.{ℕ, zero, suc, ◌+◌, Bool, if◌then◌else◌, Option, Some, None}
 use Rattle.std.specs.Option.{option_or}
 
 -- the least number below a bound that passes

@@ -1,5 +1,5 @@
 -- When a command that waits is answered.
-use Rattle.std.specs.Prelude.{ℕ, Bool, true, false, not, ◌&&◌, ◌||◌, ◌==◌, nat_lt, if◌then◌else◌, List, [], ◌∷◌, length, find, Option, Some, None, is_some}
+use Rattle.std.specs.Prelude.{ℕ, Bool, true, false, not, ◌&&◌, ◌||◌, ◌==◌, nat_lt, if◌then◌else◌, List, [], ◌∷◌, length, Option, Some, None, is_some}
 use Rattle.std.specs.List.{list_any, list_all}
 use Rattle.poa_base.specs.declared.Config.{Config}
 use Rattle.poa_base.specs.declared.Command.{Command}
@@ -8,11 +8,9 @@ use Rattle.poa_base.specs.declared.Order.{Order}
 use Rattle.poa_base.specs.declared.Order.TheVariants.{Activate, Hold, Discard, Deactivate}
 use Rattle.poa_base.specs.declared.Entry.{Entry}
 use Rattle.poa_base.specs.declared.Entry.TheVariants.{Admit}
-use Rattle.poa_history.specs.declared.act.Act.{Act}
 use Rattle.poa_history.specs.Templates.{has_activator, manager_at, manager_number}
 use Rattle.poa_history.specs.Arrivals.{call_of}
 use Rattle.poa_history.specs.Standings.{Standing}
-use Rattle.poa_tree.specs.Nodes.{stands}
 use Rattle.poa_history.specs.Ends.{is_over, is_gone}
 use Rattle.poa_history.specs.Logs.{command_in, command_done, order_for}
 use Rattle.poa_history.specs.Opening.{number_at}

@@ -1,14 +1,13 @@
 -- What stands after a history: adapters, what is in flight, activations (CORBA 3.3 Part 1, sections 15.2 and 15.3).
-use Rattle.std.specs.Prelude.{ℕ, suc, ◌+◌, Bool, true, false, not, ◌&&◌, ◌||◌, ◌==◌, nat_eq, if◌then◌else◌, List, [], ◌∷◌, ◌++◌, map, filter, find, length, Option, Some, None}
+use Rattle.std.specs.Prelude.{ℕ, Bool, true, false, not, ◌&&◌, ◌==◌, List, Some, None}
 use Rattle.std.specs.List.{list_any}
 use Rattle.poa_base.specs.declared.Sid.{Sid}
 use Rattle.poa_base.specs.declared.Sid.TheVariants.{Named, Fresh}
 use Rattle.poa_tree.specs.declared.node.Node.{Node}
 use Rattle.poa_history.specs.declared.flight.Flight.{Flight}
 use Rattle.poa_history.specs.declared.act.Act.{Act}
-use Rattle.poa_history.specs.declared.act.Phase.{Phase}
 use Rattle.poa_history.specs.declared.act.Phase.TheVariants.{Begun, Complete, Void}
-use Rattle.poa_tree.specs.Paths.{same_bytes, same_path, leads_to}
+use Rattle.poa_tree.specs.Paths.{same_bytes, same_path}
 
 pub record Standing : Type 0 where
   -- the adapters that were created and aren't gone, in the order of their creation

@@ -1,12 +1,11 @@
 -- The state of each servant, and what is stored.
-use Rattle.std.specs.Prelude.{ℕ, ℤ, pos, Bool, true, false, ◌&&◌, ◌==◌, if◌then◌else◌, List, [], ◌∷◌, find, Option, Some, None, slice_get}
+use Rattle.std.specs.Prelude.{ℕ, pos, Bool, true, false, ◌&&◌, if◌then◌else◌, List, [], ◌∷◌, Option, Some, None, slice_get}
 use Rattle.poa_base.specs.declared.Config.{Config}
 use Rattle.poa_base.specs.declared.Kind.{Kind}
 use Rattle.poa_base.specs.declared.Kind.TheVariants.{Register as RegisterKind, Log, Echo as EchoKind, Fault as FaultKind}
-use Rattle.poa_base.specs.declared.RuleConf.{RuleConf}
 use Rattle.poa_base.specs.declared.Gives.TheVariants.{Fresh as FreshKind, Servant, Forward as ForwardTo, Raise as RaiseThis}
 use Rattle.poa_base.specs.declared.Call.{Call}
-use Rattle.poa_base.specs.declared.Call.TheVariants.{Request, Locate, Line}
+use Rattle.poa_base.specs.declared.Call.TheVariants.{Request}
 use Rattle.poa_base.specs.declared.Outcome.{Outcome}
 use Rattle.poa_base.specs.declared.Outcome.TheVariants.{Value}
 use Rattle.poa_base.specs.declared.State.{State}

@@ -1,7 +1,6 @@
 -- The next entry of a worker: what it has begun goes on, else a removal that is due, else the next arrival is admitted.
-use Rattle.std.specs.Prelude.{ℕ, Bool, true, false, not, ◌&&◌, ◌||◌, ◌==◌, nat_lt, if◌then◌else◌, List, [], ◌∷◌, find, Option, Some, None, option_map, is_some}
+use Rattle.std.specs.Prelude.{ℕ, Bool, not, ◌&&◌, ◌==◌, nat_lt, if◌then◌else◌, List, find, Option, Some, None, option_map, is_some}
 use Rattle.std.specs.Option.{option_or}
-use Rattle.std.specs.List.{list_any}
 use Rattle.poa_base.specs.declared.Config.{Config}
 use Rattle.poa_base.specs.declared.Children.{Children}
 use Rattle.poa_base.specs.declared.Children.TheVariants.{Create, Refuse, Raise as RaiseInstead}

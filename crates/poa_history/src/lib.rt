@@ -10,5 +10,4 @@ mod stage;
 
 pub use act::{Act, Phase};
 pub use flight::Flight;
-
 pub use stage::Stage;

@@ -1,8 +1,7 @@
 -- What a search in a list finds.
-use Rattle.std.specs.Prelude.{◌≡◌, ℕ, Bool, true, false, cond, ◌&&◌, List, [], ◌∷◌, ◌++◌, find, Option, Some, None, ◌⊎◌, refl, nat_eq}
-use Rattle.std.specs.Cmp.Lexicographic.{pointwise}
+use Rattle.std.specs.Prelude.{◌≡◌, ℕ, Bool, true, false, cond, ◌&&◌, List, [], ◌∷◌, find, Some, None, refl}
 use Rattle.std.proofs.Common.{inl, inr, sym, subst, ap, ap₂, ◌∙◌}
-use Rattle.std.proofs.lemmas.Bool.{and_parts, cond_both}
+use Rattle.std.proofs.lemmas.Bool.{and_parts}
 use Rattle.poa_tree.specs.Paths.{same_bytes, same_path}
 use Rattle.poa_tree.specs.Trees.{In}
 use Rattle.poa_tree.proofs.Leading.{same_self, bytes_same}

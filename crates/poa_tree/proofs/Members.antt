@@ -1,7 +1,6 @@
 -- Elements of lists that were appended, mapped and filtered.
-use Rattle.std.specs.Prelude.{◌≡◌, Bool, true, false, cond, List, [], ◌∷◌, ◌++◌, map, filter, find, Option, Some, None, ◌⊎◌, refl}
-use Rattle.std.specs.List.{list_any}
-use Rattle.std.proofs.Common.{inl, inr, sym, subst, ap, ◌∙◌}
+use Rattle.std.specs.Prelude.{◌≡◌, Bool, true, false, cond, List, [], ◌∷◌, ◌++◌, map, filter, ◌⊎◌, refl}
+use Rattle.std.proofs.Common.{inl, inr, sym, ap, ◌∙◌}
 use Rattle.poa_tree.specs.Trees.{In}
 
 -- an element of the front is one of the whole, and so is the one behind it

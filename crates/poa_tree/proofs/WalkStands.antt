@@ -1,14 +1,13 @@
 -- What the walk along a path tells of the adapters that stand.
-use Rattle.std.specs.Prelude.{◌≡◌, ℕ, zero, suc, Bool, true, false, cond, if◌then◌else◌, List, [], ◌∷◌, ◌++◌, length, Option, Some, None, ◌⊎◌, refl}
-use Rattle.std.proofs.Common.{inl, inr, sym, subst, ap, ap₂, ◌∙◌}
+use Rattle.std.specs.Prelude.{◌≡◌, ℕ, true, false, if◌then◌else◌, List, [], ◌∷◌, ◌++◌, length, Some, None, refl}
+use Rattle.std.proofs.Common.{sym, ap, ◌∙◌}
 use Rattle.std.proofs.lemmas.List.{append-nil}
 use Rattle.std.proofs.Math.Seq.{append_snoc}
-use Rattle.std.proofs.lemmas.Bool.{cases_Bool}
 use Rattle.poa_tree.specs.declared.node.Node.{Node}
 use Rattle.poa_tree.specs.Paths.{same_path}
 use Rattle.poa_tree.specs.Nodes.{node_at}
-use Rattle.poa_tree.specs.Walks.{Found, Live, Dying, Missing, walk_from, walk, adapter_met, child_met}
-use Rattle.poa_tree.specs.Trees.{In, IsTree, Stands, IsFreePath, IsMissingChild}
+use Rattle.poa_tree.specs.Walks.{Found, Live, Dying, Missing, walk_from, walk, adapter_met}
+use Rattle.poa_tree.specs.Trees.{In, IsTree, Stands, IsFreePath}
 use Rattle.poa_tree.proofs.Finding.{find_in, find_none, path_same, same_path_self}
 
 -- the adapter at a path

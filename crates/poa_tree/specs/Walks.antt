@@ -1,5 +1,5 @@
 -- The walk from the root along a key's path (CORBA 3.3 Part 1, section 15.2.3).
-use Rattle.std.specs.Prelude.{ℕ, suc, Bool, if◌then◌else◌, List, [], ◌∷◌, ◌++◌, take, length, Option, Some, None}
+use Rattle.std.specs.Prelude.{ℕ, suc, if◌then◌else◌, List, [], ◌∷◌, ◌++◌, take, length, Some, None}
 use Rattle.poa_tree.specs.declared.node.Node.{Node}
 use Rattle.poa_tree.specs.Nodes.{node_at}
 
