@@ -1,7 +1,8 @@
 use Rattle.std.proofs.Common.{◌≡◌, ℕ, true, List, [], ◌∷◌, ◌++◌, length, Some, None, if◌then◌else◌, sym, ap}
 use Rattle.poa_tree.specs.declared.node.Node.{Node}
 use Rattle.poa_tree.specs.Nodes.{node_at}
-use Rattle.poa_tree.specs.Walks.{Live, Dying, Missing, walk_from}
+use Rattle.poa_tree.specs.declared.found.Found.TheVariants.{Live, Dying, Missing}
+use Rattle.poa_tree.specs.Walks.{walk_from}
 use Rattle.poa_tree.proofs.lookups.+walk_from.Goals as goal
 
 -- the walk ends where it meets an adapter that is being destroyed
