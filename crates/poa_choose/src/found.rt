@@ -76,9 +76,7 @@ fn object(facts: Facts) -> Choice
 fn unmade(facts: &Facts) -> bool
     ensures { result ≡ the_unmade facts.now }
 {
-    is_retain(facts.policies.retention)
-        && is_system_id(facts.policies.assignment)
-        && facts.bad_id
+    is_retain(facts.policies.retention) && is_system_id(facts.policies.assignment) && facts.bad_id
 }
 
 /// No active object has the id: CORBA 3.3 Part 1, section 15.3.7.6.
@@ -103,8 +101,8 @@ fn preset(facts: Facts) -> Choice
     ensures { result ≡ default_rows facts facts.preset }
 {
     let refusal = refuse(&facts, ExcName::ObjAdapter, OMG + 3);
-    let locate = facts.locate;
-    match facts.preset {
+    let Facts { locate, preset, .. } = facts;
+    match preset {
         None => refusal,
         Some(servant) => {
             if locate {
@@ -152,7 +150,8 @@ fn locator(facts: Facts) -> Choice
         return Choice::Go(Verdict::Here);
     }
     let refusal = refuse(&facts, ExcName::ObjectNotExist, OWN + 3);
-    match facts.located {
+    let Facts { located, .. } = facts;
+    match located {
         Located::Servant(servant) => Choice::Go(Verdict::Locator(servant)),
         Located::Forward(endpoint) => Choice::Go(Verdict::Forward(endpoint)),
         Located::Raise(exception) => Choice::Go(Verdict::Refuse(exception)),
