@@ -9,3 +9,5 @@ pub mod TrialMoves
 pub mod IdsMade
 pub mod StepMoves
 pub mod LegalSound
+pub mod ActsLater
+pub mod KeysSpelled

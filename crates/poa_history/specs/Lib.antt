@@ -20,3 +20,4 @@ pub mod Replies
 pub mod Legal
 pub mod Lifetime
 pub mod Sound
+pub mod Later
