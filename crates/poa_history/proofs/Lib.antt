@@ -8,4 +8,9 @@ pub mod CommandMoves
 pub mod TrialMoves
 pub mod IdsMade
 pub mod StepMoves
+pub mod ActsLater
+pub mod KeysSpelled
+pub mod TurnTells
+pub mod FlightsFrom
+pub mod IdsFew
 pub mod LegalSound

@@ -20,3 +20,5 @@ pub mod Replies
 pub mod Legal
 pub mod Lifetime
 pub mod Sound
+pub mod Bounds
+pub mod Later
