@@ -1,0 +1,17 @@
+//! What stands after a history, computed plainly from its definition: calls and their arrivals, what each
+//! worker has begun, what the configuration says, and the adapters, requests in flight and activations.
+//! Each function asks the whole history again, the oldest entry first; none keeps a table.
+#![tactic(auto)]
+
+pub mod acts;
+pub mod calls;
+pub mod ends;
+pub mod flights;
+pub mod nodes;
+pub mod opening;
+mod standing;
+pub mod templates;
+pub mod walks;
+pub mod workers;
+
+pub use standing::Standing;
