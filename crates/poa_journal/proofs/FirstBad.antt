@@ -1,15 +1,16 @@
 -- Texts that begin alike are refused at the same line.
-use Rattle.std.proofs.Common.{◌≡◌, ℕ, ◌+◌, ◌-◌, ◌<◌, ◌≤◌, Bool, true, false, List, [], ◌∷◌, ◌++◌, length, map, take, Option, Some, None, Result, Ok, Err, refl, ap, sym, ◌∙◌, arith, suc, zero, subst, cond}
+use Rattle.std.proofs.Common.{◌≡◌, ℕ, ◌+◌, ◌-◌, ◌≤◌, Bool, true, false, List, [], ◌∷◌, map, take, Option, Some, None, Result, Ok, Err, refl, ap, sym, ◌∙◌, arith, suc, zero, subst, cond}
 use Rattle.poa_base.specs.declared.Entry.{Entry}
 use Rattle.poa_base.specs.declared.Journal.{Journal}
 use Rattle.poa_base.specs.declared.State.{State}
-use Rattle.poa_base.specs.Store.{Place, states}
+use Rattle.poa_base.specs.Store.{Place}
 use Rattle.text_words.specs.Cuts.{words_of}
 use Rattle.text_words.specs.Token.{spelled}
 use Rattle.poa_journal.specs.Journal.{journal_lines, IsJournal}
-use Rattle.poa_journal.specs.Reading.{entry_of}
-use Rattle.poa_journal.specs.Row.{row_behind}
-use Rattle.poa_journal.specs.Whole.{Front, is_above, row_above, put_row, after_row, row_words_of, at_line, rows_front, entry_at, put_entry, entries_of, head_of, run_of, numbered, with_entries, with_front, with_run, Contents, contents_of_lines, contents}
+use Rattle.journal_lines.specs.Reading.{entry_of}
+use Rattle.journal_lines.specs.Row.{row_behind}
+use Rattle.poa_journal.specs.Whole.{Front, is_above, row_above, put_row, after_row, at_line, rows_front, entry_at, put_entry, entries_of, head_of, run_of, numbered, with_entries, with_front, with_run, contents_of_lines}
+use Rattle.journal_lines.specs.Row.{row_words_of}
 use Rattle.poa_journal.proofs.PrintedBack.{journal_lines_back}
 
 entries_far_by : (n k : ℕ) (o : Option Entry) (more : Result (List Entry) ℕ) → ((j : ℕ) → more ≡ Err j → n + 1 ≤ j)

@@ -1,15 +1,15 @@
 -- Rows and entries that were read line by line.
 use Rattle.std.proofs.Common.{◌≡◌, ℕ, ◌+◌, ◌<◌, ◌≤◌, Bool, true, false, cond, List, [], ◌∷◌, ◌++◌, length, map, Option, Some, None, Result, Ok, Err, refl, ap, sym, ◌∙◌, arith, append_assoc, append-nil}
-use Rattle.std.proofs.lemmas.List.{map-append}
 use Rattle.poa_base.specs.declared.Entry.{Entry}
 use Rattle.poa_base.specs.declared.State.{State}
 use Rattle.poa_base.specs.Store.{Place, Slots, states, with_room, with_state}
 use Rattle.text_words.specs.Cuts.{lines_of, words_of}
 use Rattle.text_words.specs.Token.{spelled}
-use Rattle.poa_journal.specs.Entry.{entry_tokens}
-use Rattle.poa_journal.specs.Reading.{entry_of}
-use Rattle.poa_journal.specs.Row.{row_tokens, row_behind}
-use Rattle.poa_journal.specs.Whole.{Front, is_above, row_above, put_row, after_row, row_words_of, at_line, rows_front, entry_at, put_entry, entries_of}
+use Rattle.journal_lines.specs.Entry.{entry_tokens}
+use Rattle.journal_lines.specs.Reading.{entry_of}
+use Rattle.journal_lines.specs.Row.{row_tokens, row_behind}
+use Rattle.poa_journal.specs.Whole.{Front, is_above, row_above, put_row, after_row, at_line, rows_front, entry_at, put_entry, entries_of}
+use Rattle.journal_lines.specs.Row.{row_words_of}
 use Rattle.poa_journal.proofs.Stored.{IsEnd, states_stored, end_stored}
 
 abbrev pub behind_rows : List (Place × State) → Result Front ℕ → Result Front ℕ

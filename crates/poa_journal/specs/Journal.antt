@@ -1,14 +1,14 @@
 -- The text of a journal: a head line with the run, a line for each row of the opening store, and one for each entry.
-use Rattle.std.specs.Prelude.{◌≡◌, ℕ, ◌^◌, List, [], ◌∷◌, ◌++◌, map}
+use Rattle.std.specs.Prelude.{ℕ, ◌^◌, List, [], ◌∷◌, ◌++◌, map}
 use Rattle.std.specs.List.{AllByRecursion}
 use Rattle.poa_base.specs.declared.Journal.{Journal}
 use Rattle.poa_base.specs.declared.State.{State}
 use Rattle.poa_base.specs.Store.{Place, states}
 use Rattle.text_words.specs.Token.{Token, keyword, number, spelled, AllFit}
-use Rattle.poa_journal.specs.declared.fixed.Mark.TheVariants as mark
-use Rattle.poa_journal.specs.Fixed.{mark_word}
-use Rattle.poa_journal.specs.Row.{row_tokens}
-use Rattle.poa_journal.specs.Entry.{entry_tokens, IsWritten}
+use Rattle.journal_words.specs.declared.fixed.Mark.TheVariants as mark
+use Rattle.journal_words.specs.Fixed.{mark_word}
+use Rattle.journal_lines.specs.Row.{row_tokens}
+use Rattle.journal_lines.specs.Entry.{entry_tokens, IsWritten}
 
 -- `journal 1 run N`
 abbrev pub head_tokens : ℕ → List Token

@@ -6,17 +6,18 @@ ghost use Rattle.text_words.specs.Cuts.{lines_of, words_of};
 ghost use Rattle.std.specs.Str.{bytes_eq};
 ghost use Rattle.text_words.specs.Gives.{Gives};
 ghost use Rattle.text_words.specs.Token.{spelled, texts};
-ghost use Rattle.poa_journal.specs.Entry.{entry_tokens};
-ghost use Rattle.poa_journal.specs.Fixed.{mark_word};
+ghost use Rattle.journal_lines.specs.Entry.{entry_tokens};
+ghost use Rattle.journal_words.specs.Fixed.{mark_word};
 ghost use Rattle.poa_journal.specs.Journal.{head_tokens, journal_lines, journal_text, IsJournal};
-ghost use Rattle.poa_journal.specs.Reading.{entry_of};
-ghost use Rattle.poa_journal.specs.Row.{row_behind, row_tokens};
-ghost use Rattle.poa_journal.specs.Whole.{Reads, contents, contents_of, entries_of, entry_at as entry_at_of, expected, front_seen, head_of, is_above as is_above_of, row_above, row_words_of, rows_front, run_of};
+ghost use Rattle.journal_lines.specs.Reading.{entry_of};
+ghost use Rattle.journal_lines.specs.Row.{row_behind, row_tokens};
+ghost use Rattle.poa_journal.specs.Whole.{Reads, contents, contents_of, entries_of, entry_at as entry_at_of, front_seen, head_of, is_above as is_above_of, row_above, rows_front, run_of};
+ghost use Rattle.journal_words.specs.Fixed.{expected};
+ghost use Rattle.journal_lines.specs.Row.{row_words_of};
 
-use crate::entry::read_entry;
 use crate::fault::JournalFault;
-use crate::fixed::Mark;
-use crate::row::read_row;
+use journal_lines::{read_entry, read_row, row_words};
+use journal_words::{Mark, expect};
 use poa_base::{Entry, Items, Journal, Oid, Path, State, Store};
 use std::alloc::{AllocError, Global};
 use text_words::{WordFault, Worded, next_line, number32, words};
@@ -75,25 +76,6 @@ fn read_run(words: &[&[u8]]) -> Result<u32, WordFault>
     number32(number)
 }
 
-// The word that has to stand there.
-fn expect(mark: Mark, word: &[u8]) -> Result<(), WordFault>
-    ensures value { Gives result (expected mark word.now) }
-    ensures text { IfOk result (λ x. word.now ≡ mark_word mark) }
-{
-    if is_mark(mark, word) {
-        Ok(())
-    } else {
-        Err(WordFault::OutOfForm)
-    }
-}
-
-fn is_mark(mark: Mark, word: &[u8]) -> bool
-    ensures value { result ≡ bytes_eq (mark_word mark) word.now }
-    ensures text { result ≡ true → word.now ≡ mark_word mark }
-{
-    mark.word() == word
-}
-
 /// The store of the rows at the front of a text, with the text behind them and the number of its first line.
 #[derive(Drop)]
 struct Opening<'a> {
@@ -124,23 +106,6 @@ fn read_rows(alloc: Global, text: &[u8]) -> Result<Opening<'_>, JournalFault>
         rest = after;
     }
     Ok(Opening { store, line, rest })
-}
-
-// The words behind `store`, where a line is that of a row.
-fn row_words<'a>(words: &'a [&'a [u8]]) -> Option<&'a [&'a [u8]]>
-    ensures value { option_map (λ ws. map (λ w. w.now) ws.now) result ≡ row_words_of (map (λ w. w.now) words.now) }
-    ensures text { IfSome result (λ ws. map (λ w. w.now) words.now ≡ mark_word Mark.Store ∷ map (λ w. w.now) ws.now) }
-{
-    match words {
-        [word, rest @ ..] => {
-            if is_mark(Mark::Store, word) {
-                Some(rest)
-            } else {
-                None
-            }
-        }
-        [] => None,
-    }
 }
 
 // The row of a line, where it stands above the last.

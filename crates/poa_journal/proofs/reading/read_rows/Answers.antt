@@ -1,12 +1,12 @@
-use Rattle.std.proofs.Common.{◌≡◌, ◌∙◌, ◌∷◌, [], List, ℕ, sym, ap, map}
+use Rattle.std.proofs.Common.{◌≡◌, ◌∙◌, ◌∷◌, sym, ap, map}
 use Rattle.std.specs.FinMap as finite
 use Rattle.text_words.specs.Cuts.{words_of}
 use Rattle.text_words.specs.Token.{keyword, path, identity}
 use Rattle.text_words.proofs.Lines.{line_spelled}
-use Rattle.poa_journal.specs.declared.fixed.Mark.TheVariants as mark
-use Rattle.poa_journal.specs.Fixed.{mark_word}
-use Rattle.poa_journal.specs.Row.{state_tokens}
-use Rattle.poa_journal.specs.Whole.{row_words_of}
+use Rattle.journal_words.specs.declared.fixed.Mark.TheVariants as mark
+use Rattle.journal_words.specs.Fixed.{mark_word}
+use Rattle.journal_lines.specs.Row.{state_tokens}
+use Rattle.journal_lines.specs.Row.{row_words_of}
 use Rattle.poa_journal.proofs.Stored.{end_empty, states_empty}
 use Rattle.poa_journal.proofs.Fronts.{rows_begin, rows_step}
 use Rattle.poa_journal.proofs.reading.read_rows.Goals as goal
