@@ -2,7 +2,7 @@ ghost use Rattle.std.specs.Prelude.{◌≡◌, ◌∷◌, ◌++◌, [], IfOk, On
 ghost use Rattle.text_words.specs.Gives.{Gives};
 ghost use Rattle.text_words.specs.Identity.{printed_id_of};
 ghost use Rattle.text_words.specs.Token.{tails, texts};
-ghost use Rattle.admin_answer.specs.Answer.{answer_behind, answer_of, answer_tokens, behind_ok, id_or_reference as id_or_reference_of, number_tokens, objection_in, objection_of, reason_behind, reason_of, reason_tokens, success_in, success_of, value_tokens};
+ghost use Rattle.admin_answer.specs.Answer.{answer_behind, answer_of, answer_tokens, behind_ok, id_or_reference as id_or_reference_of, objection_in, objection_of, reason_behind, reason_of, reason_tokens, success_in, value_tokens};
 ghost use Rattle.admin_answer.specs.Fixed.{objection_word, success_word};
 
 use crate::fixed::{Objection, Success};

@@ -1,6 +1,6 @@
-ghost use Rattle.std.specs.Prelude.{◌≡◌, ◌∷◌, ◌++◌, ◌^◌, [], IfOk, OnOk, map};
+ghost use Rattle.std.specs.Prelude.{◌≡◌, ◌∷◌, ◌++◌, [], IfOk, OnOk, map};
 ghost use Rattle.text_words.specs.Gives.{Gives};
-ghost use Rattle.text_words.specs.Token.{Token, spelled, tails, texts};
+ghost use Rattle.text_words.specs.Token.{spelled, tails, texts};
 ghost use Rattle.journal_lines.specs.Fixed.{flag_word, kind_word, removal_word};
 ghost use Rattle.journal_lines.specs.Entry.{body_tokens, entry_tokens, kind_in, n32, n64};
 ghost use Rattle.text_words.specs.Parts.{only};

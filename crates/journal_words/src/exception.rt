@@ -1,6 +1,6 @@
-ghost use Rattle.std.specs.Prelude.{◌≡◌, ◌∷◌, ◌++◌, [], IfOk, OnOk, map};
+ghost use Rattle.std.specs.Prelude.{◌≡◌, ◌++◌, IfOk, OnOk, map};
 ghost use Rattle.text_words.specs.Gives.{Gives};
-ghost use Rattle.text_words.specs.Token.{Token, tails, texts};
+ghost use Rattle.text_words.specs.Token.{tails, texts};
 ghost use Rattle.journal_words.specs.Fixed.{exception_word};
 ghost use Rattle.journal_words.specs.Exception.{completion_of, exception_name_of, exception_of, exception_tokens};
 

@@ -7,7 +7,7 @@ use Rattle.poa_base.specs.declared.State.{State}
 use Rattle.poa_base.specs.Store.{Place, place_cmp, states}
 use Rattle.text_words.specs.Cuts.{lines_of, words_of}
 use Rattle.text_words.specs.Number.{number_of}
-use Rattle.poa_journal.specs.declared.reading.Opening.{Opening}
+use Rattle.poa_journal.specs.declared.rows.Opening.{Opening}
 use Rattle.poa_journal.specs.declared.fault.JournalFault.{JournalFault}
 use Rattle.poa_journal.specs.declared.fault.JournalFault.TheVariants.{BadLine, WantMemory}
 use Rattle.text_words.specs.Chain.{◌>>=◌}
@@ -104,6 +104,23 @@ contents_of_lines (l ∷ ls) = with_run ls (head_of (words_of l))
 
 abbrev pub contents_of : List ℕ → Result Contents ℕ
 contents_of text = contents_of_lines (lines_of text)
+
+-- no line is left
+abbrev pub no_line : ℕ → List (List ℕ) → Result (Unit {0}) ℕ
+no_line k [] = Ok tt
+no_line k (l ∷ ls) = Err k
+
+abbrev pub with_rows : List (Place × State) → Result (Unit {0}) ℕ → Result (List (Place × State)) ℕ
+with_rows rows (Err k) = Err k
+with_rows rows (Ok u) = Ok rows
+
+abbrev pub all_rows : Result Front ℕ → Result (List (Place × State)) ℕ
+all_rows (Err k) = Err k
+all_rows (Ok front) = with_rows front.0 (no_line front.1 front.2)
+
+-- the rows of a text that has nothing else
+abbrev pub rows_of : List ℕ → Result (List (Place × State)) ℕ
+rows_of text = all_rows (rows_front 1 None (lines_of text))
 
 abbrev pub front_seen : Opening → Front
 front_seen front = (states front.store, front.line, lines_of front.rest.now)

@@ -43,7 +43,7 @@ fn head_line(alloc: Global, run: u32) -> Result<Vec<u8>, WantMemory>
     Ok(out)
 }
 
-fn put_rows(out: &mut Vec<u8>, rows: &[Row]) -> Result<(), WantMemory>
+pub(crate) fn put_rows(out: &mut Vec<u8>, rows: &[Row]) -> Result<(), WantMemory>
     ensures { OnOk result (out.new.items ≡ out.old.items ++ text_of (map row_tokens (map row_seen rows.entry.now))) }
 {
     for row in rows {
