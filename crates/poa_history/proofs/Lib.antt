@@ -19,3 +19,6 @@ pub mod DyingIs
 pub mod GoneIs
 pub mod TableRuns
 pub mod Served
+pub mod ActsFrom
+pub mod CommandTells
+pub mod AloneKept

@@ -1,5 +1,5 @@
 -- Of what there is at most one in an adapter.
-use Rattle.std.specs.Prelude.{◌≡◌, ℕ, true, None}
+use Rattle.std.specs.Prelude.{◌≡◌, ℕ, true, List, Some, None}
 use Rattle.poa_base.specs.declared.Config.{Config}
 use Rattle.poa_base.specs.declared.Sid.{Sid}
 use Rattle.poa_base.specs.declared.Sid.TheVariants.{Fresh as FreshServant}
@@ -9,8 +9,9 @@ use Rattle.poa_history.specs.declared.flight.Flight.{Flight}
 use Rattle.poa_history.specs.declared.act.Act.{Act}
 use Rattle.poa_history.specs.declared.act.Phase.TheVariants.{Complete}
 use Rattle.poa_tree.specs.Trees.{In}
-use Rattle.poa_history.specs.Templates.{policies_at, is_unique}
+use Rattle.poa_history.specs.Templates.{policies_at, is_unique, servant_number, servant_name}
 use Rattle.poa_history.specs.Standings.{Standing, is_mapped}
+use Rattle.poa_history.specs.Opening.{opening}
 use Rattle.poa_history.specs.Situations.{is_unfinished}
 
 -- under SINGLE_THREAD_MODEL at most one request is in flight in an adapter (CORBA 3.3 Part 1, section 15.3.8.4)
@@ -32,3 +33,14 @@ IsMappedAlone c s =
 -- a fresh servant is that of its activation
 abbrev pub OwnsFresh : Standing → Type 0
 OwnsFresh s = (a : Act) (m : ℕ) → In a s.acts → a.phase ≡ Complete (FreshServant m) → m ≡ a.number
+
+pub record StandsAlone (c : Config) (s : Standing) : Type 0 where
+  pub running : RunsAlone c s
+  pub changing : ChangesAlone c s
+  pub mapped : IsMappedAlone c s
+  pub fresh : OwnsFresh s
+
+-- what a run is given, so far as it bears on this: it holds of the configured objects, and a name is that of one servant
+pub record IsGivenAlone (c : Config) (run : ℕ) : Type 0 where
+  pub mapped : IsMappedAlone c (opening c run)
+  pub named : (k : ℕ) (name : List ℕ) → servant_name c k ≡ Some name → servant_number c name ≡ Some k

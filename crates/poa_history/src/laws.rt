@@ -6,6 +6,7 @@ ghost use Rattle.poa_base.specs.declared.Key.{Key};
 ghost use Rattle.poa_tree.specs.declared.node.Node.{Node};
 ghost use Rattle.poa_tree.specs.Trees.{In};
 ghost use Rattle.object_key.specs.Spelling.{key_spelling, IsKey};
+ghost use Rattle.poa_history.specs.Alone.{IsGivenAlone, StandsAlone};
 ghost use Rattle.poa_history.specs.Bounds.{IsWithinLimits, HasFewIds};
 ghost use Rattle.poa_history.specs.Changes.{standing};
 ghost use Rattle.poa_history.specs.Legal.{IsLegal};
@@ -57,4 +58,11 @@ pub fn gone_have_ended()
     ensures ends { (c : Config) (run : ℕ) (s : Standing) → IsSound c run s → (n : Node) → In n s.nodes → (is_gone c s n.number ≡ true → IsEnded c s n) × (IsEnded c s n → is_gone c s n.number ≡ true) }
     ensures stays { (c : Config) (run limit : ℕ) (h : List Entry) → IsGiven c run → IsWithinLimits c limit → IsLegal c run limit h → (n : Node) → In n (standing c run h).nodes → is_root n.path ≡ false → is_gone c (standing c run h) n.number ≡ false }
     ensures emptied { (c : Config) (run limit : ℕ) (h : List Entry) → IsGiven c run → IsWithinLimits c limit → IsLegal c run limit h → (k : ℕ) → is_gone c (standing c run h) k ≡ true → IsEmptied c (standing c run h) k }
+{}
+
+/// After a legal history at most one incarnation or etherealization is unfinished in an adapter; under
+/// UNIQUE_ID a servant is in the map of an adapter by at most one activation; under SINGLE_THREAD_MODEL at
+/// most one request is in flight in an adapter; and a fresh servant is that of its activation.
+pub fn one_at_a_time()
+    ensures { (c : Config) (run limit : ℕ) (h : List Entry) → IsGiven c run → IsGivenAlone c run → IsWithinLimits c limit → IsLegal c run limit h → StandsAlone c (standing c run h) }
 {}
