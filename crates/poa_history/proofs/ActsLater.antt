@@ -74,21 +74,21 @@ module _ (c : Config) where
     finished = λ is. two.finished (one.finished is);
   }
 
-  later_ended : (etherealize : Bool) (a : Act) → IsLater c a (ended_by_destroy etherealize a)
+  pub later_ended : (etherealize : Bool) (a : Act) → IsLater c a (ended_by_destroy etherealize a)
   later_ended etherealize a =
       let quiet_kept : a.quiet ≡ true → (a.quiet || (not a.ending && not etherealize)) ≡ true = or_first a.quiet (not a.ending && not etherealize) in
       record { number = refl; adapter = refl; path = refl; oid = refl; served = λ s is. is; void = λ is. is; ending = λ _. refl; quiet = quiet_kept; out = λ is. is; etherealized = λ is. is; finished = finished_by a (ended_by_destroy etherealize a) refl (λ is. is) quiet_kept (λ is. is) }
 
-  later_ending : (a : Act) → IsLater c a (record a { ending = true })
+  pub later_ending : (a : Act) → IsLater c a (record a { ending = true })
   later_ending a = record { number = refl; adapter = refl; path = refl; oid = refl; served = λ s is. is; void = λ is. is; ending = λ _. refl; quiet = λ is. is; out = λ is. is; etherealized = λ is. is; finished = λ is. is }
 
-  later_out : (a : Act) (other : Bool) → IsLater c a (record a { out = true; remaining = other })
+  pub later_out : (a : Act) (other : Bool) → IsLater c a (record a { out = true; remaining = other })
   later_out a other = record { number = refl; adapter = refl; path = refl; oid = refl; served = λ s is. is; void = λ is. is; ending = λ is. is; quiet = λ is. is; out = λ _. refl; etherealized = λ is. is; finished = finished_by a (record a { out = true; remaining = other }) refl (λ _. refl) (λ is. is) (λ is. is) }
 
-  later_told : (a : Act) → IsLater c a (record a { etherealized = true })
+  pub later_told : (a : Act) → IsLater c a (record a { etherealized = true })
   later_told a = record { number = refl; adapter = refl; path = refl; oid = refl; served = λ s is. is; void = λ is. is; ending = λ is. is; quiet = λ is. is; out = λ is. is; etherealized = λ _. refl; finished = finished_by a (record a { etherealized = true }) refl (λ is. is) (λ is. is) (λ _. refl) }
 
-  later_come : (phase : Phase) (a : Act) → IsLater c a (come_to phase a)
+  pub later_come : (phase : Phase) (a : Act) → IsLater c a (come_to phase a)
   later_come phase a =
       cond_both (is_begun a) (record a { phase = phase }) a (IsLater c a)
       (λ begun. (let at : a.phase ≡ Begun = begun_phase a.phase begun in record {
@@ -106,7 +106,7 @@ module _ (c : Config) where
       }))
       (λ _. later_self a)
 
-  later_let_out : (s : Standing) (a : Act) → IsLater c a (let_out c s a)
+  pub later_let_out : (s : Standing) (a : Act) → IsLater c a (let_out c s a)
   later_let_out s a = cond_both (is_left c s a) (record a { out = true }) a (IsLater c a) (λ _. later_out a a.remaining) (λ _. later_self a)
 
   later_where : (test : Act → Bool) (f : Act → Act) → ((a : Act) → IsLater c a (f a)) → (a : Act) → IsLater c a (if test a then f a else a)

@@ -381,7 +381,7 @@ module _ (c : Config) (run : ℕ) where
   made_opening = (let all = made_objects c.objects (with_boots c.adapters root_alone) in let none = made_boots c.adapters root_alone in omega (arith, all, none))
 
 module _ (c : Config) (run limit : ℕ) where
-  messages : (h : List Entry) → IsLegal c run limit h → AreMessages c run h
+  pub messages : (h : List Entry) → IsLegal c run limit h → AreMessages c run h
   messages [] legal = λ f there. absurd (no_flights f there)
     where
       flights_boots : (as' : List AdapterConf) (s : Standing) → (with_boots as' s).flights ≡ s.flights

@@ -14,3 +14,11 @@ pub mod TurnTells
 pub mod FlightsFrom
 pub mod IdsFew
 pub mod LegalSound
+pub mod NodesFrom
+pub mod DyingIs
+pub mod GoneIs
+pub mod TableRuns
+pub mod Served
+pub mod ActsFrom
+pub mod CommandTells
+pub mod AloneKept

@@ -22,3 +22,5 @@ pub mod Lifetime
 pub mod Sound
 pub mod Bounds
 pub mod Later
+pub mod Destroyed
+pub mod Alone
