@@ -5,8 +5,13 @@
 
 pub mod acts;
 pub mod calls;
+mod changes;
+pub mod commands;
+mod ending;
 pub mod ends;
 pub mod flights;
+mod flying;
+pub mod keys;
 pub mod nodes;
 pub mod opening;
 mod standing;
@@ -14,4 +19,5 @@ pub mod templates;
 pub mod walks;
 pub mod workers;
 
+pub use changes::standing_of;
 pub use standing::Standing;

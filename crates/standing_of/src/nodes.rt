@@ -1,10 +1,11 @@
 //! The adapters that stand. A path is its names.
-ghost use Rattle.std.specs.Prelude.{◌≡◌, ◌==◌, ◌&&◌, find, option_copied};
+ghost use Rattle.std.specs.Prelude.{◌≡◌, ◌==◌, ◌&&◌, ◌++◌, ◌∷◌, [], IfOk, find, option_copied};
 ghost use Rattle.poa_tree.specs.Paths as paths;
 ghost use Rattle.poa_tree.specs.Nodes as tree;
 
-use poa_base::Name;
+use poa_base::{Name, WantMemory};
 use poa_tree::Node;
+use std::alloc::Global;
 
 /// Whether the first path is the second, or one above it.
 pub fn leads_to(path: &[Name], other: &[Name]) -> bool
@@ -55,4 +56,24 @@ pub fn node_numbered(nodes: &[Node], number: u32) -> Option<&Node>
     ensures { option_copied result ≡ find (λ n. n.number == number) nodes.now }
 {
     nodes.iter().find(|node| node.number == number)
+}
+
+/// The same names.
+pub fn copied(alloc: Global, path: &[Name]) -> Result<Vec<Name>, WantMemory>
+    ensures { IfOk result (λ names. names.items ≡ path.now) }
+{
+    let mut names = Vec::new(alloc);
+    for name in path {
+        names.push(name.clone()?)?;
+    }
+    Ok(names)
+}
+
+/// The names, and one more behind them.
+pub fn longer(alloc: Global, path: &[Name], name: &Name) -> Result<Vec<Name>, WantMemory>
+    ensures { IfOk result (λ names. names.items ≡ path.now ++ name.now ∷ []) }
+{
+    let mut names = copied(alloc, path)?;
+    names.push(name.clone()?)?;
+    Ok(names)
 }

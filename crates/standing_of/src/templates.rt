@@ -1,9 +1,9 @@
 //! What the configuration says of an adapter, a manager and a servant. A path is its names.
-ghost use Rattle.std.specs.Prelude.{◌≡◌, ◌<◌, [], ◌∷◌, None, IfSome, codes, option_copied, is_some, position};
+ghost use Rattle.std.specs.Prelude.{◌≡◌, ◌<◌, [], ◌∷◌, None, IfOk, IfSome, codes, option_copied, is_some, position};
 ghost use Rattle.poa_tree.specs.Paths.{same_bytes};
 ghost use Rattle.poa_history.specs.Templates as configured;
 
-use poa_base::{AdapterConf, Children, Config, Name, Policy, PolicySet, RuleConf};
+use poa_base::{AdapterConf, Children, Config, Name, Policy, PolicySet, RuleConf, WantMemory};
 
 /// The policies of the root.
 const ROOT: PolicySet = PolicySet {
@@ -194,8 +194,8 @@ pub fn manager_number(config: &Config, name: &Name) -> Option<usize>
     }
 }
 
-/// The number of a servant.
-pub fn servant_number(config: &Config, name: &Name) -> Option<usize>
+/// The place of a servant.
+fn servant_place(config: &Config, name: &Name) -> Option<usize>
     ensures { result ≡ configured.servant_number config.now name.now }
 {
     config
@@ -203,6 +203,16 @@ pub fn servant_number(config: &Config, name: &Name) -> Option<usize>
         .as_slice()
         .iter()
         .position(|servant| servant.name == *name)
+}
+
+/// The number of a servant.
+pub fn servant_number(config: &Config, name: &Name) -> Result<Option<u32>, WantMemory>
+    ensures { IfOk result (λ number. number ≡ configured.servant_number config.now name.now) }
+{
+    match servant_place(config, name) {
+        Some(place) => Ok(Some(u32::try_from(place).map_err(|_| WantMemory)?)),
+        None => Ok(None),
+    }
 }
 
 /// The name of a servant.

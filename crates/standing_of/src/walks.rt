@@ -1,11 +1,12 @@
 //! The walk from the root along a path.
-ghost use Rattle.std.specs.Prelude.{◌≡◌, ◌++◌, ◌∷◌, [], IfOk, if◌then◌else◌, length, take};
+ghost use Rattle.std.specs.Prelude.{◌≡◌, IfOk, if◌then◌else◌, length, take};
 ghost use Rattle.poa_tree.specs.Walks as walks;
 ghost use Rattle.standing_of.specs.Seen.{met};
 
-use crate::nodes::node_at;
+use crate::nodes::{longer, node_at};
 use poa_base::{Name, WantMemory};
 use poa_tree::Node;
+use std::alloc::Global;
 
 /// What a walk met.
 #[derive(Clone, Copy, Debug, PartialEq, Eq, Drop)]
@@ -19,7 +20,7 @@ pub enum Met {
 }
 
 /// From an adapter along the rest of the path.
-fn walk_from(nodes: &[Node], here: &Node, rest: &[Name]) -> Result<Met, WantMemory>
+fn walk_from(alloc: Global, nodes: &[Node], here: &Node, rest: &[Name]) -> Result<Met, WantMemory>
     ensures { IfOk result (λ m. met m ≡ walks.walk_from nodes.now here.now rest.now) }
 {
     match rest {
@@ -28,8 +29,8 @@ fn walk_from(nodes: &[Node], here: &Node, rest: &[Name]) -> Result<Met, WantMemo
             if here.dying {
                 return Ok(Met::Dying(here.number));
             }
-            match node_at(nodes, &child_of(here, name)?) {
-                Some(node) => walk_from(nodes, node, rest),
+            match node_at(nodes, &longer(alloc, here.path.as_slice(), name)?) {
+                Some(node) => walk_from(alloc, nodes, node, rest),
                 None => Ok(missing(here)),
             }
         }
@@ -47,15 +48,6 @@ fn arrived(here: &Node) -> Met
     }
 }
 
-/// The path of the child of this name.
-fn child_of(here: &Node, name: &Name) -> Result<Vec<Name>, WantMemory>
-    ensures { IfOk result (λ path. path.items ≡ here.now.path ++ name.now ∷ []) }
-{
-    let mut path = here.path.clone()?.into_vec();
-    path.push(name.clone()?)?;
-    Ok(path)
-}
-
 /// A child of the adapter is missing.
 fn missing(here: &Node) -> Met
     ensures { met result ≡ walks.Missing here.now.number (length here.now.path) }
@@ -64,11 +56,11 @@ fn missing(here: &Node) -> Met
 }
 
 /// The walk from the root along a path.
-pub fn walk(nodes: &[Node], path: &[Name]) -> Result<Met, WantMemory>
+pub fn walk(alloc: Global, nodes: &[Node], path: &[Name]) -> Result<Met, WantMemory>
     ensures { IfOk result (λ m. met m ≡ walks.walk nodes.now path.now) }
 {
     match node_at(nodes, &[]) {
-        Some(root) => walk_from(nodes, root, path),
+        Some(root) => walk_from(alloc, nodes, root, path),
         None => Ok(Met::Missing(0, 0)),
     }
 }

@@ -1,0 +1,16 @@
+//! The verdict on an arrival and the next entry of a worker, computed plainly and slowly from their
+//! definitions, with the next reply of a connection and the first entry of a history that isn't legal.
+//! They keep nothing: each asks the whole history again. Tests and the audit of journals compare with them.
+#![tactic(auto)]
+
+mod commands;
+mod facts;
+mod logs;
+mod references;
+mod rules;
+mod table;
+mod turns;
+mod verdicts;
+
+pub use turns::slow_next;
+pub use verdicts::slow_verdict;

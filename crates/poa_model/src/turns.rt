@@ -1,0 +1,230 @@
+//! The next entry of a worker: what it has begun goes on, else a removal that is due, else the next
+//! arrival is admitted.
+ghost use Rattle.std.specs.Prelude.{◌≡◌, ◌&&◌, find, not, reverse, option_copied, IfOk};
+ghost use Rattle.poa_history.specs.declared.stage.Stage.TheVariants.{Free};
+ghost use Rattle.poa_history.specs.Standings as stands;
+ghost use Rattle.poa_history.specs.Templates as configured;
+ghost use Rattle.poa_history.specs.Turns as turns;
+ghost use Rattle.standing_of.specs.Seen.{seen};
+
+use crate::facts::is_changing;
+use crate::rules::brought;
+use crate::verdicts::slow_verdict;
+use poa_base::{Attempt, Children, Config, Entry, Name, Store, WantMemory};
+use poa_history::{Act, Flight, Stage};
+use poa_tree::Node;
+use standing_of::Standing;
+use standing_of::acts::{is_complete, is_ending};
+use standing_of::calls::arrivals;
+use standing_of::flights::is_used;
+use standing_of::nodes::node_numbered;
+use standing_of::standing_of;
+use standing_of::templates::{children_at, has_activator, has_template};
+use standing_of::workers::{admitted, stage};
+use std::alloc::Global;
+
+/// What is in flight for an arrival.
+fn flight_of(standing: &Standing, arrival: u64) -> Option<&Flight>
+    ensures { option_copied result ≡ turns.flight_of (seen standing.now) arrival }
+{
+    standing
+        .flights
+        .iter()
+        .find(|flight| flight.arrival == arrival)
+}
+
+/// The activation of a number.
+pub fn act_numbered(standing: &Standing, number: u32) -> Option<&Act>
+    ensures { option_copied result ≡ turns.act_numbered (seen standing.now) number }
+{
+    standing.acts.iter().find(|act| act.number == number)
+}
+
+/// What an adapter activator answers for a child, where its parent lives.
+fn attempt_by(config: &Config, standing: &Standing, children: Option<Children>, child: &[Name]) -> Attempt
+    ensures { result ≡ turns.attempt_by config.now (seen standing.now) children child.now }
+{
+    match children {
+        Some(Children::Raise) => Attempt::Raised,
+        Some(Children::Create) => {
+            if has_template(config, child) && standing.count < 65536 {
+                Attempt::Yes {
+                    number: standing.count,
+                }
+            } else {
+                Attempt::No
+            }
+        }
+        Some(Children::Refuse) | None => Attempt::No,
+    }
+}
+
+fn attempt_at(config: &Config, standing: &Standing, parent: Option<&Node>, child: &[Name]) -> Attempt
+    ensures { result ≡ turns.attempt_at config.now (seen standing.now) (option_copied parent.entry) child.now }
+{
+    match parent {
+        Some(parent) => {
+            if parent.dying {
+                Attempt::Dying
+            } else {
+                attempt_by(config, standing, children_at(config, parent.path.as_slice()), child)
+            }
+        }
+        None => Attempt::Dying,
+    }
+}
+
+/// What the adapter activator answers for the child that is tried.
+fn attempt(config: &Config, standing: &Standing, arrival: u64) -> Attempt
+    ensures { result ≡ turns.attempt config.now (seen standing.now) arrival }
+{
+    let Some(flight) = flight_of(standing, arrival) else {
+        return Attempt::No;
+    };
+    match &flight.child {
+        Some(child) => {
+            let parent = node_numbered(&standing.nodes, flight.adapter);
+            attempt_at(config, standing, parent, child.as_slice())
+        }
+        None => Attempt::No,
+    }
+}
+
+/// The servant activator's answer.
+fn incarnation_entry(config: &Config, standing: &Standing, worker: u32, number: u32) -> Result<Option<Entry>, WantMemory>
+    ensures { IfOk result (λ entry. entry ≡ turns.incarnation_entry config.now (seen standing.now) worker number) }
+{
+    match act_numbered(standing, number) {
+        Some(act) => Ok(Some(Entry::Incarnated {
+            worker,
+            answer: brought(config, standing, act)?,
+        })),
+        None => Ok(None),
+    }
+}
+
+fn removal_entry(standing: &Standing, worker: u32, number: u32) -> Option<Entry>
+    ensures { result ≡ turns.removal_entry (seen standing.now) worker number }
+{
+    match act_numbered(standing, number) {
+        Some(act) => Some(Entry::Etherealized {
+            worker,
+            cleanup: act.cleanup,
+            remaining: act.remaining,
+        }),
+        None => None,
+    }
+}
+
+/// What a worker has begun goes on.
+fn going_on(config: &Config, standing: &Standing, worker: u32, stage: Stage) -> Result<Option<Entry>, WantMemory>
+    ensures { IfOk result (λ entry. entry ≡ turns.going_on config.now (seen standing.now) worker stage) }
+{
+    match stage {
+        Stage::Trying(arrival) => Ok(Some(Entry::Tried {
+            worker,
+            answer: attempt(config, standing, arrival),
+        })),
+        Stage::Incarnating(_, number) => incarnation_entry(config, standing, worker, number),
+        Stage::Serving(_) => Ok(Some(Entry::Run { worker })),
+        Stage::Ran(_) => Ok(Some(Entry::Done { worker })),
+        Stage::Removing(number) => Ok(removal_entry(standing, worker, number)),
+        Stage::Free => Ok(None),
+    }
+}
+
+/// Whether the servant activator is to be told of an activation that is ending.
+fn is_told(config: &Config, act: &Act) -> bool
+    ensures { result ≡ stands.is_complete act.now && (stands.is_ending act.now && (configured.has_activator config.now act.now.path && not act.now.out)) }
+{
+    is_complete(act) && (is_ending(act) && (has_activator(config, act.path.as_slice()) && !act.out))
+}
+
+/// Whether an activation is to be taken out.
+fn is_due(config: &Config, standing: &Standing, act: &Act) -> bool
+    ensures { result ≡ turns.is_due config.now (seen standing.now) act.now }
+{
+    is_told(config, act)
+        && (!is_used(&standing.flights, act.number)
+            && !is_changing(config, &standing.acts, act.adapter))
+}
+
+/// The least activation that is due is taken out.
+fn removal(config: &Config, standing: &Standing, worker: u32) -> Option<Entry>
+    ensures { result ≡ turns.removal config.now (seen standing.now) worker }
+{
+    match first_due(config, standing) {
+        Some(act) => Some(Entry::TakeOut {
+            worker,
+            activation: act.number,
+            etherealize: !act.quiet,
+        }),
+        None => None,
+    }
+}
+
+/// The least activation that is due.
+fn first_due<'a>(config: &Config, standing: &'a Standing) -> Option<&'a Act>
+    ensures { option_copied result ≡ find (turns.is_due config.now (seen standing.now)) standing.now.acts.items }
+{
+    standing
+        .acts
+        .iter()
+        .find(|act| is_due(config, standing, act))
+}
+
+/// The Admit of an arrival that is ready for the worker.
+fn admission_of(alloc: Global, config: &Config, run: u32, store: &Store, history: &[Entry], worker: u32, arrival: u64) -> Result<Option<Entry>, WantMemory>
+    ensures { IfOk result (λ entry. entry ≡ turns.admission_of config.now run (reverse history.now) worker arrival) }
+{
+    if admitted(history, arrival).is_some() {
+        return Ok(None);
+    }
+    match slow_verdict(alloc, config, run, store, history, arrival, worker)? {
+        Some(verdict) => Ok(Some(Entry::Admit {
+            worker,
+            arrival,
+            verdict,
+        })),
+        None => Ok(None),
+    }
+}
+
+/// The least arrival that is ready is admitted.
+fn admission(alloc: Global, config: &Config, run: u32, store: &Store, history: &[Entry], worker: u32) -> Result<Option<Entry>, WantMemory>
+    ensures { IfOk result (λ entry. entry ≡ turns.admission config.now run (reverse history.now) worker) }
+{
+    let mut found = None;
+    for arrival in 0..arrivals(history) {
+        if found.is_none() {
+            found = admission_of(alloc, config, run, store, history, worker, arrival)?;
+        }
+    }
+    Ok(found)
+}
+
+/// The next entry of a worker that has begun nothing.
+fn next_free(alloc: Global, config: &Config, run: u32, store: &Store, history: &[Entry], worker: u32) -> Result<Option<Entry>, WantMemory>
+    ensures { IfOk result (λ entry. entry ≡ turns.next_of config.now run (reverse history.now) worker Free) }
+{
+    let standing = standing_of(alloc, config, run, history)?;
+    match removal(config, &standing, worker) {
+        Some(entry) => Ok(Some(entry)),
+        None => admission(alloc, config, run, store, history, worker),
+    }
+}
+
+/// The entry that a worker makes next after a history that stands oldest first; none where it has
+/// nothing to do.
+#[tactic(auto, unfolding(poa_history::specs::Turns::turn))]
+pub fn slow_next(alloc: Global, config: &Config, run: u32, store: &Store, history: &[Entry], worker: u32) -> Result<Option<Entry>, WantMemory>
+    ensures { IfOk result (λ entry. entry ≡ turns.turn config.now run (reverse history.now) worker) }
+{
+    match stage(history, worker) {
+        Stage::Free => next_free(alloc, config, run, store, history, worker),
+        begun => {
+            let standing = standing_of(alloc, config, run, history)?;
+            going_on(config, &standing, worker, begun)
+        }
+    }
+}

@@ -1,0 +1,37 @@
+//! Why a script isn't played to its end.
+use conf_toml::ConfFault;
+use poa_base::WantMemory;
+use std::alloc::AllocFailed;
+use text_words::WordFault;
+
+/// Why a script isn't played to its end.
+#[derive(Clone, Copy, Debug, PartialEq, Eq, Drop)]
+pub enum Fault {
+    /// A line or a configuration that is none.
+    Script,
+    WantMemory,
+}
+
+impl From<WantMemory> for Fault {
+    fn from(_: WantMemory) -> Self {
+        Fault::WantMemory
+    }
+}
+
+impl From<WordFault> for Fault {
+    fn from(_: WordFault) -> Self {
+        Fault::Script
+    }
+}
+
+impl From<ConfFault> for Fault {
+    fn from(_: ConfFault) -> Self {
+        Fault::Script
+    }
+}
+
+impl<T: Drop> From<AllocFailed<T>> for Fault {
+    fn from(_: AllocFailed<T>) -> Self {
+        Fault::WantMemory
+    }
+}

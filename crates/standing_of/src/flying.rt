@@ -1,0 +1,118 @@
+//! What an entry begins and ends in flight.
+ghost use Rattle.std.specs.Prelude.{◌≡◌, ◌==◌, filter, find, not, IfOk, OnOk, option_copied};
+ghost use Rattle.poa_history.specs.Changes as changes;
+ghost use Rattle.standing_of.specs.Seen.{seen};
+
+use crate::nodes::copied;
+use crate::opening::add_act;
+use crate::standing::Standing;
+use crate::walks::{adapter_met, child_met, walk};
+use poa_base::{Key, Name, Path, Verdict, WantMemory};
+use poa_history::{Flight, Phase};
+use std::alloc::Global;
+
+/// A request is admitted to the adapter of its key.
+fn add_request(alloc: Global, standing: &mut Standing, arrival: u64, key: &Key, activation: Option<u32>) -> Result<(), WantMemory>
+    ensures { OnOk result (seen standing.new ≡ changes.with_request arrival key.now activation (seen standing.old)) }
+{
+    let adapter = adapter_met(walk(alloc, &standing.nodes, key.path.as_slice())?);
+    standing.flights.push(Flight {
+        arrival,
+        adapter,
+        activation,
+        child: None,
+    })?;
+    Ok(())
+}
+
+/// A path of these names.
+fn path_of(alloc: Global, names: &[Name]) -> Result<Path, WantMemory>
+    ensures { IfOk result (λ path. path ≡ names.now) }
+{
+    Path::from_vec(copied(alloc, names)?).ok_or(WantMemory)
+}
+
+/// An adapter activator is asked for the missing child.
+fn add_trial(alloc: Global, standing: &mut Standing, arrival: u64, key: &Key) -> Result<(), WantMemory>
+    ensures { OnOk result (seen standing.new ≡ changes.with_trial arrival key.now (seen standing.old)) }
+{
+    let found = walk(alloc, &standing.nodes, key.path.as_slice())?;
+    let child = path_of(alloc, child_met(found, key.path.as_slice()))?;
+    standing.flights.push(Flight {
+        arrival,
+        adapter: adapter_met(found),
+        activation: None,
+        child: Some(child),
+    })?;
+    Ok(())
+}
+
+/// A request is admitted, and its activation begun.
+fn add_incarnation(alloc: Global, standing: &mut Standing, arrival: u64, key: &Key) -> Result<(), WantMemory>
+    ensures { OnOk result (seen standing.new ≡ changes.with_incarnation arrival key.now (seen standing.old)) }
+{
+    let number = u32::try_from(standing.acts.len()).map_err(|_| WantMemory)?;
+    let adapter = adapter_met(walk(alloc, &standing.nodes, key.path.as_slice())?);
+    add_request(alloc, standing, arrival, key, Some(number))?;
+    add_act(standing, adapter, &key.path, &key.oid, Phase::Begun)
+}
+
+/// What the Admit of a request begins.
+pub fn admit(alloc: Global, standing: &mut Standing, arrival: u64, key: Option<&Key>, verdict: &Verdict) -> Result<(), WantMemory>
+    ensures { OnOk result (seen standing.new ≡ changes.with_admitted arrival (option_copied key.entry) verdict.now (seen standing.old)) }
+{
+    let Some(key) = key else {
+        return Ok(());
+    };
+    match verdict {
+        Verdict::Serve(number) => add_request(alloc, standing, arrival, key, Some(*number)),
+        Verdict::Preset(_) | Verdict::Locator(_) => add_request(alloc, standing, arrival, key, None),
+        Verdict::Incarnate(_) => add_incarnation(alloc, standing, arrival, key),
+        Verdict::Try => add_trial(alloc, standing, arrival, key),
+        _ => Ok(()),
+    }
+}
+
+/// What is in flight, but for an arrival.
+fn others(alloc: Global, flights: &[Flight], arrival: u64) -> Result<Vec<Flight>, WantMemory>
+    ensures { IfOk result (λ kept. kept.items ≡ filter (λ f. not (f.arrival == arrival)) flights.now) }
+{
+    let mut kept = Vec::new(alloc);
+    for flight in flights {
+        if flight.arrival != arrival {
+            kept.push(flight.clone()?)?;
+        }
+    }
+    Ok(kept)
+}
+
+/// The request or trial of an arrival ends.
+pub fn end_flight(alloc: Global, standing: &mut Standing, arrival: Option<u64>) -> Result<(), WantMemory>
+    ensures { OnOk result (seen standing.new ≡ changes.without_flight arrival (seen standing.old)) }
+{
+    if let Some(arrival) = arrival {
+        let kept = others(alloc, &standing.flights, arrival)?;
+        standing.flights = kept;
+    }
+    Ok(())
+}
+
+/// What is in flight for an arrival.
+pub fn flight_of(flights: &[Flight], arrival: u64) -> Option<&Flight>
+    ensures { option_copied result ≡ find (λ f. f.arrival == arrival) flights.now }
+{
+    flights.iter().find(|flight| flight.arrival == arrival)
+}
+
+/// The path of the missing child for which the arrival is tried.
+pub fn child_tried<'a>(flights: &'a [Flight], arrival: Option<u64>) -> Option<&'a Path>
+    ensures { option_copied result ≡ changes.child_tried flights.now arrival }
+{
+    match arrival {
+        Some(arrival) => match flight_of(flights, arrival) {
+            Some(flight) => flight.child.as_ref(),
+            None => None,
+        },
+        None => None,
+    }
+}
