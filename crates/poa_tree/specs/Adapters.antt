@@ -56,7 +56,7 @@ is_below top n = not (n.number == top.number) && leads_to top.path n.path
 abbrev pub family : List Node → ℕ → List Node
 family ns k = elim (node_of ns k) [ Some n ↦ n ∷ filter (is_below n) ns | None ↦ [] ]
 
--- why no adapter of the path is created, after so many (CORBA 3.3 Part 1, section 15.3.8.2)
+-- why no adapter of the path is created, after so many (CORBA 3.3 Part 1, chapter 15, create_POA)
 abbrev pub create_fault : List Node → ℕ → List (List ℕ) → Option TreeFault
 create_fault ns count [] = Some AdapterAlreadyExists
 create_fault ns count (x ∷ p) =

@@ -69,7 +69,7 @@ impl Tree {
         })
     }
 
-    /// Creates an adapter of the path, and gives its number: CORBA 3.3 Part 1, section 15.3.8.2.
+    /// Creates an adapter of the path, and gives its number: CORBA 3.3 Part 1, chapter 15, `create_POA`.
     pub fn create(&mut self, path: &Path) -> Result<u32, TreeFault>
         ensures number { IfOk result (λ k. k ≡ self.old.count) }
         ensures ok { OnOk result (self.new ≡ with_adapter path.now self.old) }
