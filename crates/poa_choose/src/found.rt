@@ -79,7 +79,7 @@ fn unmade(facts: &Facts) -> bool
     is_retain(facts.policies.retention) && is_system_id(facts.policies.assignment) && facts.bad_id
 }
 
-/// No active object has the id: CORBA 3.3 Part 1, section 15.3.7.6.
+/// No active object has the id: CORBA 3.3 Part 1, chapter 15, "Request Processing Policy".
 fn processing(facts: Facts) -> Choice
     ensures { result ≡ processing_rows facts facts.policies.processing }
 {

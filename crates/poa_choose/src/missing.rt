@@ -6,7 +6,7 @@ use crate::refusals::{OMG, OWN, forward_or, inactive, refuse};
 use poa_base::{Cause, ExcName, ManagerState, Verdict};
 use poa_verdict::{Choice, Facts, KeyFact};
 
-/// A child is missing: CORBA 3.3 Part 1, section 15.3.3, adapter activators.
+/// A child is missing: CORBA 3.3 Part 1, chapter 15, "AdapterActivator Interface".
 pub fn missing(facts: Facts) -> Choice
     ensures { result ≡ missing_rows facts }
 {

@@ -1,4 +1,4 @@
-//! Which policy it is: CORBA 3.3 Part 1, section 15.3.7.
+//! Which policy it is: CORBA 3.3 Part 1, chapter 15, "POA Policy Objects".
 ghost use Rattle.std.specs.Prelude.{◌≡◌};
 ghost use Rattle.poa_base.specs.Policies.{is_single_thread as the_single_thread, is_main_thread as the_main_thread, is_system_id as the_system_id, is_retain as the_retain};
 

@@ -5,7 +5,7 @@ ghost use Rattle.poa_verdict.specs.Table.{refuse as the_refuse, serve as the_ser
 use poa_base::{Completion, Endpoint, ExcName, SysExc, Verdict};
 use poa_verdict::{Choice, Facts, KeyFact};
 
-/// The minor codes of the OMG begin here: CORBA 3.3 Part 1, Annex A.
+/// The minor codes of the OMG begin here (OMGVMCID).
 pub const OMG: u32 = 0x4F4D_0000;
 /// The minor codes of this server's own begin here.
 pub const OWN: u32 = 0xFFFF_F000;

@@ -1,5 +1,5 @@
 -- The adapters that a tree keeps, and what its calls tell of them.
-use Rattle.std.specs.Prelude.{ℕ, suc, Bool, false, ◌&&◌, ◌==◌, not, nat_le, if◌then◌else◌, List, [], ◌∷◌, map, filter, find, Option, Some, None, is_some, option_map, option_and_then}
+use Rattle.std.specs.Prelude.{ℕ, suc, Bool, false, ◌&&◌, ◌==◌, not, nat_le, if◌then◌else◌, List, [], ◌∷◌, map, filter, find, Option, Some, None, is_none, is_some, option_map, option_and_then}
 use Rattle.std.specs.List.{list_any}
 use Rattle.poa_tree.specs.declared.node.Node.{Node}
 use Rattle.poa_tree.specs.declared.fault.TreeFault.{TreeFault}
@@ -37,9 +37,9 @@ path_of ns k = elim (node_of ns k) [ Some n ↦ n.path | None ↦ [] ]
 abbrev pub dying_of : List Node → ℕ → Bool
 dying_of ns k = elim (node_of ns k) [ Some n ↦ n.dying | None ↦ false ]
 
--- an adapter stands at the path and isn't being destroyed
-abbrev pub is_live_at : List Node → List (List ℕ) → Bool
-is_live_at ns p = elim (node_at ns p) [ Some n ↦ not n.dying | None ↦ false ]
+-- the adapter at the path, where it isn't being destroyed
+abbrev pub live_at : List Node → List (List ℕ) → Option Node
+live_at ns p = elim (node_at ns p) [ Some n ↦ (if n.dying then None else Some n) | None ↦ None ]
 
 -- the number of its parent
 abbrev pub parent_of : List Node → Node → Option ℕ
@@ -56,11 +56,11 @@ is_below top n = not (n.number == top.number) && leads_to top.path n.path
 abbrev pub family : List Node → ℕ → List Node
 family ns k = elim (node_of ns k) [ Some n ↦ n ∷ filter (is_below n) ns | None ↦ [] ]
 
--- why no adapter of the path is created, after so many (CORBA 3.3 Part 1, section 15.3.8.2)
+-- why no adapter of the path is created, after so many (CORBA 3.3 Part 1, chapter 15, create_POA)
 abbrev pub create_fault : List Node → ℕ → List (List ℕ) → Option TreeFault
 create_fault ns count [] = Some AdapterAlreadyExists
 create_fault ns count (x ∷ p) =
-    if not (is_live_at ns (parent_path (x ∷ p))) then Some AdapterNonExistent
+    if is_none (live_at ns (parent_path (x ∷ p))) then Some AdapterNonExistent
     else if is_some (node_at ns (x ∷ p)) then Some AdapterAlreadyExists
     else if nat_le 65536 count then Some (TooMany count)
     else None

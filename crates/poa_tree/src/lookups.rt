@@ -4,7 +4,7 @@ ghost use Rattle.std.specs.List.{list_any};
 ghost use Rattle.std.specs.Option.{option_copied};
 ghost use Rattle.poa_tree.specs.Nodes.{node_at as the_node_at};
 ghost use Rattle.poa_tree.specs.Walks.{walk as the_walk, walk_from as the_walk_from};
-ghost use Rattle.poa_tree.specs.Adapters.{node_of as the_node_of, parent_number, is_live_at as the_is_live_at, create_fault as the_create_fault, is_below as the_is_below, may_go as the_may_go};
+ghost use Rattle.poa_tree.specs.Adapters.{node_of as the_node_of, parent_number, live_at as the_live_at, create_fault as the_create_fault, is_below as the_is_below, may_go as the_may_go};
 
 use crate::fault::TreeFault;
 use crate::found::Found;
@@ -102,14 +102,15 @@ pub fn parent_of(nodes: &[Node], number: u32) -> Option<u32>
     Some(parent.number)
 }
 
-/// Whether an adapter stands at the path and isn't being destroyed.
-fn is_live_at(nodes: &[Node], path: &[Name]) -> bool
-    ensures { result ≡ the_is_live_at nodes.now path.now }
+/// The adapter at the path, where it isn't being destroyed.
+pub fn live_at<'a>(nodes: &'a [Node], path: &[Name]) -> Option<&'a Node>
+    ensures { option_copied result ≡ the_live_at nodes.now path.now }
 {
-    match node_at(nodes, path) {
-        Some(node) => !node.dying,
-        None => false,
+    let node = node_at(nodes, path)?;
+    if node.dying {
+        return None;
     }
+    Some(node)
 }
 
 /// Why no adapter of the path can be created, after so many.
@@ -119,7 +120,7 @@ pub fn create_fault(nodes: &[Node], count: u32, path: &[Name]) -> Option<TreeFau
     let Some(above) = parent_path(path) else {
         return Some(TreeFault::AdapterAlreadyExists);
     };
-    if !is_live_at(nodes, above) {
+    if live_at(nodes, above).is_none() {
         return Some(TreeFault::AdapterNonExistent);
     }
     if node_at(nodes, path).is_some() {

@@ -1,11 +1,10 @@
 //! What no clause says: that each call succeeds with ample memory, and answers on one tree.
-
 use crate::{Found, Tree, TreeFault};
 use poa_base::{Name, Path};
 use std::alloc::Global;
 use std::test::Fail;
 
-/// The path of one name or two of one letter.
+/// The path of names of one letter each.
 fn path(alloc: Global, letters: &[u8]) -> Result<Path, Fail> {
     let mut names = Vec::new(alloc);
     for letter in letters {
@@ -40,6 +39,8 @@ fn creates_below_a_parent_that_lives(rt: HostRuntime) -> Result<(), Fail> {
     assert_eq!(rt; tree.create(&b), Ok(2));
     assert_eq!(rt; tree.create(&a), Err(TreeFault::AdapterAlreadyExists));
     assert_eq!(rt; tree.find(&b), Found::Live(2));
+    assert_eq!(rt; tree.number(&b), Some(2));
+    assert_eq!(rt; tree.live_number(&c), None);
     assert_eq!(rt;
         tree.find(&c),
         Found::Missing {

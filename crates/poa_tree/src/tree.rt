@@ -1,7 +1,7 @@
 //! The tree of the adapters that stand.
 ghost use Rattle.std.specs.Prelude.{◌≡◌, ◌≤◌, ◌⊎◌, true, is_none, None, Some, OnOk, OnErr, IfOk, IfErr, slice_get, option_map};
 ghost use Rattle.poa_tree.specs.declared.fault.TreeFault.TheVariants.{WantMemory as NoRoom};
-ghost use Rattle.poa_tree.specs.Nodes.{stands};
+ghost use Rattle.poa_tree.specs.Nodes.{node_at as the_node_at, stands};
 ghost use Rattle.poa_tree.specs.Paths.{is_root};
 ghost use Rattle.poa_tree.specs.Trees.{IsTree};
 ghost use Rattle.poa_tree.specs.Walks.{walk as the_walk};
@@ -9,6 +9,7 @@ ghost use Rattle.poa_tree.specs.Adapters.{
   root_alone,
   path_of,
   dying_of,
+  live_at as the_live_at,
   parent_number,
   family,
   may_go as the_may_go,
@@ -21,7 +22,9 @@ ghost use Rattle.poa_tree.specs.Adapters.{
 use crate::changes::{add, mark_at, remove};
 use crate::fault::TreeFault;
 use crate::found::Found;
-use crate::lookups::{create_fault, descendant, may_go, node_of, parent_of, place_of, walk};
+use crate::lookups::{
+    create_fault, descendant, live_at, may_go, node_at, node_of, parent_of, place_of, walk,
+};
 use crate::node::Node;
 use poa_base::{Path, WantMemory};
 use std::alloc::Global;
@@ -66,7 +69,7 @@ impl Tree {
         })
     }
 
-    /// Creates an adapter of the path, and gives its number: CORBA 3.3 Part 1, section 15.3.8.2.
+    /// Creates an adapter of the path, and gives its number: CORBA 3.3 Part 1, chapter 15, `create_POA`.
     pub fn create(&mut self, path: &Path) -> Result<u32, TreeFault>
         ensures number { IfOk result (λ k. k ≡ self.old.count) }
         ensures ok { OnOk result (self.new ≡ with_adapter path.now self.old) }
@@ -88,6 +91,22 @@ impl Tree {
         ensures { result ≡ the_walk self.now.nodes path.now }
     {
         walk(&self.nodes, path.as_slice())
+    }
+
+    /// The number of the adapter of a path, also where it is being destroyed. Takes no memory.
+    pub fn number(&self, path: &Path) -> Option<u32>
+        ensures { result ≡ option_map (λ n. n.number) (the_node_at self.now.nodes path.now) }
+    {
+        let node = node_at(&self.nodes, path.as_slice())?;
+        Some(node.number)
+    }
+
+    /// The number of the adapter of a path, where it isn't being destroyed. Takes no memory.
+    pub fn live_number(&self, path: &Path) -> Option<u32>
+        ensures { result ≡ option_map (λ n. n.number) (the_live_at self.now.nodes path.now) }
+    {
+        let node = live_at(&self.nodes, path.as_slice())?;
+        Some(node.number)
     }
 
     /// The adapter and its descendants are being destroyed from now on. Takes no memory.
