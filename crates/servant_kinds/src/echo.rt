@@ -8,7 +8,7 @@ use crate::object;
 use poa_base::{Body, Datum, Outcome, WantMemory};
 use std::alloc::Global;
 
-const TYPE_ID: &[u8] = b"IDL:poad/Echo:1.0";
+pub(crate) const TYPE_ID: &[u8] = b"IDL:poad/Echo:1.0";
 
 /// `echo` and `ping`.
 pub(crate) fn act(alloc: Global, operation: &[u8], body: &Body) -> Result<Outcome, WantMemory>

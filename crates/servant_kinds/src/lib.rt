@@ -10,10 +10,12 @@ mod log;
 mod object;
 mod register;
 mod servant;
+mod type_ids;
 
 pub use exception::{BAD_ARGUMENTS, FAULT_SERVANT, UNKNOWN_OPERATION};
 pub use poa_base::WantMemory;
 pub use servant::Servant;
+pub use type_ids::type_id;
 
 #[cfg(test)]
 mod tests;

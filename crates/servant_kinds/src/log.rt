@@ -8,7 +8,7 @@ use crate::object;
 use poa_base::{Body, Bytes, Datum, Items, Outcome, TryClone, WantMemory};
 use std::alloc::Global;
 
-const TYPE_ID: &[u8] = b"IDL:poad/Log:1.0";
+pub(crate) const TYPE_ID: &[u8] = b"IDL:poad/Log:1.0";
 
 const FULL: &[u8] = b"IDL:poad/Full:1.0";
 

@@ -8,7 +8,7 @@ use crate::object;
 use poa_base::{Body, Datum, Outcome, WantMemory};
 use std::alloc::Global;
 
-const TYPE_ID: &[u8] = b"IDL:poad/Register:1.0";
+pub(crate) const TYPE_ID: &[u8] = b"IDL:poad/Register:1.0";
 
 const OVERFLOW: &[u8] = b"IDL:poad/Overflow:1.0";
 
