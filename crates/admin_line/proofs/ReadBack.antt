@@ -1,25 +1,17 @@
--- The line of a command reads back, and so does the text of an answer.
-use Rattle.std.proofs.Common.{◌≡◌, ℕ, ◌^◌, List, [], ◌∷◌, Bool, true, false, Option, Some, None, Result, Ok, Err, refl, ap, sym, ◌∙◌, arith}
+-- The line of a command reads back.
+use Rattle.std.proofs.Common.{◌≡◌, ℕ, ◌^◌, List, Bool, true, false, Some, Ok, refl, ap, ◌∙◌, arith}
 use Rattle.poa_base.specs.declared.Command.{Command}
 use Rattle.poa_base.specs.declared.Command.TheVariants.{Manager, Create, Destroy, Activate, ActivateId, Deactivate, Reference, Preset, Forward, Unforward, Shutdown, Bad}
-use Rattle.poa_base.specs.declared.Order.{Order}
 use Rattle.poa_base.specs.declared.Order.TheVariants as order
-use Rattle.poa_base.specs.declared.Answer.{Answer}
-use Rattle.poa_base.specs.declared.Answer.TheVariants.{Good, GoodId, GoodIor, No}
-use Rattle.poa_base.specs.declared.Reason.{Reason}
-use Rattle.poa_base.specs.declared.Reason.TheVariants as reason
 use Rattle.text_words.specs.Token.{Fits, spell, identity, AllFit, texts, spelled}
-use Rattle.text_words.proofs.ReadBack.{name_back, path_back, host_back, port_back, id_back, printed_id_back, reference_back, reference_no_id}
+use Rattle.text_words.proofs.ReadBack.{name_back, path_back, host_back, port_back, id_back, printed_id_back}
 use Rattle.text_words.proofs.Numbers.{number_back}
 use Rattle.text_words.proofs.Lines.{loose_spelled}
 use Rattle.admin_line.specs.declared.reading.Source.{Source}
 use Rattle.admin_line.specs.declared.reading.Source.TheVariants.{Link, Journal}
-use Rattle.admin_line.specs.declared.fixed.Shift.TheVariants as shift
-use Rattle.admin_line.specs.Fixed.{verb_word, shift_word, pace_word, pace, end_word, ending, success_word, objection_word}
-use Rattle.admin_line.specs.Answer.{reason_tokens, reason_of, answer_tokens, answer_of}
-use Rattle.admin_line.specs.Command.{IsCommand, command_tokens, order_tokens}
-use Rattle.admin_line.specs.Reading.{command_of, command_of_line, settled, manager_of, spelled_id_of, pace_of, end_of}
-use Rattle.std.specs.Prelude.{length, ◌≤◌, codes, ◌++◌}
+use Rattle.admin_line.specs.Fixed.{verb_word, shift_word, pace_word, pace, end_word, ending}
+use Rattle.admin_line.specs.Command.{IsCommand, command_tokens}
+use Rattle.admin_line.specs.Reading.{command_of, command_of_line, settled, spelled_id_of, pace_of, end_of}
 
 pace_back : (wait : Bool) → pace_of (pace_word (pace wait)) ≡ Some (pace wait)
 unfolding pace_word
@@ -71,30 +63,3 @@ command_back Journal (Bad k) ok h = rw (number_back (2 ^ 32) k h.1.0.0 (omega ar
 -- the line of a command gives the command
 pub line_back : (c : Command) → IsCommand c → AllFit (command_tokens c) → command_of_line (spelled (command_tokens c)) ≡ c
 line_back c ok h = ap (λ ws. settled (command_of Link ws)) (loose_spelled (command_tokens c) h) ∙ ap settled (command_back Link c ok h)
-
--- the words of a reason give the reason
-reason_back : (r : Reason) → AllFit (reason_tokens r) → reason_of (texts (reason_tokens r)) ≡ Some r
-unfolding objection_word
-reason_back reason.NoManager h = refl
-reason_back reason.AdapterInactive h = refl
-reason_back reason.AdapterNonExistent h = refl
-reason_back reason.NoTemplate h = refl
-reason_back reason.AdapterAlreadyExists h = refl
-reason_back reason.WrongPolicy h = refl
-reason_back reason.NoServant h = refl
-reason_back reason.ServantAlreadyActive h = refl
-reason_back reason.BadId h = refl
-reason_back reason.ObjectAlreadyActive h = refl
-reason_back reason.ObjectNotActive h = refl
-reason_back reason.ServantNotActive h = refl
-reason_back reason.NoForward h = refl
-reason_back (reason.TooMany n) h = rw (number_back (2 ^ 32) n h.1.0.0 (omega arith)) refl
-reason_back (reason.BadWord n) h = rw (number_back (2 ^ 32) n h.1.0.0 (omega arith)) refl
-
--- the words of an answer give the answer
-pub answer_back : (a : Answer) → AllFit (answer_tokens a) → answer_of (texts (answer_tokens a)) ≡ Some a
-unfolding success_word
-answer_back Good h = refl
-answer_back (GoodId id) h = rw (printed_id_back id h.1.0.0 h.1.0.1) refl
-answer_back (GoodIor text) h = rw (reference_no_id text h.1.0, reference_back text h.1.0) refl
-answer_back (No r) h = rw (reason_back r h.1) refl

@@ -1,11 +1,11 @@
 -- The words of each command: `activate-id PATH OID SERVANT` and the like.
-use Rattle.std.specs.Prelude.{ℕ, ◌^◌, List, [], ◌∷◌}
+use Rattle.std.specs.Prelude.{◌^◌, List, [], ◌∷◌}
 use Rattle.poa_base.specs.declared.Command.{Command}
 use Rattle.poa_base.specs.declared.Command.TheVariants.{Manager, Create, Destroy, Activate, ActivateId, Deactivate, Reference, Preset, Forward, Unforward, Shutdown, Bad}
 use Rattle.poa_base.specs.declared.Order.{Order}
 use Rattle.poa_base.specs.declared.Order.TheVariants as order
-use Rattle.poa_base.specs.declared.Endpoint.{Endpoint}
-use Rattle.text_words.specs.Token.{Token, keyword, number, named, path, identity, host, port}
+use Rattle.text_words.specs.Token.{Token, keyword, number, named, path, identity}
+use Rattle.text_words.specs.Parts.{endpoint_tokens}
 use Rattle.admin_line.specs.Fixed.{verb_word, shift_word, pace_word, pace, end_word, ending}
 use Rattle.admin_line.specs.declared.fixed.Verb.TheVariants as verb
 use Rattle.admin_line.specs.declared.fixed.Shift.TheVariants as shift
@@ -17,9 +17,6 @@ order_tokens (order.Hold wait) = keyword (shift_word shift.Hold) ∷ keyword (pa
 order_tokens (order.Discard wait) = keyword (shift_word shift.Discard) ∷ keyword (pace_word (pace wait)) ∷ []
 order_tokens (order.Deactivate etherealize wait) =
     keyword (shift_word shift.Deactivate) ∷ keyword (end_word (ending etherealize)) ∷ keyword (pace_word (pace wait)) ∷ []
-
-abbrev pub endpoint_tokens : Endpoint → List Token
-endpoint_tokens endpoint = host endpoint.host ∷ port endpoint.port ∷ []
 
 -- the words of a command; a line that was none is `bad K` in a journal, K its first wrong word
 abbrev pub command_tokens : Command → List Token

@@ -8,10 +8,6 @@ use Rattle.admin_line.specs.declared.fixed.Pace.{Pace}
 use Rattle.admin_line.specs.declared.fixed.Pace.TheVariants.{Now, Wait}
 use Rattle.admin_line.specs.declared.fixed.End.{End}
 use Rattle.admin_line.specs.declared.fixed.End.TheVariants.{Keep, Etherealize}
-use Rattle.admin_line.specs.declared.fixed.Success.{Success}
-use Rattle.admin_line.specs.declared.fixed.Success.TheVariants as success
-use Rattle.admin_line.specs.declared.fixed.Objection.{Objection}
-use Rattle.admin_line.specs.declared.fixed.Objection.TheVariants as objection
 
 -- the first word of each command; `bad` stands in journals alone
 unfoldable pub verb_word : Verb → List ℕ
@@ -59,28 +55,6 @@ abbrev pub etherealizes_of : End → Bool
 etherealizes_of Keep = false
 etherealizes_of Etherealize = true
 
-unfoldable pub success_word : Success → List ℕ
-success_word success.Ok = codes "ok"
-success_word success.No = codes "no"
-
--- the reasons against a command
-unfoldable pub objection_word : Objection → List ℕ
-objection_word objection.NoManager = codes "NoManager"
-objection_word objection.AdapterInactive = codes "AdapterInactive"
-objection_word objection.AdapterNonExistent = codes "AdapterNonExistent"
-objection_word objection.NoTemplate = codes "NoTemplate"
-objection_word objection.AdapterAlreadyExists = codes "AdapterAlreadyExists"
-objection_word objection.TooMany = codes "TooMany"
-objection_word objection.WrongPolicy = codes "WrongPolicy"
-objection_word objection.NoServant = codes "NoServant"
-objection_word objection.ServantAlreadyActive = codes "ServantAlreadyActive"
-objection_word objection.BadId = codes "BadId"
-objection_word objection.ObjectAlreadyActive = codes "ObjectAlreadyActive"
-objection_word objection.ObjectNotActive = codes "ObjectNotActive"
-objection_word objection.ServantNotActive = codes "ServantNotActive"
-objection_word objection.NoForward = codes "NoForward"
-objection_word objection.BadWord = codes "BadWord"
-
 abbrev pub verbs : List Verb
 verbs =
     verb.Manager ∷ verb.Create ∷ verb.Destroy ∷ verb.Activate ∷ verb.ActivateId ∷ verb.Deactivate ∷ verb.Reference ∷ verb.Preset
@@ -94,12 +68,3 @@ paces = Now ∷ Wait ∷ []
 
 abbrev pub ends : List End
 ends = Keep ∷ Etherealize ∷ []
-
-abbrev pub successes : List Success
-successes = success.Ok ∷ success.No ∷ []
-
-abbrev pub objections : List Objection
-objections =
-    objection.NoManager ∷ objection.AdapterInactive ∷ objection.AdapterNonExistent ∷ objection.NoTemplate ∷ objection.AdapterAlreadyExists
-    ∷ objection.TooMany ∷ objection.WrongPolicy ∷ objection.NoServant ∷ objection.ServantAlreadyActive ∷ objection.BadId
-    ∷ objection.ObjectAlreadyActive ∷ objection.ObjectNotActive ∷ objection.ServantNotActive ∷ objection.NoForward ∷ objection.BadWord ∷ []

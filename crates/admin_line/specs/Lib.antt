@@ -2,4 +2,3 @@ pub mod Fixed
 pub mod Command
 pub mod Place
 pub mod Reading
-pub mod Answer

@@ -1,13 +1,16 @@
 //! Whole lines.
-ghost use Rattle.std.specs.Prelude.{◌≡◌, IfOk};
-ghost use Rattle.text_words.specs.Token.{AllFit, spelled};
+ghost use Rattle.std.specs.Prelude.{◌≡◌, ◌∷◌, ◌^◌, IfOk};
+ghost use Rattle.admin_answer.specs.Answer.{answer_tokens};
+ghost use Rattle.text_words.specs.Token.{AllFit, Token, spelled};
 ghost use Rattle.admin_line.specs.Command.{IsCommand, command_tokens};
 ghost use Rattle.admin_line.specs.Reading.{command_of_line};
 
 use crate::place::Wrong;
 use crate::reading::{Source, read_words};
 use crate::writing::command_bytes;
-use poa_base::{Bytes, Command, WantMemory};
+use admin_answer::put_answer;
+use itoa::Buffer;
+use poa_base::{Answer, Bytes, Command, WantMemory};
 use std::alloc::Global;
 use text_words::loose_words;
 
@@ -41,5 +44,15 @@ pub fn command_text(alloc: Global, command: &Command) -> Result<Bytes, WantMemor
     ensures { IfOk result (λ text. text ≡ spelled (command_tokens command.now)) }
 {
     let out = command_bytes(alloc, command)?;
+    Ok(Bytes::from_vec(out))
+}
+
+/// The line that answers line `number` of a link, without its LF.
+pub fn write_answer(alloc: Global, number: u64, answer: &Answer) -> Result<Bytes, WantMemory>
+    ensures { IfOk result (λ line. line ≡ spelled (Token.number (2 ^ 64) number ∷ answer_tokens answer.now)) }
+{
+    let mut buffer = Buffer::new();
+    let mut out = Vec::from_slice(alloc, buffer.format(number).as_bytes())?;
+    put_answer(&mut out, answer)?;
     Ok(Bytes::from_vec(out))
 }

@@ -94,23 +94,8 @@ fn answers_have_the_number_of_their_line(rt: HostRuntime) -> Result<(), Fail> {
 }
 
 #[test]
-fn texts_of_answers_are_read_again(rt: HostRuntime) -> Result<(), Fail> {
+fn ids_in_a_journal_have_one_spelling(rt: HostRuntime) -> Result<(), Fail> {
     let alloc = rt.alloc();
-    let texts: [&[u8]; 6] = [
-        b"ok",
-        b"ok h:0000000100000002",
-        b"ok IOR:00ff",
-        b"no ServantAlreadyActive",
-        b"no TooMany 65536",
-        b"no NoForward",
-    ];
-    for text in &texts {
-        let parts = words(alloc, text)?;
-        let answer = read_answer(alloc, parts.as_slice()).map_err(|_| "an answer")?;
-        assert_eq!(rt; answer_text(alloc, &answer)?.as_slice(), *text);
-    }
-    let parts = words(alloc, b"no NoServant 1")?;
-    assert!(rt; read_answer(alloc, parts.as_slice()).is_err());
     let parts = words(alloc, b"activate-id /s t:q counter")?;
     assert!(rt; read_words(alloc, Source::Journal, parts.as_slice()).is_err());
     assert!(rt; read_words(alloc, Source::Link, parts.as_slice()).is_ok());

@@ -9,6 +9,9 @@ use crate::gap::padding;
 use std::alloc::{AllocError as WantMemory, Global};
 use std::marker::Model;
 
+/// A string and a sequence of octets that are written stay below this.
+const LIMIT: usize = 1 << 31;
+
 /// Writes the fields of a CDR message or encapsulation, one behind the other. Each write appends the padding
 /// up to the field's alignment, as zeros, and then the field; a write that finds no memory leaves the writer
 /// as it was. Contracts see it as a draft: byte order, base and bytes.
@@ -114,6 +117,32 @@ impl Writer {
     {
         let count = self.long_bytes(bytes.len() as u32);
         self.put(4, &count, bytes, &[])
+    }
+
+    /// Appends a string of any length, as [`Writer::text`] does. `WantMemory` is also the answer to 2^31 bytes or
+    /// more.
+    pub fn put_text(&mut self, bytes: &[u8]) -> Result<(), WantMemory>
+        ensures ok { OnOk result (self.new ≡ with_field (text bytes.now) self.old) }
+        ensures fits { OnOk result (length bytes.now < 2 ^ 31) }
+        ensures err { OnErr result (self.new ≡ self.old) }
+    {
+        if bytes.len() >= LIMIT {
+            return Err(WantMemory);
+        }
+        self.text(bytes)
+    }
+
+    /// Appends a sequence of octets of any length, as [`Writer::octets`] does. `WantMemory` is also the answer to
+    /// 2^31 octets or more.
+    pub fn put_octets(&mut self, bytes: &[u8]) -> Result<(), WantMemory>
+        ensures ok { OnOk result (self.new ≡ with_field (octets bytes.now) self.old) }
+        ensures fits { OnOk result (length bytes.now < 2 ^ 31) }
+        ensures err { OnErr result (self.new ≡ self.old) }
+    {
+        if bytes.len() >= LIMIT {
+            return Err(WantMemory);
+        }
+        self.octets(bytes)
     }
 
     /// The bytes written.

@@ -1,10 +1,9 @@
 -- The entries of an array of tables, read one after another.
-use Rattle.std.proofs.Common.{◌≡◌, ℕ, suc, ◌+◌, ◌<◌, List, [], ◌∷◌, ◌++◌, length, take, drop, get_or, map, Result, Ok, Err, Option, Some, None, refl, ap, sym, ◌∙◌, arith, rules, length-append, if◌then◌else◌}
+use Rattle.std.proofs.Common.{◌≡◌, ℕ, suc, ◌+◌, ◌<◌, List, [], ◌∷◌, ◌++◌, length, drop, get_or, Result, Ok, refl, ap, sym, ◌∙◌, length-append}
 use Rattle.toml.specs.declared.value.Value.{Value}
 use Rattle.toml.specs.View.{view, items_view}
-use Rattle.toml.specs.Data.{Data, item}
+use Rattle.toml.specs.Data.{Data}
 use Rattle.toml.proofs.Views.{items_view-drop}
-use Rattle.conf_fields.specs.Chain.{◌>>=◌}
 use Rattle.conf_fields.specs.Entries.{entries_of}
 use Rattle.conf_fields.specs.declared.fault.ConfFault.{ConfFault}
 use Rattle.conf_fields.specs.Look.{item_count}

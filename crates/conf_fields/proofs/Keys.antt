@@ -1,13 +1,11 @@
 -- The keys of a table.
-use Rattle.std.proofs.Common.{◌≡◌, ℕ, ◌+◌, ◌<◌, Bool, true, false, if◌then◌else◌, List, [], ◌∷◌, map, drop, get_or, Option, Some, None, String, Global, string_bytes, Result, refl, ap, sym, ◌∙◌, rules, ◌||◌, Bor}
-use Rattle.std.proofs.lemmas.Bool.{cases_Bool}
+use Rattle.std.proofs.Common.{◌≡◌, ℕ, if◌then◌else◌, List, [], ◌∷◌, map, Option, Some, None, String, Global, string_bytes, refl, ap, ◌||◌, Bor}
 use Rattle.std.specs.Map.{keys_of}
 use Rattle.std.specs.List.{list_any}
 use Rattle.std.specs.Str.{bytes_eq}
 use Rattle.toml.specs.declared.value.Value.{Value}
 use Rattle.toml.specs.View.{members_view}
-use Rattle.toml.specs.Data.{Members}
-use Rattle.conf_fields.specs.Look.{is_among, unknown_key, none_of}
+use Rattle.conf_fields.specs.Look.{is_among, unknown_key}
 
 -- the first of the keys that is none of the known ones
 abbrev pub unknown_in : List (List ℕ) → List (String Global) → Option (List ℕ)

@@ -1,5 +1,5 @@
 -- The entries of an array of tables, each read with those before it.
-use Rattle.std.specs.Prelude.{ℕ, List, [], ◌∷◌, ◌++◌, length, Result, Ok}
+use Rattle.std.specs.Prelude.{List, [], ◌∷◌, ◌++◌, Result, Ok}
 use Rattle.toml.specs.Data.{Data, Items, no_items, item}
 use Rattle.conf_fields.specs.Chain.{◌>>=◌}
 use Rattle.conf_fields.specs.declared.fault.ConfFault.{ConfFault}

@@ -1,5 +1,5 @@
 -- What the answer of a reader says, given what the definition has there.
-use Rattle.std.specs.Prelude.{◌≡◌, ⊤, Result, Ok, Err, List, ℕ}
+use Rattle.std.specs.Prelude.{◌≡◌, ⊤, Result, Ok, Err}
 use Rattle.conf_fields.specs.declared.fault.ConfFault.{ConfFault}
 use Rattle.conf_fields.specs.declared.fault.ConfFault.TheVariants.{NotToml, Field, Policy, Twice, NoSuch, Limit, WantMemory}
 

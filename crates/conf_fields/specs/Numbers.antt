@@ -1,5 +1,5 @@
 -- Names turned into numbers. A `Find` is what some entries say of a name: its number, if it stands there.
-use Rattle.std.specs.Prelude.{ℕ, ◌+◌, List, [], ◌∷◌, Option, Some, None, Result, Ok, Err, if◌then◌else◌, String}
+use Rattle.std.specs.Prelude.{◌≡◌, ℕ, ◌+◌, List, [], ◌∷◌, Option, Some, None, Result, Ok, Err, if◌then◌else◌, String}
 use Rattle.std.specs.Option.{option_map}
 use Rattle.std.specs.Str.{bytes_eq}
 use Rattle.std.specs.BTreeMap.{BTreeMap, get_by_text}
@@ -46,6 +46,11 @@ not_twice find at key name = unless_found at key (find name)
 abbrev pub or_no_such : Place → List ℕ → Option ℕ → Result ℕ ConfFault
 or_no_such at key (Some n) = Ok n
 or_no_such at key None = Err (NoSuch (key_path at key))
+
+-- some name has the number
+pub record IsNumber (find : Find) (n : ℕ) : Type 0 where
+  pub name : List ℕ
+  pub is : find name ≡ Some n
 
 -- the number of the name at a key
 unfoldable pub number_named : Find → Place → List ℕ → Members → Result ℕ ConfFault

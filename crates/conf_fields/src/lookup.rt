@@ -1,5 +1,5 @@
 //! The values of keys.
-ghost use Rattle.std.specs.Prelude.{◌≡◌, ◌≤◌, option_map, Some, IfOk, IfSome};
+ghost use Rattle.std.specs.Prelude.{◌≡◌, ◌≤◌, option_map, true, Some, IfOk, IfSome, OnOk};
 ghost use Rattle.toml.specs.Data.{get_member, as_bool as bool_of, as_integer as integer_of};
 ghost use Rattle.toml.specs.View.{view, table_view};
 ghost use Rattle.conf_fields.specs.Gives.{Gives};
@@ -32,14 +32,15 @@ pub fn or_wrong<T>(alloc: Global, at: Place, key: &str, value: Option<T>) -> Res
 
 /// Field at the key where the condition doesn't hold.
 pub fn only_if(alloc: Global, at: Place, key: &str, holds: bool) -> Result<(), ConfFault>
-    ensures { Gives result (the_only_if holds at key.now) }
+    ensures value { Gives result (the_only_if holds at key.now) }
+    ensures held { OnOk result (holds ≡ true) }
 {
     if holds { Ok(()) } else { wrong(alloc, at, key) }
 }
 
 fn within(n: i64, least: u32, most: u32) -> Option<u32>
     ensures value { result ≡ number_within least most n }
-    ensures bound { IfSome result (λ k. k ≤ most) }
+    ensures bound { IfSome result (λ k. (least ≤ k) × (k ≤ most)) }
 {
     if n < i64::from(least) || i64::from(most) < n {
         None
@@ -50,7 +51,7 @@ fn within(n: i64, least: u32, most: u32) -> Option<u32>
 
 fn number_in(value: &Value, least: u32, most: u32) -> Option<u32>
     ensures value { result ≡ the_number_in least most (view value.now) }
-    ensures bound { IfSome result (λ k. k ≤ most) }
+    ensures bound { IfSome result (λ k. (least ≤ k) × (k ≤ most)) }
 {
     match value.as_integer() {
         Some(n) => within(n, least, most),
@@ -68,7 +69,7 @@ pub fn number_at(
     most: u32,
 ) -> Result<u32, ConfFault>
     ensures value { Gives result (wanted (the_number_in least most) at key.now (table_view table.now)) }
-    ensures bound { IfOk result (λ k. k ≤ most) }
+    ensures bound { IfOk result (λ k. (least ≤ k) × (k ≤ most)) }
 {
     match member_at(table, key) {
         Some(value) => or_wrong(alloc, at, key, number_in(value, least, most)),
@@ -86,9 +87,9 @@ pub fn number_or(
     most: u32,
     default: u32,
 ) -> Result<u32, ConfFault>
-    requires { default ≤ most }
+    requires { (least ≤ default) × (default ≤ most) }
     ensures value { Gives result (with_default (the_number_in least most) default at key.now (table_view table.now)) }
-    ensures bound { IfOk result (λ k. k ≤ most) }
+    ensures bound { IfOk result (λ k. (least ≤ k) × (k ≤ most)) }
 {
     match member_at(table, key) {
         Some(value) => or_wrong(alloc, at, key, number_in(value, least, most)),
@@ -98,13 +99,14 @@ pub fn number_or(
 
 /// A port that has to be there.
 pub fn port_at(alloc: Global, at: Place, table: &Table, key: &str) -> Result<u16, ConfFault>
-    ensures { Gives result (wanted (the_number_in 1 65535) at key.now (table_view table.now)) }
+    ensures value { Gives result (wanted (the_number_in 1 65535) at key.now (table_view table.now)) }
+    ensures bound { IfOk result (λ k. 1 ≤ k) }
 {
     let port = number_at(alloc, at, table, key, 1, 65535)?;
     Ok(port as u16)
 }
 
-/// A port, or the default.
+/// A port, or the default, which is one.
 pub fn port_or(
     alloc: Global,
     at: Place,
@@ -112,7 +114,9 @@ pub fn port_or(
     key: &str,
     default: u16,
 ) -> Result<u16, ConfFault>
-    ensures { Gives result (with_default (the_number_in 1 65535) default at key.now (table_view table.now)) }
+    requires { 1 ≤ default }
+    ensures value { Gives result (with_default (the_number_in 1 65535) default at key.now (table_view table.now)) }
+    ensures bound { IfOk result (λ k. 1 ≤ k) }
 {
     let port = number_or(alloc, at, table, key, 1, 65535, u32::from(default))?;
     Ok(port as u16)

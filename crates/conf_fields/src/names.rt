@@ -1,8 +1,9 @@
 //! Names, hosts, paths and object ids, and the text that some were read from.
-ghost use Rattle.std.specs.Prelude.{◌≡◌, Option, Some, None, IfOk, IfErr, IfSome, List, ℕ};
+ghost use Rattle.std.specs.Prelude.{◌≡◌, ◌≤◌, true, length, Option, Some, None, IfOk, IfErr, IfSome, List, ℕ};
 ghost use Rattle.toml.specs.View.{view, table_view};
 ghost use Rattle.text_words.specs.Identity.{id_of};
-ghost use Rattle.text_words.specs.Name.{name_of, host_of};
+ghost use Rattle.text_words.specs.Name.{name_of, host_of, is_name, is_host};
+ghost use Rattle.std.specs.List.{list_all};
 ghost use Rattle.text_words.specs.Path.{path_names_of, path_text};
 ghost use Rattle.text_words.specs.Gives.{Gives as Reads};
 ghost use Rattle.conf_fields.specs.declared.fault.ConfFault.TheVariants as fault;
@@ -31,15 +32,19 @@ fn readable<T>(read: Result<T, WordFault>) -> Result<Option<T>, ConfFault>
     }
 }
 
+#[tactic(auto, using(crate::proofs::Formed::named))]
 fn name_of_text(alloc: Global, text: &str) -> Result<Option<Name>, ConfFault>
     ensures value { IfOk result (λ found. name_of text.now ≡ found) }
+    ensures named { IfOk result (λ found. IfSome found (λ n. is_name n ≡ true)) }
     ensures memory { IfErr result (λ e. e ≡ fault.WantMemory) }
 {
     readable(text_words::name(alloc, text.as_bytes()))
 }
 
+#[tactic(auto, using(crate::proofs::Formed::hosted))]
 fn host_of_text(alloc: Global, text: &str) -> Result<Option<Bytes>, ConfFault>
     ensures value { IfOk result (λ found. host_of text.now ≡ found) }
+    ensures host { IfOk result (λ found. IfSome found (λ h. is_host h ≡ true)) }
     ensures memory { IfErr result (λ e. e ≡ fault.WantMemory) }
 {
     readable(text_words::host(alloc, text.as_bytes()))
@@ -48,6 +53,7 @@ fn host_of_text(alloc: Global, text: &str) -> Result<Option<Bytes>, ConfFault>
 fn path_of_text(alloc: Global, text: &str) -> Result<Option<Items<Name>>, ConfFault>
     ensures value { IfOk result (λ found. path_names_of text.now ≡ found) }
     ensures text { IfOk result (λ found. IfSome found (λ names. text.now ≡ path_text names)) }
+    ensures named { IfOk result (λ found. IfSome found (λ names. list_all is_name names ≡ true)) }
     ensures memory { IfErr result (λ e. e ≡ fault.WantMemory) }
 {
     match text_words::path_names(alloc, text.as_bytes()) {
@@ -66,6 +72,7 @@ pub fn name_at<'a>(
 ) -> Result<(Name, &'a str), ConfFault>
     ensures value { GivesView (λ p. p.0) result (wanted (text_in name_of) at key.now (table_view table.now)) }
     ensures text { IfOk result (λ p. p.1.now ≡ p.0) }
+    ensures named { IfOk result (λ p. is_name p.0 ≡ true) }
 {
     let Some(value) = member_at(table, key) else {
         return wrong(alloc, at, key);
@@ -81,7 +88,8 @@ pub fn name_at<'a>(
 
 /// A host that has to be there.
 pub fn host_at(alloc: Global, at: Place, table: &Table, key: &str) -> Result<Bytes, ConfFault>
-    ensures { Gives result (wanted (text_in host_of) at key.now (table_view table.now)) }
+    ensures value { Gives result (wanted (text_in host_of) at key.now (table_view table.now)) }
+    ensures host { IfOk result (λ h. is_host h ≡ true) }
 {
     let Some(value) = member_at(table, key) else {
         return wrong(alloc, at, key);
@@ -95,7 +103,7 @@ pub fn host_at(alloc: Global, at: Place, table: &Table, key: &str) -> Result<Byt
     }
 }
 
-/// A host, or the default.
+/// A host, or the default, which is one.
 pub fn host_or(
     alloc: Global,
     at: Place,
@@ -103,7 +111,9 @@ pub fn host_or(
     key: &str,
     default: &str,
 ) -> Result<Bytes, ConfFault>
-    ensures { Gives result (with_default (text_in host_of) default.now at key.now (table_view table.now)) }
+    requires { is_host default.now ≡ true }
+    ensures value { Gives result (with_default (text_in host_of) default.now at key.now (table_view table.now)) }
+    ensures host { IfOk result (λ h. is_host h ≡ true) }
 {
     let Some(value) = member_at(table, key) else {
         let bytes = Vec::from_slice(alloc, default.as_bytes())?;
@@ -126,6 +136,7 @@ fn names_at<'a>(
 ) -> Result<(Items<Name>, &'a str), ConfFault>
     ensures value { GivesView (λ p. p.0) result (wanted (text_in path_names_of) at key.now (table_view table.now)) }
     ensures text { IfOk result (λ p. p.1.now ≡ path_text p.0) }
+    ensures named { IfOk result (λ p. list_all is_name p.0 ≡ true) }
 {
     let Some(value) = member_at(table, key) else {
         return wrong(alloc, at, key);
@@ -140,7 +151,8 @@ fn names_at<'a>(
 }
 
 fn shallow(alloc: Global, at: Place, key: &str, names: Items<Name>) -> Result<Path, ConfFault>
-    ensures { Gives result (the_shallow at key.now names) }
+    ensures value { Gives result (the_shallow at key.now names) }
+    ensures same { IfOk result (λ path. (path ≡ names) × (length path ≤ 16)) }
 {
     match Path::from_vec(names.into_vec()) {
         Some(path) => Ok(path),
@@ -157,7 +169,9 @@ pub fn path_at<'a>(
     key: &str,
 ) -> Result<(Path, &'a str), ConfFault>
     ensures value { GivesView (λ p. p.0) result (the_path_at at key.now (table_view table.now)) }
+    ensures few { IfOk result (λ p. length p.0 ≤ 16) }
     ensures text { IfOk result (λ p. p.1.now ≡ path_text p.0) }
+    ensures named { IfOk result (λ p. list_all is_name p.0 ≡ true) }
 {
     let (names, text) = names_at(alloc, at, table, key)?;
     let path = shallow(alloc, at, key, names)?;

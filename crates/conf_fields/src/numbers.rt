@@ -1,9 +1,9 @@
 //! Names turned into numbers.
-ghost use Rattle.std.specs.Prelude.{◌≡◌, [], None, Err, OnOk, IfErr, IfOk};
+ghost use Rattle.std.specs.Prelude.{◌≡◌, [], Some, None, Err, OnOk, IfErr, IfOk};
 ghost use Rattle.toml.specs.View.{table_view};
 ghost use Rattle.conf_fields.specs.declared.fault.ConfFault.TheVariants as fault;
 ghost use Rattle.conf_fields.specs.Gives.{Gives};
-ghost use Rattle.conf_fields.specs.Numbers.{find_in, noted, place_of, seen_of, not_twice as the_not_twice, number_named as the_number_named, or_no_such};
+ghost use Rattle.conf_fields.specs.Numbers.{find_in, noted, place_of, seen_of, not_twice as the_not_twice, number_named as the_number_named, or_no_such, IsNumber};
 
 use crate::fault::ConfFault;
 use crate::faulty::{no_such, twice};
@@ -64,7 +64,8 @@ pub fn not_twice(
 
 /// The number, or NoSuch at the key.
 pub fn or_missing(alloc: Global, at: Place, key: &str, found: Option<u32>) -> Result<u32, ConfFault>
-    ensures { Gives result (or_no_such at key.now found) }
+    ensures value { Gives result (or_no_such at key.now found) }
+    ensures found { IfOk result (λ n. found ≡ Some n) }
 {
     match found {
         Some(number) => Ok(number),
@@ -81,7 +82,8 @@ pub fn number_named(
     table: &Table,
     key: &str,
 ) -> Result<u32, ConfFault>
-    ensures { Gives result (the_number_named (find_in numbers.now) at key.now (table_view table.now)) }
+    ensures value { Gives result (the_number_named (find_in numbers.now) at key.now (table_view table.now)) }
+    ensures found { IfOk result (λ n. IsNumber (find_in numbers.now) n) }
 {
     let (_, name) = name_at(alloc, at, table, key)?;
     or_missing(alloc, at, key, find(numbers, name))

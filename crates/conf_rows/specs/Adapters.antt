@@ -1,9 +1,10 @@
 -- The adapters of a configuration.
-use Rattle.std.specs.Prelude.{ℕ, Bool, true, false, not, ◌&&◌, ◌||◌, ◌==◌, List, [], ◌∷◌, codes, length, map, Option, Some, None, is_some, Result, Ok, if◌then◌else◌}
+use Rattle.std.specs.Prelude.{ℕ, Bool, true, false, not, ◌||◌, ◌==◌, List, [], ◌∷◌, codes, length, map, Option, Some, None, Result, Ok, if◌then◌else◌}
 use Rattle.std.specs.List.{slice_get, list_any}
 use Rattle.poa_base.specs.declared.AdapterConf.{AdapterConf}
 use Rattle.poa_base.specs.declared.PolicySet.{PolicySet}
-use Rattle.poa_policy.specs.Rules.{defaults, is_default_servant}
+use Rattle.poa_base.specs.Policies.{is_default_servant}
+use Rattle.poa_policy.specs.Rules.{defaults}
 use Rattle.text_words.specs.Path.{path_text}
 use Rattle.toml.specs.Data.{Data, Members, as_bool}
 use Rattle.conf_fields.specs.Chain.{◌>>=◌}

@@ -3,3 +3,4 @@ pub mod Servants
 pub mod Policies
 pub mod Rules
 pub mod Adapters
+pub mod Found

@@ -1,11 +1,14 @@
 //! The adapters of a configuration.
-ghost use Rattle.std.specs.Prelude.{◌≡◌, ◌≤◌, ◌<◌, [], length, None, IfOk, option_map, Option};
+ghost use Rattle.std.specs.Prelude.{◌≡◌, ◌≤◌, ◌<◌, true, false, [], length, None, IfOk, IfSome, option_map, Option};
 ghost use Rattle.std.specs.List.{slice_get};
 ghost use Rattle.toml.specs.View.{view, table_view, items_view};
 ghost use Rattle.conf_fields.specs.Entries.{entries_of};
 ghost use Rattle.conf_fields.specs.Gives.{Gives, GivesView};
 ghost use Rattle.conf_fields.specs.Look.{only_known};
-ghost use Rattle.conf_fields.specs.Numbers.{find_in, noted, place_of};
+ghost use Rattle.conf_fields.specs.Numbers.{Find, IsNumber, find_in, noted, place_of};
+ghost use Rattle.conf_rules.specs.Adapters.{IsPreset};
+ghost use Rattle.conf_rules.specs.Entries.{EachAfter};
+ghost use Rattle.conf_rows.specs.Found.{HasParent, IsFound, IsManagerNumber, IsRead, IsReadAfter};
 ghost use Rattle.conf_fields.specs.declared.Place.TheVariants as place;
 ghost use Rattle.text_words.specs.Path.{path_text};
 ghost use Rattle.conf_rows.specs.Adapters.{adapter_keys as the_adapter_keys, parent_text as the_parent_text, parent_boots as the_parent_boots, boots_at as the_boots_at, boot_at as the_boot_at, manager_number as the_manager_number, preset_given as the_preset_given, preset_at as the_preset_at, root_at as the_root_at, template_at as the_template_at, entry_at as the_entry_at, adapter_at as the_adapter_at, adapter_in, adapter_after, adapter_paths, adapters_of};
@@ -81,7 +84,8 @@ fn boot_at(
     text: &str,
     table: &Table,
 ) -> Result<bool, ConfFault>
-    ensures { Gives result (the_boot_at at (find_in paths.now) adapters.now text.now (table_view table.now)) }
+    ensures value { Gives result (the_boot_at at (find_in paths.now) adapters.now text.now (table_view table.now)) }
+    ensures parent { IfOk result (λ boot. boot ≡ true → the_parent_boots (find_in paths.now) adapters.now (the_parent_text text.now) ≡ true) }
 {
     let boot = flag_or(alloc, at, table, "boot", false)?;
     let rooted = parent_boots(paths, adapters, parent_text(text));
@@ -96,7 +100,8 @@ fn manager_number(
     managers: &Numbers,
     table: &Table,
 ) -> Result<u32, ConfFault>
-    ensures { Gives result (the_manager_number at (find_in managers.now) (table_view table.now)) }
+    ensures value { Gives result (the_manager_number at (find_in managers.now) (table_view table.now)) }
+    ensures found { IfOk result (λ n. IsManagerNumber (find_in managers.now) n) }
 {
     if has(table, "manager") {
         number_named(alloc, managers, at, table, "manager")
@@ -112,7 +117,8 @@ fn preset_given(
     policies: &PolicySet,
     table: &Table,
 ) -> Result<Option<u32>, ConfFault>
-    ensures { Gives result (the_preset_given at (find_in servants.now) policies.now (table_view table.now)) }
+    ensures value { Gives result (the_preset_given at (find_in servants.now) policies.now (table_view table.now)) }
+    ensures found { IfOk result (λ preset. IfSome preset (IsPreset (IsNumber (find_in servants.now)) policies.now)) }
 {
     only_if(
         alloc,
@@ -132,7 +138,8 @@ fn preset_at(
     policies: &PolicySet,
     table: &Table,
 ) -> Result<Option<u32>, ConfFault>
-    ensures { Gives result (the_preset_at at (find_in servants.now) policies.now (table_view table.now)) }
+    ensures value { Gives result (the_preset_at at (find_in servants.now) policies.now (table_view table.now)) }
+    ensures found { IfOk result (λ preset. IfSome preset (IsPreset (IsNumber (find_in servants.now)) policies.now)) }
 {
     if has(table, "default") {
         preset_given(alloc, at, servants, policies, table)
@@ -146,6 +153,8 @@ fn preset_at(
 fn root_at(alloc: Global, at: Place, table: &Table) -> Result<AdapterConf, ConfFault>
     ensures value { Gives result (the_root_at at (table_view table.now)) }
     ensures path { IfOk result (λ a. a.path ≡ []) }
+    ensures boot { IfOk result (λ a. a.boot ≡ false) }
+    ensures found { (managers servants : Find) → IfOk result (λ a. IsFound managers servants a) }
 {
     none_of(alloc, at, table, &["policies", "manager", "boot"])?;
     let children = word_maybe(alloc, at, table, "children")?;
@@ -175,6 +184,8 @@ fn template_at(
     requires { text.now ≡ path_text path }
     ensures value { Gives result (the_template_at i path (find_in earlier.now.managers.now) (find_in earlier.now.servants.now) (find_in earlier.now.paths.now) earlier.now.adapters.now (table_view table.now)) }
     ensures path { IfOk result (λ a. a.path ≡ path) }
+    ensures boot { IfOk result (λ a. a.boot ≡ true → the_parent_boots (find_in earlier.now.paths.now) earlier.now.adapters.now (the_parent_text text.now) ≡ true) }
+    ensures found { IfOk result (λ a. IsFound (find_in earlier.now.managers.now) (find_in earlier.now.servants.now) a) }
 {
     let at = Place::Adapter(i);
     let policies = policies_at(alloc, at, &path, table)?;
@@ -206,6 +217,8 @@ fn entry_at(
     requires { text.now ≡ path_text path }
     ensures value { Gives result (the_entry_at path i (find_in earlier.now.managers.now) (find_in earlier.now.servants.now) (find_in earlier.now.paths.now) earlier.now.adapters.now (table_view table.now)) }
     ensures path { IfOk result (λ a. a.path ≡ path) }
+    ensures boot { IfOk result (λ a. a.boot ≡ true → HasParent (find_in earlier.now.paths.now) earlier.now.adapters.now path) }
+    ensures found { IfOk result (λ a. IsFound (find_in earlier.now.managers.now) (find_in earlier.now.servants.now) a) }
 {
     if path.as_slice().is_empty() {
         root_at(alloc, Place::Adapter(i), table)
@@ -224,7 +237,7 @@ fn adapter_at<'a>(
 ) -> Result<(AdapterConf, &'a str), ConfFault>
     ensures value { GivesView (λ p. p.0) result (the_adapter_at i (find_in earlier.now.managers.now) (find_in earlier.now.servants.now) (find_in earlier.now.paths.now) earlier.now.adapters.now (table_view table.now)) }
     ensures name { IfOk result (λ p. p.1.now ≡ path_text p.0.path) }
-    ensures fresh { IfOk result (λ p. find_in earlier.now.paths.now (path_text p.0.path) ≡ None) }
+    ensures read { IfOk result (λ p. IsRead (find_in earlier.now.managers.now) (find_in earlier.now.servants.now) (find_in earlier.now.paths.now) earlier.now.adapters.now p.0) }
 {
     let at = Place::Adapter(i);
     let (path, text) = path_at(alloc, at, table, "path")?;
@@ -244,7 +257,7 @@ fn next_adapter(
     adapters: &[AdapterConf],
 ) -> Result<AdapterConf, ConfFault>
     ensures entry { Gives result (adapter_in i (find_in managers.now) (find_in servants.now) (find_in paths.old) adapters.now (view value.now)) }
-    ensures fresh { IfOk result (λ a. find_in paths.old (path_text a.path) ≡ None) }
+    ensures read { IfOk result (λ a. IsRead (find_in managers.now) (find_in servants.now) (find_in paths.old) adapters.now a) }
     ensures noted { IfOk result (λ a. find_in paths.new ≡ noted (path_text a.path) i (find_in paths.old)) }
 {
     let table = table_in(alloc, Place::Adapter(i), value)?;
@@ -272,6 +285,8 @@ fn entries(
     requires start { find_in paths.old ≡ place_of (adapter_paths []) }
     ensures value { Gives result (entries_of (adapter_after (find_in managers.now) (find_in servants.now)) [] (items_view values.now)) }
     ensures paths { IfOk result (λ adapters. find_in paths.new ≡ place_of (adapter_paths adapters)) }
+    ensures read { IfOk result (λ adapters. EachAfter (IsReadAfter (find_in managers.now) (find_in servants.now)) [] adapters) }
+    ensures few { IfOk result (λ adapters. length adapters ≤ 1024) }
 {
     let mut adapters = Vec::new(alloc);
     for (i, value) in values.iter().enumerate() {
@@ -294,6 +309,8 @@ pub fn adapters(
 ) -> Result<(Items<AdapterConf>, Numbers), ConfFault>
     ensures value { GivesView (λ p. p.0) result (adapters_of (find_in managers.now) (find_in servants.now) (table_view top.now)) }
     ensures paths { IfOk result (λ p. find_in p.1 ≡ place_of (adapter_paths p.0)) }
+    ensures read { IfOk result (λ p. EachAfter (IsReadAfter (find_in managers.now) (find_in servants.now)) [] p.0) }
+    ensures few { IfOk result (λ p. length p.0 ≤ 1024) }
 {
     let values = entries_at(alloc, Place::Top, top, "adapter", 1024)?;
     let mut paths = no_numbers(alloc);

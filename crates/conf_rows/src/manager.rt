@@ -1,8 +1,11 @@
 //! The managers of a configuration.
-ghost use Rattle.std.specs.Prelude.{◌≡◌, ◌≤◌, ◌<◌, ◌+◌, [], length, None, IfOk, IfErr};
+ghost use Rattle.std.specs.Prelude.{◌≡◌, ◌≤◌, ◌<◌, ◌+◌, true, [], length, None, IfOk, IfErr};
 ghost use Rattle.toml.specs.View.{view, table_view, items_view};
 ghost use Rattle.conf_fields.specs.Entries.{entries_of};
 ghost use Rattle.conf_fields.specs.Gives.{Gives, GivesView};
+ghost use Rattle.text_words.specs.Name.{is_name};
+ghost use Rattle.conf_rules.specs.Entries.{EachAfter};
+ghost use Rattle.conf_rules.specs.Rules.{IsManager};
 ghost use Rattle.conf_fields.specs.Numbers.{find_in, noted, place_of};
 ghost use Rattle.conf_fields.specs.declared.Place.TheVariants as place;
 ghost use Rattle.conf_fields.specs.declared.ConfFault.TheVariants as fault;
@@ -27,6 +30,7 @@ fn manager_at<'a>(
     ensures value { GivesView (λ p. p.0) result (the_manager_at at (find_in numbers.now) (table_view table.now)) }
     ensures name { IfOk result (λ p. p.1.now ≡ p.0.name) }
     ensures fresh { IfOk result (λ p. find_in numbers.now p.0.name ≡ None) }
+    ensures named { IfOk result (λ p. is_name p.0.name ≡ true) }
 {
     let (name, text) = name_at(alloc, at, table, "name")?;
     not_twice(alloc, numbers, at, "name", text)?;
@@ -45,6 +49,7 @@ fn next_manager(
     requires { i < 1024 }
     ensures entry { Gives result (manager_in (place.Manager i) (find_in numbers.old) (view value.now)) }
     ensures fresh { IfOk result (λ m. find_in numbers.old m.name ≡ None) }
+    ensures named { IfOk result (λ m. is_name m.name ≡ true) }
     ensures noted { IfOk result (λ m. find_in numbers.new ≡ noted m.name (i + 1) (find_in numbers.old)) }
 {
     let at = Place::Manager(i);
@@ -63,6 +68,8 @@ fn entries(
     requires start { find_in numbers.old ≡ place_of (manager_names []) }
     ensures value { Gives result (entries_of manager_after [] (items_view values.now)) }
     ensures numbers { IfOk result (λ managers. find_in numbers.new ≡ place_of (manager_names managers)) }
+    ensures kept { IfOk result (λ managers. EachAfter IsManager [] managers) }
+    ensures few { IfOk result (λ managers. length managers ≤ 1024) }
 {
     let mut managers = Vec::new(alloc);
     for (i, value) in values.iter().enumerate() {
@@ -88,6 +95,8 @@ fn root_alone(alloc: Global) -> Result<Numbers, ConfFault>
 pub fn managers(alloc: Global, top: &Table) -> Result<(Items<ManagerConf>, Numbers), ConfFault>
     ensures value { GivesView (λ p. p.0) result (managers_of (table_view top.now)) }
     ensures numbers { IfOk result (λ p. find_in p.1 ≡ place_of (manager_names p.0)) }
+    ensures kept { IfOk result (λ p. EachAfter IsManager [] p.0) }
+    ensures few { IfOk result (λ p. length p.0 ≤ 1024) }
 {
     let values = entries_at(alloc, Place::Top, top, "manager", 1024)?;
     let mut numbers = root_alone(alloc)?;

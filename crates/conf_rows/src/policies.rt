@@ -1,14 +1,15 @@
 //! The policies of an adapter.
-ghost use Rattle.std.specs.Prelude.{◌≡◌, []};
+ghost use Rattle.std.specs.Prelude.{◌≡◌, [], IfOk};
 ghost use Rattle.toml.specs.View.{table_view, items_view};
 ghost use Rattle.poa_policy.specs.Settled.{settled as the_settled};
 ghost use Rattle.conf_fields.specs.Entries.{entries_of};
 ghost use Rattle.conf_fields.specs.Gives.{Gives};
+ghost use Rattle.conf_rules.specs.Adapters.{AreTogether};
 ghost use Rattle.conf_rows.specs.Policies.{policy_after, or_policy as the_or_policy, policies_at as the_policies_at};
 
 use conf_fields::{ConfFault, Place, items_at, or_wrong, word_in};
 use poa_base::{Items, Path, Policy, PolicySet, TryClone};
-use poa_policy::{InvalidPolicy, settle};
+use poa_policy::settle;
 use std::alloc::Global;
 use toml::{Table, Value};
 
@@ -25,10 +26,11 @@ fn entries(alloc: Global, at: Place, values: &[Value]) -> Result<Items<Policy>, 
     Ok(Items::from_vec(list))
 }
 
-fn or_policy(path: &Path, settled: Result<PolicySet, InvalidPolicy>) -> Result<PolicySet, ConfFault>
-    ensures { Gives result (the_or_policy path.now settled) }
+fn settled_at(path: &Path, list: &[Policy]) -> Result<PolicySet, ConfFault>
+    ensures value { Gives result (the_or_policy path.now (the_settled list.now)) }
+    ensures together { IfOk result AreTogether }
 {
-    match settled {
+    match settle(list) {
         Ok(set) => Ok(set),
         Err(bad) => Err(ConfFault::Policy {
             adapter: path.try_clone()?,
@@ -45,9 +47,10 @@ pub(crate) fn policies_at(
     path: &Path,
     table: &Table,
 ) -> Result<PolicySet, ConfFault>
-    ensures { Gives result (the_policies_at at path.now (table_view table.now)) }
+    ensures value { Gives result (the_policies_at at path.now (table_view table.now)) }
+    ensures together { IfOk result AreTogether }
 {
     let values = items_at(alloc, at, table, "policies")?;
     let list = entries(alloc, at, values)?;
-    or_policy(path, settle(list.as_slice()))
+    settled_at(path, list.as_slice())
 }

@@ -1,13 +1,15 @@
 //! The rules of a servant manager.
-ghost use Rattle.std.specs.Prelude.{◌≡◌, ◌≤◌, ◌||◌, [], length, codes, IfOk, IfErr};
+ghost use Rattle.std.specs.Prelude.{◌≡◌, ◌≤◌, ◌||◌, ℕ, [], length, codes, IfOk, IfErr};
 ghost use Rattle.toml.specs.View.{view, table_view, items_view};
 ghost use Rattle.conf_fields.specs.Entries.{entries_of};
 ghost use Rattle.conf_fields.specs.Gives.{Gives as Answers};
 ghost use Rattle.conf_fields.specs.Look.{wanted, text_in, only_known};
-ghost use Rattle.conf_fields.specs.Numbers.{find_in};
+ghost use Rattle.conf_fields.specs.Numbers.{Find, IsNumber, find_in};
+ghost use Rattle.conf_rules.specs.Adapters.{AreRules, GivesWithin};
+ghost use Rattle.std.specs.List.{AllByRecursion};
 ghost use Rattle.conf_fields.specs.declared.ConfFault.TheVariants as fault;
 ghost use Rattle.conf_fields.specs.declared.Place.TheVariants as place;
-ghost use Rattle.poa_policy.specs.Rules.{is_servant_manager as the_servant_manager};
+ghost use Rattle.poa_base.specs.Policies.{is_servant_manager as the_servant_manager};
 ghost use Rattle.conf_rows.specs.Rules.{matched as the_matched, no_other as the_no_other, not_raised as the_not_raised, way_of as the_way_of, completion_of as the_completion_of, fresh_at as the_fresh_at, servant_given as the_servant_given, forward_given as the_forward_given, raise_given as the_raise_given, given_by as the_given_by, rule_at as the_rule_at, rule_in, rule_after, rules_at as the_rules_at, is_empty as the_empty, rule_keys as the_rule_keys};
 
 use conf_fields::{
@@ -112,7 +114,8 @@ fn fresh_at(
     policies: &PolicySet,
     table: &Table,
 ) -> Result<Gives, ConfFault>
-    ensures { Answers result (the_fresh_at at policies.now (table_view table.now)) }
+    ensures value { Answers result (the_fresh_at at policies.now (table_view table.now)) }
+    ensures within { (servants : Find) → IfOk result (GivesWithin (IsNumber servants) policies.now) }
 {
     let kind = word_at(alloc, at, table, "fresh")?;
     only_if(alloc, at, "fresh", is_retain(policies.retention))?;
@@ -127,7 +130,8 @@ fn servant_given(
     servants: &Numbers,
     table: &Table,
 ) -> Result<Gives, ConfFault>
-    ensures { Answers result (the_servant_given at (find_in servants.now) (table_view table.now)) }
+    ensures value { Answers result (the_servant_given at (find_in servants.now) (table_view table.now)) }
+    ensures within { (set : PolicySet) → IfOk result (GivesWithin (IsNumber (find_in servants.now)) set) }
 {
     let servant = number_named(alloc, servants, at, table, "servant")?;
     none_of(
@@ -141,7 +145,8 @@ fn servant_given(
 
 #[tactic(auto, unfolding(crate::specs::Rules::forward_given))]
 fn forward_given(alloc: Global, at: Place, table: &Table) -> Result<Gives, ConfFault>
-    ensures { Answers result (the_forward_given at (table_view table.now)) }
+    ensures value { Answers result (the_forward_given at (table_view table.now)) }
+    ensures within { (servants : Find) (set : PolicySet) → IfOk result (GivesWithin (IsNumber servants) set) }
 {
     let host = host_at(alloc, at, table, "forward_host")?;
     let port = port_at(alloc, at, table, "forward_port")?;
@@ -151,7 +156,8 @@ fn forward_given(alloc: Global, at: Place, table: &Table) -> Result<Gives, ConfF
 
 #[tactic(auto, unfolding(crate::specs::Rules::raise_given))]
 fn raise_given(alloc: Global, at: Place, table: &Table) -> Result<Gives, ConfFault>
-    ensures { Answers result (the_raise_given at (table_view table.now)) }
+    ensures value { Answers result (the_raise_given at (table_view table.now)) }
+    ensures within { (servants : Find) (set : PolicySet) → IfOk result (GivesWithin (IsNumber servants) set) }
 {
     let name = word_at(alloc, at, table, "raise")?;
     let minor = number_or(alloc, at, table, "minor", 0, u32::MAX, 0)?;
@@ -167,7 +173,8 @@ fn given_by(
     policies: &PolicySet,
     table: &Table,
 ) -> Result<Gives, ConfFault>
-    ensures { Answers result (the_given_by way at (find_in servants.now) policies.now (table_view table.now)) }
+    ensures value { Answers result (the_given_by way at (find_in servants.now) policies.now (table_view table.now)) }
+    ensures within { IfOk result (GivesWithin (IsNumber (find_in servants.now)) policies.now) }
 {
     match way {
         Way::Fresh => fresh_at(alloc, at, policies, table),
@@ -186,7 +193,8 @@ fn rule_at(
     policies: &PolicySet,
     table: &Table,
 ) -> Result<RuleConf, ConfFault>
-    ensures { Answers result (the_rule_at at (find_in servants.now) policies.now (table_view table.now)) }
+    ensures value { Answers result (the_rule_at at (find_in servants.now) policies.now (table_view table.now)) }
+    ensures within { IfOk result (λ r. GivesWithin (IsNumber (find_in servants.now)) policies.now r.gives) }
 {
     let oid = matched_at(alloc, at, table)?;
     let gives = given_by(alloc, way_of(table), at, servants, policies, table)?;
@@ -201,7 +209,8 @@ fn next_rule(
     policies: &PolicySet,
     value: &Value,
 ) -> Result<RuleConf, ConfFault>
-    ensures { Answers result (rule_in at (find_in servants.now) policies.now (view value.now)) }
+    ensures value { Answers result (rule_in at (find_in servants.now) policies.now (view value.now)) }
+    ensures within { IfOk result (λ r. GivesWithin (IsNumber (find_in servants.now)) policies.now r.gives) }
 {
     let table = table_in(alloc, at, value)?;
     rule_at(alloc, at, servants, policies, table)
@@ -215,7 +224,9 @@ fn entries(
     values: &[Value],
 ) -> Result<Items<RuleConf>, ConfFault>
     requires { length values.now ≤ 1024 }
-    ensures { Answers result (entries_of (rule_after i (find_in servants.now) policies.now) [] (items_view values.now)) }
+    ensures value { Answers result (entries_of (rule_after i (find_in servants.now) policies.now) [] (items_view values.now)) }
+    ensures within { IfOk result (λ rules. AllByRecursion (λ r. GivesWithin (IsNumber (find_in servants.now)) policies.now r.gives) rules) }
+    ensures count { IfOk result (λ rules. length rules ≡ length values.now) }
 {
     let mut rules = Vec::new(alloc);
     for (j, value) in values.iter().enumerate() {
@@ -236,7 +247,8 @@ pub(crate) fn rules_at(
     policies: &PolicySet,
     table: &Table,
 ) -> Result<Items<RuleConf>, ConfFault>
-    ensures { Answers result (the_rules_at i (find_in servants.now) policies.now (table_view table.now)) }
+    ensures value { Answers result (the_rules_at i (find_in servants.now) policies.now (table_view table.now)) }
+    ensures rules { IfOk result (λ rules. AreRules (IsNumber (find_in servants.now)) policies.now rules) }
 {
     let at = Place::Adapter(i);
     let values = items_at(alloc, at, table, "rule")?;

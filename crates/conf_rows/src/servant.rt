@@ -1,8 +1,11 @@
 //! The servants of a configuration.
-ghost use Rattle.std.specs.Prelude.{◌≡◌, ◌≤◌, ◌<◌, ◌+◌, [], length, None, IfOk};
+ghost use Rattle.std.specs.Prelude.{◌≡◌, ◌≤◌, ◌<◌, ◌+◌, true, [], length, None, IfOk};
 ghost use Rattle.toml.specs.View.{view, table_view, items_view};
 ghost use Rattle.conf_fields.specs.Entries.{entries_of};
 ghost use Rattle.conf_fields.specs.Gives.{Gives, GivesView};
+ghost use Rattle.text_words.specs.Name.{is_name};
+ghost use Rattle.conf_rules.specs.Entries.{EachAfter};
+ghost use Rattle.conf_rules.specs.Rules.{IsServant};
 ghost use Rattle.conf_fields.specs.Numbers.{find_in, noted, place_of};
 ghost use Rattle.conf_fields.specs.declared.Place.TheVariants as place;
 ghost use Rattle.conf_rows.specs.Servants.{without_value as the_without_value, register_opening, opening as the_opening, servant_at as the_servant_at, servant_in, servant_after, servant_names, servants_of};
@@ -53,6 +56,7 @@ fn servant_at<'a>(
     ensures value { GivesView (λ p. p.0) result (the_servant_at at (find_in numbers.now) (table_view table.now)) }
     ensures name { IfOk result (λ p. p.1.now ≡ p.0.name) }
     ensures fresh { IfOk result (λ p. find_in numbers.now p.0.name ≡ None) }
+    ensures named { IfOk result (λ p. is_name p.0.name ≡ true) }
 {
     let (name, text) = name_at(alloc, at, table, "name")?;
     not_twice(alloc, numbers, at, "name", text)?;
@@ -71,6 +75,7 @@ fn next_servant(
 ) -> Result<ServantConf, ConfFault>
     ensures entry { Gives result (servant_in (place.Servant i) (find_in numbers.old) (view value.now)) }
     ensures fresh { IfOk result (λ s. find_in numbers.old s.name ≡ None) }
+    ensures named { IfOk result (λ s. is_name s.name ≡ true) }
     ensures noted { IfOk result (λ s. find_in numbers.new ≡ noted s.name i (find_in numbers.old)) }
 {
     let at = Place::Servant(i);
@@ -89,6 +94,8 @@ fn entries(
     requires start { find_in numbers.old ≡ place_of (servant_names []) }
     ensures value { Gives result (entries_of servant_after [] (items_view values.now)) }
     ensures numbers { IfOk result (λ servants. find_in numbers.new ≡ place_of (servant_names servants)) }
+    ensures kept { IfOk result (λ servants. EachAfter IsServant [] servants) }
+    ensures few { IfOk result (λ servants. length servants ≤ 1024) }
 {
     let mut servants = Vec::new(alloc);
     for (i, value) in values.iter().enumerate() {
@@ -105,6 +112,8 @@ fn entries(
 pub fn servants(alloc: Global, top: &Table) -> Result<(Items<ServantConf>, Numbers), ConfFault>
     ensures value { GivesView (λ p. p.0) result (servants_of (table_view top.now)) }
     ensures numbers { IfOk result (λ p. find_in p.1 ≡ place_of (servant_names p.0)) }
+    ensures kept { IfOk result (λ p. EachAfter IsServant [] p.0) }
+    ensures few { IfOk result (λ p. length p.0 ≤ 1024) }
 {
     let values = entries_at(alloc, Place::Top, top, "servant", 1024)?;
     let mut numbers = no_numbers(alloc);

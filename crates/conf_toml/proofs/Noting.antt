@@ -1,6 +1,5 @@
 -- The objects and forwards that were read, and what is noted of them.
-use Rattle.std.proofs.Common.{◌≡◌, ℕ, List, [], ◌∷◌, ◌++◌, map, Option, Some, None, refl, ap, sym, ◌∙◌, append-nil}
-use Rattle.std.specs.List.{flat_map}
+use Rattle.std.proofs.Common.{◌≡◌, ℕ, List, [], ◌∷◌, ◌++◌, Option, Some, None, ap, ◌∙◌, append-nil}
 use Rattle.std.proofs.lemmas.Grind.{flat_map-append}
 use Rattle.poa_base.specs.declared.ForwardConf.{ForwardConf}
 use Rattle.poa_base.specs.declared.ObjectConf.{ObjectConf}

@@ -1,14 +1,11 @@
 -- The configuration of a text.
-use Rattle.std.specs.Prelude.{◌≡◌, ◌⊎◌, ℕ, List, Option, Some, None, Result, Ok, Err, IsUtf8}
-use Rattle.poa_base.specs.declared.AdapterConf.{AdapterConf}
+use Rattle.std.specs.Prelude.{◌≡◌, ◌⊎◌, ℕ, List, Some, None, Result, Ok, Err, IsUtf8}
 use Rattle.poa_base.specs.declared.Config.{Config}
-use Rattle.poa_base.specs.declared.ManagerConf.{ManagerConf}
-use Rattle.poa_base.specs.declared.ServantConf.{ServantConf}
 use Rattle.toml.specs.Data.{Members}
 use Rattle.toml.specs.Parse.{parse_document}
 use Rattle.conf_fields.specs.Chain.{◌>>=◌}
 use Rattle.conf_fields.specs.Gives.{Gives}
-use Rattle.conf_fields.specs.Numbers.{Find, place_of}
+use Rattle.conf_fields.specs.Numbers.{place_of}
 use Rattle.conf_fields.specs.declared.ConfFault.{ConfFault}
 use Rattle.conf_fields.specs.declared.ConfFault.TheVariants.{NotToml, WantMemory}
 use Rattle.conf_rows.specs.Managers.{managers_of, manager_names}

@@ -2,6 +2,7 @@
 ghost use Rattle.std.specs.Prelude.{◌≡◌, IfOk};
 ghost use Rattle.toml.specs.View.{table_view};
 ghost use Rattle.conf_fields.specs.Gives.{Gives};
+ghost use Rattle.conf_rules.specs.Rules.{KeepsRules};
 ghost use Rattle.conf_toml.specs.Configuration.{config_of, ReadAs};
 
 use crate::forward::forwards;
@@ -16,7 +17,8 @@ use toml::Table;
 /// The configuration of a document's table.
 #[tactic(auto, unfolding(crate::specs::Configuration::config_of))]
 fn config(alloc: Global, top: &Table) -> Result<Config, ConfFault>
-    ensures { Gives result (config_of (table_view top.now)) }
+    ensures value { Gives result (config_of (table_view top.now)) }
+    ensures rules { IfOk result KeepsRules }
 {
     let settings = top_settings(alloc, top)?;
     let (managers, manager_numbers) = managers(alloc, top)?;
@@ -50,7 +52,9 @@ fn config(alloc: Global, top: &Table) -> Result<Config, ConfFault>
 /// docs/FORMATS.md, entry by entry, key by key, with the path of its key. An absent key has its default;
 /// names are turned into numbers. The time is near linear in the bytes.
 pub fn read_config(alloc: Global, bytes: &[u8]) -> Result<Config, ConfFault>
-    ensures { ReadAs bytes.now result }
+    ensures read { ReadAs bytes.now result }
+    // The rules that docs/FORMATS.md has beside each key.
+    ensures rules { IfOk result KeepsRules }
 {
     match toml::table_from_slice(alloc, bytes) {
         Ok(table) => config(alloc, &table),

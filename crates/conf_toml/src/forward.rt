@@ -1,7 +1,12 @@
 //! The endpoint table of a configuration.
-ghost use Rattle.std.specs.Prelude.{◌≡◌, ◌≤◌, [], length, None, IfOk};
+ghost use Rattle.std.specs.Prelude.{◌≡◌, ◌≤◌, true, [], length, None, IfOk};
 ghost use Rattle.toml.specs.View.{view, table_view, items_view};
+ghost use Rattle.std.specs.List.{list_all};
+ghost use Rattle.text_words.specs.Name.{is_name};
 ghost use Rattle.text_words.specs.Path.{path_text};
+ghost use Rattle.conf_rules.specs.Adapters.{IsEndpoint};
+ghost use Rattle.conf_rules.specs.Entries.{EachAfter};
+ghost use Rattle.conf_rules.specs.Rules.{IsForward};
 ghost use Rattle.conf_fields.specs.Entries.{entries_of};
 ghost use Rattle.conf_fields.specs.Gives.{Gives, GivesView};
 ghost use Rattle.conf_fields.specs.Numbers.{find_in, noted, place_of};
@@ -27,6 +32,8 @@ fn forward_at<'a>(
     ensures value { GivesView (λ p. p.0) result (the_forward_at at (find_in paths.now) (table_view table.now)) }
     ensures name { IfOk result (λ p. p.1.now ≡ path_text p.0.path) }
     ensures fresh { IfOk result (λ p. find_in paths.now (path_text p.0.path) ≡ None) }
+    ensures written { IfOk result (λ p. (length p.0.path ≤ 16) × (list_all is_name p.0.path ≡ true)) }
+    ensures endpoint { IfOk result (λ p. IsEndpoint p.0.endpoint) }
 {
     let (path, text) = path_at(alloc, at, table, "path")?;
     not_twice(alloc, paths, at, "path", text)?;
@@ -46,6 +53,8 @@ fn next_forward(
 ) -> Result<ForwardConf, ConfFault>
     ensures entry { Gives result (forward_in (place.Forward i) (find_in paths.old) (view value.now)) }
     ensures fresh { IfOk result (λ f. find_in paths.old (path_text f.path) ≡ None) }
+    ensures written { IfOk result (λ f. (length f.path ≤ 16) × (list_all is_name f.path ≡ true)) }
+    ensures endpoint { IfOk result (λ f. IsEndpoint f.endpoint) }
     ensures noted { IfOk result (λ f. find_in paths.new ≡ noted (path_text f.path) i (find_in paths.old)) }
 {
     let at = Place::Forward(i);
@@ -62,7 +71,9 @@ fn entries(
 ) -> Result<Items<ForwardConf>, ConfFault>
     requires few { length values.now ≤ 1024 }
     requires start { find_in paths.old ≡ place_of (forward_paths []) }
-    ensures { Gives result (entries_of forward_after [] (items_view values.now)) }
+    ensures value { Gives result (entries_of forward_after [] (items_view values.now)) }
+    ensures kept { IfOk result (λ forwards. EachAfter IsForward [] forwards) }
+    ensures few { IfOk result (λ forwards. length forwards ≤ 1024) }
 {
     let mut forwards = Vec::new(alloc);
     for (i, value) in values.iter().enumerate() {
@@ -77,7 +88,9 @@ fn entries(
 /// The endpoint table of the document.
 #[tactic(auto, unfolding(crate::specs::Forwards::forwards_of))]
 pub(crate) fn forwards(alloc: Global, top: &Table) -> Result<Items<ForwardConf>, ConfFault>
-    ensures { Gives result (forwards_of (table_view top.now)) }
+    ensures value { Gives result (forwards_of (table_view top.now)) }
+    ensures kept { IfOk result (λ forwards. EachAfter IsForward [] forwards) }
+    ensures few { IfOk result (λ forwards. length forwards ≤ 1024) }
 {
     let values = entries_at(alloc, Place::Top, top, "forward", 1024)?;
     let mut paths = no_numbers(alloc);

@@ -1,9 +1,10 @@
 //! The keys of the top table that aren't arrays of tables.
-ghost use Rattle.std.specs.Prelude.{◌≡◌};
+ghost use Rattle.std.specs.Prelude.{◌≡◌, ◌≤◌, true, IfOk};
 ghost use Rattle.toml.specs.View.{table_view};
 ghost use Rattle.conf_fields.specs.Gives.{Gives};
 ghost use Rattle.conf_fields.specs.Look.{only_known};
 ghost use Rattle.conf_fields.specs.declared.Place.TheVariants as place;
+ghost use Rattle.text_words.specs.Name.{is_host};
 ghost use Rattle.conf_toml.specs.Settings.{settings_of, top_keys as the_top_keys};
 
 use conf_fields::{ConfFault, Place, host_or, known_keys, number_or, port_or, word_or};
@@ -45,7 +46,10 @@ fn top_keys(alloc: Global, top: &Table) -> Result<(), ConfFault>
 /// The settings of the document.
 #[tactic(auto, unfolding(crate::specs::Settings::settings_of))]
 pub(crate) fn top_settings(alloc: Global, top: &Table) -> Result<Settings, ConfFault>
-    ensures { Gives result (settings_of (table_view top.now)) }
+    ensures value { Gives result (settings_of (table_view top.now)) }
+    ensures host { IfOk result (λ s. is_host s.host ≡ true) }
+    ensures ports { IfOk result (λ s. (1 ≤ s.port) × (1 ≤ s.admin_port)) }
+    ensures gate { IfOk result (λ s. s.gate_ms ≤ 10000) }
 {
     let at = Place::Top;
     let run = number_or(alloc, at, top, "run", 0, u32::MAX, 1)?;

@@ -7,7 +7,7 @@ use Rattle.cdr_core.specs.Cursor.{Cursor}
 use Rattle.cdr_core.specs.Draft.{Draft, with_field}
 use Rattle.cdr_core.proofs.OneReading.{same_cursor}
 use Rattle.cdr_core.proofs.Written.{written_reads_back}
-use Rattle.iiop_profile.specs.Profile.{with_fields}
+use Rattle.cdr_core.specs.Fields.{with_fields}
 use Rattle.giop_msg.specs.Fields.{ReadsAll}
 
 -- each field can be carried

@@ -4,7 +4,7 @@ use Rattle.std.specs.Int.{w32}
 use Rattle.cdr_core.specs.Field.{Field}
 use Rattle.cdr_core.specs.Spelling.{number_bytes}
 use Rattle.cdr_core.specs.Draft.{Draft, empty_draft}
-use Rattle.iiop_profile.specs.Profile.{with_fields}
+use Rattle.cdr_core.specs.Fields.{with_fields}
 use Rattle.giop_msg.specs.declared.kind.TheConstants.{HEADER}
 
 -- a header of this minor version, type and byte order, in front of these bytes

@@ -1,4 +1,4 @@
--- The bytes of a reply: CORBA 3.3 Part 2, 9.4.3 and 9.4.5.
+-- The bytes of a reply: CORBA 3.3 Part 2, 9.4.3 and 9.4.6.
 use Rattle.std.specs.Prelude.{ℕ, ◌==◌, Bool, if◌then◌else◌, List, [], ◌∷◌, Option, None, Some, IsTrue, IsFalse}
 use Rattle.cdr_core.specs.Field.{Field, ushort, ulong, longlong, boolean, text, octets}
 use Rattle.cdr_core.specs.Draft.{Draft}
@@ -10,7 +10,8 @@ use Rattle.poa_base.specs.declared.Outcome.TheVariants.{Value, User, System}
 use Rattle.poa_base.specs.declared.Profile.{Profile}
 use Rattle.poa_base.specs.declared.Reply.{Reply}
 use Rattle.poa_base.specs.declared.Reply.TheVariants as reply
-use Rattle.iiop_profile.specs.Profile.{with_fields, profile_of}
+use Rattle.cdr_core.specs.Fields.{with_fields}
+use Rattle.iiop_profile.specs.Profile.{profile_of}
 use Rattle.giop_msg.specs.declared.kind.TheConstants as kind
 use Rattle.giop_msg.specs.declared.status.TheConstants as status
 use Rattle.giop_msg.specs.Exception.{exception_fields}

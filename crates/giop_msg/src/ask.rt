@@ -5,7 +5,7 @@ ghost use Rattle.giop_msg.specs.Outgoing.{fields_draft};
 ghost use Rattle.giop_msg.specs.Request.{opening_fields};
 ghost use Rattle.giop_msg.specs.Ask.{request_bytes, request_draft, argument_bytes as bytes_of_argument, IsAsk};
 
-use crate::field::{put_datum, put_octets, put_text};
+use crate::field::put_datum;
 use crate::kind::{HEADER, MINOR, REQUEST};
 use crate::outgoing::framed;
 use crate::target::KEY_ADDRESS;
@@ -43,8 +43,8 @@ fn request_fields(alloc: Global, ask: &Ask) -> Result<Vec<u8>, WantMemory>
 {
     let mut writer = opening(alloc, ask.head.little, ask.head.id, ask.head.flags)?;
     writer.ushort(KEY_ADDRESS)?;
-    put_octets(&mut writer, ask.key.as_slice())?;
-    put_text(&mut writer, ask.operation.as_slice())?;
+    writer.put_octets(ask.key.as_slice())?;
+    writer.put_text(ask.operation.as_slice())?;
     writer.ulong(0)?;
     Ok(writer.into_bytes())
 }

@@ -1,9 +1,8 @@
 //! System exceptions as they are told: CORBA 3.3 Part 1, A.5, and Part 2, 9.4.3.2.
 ghost use Rattle.std.specs.Prelude.{◌≡◌, ◌+◌, ◌^◌, ◌<◌, length, OnOk};
-ghost use Rattle.iiop_profile.specs.Profile.{with_fields};
+ghost use Rattle.cdr_core.specs.Fields.{with_fields};
 ghost use Rattle.giop_msg.specs.Exception.{exception_id as id_of, completion_of as completion, exception_fields};
 
-use crate::field::put_text;
 use cdr_core::Writer;
 use poa_base::{ExcName, SysExc, WantMemory};
 
@@ -19,7 +18,7 @@ pub(crate) const COMPLETED_MAYBE: u32 = 2;
 pub(crate) fn put_exception(writer: &mut Writer, raised: &SysExc) -> Result<(), WantMemory>
     ensures { OnOk result (writer.new ≡ with_fields (exception_fields raised.now) writer.old) }
 {
-    put_text(writer, exception_id(raised.name))?;
+    writer.put_text(exception_id(raised.name))?;
     writer.ulong(raised.minor)?;
     writer.ulong(completion_of(raised.minor))
 }

@@ -1,11 +1,12 @@
-//! The bytes of a reply: CORBA 3.3 Part 2, 9.4.3 and 9.4.5.
+//! The bytes of a reply: CORBA 3.3 Part 2, 9.4.3 and 9.4.6.
 ghost use Rattle.std.specs.Prelude.{◌≡◌, ◌≤◌, IfOk, OnOk};
-ghost use Rattle.iiop_profile.specs.Profile.{with_fields, profile_of};
+ghost use Rattle.cdr_core.specs.Fields.{with_fields};
+ghost use Rattle.iiop_profile.specs.Profile.{profile_of};
 ghost use Rattle.giop_msg.specs.Outgoing.{fields_draft};
 ghost use Rattle.giop_msg.specs.Reply.{reply_bytes, reply_draft, locate_draft, reply_fields, outcome_fields, reference_fields, value_fields, reply_opening as opening_fields, reply_status as status_of, outcome_status as status_of_outcome, locate_status as status_of_locate, hides_results as hides, Answers};
 
 use crate::exception::put_exception;
-use crate::field::{put_datum, put_octets, put_text};
+use crate::field::put_datum;
 use crate::kind::{HEADER, LOCATE_REPLY, MINOR, REPLY};
 use crate::outgoing::framed;
 use crate::status::{
@@ -98,7 +99,7 @@ fn put_outcome(writer: &mut Writer, head: &Head, outcome: &Outcome) -> Result<()
         Outcome::System(raised) => put_exception(writer, raised),
         _ if hides_results(head) => Ok(()),
         Outcome::Value(value) => put_value(writer, value),
-        Outcome::User(id) => put_text(writer, id.as_slice()),
+        Outcome::User(id) => writer.put_text(id.as_slice()),
     }
 }
 
@@ -125,7 +126,7 @@ fn put_reference(
     writer.text(b"")?;
     writer.ulong(1)?;
     writer.ulong(profile.tag)?;
-    put_octets(writer, profile.bytes.as_slice())
+    writer.put_octets(profile.bytes.as_slice())
 }
 
 // Whether only system exceptions are told.

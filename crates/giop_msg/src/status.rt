@@ -1,4 +1,4 @@
-//! What a reply is: CORBA 3.3 Part 2, 9.4.3 and 9.4.5.
+//! What a reply is: CORBA 3.3 Part 2, 9.4.3 and 9.4.6.
 
 /// The status of a Reply.
 pub(crate) const NO_EXCEPTION: u32 = 0;

@@ -1,15 +1,11 @@
 -- The IIOP profile that is written: CORBA 3.3 Part 2, 9.7.2.
 use Rattle.std.specs.Prelude.{ℕ, List, [], ◌∷◌, false}
 use Rattle.cdr_core.specs.Field.{Field, octet, ushort, ulong, text, octets}
-use Rattle.cdr_core.specs.Draft.{Draft, empty_draft, with_field}
+use Rattle.cdr_core.specs.Draft.{empty_draft}
+use Rattle.cdr_core.specs.Fields.{with_fields}
 use Rattle.poa_base.specs.declared.Endpoint.{Endpoint}
 use Rattle.poa_base.specs.declared.Profile.{Profile}
 use Rattle.iiop_profile.specs.declared.profile.TheConstants.{TAG_INTERNET_IOP}
-
--- fields one behind the other follow what stood there
-abbrev pub with_fields : List Field → Draft → Draft
-with_fields [] d = d
-with_fields (field ∷ fields) d = with_fields fields (with_field field d)
 
 -- the byte order, big-endian; version 1.2; the host, the port and the object's key; no components
 abbrev pub profile_fields : Endpoint → List ℕ → List Field

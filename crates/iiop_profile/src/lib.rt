@@ -2,7 +2,6 @@
 //! object's key, as they stand in every reference that is written.
 #![tactic(auto)]
 
-mod field;
 mod profile;
 #[cfg(test)]
 mod tests;

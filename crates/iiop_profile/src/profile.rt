@@ -2,7 +2,6 @@
 ghost use Rattle.std.specs.Prelude.{◌≡◌, IfOk};
 ghost use Rattle.iiop_profile.specs.Profile.{profile_of, profile_data as data_of};
 
-use crate::field::{put_octets, put_text};
 use cdr_core::Writer;
 use poa_base::{Bytes, Endpoint, Profile, WantMemory};
 use std::alloc::Global;
@@ -30,9 +29,9 @@ fn profile_data(alloc: Global, endpoint: &Endpoint, key: &[u8]) -> Result<Vec<u8
     writer.octet(0)?;
     writer.octet(1)?;
     writer.octet(2)?;
-    put_text(&mut writer, endpoint.host.as_slice())?;
+    writer.put_text(endpoint.host.as_slice())?;
     writer.ushort(endpoint.port)?;
-    put_octets(&mut writer, key)?;
+    writer.put_octets(key)?;
     writer.ulong(0)?;
     Ok(writer.into_bytes())
 }

@@ -9,9 +9,6 @@ use cdr_core::Writer;
 use poa_base::{Bytes, Ior, Profile, WantMemory};
 use std::alloc::Global;
 
-/// What a CDR writer takes as one field stays below this.
-const LIMIT: usize = 1 << 31;
-
 /// Writes a reference: `IOR:`, small digits, big-endian. `WantMemory` is also the answer to a field of 2^31
 /// bytes or more, which no CDR writer takes.
 pub fn write_ior(alloc: Global, ior: &Ior) -> Result<Bytes, WantMemory>
@@ -61,10 +58,7 @@ fn write_text(writer: &mut Writer, bytes: &[u8]) -> Result<(), WantMemory>
     ensures fits { OnOk result (length bytes.now + 1 < 2 ^ 32) }
     ensures bytes { IsBytes bytes.now }
 {
-    if bytes.len() >= LIMIT {
-        return Err(WantMemory);
-    }
-    writer.text(bytes)
+    writer.put_text(bytes)
 }
 
 /// A sequence of octets, where CDR can carry it.
@@ -73,8 +67,5 @@ fn write_octets(writer: &mut Writer, bytes: &[u8]) -> Result<(), WantMemory>
     ensures fits { OnOk result (length bytes.now < 2 ^ 32) }
     ensures bytes { IsBytes bytes.now }
 {
-    if bytes.len() >= LIMIT {
-        return Err(WantMemory);
-    }
-    writer.octets(bytes)
+    writer.put_octets(bytes)
 }

@@ -29,10 +29,10 @@ use Rattle.poa_history.proofs.VerdictMoves.{untried_by}
 use Rattle.poa_history.proofs.ChangeSound.{with_made_sound}
 
 -- a refusal isn't accepted
-refused : {A : Type 0} (reason : Reason) (v : Verdict) → refusal reason ≡ Some v → is_accepted v ≡ true → A
+pub refused : {A : Type 0} (reason : Reason) (v : Verdict) → refusal reason ≡ Some v → is_accepted v ≡ true → A
 refused reason v is accepted = absurd (let same : Answer (No reason) ≡ v = cc in let e : false ≡ true = ap is_accepted same ∙ accepted in cc)
 
-held : {A B : Type 0} (v : B) → None ≡ Some v → A
+pub held : {A B : Type 0} (v : B) → None ≡ Some v → A
 held v is = absurd (cc)
 
 -- an adapter that lives
@@ -48,12 +48,12 @@ live_tells s p n lives =
     by_dying m found false living is =
         let same : m ≡ n = cc in let there = node_found s.nodes p m found in (subst (λ x. In x s.nodes) same there.0, ap (λ x. x.path) (sym same) ∙ there.1, ap (λ x. x.dying) (sym same) ∙ living, found ∙ ap (λ x. Some x) same)
 
-lived : (s : Standing) (p : List (List ℕ)) (then_ : Node → Option Verdict) (v : Verdict) → with_live s p then_ ≡ Some v → is_accepted v ≡ true → (n : Node) × (live_at s p ≡ Some n) × (then_ n ≡ Some v)
+pub lived : (s : Standing) (p : List (List ℕ)) (then_ : Node → Option Verdict) (v : Verdict) → with_live s p then_ ≡ Some v → is_accepted v ≡ true → (n : Node) × (live_at s p ≡ Some n) × (then_ n ≡ Some v)
 lived s p then_ v is accepted =
     elim (live_at s p) as (λ o. live_at s p ≡ o → (elim o [ Some n ↦ then_ n | None ↦ refusal AdapterNonExistent ]) ≡ Some v → (n : Node) × (live_at s p ≡ Some n) × (then_ n ≡ Some v))
     [ Some n ↦ λ lives done. (n, lives, done) | None ↦ λ _ no_. refused AdapterNonExistent v no_ accepted ] refl is
 
-known : (c : Config) (name : List ℕ) (then_ : ℕ → Option Verdict) (v : Verdict) → with_servant c name then_ ≡ Some v → is_accepted v ≡ true → (k : ℕ) × (servant_number c name ≡ Some k) × (then_ k ≡ Some v)
+pub known : (c : Config) (name : List ℕ) (then_ : ℕ → Option Verdict) (v : Verdict) → with_servant c name then_ ≡ Some v → is_accepted v ≡ true → (k : ℕ) × (servant_number c name ≡ Some k) × (then_ k ≡ Some v)
 known c name then_ v is accepted =
     elim (servant_number c name) as (λ o. servant_number c name ≡ o → (elim o [ Some k ↦ then_ k | None ↦ refusal NoServant ]) ≡ Some v → (k : ℕ) × (servant_number c name ≡ Some k) × (then_ k ≡ Some v))
     [ Some k ↦ λ number done. (k, number, done) | None ↦ λ _ no_. refused NoServant v no_ accepted ] refl is
@@ -67,7 +67,7 @@ path_parts : (x : List ℕ) (p : List (List ℕ)) → x ∷ p ≡ parent_path (x
 path_parts x [] = refl
 path_parts x (y ∷ p) = ap (λ q. x ∷ q) (path_parts y p)
 
-number_live : (s : Standing) (p : List (List ℕ)) (n : Node) → node_at s.nodes p ≡ Some n → n.number ≡ number_at s p
+pub number_live : (s : Standing) (p : List (List ℕ)) (n : Node) → node_at s.nodes p ≡ Some n → n.number ≡ number_at s p
 number_live s p n found = ap (λ o. elim o [ Some m ↦ m.number | None ↦ 0 ]) (sym found)
 
 module _ (c : Config) (run : ℕ) (s : Standing) (sound : IsSound c run s) where

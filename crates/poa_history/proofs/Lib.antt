@@ -8,4 +8,17 @@ pub mod CommandMoves
 pub mod TrialMoves
 pub mod IdsMade
 pub mod StepMoves
+pub mod ActsLater
+pub mod KeysSpelled
+pub mod TurnTells
+pub mod FlightsFrom
+pub mod IdsFew
 pub mod LegalSound
+pub mod NodesFrom
+pub mod DyingIs
+pub mod GoneIs
+pub mod TableRuns
+pub mod Served
+pub mod ActsFrom
+pub mod CommandTells
+pub mod AloneKept

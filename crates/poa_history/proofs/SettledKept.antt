@@ -45,11 +45,11 @@ pub or_second : (x y : Bool) → y ≡ true → (x || y) ≡ true
 or_second true y e = refl
 or_second false y e = e
 
-not_true : (b : Bool) → not b ≡ true → b ≡ false
+pub not_true : (b : Bool) → not b ≡ true → b ≡ false
 not_true true e = absurd (let f : false ≡ true = e in cc)
 not_true false e = refl
 
-not_false : (b : Bool) → b ≡ false → not b ≡ true
+pub not_false : (b : Bool) → b ≡ false → not b ≡ true
 not_false b e = ap not e
 
 -- letting activations out keeps what they are, and what is over stays so
@@ -77,7 +77,7 @@ module _ (c : Config) (run : ℕ) (s : Standing) (sound : IsSound c run s) where
 
 -- what has ended may go: the root stays, and with an adapter goes all below it
 module _ (c : Config) (run : ℕ) (s : Standing) (sound : IsSound c run s) where
-  abbrev stays : Node → Bool
+  abbrev pub stays : Node → Bool
   stays n = is_root n.path || not (is_done_with c s n)
 
   under_longer : (p q : List (List ℕ)) (k : ℕ) → leads_to p q ≡ true → stands_under s.nodes q k ≡ true → stands_under s.nodes p k ≡ true
@@ -91,7 +91,7 @@ module _ (c : Config) (run : ℕ) (s : Standing) (sound : IsSound c run s) where
             | inr more ↦ or_second ((n.number == k) && leads_to p n.path) (stands_under ns p k) (under_in ns more)
           ]
 
-  clear_longer : (p q : List (List ℕ)) → leads_to p q ≡ true → is_clear c s p ≡ true → is_clear c s q ≡ true
+  pub clear_longer : (p q : List (List ℕ)) → leads_to p q ≡ true → is_clear c s p ≡ true → is_clear c s q ≡ true
   clear_longer p q leads clear =
       let parts = and_parts (not (list_any (λ f. stands_under s.nodes p f.adapter) s.flights)) (not (list_any (λ a. not (is_over c a) && stands_under s.nodes p a.adapter) s.acts)) clear in
       ap₂ (λ a b. a && b)
@@ -127,10 +127,10 @@ module _ (c : Config) (run : ℕ) (s : Standing) (sound : IsSound c run s) where
   }
 
   -- the adapter in which something is in flight, or an activation isn't over, stays
-  is_under_itself : (n : Node) (k : ℕ) → In n s.nodes → n.number ≡ k → stands_under s.nodes n.path k ≡ true
+  pub is_under_itself : (n : Node) (k : ℕ) → In n s.nodes → n.number ≡ k → stands_under s.nodes n.path k ≡ true
   is_under_itself n k is same = any_by (λ m. (m.number == k) && leads_to n.path m.path) n s.nodes is (ap₂ (λ a b. a && b) (eq-eqb _ _ same) (leads_self n.path))
 
-  flight_stays : (f : Flight) (n : Node) → In f s.flights → In n s.nodes → n.number ≡ f.adapter → stays n ≡ true
+  pub flight_stays : (f : Flight) (n : Node) → In f s.flights → In n s.nodes → n.number ≡ f.adapter → stays n ≡ true
   flight_stays f n is is' same =
       elim (cases_Bool (stays n)) [
         | inl stands ↦ stands
@@ -139,7 +139,7 @@ module _ (c : Config) (run : ℕ) (s : Standing) (sound : IsSound c run s) where
             absurd (let e : false ≡ true = sym none ∙ any_by (λ g. stands_under s.nodes n.path g.adapter) f s.flights is (is_under_itself n f.adapter is' same) in cc))
       ]
 
-  act_stays : (a : Act) (n : Node) → In a s.acts → is_over c a ≡ false → In n s.nodes → n.number ≡ a.adapter → stays n ≡ true
+  pub act_stays : (a : Act) (n : Node) → In a s.acts → is_over c a ≡ false → In n s.nodes → n.number ≡ a.adapter → stays n ≡ true
   act_stays a n is lives is' same =
       elim (cases_Bool (stays n)) [
         | inl stands ↦ stands

@@ -76,7 +76,7 @@ only_trial c s w k (Removing n) is = absurd (by_act (act_numbered s n) is)
     by_act None none = (let e : None ≡ Some (Tried w (Yes k)) = none in cc)
     by_act (Some a) some_ = (let e : Some (Etherealized w a.cleanup a.remaining) ≡ Some (Tried w (Yes k)) = some_ in cc)
 
-chosen_go : (choice : Choice) (v : Verdict) → chosen choice ≡ Some v → choice ≡ Go v
+pub chosen_go : (choice : Choice) (v : Verdict) → chosen choice ≡ Some v → choice ≡ Go v
 chosen_go (Go u) v is = (let e : Some u ≡ Some v = is in ap (λ x. Go x) cc)
 chosen_go (Held cause) v is = absurd (let e : None ≡ Some v = is in cc)
 

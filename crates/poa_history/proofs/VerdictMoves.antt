@@ -23,7 +23,9 @@ use Rattle.poa_tree.specs.Paths.{same_bytes, same_path}
 use Rattle.poa_history.specs.Arrivals.{target_of}
 use Rattle.poa_history.specs.Standings.{Standing, is_active, is_of, is_tried}
 use Rattle.poa_history.specs.Ends.{is_over}
-use Rattle.poa_tree.specs.Walks.{Found, Live, Dying, Missing, walk, adapter_met, child_met}
+use Rattle.poa_tree.specs.declared.found.Found.{Found}
+use Rattle.poa_tree.specs.declared.found.Found.TheVariants.{Live, Dying, Missing}
+use Rattle.poa_tree.specs.Walks.{walk, adapter_met, child_met}
 use Rattle.poa_history.specs.Situations.{walk_fact, slot_of, key_fact, facts_met}
 use Rattle.poa_tree.specs.Trees.{In, IsFreePath}
 use Rattle.poa_history.specs.Sound.{IsSound}

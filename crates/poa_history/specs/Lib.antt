@@ -20,3 +20,7 @@ pub mod Replies
 pub mod Legal
 pub mod Lifetime
 pub mod Sound
+pub mod Bounds
+pub mod Later
+pub mod Destroyed
+pub mod Alone

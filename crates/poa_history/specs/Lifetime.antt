@@ -57,11 +57,12 @@ pub record BeginsFree (c : Config) (before : List Act) (a : Act) : Type 0 where
   pub number : a.number ≡ length before
   pub free : All (λ b. is_of a.adapter a.oid b ≡ true → is_over c b ≡ true) before
 
+-- a run, or an admission, names an activation that has its servant still; an incarnation names the next one
 abbrev pub KeepsLives : Config → ℕ → List Entry → Entry → Type 0
 KeepsLives c run past (Run w) =
     (r n : ℕ) → stage past w ≡ Serving r → named (admitted past r) ≡ Some n → IsServable (standing c run past) n
 KeepsLives c run past (Admit w r verdict) =
-    (n : ℕ) → verdict ≡ Serve n → IsServable (standing c run past) n
+    ((n : ℕ) → verdict ≡ Serve n → IsServable (standing c run past) n) × ((n : ℕ) → verdict ≡ Incarnate n → n ≡ length (standing c run past).acts)
 KeepsLives c run past (TakeOut w n etherealize) = IsRemovable (standing c run past) n etherealize
 KeepsLives c run past (Etherealized w cleanup remaining) = IsEtherealizable (standing c run past) (stage past w) cleanup remaining
 KeepsLives c run past e = Unit {0}

@@ -18,7 +18,9 @@ use Rattle.poa_history.specs.Templates.{template_or_root, policies_at, manager_a
 use Rattle.poa_history.specs.Arrivals.{arrivals, call_of, is_message, is_locate, target_of}
 use Rattle.poa_history.specs.Stages.{is_unadmitted}
 use Rattle.poa_history.specs.Standings.{Standing, is_begun, is_active, is_of, is_running, is_tried}
-use Rattle.poa_tree.specs.Walks.{Found, Live, Dying, Missing, walk, adapter_met, child_met, place_met}
+use Rattle.poa_tree.specs.declared.found.Found.{Found}
+use Rattle.poa_tree.specs.declared.found.Found.TheVariants.{Live, Dying, Missing}
+use Rattle.poa_tree.specs.Walks.{walk, adapter_met, child_met, place_met}
 use Rattle.poa_history.specs.Ends.{is_finished, is_over}
 use Rattle.poa_history.specs.Keys.{key_of, key_in}
 use Rattle.poa_history.specs.Logs.{manager_state, preset_of, forward_of}

@@ -1,5 +1,5 @@
 -- What holds of all that stands after a legal history.
-use Rattle.std.specs.Prelude.{◌≡◌, ℕ, ◌+◌, ◌^◌, ◌<◌, true, false, List, length, Some}
+use Rattle.std.specs.Prelude.{◌≡◌, ℕ, ◌^◌, ◌<◌, true, false, List, length, Some}
 use Rattle.poa_base.specs.declared.Config.{Config}
 use Rattle.poa_tree.specs.declared.node.Node.{Node}
 use Rattle.poa_history.specs.declared.flight.Flight.{Flight}
@@ -7,11 +7,9 @@ use Rattle.poa_history.specs.declared.act.Act.{Act}
 use Rattle.poa_history.specs.Templates.{policies_at, makes_ids, activates_implicitly}
 use Rattle.poa_history.specs.Standings.{Standing}
 use Rattle.poa_history.specs.Opening.{opening}
-use Rattle.poa_history.specs.Changes.{standing}
 use Rattle.poa_history.specs.Ends.{is_over}
 use Rattle.poa_history.specs.Commands.{is_bad_id}
 use Rattle.poa_tree.specs.Trees.{In, IsTree, Stands, IsMissingChild}
-use Rattle.poa_base.specs.declared.Entry.{Entry}
 
 -- the adapter of the activation stands, at its path
 pub record IsHome (ns : List Node) (a : Act) : Type 0 where
@@ -37,10 +35,6 @@ pub record IsSound (c : Config) (run : ℕ) (s : Standing) : Type 0 where
   pub life_alone : (a b : Act) → In a s.acts → In b s.acts → a.adapter ≡ b.adapter → a.oid ≡ b.oid → is_over c a ≡ false → is_over c b ≡ false → a ≡ b
   -- where an adapter makes its ids, each that it has is eight bytes, and one of this run was made
   pub ids : (a : Act) → In a s.acts → is_bad_id c run s.made a.path a.oid ≡ false
-
--- the next system-made id has an ordinal of 32 bits
-abbrev pub HasOrdinal : Config → ℕ → List Entry → Entry → Type 0
-HasOrdinal c run past e = (standing c run past).made + 1 < 2 ^ 32
 
 -- IMPLICIT_ACTIVATION needs SYSTEM_ID, as in every policy set that settles (CORBA 3.3 Part 1, section 15.3.8)
 abbrev pub ImplicitMakes : Config → Type 0

@@ -1,15 +1,68 @@
 //! What holds of every legal history.
-ghost use Rattle.std.specs.Prelude.{ℕ, List};
+ghost use Rattle.std.specs.Prelude.{◌≡◌, ℕ, suc, true, false, ◌<◌, ◌^◌, List, ◌++◌, Some};
 ghost use Rattle.poa_base.specs.declared.Config.{Config};
 ghost use Rattle.poa_base.specs.declared.Entry.{Entry};
+ghost use Rattle.poa_base.specs.declared.Key.{Key};
+ghost use Rattle.poa_tree.specs.declared.node.Node.{Node};
+ghost use Rattle.poa_tree.specs.Trees.{In};
+ghost use Rattle.object_key.specs.Spelling.{key_spelling, IsKey};
+ghost use Rattle.poa_history.specs.Alone.{IsGivenAlone, StandsAlone};
+ghost use Rattle.poa_history.specs.Bounds.{IsWithinLimits, HasFewIds};
 ghost use Rattle.poa_history.specs.Changes.{standing};
-ghost use Rattle.poa_history.specs.Legal.{EachEntry, IsLegal};
-ghost use Rattle.poa_history.specs.Sound.{HasOrdinal, IsGiven, IsSound};
+ghost use Rattle.poa_history.specs.Legal.{IsLegal};
+ghost use Rattle.poa_history.specs.Ends.{is_gone};
+ghost use Rattle.poa_history.specs.Standings.{Standing};
+ghost use Rattle.poa_tree.specs.Paths.{is_root};
+ghost use Rattle.poa_history.specs.Destroyed.{was_destroyed, IsEnded, IsEmptied};
+ghost use Rattle.poa_history.specs.Keys.{key_of};
+ghost use Rattle.poa_history.specs.Later.{AllLater};
+ghost use Rattle.poa_history.specs.Sound.{IsGiven, IsSound};
 
 /// What stands after a legal history is sound. Of one path at most one adapter stands, its parent stands
 /// with it, and the children of one that is being destroyed are being destroyed. What is in flight is in
 /// flight in an adapter that stands; of one child at most one trial is in flight, and then no adapter of
 /// the child's path stands. Of one id of one adapter at most one activation isn't over.
 pub fn what_stands_is_sound()
-    ensures { (c : Config) (run limit : ℕ) (h : List Entry) → IsGiven c run → EachEntry (HasOrdinal c run) h → IsLegal c run limit h → IsSound c run (standing c run h) }
+    ensures { (c : Config) (run limit : ℕ) (h : List Entry) → IsGiven c run → IsWithinLimits c limit → IsLegal c run limit h → IsSound c run (standing c run h) }
+{}
+
+/// What an activation has come to never goes back, whatever follows: its servant, that it is void, ending,
+/// quiet, out, etherealized or finished.
+pub fn nothing_goes_back()
+    ensures { (c : Config) (run : ℕ) (past more : List Entry) → AllLater c (standing c run past) (standing c run (more ++ past)) }
+{}
+
+/// Bytes have a key exactly where they are the spelling of one, and then it is that key.
+pub fn keys_are_spelled()
+    ensures spelled { (bytes : List ℕ) (key : Key) → key_of bytes ≡ Some key → IsKey key × (key_spelling key ≡ bytes) }
+    ensures found { (key : Key) → IsKey key → key_of (key_spelling key) ≡ Some key }
+{}
+
+/// A legal history makes at most one system-made object id for each configured object and each arrival, and
+/// has at most one arrival more than its limit. So under the limits of a run each ordinal fits 32 bits.
+pub fn ids_are_few()
+    ensures few { (c : Config) (run limit : ℕ) (h : List Entry) → IsLegal c run limit h → HasFewIds c run limit h }
+    ensures fits { (c : Config) (run limit : ℕ) (h : List Entry) → IsWithinLimits c limit → IsLegal c run limit h → suc (standing c run h).made < 2 ^ 32 }
+{}
+
+/// An adapter that stands is being destroyed exactly where a destroy of it, or of an adapter above it, was
+/// done since it was created.
+pub fn destroyed_are_dying()
+    ensures { (c : Config) (run limit : ℕ) (h : List Entry) → IsGiven c run → IsWithinLimits c limit → IsLegal c run limit h → (n : Node) → In n (standing c run h).nodes → n.dying ≡ was_destroyed c run h n.number n.path }
+{}
+
+/// An adapter that stands is gone exactly where it is being destroyed, nothing is in flight in it, its
+/// activations are over and its children are gone. After a legal history none that stands is gone but the
+/// root, which stays; and of one that is gone nothing is left.
+pub fn gone_have_ended()
+    ensures ends { (c : Config) (run : ℕ) (s : Standing) → IsSound c run s → (n : Node) → In n s.nodes → (is_gone c s n.number ≡ true → IsEnded c s n) × (IsEnded c s n → is_gone c s n.number ≡ true) }
+    ensures stays { (c : Config) (run limit : ℕ) (h : List Entry) → IsGiven c run → IsWithinLimits c limit → IsLegal c run limit h → (n : Node) → In n (standing c run h).nodes → is_root n.path ≡ false → is_gone c (standing c run h) n.number ≡ false }
+    ensures emptied { (c : Config) (run limit : ℕ) (h : List Entry) → IsGiven c run → IsWithinLimits c limit → IsLegal c run limit h → (k : ℕ) → is_gone c (standing c run h) k ≡ true → IsEmptied c (standing c run h) k }
+{}
+
+/// After a legal history at most one incarnation or etherealization is unfinished in an adapter; under
+/// UNIQUE_ID a servant is in the map of an adapter by at most one activation; under SINGLE_THREAD_MODEL at
+/// most one request is in flight in an adapter; and a fresh servant is that of its activation.
+pub fn one_at_a_time()
+    ensures { (c : Config) (run limit : ℕ) (h : List Entry) → IsGiven c run → IsGivenAlone c run → IsWithinLimits c limit → IsLegal c run limit h → StandsAlone c (standing c run h) }
 {}

@@ -1,8 +1,6 @@
-pub mod Pages
 pub mod Fronts
 pub mod Stored
-pub mod Entries
-pub mod RowTexts
+pub mod Ascending
 pub mod PrintedBack
 pub mod FirstBad
 pub mod Printed

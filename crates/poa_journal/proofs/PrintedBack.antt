@@ -1,23 +1,24 @@
 -- The text of a journal reads back.
-use Rattle.std.proofs.Common.{◌≡◌, ℕ, ◌+◌, ◌^◌, Bool, true, false, List, [], ◌∷◌, ◌++◌, length, map, Option, Some, None, Result, Ok, Err, refl, ap, sym, ◌∙◌, arith, cond}
+use Rattle.std.proofs.Common.{◌≡◌, ℕ, ◌+◌, ◌^◌, List, [], ◌∷◌, ◌++◌, length, map, Option, Some, None, Ok, refl, ap, sym, ◌∙◌, arith, append-nil}
 use Rattle.std.specs.List.{AllByRecursion}
 use Rattle.poa_base.specs.declared.Entry.{Entry}
 use Rattle.poa_base.specs.declared.Journal.{Journal}
 use Rattle.poa_base.specs.declared.State.{State}
-use Rattle.poa_base.specs.Store.{Place, states}
+use Rattle.poa_base.specs.Store.{Place, Slots, states}
 use Rattle.text_words.specs.Cuts.{lines_of, words_of}
 use Rattle.text_words.specs.Token.{Token, AllFit, texts, spelled, keyword, number, path, identity}
 use Rattle.text_words.proofs.Lines.{words_spelled, line_first}
 use Rattle.text_words.proofs.Numbers.{number_back}
-use Rattle.poa_journal.specs.Fixed.{mark_word, kind_word}
-use Rattle.poa_journal.specs.declared.fixed.Mark.TheVariants as mark
-use Rattle.poa_journal.specs.Row.{row_tokens, row_behind, state_tokens}
-use Rattle.poa_journal.specs.Entry.{entry_tokens, body_tokens, kind_in, IsWritten}
-use Rattle.poa_journal.specs.Reading.{entry_of}
-use Rattle.poa_journal.specs.Journal.{head_tokens, text_of, body_lines, journal_lines, journal_text, IsRow, IsJournal}
-use Rattle.poa_journal.specs.Whole.{Front, is_above, row_above, put_row, after_row, row_words_of, at_line, rows_front, entry_at, put_entry, entries_of, run_of, numbered, head_of, with_entries, with_front, with_run, contents_of_lines, contents_of, contents}
-use Rattle.poa_journal.proofs.Entries.{entry_back}
-use Rattle.poa_journal.proofs.RowTexts.{row_back, row_starts, entry_starts, Ascends, states_ascend}
+use Rattle.journal_words.specs.Fixed.{mark_word}
+use Rattle.journal_lines.specs.Fixed.{kind_word}
+use Rattle.journal_words.specs.declared.fixed.Mark.TheVariants as mark
+use Rattle.journal_lines.specs.Row.{row_tokens, state_tokens}
+use Rattle.journal_lines.specs.Entry.{entry_tokens, body_tokens, kind_in, IsWritten}
+use Rattle.poa_journal.specs.Journal.{head_tokens, text_of, journal_lines, journal_text, IsRow, IsJournal, store_lines, store_text, IsStore}
+use Rattle.poa_journal.specs.Whole.{rows_front, entries_of, numbered, head_of, contents_of_lines, contents_of, contents, all_rows, rows_of}
+use Rattle.journal_lines.proofs.Entries.{entry_back}
+use Rattle.journal_lines.proofs.Rows.{row_back, row_starts, entry_starts}
+use Rattle.poa_journal.proofs.Ascending.{Ascends, states_ascend}
 
 -- lines of tokens that fit
 abbrev pub AllLinesFit : List (List Token) → Type 0
@@ -74,3 +75,18 @@ pub journal_back : (journal : Journal) → IsJournal journal → contents_of (jo
 journal_back journal h =
     ap contents_of_lines (lines_back (journal_lines journal) (h.run, rows_fit (states journal.opening) journal.entries h.rows h.entries))
     ∙ journal_lines_back journal h
+
+-- the rows of the lines of a store
+pub store_lines_back : (store : Slots) → IsStore store → all_rows (rows_front 1 None (map spelled (store_lines store))) ≡ Ok (states store)
+store_lines_back store h =
+    ap (λ ls. all_rows (rows_front 1 None (map spelled ls))) (sym (append-nil (store_lines store)))
+    ∙ ap all_rows (rows_back 1 None (states store) [] h (states_ascend store) tt)
+
+store_fits : (rows : List (Place × State)) → AllByRecursion IsRow rows → AllLinesFit (map row_tokens rows)
+store_fits [] h = tt
+store_fits (row ∷ rows) h = (h.0, store_fits rows h.1)
+
+-- the text of a store gives its rows
+pub store_back : (store : Slots) → IsStore store → rows_of (store_text store) ≡ Ok (states store)
+store_back store h =
+    ap (λ ls. all_rows (rows_front 1 None ls)) (lines_back (store_lines store) (store_fits (states store) h)) ∙ store_lines_back store h

@@ -1,6 +1,6 @@
 -- Rows that ascend are stored at the end.
-use Rattle.std.proofs.Common.{◌≡◌, ℕ, Bool, true, false, List, [], ◌∷◌, ◌++◌, length, Option, Some, None, refl, sym, ap, ◌∙◌, arith, cond, subst}
-use Rattle.std.specs.Cmp.{tied_itself, IsTotalOrder}
+use Rattle.std.proofs.Common.{◌≡◌, true, List, [], ◌∷◌, ◌++◌, length, Option, Some, None, refl, sym, ap, ◌∙◌, arith, subst}
+use Rattle.std.specs.Cmp.{tied_itself}
 use Rattle.std.specs.FinMap as finite
 use Rattle.std.specs.FinMap.{put}
 use Rattle.std.specs.FinMap.Entries.{by_order}
@@ -10,7 +10,7 @@ use Rattle.std.specs.declared.cmp.Ordering.{Ordering}
 use Rattle.std.specs.declared.cmp.Ordering.TheVariants.{Less, Equal, Greater}
 use Rattle.std.proofs.lemmas.Bool.{false≢true}
 use Rattle.poa_base.specs.declared.State.{State}
-use Rattle.poa_base.specs.Store.{Place, Slots, place_cmp, stored, with_room, with_state, with_place, states, IsReserved}
+use Rattle.poa_base.specs.Store.{Place, Slots, place_cmp, stored, with_room, with_state, with_place, states}
 use Rattle.poa_base.proofs.Shelves.{place_total}
 use Rattle.poa_journal.specs.Whole.{is_above}
 

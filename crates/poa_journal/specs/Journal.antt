@@ -1,14 +1,15 @@
--- The text of a journal: a head line with the run, a line for each row of the opening store, and one for each entry.
-use Rattle.std.specs.Prelude.{◌≡◌, ℕ, ◌^◌, List, [], ◌∷◌, ◌++◌, map}
+-- The text of a journal: a head line with the run, a line for each row of the opening store, and one for each entry; and
+-- that of a store alone.
+use Rattle.std.specs.Prelude.{ℕ, ◌^◌, List, [], ◌∷◌, ◌++◌, map}
 use Rattle.std.specs.List.{AllByRecursion}
 use Rattle.poa_base.specs.declared.Journal.{Journal}
 use Rattle.poa_base.specs.declared.State.{State}
-use Rattle.poa_base.specs.Store.{Place, states}
+use Rattle.poa_base.specs.Store.{Place, Slots, states}
 use Rattle.text_words.specs.Token.{Token, keyword, number, spelled, AllFit}
-use Rattle.poa_journal.specs.declared.fixed.Mark.TheVariants as mark
-use Rattle.poa_journal.specs.Fixed.{mark_word}
-use Rattle.poa_journal.specs.Row.{row_tokens}
-use Rattle.poa_journal.specs.Entry.{entry_tokens, IsWritten}
+use Rattle.journal_words.specs.declared.fixed.Mark.TheVariants as mark
+use Rattle.journal_words.specs.Fixed.{mark_word}
+use Rattle.journal_lines.specs.Row.{row_tokens}
+use Rattle.journal_lines.specs.Entry.{entry_tokens, IsWritten}
 
 -- `journal 1 run N`
 abbrev pub head_tokens : ℕ → List Token
@@ -38,3 +39,14 @@ pub record IsJournal (journal : Journal) : Type 0 where
   pub run : AllFit (head_tokens journal.run)
   pub rows : AllByRecursion IsRow (states journal.opening)
   pub entries : AllByRecursion IsWritten journal.entries
+
+-- the lines of a state file: a line for each row of the store
+abbrev pub store_lines : Slots → List (List Token)
+store_lines store = map row_tokens (states store)
+
+abbrev pub store_text : Slots → List ℕ
+store_text store = text_of (store_lines store)
+
+-- a store whose paths, ids and states are such as can be written
+abbrev pub IsStore : Slots → Type 0
+IsStore store = AllByRecursion IsRow (states store)

@@ -1,11 +1,2 @@
-pub mod Fixed
-pub mod Exception
-pub mod Parts
-pub mod Verdict
-pub mod Call
-pub mod Outcome
-pub mod Entry
-pub mod Row
 pub mod Journal
-pub mod Reading
 pub mod Whole

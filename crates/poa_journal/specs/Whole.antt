@@ -1,6 +1,5 @@
 -- The journal of a text, or the number of its first line that is outside the grammar.
-use Rattle.std.specs.Prelude.{◌≡◌, ℕ, ◌+◌, ◌^◌, ⊤, Bool, true, List, [], ◌∷◌, ◌++◌, Option, Some, None, Result, Ok, Err, if◌then◌else◌}
-use Rattle.std.specs.Str.{bytes_eq}
+use Rattle.std.specs.Prelude.{◌≡◌, ℕ, ◌+◌, ◌^◌, ⊤, Bool, true, List, [], ◌∷◌, Option, Some, None, Result, Ok, Err, if◌then◌else◌}
 use Rattle.std.specs.Ordering.{is_lt}
 use Rattle.poa_base.specs.declared.Entry.{Entry}
 use Rattle.poa_base.specs.declared.Journal.{Journal}
@@ -8,15 +7,14 @@ use Rattle.poa_base.specs.declared.State.{State}
 use Rattle.poa_base.specs.Store.{Place, place_cmp, states}
 use Rattle.text_words.specs.Cuts.{lines_of, words_of}
 use Rattle.text_words.specs.Number.{number_of}
-use Rattle.poa_journal.specs.declared.reading.Opening.{Opening}
+use Rattle.poa_journal.specs.declared.rows.Opening.{Opening}
 use Rattle.poa_journal.specs.declared.fault.JournalFault.{JournalFault}
 use Rattle.poa_journal.specs.declared.fault.JournalFault.TheVariants.{BadLine, WantMemory}
 use Rattle.text_words.specs.Chain.{◌>>=◌}
-use Rattle.poa_journal.specs.declared.fixed.Mark.{Mark}
-use Rattle.poa_journal.specs.declared.fixed.Mark.TheVariants as mark
-use Rattle.poa_journal.specs.Fixed.{mark_word}
-use Rattle.poa_journal.specs.Row.{row_behind}
-use Rattle.poa_journal.specs.Reading.{entry_of}
+use Rattle.journal_words.specs.declared.fixed.Mark.TheVariants as mark
+use Rattle.journal_words.specs.Fixed.{expected}
+use Rattle.journal_lines.specs.Row.{row_behind, row_words_of}
+use Rattle.journal_lines.specs.Reading.{entry_of}
 
 -- the rows at the front of lines, the number of the next line, and the lines from there on
 abbrev pub Front : Type 0
@@ -39,11 +37,6 @@ put_row row (Ok front) = Ok (row ∷ front.0, front.1, front.2)
 abbrev pub after_row : (Place → Result Front ℕ) → Result (Place × State) ℕ → Result Front ℕ
 after_row more (Err k) = Err k
 after_row more (Ok row) = put_row row (more row.0)
-
--- the words behind `store`, where a line is that of a row
-abbrev pub row_words_of : List (List ℕ) → Option (List (List ℕ))
-row_words_of [] = None
-row_words_of (w ∷ ws) = if bytes_eq (mark_word mark.Store) w then Some ws else None
 
 abbrev pub at_line : ℕ → Option Place → List (List ℕ) → (Place → Result Front ℕ) → Option (List (List ℕ)) → Result Front ℕ
 at_line k last lines more None = Ok ([], k, lines)
@@ -68,10 +61,6 @@ put_entry (Ok e) (Ok es) = Ok (e ∷ es)
 abbrev pub entries_of : ℕ → List (List ℕ) → Result (List Entry) ℕ
 entries_of k [] = Ok []
 entries_of k (l ∷ ls) = put_entry (entry_at k (entry_of (words_of l))) (entries_of (k + 1) ls)
-
--- the word that has to stand at a place
-abbrev pub expected : Mark → List ℕ → Option (Unit {0})
-expected m w = if bytes_eq (mark_word m) w then Some tt else None
 
 -- the run of a head line
 abbrev pub run_of : List (List ℕ) → Option ℕ
@@ -115,6 +104,23 @@ contents_of_lines (l ∷ ls) = with_run ls (head_of (words_of l))
 
 abbrev pub contents_of : List ℕ → Result Contents ℕ
 contents_of text = contents_of_lines (lines_of text)
+
+-- no line is left
+abbrev pub no_line : ℕ → List (List ℕ) → Result (Unit {0}) ℕ
+no_line k [] = Ok tt
+no_line k (l ∷ ls) = Err k
+
+abbrev pub with_rows : List (Place × State) → Result (Unit {0}) ℕ → Result (List (Place × State)) ℕ
+with_rows rows (Err k) = Err k
+with_rows rows (Ok u) = Ok rows
+
+abbrev pub all_rows : Result Front ℕ → Result (List (Place × State)) ℕ
+all_rows (Err k) = Err k
+all_rows (Ok front) = with_rows front.0 (no_line front.1 front.2)
+
+-- the rows of a text that has nothing else
+abbrev pub rows_of : List ℕ → Result (List (Place × State)) ℕ
+rows_of text = all_rows (rows_front 1 None (lines_of text))
 
 abbrev pub front_seen : Opening → Front
 front_seen front = (states front.store, front.line, lines_of front.rest.now)

@@ -1,22 +1,20 @@
-//! The text of a run's history: print it, read it.
+//! The text of a run's history, and that of a store: print them, read them.
 //!
 //! A journal is a head line with the number of the run, a line for each row of the opening store, and a line for each
-//! entry. `specs/Entry.antt`, `specs/Verdict.antt` and their neighbours say which words each line has; what they print
-//! reads back, and the first line outside the grammar is told.
+//! entry; the text of a store, as a state file has it, is the rows alone. `specs/Journal.antt` says what is printed, `specs/Whole.antt` what a text gives: what is printed reads back,
+//! and the first line outside the grammar is told.
 #![tactic(auto)]
 
-mod call;
-mod entry;
-mod exception;
 mod fault;
-mod fixed;
-mod outcome;
-mod parts;
 mod reading;
-mod row;
-mod verdict;
+mod rows;
+mod store_text;
 mod writing;
 
 pub use fault::JournalFault;
 pub use reading::read;
+pub use store_text::{print_store, read_store};
 pub use writing::{print, print_entry};
+
+#[cfg(test)]
+mod tests;

@@ -1,25 +1,20 @@
 //! Whole texts read.
-ghost use Rattle.std.specs.Prelude.{◌≡◌, ◌∷◌, ◌++◌, ◌+◌, ◌<◌, ◌≤◌, ◌^◌, [], IfOk, IfSome, length, map, OnOk, take, true, ℕ};
-ghost use Rattle.std.specs.Option.{option_map};
-ghost use Rattle.poa_base.specs.Store.{with_room, with_state, states};
+ghost use Rattle.std.specs.Prelude.{◌≡◌, ◌+◌, ◌<◌, ◌^◌, IfOk, length, map, take, ℕ};
 ghost use Rattle.text_words.specs.Cuts.{lines_of, words_of};
-ghost use Rattle.std.specs.Str.{bytes_eq};
 ghost use Rattle.text_words.specs.Gives.{Gives};
 ghost use Rattle.text_words.specs.Token.{spelled, texts};
-ghost use Rattle.poa_journal.specs.Entry.{entry_tokens};
-ghost use Rattle.poa_journal.specs.Fixed.{mark_word};
+ghost use Rattle.journal_lines.specs.Entry.{entry_tokens};
 ghost use Rattle.poa_journal.specs.Journal.{head_tokens, journal_lines, journal_text, IsJournal};
-ghost use Rattle.poa_journal.specs.Reading.{entry_of};
-ghost use Rattle.poa_journal.specs.Row.{row_behind, row_tokens};
-ghost use Rattle.poa_journal.specs.Whole.{Reads, contents, contents_of, entries_of, entry_at as entry_at_of, expected, front_seen, head_of, is_above as is_above_of, row_above, row_words_of, rows_front, run_of};
+ghost use Rattle.journal_lines.specs.Reading.{entry_of};
+ghost use Rattle.poa_journal.specs.Whole.{Reads, contents, contents_of, entries_of, entry_at as entry_at_of, head_of, run_of};
 
-use crate::entry::read_entry;
 use crate::fault::JournalFault;
-use crate::fixed::Mark;
-use crate::row::read_row;
-use poa_base::{Entry, Items, Journal, Oid, Path, State, Store};
-use std::alloc::{AllocError, Global};
-use text_words::{WordFault, Worded, next_line, number32, words};
+use crate::rows::read_rows;
+use journal_lines::read_entry;
+use journal_words::{Mark, expect};
+use poa_base::{Entry, Items, Journal};
+use std::alloc::Global;
+use text_words::{WordFault, next_line, number32, words};
 
 /// The journal of a text. The last LF may be missing.
 pub fn read(alloc: Global, bytes: &[u8]) -> Result<Journal, JournalFault>
@@ -40,7 +35,7 @@ fn read_lines(alloc: Global, bytes: &[u8]) -> Result<Journal, JournalFault>
         return Err(JournalFault::BadLine { line: 1 });
     };
     let run = read_head(alloc, head)?;
-    let front = read_rows(alloc, rest)?;
+    let front = read_rows(alloc, rest, 2)?;
     let entries = read_entries(alloc, front.rest, front.line)?;
     Ok(Journal {
         run,
@@ -73,114 +68,6 @@ fn read_run(words: &[&[u8]]) -> Result<u32, WordFault>
     expect(Mark::One, one)?;
     expect(Mark::Run, run)?;
     number32(number)
-}
-
-// The word that has to stand there.
-fn expect(mark: Mark, word: &[u8]) -> Result<(), WordFault>
-    ensures value { Gives result (expected mark word.now) }
-    ensures text { IfOk result (λ x. word.now ≡ mark_word mark) }
-{
-    if is_mark(mark, word) {
-        Ok(())
-    } else {
-        Err(WordFault::OutOfForm)
-    }
-}
-
-fn is_mark(mark: Mark, word: &[u8]) -> bool
-    ensures value { result ≡ bytes_eq (mark_word mark) word.now }
-    ensures text { result ≡ true → word.now ≡ mark_word mark }
-{
-    mark.word() == word
-}
-
-/// The store of the rows at the front of a text, with the text behind them and the number of its first line.
-#[derive(Drop)]
-struct Opening<'a> {
-    store: Store,
-    line: u64,
-    rest: &'a [u8],
-}
-
-// The rows from line 2 on.
-fn read_rows(alloc: Global, text: &[u8]) -> Result<Opening<'_>, JournalFault>
-    ensures value { Reads front_seen result (rows_front 2 None (lines_of text.now)) }
-    ensures text { IfOk result (λ front. lines_of text.now ≡ map spelled (map row_tokens (states front.store)) ++ lines_of front.rest.now) }
-    ensures bound { IfOk result (λ front. front.line + length front.rest.now ≤ 2 + length text.now) }
-{
-    let mut store = Store::new(alloc);
-    let mut last = None;
-    let mut line = 2;
-    let mut rest = text;
-    while let Some((first, after)) = next_line(rest) {
-        let words = words(alloc, first)?;
-        let Some(more) = row_words(words.as_slice()) else {
-            return Ok(Opening { store, line, rest });
-        };
-        let (place, state) = row_at(alloc, line, &last, more)?;
-        store_row(&mut store, &place, state)?;
-        last = Some(place);
-        line += 1;
-        rest = after;
-    }
-    Ok(Opening { store, line, rest })
-}
-
-// The words behind `store`, where a line is that of a row.
-fn row_words<'a>(words: &'a [&'a [u8]]) -> Option<&'a [&'a [u8]]>
-    ensures value { option_map (λ ws. map (λ w. w.now) ws.now) result ≡ row_words_of (map (λ w. w.now) words.now) }
-    ensures text { IfSome result (λ ws. map (λ w. w.now) words.now ≡ mark_word Mark.Store ∷ map (λ w. w.now) ws.now) }
-{
-    match words {
-        [word, rest @ ..] => {
-            if is_mark(Mark::Store, word) {
-                Some(rest)
-            } else {
-                None
-            }
-        }
-        [] => None,
-    }
-}
-
-// The row of a line, where it stands above the last.
-fn row_at(
-    alloc: Global,
-    line: u64,
-    last: &Option<(Path, Oid)>,
-    words: &[&[u8]],
-) -> Result<((Path, Oid), State), JournalFault>
-    ensures value { Reads (λ row. row) result (row_above line last.now (row_behind (map (λ w. w.now) words.now))) }
-    ensures text { IfOk result (λ row. mark_word Mark.Store ∷ map (λ w. w.now) words.now ≡ texts (row_tokens row)) }
-{
-    match read_row(alloc, words) {
-        Ok((place, state)) => {
-            if is_above(last, &place) {
-                Ok((place, state))
-            } else {
-                Err(JournalFault::BadLine { line })
-            }
-        }
-        Err(WordFault::OutOfForm) => Err(JournalFault::BadLine { line }),
-        Err(WordFault::WantMemory) => Err(JournalFault::WantMemory),
-    }
-}
-
-fn is_above(last: &Option<(Path, Oid)>, place: &(Path, Oid)) -> bool
-    ensures { result ≡ is_above_of last.now place.now }
-{
-    match last {
-        None => true,
-        Some(before) => before.0.cmp(&place.0).then(before.1.cmp(&place.1)).is_lt(),
-    }
-}
-
-fn store_row(store: &mut Store, place: &(Path, Oid), state: State) -> Result<(), AllocError>
-    ensures { OnOk result (store.new ≡ with_state (with_room store.old place.now.0 place.now.1) place.now.0 place.now.1 state) }
-{
-    store.reserve(&place.0, &place.1)?;
-    store.set(&place.0, &place.1, state);
-    Ok(())
 }
 
 // The entries from line `first` on.

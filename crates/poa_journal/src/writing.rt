@@ -2,13 +2,12 @@
 ghost use Rattle.std.specs.Prelude.{◌≡◌, ◌∷◌, ◌++◌, [], IfOk, OnOk, map};
 ghost use Rattle.poa_base.specs.Rows.{row_seen};
 ghost use Rattle.text_words.specs.Token.{spelled};
-ghost use Rattle.poa_journal.specs.Entry.{entry_tokens};
-ghost use Rattle.poa_journal.specs.Row.{row_tokens};
+ghost use Rattle.journal_lines.specs.Entry.{entry_tokens};
+ghost use Rattle.journal_lines.specs.Row.{row_tokens};
 ghost use Rattle.poa_journal.specs.Journal.{head_tokens, journal_text, text_of};
 
-use crate::entry::put_entry;
-use crate::fixed::Mark;
-use crate::row::put_row;
+use journal_lines::{put_entry, put_row};
+use journal_words::Mark;
 use poa_base::{Bytes, Entry, Journal, Row, WantMemory};
 use std::alloc::Global;
 use text_words::{Worded, put_number, put_word};
@@ -44,7 +43,7 @@ fn head_line(alloc: Global, run: u32) -> Result<Vec<u8>, WantMemory>
     Ok(out)
 }
 
-fn put_rows(out: &mut Vec<u8>, rows: &[Row]) -> Result<(), WantMemory>
+pub(crate) fn put_rows(out: &mut Vec<u8>, rows: &[Row]) -> Result<(), WantMemory>
     ensures { OnOk result (out.new.items ≡ out.old.items ++ text_of (map row_tokens (map row_seen rows.entry.now))) }
 {
     for row in rows {

@@ -12,7 +12,8 @@ use Rattle.poa_policy.specs.declared.kind.PolicyKind.TheVariants as kind
 use Rattle.poa_policy.specs.declared.rule.Rule.{Rule}
 use Rattle.poa_policy.specs.declared.rule.Rule.TheVariants.{MapOnlyRetains, DefaultServantIsShared, ImplicitMakesIds}
 use Rattle.poa_policy.specs.Kinds.{kind_of, of_kind, number_of, is_of, same_kind, put, put_of, IsSet, Has}
-use Rattle.poa_policy.specs.Rules.{is_multiple_id, is_system_id, is_implicit, is_retain, is_map_only, is_default_servant, needs, keeps, first_broken, harmless, defaults}
+use Rattle.poa_base.specs.Policies.{is_multiple_id, is_system_id, is_implicit, is_retain, is_map_only, is_default_servant}
+use Rattle.poa_policy.specs.Rules.{needs, keeps, first_broken, harmless, defaults}
 use Rattle.poa_policy.specs.Settled.{once, listed_over, completable, CanComplete}
 
 -- a policy put into a set stands at its kind, and nothing else changes

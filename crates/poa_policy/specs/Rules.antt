@@ -1,41 +1,13 @@
 -- The three rules that the policies of an adapter keep: CORBA 3.3 Part 1, chapter 15, "POA Policy Objects".
 use Rattle.std.specs.Prelude.{Bool, true, false, not, ◌&&◌, ◌||◌, if◌then◌else◌, Option, Some, None}
 use Rattle.poa_base.specs.declared.policy.Policy.{Policy}
-use Rattle.poa_base.specs.declared.policy.Policy.TheVariants.{OrbCtrl, Transient, UniqueId, MultipleId, SystemId, NoImplicit, Implicit, Retain, MapOnly, DefaultServant, ServantManager}
+use Rattle.poa_base.specs.declared.policy.Policy.TheVariants.{OrbCtrl, Transient, UniqueId, MultipleId, SystemId, NoImplicit, Retain, MapOnly, ServantManager}
 use Rattle.poa_base.specs.declared.policy.PolicySet.{PolicySet}
+use Rattle.poa_base.specs.Policies.{is_multiple_id, is_system_id, is_implicit, is_retain, is_map_only, is_default_servant}
 use Rattle.poa_policy.specs.declared.kind.PolicyKind.{PolicyKind}
 use Rattle.poa_policy.specs.declared.kind.PolicyKind.TheVariants as kind
 use Rattle.poa_policy.specs.declared.rule.Rule.{Rule}
 use Rattle.poa_policy.specs.declared.rule.Rule.TheVariants.{MapOnlyRetains, DefaultServantIsShared, ImplicitMakesIds}
-
--- which policy it is
-abbrev pub is_multiple_id : Policy → Bool
-is_multiple_id MultipleId = true
-is_multiple_id _ = false
-
-abbrev pub is_system_id : Policy → Bool
-is_system_id SystemId = true
-is_system_id _ = false
-
-abbrev pub is_implicit : Policy → Bool
-is_implicit Implicit = true
-is_implicit _ = false
-
-abbrev pub is_retain : Policy → Bool
-is_retain Retain = true
-is_retain _ = false
-
-abbrev pub is_map_only : Policy → Bool
-is_map_only MapOnly = true
-is_map_only _ = false
-
-abbrev pub is_default_servant : Policy → Bool
-is_default_servant DefaultServant = true
-is_default_servant _ = false
-
-abbrev pub is_servant_manager : Policy → Bool
-is_servant_manager ServantManager = true
-is_servant_manager _ = false
 
 -- a policy that passes the first test needs one that passes the second
 abbrev pub needs : (Policy → Bool) → (Policy → Bool) → Policy → Policy → Bool

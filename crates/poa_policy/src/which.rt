@@ -1,6 +1,6 @@
 //! Which policy it is.
 ghost use Rattle.std.specs.Prelude.{◌≡◌};
-ghost use Rattle.poa_policy.specs.Rules.{is_multiple_id as the_multiple_id, is_system_id as the_system_id, is_implicit as the_implicit, is_retain as the_retain, is_map_only as the_map_only, is_default_servant as the_default_servant, is_servant_manager as the_servant_manager};
+ghost use Rattle.poa_base.specs.Policies.{is_multiple_id as the_multiple_id, is_system_id as the_system_id, is_implicit as the_implicit, is_retain as the_retain, is_map_only as the_map_only, is_default_servant as the_default_servant, is_servant_manager as the_servant_manager};
 
 use poa_base::Policy;
 

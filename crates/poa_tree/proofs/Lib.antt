@@ -3,3 +3,9 @@ pub mod Leading
 pub mod Finding
 pub mod TreeKept
 pub mod WalkStands
+mod AboveIs
+mod Stepwise
+pub mod Numbers
+mod Creating
+mod Letting
+mod Parents

@@ -1,5 +1,6 @@
 -- Elements of lists that were appended, mapped and filtered.
-use Rattle.std.specs.Prelude.{◌≡◌, Bool, true, false, cond, List, [], ◌∷◌, ◌++◌, map, filter, ◌⊎◌, refl}
+use Rattle.std.specs.Prelude.{◌≡◌, Bool, true, false, cond, ◌||◌, List, [], ◌∷◌, ◌++◌, map, filter, ◌⊎◌, refl}
+use Rattle.std.specs.List.{list_any}
 use Rattle.std.proofs.Common.{inl, inr, sym, ap, ◌∙◌}
 use Rattle.poa_tree.specs.Trees.{In}
 
@@ -48,3 +49,13 @@ kept_in test x (y ∷ xs) (inl same) passes =
 kept_in test x (y ∷ xs) (inr more) passes =
     elim (test y) as (λ b. In x (cond b (y ∷ filter test xs) (filter test xs)))
     [ true ↦ inr (kept_in test x xs more passes) | false ↦ kept_in test x xs more passes ]
+
+-- one element that passes is enough
+pub any_in : {A : Type 0} (test : A → Bool) (x : A) (xs : List A) → In x xs → test x ≡ true → list_any test xs ≡ true
+any_in test x [] is passes = absurd is
+any_in test x (y ∷ xs) (inl same) passes = ap (λ b. b || list_any test xs) (ap test (sym same) ∙ passes)
+any_in test x (y ∷ xs) (inr more) passes = either_true (test y) (list_any test xs) (any_in test x xs more passes)
+  where
+    either_true : (a b : Bool) → b ≡ true → (a || b) ≡ true
+    either_true true b is = refl
+    either_true false b is = is

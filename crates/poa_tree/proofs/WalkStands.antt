@@ -6,7 +6,9 @@ use Rattle.std.proofs.Math.Seq.{append_snoc}
 use Rattle.poa_tree.specs.declared.node.Node.{Node}
 use Rattle.poa_tree.specs.Paths.{same_path}
 use Rattle.poa_tree.specs.Nodes.{node_at}
-use Rattle.poa_tree.specs.Walks.{Found, Live, Dying, Missing, walk_from, walk, adapter_met}
+use Rattle.poa_tree.specs.declared.found.Found.{Found}
+use Rattle.poa_tree.specs.declared.found.Found.TheVariants.{Live, Dying, Missing}
+use Rattle.poa_tree.specs.Walks.{walk_from, walk, adapter_met}
 use Rattle.poa_tree.specs.Trees.{In, IsTree, Stands, IsFreePath}
 use Rattle.poa_tree.proofs.Finding.{find_in, find_none, path_same, same_path_self}
 

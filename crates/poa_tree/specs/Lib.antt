@@ -2,3 +2,4 @@ pub mod Paths
 pub mod Nodes
 pub mod Walks
 pub mod Trees
+pub mod Adapters

@@ -18,6 +18,25 @@ use std::alloc::Global;
 /// - `show IOR`: prints the reference to the sink.
 ///
 /// The source is one that doesn't wait: a read of it waits until something is there.
+///
+/// How it ends:
+/// - `Ok`: `answer` read the source to its end, or to a CloseConnection, and every owed reply was written; or
+///   `show` printed the reference.
+/// - `BadWords`: the words are none of these commands. Nothing was read or written.
+/// - `TextRefused`: the text of `show` is no reference, with its first fault. Nothing was written.
+/// - `Malformed`: the first bad message of the source starts at this byte. The replies to the messages before
+///   it were written, and then MessageError (CORBA 3.3 Part 2, 9.4.8).
+/// - `Truncated`: the source ended, and so many of its bytes belong to no whole message: those behind the last
+///   part, and all parts of messages that are still open. The replies to the whole messages were written.
+/// - `Unbuilt`: the message that starts at this byte is a LocateRequest, or a Request whose target is told by a
+///   profile or by a reference (CORBA 3.3 Part 2, 9.4.5 and 9.4.2.1), and no earlier message is bad. The replies
+///   to the messages before it were written.
+/// - `InputLimit`: 2^32 bytes were taken of the source, and no message of them ends the run.
+/// - `ReadFault`, `WriteFault`: a read of the source, or a write to the sink, failed in this call. After a fault
+///   of reading every reply that was due was written, and after one of writing a front of them.
+/// - `WantMemory`: no memory was left. A front of the replies was written.
+///
+/// No other status comes.
 pub fn run_words<S: Source, K: Sink, F: Files>(
     alloc: Global,
     words: &[String],

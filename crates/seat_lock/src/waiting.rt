@@ -13,10 +13,14 @@ use crate::chronicle::Chronicle;
 use crate::lock::{Seat, SeatLock};
 use crate::plays::{Look, Mark};
 use crate::words::{FIRST_BELL, FIRST_LANE, LANES, LINE, NEXT, SERVED, WORDS};
+use std::hint;
 use std::sync::Wait;
 
-/// How often the next in line looks before it sleeps. It was woken ahead, so its turn is near.
-const SPINS: u32 = 100;
+/// How many in line look for a while before they sleep: a turn that passes between threads that look costs a tenth of one that has to wake a thread.
+const NEAR: u64 = 3;
+
+/// How often they look. That is some ten microseconds, about what it takes to wake a thread, so the line comes to rest again after one that slept.
+const SPINS: u32 = 400;
 
 impl<T: Chronicle> SeatLock<T> {
     /// The word on which the holder of a ticket sleeps.
@@ -26,12 +30,14 @@ impl<T: Chronicle> SeatLock<T> {
         FIRST_LANE + LINE * ((ticket % LANES) as usize)
     }
 
-    /// Looks for a little while, if the ticket is the next one.
+    /// Looks for a little while, if the ticket is one of the next few.
     fn spin(&self, ticket: u64) {
         for _ in 0..SPINS {
-            if ticket.wrapping_sub(self.table.shared.peek(SERVED)) != 1 {
+            let ahead = ticket.wrapping_sub(self.table.shared.peek(SERVED));
+            if ahead == 0 || NEAR < ahead {
                 return;
             }
+            hint::spin_loop();
         }
     }
 

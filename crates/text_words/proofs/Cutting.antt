@@ -1,5 +1,5 @@
 -- What a cut at the byte s gives of a text that is put together.
-use Rattle.std.proofs.Common.{◌≡◌, ℕ, ◌==◌, Bool, true, false, not, List, [], ◌∷◌, ◌++◌, refl, ap, sym, ◌∙◌, cond, eq-eqb, length, map, filter, append_assoc}
+use Rattle.std.proofs.Common.{◌≡◌, ℕ, ◌==◌, Bool, true, false, not, List, [], ◌∷◌, ◌++◌, refl, ap, ◌∙◌, cond, eq-eqb, length, map, filter, append_assoc}
 use Rattle.std.proofs.lemmas.List.{map-append}
 use denote.Ref.{Bor}
 use Rattle.std.proofs.lemmas.Bool.{and_parts, not-true}

@@ -1,8 +1,8 @@
 -- Parts put together again, each behind the byte s, and what a cut gives of that.
-use Rattle.std.proofs.Common.{◌≡◌, ℕ, ◌==◌, Bool, true, false, List, [], ◌∷◌, ◌++◌, refl, ap, sym, ◌∙◌, cond, append-nil}
+use Rattle.std.proofs.Common.{◌≡◌, ℕ, ◌==◌, Bool, true, false, List, [], ◌∷◌, ◌++◌, refl, ap, ◌∙◌, cond, append-nil}
 use Rattle.std.proofs.lemmas.Bool.{and_parts, eqb-true}
 use Rattle.std.specs.List.{list_all}
-use Rattle.text_words.specs.Cuts.{onto, cut, lacks, parts_of}
+use Rattle.text_words.specs.Cuts.{onto, lacks, parts_of}
 use Rattle.text_words.proofs.Cutting.{cut-front, cut-alone}
 
 -- each part behind the byte s

@@ -1,10 +1,10 @@
 -- Lines of tokens: cut into words and lines, they give the texts of the tokens again.
-use Rattle.std.proofs.Common.{◌≡◌, ℕ, ◌≤◌, ◌==◌, ◌&&◌, Bool, true, false, not, List, [], ◌∷◌, ◌++◌, length, filter, refl, ap, sym, ◌∙◌, arith, append_assoc, cond}
-use Rattle.std.proofs.lemmas.Bool.{and_from, and_parts}
+use Rattle.std.proofs.Common.{◌≡◌, ℕ, ◌==◌, true, not, List, [], ◌∷◌, ◌++◌, filter, refl, ap, sym, ◌∙◌, arith}
+use Rattle.std.proofs.lemmas.Bool.{and_from}
 use Rattle.std.proofs.lemmas.List.Folds.{list_all-append}
 use Rattle.std.specs.List.{list_all}
 use Rattle.text_words.specs.Cuts.{lacks, parts_of, words_of, loose_words_of, lines_of, is_filled}
-use Rattle.text_words.specs.Token.{Token, spell, is_ink, is_word, Fits, AllFit, texts, tails, spelled}
+use Rattle.text_words.specs.Token.{Token, spell, AllFit, texts, tails, spelled}
 use Rattle.text_words.proofs.Cutting.{cut-front}
 use Rattle.text_words.proofs.Joining.{behind_each, cut_again, together}
 use Rattle.text_words.proofs.Tokens.{printable, word_lacks, word_filled}

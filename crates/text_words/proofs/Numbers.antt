@@ -1,11 +1,11 @@
 -- Numbers in digits: their texts read back, and what stands in them.
-use Rattle.std.proofs.Common.{◌≡◌, ℕ, ◌+◌, ◌*◌, ◌-◌, ◌^◌, ◌<◌, ◌≤◌, ◌==◌, ◌&&◌, Bool, true, false, List, [], ◌∷◌, Option, Some, None, refl, arith, rules, drop, get_or, length, suc, ap, drop-cons}
+use Rattle.std.proofs.Common.{◌≡◌, ℕ, ◌+◌, ◌*◌, ◌-◌, ◌^◌, ◌<◌, ◌≤◌, true, List, [], ◌∷◌, Some, None, refl, arith, rules, drop, get_or, length, suc, ap, drop-cons}
 use Rattle.std.proofs.lemmas.Bool.{lt-ltb, le-ltb}
 use Rattle.std.proofs.lemmas.Str.Parse.{IsNumeralModel, numerals_by_fold}
 use Rattle.std.proofs.lemmas.Fmt.{digits_value-decimal}
 use Rattle.std.proofs.lemmas.Slice.Eq.{bytes_eq-Decides}
 use Rattle.std.specs.Fmt.{decimal}
-use Rattle.std.specs.Str.{bytes_eq, all_ascii_digits}
+use Rattle.std.specs.Str.{all_ascii_digits}
 use Rattle.text_words.specs.Number.{read_on, number_of}
 
 -- a number is no less with more digits
@@ -24,6 +24,16 @@ pub number_back : (limit n : ℕ) → n < limit → limit ≤ 2 ^ 64 → number_
 number_back limit n h small =
     let value : read_on 0 (decimal n) ≡ n = digits_value-decimal own n (omega arith) in
     rw (value, lt-ltb n limit h, (bytes_eq-Decides (decimal n) (decimal n)).1 refl) refl
+
+-- each width of number in a text
+pub back8 : (n : ℕ) → n < 256 → number_of 256 (decimal n) ≡ Some n
+back8 n h = number_back 256 n h (omega arith)
+
+pub back32 : (n : ℕ) → n < 2 ^ 32 → number_of (2 ^ 32) (decimal n) ≡ Some n
+back32 n h = number_back (2 ^ 32) n h (omega arith)
+
+pub back64 : (n : ℕ) → n < 2 ^ 64 → number_of (2 ^ 64) (decimal n) ≡ Some n
+back64 n h = number_back (2 ^ 64) n h (omega arith)
 
 -- digits that overflow 64 bits write no number
 pub overflowed : (most n i : ℕ) (w : List ℕ) → most < 2 ^ 64 → i < length w → (n * 10 + (get_or w i 0 - 48) < 2 ^ 64 → ⊥)

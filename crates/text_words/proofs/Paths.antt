@@ -1,5 +1,5 @@
 -- A word that is read as a path is the path's text.
-use Rattle.std.proofs.Common.{◌≡◌, ℕ, ◌==◌, Bool, true, false, List, [], ◌∷◌, ◌++◌, Option, Some, None, Result, Ok, Err, IfOk, refl, ap, sym, ◌∙◌, cond}
+use Rattle.std.proofs.Common.{◌≡◌, ℕ, ◌==◌, Bool, true, false, List, [], ◌∷◌, Option, Some, None, Result, Ok, Err, IfOk, refl, ap, sym, ◌∙◌, cond}
 use Rattle.std.proofs.lemmas.Bool.{eqb-true}
 use Rattle.std.proofs.lemmas.Option.{none-some, same_Some, cond_some}
 use Rattle.text_words.specs.Name.{is_name, name_of}
@@ -7,7 +7,6 @@ use Rattle.text_words.specs.Cuts.{parts_of}
 use Rattle.text_words.specs.Chain.{◌>>=◌}
 use Rattle.text_words.specs.Path.{below_root, path_text, all_names_of, names_behind, path_names_of}
 use Rattle.text_words.specs.declared.fault.WordFault.{WordFault}
-use Rattle.text_words.specs.declared.fault.WordFault.TheVariants.{OutOfForm, WantMemory}
 use Rattle.text_words.specs.Gives.{Gives}
 use Rattle.text_words.proofs.Joining.{behind_each, together}
 use Rattle.text_words.proofs.ReadBack.{below_root_each}

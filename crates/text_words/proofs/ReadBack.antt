@@ -1,7 +1,7 @@
 -- The text of a token, read again, gives the token's value.
-use Rattle.std.proofs.Common.{◌≡◌, ℕ, ℤ, ◌+◌, ◌-◌, ◌^◌, ◌<◌, ◌≤◌, ◌==◌, ◌&&◌, Bool, true, false, List, [], ◌∷◌, ◌++◌, length, Option, Some, None, refl, ap, sym, ◌∙◌, arith, rules, suc, take, drop, cond, not, subst}
+use Rattle.std.proofs.Common.{◌≡◌, ℕ, ℤ, ◌+◌, ◌^◌, ◌<◌, ◌≤◌, ◌==◌, ◌&&◌, Bool, true, false, List, [], ◌∷◌, ◌++◌, length, Some, None, refl, ap, sym, ◌∙◌, arith, rules, suc, take, drop, cond, not, subst}
 use Rattle.std.proofs.Math.Seq.{take-append_seam, drop-append_seam}
-use Rattle.std.specs.Prelude.{pos, negsuc, codes, nat_le, Result, Ok}
+use Rattle.std.specs.Prelude.{pos, negsuc, codes, nat_le}
 use Rattle.std.proofs.lemmas.Bool.{and_parts, and_from, le-leb, ne_eqb, false≢true}
 use Rattle.std.proofs.lemmas.Bool.Decides.{nat_tests}
 use Rattle.std.proofs.lemmas.Fmt.{decimal_is_IsNumeral, decimal_nonempty}
@@ -10,19 +10,21 @@ use Rattle.std.specs.Str.Parse.{AllDigits}
 use Rattle.std.proofs.lemmas.Slice.Eq.{bytes_eq-Decides}
 use Rattle.std.proofs.lemmas.Nat.{from_be_bytes-to_be_bytes_4}
 use Rattle.std.specs.Fmt.{decimal, signed_decimal}
-use Rattle.std.specs.Int.{to_be_bytes, from_be_bytes, w32}
+use Rattle.std.specs.Int.{to_be_bytes, w32}
 use Rattle.std.specs.List.{list_all}
 use Rattle.std.specs.Str.{bytes_eq}
-use Rattle.hex.specs.Hex.{encode_lower, decode_of, IsBytes}
+use Rattle.hex.specs.Hex.{encode_lower, IsBytes}
 use Rattle.hex.proofs.HexLemmas.{decode_of-encode_lower, decode_sized-encode_lower}
-use Rattle.text_words.specs.Number.{number_of, port_of, signed_of, negated, not_negated}
-use Rattle.text_words.specs.Hexadecimal.{hex_of, any_hex_of, prefixed_of, behind, minor_of, is_hex_behind, is_reference, reference_of}
+use Rattle.text_words.specs.Number.{number_of, port_of, signed_of, not_negated}
+use Rattle.text_words.specs.Hexadecimal.{hex_of, prefixed_of, behind, minor_of, is_hex_behind, is_reference, reference_of}
 use Rattle.std.proofs.lemmas.List.{take-append-drop}
 use Rattle.text_words.specs.Name.{is_name, is_name_byte, name_of, is_host, host_of}
-use Rattle.text_words.specs.Path.{below_root, path_text, all_names_of, few_enough, path_of}
+use Rattle.text_words.specs.Path.{below_root, path_text, all_names_of, path_of}
 use Rattle.text_words.specs.Cuts.{lacks}
 use Rattle.text_words.specs.Identity.{printed_id_of, id_of}
-use Rattle.text_words.specs.Token.{IsLong}
+use Rattle.poa_base.specs.declared.Endpoint.{Endpoint}
+use Rattle.text_words.specs.Parts.{endpoint_tokens, last_endpoint}
+use Rattle.text_words.specs.Token.{AllFit, IsLong, texts}
 use Rattle.text_words.proofs.Numbers.{number_back}
 use Rattle.text_words.proofs.Tokens.{all_weaker}
 use Rattle.text_words.proofs.Joining.{behind_each, cut_again}
@@ -101,6 +103,9 @@ reference_back w h = rw h refl
 
 pub port_back : (n : ℕ) → 1 ≤ n → n < 2 ^ 16 → port_of (decimal n) ≡ Some n
 port_back n low high = rw (number_back (2 ^ 16) n high (omega arith), ne_eqb n 0 (λ same. omega arith)) refl
+
+pub endpoint_back : (e : Endpoint) → AllFit (endpoint_tokens e) → last_endpoint (texts (endpoint_tokens e)) ≡ Some e
+endpoint_back e h = rw (host_back e.host h.0, port_back e.port h.1.0.0 h.1.0.1) refl
 
 reference_no_id_by : (w : List ℕ) (starts : Bool) → (starts ≡ true → codes "IOR:" ≡ take 4 w)
     → is_hex_behind (cond starts (Some (drop 4 w)) None) ≡ true → printed_id_of w ≡ None

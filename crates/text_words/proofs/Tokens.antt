@@ -1,10 +1,10 @@
 -- The text of a token is a word: not empty, with no space and no end of line in it.
-use Rattle.std.proofs.Common.{◌≡◌, ℕ, ◌+◌, ◌/◌, ◌%◌, ◌^◌, ◌<◌, ◌≤◌, ◌==◌, ◌&&◌, ◌||◌, Bool, true, false, not, List, [], ◌∷◌, ◌++◌, length, get_or, refl, ap, sym, ◌∙◌, arith, rules, suc, ℤ, nat_le, take, drop, subst, cond, Option, Some, None}
+use Rattle.std.proofs.Common.{◌≡◌, ℕ, ◌/◌, ◌%◌, ◌^◌, ◌<◌, ◌≤◌, ◌==◌, ◌&&◌, Bool, true, false, not, List, [], ◌∷◌, ◌++◌, length, get_or, refl, ap, ◌∙◌, arith, rules, suc, ℤ, nat_le, take, drop, subst, cond, Some, None}
 use Rattle.std.proofs.lemmas.List.{take-append-drop}
 use Rattle.std.proofs.lemmas.Slice.Eq.{bytes_eq-Decides}
 use Rattle.std.specs.Str.{bytes_eq}
 use Rattle.text_words.specs.Hexadecimal.{is_lower_digit, is_hex_behind, is_reference}
-use Rattle.std.proofs.lemmas.Bool.{and_parts, and_from, or_cases, leb-true, lt-ltb, ltb-true, ne_eqb, not_from_false, agree_below_at, agree_below, false≢true}
+use Rattle.std.proofs.lemmas.Bool.{and_parts, and_from, leb-true, lt-ltb, ltb-true, ne_eqb, not_from_false, agree_below_at, false≢true}
 use Rattle.std.proofs.lemmas.Bool.Decides.{nat_tests}
 use Rattle.std.proofs.lemmas.Str.Parse.{tells_digits}
 use Rattle.std.proofs.lemmas.List.Folds.{list_all-append}
@@ -13,13 +13,12 @@ use Rattle.std.specs.Prelude.{codes, pos, negsuc}
 use Rattle.std.specs.List.{list_all}
 use Rattle.std.specs.Fmt.{decimal, signed_decimal}
 use Rattle.std.specs.Int.{to_be_bytes, w32}
-use Rattle.std.specs.Str.Parse.{AllDigits, IsNumeral}
-use Rattle.std.specs.Char.{digit_value}
+use Rattle.std.specs.Str.Parse.{AllDigits}
 use Rattle.hex.specs.Hex.{lower_digits, encode_with, encode_lower, IsBytes}
 use Rattle.text_words.specs.Name.{is_alphanumeric, is_name_byte, is_host_byte, is_name, is_host}
 use Rattle.text_words.specs.Path.{below_root, path_text}
 use Rattle.text_words.specs.Cuts.{lacks, is_filled}
-use Rattle.text_words.specs.Token.{Token, keyword, number, signed, minor, named, host, path, octets, identity, reference, port, spell, is_ink, is_word, IsLong, Fits, AllFit, texts, tails, spelled}
+use Rattle.text_words.specs.Token.{Token, keyword, number, signed, minor, named, host, path, octets, identity, reference, port, spell, is_ink, is_word, IsLong, Fits}
 
 -- a test that every element passes, by a weaker one
 pub all_weaker : (p q : ℕ → Bool) → ((x : ℕ) → p x ≡ true → q x ≡ true) → (xs : List ℕ) → list_all p xs ≡ true → list_all q xs ≡ true

@@ -7,4 +7,5 @@ pub mod Path
 pub mod Identity
 pub mod Keyword
 pub mod Token
+pub mod Parts
 pub mod Gives

@@ -1,5 +1,5 @@
 -- Paths of adapters: `/`, or each name behind a `/`.
-use Rattle.std.specs.Prelude.{ℕ, ◌==◌, ◌&&◌, nat_le, List, [], ◌∷◌, ◌++◌, length, Option, Some, None, if◌then◌else◌}
+use Rattle.std.specs.Prelude.{ℕ, ◌==◌, nat_le, List, [], ◌∷◌, ◌++◌, length, Option, Some, None, if◌then◌else◌}
 use Rattle.text_words.specs.Chain.{◌>>=◌}
 use Rattle.text_words.specs.Name.{name_of}
 use Rattle.text_words.specs.Cuts.{parts_of}

@@ -1,4 +1,4 @@
-ghost use Rattle.std.specs.Prelude.{◌≡◌, ◌++◌, IfOk, map};
+ghost use Rattle.std.specs.Prelude.{◌≡◌, IfOk, map};
 ghost use Rattle.text_words.specs.Gives.{Gives};
 ghost use Rattle.text_words.specs.Token.{Token, spell};
 ghost use Rattle.text_words.specs.Path.{all_names_of, below_root, few_enough, path_names_of, path_of};

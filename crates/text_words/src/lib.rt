@@ -10,6 +10,7 @@ mod decimal;
 mod fault;
 mod hexadecimal;
 mod keyword;
+mod line_end;
 mod names;
 mod object_id;
 mod writing;
@@ -20,6 +21,9 @@ pub use decimal::{number8, number16, number32, number64, port, signed};
 pub use fault::WordFault;
 pub use hexadecimal::{any_hex, is_reference, minor, octets, reference};
 pub use keyword::{Worded, find_word};
+pub use line_end::{
+    alone, last_endpoint, last_long_number, last_name, last_number, nothing, put_endpoint,
+};
 pub use names::{host, is_host, is_name, name};
 pub use object_id::{any_identity, identity, identity_text};
 pub use writing::{

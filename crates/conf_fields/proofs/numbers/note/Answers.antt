@@ -1,9 +1,7 @@
-use Rattle.std.proofs.Common.{Some, ◌∙◌, string_bytes}
+use Rattle.std.proofs.Common.{Some, string_bytes}
 use Rattle.std.proofs.Math.Path.{fun_ext}
 use Rattle.std.proofs.lemmas.Map.Text.{btree_map_updates_text}
-use Rattle.conf_fields.specs.Numbers.{find_in, noted}
-use Rattle.conf_fields.proofs.Finds.{noted_next}
-use Rattle.conf_fields.proofs.Entries.{reached_more}
+use Rattle.conf_fields.specs.Numbers.{find_in}
 use Rattle.conf_fields.proofs.numbers.note.Goals as goal
 
 pub returns-clause-noted : goal.returns-clause-noted

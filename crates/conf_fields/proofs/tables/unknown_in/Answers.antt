@@ -1,5 +1,5 @@
-use Rattle.std.proofs.Common.{◌≡◌, ap, sym, ◌∙◌, map}
-use Rattle.conf_fields.proofs.Keys.{unknown_in, unknown_in-keys}
+use Rattle.std.proofs.Common.{map}
+use Rattle.conf_fields.proofs.Keys.{unknown_in-keys}
 use Rattle.conf_fields.proofs.tables.unknown_in.Goals as goal
 
 pub loop-key-init : goal.loop-key-init

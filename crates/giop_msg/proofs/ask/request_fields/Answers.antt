@@ -8,9 +8,9 @@ pub returns-clause-bytes : goal.returns-clause-bytes
 returns-clause-bytes c =
     c.into_bytes.ensures
     ∙ ap (λ (d : Draft). d.bytes) (c.in_ok-ulong.ensures.ok
-    ∙ ap (with_field (ulong 0)) (c.in_ok-put_text.ensures.written
-    ∙ (ap (λ (name : List ℕ). with_field (text name) c.put_octets.new.writer) c.as_slice-2.ensures
-    ∙ ap (with_field (text c.args.ask.now.operation)) (c.in_ok-put_octets.ensures.written
+    ∙ ap (with_field (ulong 0)) (c.in_ok-put_text.ensures.ok
+    ∙ (ap (λ (name : List ℕ). with_field (text name) c.put_octets.new.self) c.as_slice-2.ensures
+    ∙ ap (with_field (text c.args.ask.now.operation)) (c.in_ok-put_octets.ensures.ok
     ∙ (ap (λ (key : List ℕ). with_field (octets key) c.ushort.new.self) c.as_slice.ensures
     ∙ ap (with_field (octets c.args.ask.now.key)) (c.in_ok-ushort.ensures.ok
     ∙ ap (with_field (ushort 0)) c.in_ok-writer.ensures.fields))))))

@@ -1,7 +1,8 @@
 -- The reference is that of the forward.
 use Rattle.std.proofs.Common.{◌≡◌, ℕ, List, subst}
 use Rattle.std.specs.Prelude.{OnOk}
-use Rattle.iiop_profile.specs.Profile.{with_fields, profile_of}
+use Rattle.cdr_core.specs.Fields.{with_fields}
+use Rattle.iiop_profile.specs.Profile.{profile_of}
 use Rattle.giop_msg.specs.Reply.{reference_fields}
 use Rattle.giop_msg.proofs.reply.put_body.Goals as goal
 

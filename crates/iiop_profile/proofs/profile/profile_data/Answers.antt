@@ -8,9 +8,9 @@ pub returns : goal.returns
 returns c =
     c.into_bytes.ensures
     ∙ ap (λ (d : Draft). d.bytes) (c.in_ok-ulong.ensures.ok
-    ∙ ap (with_field (ulong 0)) (c.in_ok-put_octets.ensures
+    ∙ ap (with_field (ulong 0)) (c.in_ok-put_octets.ensures.ok
     ∙ ap (with_field (octets c.args.key.now)) (c.in_ok-ushort.ensures.ok
-    ∙ ap (with_field (ushort c.args.endpoint.now.port)) (c.in_ok-put_text.ensures
+    ∙ ap (with_field (ushort c.args.endpoint.now.port)) (c.in_ok-put_text.ensures.ok
     ∙ (ap (λ (host : List ℕ). with_field (text host) c.octet-3.new.self) c.as_slice.ensures
     ∙ ap (with_field (text c.args.endpoint.now.host)) (c.in_ok-octet-3.ensures.ok
     ∙ ap (with_field (octet 2)) (c.in_ok-octet-2.ensures.ok

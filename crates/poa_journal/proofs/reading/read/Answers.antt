@@ -1,7 +1,6 @@
-use Rattle.std.proofs.Common.{◌≡◌, ◌∙◌, ℕ, Result, Ok, Err, sym, ap, subst}
+use Rattle.std.proofs.Common.{◌∙◌, ℕ, Result, ap, subst}
 use Rattle.poa_base.specs.declared.Journal.{Journal}
 use Rattle.poa_journal.specs.declared.fault.JournalFault.{JournalFault}
-use Rattle.poa_journal.specs.declared.fault.JournalFault.TheVariants.{BadLine}
 use Rattle.poa_journal.specs.Whole.{Contents, Reads, contents, contents_of}
 use Rattle.poa_journal.proofs.PrintedBack.{journal_back}
 use Rattle.poa_journal.proofs.FirstBad.{first_bad}

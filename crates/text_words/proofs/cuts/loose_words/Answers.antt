@@ -1,4 +1,4 @@
-use Rattle.std.proofs.Common.{◌≡◌, ◌∙◌, ap, map, filter}
+use Rattle.std.proofs.Common.{◌∙◌, ap, map, filter}
 use Rattle.std.proofs.lemmas.Result.{IfOk-weaker}
 use Rattle.text_words.proofs.Cutting.{map-filter_now}
 use Rattle.text_words.specs.Cuts.{is_filled}

@@ -1,4 +1,3 @@
-use Rattle.std.proofs.Common.{◌≡◌, ◌++◌, ◌∷◌, ap, ◌∙◌}
 use Rattle.std.proofs.lemmas.Option.{MatchOption-at_some, MatchOption-at_none}
 use Rattle.text_words.proofs.Cutting.{parts_further, parts_ended}
 use Rattle.text_words.proofs.cuts.parts.Goals as goal

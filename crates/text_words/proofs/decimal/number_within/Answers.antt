@@ -1,4 +1,4 @@
-use Rattle.std.proofs.Common.{◌∙◌, refl, arith}
+use Rattle.std.proofs.Common.{refl, arith}
 use Rattle.text_words.proofs.Numbers.{overflowed}
 use Rattle.text_words.proofs.decimal.number_within.Goals as goal
 

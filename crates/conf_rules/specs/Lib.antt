@@ -1,0 +1,5 @@
+pub mod Entries
+pub mod Parents
+pub mod Adapters
+pub mod Objects
+pub mod Rules

@@ -1,0 +1,17 @@
+//! Times the framing of streams. With no argument it frames each stream once and prints how many messages came; with `measure` it prints the table.
+#![tactic(auto)]
+
+mod feeding;
+mod streams;
+mod table;
+
+use anyhow::Result;
+use std::env;
+
+fn main(rt: HostRuntime) -> Result<()> {
+    let alloc = rt.alloc();
+    let measure = env::args(&rt)?
+        .nth(1)
+        .is_some_and(|word| word.as_str() == "measure");
+    table::print(&rt, alloc, measure)
+}

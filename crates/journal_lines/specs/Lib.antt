@@ -1,0 +1,4 @@
+pub mod Fixed
+pub mod Entry
+pub mod Row
+pub mod Reading

@@ -1,0 +1,42 @@
+//! The rows of a missing child.
+ghost use Rattle.std.specs.Prelude.{◌≡◌};
+ghost use Rattle.poa_verdict.specs.Table.{missing_rows, trial_rows};
+
+use crate::refusals::{OMG, OWN, forward_or, inactive, refuse};
+use poa_base::{Cause, ExcName, ManagerState, Verdict};
+use poa_verdict::{Choice, Facts, KeyFact};
+
+/// A child is missing: CORBA 3.3 Part 1, section 15.3.3, adapter activators.
+pub fn missing(facts: Facts) -> Choice
+    ensures { result ≡ missing_rows facts }
+{
+    if let KeyFact::Transient = facts.key {
+        return refuse(&facts, ExcName::ObjectNotExist, OWN + 2);
+    }
+    match facts.state {
+        ManagerState::Holding => Choice::Held {
+            cause: Some(Cause::Manager(facts.manager)),
+        },
+        ManagerState::Active => trial(facts),
+        ManagerState::Discarding => refuse(&facts, ExcName::Transient, OMG + 1),
+        ManagerState::Inactive => inactive(facts),
+    }
+}
+
+/// The manager of the parent is ACTIVE.
+fn trial(facts: Facts) -> Choice
+    ensures { result ≡ trial_rows facts }
+{
+    if facts.trial {
+        return Choice::Held {
+            cause: Some(Cause::Trial {
+                parent: facts.adapter,
+            }),
+        };
+    }
+    if facts.tries {
+        return Choice::Go(Verdict::Try);
+    }
+    let refusal = refuse(&facts, ExcName::ObjectNotExist, OMG + 2);
+    forward_or(facts.entry, refusal)
+}

@@ -1,0 +1,37 @@
+//! The rows of the key and of the walk.
+ghost use Rattle.std.specs.Prelude.{◌≡◌};
+ghost use Rattle.poa_verdict.specs.Table.{first_row, walk_rows};
+
+use crate::found::found;
+use crate::missing::missing;
+use crate::refusals::{OMG, OWN, refuse};
+use poa_base::{ExcName, Verdict};
+use poa_verdict::{Choice, Facts, KeyFact, WalkFact};
+
+/// The verdict on a request or a locate for a worker: the first row of the table that applies. What the
+/// verdict carries is moved out of the facts. Takes no memory.
+#[tactic(auto, unfolding(poa_verdict::specs::Table::first_row))]
+pub fn choose(facts: Facts, worker: u32) -> Choice
+    ensures { result ≡ first_row facts worker }
+{
+    if facts.crowded {
+        return refuse(&facts, ExcName::Transient, OMG + 1);
+    }
+    match facts.key {
+        KeyFact::Absent => Choice::Go(Verdict::Addressing),
+        KeyFact::Bad => refuse(&facts, ExcName::ObjectNotExist, OWN + 1),
+        KeyFact::OtherRun => refuse(&facts, ExcName::ObjectNotExist, OWN + 2),
+        KeyFact::Transient | KeyFact::Persistent => walked(facts, worker),
+    }
+}
+
+/// What the walk from the root meets.
+fn walked(facts: Facts, worker: u32) -> Choice
+    ensures { result ≡ walk_rows facts worker facts.walk }
+{
+    match facts.walk {
+        WalkFact::Dying => refuse(&facts, ExcName::Transient, OMG + 4),
+        WalkFact::Missing => missing(facts),
+        WalkFact::Found => found(facts, worker),
+    }
+}
