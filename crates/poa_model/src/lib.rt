@@ -7,10 +7,13 @@ mod commands;
 mod facts;
 mod logs;
 mod references;
+mod replies;
 mod rules;
+mod settling;
 mod table;
 mod turns;
 mod verdicts;
 
+pub use replies::slow_next_reply;
 pub use turns::slow_next;
 pub use verdicts::slow_verdict;
