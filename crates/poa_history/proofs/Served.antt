@@ -22,7 +22,9 @@ use Rattle.poa_history.specs.Arrivals.{call_of, is_locate, target_of}
 use Rattle.poa_tree.specs.Paths.{same_bytes}
 use Rattle.poa_history.specs.Standings.{Standing, is_active, is_of, is_running}
 use Rattle.poa_history.specs.Ends.{is_over}
-use Rattle.poa_tree.specs.Walks.{Found, Live, Dying, Missing, walk, adapter_met}
+use Rattle.poa_tree.specs.declared.found.Found.{Found}
+use Rattle.poa_tree.specs.declared.found.Found.TheVariants.{Live, Dying, Missing}
+use Rattle.poa_tree.specs.Walks.{walk, adapter_met}
 use Rattle.poa_tree.specs.Trees.{In}
 use Rattle.poa_history.specs.Keys.{key_in}
 use Rattle.poa_history.specs.Changes.{standing}

@@ -1,10 +1,8 @@
 -- The reference of an object, as `reference` answers it and as the configured objects have it.
-use Rattle.std.specs.Prelude.{ℕ, List, [], ◌∷◌, Some, None, slice_get, if◌then◌else◌}
+use Rattle.std.specs.Prelude.{ℕ, List, [], Some, None, slice_get, if◌then◌else◌}
 use Rattle.poa_base.specs.declared.Config.{Config}
 use Rattle.poa_base.specs.declared.Key.{Key}
-use Rattle.object_key.specs.Spelling.{key_spelling}
-use Rattle.iiop_profile.specs.Profile.{profile_of}
-use Rattle.ior_text.specs.Written.{ior_text}
+use Rattle.object_reference.specs.Reference.{reference_text as reference_at}
 use Rattle.servant_kinds.specs.Object.{type_id_of}
 use Rattle.poa_history.specs.Templates.{policies_at, lasts}
 
@@ -18,5 +16,4 @@ type_of c servant = elim (slice_get c.servants servant) [ Some conf ↦ type_id_
 
 -- the text of the reference: one profile, at the configured host and port
 abbrev pub reference_text : Config → ℕ → ℕ → List (List ℕ) → List ℕ → ℕ → List ℕ
-reference_text c run k p oid servant =
-    ior_text (record { type_id = type_of c servant; profiles = profile_of (record { host = c.host; port = c.port }) (key_spelling (key_for c run k p oid)) ∷ [] })
+reference_text c run k p oid servant = reference_at (record { host = c.host; port = c.port }) (type_of c servant) (key_for c run k p oid)

@@ -3,10 +3,8 @@ ghost use Rattle.std.specs.Prelude.{◌≡◌, IfOk};
 ghost use Rattle.servant_kinds.specs.Object.{type_id_of};
 ghost use Rattle.poa_history.specs.References as references;
 
-use iiop_profile::write_profile;
-use ior_text::write_ior;
-use object_key::write_key;
-use poa_base::{Bytes, Config, Endpoint, Ior, Items, Key, Name, Oid, Path, Stamp, State, WantMemory};
+use object_reference::write_reference;
+use poa_base::{Bytes, Config, Endpoint, Key, Oid, Path, Stamp, State, WantMemory};
 use standing_of::templates::{lasts, policies_at};
 use std::alloc::Global;
 
@@ -52,16 +50,10 @@ fn type_of(config: &Config, servant: u32) -> &'static [u8]
 pub fn reference_text(alloc: Global, config: &Config, run: u32, number: u32, path: &Path, oid: &Oid, servant: u32) -> Result<Bytes, WantMemory>
     ensures { IfOk result (λ text. text ≡ references.reference_text config.now run number path.now oid.now servant) }
 {
-    let key = write_key(alloc, &key_for(config, run, number, path, oid)?)?;
+    let key = key_for(config, run, number, path, oid)?;
     let endpoint = Endpoint {
         host: config.host.clone()?,
         port: config.port,
     };
-    let mut profiles = Vec::new(alloc);
-    profiles.push(write_profile(alloc, &endpoint, key.as_slice())?)?;
-    let ior = Ior {
-        type_id: Bytes::from_vec(Vec::from_slice(alloc, type_of(config, servant))?),
-        profiles: Items::from_vec(profiles),
-    };
-    write_ior(alloc, &ior)
+    write_reference(alloc, &endpoint, type_of(config, servant), &key)
 }
