@@ -6,12 +6,20 @@ ghost use Rattle.poa_history.specs.References as references;
 use iiop_profile::write_profile;
 use ior_text::write_ior;
 use object_key::write_key;
-use poa_base::{Bytes, Config, Endpoint, Ior, Items, Key, Name, Oid, Path, Stamp, State, WantMemory};
+use poa_base::{
+    Bytes, Config, Endpoint, Ior, Items, Key, Name, Oid, Path, Stamp, State, WantMemory,
+};
 use standing_of::templates::{lasts, policies_at};
 use std::alloc::Global;
 
 /// The key of an object.
-fn key_for(config: &Config, run: u32, number: u32, path: &Path, oid: &Oid) -> Result<Key, WantMemory>
+fn key_for(
+    config: &Config,
+    run: u32,
+    number: u32,
+    path: &Path,
+    oid: &Oid,
+) -> Result<Key, WantMemory>
     ensures { IfOk result (λ key. key ≡ references.key_for config.now run number path.now oid.now) }
 {
     let stamp = if lasts(policies_at(config, path.as_slice())) {
@@ -49,7 +57,15 @@ fn type_of(config: &Config, servant: u32) -> &'static [u8]
 }
 
 /// The text of the reference.
-pub fn reference_text(alloc: Global, config: &Config, run: u32, number: u32, path: &Path, oid: &Oid, servant: u32) -> Result<Bytes, WantMemory>
+pub fn reference_text(
+    alloc: Global,
+    config: &Config,
+    run: u32,
+    number: u32,
+    path: &Path,
+    oid: &Oid,
+    servant: u32,
+) -> Result<Bytes, WantMemory>
     ensures { IfOk result (λ text. text ≡ references.reference_text config.now run number path.now oid.now servant) }
 {
     let key = write_key(alloc, &key_for(config, run, number, path, oid)?)?;
