@@ -17,7 +17,10 @@ ghost use Rattle.standing_of.specs.Seen.{seen};
 
 use crate::logs::{endpoint_of, manager_state};
 use crate::references::reference_text;
-use poa_base::{Answer, Command, Config, Entry, ManagerState, Name, Oid, Order, Path, Reason, Sid, Verdict, WantMemory};
+use poa_base::{
+    Answer, Command, Config, Entry, ManagerState, Name, Oid, Order, Path, Reason, Sid, Verdict,
+    WantMemory,
+};
 use poa_history::Act;
 use poa_tree::Node;
 use standing_of::Standing;
@@ -27,7 +30,10 @@ use standing_of::ends::is_over;
 use standing_of::flights::is_tried;
 use standing_of::nodes::{node_at, parent_path};
 use standing_of::opening::{made_id, next};
-use standing_of::templates::{has_template, is_unique, makes_ids, manager_number, policies_at, retains, servant_number, uses_default_servant};
+use standing_of::templates::{
+    has_template, is_unique, makes_ids, manager_number, policies_at, retains, servant_number,
+    uses_default_servant,
+};
 use std::alloc::Global;
 
 fn refusal(reason: Reason) -> Option<Verdict>
@@ -68,7 +74,12 @@ fn is_inactive(state: ManagerState) -> bool
     }
 }
 
-fn manager_row(config: &Config, past: &[Entry], name: &Name, order: Order) -> Result<Option<Verdict>, WantMemory>
+fn manager_row(
+    config: &Config,
+    past: &[Entry],
+    name: &Name,
+    order: Order,
+) -> Result<Option<Verdict>, WantMemory>
     ensures { IfOk result (λ verdict. verdict ≡ rows.manager_row config.now (reverse past.now) name.now order) }
 {
     let Some(number) = manager_number(config, name) else {
@@ -145,7 +156,14 @@ fn made_row(alloc: Global, run: u32, standing: &Standing) -> Result<Option<Verdi
     Ok(Some(Verdict::Answer(Answer::GoodId(oid))))
 }
 
-fn activate_row(alloc: Global, config: &Config, run: u32, standing: &Standing, path: &Path, servant: &Name) -> Result<Option<Verdict>, WantMemory>
+fn activate_row(
+    alloc: Global,
+    config: &Config,
+    run: u32,
+    standing: &Standing,
+    path: &Path,
+    servant: &Name,
+) -> Result<Option<Verdict>, WantMemory>
     ensures { IfOk result (λ verdict. verdict ≡ rows.activate_row config.now run (seen standing.now) path.now servant.now) }
 {
     let Some(node) = live_at(standing, path.as_slice()) else {
@@ -224,7 +242,13 @@ fn has_kept(config: &Config, standing: &Standing, adapter: u32, oid: &Oid) -> bo
 }
 
 /// What is answered where the id isn't a bad one. One that is on its way in or out holds.
-fn id_row(config: &Config, standing: &Standing, node: &Node, oid: &Oid, servant: u32) -> Option<Verdict>
+fn id_row(
+    config: &Config,
+    standing: &Standing,
+    node: &Node,
+    oid: &Oid,
+    servant: u32,
+) -> Option<Verdict>
     ensures { result ≡ (if list_any (λ a. stands.is_of node.now.number oid.now a && stands.is_active a) standing.now.acts.items then rows.refusal Reason.ObjectAlreadyActive
         else if list_any (λ a. stands.is_of node.now.number oid.now a && not (ends.is_over config.now a)) standing.now.acts.items then None
         else if rows.is_taken config.now (seen standing.now) node.now servant then rows.refusal Reason.ServantAlreadyActive
@@ -241,7 +265,14 @@ fn id_row(config: &Config, standing: &Standing, node: &Node, oid: &Oid, servant:
     }
 }
 
-fn activate_id_row(config: &Config, run: u32, standing: &Standing, path: &Path, oid: &Oid, servant: &Name) -> Result<Option<Verdict>, WantMemory>
+fn activate_id_row(
+    config: &Config,
+    run: u32,
+    standing: &Standing,
+    path: &Path,
+    oid: &Oid,
+    servant: &Name,
+) -> Result<Option<Verdict>, WantMemory>
     ensures { IfOk result (λ verdict. verdict ≡ rows.activate_id_row config.now run (seen standing.now) path.now oid.now servant.now) }
 {
     let Some(node) = live_at(standing, path.as_slice()) else {
@@ -276,7 +307,15 @@ fn deactivate_row(config: &Config, standing: &Standing, path: &Path, oid: &Oid) 
 }
 
 /// The answer with the reference of an id.
-fn ior_row(alloc: Global, config: &Config, run: u32, node: &Node, path: &Path, oid: &Oid, servant: u32) -> Result<Option<Verdict>, WantMemory>
+fn ior_row(
+    alloc: Global,
+    config: &Config,
+    run: u32,
+    node: &Node,
+    path: &Path,
+    oid: &Oid,
+    servant: u32,
+) -> Result<Option<Verdict>, WantMemory>
     ensures { IfOk result (λ verdict. verdict ≡ Some (Verdict.Answer (Answer.GoodIor (text_of_reference config.now run node.now.number path.now oid.now servant)))) }
 {
     let text = reference_text(alloc, config, run, node.number, path, oid, servant)?;
@@ -284,7 +323,15 @@ fn ior_row(alloc: Global, config: &Config, run: u32, node: &Node, path: &Path, o
 }
 
 /// The reference of a servant that the adapter knows or activates.
-fn servant_row(alloc: Global, config: &Config, run: u32, standing: &Standing, node: &Node, path: &Path, servant: u32) -> Result<Option<Verdict>, WantMemory>
+fn servant_row(
+    alloc: Global,
+    config: &Config,
+    run: u32,
+    standing: &Standing,
+    node: &Node,
+    path: &Path,
+    servant: u32,
+) -> Result<Option<Verdict>, WantMemory>
     ensures { IfOk result (λ verdict. verdict ≡ elim (rows.referred config.now (seen standing.now) node.now servant) [
       | Some a ↦ Some (Verdict.Answer (Answer.GoodIor (text_of_reference config.now run node.now.number path.now a.oid servant)))
       | None ↦ (if rows.is_implicit config.now (seen standing.now) node.now servant
@@ -303,7 +350,14 @@ fn servant_row(alloc: Global, config: &Config, run: u32, standing: &Standing, no
     }
 }
 
-fn reference_row(alloc: Global, config: &Config, run: u32, standing: &Standing, path: &Path, servant: &Name) -> Result<Option<Verdict>, WantMemory>
+fn reference_row(
+    alloc: Global,
+    config: &Config,
+    run: u32,
+    standing: &Standing,
+    path: &Path,
+    servant: &Name,
+) -> Result<Option<Verdict>, WantMemory>
     ensures { IfOk result (λ verdict. verdict ≡ rows.reference_row config.now run (seen standing.now) path.now servant.now) }
 {
     let Some(node) = live_at(standing, path.as_slice()) else {
@@ -315,7 +369,12 @@ fn reference_row(alloc: Global, config: &Config, run: u32, standing: &Standing, 
     servant_row(alloc, config, run, standing, node, path, number)
 }
 
-fn preset_row(config: &Config, standing: &Standing, path: &Path, servant: &Name) -> Result<Option<Verdict>, WantMemory>
+fn preset_row(
+    config: &Config,
+    standing: &Standing,
+    path: &Path,
+    servant: &Name,
+) -> Result<Option<Verdict>, WantMemory>
     ensures { IfOk result (λ verdict. verdict ≡ rows.preset_row config.now (seen standing.now) path.now servant.now) }
 {
     if live_at(standing, path.as_slice()).is_none() {
@@ -350,15 +409,20 @@ fn unforward_row(config: &Config, past: &[Entry], path: &Path) -> Option<Verdict
 
 /// The verdict on a command.
 #[tactic(auto, unfolding(poa_history::specs::Commands::command_verdict))]
-pub fn command_verdict(alloc: Global, config: &Config, run: u32, past: &[Entry], standing: &Standing, command: &Command) -> Result<Option<Verdict>, WantMemory>
+pub fn command_verdict(
+    alloc: Global,
+    config: &Config,
+    run: u32,
+    past: &[Entry],
+    standing: &Standing,
+    command: &Command,
+) -> Result<Option<Verdict>, WantMemory>
     ensures { IfOk result (λ verdict. verdict ≡ rows.command_verdict config.now run (reverse past.now) (seen standing.now) command.now) }
 {
     match command {
         Command::Manager { manager, order } => manager_row(config, past, manager, *order),
         Command::Create { path } => Ok(create_row(config, standing, path.as_slice())),
-        Command::Destroy { path, wait, .. } => {
-            Ok(destroy_row(standing, path.as_slice(), *wait))
-        }
+        Command::Destroy { path, wait, .. } => { Ok(destroy_row(standing, path.as_slice(), *wait)) }
         Command::Activate { path, servant } => {
             activate_row(alloc, config, run, standing, path, servant)
         }

@@ -7,24 +7,24 @@ ghost use Rattle.poa_history.specs.Stages as begun;
 ghost use Rattle.poa_history.specs.Situations as situations;
 ghost use Rattle.poa_history.specs.Ends as ends;
 ghost use Rattle.poa_history.specs.Standings as stands;
-ghost use Rattle.standing_of.specs.Seen.{met, seen};
+ghost use Rattle.standing_of.specs.Seen.{seen};
 
 use crate::commands::is_bad_id;
 use crate::logs::{forward_of, manager_state, preset_of};
 use crate::rules::located;
 use poa_base::{Bytes, Config, Endpoint, Entry, Key, Name, Oid, Path, WantMemory};
 use poa_history::Act;
+use poa_tree::Found;
 use poa_verdict::{Facts, KeyFact, MapFact, WalkFact};
-use standing_of::Standing;
 use standing_of::acts::{is_active, is_begun, is_of};
 use standing_of::calls::{arrivals, call_of, is_locate, is_message, target_of};
 use standing_of::ends::{is_finished, is_over};
 use standing_of::flights::{is_running, is_tried};
 use standing_of::keys::{key_in, key_of};
-use standing_of::standing_of;
 use standing_of::templates::{children_at, lasts, manager_at, policies_at, rules_at};
-use standing_of::walks::{Met, adapter_met, child_met, place_met, walk};
+use standing_of::walks::{adapter_met, child_met, place_met, walk};
 use standing_of::workers::admitted;
+use standing_of::{Standing, standing_of};
 use std::alloc::Global;
 
 /// Whether an arrival is a request or locate that stands unadmitted.
@@ -91,13 +91,13 @@ fn key_fact(alloc: Global, run: u32, target: Option<&Bytes>) -> Result<KeyFact, 
     }
 }
 
-fn walk_fact(found: Met) -> WalkFact
-    ensures { result ≡ situations.walk_fact (met found) }
+fn walk_fact(found: Found) -> WalkFact
+    ensures { result ≡ situations.walk_fact found }
 {
     match found {
-        Met::Live(_) => WalkFact::Found,
-        Met::Dying(_) => WalkFact::Dying,
-        Met::Missing(_, _) => WalkFact::Missing,
+        Found::Live(_) => WalkFact::Found,
+        Found::Dying(_) => WalkFact::Dying,
+        Found::Missing { .. } => WalkFact::Missing,
     }
 }
 
@@ -176,7 +176,12 @@ pub fn is_changing(config: &Config, acts: &[Act], adapter: u32) -> bool
 }
 
 /// What stands about a key that isn't asked of the adapters: the default servant and the endpoint.
-fn names_set<'a>(alloc: Global, config: &'a Config, past: &'a [Entry], path: &Path) -> Result<(Option<Name>, Option<Endpoint>), WantMemory>
+fn names_set<'a>(
+    alloc: Global,
+    config: &'a Config,
+    past: &'a [Entry],
+    path: &Path,
+) -> Result<(Option<Name>, Option<Endpoint>), WantMemory>
     ensures { IfOk result (λ set. (set.0 ≡ logs.preset_of config.now (reverse past.now) path.now) × (set.1 ≡ logs.forward_of config.now (reverse past.now) path.now)) }
 {
     let preset = match preset_of(config, past, path.as_slice()) {
@@ -199,8 +204,17 @@ struct Asked {
 }
 
 /// What stands about a key, given what the walk meets.
-fn facts_met(alloc: Global, config: &Config, run: u32, past: &[Entry], standing: &Standing, asked: Asked, key: &Key, found: Met) -> Result<Facts, WantMemory>
-    ensures { IfOk result (λ facts. facts ≡ situations.facts_met config.now run (reverse past.now) (seen standing.now) asked.locate asked.crowded asked.key key.now (met found)) }
+fn facts_met(
+    alloc: Global,
+    config: &Config,
+    run: u32,
+    past: &[Entry],
+    standing: &Standing,
+    asked: Asked,
+    key: &Key,
+    found: Found,
+) -> Result<Facts, WantMemory>
+    ensures { IfOk result (λ facts. facts ≡ situations.facts_met config.now run (reverse past.now) (seen standing.now) asked.locate asked.crowded asked.key key.now found) }
 {
     let path = key.path.as_slice();
     let adapter = adapter_met(found);
@@ -246,7 +260,13 @@ fn key_or_none(alloc: Global, key: Option<Key>) -> Result<Key, WantMemory>
 }
 
 /// What stands about an arrival.
-pub fn facts_of(alloc: Global, config: &Config, run: u32, past: &[Entry], arrival: u64) -> Result<Facts, WantMemory>
+pub fn facts_of(
+    alloc: Global,
+    config: &Config,
+    run: u32,
+    past: &[Entry],
+    arrival: u64,
+) -> Result<Facts, WantMemory>
     ensures { IfOk result (λ facts. facts ≡ situations.facts_of config.now run (reverse past.now) arrival) }
 {
     let call = call_of(past, arrival);

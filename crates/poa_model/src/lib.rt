@@ -10,7 +10,6 @@ mod references;
 mod replies;
 mod rules;
 mod settling;
-mod table;
 mod turns;
 mod verdicts;
 

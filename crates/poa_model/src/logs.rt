@@ -24,10 +24,12 @@ fn ordered_state(order: Order) -> ManagerState
 pub fn order_for(config: &Config, manager: u32, command: Option<&Command>) -> Option<Order>
     ensures { result ≡ logs.order_for config.now manager (option_copied command.entry) }
 {
-    let Some(Command::Manager {
-        manager: name,
-        order,
-    }) = command
+    let Some(
+        Command::Manager {
+            manager: name,
+            order,
+        },
+    ) = command
     else {
         return None;
     };
@@ -75,9 +77,13 @@ fn preset_by<'a>(path: &[Name], command: Option<&'a Command>) -> Option<&'a Name
     ensures { option_copied result ≡ logs.preset_by path.now (option_copied command.entry) }
 {
     match command {
-        Some(Command::Preset {
-            path: of, servant, ..
-        }) => {
+        Some(
+            Command::Preset {
+                path: of,
+                servant,
+                ..
+            },
+        ) => {
             if of.as_slice() == path {
                 Some(servant)
             } else {
@@ -144,7 +150,11 @@ fn configured_endpoint<'a>(config: &'a Config, path: &[Name]) -> Option<&'a Endp
 }
 
 /// The endpoint of a path.
-pub fn endpoint_of<'a>(config: &'a Config, history: &'a [Entry], path: &[Name]) -> Option<&'a Endpoint>
+pub fn endpoint_of<'a>(
+    config: &'a Config,
+    history: &'a [Entry],
+    path: &[Name],
+) -> Option<&'a Endpoint>
     ensures { option_copied result ≡ logs.endpoint_of config.now (reverse history.now) path.now }
 {
     let mut endpoint = configured_endpoint(config, path);
@@ -157,7 +167,13 @@ pub fn endpoint_of<'a>(config: &'a Config, history: &'a [Entry], path: &[Name]) 
 }
 
 /// The endpoint of the longest path that leads to this one, from one above it on.
-fn forward_from<'a>(alloc: Global, config: &'a Config, history: &'a [Entry], above: &[Name], rest: &[Name]) -> Result<Option<&'a Endpoint>, WantMemory>
+fn forward_from<'a>(
+    alloc: Global,
+    config: &'a Config,
+    history: &'a [Entry],
+    above: &[Name],
+    rest: &[Name],
+) -> Result<Option<&'a Endpoint>, WantMemory>
     ensures { IfOk result (λ found. option_copied found ≡ logs.forward_from (logs.endpoint_of config.now (reverse history.now)) above.now rest.now) }
 {
     match rest {
@@ -172,7 +188,12 @@ fn forward_from<'a>(alloc: Global, config: &'a Config, history: &'a [Entry], abo
 }
 
 /// The endpoint of the longest path that leads to this one.
-pub fn forward_of<'a>(alloc: Global, config: &'a Config, history: &'a [Entry], path: &[Name]) -> Result<Option<&'a Endpoint>, WantMemory>
+pub fn forward_of<'a>(
+    alloc: Global,
+    config: &'a Config,
+    history: &'a [Entry],
+    path: &[Name],
+) -> Result<Option<&'a Endpoint>, WantMemory>
     ensures { IfOk result (λ found. option_copied found ≡ logs.forward_of config.now (reverse history.now) path.now) }
 {
     forward_from(alloc, config, history, &[], path)

@@ -9,7 +9,13 @@ use standing_of::templates::{lasts, policies_at};
 use std::alloc::Global;
 
 /// The key of an object.
-fn key_for(config: &Config, run: u32, number: u32, path: &Path, oid: &Oid) -> Result<Key, WantMemory>
+fn key_for(
+    config: &Config,
+    run: u32,
+    number: u32,
+    path: &Path,
+    oid: &Oid,
+) -> Result<Key, WantMemory>
     ensures { IfOk result (λ key. key ≡ references.key_for config.now run number path.now oid.now) }
 {
     let stamp = if lasts(policies_at(config, path.as_slice())) {
@@ -47,7 +53,15 @@ fn type_of(config: &Config, servant: u32) -> &'static [u8]
 }
 
 /// The text of the reference.
-pub fn reference_text(alloc: Global, config: &Config, run: u32, number: u32, path: &Path, oid: &Oid, servant: u32) -> Result<Bytes, WantMemory>
+pub fn reference_text(
+    alloc: Global,
+    config: &Config,
+    run: u32,
+    number: u32,
+    path: &Path,
+    oid: &Oid,
+    servant: u32,
+) -> Result<Bytes, WantMemory>
     ensures { IfOk result (λ text. text ≡ references.reference_text config.now run number path.now oid.now servant) }
 {
     let key = key_for(config, run, number, path, oid)?;

@@ -71,7 +71,13 @@ fn is_waiting(verdict: Option<&Verdict>) -> bool
 }
 
 /// Whether the arrival is a command that waits, whose condition holds after the history.
-fn is_settled(alloc: Global, config: &Config, run: u32, history: &[Entry], arrival: u64) -> Result<bool, WantMemory>
+fn is_settled(
+    alloc: Global,
+    config: &Config,
+    run: u32,
+    history: &[Entry],
+    arrival: u64,
+) -> Result<bool, WantMemory>
     ensures { IfOk result (λ settled. settled ≡ (replies.is_waiting (begun.admitted (reverse history.now) arrival) && settling.settles config.now run (reverse history.now) arrival)) }
 {
     if is_waiting(admitted(history, arrival)) {
@@ -82,7 +88,13 @@ fn is_settled(alloc: Global, config: &Config, run: u32, history: &[Entry], arriv
 }
 
 /// Whether an entry has decided the arrival.
-pub fn decided(alloc: Global, config: &Config, run: u32, history: &[Entry], arrival: u64) -> Result<bool, WantMemory>
+pub fn decided(
+    alloc: Global,
+    config: &Config,
+    run: u32,
+    history: &[Entry],
+    arrival: u64,
+) -> Result<bool, WantMemory>
     ensures { IfOk result (λ decided. decided ≡ replies.decided config.now run (reverse history.now) arrival) }
 {
     let mut decided = false;
@@ -141,7 +153,15 @@ fn is_of(conn: u32, of: Option<u32>) -> bool
 }
 
 /// Whether the arrival asks a reply, isn't collected, and was decided by the entry at a place.
-fn is_newly_decided(alloc: Global, config: &Config, run: u32, history: &[Entry], conn: u32, place: usize, arrival: u64) -> Result<bool, WantMemory>
+fn is_newly_decided(
+    alloc: Global,
+    config: &Config,
+    run: u32,
+    history: &[Entry],
+    conn: u32,
+    place: usize,
+    arrival: u64,
+) -> Result<bool, WantMemory>
     requires { place < length history.now }
     ensures { IfOk result (λ newly. newly ≡ (replies.is_asked (reverse history.now) conn arrival && (not (replies.is_collected (reverse history.now) arrival)
         && (replies.decided config.now run (reverse (take (place + 1) history.now)) arrival && not (replies.decided config.now run (reverse (take place history.now)) arrival))))) }
@@ -156,7 +176,14 @@ fn is_newly_decided(alloc: Global, config: &Config, run: u32, history: &[Entry],
 }
 
 /// The least arrival that the entry at a place decided, asks a reply and isn't collected.
-fn first_decided(alloc: Global, config: &Config, run: u32, history: &[Entry], conn: u32, place: usize) -> Result<Option<u64>, WantMemory>
+fn first_decided(
+    alloc: Global,
+    config: &Config,
+    run: u32,
+    history: &[Entry],
+    conn: u32,
+    place: usize,
+) -> Result<Option<u64>, WantMemory>
     requires { place < length history.now }
     ensures { IfOk result (λ found. found ≡ least (λ r. replies.is_asked (reverse history.now) conn r && (not (replies.is_collected (reverse history.now) r)
         && (replies.decided config.now run (reverse (take (place + 1) history.now)) r && not (replies.decided config.now run (reverse (take place history.now)) r)))) (arrivals_in (reverse (take place history.now)))) }
@@ -172,7 +199,13 @@ fn first_decided(alloc: Global, config: &Config, run: u32, history: &[Entry], co
 
 /// The arrival whose reply a connection is given next after a history that stands oldest first; none
 /// where it is given none.
-pub fn slow_next_reply(alloc: Global, config: &Config, run: u32, history: &[Entry], conn: u32) -> Result<Option<u64>, WantMemory>
+pub fn slow_next_reply(
+    alloc: Global,
+    config: &Config,
+    run: u32,
+    history: &[Entry],
+    conn: u32,
+) -> Result<Option<u64>, WantMemory>
     ensures { IfOk result (λ next. next ≡ replies.next_reply config.now run (reverse history.now) conn) }
 {
     let mut found = None;

@@ -6,7 +6,9 @@ ghost use Rattle.poa_history.specs.Rules as rules;
 ghost use Rattle.poa_history.specs.Templates.{servant_name};
 ghost use Rattle.standing_of.specs.Seen.{seen};
 
-use poa_base::{Completion, Config, ExcName, Gives, Incarnation, Name, Oid, RuleConf, Sid, SysExc, WantMemory};
+use poa_base::{
+    Completion, Config, ExcName, Gives, Incarnation, Name, Oid, RuleConf, Sid, SysExc, WantMemory,
+};
 use poa_history::Act;
 use poa_verdict::Located;
 use standing_of::Standing;
@@ -48,7 +50,12 @@ fn named(config: &Config, servant: u32) -> Result<Incarnation, WantMemory>
 }
 
 /// A configured servant is brought, unless ids are unique and it is in the map already.
-fn named_or_double(config: &Config, standing: &Standing, act: &Act, servant: u32) -> Result<Incarnation, WantMemory>
+fn named_or_double(
+    config: &Config,
+    standing: &Standing,
+    act: &Act,
+    servant: u32,
+) -> Result<Incarnation, WantMemory>
     ensures { IfOk result (λ answer. answer ≡ rules.named_or_double config.now (seen standing.now) act.now servant) }
 {
     if is_unique(policies_at(config, act.path.as_slice()))

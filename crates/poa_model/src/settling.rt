@@ -11,13 +11,12 @@ use crate::logs::order_for;
 use poa_base::{Command, Config, Entry, Name, Order, WantMemory};
 use poa_history::Act;
 use poa_tree::Node;
-use standing_of::Standing;
 use standing_of::calls::call_of;
 use standing_of::commands::{command_in, done_by};
 use standing_of::ends::{is_gone, is_over};
 use standing_of::opening::number_at;
-use standing_of::standing_of;
 use standing_of::templates::{has_activator, manager_at, manager_number};
+use standing_of::{Standing, standing_of};
 use std::alloc::Global;
 
 /// What stood when the arrival was admitted.
@@ -56,10 +55,7 @@ fn is_managed(config: &Config, standing: &Standing, manager: u32, number: u32) -
 fn is_quiet(config: &Config, standing: &Standing, manager: u32) -> bool
     ensures { result ≡ settling.is_quiet config.now (seen standing.now) manager }
 {
-    !standing
-        .flights
-        .iter()
-        .any(|flight| is_managed(config, standing, manager, flight.adapter))
+    !standing.flights.iter().any(|flight| is_managed(config, standing, manager, flight.adapter))
 }
 
 /// Whether a later command on the manager was done.
@@ -105,24 +101,42 @@ fn are_ended(config: &Config, standing: &Standing, manager: u32, begun: usize) -
 }
 
 /// Whether what an order to a manager waits for holds.
-fn order_holds(alloc: Global, config: &Config, run: u32, history: &[Entry], arrival: u64, manager: u32, order: Order) -> Result<bool, WantMemory>
+fn order_holds(
+    alloc: Global,
+    config: &Config,
+    run: u32,
+    history: &[Entry],
+    arrival: u64,
+    manager: u32,
+    order: Order,
+) -> Result<bool, WantMemory>
     ensures { IfOk result (λ holds. holds ≡ settling.order_holds config.now run (reverse history.now) arrival manager order) }
 {
     let standing = standing_of(alloc, config, run, history)?;
     match order {
         Order::Activate => Ok(true),
-        Order::Hold { .. } | Order::Discard { .. } => Ok(is_quiet(config, &standing, manager)
-            || is_overtaken(config, manager, history, arrival)),
+        Order::Hold { .. } | Order::Discard { .. } => Ok(
+            is_quiet(config, &standing, manager) || is_overtaken(config, manager, history, arrival),
+        ),
         Order::Deactivate { etherealize, .. } => {
             let before = standing_of(alloc, config, run, before_admit(history, arrival))?;
-            Ok(is_quiet(config, &standing, manager)
-                && (!etherealize || are_ended(config, &standing, manager, before.acts.len())))
+            Ok(
+                is_quiet(config, &standing, manager)
+                    && (!etherealize || are_ended(config, &standing, manager, before.acts.len())),
+            )
         }
     }
 }
 
 /// Whether the adapter that a destroy named is gone.
-fn destroy_holds(alloc: Global, config: &Config, run: u32, history: &[Entry], arrival: u64, path: &[Name]) -> Result<bool, WantMemory>
+fn destroy_holds(
+    alloc: Global,
+    config: &Config,
+    run: u32,
+    history: &[Entry],
+    arrival: u64,
+    path: &[Name],
+) -> Result<bool, WantMemory>
     ensures { IfOk result (λ holds. holds ≡ ends.is_gone config.now (standing config.now run (reverse history.now))
         (number_of_path (standing config.now run (settling.before_admit (reverse history.now) arrival)) path.now)) }
 {
@@ -132,7 +146,14 @@ fn destroy_holds(alloc: Global, config: &Config, run: u32, history: &[Entry], ar
 }
 
 /// Whether the condition of a command that waits holds after the history.
-fn settles_by(alloc: Global, config: &Config, run: u32, history: &[Entry], arrival: u64, command: Option<&Command>) -> Result<bool, WantMemory>
+fn settles_by(
+    alloc: Global,
+    config: &Config,
+    run: u32,
+    history: &[Entry],
+    arrival: u64,
+    command: Option<&Command>,
+) -> Result<bool, WantMemory>
     ensures { IfOk result (λ holds. holds ≡ settling.settles_by config.now run (reverse history.now) arrival (option_copied command.entry)) }
 {
     match command {
@@ -151,8 +172,21 @@ fn settles_by(alloc: Global, config: &Config, run: u32, history: &[Entry], arriv
 }
 
 /// Whether the condition of the command of an arrival holds after the history.
-pub fn settles(alloc: Global, config: &Config, run: u32, history: &[Entry], arrival: u64) -> Result<bool, WantMemory>
+pub fn settles(
+    alloc: Global,
+    config: &Config,
+    run: u32,
+    history: &[Entry],
+    arrival: u64,
+) -> Result<bool, WantMemory>
     ensures { IfOk result (λ holds. holds ≡ settling.settles config.now run (reverse history.now) arrival) }
 {
-    settles_by(alloc, config, run, history, arrival, command_in(call_of(history, arrival)))
+    settles_by(
+        alloc,
+        config,
+        run,
+        history,
+        arrival,
+        command_in(call_of(history, arrival)),
+    )
 }

@@ -13,14 +13,13 @@ use crate::verdicts::slow_verdict;
 use poa_base::{Attempt, Children, Config, Entry, Name, Store, WantMemory};
 use poa_history::{Act, Flight, Stage};
 use poa_tree::Node;
-use standing_of::Standing;
 use standing_of::acts::{is_complete, is_ending};
 use standing_of::calls::arrivals;
 use standing_of::flights::is_used;
 use standing_of::nodes::node_numbered;
-use standing_of::standing_of;
 use standing_of::templates::{children_at, has_activator, has_template};
 use standing_of::workers::{admitted, stage};
+use standing_of::{Standing, standing_of};
 use std::alloc::Global;
 
 /// What is in flight for an arrival.
@@ -41,7 +40,12 @@ pub fn act_numbered(standing: &Standing, number: u32) -> Option<&Act>
 }
 
 /// What an adapter activator answers for a child, where its parent lives.
-fn attempt_by(config: &Config, standing: &Standing, children: Option<Children>, child: &[Name]) -> Attempt
+fn attempt_by(
+    config: &Config,
+    standing: &Standing,
+    children: Option<Children>,
+    child: &[Name],
+) -> Attempt
     ensures { result ≡ turns.attempt_by config.now (seen standing.now) children child.now }
 {
     match children {
@@ -59,7 +63,12 @@ fn attempt_by(config: &Config, standing: &Standing, children: Option<Children>, 
     }
 }
 
-fn attempt_at(config: &Config, standing: &Standing, parent: Option<&Node>, child: &[Name]) -> Attempt
+fn attempt_at(
+    config: &Config,
+    standing: &Standing,
+    parent: Option<&Node>,
+    child: &[Name],
+) -> Attempt
     ensures { result ≡ turns.attempt_at config.now (seen standing.now) (option_copied parent.entry) child.now }
 {
     match parent {
@@ -67,7 +76,12 @@ fn attempt_at(config: &Config, standing: &Standing, parent: Option<&Node>, child
             if parent.dying {
                 Attempt::Dying
             } else {
-                attempt_by(config, standing, children_at(config, parent.path.as_slice()), child)
+                attempt_by(
+                    config,
+                    standing,
+                    children_at(config, parent.path.as_slice()),
+                    child,
+                )
             }
         }
         None => Attempt::Dying,
@@ -91,7 +105,12 @@ fn attempt(config: &Config, standing: &Standing, arrival: u64) -> Attempt
 }
 
 /// The servant activator's answer.
-fn incarnation_entry(config: &Config, standing: &Standing, worker: u32, number: u32) -> Result<Option<Entry>, WantMemory>
+fn incarnation_entry(
+    config: &Config,
+    standing: &Standing,
+    worker: u32,
+    number: u32,
+) -> Result<Option<Entry>, WantMemory>
     ensures { IfOk result (λ entry. entry ≡ turns.incarnation_entry config.now (seen standing.now) worker number) }
 {
     match act_numbered(standing, number) {
@@ -117,7 +136,12 @@ fn removal_entry(standing: &Standing, worker: u32, number: u32) -> Option<Entry>
 }
 
 /// What a worker has begun goes on.
-fn going_on(config: &Config, standing: &Standing, worker: u32, stage: Stage) -> Result<Option<Entry>, WantMemory>
+fn going_on(
+    config: &Config,
+    standing: &Standing,
+    worker: u32,
+    stage: Stage,
+) -> Result<Option<Entry>, WantMemory>
     ensures { IfOk result (λ entry. entry ≡ turns.going_on config.now (seen standing.now) worker stage) }
 {
     match stage {
@@ -174,7 +198,15 @@ fn first_due<'a>(config: &Config, standing: &'a Standing) -> Option<&'a Act>
 }
 
 /// The Admit of an arrival that is ready for the worker.
-fn admission_of(alloc: Global, config: &Config, run: u32, store: &Store, history: &[Entry], worker: u32, arrival: u64) -> Result<Option<Entry>, WantMemory>
+fn admission_of(
+    alloc: Global,
+    config: &Config,
+    run: u32,
+    store: &Store,
+    history: &[Entry],
+    worker: u32,
+    arrival: u64,
+) -> Result<Option<Entry>, WantMemory>
     ensures { IfOk result (λ entry. entry ≡ turns.admission_of config.now run (reverse history.now) worker arrival) }
 {
     if admitted(history, arrival).is_some() {
@@ -191,7 +223,14 @@ fn admission_of(alloc: Global, config: &Config, run: u32, store: &Store, history
 }
 
 /// The least arrival that is ready is admitted.
-fn admission(alloc: Global, config: &Config, run: u32, store: &Store, history: &[Entry], worker: u32) -> Result<Option<Entry>, WantMemory>
+fn admission(
+    alloc: Global,
+    config: &Config,
+    run: u32,
+    store: &Store,
+    history: &[Entry],
+    worker: u32,
+) -> Result<Option<Entry>, WantMemory>
     ensures { IfOk result (λ entry. entry ≡ turns.admission config.now run (reverse history.now) worker) }
 {
     let mut found = None;
@@ -204,7 +243,14 @@ fn admission(alloc: Global, config: &Config, run: u32, store: &Store, history: &
 }
 
 /// The next entry of a worker that has begun nothing.
-fn next_free(alloc: Global, config: &Config, run: u32, store: &Store, history: &[Entry], worker: u32) -> Result<Option<Entry>, WantMemory>
+fn next_free(
+    alloc: Global,
+    config: &Config,
+    run: u32,
+    store: &Store,
+    history: &[Entry],
+    worker: u32,
+) -> Result<Option<Entry>, WantMemory>
     ensures { IfOk result (λ entry. entry ≡ turns.next_of config.now run (reverse history.now) worker Free) }
 {
     let standing = standing_of(alloc, config, run, history)?;
@@ -217,7 +263,14 @@ fn next_free(alloc: Global, config: &Config, run: u32, store: &Store, history: &
 /// The entry that a worker makes next after a history that stands oldest first; none where it has
 /// nothing to do.
 #[tactic(auto, unfolding(poa_history::specs::Turns::turn))]
-pub fn slow_next(alloc: Global, config: &Config, run: u32, store: &Store, history: &[Entry], worker: u32) -> Result<Option<Entry>, WantMemory>
+pub fn slow_next(
+    alloc: Global,
+    config: &Config,
+    run: u32,
+    store: &Store,
+    history: &[Entry],
+    worker: u32,
+) -> Result<Option<Entry>, WantMemory>
     ensures { IfOk result (λ entry. entry ≡ turns.turn config.now run (reverse history.now) worker) }
 {
     match stage(history, worker) {

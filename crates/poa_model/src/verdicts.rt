@@ -4,8 +4,8 @@ ghost use Rattle.poa_history.specs.Verdicts as verdicts;
 
 use crate::commands::command_verdict;
 use crate::facts::facts_of;
-use crate::table::first_row;
 use poa_base::{Call, Config, Entry, Store, Verdict, WantMemory};
+use poa_choose::choose;
 use poa_verdict::Choice;
 use standing_of::calls::call_of;
 use standing_of::standing_of;
@@ -22,7 +22,15 @@ fn chosen(choice: Choice) -> Option<Verdict>
 }
 
 /// The verdict on a call.
-fn verdict_on(alloc: Global, config: &Config, run: u32, history: &[Entry], arrival: u64, worker: u32, call: Option<&Call>) -> Result<Option<Verdict>, WantMemory>
+fn verdict_on(
+    alloc: Global,
+    config: &Config,
+    run: u32,
+    history: &[Entry],
+    arrival: u64,
+    worker: u32,
+    call: Option<&Call>,
+) -> Result<Option<Verdict>, WantMemory>
     ensures { IfOk result (λ verdict. verdict ≡ verdicts.verdict_on config.now run (reverse history.now) arrival worker (option_copied call.entry)) }
 {
     match call {
@@ -32,7 +40,7 @@ fn verdict_on(alloc: Global, config: &Config, run: u32, history: &[Entry], arriv
         }
         Some(Call::Request { .. } | Call::Locate { .. }) => {
             let facts = facts_of(alloc, config, run, history, arrival)?;
-            Ok(chosen(first_row(&facts, worker)?))
+            Ok(chosen(choose(facts, worker)))
         }
         None => Ok(None),
     }
@@ -43,8 +51,24 @@ fn verdict_on(alloc: Global, config: &Config, run: u32, history: &[Entry], arriv
 ///
 /// It asks nothing of the store, which the replies alone depend on.
 #[tactic(auto, unfolding(poa_history::specs::Verdicts::verdict))]
-pub fn slow_verdict(alloc: Global, config: &Config, run: u32, _store: &Store, history: &[Entry], arrival: u64, worker: u32) -> Result<Option<Verdict>, WantMemory>
+pub fn slow_verdict(
+    alloc: Global,
+    config: &Config,
+    run: u32,
+    _store: &Store,
+    history: &[Entry],
+    arrival: u64,
+    worker: u32,
+) -> Result<Option<Verdict>, WantMemory>
     ensures { IfOk result (λ verdict. verdict ≡ verdicts.verdict config.now run (reverse history.now) arrival worker) }
 {
-    verdict_on(alloc, config, run, history, arrival, worker, call_of(history, arrival))
+    verdict_on(
+        alloc,
+        config,
+        run,
+        history,
+        arrival,
+        worker,
+        call_of(history, arrival),
+    )
 }

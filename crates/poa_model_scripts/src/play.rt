@@ -148,7 +148,14 @@ impl Play {
     /// A worker's next entry is made and printed. Whether there is one.
     fn turn(&mut self, worker: u32, out: &mut Vec<u8>) -> Result<bool, Fault> {
         let run = self.config.run;
-        let next = slow_next(self.alloc, &self.config, run, &self.store, &self.history, worker)?;
+        let next = slow_next(
+            self.alloc,
+            &self.config,
+            run,
+            &self.store,
+            &self.history,
+            worker,
+        )?;
         let Some(entry) = next else {
             return Ok(false);
         };
