@@ -14,6 +14,7 @@ ghost use Rattle.poa_history.specs.Ends.{is_gone};
 ghost use Rattle.poa_history.specs.Standings.{Standing};
 ghost use Rattle.poa_tree.specs.Paths.{is_root};
 ghost use Rattle.poa_history.specs.Destroyed.{was_destroyed, IsEnded, IsEmptied};
+ghost use Rattle.poa_history.specs.InFlight.{IsManned};
 ghost use Rattle.poa_history.specs.Keys.{key_of};
 ghost use Rattle.poa_history.specs.Later.{AllLater};
 ghost use Rattle.poa_history.specs.Sound.{IsGiven, IsSound};
@@ -65,4 +66,11 @@ pub fn gone_have_ended()
 /// most one request is in flight in an adapter; and a fresh servant is that of its activation.
 pub fn one_at_a_time()
     ensures { (c : Config) (run limit : ℕ) (h : List Entry) → IsGiven c run → IsGivenAlone c run → IsWithinLimits c limit → IsLegal c run limit h → StandsAlone c (standing c run h) }
+{}
+
+/// What is in flight is what a worker has begun and not ended, once, and with one worker. What is in flight in
+/// an activation is so in that activation's adapter, and the activation isn't out. A request runs while its
+/// activation has its servant. What is being taken down is out, and wasn't etherealized yet.
+pub fn in_flight_has_its_worker()
+    ensures { (c : Config) (run limit : ℕ) (h : List Entry) → IsGiven c run → IsGivenAlone c run → IsWithinLimits c limit → IsLegal c run limit h → IsManned c run h }
 {}
