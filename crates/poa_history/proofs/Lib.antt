@@ -25,3 +25,4 @@ pub mod AloneKept
 pub mod CommandAnswers
 pub mod StagesFrom
 pub mod MannedKept
+pub mod LivesKept

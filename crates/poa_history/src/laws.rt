@@ -17,6 +17,7 @@ ghost use Rattle.poa_history.specs.Destroyed.{was_destroyed, IsEnded, IsEmptied}
 ghost use Rattle.poa_history.specs.InFlight.{IsManned};
 ghost use Rattle.poa_history.specs.Keys.{key_of};
 ghost use Rattle.poa_history.specs.Later.{AllLater};
+ghost use Rattle.poa_history.specs.Lifetime.{HasLifetime};
 ghost use Rattle.poa_history.specs.Sound.{IsGiven, IsSound};
 
 /// What stands after a legal history is sound. Of one path at most one adapter stands, its parent stands
@@ -73,4 +74,12 @@ pub fn one_at_a_time()
 /// activation has its servant. What is being taken down is out, and wasn't etherealized yet.
 pub fn in_flight_has_its_worker()
     ensures { (c : Config) (run limit : ℕ) (h : List Entry) → IsGiven c run → IsGivenAlone c run → IsWithinLimits c limit → IsLegal c run limit h → IsManned c run h }
+{}
+
+/// Every legal history keeps the lifetime of its activations: an activation begins once, when every earlier one
+/// of its id is over; requests run in it only between its completion and its removal; it is taken out at most
+/// once, with nothing in flight in it, and no later admission names it; it is etherealized at most once, after
+/// that, by the worker that took it out. CORBA 3.3 Part 1, sections 15.2.4 and 15.3.6.
+pub fn lifetimes_are_kept()
+    ensures { (c : Config) (run limit : ℕ) (h : List Entry) → IsGiven c run → IsGivenAlone c run → IsWithinLimits c limit → IsLegal c run limit h → HasLifetime c run h }
 {}
