@@ -147,10 +147,10 @@ is_keyed Transient = true
 is_keyed Persistent = true
 
 module _ (f : Facts) (worker : ℕ) (v : Verdict) where
-  by_choice : (u : Verdict) → is_begin u ≡ false → Go u ≡ Go v → is_begin v ≡ false
+  pub by_choice : (u : Verdict) → is_begin u ≡ false → Go u ≡ Go v → is_begin v ≡ false
   by_choice u none is = (let e : Go u ≡ Go v = is in let same : u ≡ v = cc in ap is_begin (sym same) ∙ none)
 
-  refused_none : (choice : Choice) (exception : Verdict) → is_begin exception ≡ false → choice ≡ Go (if f.locate then Unknown else exception) → choice ≡ Go v → is_begin v ≡ false
+  pub refused_none : (choice : Choice) (exception : Verdict) → is_begin exception ≡ false → choice ≡ Go (if f.locate then Unknown else exception) → choice ≡ Go v → is_begin v ≡ false
   refused_none choice exception none is same = cond_both f.locate Unknown exception (λ u. Go u ≡ Go v → is_begin v ≡ false) (λ _. by_choice Unknown refl) (λ _. by_choice exception none) (sym is ∙ same)
 
   by_key : (key : KeyFact) → is_keyed key ≡ false → key_rows f worker key ≡ Go v → is_begin v ≡ false

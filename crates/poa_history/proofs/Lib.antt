@@ -26,3 +26,4 @@ pub mod CommandAnswers
 pub mod StagesFrom
 pub mod MannedKept
 pub mod LivesKept
+pub mod GoneStays

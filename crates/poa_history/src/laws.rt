@@ -29,9 +29,10 @@ pub fn what_stands_is_sound()
 {}
 
 /// What an activation has come to never goes back, whatever follows: its servant, that it is void, ending,
-/// quiet, out, etherealized or finished.
+/// quiet, out, etherealized or finished. In a legal history an adapter that is gone stays gone.
 pub fn nothing_goes_back()
-    ensures { (c : Config) (run : ℕ) (past more : List Entry) → AllLater c (standing c run past) (standing c run (more ++ past)) }
+    ensures acts { (c : Config) (run : ℕ) (past more : List Entry) → AllLater c (standing c run past) (standing c run (more ++ past)) }
+    ensures gone { (c : Config) (run limit : ℕ) → IsGiven c run → IsWithinLimits c limit → (past more : List Entry) → IsLegal c run limit (more ++ past) → (k : ℕ) → is_gone c (standing c run past) k ≡ true → is_gone c (standing c run (more ++ past)) k ≡ true }
 {}
 
 /// Bytes have a key exactly where they are the spelling of one, and then it is that key.
