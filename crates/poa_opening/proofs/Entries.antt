@@ -1,5 +1,5 @@
 -- Entries that keep a rule, and are told from one another by a key.
-use Rattle.std.specs.Prelude.{◌≡◌, ◌≢◌, ℕ, zero, suc, true, false, not, cond, ◌+◌, List, [], ◌∷◌, ◌++◌, take, slice_get, Some, refl}
+use Rattle.std.specs.Prelude.{◌≡◌, ◌≢◌, ℕ, zero, suc, true, false, not, cond, ◌+◌, List, [], ◌∷◌, ◌++◌, take, slice_get, Some}
 use Rattle.std.specs.List.{AllByRecursion, position_or_len}
 use Rattle.std.proofs.Common.{inl, inr, sym, subst, ap, ◌∙◌, arith}
 use Rattle.std.proofs.lemmas.Bool.{false_from_ne_true}

@@ -1,5 +1,5 @@
 -- The configured objects are activations of adapters that stand, with ids of their own.
-use Rattle.std.specs.Prelude.{◌≡◌, ◌≢◌, ℕ, suc, ◌+◌, ◌^◌, ◌<◌, ◌≤◌, true, false, not, ◌&&◌, ◌||◌, List, [], ◌∷◌, ◌++◌, length, Some, None, is_some, is_none, ◌⊎◌, refl}
+use Rattle.std.specs.Prelude.{◌≡◌, ◌≢◌, ℕ, suc, ◌+◌, ◌^◌, ◌<◌, ◌≤◌, true, false, List, [], ◌∷◌, ◌++◌, length, Some, None, is_some, is_none, ◌⊎◌, refl}
 use Rattle.std.proofs.Common.{inl, inr, sym, subst, ap, ap₂, ◌∙◌, arith, append-nil}
 use Rattle.std.proofs.Math.Seq.{append_snoc}
 use Rattle.std.proofs.lemmas.Bool.{and_parts, true≢false, false_from_ne_true}
@@ -17,12 +17,10 @@ use Rattle.poa_tree.specs.Trees.{In}
 use Rattle.poa_tree.proofs.Members.{in_front, in_back, in_either}
 use Rattle.poa_tree.proofs.WalkStands.{node_found, node_missing}
 use Rattle.poa_history.specs.declared.act.Act.{Act}
-use Rattle.poa_history.specs.declared.act.Phase.{Phase}
 use Rattle.poa_history.specs.declared.act.Phase.TheVariants.{Complete}
 use Rattle.poa_history.specs.Templates.{policies_at, makes_ids, is_unique}
 use Rattle.poa_history.specs.Standings.{Standing}
 use Rattle.poa_history.specs.Opening.{number_at, with_act, with_made, made_id, with_object, with_objects}
-use Rattle.poa_history.specs.Commands.{is_bad_id}
 use Rattle.poa_history.specs.Alone.{IsMappedAlone}
 use Rattle.poa_history.specs.Sound.{IsHome, IsSound}
 use Rattle.poa_history.proofs.SoundKept.{MayLive, with_act_sound}

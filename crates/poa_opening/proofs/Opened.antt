@@ -1,7 +1,7 @@
 -- An accepted configuration gives each run what the laws of histories ask of it.
-use Rattle.std.specs.Prelude.{◌≡◌, ℕ, suc, ◌+◌, ◌^◌, ◌<◌, ◌≤◌, Bool, true, List, [], ◌∷◌, cond, Option, Some, None, length, nat_lt, take, slice_get, option_map, refl}
+use Rattle.std.specs.Prelude.{◌≡◌, ℕ, ◌^◌, ◌<◌, true, List, [], cond, Option, Some, None, length, nat_lt, slice_get, option_map, refl}
 use Rattle.std.specs.List.{position_or_len}
-use Rattle.std.proofs.Common.{sym, subst, ap, ap₂, ◌∙◌, arith}
+use Rattle.std.proofs.Common.{subst, ap, ◌∙◌, arith}
 use Rattle.std.proofs.lemmas.Bool.{lt-ltb}
 use Rattle.std.proofs.lemmas.Option.{slice_get_within}
 use Rattle.poa_base.specs.declared.Config.{Config}

@@ -1,5 +1,5 @@
 -- What an accepted configuration says of the adapters of a path and of their policies.
-use Rattle.std.specs.Prelude.{◌≡◌, ℕ, true, false, not, ◌&&◌, List, [], ◌∷◌, Option, Some, None, find, unwrap_or, length, ◌⊎◌, refl}
+use Rattle.std.specs.Prelude.{◌≡◌, ℕ, true, not, List, [], ◌∷◌, Some, None, unwrap_or, length, ◌⊎◌, refl}
 use Rattle.std.proofs.Common.{inl, inr, sym, ap, ◌∙◌}
 use Rattle.std.proofs.lemmas.Bool.{and_parts, or_cases, false≢true}
 use Rattle.poa_base.specs.declared.Config.{Config}
