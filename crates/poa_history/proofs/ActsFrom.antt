@@ -1,7 +1,7 @@
 -- An activation after an entry is one that was there, or is begun by the entry.
 use Rattle.std.specs.Prelude.{◌≡◌, ℕ, suc, Bool, true, false, not, ◌&&◌, ◌==◌, if◌then◌else◌, List, [], ◌∷◌, map, length, Option, Some, None, ◌⊎◌, refl}
 use Rattle.std.proofs.Common.{inl, inr, sym, subst, ap, ◌∙◌}
-use Rattle.std.proofs.lemmas.Bool.{cond_both, and_parts, true≢false, eqb-true}
+use Rattle.std.proofs.lemmas.Bool.{cond_both, and_parts, or_cases, true≢false, eqb-true}
 use Rattle.poa_base.specs.declared.Config.{Config}
 use Rattle.poa_base.specs.declared.Key.{Key}
 use Rattle.poa_base.specs.declared.Call.{Call}
@@ -68,59 +68,72 @@ module _ (c : Config) (run : ℕ) (past : List Entry) (s : Standing) (e : Entry)
     pub begun : stage past worker ≡ Incarnating arrival n
     pub phase_is : phase_by c n answer ≡ phase
 
+  -- without an activator it leaves the map, as nothing is in flight in it
+  abbrev pub Leaves : Act → Type 0
+  Leaves b = (has_activator c b.path ≡ false) × (b.ending ≡ true) × (is_used (changed c run past e s).flights b.number ≡ false)
+
   -- the activation is changed by the entry into this
   pub record IsStep (a b : Act) : Type 0 where
     pub later : IsLater c a b
-    pub out_back : b.out ≡ true → (a.out ≡ true) ⊎ ((has_activator c a.path ≡ false) ⊎ TakesOut a.number)
+    pub out_back : b.out ≡ true → (a.out ≡ true) ⊎ (Leaves b ⊎ TakesOut a.number)
+    pub quiet_back : b.quiet ≡ true → (a.quiet ≡ true) ⊎ (a.ending ≡ false)
     pub told_back : b.etherealized ≡ true → (a.etherealized ≡ true) ⊎ Tells a.number
     pub came : (b.phase ≡ a.phase) ⊎ ((a.phase ≡ Begun) × Brings a.number b.phase)
 
-  step_flags : (a b : Act) → IsLater c a b → b.phase ≡ a.phase → b.out ≡ a.out → b.etherealized ≡ a.etherealized → IsStep a b
-  step_flags a b later phase out told = record { later = later; out_back = λ is. inl (sym out ∙ is); told_back = λ is. inl (sym told ∙ is); came = inl phase }
+  step_flags : (a b : Act) → IsLater c a b → b.phase ≡ a.phase → b.out ≡ a.out → b.etherealized ≡ a.etherealized → (b.quiet ≡ true → (a.quiet ≡ true) ⊎ (a.ending ≡ false)) → IsStep a b
+  step_flags a b later phase out told quiet = record { later = later; out_back = λ is. inl (sym out ∙ is); quiet_back = quiet; told_back = λ is. inl (sym told ∙ is); came = inl phase }
 
   step_self : (a : Act) → IsStep a a
-  step_self a = step_flags a a (later_self c a) refl refl refl
+  step_self a = step_flags a a (later_self c a) refl refl refl (λ is. inl is)
 
   step_ended : (etherealize : Bool) (a : Act) → IsStep a (ended_by_destroy etherealize a)
   step_ended etherealize a = step_flags a (ended_by_destroy etherealize a) (later_ended c etherealize a) refl refl refl
+      (λ is. elim (or_cases a.quiet (not a.ending && not etherealize) is) [ inl was ↦ inl was | inr first ↦ inr (not_back a.ending (and_parts (not a.ending) (not etherealize) first).0) ])
+    where
+      not_back : (x : Bool) → not x ≡ true → x ≡ false
+      not_back true is = absurd (let f : false ≡ true = is in cc)
+      not_back false is = refl
 
   step_ending : (a : Act) → IsStep a (record a { ending = true })
-  step_ending a = step_flags a (record a { ending = true }) (later_ending c a) refl refl refl
+  step_ending a = step_flags a (record a { ending = true }) (later_ending c a) refl refl refl (λ is. inl is)
 
   step_out : (a : Act) (other : Bool) → TakesOut a.number → IsStep a (record a { out = true; remaining = other })
-  step_out a other takes = record { later = later_out c a other; out_back = λ _. inr (inr takes); told_back = λ is. inl is; came = inl refl }
+  step_out a other takes = record { later = later_out c a other; out_back = λ _. inr (inr takes); quiet_back = λ is. inl is; told_back = λ is. inl is; came = inl refl }
 
   step_told : (a : Act) → Tells a.number → IsStep a (record a { etherealized = true })
-  step_told a tells = record { later = later_told c a; out_back = λ is. inl is; told_back = λ _. inr tells; came = inl refl }
+  step_told a tells = record { later = later_told c a; out_back = λ is. inl is; quiet_back = λ is. inl is; told_back = λ _. inr tells; came = inl refl }
 
   step_come : (phase : Phase) (a : Act) → Brings a.number phase → IsStep a (come_to phase a)
   step_come phase a brings =
       cond_both (is_begun a) (record a { phase = phase }) a (λ b. IsLater c a b → IsStep a b)
-      (λ begun later. record { later = later; out_back = λ is. inl is; told_back = λ is. inl is; came = inr (begun_phase a.phase begun, brings) })
+      (λ begun later. record { later = later; out_back = λ is. inl is; quiet_back = λ is. inl is; told_back = λ is. inl is; came = inr (begun_phase a.phase begun, brings) })
       (λ _ _. step_self a) (later_come c phase a)
 
   step_where : (test : Act → Bool) (f : Act → Act) (a : Act) → (test a ≡ true → IsStep a (f a)) → IsStep a (if test a then f a else a)
   step_where test f a kept = cond_both (test a) (f a) a (IsStep a) kept (λ _. step_self a)
 
-  step_let_out : (t : Standing) (a b : Act) → IsStep a b → IsStep a (let_out c t b)
-  step_let_out t a b step =
-      cond_both (is_left c t b) (record b { out = true }) b (λ d. IsLater c b d → IsStep a d)
+  step_let_out : (a b : Act) → IsStep a b → IsStep a (let_out c (changed c run past e s) b)
+  step_let_out a b step =
+      cond_both (is_left c (changed c run past e s) b) (record b { out = true }) b (λ d. IsLater c b d → IsStep a d)
       (λ left later. record {
         later = later_through c a b (record b { out = true }) step.later later;
-        out_back = λ _. inr (inl (no_activator left));
+        out_back = λ _. inr (inl (leaves left));
+        quiet_back = step.quiet_back;
         told_back = step.told_back;
         came = step.came;
       })
-      (λ _ _. step) (later_let_out c t b)
+      (λ _ _. step) (later_let_out c (changed c run past e s) b)
     where
-      no_activator : is_left c t b ≡ true → has_activator c a.path ≡ false
-      no_activator left =
-          let parts = and_parts (not (has_activator c b.path)) (is_complete b && (is_ending b && not (is_used t.flights b.number))) left in
-          ap (has_activator c) (sym step.later.path) ∙ not_back (has_activator c b.path) parts.0
-        where
-          not_back : (x : Bool) → not x ≡ true → x ≡ false
-          not_back true is = absurd (let f : false ≡ true = is in cc)
-          not_back false is = refl
+      not_back : (x : Bool) → not x ≡ true → x ≡ false
+      not_back true is = absurd (let f : false ≡ true = is in cc)
+      not_back false is = refl
+
+      leaves : is_left c (changed c run past e s) b ≡ true → Leaves b
+      leaves left =
+          let parts = and_parts (not (has_activator c b.path)) (is_complete b && (is_ending b && not (is_used (changed c run past e s).flights b.number))) left in
+          let ends = and_parts (is_complete b) (is_ending b && not (is_used (changed c run past e s).flights b.number)) parts.1 in
+          let unused = and_parts (is_ending b) (not (is_used (changed c run past e s).flights b.number)) ends.1 in
+          (not_back (has_activator c b.path) parts.0, (and_parts b.ending (not (is_void b)) unused.0).0, not_back (is_used (changed c run past e s).flights b.number) unused.1)
 
   -- how the entry begins an activation
   pub data BegunBy (b : Act) : Type 0 where
@@ -302,7 +315,7 @@ act_from c run past e b there =
     let t : Standing = changed c run past e (standing c run past) in
     let (d, was, same) = in_image (let_out c t) b t.acts there in
     elim (from_changed c run past (standing c run past) e e refl d was) [
-      | stood a is step ↦ stood a is (subst (λ x. IsStep c run past (standing c run past) e a x) (sym same) (step_let_out c run past (standing c run past) e t a d step))
+      | stood a is step ↦ stood a is (subst (λ x. IsStep c run past (standing c run past) e a x) (sym same) (step_let_out c run past (standing c run past) e a d step))
       | begun new ↦ begun (subst (λ x. IsBegun c run past (standing c run past) e x) (sym (same ∙ stays t d new.ending)) new)
     ]
   where

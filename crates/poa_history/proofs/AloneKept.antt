@@ -87,7 +87,7 @@ in_map : (a : Act) → is_mapped a ≡ true → a.out ≡ false
 in_map a mapped = false_from_ne_true a.out (λ out. let parts = and_parts (is_complete a) (not a.out) mapped in let e : false ≡ true = ap not (sym out) ∙ parts.1 in cc)
 
 -- a servant that a command activates is a configured one
-of_servant : (c : Config) (name : List ℕ) (t : Sid) → servant_of c name ≡ Complete t → (k : ℕ) × (servant_number c name ≡ Some k) × (t ≡ NamedServant k)
+pub of_servant : (c : Config) (name : List ℕ) (t : Sid) → servant_of c name ≡ Complete t → (k : ℕ) × (servant_number c name ≡ Some k) × (t ≡ NamedServant k)
 of_servant c name t is =
     elim (servant_number c name) as (λ o. (elim o [ Some k ↦ Complete (NamedServant k) | None ↦ Void ]) ≡ Complete t → (k : ℕ) × (o ≡ Some k) × (t ≡ NamedServant k))
     [ Some k ↦ λ e. (k, refl, (let f : Complete (NamedServant k) ≡ Complete t = e in cc)) | None ↦ λ e. absurd (let f : Void ≡ Complete t = e in cc) ] is
@@ -98,7 +98,7 @@ not_begun c name is =
     [ Some k ↦ λ e. (let f : Complete (NamedServant k) ≡ Begun = e in cc) | None ↦ λ e. (let f : Void ≡ Begun = e in cc) ] is
 
 -- a named servant is brought where it isn't in the map already
-brought_named : (c : Config) (s : Standing) (a : Act) (name : List ℕ) → brought c s a ≡ Named name → (k : ℕ) × ((is_unique (policies_at c a.path) && is_in_map s.acts a.adapter (NamedServant k)) ≡ false) × (servant_name c k ≡ Some name)
+pub brought_named : (c : Config) (s : Standing) (a : Act) (name : List ℕ) → brought c s a ≡ Named name → (k : ℕ) × ((is_unique (policies_at c a.path) && is_in_map s.acts a.adapter (NamedServant k)) ≡ false) × (servant_name c k ≡ Some name)
 brought_named c s a name is = by_rule (rule_for (rules_at c a.path) a.oid) is
   where
     by_name : (k : ℕ) → (is_unique (policies_at c a.path) && is_in_map s.acts a.adapter (NamedServant k)) ≡ false → (o : Option (List ℕ)) → servant_name c k ≡ o → (elim o [ Some x ↦ Named x | None ↦ Raise not_active ]) ≡ Named name → (j : ℕ) × ((is_unique (policies_at c a.path) && is_in_map s.acts a.adapter (NamedServant j)) ≡ false) × (servant_name c j ≡ Some name)
@@ -173,7 +173,7 @@ module _ (c : Config) (run limit : ℕ) (past : List Entry) (e : Entry) (may : M
             elim (step.out_back parts.0) [
               | inl out ↦ inl (or_second (is_begun a) (a.out && not (is_finished c a)) (ap₂ (λ x y. x && y) out (unfinished a b step parts.1)))
               | inr other ↦ elim other [
-                | inl none ↦ absurd (let f : is_finished c b ≡ true = ap₂ (λ x y. x && y) parts.0 (or_second b.quiet (not (has_activator c b.path) || b.etherealized) (or_first (not (has_activator c b.path)) b.etherealized (ap not (ap (has_activator c) step.later.path ∙ none)))) in
+                | inl none ↦ absurd (let f : is_finished c b ≡ true = ap₂ (λ x y. x && y) parts.0 (or_second b.quiet (not (has_activator c b.path) || b.etherealized) (or_first (not (has_activator c b.path)) b.etherealized (ap not none.0))) in
                     let g : false ≡ true = ap not (sym f) ∙ parts.1 in cc)
                 | inr takes ↦ inr takes
               ]
@@ -397,7 +397,7 @@ module _ (c : Config) (run limit : ℕ) (past : List Entry) (e : Entry) (may : M
 -- at opening
 module _ (c : Config) (run : ℕ) where
   abbrev Opens : Act → Type 0
-  Opens a = (a.out ≡ false) × ((k : ℕ) × (a.phase ≡ Complete (NamedServant k)))
+  Opens a = (a.out ≡ false) × ((k : ℕ) × (a.phase ≡ Complete (NamedServant k))) × (a.etherealized ≡ false)
 
   abbrev AllOpen : Standing → Type 0
   AllOpen s = (a : Act) → In a s.acts → Opens a
@@ -408,7 +408,7 @@ module _ (c : Config) (run : ℕ) where
   act_opens : (k : ℕ) (p : List (List ℕ)) (oid : List ℕ) (j : ℕ) (s : Standing) → AllOpen s → AllOpen (with_act k p oid (Complete (NamedServant j)) s)
   act_opens k p oid j s all a there =
       elim (in_either a (record { number = length s.acts; adapter = k; path = p; oid = oid; phase = Complete (NamedServant j); ending = false; quiet = false; out = false; cleanup = false; remaining = false; etherealized = false }) s.acts there)
-      [ inl was ↦ all a was | inr made ↦ (ap (λ x. x.out) made, (j, ap (λ x. x.phase) made)) ]
+      [ inl was ↦ all a was | inr made ↦ (ap (λ x. x.out) made, (j, ap (λ x. x.phase) made), ap (λ x. x.etherealized) made) ]
 
   object_opens : (o : ObjectConf) (s : Standing) → AllOpen s → AllOpen (with_object run o s)
   object_opens o s all =
@@ -427,7 +427,7 @@ module _ (c : Config) (run : ℕ) where
       boots_acts as' (if a.boot && not (is_root a.path) then with_node a.path s else s)
       ∙ cond_both (a.boot && not (is_root a.path)) (with_node a.path s) s (λ t. t.acts ≡ s.acts) (λ _. refl) (λ _. refl)
 
-  all_open : AllOpen (standing c run [])
+  pub all_open : AllOpen (standing c run [])
   all_open = objects_open c.objects (with_boots c.adapters root_alone) (λ a there. absurd (subst (λ as'. In a as') (boots_acts c.adapters root_alone) there))
 
   finished_no : (a : Act) → Opens a → is_unfinished c a ≡ false

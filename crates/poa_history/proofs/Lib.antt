@@ -22,3 +22,7 @@ pub mod Served
 pub mod ActsFrom
 pub mod CommandTells
 pub mod AloneKept
+pub mod CommandAnswers
+pub mod StagesFrom
+pub mod MannedKept
+pub mod LivesKept

@@ -18,6 +18,7 @@ pub mod Settling
 pub mod States
 pub mod Replies
 pub mod Legal
+pub mod InFlight
 pub mod Lifetime
 pub mod Sound
 pub mod Bounds

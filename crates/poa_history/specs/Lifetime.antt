@@ -1,10 +1,9 @@
 -- The lifetime of an activation: it runs requests only between incarnation and removal, and is etherealized at most
 -- once, after its last request ended (CORBA 3.3 Part 1, sections 15.2.4 and 15.3.6).
-use Rattle.std.specs.Prelude.{◌≡◌, ℕ, Bool, true, false, not, List, ◌∷◌, length, Option, Some, None, slice_get, All}
+use Rattle.std.specs.Prelude.{◌≡◌, ℕ, Bool, true, false, not, List, ◌∷◌, length, Some, slice_get, All}
 use Rattle.poa_base.specs.declared.Config.{Config}
 use Rattle.poa_base.specs.declared.Entry.{Entry}
 use Rattle.poa_base.specs.declared.Entry.TheVariants.{Admit, Run, TakeOut, Etherealized}
-use Rattle.poa_base.specs.declared.Verdict.{Verdict}
 use Rattle.poa_base.specs.declared.Verdict.TheVariants.{Serve, Incarnate}
 use Rattle.poa_history.specs.declared.act.Act.{Act}
 use Rattle.poa_history.specs.declared.stage.Stage.{Stage}
@@ -14,13 +13,8 @@ use Rattle.poa_history.specs.Standings.{Standing, is_complete, is_ending, is_of,
 use Rattle.poa_history.specs.Ends.{is_over}
 use Rattle.poa_history.specs.Changes.{standing}
 use Rattle.poa_history.specs.Turns.{act_numbered}
+use Rattle.poa_history.specs.InFlight.{named}
 use Rattle.poa_history.specs.Legal.{EachEntry}
-
--- the activation that a verdict names
-abbrev pub named : Option Verdict → Option ℕ
-named (Some (Serve n)) = Some n
-named (Some (Incarnate n)) = Some n
-named verdict = None
 
 -- it has a servant, and isn't out of the map
 pub record IsServable (s : Standing) (n : ℕ) : Type 0 where

@@ -10,6 +10,8 @@ ghost use Rattle.poa_history.specs.Alone.{IsGivenAlone, StandsAlone};
 ghost use Rattle.poa_history.specs.Changes.{standing};
 ghost use Rattle.poa_history.specs.Destroyed.{was_destroyed, IsEnded, IsEmptied};
 ghost use Rattle.poa_history.specs.Ends.{is_gone};
+ghost use Rattle.poa_history.specs.InFlight.{IsManned};
+ghost use Rattle.poa_history.specs.Lifetime.{HasLifetime};
 ghost use Rattle.poa_history.specs.Sound.{IsGiven, IsSound};
 ghost use Rattle.poa_opening.specs.Runs.{IsRun};
 
@@ -59,4 +61,19 @@ pub fn gone_have_ended()
 /// flight in an adapter; and a fresh servant is that of its activation.
 pub fn one_at_a_time()
     ensures { (c : Config) (run limit : ℕ) (h : List Entry) → IsRun c run limit h → StandsAlone c (standing c run h) }
+{}
+
+/// What is in flight is what a worker has begun and not ended, once, and with one worker. What is in flight in
+/// an activation is so in that activation's adapter, and the activation isn't out. A request runs while its
+/// activation has its servant. What is being taken down is out, and wasn't etherealized yet.
+pub fn in_flight_has_its_worker()
+    ensures { (c : Config) (run limit : ℕ) (h : List Entry) → IsRun c run limit h → IsManned c run h }
+{}
+
+/// Every run keeps the lifetime of its activations: an activation begins once, when every earlier one of its id
+/// is over; requests run in it only between its completion and its removal; it is taken out at most once, with
+/// nothing in flight in it, and no later admission names it; it is etherealized at most once, after that, by the
+/// worker that took it out. CORBA 3.3 Part 1, sections 15.2.4 and 15.3.6.
+pub fn lifetimes_are_kept()
+    ensures { (c : Config) (run limit : ℕ) (h : List Entry) → IsRun c run limit h → HasLifetime c run h }
 {}
