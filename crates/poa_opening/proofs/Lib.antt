@@ -1,0 +1,5 @@
+pub mod Entries
+pub mod Policies
+pub mod Boots
+pub mod Objects
+pub mod Opened
