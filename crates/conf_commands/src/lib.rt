@@ -6,8 +6,6 @@ mod counting;
 mod numbering;
 mod objects;
 mod printing;
-#[cfg(test)]
-mod tests;
 
 pub use conf_toml::ConfFault;
 pub use counting::counts;

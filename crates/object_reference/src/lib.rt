@@ -3,8 +3,6 @@
 #![tactic(auto)]
 
 mod reference;
-#[cfg(test)]
-mod tests;
 
 pub use poa_base::WantMemory;
 pub use reference::write_reference;

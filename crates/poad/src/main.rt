@@ -2,7 +2,7 @@
 //! to standard error, and ends with the status' number.
 #![tactic(auto)]
 
-use outside::{MemFiles, StandardInput, StandardOutput};
+use outside::{StandardInput, StandardOutput, SystemFiles};
 use poad_cmd::{Host, Status, run_words};
 use std::env;
 use std::io::ErrorKind;
@@ -30,13 +30,13 @@ fn words(rt: &HostRuntime) -> Result<Vec<String>, Status> {
     all.collect(rt.alloc()).map_err(|_| Status::WantMemory)
 }
 
-// Does what the words say over standard input and output. No command reads files yet.
+// Does what the words say over standard input and output and the files of the system.
 fn run(rt: &HostRuntime, words: &[String]) -> Status {
     let alloc = rt.alloc();
     let mut host = Host {
         source: StandardInput::new(rt.stdin()),
         sink: StandardOutput::new(rt.stdout()),
-        files: MemFiles::new(alloc, Vec::new(alloc), Vec::new(alloc)),
+        files: SystemFiles::new(alloc, *rt),
     };
     run_words(alloc, words, &mut host)
 }

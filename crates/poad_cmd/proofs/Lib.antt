@@ -1,7 +1,6 @@
 pub mod Told
 pub mod Causes
 pub mod Delivered
-pub mod Same
 pub mod Decisions
 pub mod Serving
 pub mod Pieces

@@ -4,6 +4,7 @@ pub mod Serving
 pub mod Stop
 pub mod Run
 pub mod Showing
+pub mod Filing
 pub mod Service
 pub mod Delivery
 pub mod Piece

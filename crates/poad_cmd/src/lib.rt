@@ -1,12 +1,16 @@
 //! The commands of the program: `run_words` does what the words of a command line say, over a source, a
 //! sink and files, and answers how it ended. `answer` serves the GIOP messages of the source, in order, by one
-//! register in a tree that has the root adapter alone. `show` prints a reference.
+//! register in a tree that has the root adapter alone. `show` prints a reference, and `check` and
+//! `iors` print what a configuration has.
 #![tactic(auto)]
 
 mod adapter;
 mod answering;
 mod delivery;
+mod fault_line;
+mod filing;
 mod host;
+mod run;
 mod service;
 mod showing;
 mod status;
@@ -17,5 +21,5 @@ mod verdict;
 mod words;
 
 pub use host::Host;
+pub use run::run_words;
 pub use status::Status;
-pub use words::run_words;

@@ -1,16 +1,20 @@
 //! How a command ended.
 ghost use Rattle.std.specs.Prelude.{◌≡◌};
 
+use crate::fault_line::write_fault;
+use conf_toml::ConfFault;
 use ior_text::IorFault;
 use std::fmt;
 
 /// How a command ended: each status has a number, with which the program ends, and a line.
-#[derive(Clone, Copy, Debug, PartialEq, Eq)]
+#[derive(Debug, PartialEq, Eq, Drop)]
 pub enum Status {
     /// The input was read to its end, and every owed reply was written.
     Ok,
     /// The words are no command.
     BadWords,
+    /// The bytes of the file are no configuration.
+    ConfigRefused(ConfFault),
     /// This line of the script is no line of a script.
     ScriptRefused { line: u64 },
     /// The text is no reference.
@@ -47,10 +51,11 @@ pub enum Status {
 
 impl Status {
     /// The number of the status, 0 for `Ok`.
-    pub fn number(self) -> u8 {
+    pub fn number(&self) -> u8 {
         match self {
             Status::Ok => 0,
             Status::BadWords => 2,
+            Status::ConfigRefused(_) => 3,
             Status::ScriptRefused { .. } => 4,
             Status::TextRefused(_) => 5,
             Status::ReadFault => 6,
@@ -76,6 +81,7 @@ impl fmt::Display for Status {
         match self {
             Status::Ok => write!(f, "ok"),
             Status::BadWords => write!(f, "bad words"),
+            Status::ConfigRefused(fault) => write_fault(f, fault),
             Status::ScriptRefused { line } => write!(f, "script: line {line}"),
             Status::TextRefused(fault) => write!(f, "{fault}"),
             Status::ReadFault => write!(f, "read fault"),

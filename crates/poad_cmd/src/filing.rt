@@ -1,0 +1,66 @@
+//! What is printed of a configuration in a file.
+ghost use Rattle.std.specs.Prelude.{◌≡◌, Err, List, ℕ};
+ghost use Rattle.outside.specs.Cause.{HasCause};
+ghost use Rattle.outside.specs.Told.{IfTold};
+ghost use Rattle.conf_fields.specs.declared.ConfFault.TheVariants as fault;
+ghost use Rattle.poad_cmd.specs.Filing.{Filed, HoldsStill, Printed, Refuses};
+
+use crate::delivery::deliver;
+use crate::status::Status;
+use conf_commands::{Asked, print_config};
+use conf_toml::ConfFault;
+use outside::{Files, Sink, Taken};
+use std::alloc::Global;
+
+/// The bytes that a configuration has at most.
+const CONFIG_LIMIT: u64 = 1 << 20;
+
+/// Prints what is asked of the configuration in the file, or tells why it is none.
+pub(crate) fn print_file<K: Sink, F: Files>(
+    alloc: Global,
+    asked: Asked,
+    name: &str,
+    files: &mut F,
+    sink: &mut K,
+) -> Status
+    ensures filed { Filed asked name.now result (F.contents files.old) (F.contents files.new) (K.held sink.old) (K.held sink.new) }
+    ensures contents { IfTold (F.contents files.old) (F.contents files.new) HoldsStill }
+    ensures file_fault { HasCause (F.take_faults files.old) (F.take_faults files.new) (result ≡ Status.FileFault) }
+    ensures no_file { HasCause (F.absents files.old) (F.absents files.new) (result ≡ Status.NoFile) }
+    ensures too_long { HasCause (F.long_ones files.old) (F.long_ones files.new) (result ≡ Status.FileTooLong) }
+    ensures written { HasCause (K.write_faults sink.old) (K.write_faults sink.new) (result ≡ Status.WriteFault) }
+{
+    match files.take(name, CONFIG_LIMIT) {
+        Taken::Bytes(content) => print_content(alloc, asked, content.as_slice(), sink),
+        Taken::Absent => Status::NoFile,
+        Taken::TooLong => Status::FileTooLong,
+        Taken::Failed => Status::FileFault,
+        Taken::WantMemory => Status::WantMemory,
+    }
+}
+
+// The same of a file's content.
+fn print_content<K: Sink>(alloc: Global, asked: Asked, content: &[u8], sink: &mut K) -> Status
+    ensures printed { Printed asked content.now result (K.held sink.old) (K.held sink.new) }
+    ensures written { HasCause (K.write_faults sink.old) (K.write_faults sink.new) (result ≡ Status.WriteFault) }
+{
+    let text = match print_config(alloc, asked, content) {
+        Ok(text) => text,
+        Err(fault) => return refusal(fault),
+    };
+    if deliver(sink, text.as_slice()) {
+        Status::Ok
+    } else {
+        Status::WriteFault
+    }
+}
+
+// The status where a text is no configuration.
+fn refusal(fault: ConfFault) -> Status
+    ensures { Refuses result fault }
+{
+    match fault {
+        ConfFault::WantMemory => Status::WantMemory,
+        fault => Status::ConfigRefused(fault),
+    }
+}

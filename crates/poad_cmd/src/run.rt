@@ -1,0 +1,82 @@
+//! A command over a source, a sink and files.
+ghost use Rattle.std.specs.Prelude.{◌≡◌, ◌↔◌, ℕ, List, Some, None, false};
+ghost use Rattle.outside.specs.Cause.{HasCause};
+ghost use Rattle.outside.specs.Told.{IfTold};
+ghost use Rattle.conf_commands.specs.declared.Asked.{Asked};
+ghost use Rattle.poad_cmd.specs.Run.{Answers};
+ghost use Rattle.poad_cmd.specs.Showing.{Tells};
+ghost use Rattle.poad_cmd.specs.Filing.{Filed, HoldsStill};
+ghost use Rattle.poad_cmd.specs.Words as spec;
+ghost use Rattle.poad_cmd.specs.Words.{command_in};
+
+use crate::answering::answer;
+use crate::filing::print_file;
+use crate::host::Host;
+use crate::showing::show_text;
+use crate::status::Status;
+use crate::words::{Command, command_of};
+use outside::{Files, Sink, Source};
+use std::alloc::Global;
+
+/// Does what the words say.
+///
+/// - `answer`: reads GIOP messages from the source and writes the replies to the sink.
+/// - `show IOR`: prints the reference to the sink.
+/// - `check FILE`: reads the configuration in the file, and prints how many there are of each kind.
+/// - `iors FILE`: reads the configuration in the file, and prints the references of its objects.
+///
+/// The source is one that doesn't wait: a read of it waits until something is there.
+///
+/// How it ends:
+/// - `Ok`: `answer` read the source to its end, or to a CloseConnection, and every owed reply was written; or
+///   what the other commands print was written whole.
+/// - `BadWords`: the words are none of these commands. Nothing was read or written.
+/// - `TextRefused`: the text of `show` is no reference, with its first fault. Nothing was written.
+/// - `NoFile`, `FileTooLong`, `FileFault`: the file isn't there, is longer than a configuration may be, or a read
+///   of it failed in this call. Nothing was written.
+/// - `ConfigRefused`: the file holds no configuration, with its first fault. Nothing was written.
+/// - `Malformed`: the first bad message of the source starts at this byte. The replies to the messages before
+///   it were written, and then MessageError (CORBA 3.3 Part 2, 9.4.8).
+/// - `Truncated`: the source ended, and so many of its bytes belong to no whole message: those behind the last
+///   part, and all parts of messages that are still open. The replies to the whole messages were written.
+/// - `Unbuilt`: the message that starts at this byte is a LocateRequest, or a Request whose target is told by a
+///   profile or by a reference (CORBA 3.3 Part 2, 9.4.5 and 9.4.2.1), and no earlier message is bad. The replies
+///   to the messages before it were written.
+/// - `InputLimit`: 2^32 bytes were taken of the source, and no message of them ends the run.
+/// - `ReadFault`, `WriteFault`: a read of the source, or a write to the sink, failed in this call. After a fault
+///   of reading every reply that was due was written, and after one of writing a front of what was due.
+/// - `WantMemory`: no memory was left. A front of what was due was written.
+///
+/// No other status comes.
+pub fn run_words<S: Source, K: Sink, F: Files>(
+    alloc: Global,
+    words: &[String],
+    host: &mut Host<S, K, F>,
+) -> Status
+    requires patient { S.is_waiting host.old.source ≡ false }
+
+    ensures bad_words { result ≡ Status.BadWords ↔ (command_in words.now ≡ None) }
+    ensures untouched { result ≡ Status.BadWords → host.new ≡ host.old }
+
+    ensures answers { command_in words.now ≡ Some spec.answer
+        → Answers result (S.left host.old.source) (S.left host.new.source) (K.held host.old.sink) (K.held host.new.sink) × (host.new.files ≡ host.old.files) }
+    ensures shows { (text : List ℕ) → command_in words.now ≡ Some (spec.show text)
+        → Tells result text (K.held host.old.sink) (K.held host.new.sink) × (host.new.source ≡ host.old.source) × (host.new.files ≡ host.old.files) }
+    ensures configs { (asked : Asked) (name : List ℕ) → command_in words.now ≡ Some (spec.config asked name)
+        → Filed asked name result (F.contents host.old.files) (F.contents host.new.files) (K.held host.old.sink) (K.held host.new.sink) × (host.new.source ≡ host.old.source) }
+    ensures contents { IfTold (F.contents host.old.files) (F.contents host.new.files) HoldsStill }
+    ensures read_fault { HasCause (S.read_faults host.old.source) (S.read_faults host.new.source) (result ≡ Status.ReadFault) }
+    ensures write_fault { HasCause (K.write_faults host.old.sink) (K.write_faults host.new.sink) (result ≡ Status.WriteFault) }
+    ensures file_fault { HasCause (F.take_faults host.old.files) (F.take_faults host.new.files) (result ≡ Status.FileFault) }
+    ensures no_file { HasCause (F.absents host.old.files) (F.absents host.new.files) (result ≡ Status.NoFile) }
+    ensures too_long { HasCause (F.long_ones host.old.files) (F.long_ones host.new.files) (result ≡ Status.FileTooLong) }
+{
+    match command_of(words) {
+        Some(Command::Answer) => answer(alloc, &mut host.source, &mut host.sink),
+        Some(Command::Show(text)) => show_text(alloc, text.as_bytes(), &mut host.sink),
+        Some(Command::Config(asked, name)) => {
+            print_file(alloc, asked, name, &mut host.files, &mut host.sink)
+        }
+        None => Status::BadWords,
+    }
+}
