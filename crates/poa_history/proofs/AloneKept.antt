@@ -397,7 +397,7 @@ module _ (c : Config) (run limit : ℕ) (past : List Entry) (e : Entry) (may : M
 -- at opening
 module _ (c : Config) (run : ℕ) where
   abbrev Opens : Act → Type 0
-  Opens a = (a.out ≡ false) × ((k : ℕ) × (a.phase ≡ Complete (NamedServant k))) × (a.etherealized ≡ false)
+  Opens a = (a.out ≡ false) × ((k : ℕ) × (a.phase ≡ Complete (NamedServant k))) × (a.etherealized ≡ false) × (a.ending ≡ false) × (a.quiet ≡ false)
 
   abbrev AllOpen : Standing → Type 0
   AllOpen s = (a : Act) → In a s.acts → Opens a
@@ -408,7 +408,7 @@ module _ (c : Config) (run : ℕ) where
   act_opens : (k : ℕ) (p : List (List ℕ)) (oid : List ℕ) (j : ℕ) (s : Standing) → AllOpen s → AllOpen (with_act k p oid (Complete (NamedServant j)) s)
   act_opens k p oid j s all a there =
       elim (in_either a (record { number = length s.acts; adapter = k; path = p; oid = oid; phase = Complete (NamedServant j); ending = false; quiet = false; out = false; cleanup = false; remaining = false; etherealized = false }) s.acts there)
-      [ inl was ↦ all a was | inr made ↦ (ap (λ x. x.out) made, (j, ap (λ x. x.phase) made), ap (λ x. x.etherealized) made) ]
+      [ inl was ↦ all a was | inr made ↦ (ap (λ x. x.out) made, (j, ap (λ x. x.phase) made), ap (λ x. x.etherealized) made, ap (λ x. x.ending) made, ap (λ x. x.quiet) made) ]
 
   object_opens : (o : ObjectConf) (s : Standing) → AllOpen s → AllOpen (with_object run o s)
   object_opens o s all =

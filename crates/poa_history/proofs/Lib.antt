@@ -27,3 +27,4 @@ pub mod StagesFrom
 pub mod MannedKept
 pub mod LivesKept
 pub mod GoneStays
+pub mod EndingsAre

@@ -79,7 +79,7 @@ all_by P [] each = All-nil P
 all_by P (x ∷ xs) each = All-cons P x xs (each x (inl refl)) (all_by P xs (λ y there. each y (inr there)))
 
 -- an entry begins one activation at most, with the next number
-data Shape (before after : List Act) : Type 0 where
+pub data Shape (before after : List Act) : Type 0 where
   as_many : length after ≡ length before → Shape before after
   one_more : (b : Act) → b.number ≡ length before → after ≡ before ++ b ∷ [] → Shape before after
 
@@ -185,7 +185,7 @@ module _ (c : Config) (run : ℕ) where
   admit_shape past s w r v (Some (Line number command)) at =
       subst (λ k. Shape s.acts (with_command c run (command_done past (Admit w r v)) (with_admitted r k v s)).acts) (sym (ap key_in at)) (command_shape s (command_done past (Admit w r v)))
 
-  changed_shape : (past : List Entry) (s : Standing) (e : Entry) → Shape s.acts (changed c run past e s).acts
+  pub changed_shape : (past : List Entry) (s : Standing) (e : Entry) → Shape s.acts (changed c run past e s).acts
   changed_shape past s (Entered conn) = as_many refl
   changed_shape past s (Arrive conn size call) = as_many refl
   changed_shape past s (Filled conn size) = as_many refl

@@ -10,7 +10,9 @@ ghost use Rattle.poa_history.specs.Alone.{IsGivenAlone, StandsAlone};
 ghost use Rattle.poa_history.specs.Bounds.{IsWithinLimits, HasFewIds};
 ghost use Rattle.poa_history.specs.Changes.{standing};
 ghost use Rattle.poa_history.specs.Legal.{IsLegal};
+ghost use Rattle.poa_history.specs.Endings.{was_ended, was_quieted};
 ghost use Rattle.poa_history.specs.Ends.{is_gone};
+ghost use Rattle.poa_history.specs.declared.act.Act.{Act};
 ghost use Rattle.poa_history.specs.Standings.{Standing};
 ghost use Rattle.poa_tree.specs.Paths.{is_root};
 ghost use Rattle.poa_history.specs.Destroyed.{was_destroyed, IsEnded, IsEmptied};
@@ -83,4 +85,12 @@ pub fn in_flight_has_its_worker()
 /// that, by the worker that took it out. CORBA 3.3 Part 1, sections 15.2.4 and 15.3.6.
 pub fn lifetimes_are_kept()
     ensures { (c : Config) (run limit : ℕ) (h : List Entry) → IsGiven c run → IsGivenAlone c run → IsWithinLimits c limit → IsLegal c run limit h → HasLifetime c run h }
+{}
+
+/// An activation is ending exactly where, since its begin, a command ended it: one that deactivates its id, that
+/// destroys its adapter or one above it, or that deactivates its manager so that a servant activator etherealizes.
+/// It is quiet exactly where the first of these was a destroy that etherealizes nothing.
+pub fn ended_are_ending()
+    ensures ending { (c : Config) (run limit : ℕ) → IsGiven c run → IsWithinLimits c limit → (h : List Entry) → IsLegal c run limit h → (a : Act) → In a (standing c run h).acts → a.ending ≡ was_ended c run h a }
+    ensures quiet { (c : Config) (run limit : ℕ) → IsGiven c run → IsWithinLimits c limit → (h : List Entry) → IsLegal c run limit h → (a : Act) → In a (standing c run h).acts → a.quiet ≡ was_quieted c run h a }
 {}
