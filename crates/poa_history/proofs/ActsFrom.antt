@@ -70,7 +70,7 @@ module _ (c : Config) (run : ℕ) (past : List Entry) (s : Standing) (e : Entry)
 
   -- without an activator it leaves the map, as nothing is in flight in it
   abbrev pub Leaves : Act → Type 0
-  Leaves b = (has_activator c b.path ≡ false) × (b.ending ≡ true) × (is_used (changed c run past e s).flights b.number ≡ false)
+  Leaves b = (has_activator c b.path ≡ false) × (b.ending ≡ true) × (is_used (changed c run past e s).flights b.number ≡ false) × (is_complete b ≡ true)
 
   -- the activation is changed by the entry into this
   pub record IsStep (a b : Act) : Type 0 where
@@ -133,7 +133,7 @@ module _ (c : Config) (run : ℕ) (past : List Entry) (s : Standing) (e : Entry)
           let parts = and_parts (not (has_activator c b.path)) (is_complete b && (is_ending b && not (is_used (changed c run past e s).flights b.number))) left in
           let ends = and_parts (is_complete b) (is_ending b && not (is_used (changed c run past e s).flights b.number)) parts.1 in
           let unused = and_parts (is_ending b) (not (is_used (changed c run past e s).flights b.number)) ends.1 in
-          (not_back (has_activator c b.path) parts.0, (and_parts b.ending (not (is_void b)) unused.0).0, not_back (is_used (changed c run past e s).flights b.number) unused.1)
+          (not_back (has_activator c b.path) parts.0, (and_parts b.ending (not (is_void b)) unused.0).0, not_back (is_used (changed c run past e s).flights b.number) unused.1, ends.0)
 
   -- how the entry begins an activation
   pub data BegunBy (b : Act) : Type 0 where

@@ -300,7 +300,7 @@ module _ (c : Config) (a b : Act) (number : b.number ≡ a.number) (adapter : b.
       ∙ ap (λ x. if was_ended c run past a then was_quieted c run past a else x && keeps_servants (command_done past e)) (ended_same run past e)
 
 -- no more activations than there were stand for later ones
-more_acts : (c : Config) (run : ℕ) (past : List Entry) (e : Entry) → length (standing c run past).acts ≤ length (standing c run (e ∷ past)).acts
+pub more_acts : (c : Config) (run : ℕ) (past : List Entry) (e : Entry) → length (standing c run past).acts ≤ length (standing c run (e ∷ past)).acts
 more_acts c run past e =
     let s = standing c run past in
     let t = changed c run past e s in

@@ -28,3 +28,4 @@ pub mod MannedKept
 pub mod LivesKept
 pub mod GoneStays
 pub mod EndingsAre
+pub mod OutIs

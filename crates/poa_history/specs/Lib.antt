@@ -24,5 +24,6 @@ pub mod Sound
 pub mod Bounds
 pub mod Later
 pub mod Endings
+pub mod Out
 pub mod Destroyed
 pub mod Alone

@@ -20,6 +20,8 @@ ghost use Rattle.poa_history.specs.InFlight.{IsManned};
 ghost use Rattle.poa_history.specs.Keys.{key_of};
 ghost use Rattle.poa_history.specs.Later.{AllLater};
 ghost use Rattle.poa_history.specs.Lifetime.{HasLifetime};
+ghost use Rattle.poa_history.specs.Out.{was_taken, has_run_out};
+ghost use Rattle.poa_history.specs.Templates.{has_activator};
 ghost use Rattle.poa_history.specs.Sound.{IsGiven, IsSound};
 
 /// What stands after a legal history is sound. Of one path at most one adapter stands, its parent stands
@@ -93,4 +95,11 @@ pub fn lifetimes_are_kept()
 pub fn ended_are_ending()
     ensures ending { (c : Config) (run limit : ℕ) → IsGiven c run → IsWithinLimits c limit → (h : List Entry) → IsLegal c run limit h → (a : Act) → In a (standing c run h).acts → a.ending ≡ was_ended c run h a }
     ensures quiet { (c : Config) (run limit : ℕ) → IsGiven c run → IsWithinLimits c limit → (h : List Entry) → IsLegal c run limit h → (a : Act) → In a (standing c run h).acts → a.quiet ≡ was_quieted c run h a }
+{}
+
+/// Where its adapter has a servant activator, an activation is out exactly where an entry took it out. Where
+/// it has none, it is out exactly where it has a servant, is ending, and nothing is in flight in it.
+pub fn out_when_removed()
+    ensures taken { (c : Config) (run limit : ℕ) → IsGiven c run → IsGivenAlone c run → IsWithinLimits c limit → (h : List Entry) → IsLegal c run limit h → (a : Act) → In a (standing c run h).acts → has_activator c a.path ≡ true → a.out ≡ was_taken h a.number }
+    ensures left { (c : Config) (run limit : ℕ) → IsGiven c run → IsGivenAlone c run → IsWithinLimits c limit → (h : List Entry) → IsLegal c run limit h → (a : Act) → In a (standing c run h).acts → has_activator c a.path ≡ false → a.out ≡ has_run_out (standing c run h) a }
 {}
