@@ -14,8 +14,6 @@ use Rattle.poa_base.specs.declared.Verdict.{Verdict}
 use Rattle.poa_base.specs.declared.Verdict.TheVariants.{Serve, Preset, Locator, Incarnate, Try, Refuse, Forward, Addressing, Here, Unknown, Answer, Wait}
 use Rattle.poa_base.specs.declared.Entry.{Entry}
 use Rattle.poa_base.specs.declared.Entry.TheVariants.{Entered, Arrive, Filled, Left, Collect, Admit, Tried, Incarnated, Run, Done, TakeOut, Etherealized, Abandon}
-use Rattle.poa_base.specs.declared.Attempt.{Attempt}
-use Rattle.poa_base.specs.declared.Attempt.TheVariants.{Yes, No, Raised, Dying as ParentDying}
 use Rattle.poa_base.specs.declared.Incarnation.{Incarnation}
 use Rattle.poa_base.specs.declared.Incarnation.TheVariants.{Fresh, Named, Double, Forward as ForwardTo, Raise}
 use Rattle.poa_history.specs.declared.act.Act.{Act}
@@ -34,7 +32,7 @@ use Rattle.poa_history.specs.Keys.{key_in}
 use Rattle.poa_history.specs.Logs.{is_accepted, command_in, command_done}
 use Rattle.poa_history.specs.Opening.{with_act, made_id, number_at}
 use Rattle.poa_history.specs.Commands.{is_implicit, live_at}
-use Rattle.poa_history.specs.Changes.{standing, changed, with_admitted, ended_by_destroy, with_manager_off, servant_of, with_made_act, with_reference, with_command, child_tried, with_child, without_flight, with_tried, at_number, come_to, with_incarnated, is_elsewhere, with_etherealized}
+use Rattle.poa_history.specs.Changes.{standing, changed, with_admitted, ended_by_destroy, with_manager_off, servant_of, with_made_act, with_reference, with_command, at_number, come_to, with_incarnated, is_elsewhere, with_etherealized}
 use Rattle.poa_history.specs.Legal.{IsLegal}
 use Rattle.poa_history.specs.Sound.{IsGiven}
 use Rattle.poa_history.specs.Bounds.{IsWithinLimits}
@@ -43,6 +41,7 @@ use Rattle.poa_tree.proofs.Members.{in_either, in_image}
 use Rattle.poa_history.proofs.LivesKept.{as_many, one_more, changed_shape}
 use Rattle.poa_history.proofs.AloneKept.{all_open}
 use Rattle.poa_history.proofs.LegalSound.{legal_sound}
+use Rattle.poa_history.proofs.Untouched.{acts_in, acts_fewer, acts_tried}
 
 -- a test that fails adds nothing
 or_none : (q n x k : Bool) → x ≡ false → q ≡ (q || (n && (x && k)))
@@ -129,9 +128,6 @@ module _ (c : Config) (s : Standing) (d : Option Command) where
       (λ _. let k = same found.0 in as_it_is found.0 (f found.0) (none found.0) k.0 k.1 k.2 k.3 k.4 k.5)
       (λ _. as_it_is found.0 found.0 (none found.0) refl refl refl refl refl refl)))
 
-abbrev acts_in : Standing → List Act
-acts_in s = s.acts
-
 module _ (c : Config) (run : ℕ) (s : Standing) where
   off_from : (name : List ℕ) (wait : Bool) (b : Act) → In b (acts_in (elim (manager_number c name) [ Some m ↦ with_manager_off c m s | None ↦ s ])) → EndFrom c s (Some (Manager name (DeactivateAll true wait))) b
   off_from name wait b =
@@ -186,20 +182,6 @@ module _ (c : Config) (run : ℕ) (s : Standing) where
   admitted_from r (Some key) (Answer x) b there = kept c s None (λ a. refl) b there
   admitted_from r (Some key) Wait b there = kept c s None (λ a. refl) b there
 
-  acts_fewer : (r : Option ℕ) → (without_flight r s).acts ≡ s.acts
-  acts_fewer None = refl
-  acts_fewer (Some r) = refl
-
-  acts_child : (p : Option (List (List ℕ))) (t : Standing) → (with_child p t).acts ≡ t.acts
-  acts_child None t = refl
-  acts_child (Some p) t = refl
-
-  acts_tried : (r : Option ℕ) (answer : Attempt) → (with_tried r answer s).acts ≡ s.acts
-  acts_tried r (Yes n) = acts_child (child_tried s.flights r) (without_flight r s) ∙ acts_fewer r
-  acts_tried r No = acts_fewer r
-  acts_tried r Raised = acts_fewer r
-  acts_tried r ParentDying = acts_fewer r
-
   come_from : (n : ℕ) (phase : Phase) (b : Act) → In b (map (at_number n (come_to phase)) s.acts) → EndFrom c s None b
   come_from n phase b there =
       one_from c s None (λ a. refl) n (come_to phase)
@@ -245,10 +227,10 @@ module _ (c : Config) (run : ℕ) (s : Standing) where
       by_call (Some (Request head target operation body)) at = message (ap command_in at)
       by_call (Some (Locate head target)) at = message (ap command_in at)
       by_call (Some (Line number command)) at = line (ap key_in at)
-  changed_from past (Tried w answer) b there = kept c s None (λ a. refl) b (subst (λ as'. In b as') (acts_tried (arrival_in (stage past w)) answer) there)
+  changed_from past (Tried w answer) b there = kept c s None (λ a. refl) b (subst (λ as'. In b as') (acts_tried s (arrival_in (stage past w)) answer) there)
   changed_from past (Incarnated w answer) b there = incarnated_from (stage past w) answer b there
   changed_from past (Run w) b there = kept c s None (λ a. refl) b there
-  changed_from past (Done w) b there = kept c s None (λ a. refl) b (subst (λ as'. In b as') (acts_fewer (arrival_in (stage past w))) there)
+  changed_from past (Done w) b there = kept c s None (λ a. refl) b (subst (λ as'. In b as') (acts_fewer s (arrival_in (stage past w))) there)
   changed_from past (TakeOut w n x) b there = one_from c s None (λ a. refl) n (λ a. record a { out = true; remaining = is_elsewhere s.acts a }) (λ a. (refl, refl, refl, refl, refl, refl)) b there
   changed_from past (Etherealized w x y) b there = etherealized_from (stage past w) b there
   changed_from past (Abandon w) b there = kept c s None (λ a. refl) b there

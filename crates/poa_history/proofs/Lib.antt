@@ -8,6 +8,7 @@ pub mod CommandMoves
 pub mod TrialMoves
 pub mod IdsMade
 pub mod StepMoves
+pub mod Untouched
 pub mod ActsLater
 pub mod KeysSpelled
 pub mod TurnTells

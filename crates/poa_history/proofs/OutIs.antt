@@ -1,7 +1,7 @@
 -- An activation is out exactly where it was taken out, or has run out in an adapter without a servant activator.
-use Rattle.std.specs.Prelude.{◌≡◌, ℕ, ◌<◌, Bool, true, false, not, ◌&&◌, ◌||◌, ◌==◌, if◌then◌else◌, List, [], ◌∷◌, length, Option, Some, None, ◌⊎◌, refl}
+use Rattle.std.specs.Prelude.{◌≡◌, ℕ, ◌<◌, Bool, true, false, not, ◌&&◌, ◌||◌, ◌==◌, if◌then◌else◌, List, [], ◌∷◌, length, ◌⊎◌, refl}
 use Rattle.std.proofs.Common.{inl, inr, sym, subst, ap, ap₂, ◌∙◌, arith}
-use Rattle.std.proofs.lemmas.Bool.{cond_both, and_parts, or_cases, true≢false, false_from_ne_true, eqb-true, eq-eqb}
+use Rattle.std.proofs.lemmas.Bool.{cond_both, and_parts, or_cases, true≢false, eqb-true, eq-eqb}
 use Rattle.poa_base.specs.declared.Config.{Config}
 use Rattle.poa_base.specs.declared.Sid.{Sid}
 use Rattle.poa_base.specs.declared.Entry.{Entry}
@@ -22,14 +22,13 @@ use Rattle.poa_history.specs.Alone.{IsGivenAlone}
 use Rattle.poa_history.specs.Out.{was_taken, has_run_out}
 use Rattle.poa_tree.proofs.Members.{in_image, image_in}
 use Rattle.poa_history.proofs.SettledKept.{not_false}
-use Rattle.poa_history.proofs.GoneIs.{any_in}
 use Rattle.poa_history.proofs.ActsLater.{later_let_out}
 use Rattle.poa_history.proofs.TurnTells.{takeout_is}
 use Rattle.poa_history.proofs.ActsFrom.{stood, begun, act_from}
 use Rattle.poa_history.proofs.AloneKept.{all_open}
 use Rattle.poa_history.proofs.EndingsAre.{more_acts}
 use Rattle.poa_history.proofs.LegalSound.{legal_sound}
-use Rattle.poa_history.proofs.MannedKept.{all_manned}
+use Rattle.poa_history.proofs.MannedKept.{out_unused, all_manned}
 
 -- two tests that say the same
 same_test : (x y : Bool) → (x ≡ true → y ≡ true) → (y ≡ true → x ≡ true) → x ≡ y
@@ -158,19 +157,6 @@ module _ (c : Config) (run limit : ℕ) (given : IsGiven c run) (alone : IsGiven
         ]
       ]
 
-  -- in what is out nothing is in flight
-  out_unused : (h : List Entry) → IsLegal c run limit h → (a : Act) → In a (standing c run h).acts → a.out ≡ true → is_used (standing c run h).flights a.number ≡ false
-  out_unused h legal a there out =
-      false_from_ne_true (is_used (standing c run h).flights a.number) (λ used.
-      let held = all_manned c run limit h given alone within legal in
-      let f = any_in (λ g. elim g.activation [ Some m ↦ m == a.number | None ↦ false ]) (standing c run h).flights used in
-      let b = held.activations f.0 a.number f.1 (activation_is f.0.activation f.2) in
-      true≢false (sym out ∙ (ap (λ x. x.out) ((legal_sound c run limit h given within legal).act_alone a b.0 there b.1 (sym b.2)) ∙ b.4)))
-    where
-      activation_is : (o : Option ℕ) → (elim o [ Some m ↦ m == a.number | None ↦ false ]) ≡ true → o ≡ Some a.number
-      activation_is (Some m) is = ap (λ x. Some x) (eqb-true m a.number is)
-      activation_is None is = absurd (let e : false ≡ true = is in cc)
-
   pub out_run_out : (h : List Entry) → IsLegal c run limit h → (a : Act) → In a (standing c run h).acts → has_activator c a.path ≡ false → a.out ≡ has_run_out (standing c run h) a
   out_run_out h legal a there none = same_test a.out (has_run_out (standing c run h) a) (forth h legal a there) (back h legal a there none)
     where
@@ -178,7 +164,7 @@ module _ (c : Config) (run limit : ℕ) (given : IsGiven c run) (alone : IsGiven
       forth h legal a there out =
           let complete = out_complete h legal a there out in
           ap₂ (λ x y. x && y) complete
-          (ap₂ (λ x y. x && y) (ending_by a complete ((all_manned c run limit h given alone within legal).out_ending a there out)) (not_false (is_used (standing c run h).flights a.number) (out_unused h legal a there out)))
+          (ap₂ (λ x y. x && y) (ending_by a complete ((all_manned c run limit h given alone within legal).out_ending a there out)) (not_false (is_used (standing c run h).flights a.number) (out_unused c run h (all_manned c run limit h given alone within legal) (legal_sound c run limit h given within legal) a there out)))
 
       back : (h : List Entry) → IsLegal c run limit h → (a : Act) → In a (standing c run h).acts → has_activator c a.path ≡ false → has_run_out (standing c run h) a ≡ true → a.out ≡ true
       back [] legal a there none over =
