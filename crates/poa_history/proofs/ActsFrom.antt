@@ -14,8 +14,6 @@ use Rattle.poa_base.specs.declared.Verdict.{Verdict}
 use Rattle.poa_base.specs.declared.Verdict.TheVariants.{Serve, Preset, Locator, Incarnate, Try, Refuse, Forward, Addressing, Here, Unknown, Answer, Wait}
 use Rattle.poa_base.specs.declared.Entry.{Entry}
 use Rattle.poa_base.specs.declared.Entry.TheVariants.{Entered, Arrive, Filled, Left, Collect, Admit, Tried, Incarnated, Run, Done, TakeOut, Etherealized, Abandon}
-use Rattle.poa_base.specs.declared.Attempt.{Attempt}
-use Rattle.poa_base.specs.declared.Attempt.TheVariants.{Yes, No, Raised, Dying as ParentDying}
 use Rattle.poa_base.specs.declared.Incarnation.{Incarnation}
 use Rattle.poa_base.specs.declared.Incarnation.TheVariants.{Fresh, Named, Double, Forward as ForwardTo, Raise}
 use Rattle.poa_tree.specs.declared.node.Node.{Node}
@@ -36,13 +34,12 @@ use Rattle.poa_history.specs.Keys.{key_in}
 use Rattle.poa_history.specs.Logs.{is_accepted, command_in, command_done}
 use Rattle.poa_history.specs.Opening.{with_act, made_id, number_at}
 use Rattle.poa_history.specs.Commands.{is_implicit, live_at}
-use Rattle.poa_history.specs.Changes.{standing, changed, with_admitted, ended_by_destroy, with_manager_off, servant_of, with_made_act, with_reference, with_command, child_tried, with_child, without_flight, with_tried, at_number, come_to, with_incarnated, is_elsewhere, with_etherealized}
+use Rattle.poa_history.specs.Changes.{standing, changed, with_admitted, ended_by_destroy, with_manager_off, servant_of, with_made_act, with_reference, with_command, at_number, come_to, with_incarnated, is_elsewhere, with_etherealized}
 use Rattle.poa_history.specs.Later.{IsLater}
 use Rattle.poa_tree.proofs.Members.{in_either, in_image}
 use Rattle.poa_history.proofs.ActsLater.{begun_phase, later_self, later_through, later_ended, later_ending, later_out, later_told, later_come, later_let_out}
-
-abbrev acts_in : Standing → List Act
-acts_in s = s.acts
+use Rattle.poa_history.proofs.SettledKept.{not_true}
+use Rattle.poa_history.proofs.Untouched.{acts_in, acts_fewer, acts_tried}
 
 -- what an activation comes to by the answer of its incarnation
 abbrev pub phase_by : Config → ℕ → Incarnation → Phase
@@ -70,7 +67,7 @@ module _ (c : Config) (run : ℕ) (past : List Entry) (s : Standing) (e : Entry)
 
   -- without an activator it leaves the map, as nothing is in flight in it
   abbrev pub Leaves : Act → Type 0
-  Leaves b = (has_activator c b.path ≡ false) × (b.ending ≡ true) × (is_used (changed c run past e s).flights b.number ≡ false)
+  Leaves b = (has_activator c b.path ≡ false) × (b.ending ≡ true) × (is_used (changed c run past e s).flights b.number ≡ false) × (is_complete b ≡ true)
 
   -- the activation is changed by the entry into this
   pub record IsStep (a b : Act) : Type 0 where
@@ -88,11 +85,7 @@ module _ (c : Config) (run : ℕ) (past : List Entry) (s : Standing) (e : Entry)
 
   step_ended : (etherealize : Bool) (a : Act) → IsStep a (ended_by_destroy etherealize a)
   step_ended etherealize a = step_flags a (ended_by_destroy etherealize a) (later_ended c etherealize a) refl refl refl
-      (λ is. elim (or_cases a.quiet (not a.ending && not etherealize) is) [ inl was ↦ inl was | inr first ↦ inr (not_back a.ending (and_parts (not a.ending) (not etherealize) first).0) ])
-    where
-      not_back : (x : Bool) → not x ≡ true → x ≡ false
-      not_back true is = absurd (let f : false ≡ true = is in cc)
-      not_back false is = refl
+      (λ is. elim (or_cases a.quiet (not a.ending && not etherealize) is) [ inl was ↦ inl was | inr first ↦ inr (not_true a.ending (and_parts (not a.ending) (not etherealize) first).0) ])
 
   step_ending : (a : Act) → IsStep a (record a { ending = true })
   step_ending a = step_flags a (record a { ending = true }) (later_ending c a) refl refl refl (λ is. inl is)
@@ -124,16 +117,12 @@ module _ (c : Config) (run : ℕ) (past : List Entry) (s : Standing) (e : Entry)
       })
       (λ _ _. step) (later_let_out c (changed c run past e s) b)
     where
-      not_back : (x : Bool) → not x ≡ true → x ≡ false
-      not_back true is = absurd (let f : false ≡ true = is in cc)
-      not_back false is = refl
-
       leaves : is_left c (changed c run past e s) b ≡ true → Leaves b
       leaves left =
           let parts = and_parts (not (has_activator c b.path)) (is_complete b && (is_ending b && not (is_used (changed c run past e s).flights b.number))) left in
           let ends = and_parts (is_complete b) (is_ending b && not (is_used (changed c run past e s).flights b.number)) parts.1 in
           let unused = and_parts (is_ending b) (not (is_used (changed c run past e s).flights b.number)) ends.1 in
-          (not_back (has_activator c b.path) parts.0, (and_parts b.ending (not (is_void b)) unused.0).0, not_back (is_used (changed c run past e s).flights b.number) unused.1)
+          (not_true (has_activator c b.path) parts.0, (and_parts b.ending (not (is_void b)) unused.0).0, not_true (is_used (changed c run past e s).flights b.number) unused.1, ends.0)
 
   -- how the entry begins an activation
   pub data BegunBy (b : Act) : Type 0 where
@@ -233,20 +222,6 @@ module _ (c : Config) (run : ℕ) (past : List Entry) (s : Standing) (e : Entry)
   from_admitted w r (Some key) (Answer x) is has b there = as_before b there
   from_admitted w r (Some key) Wait is has b there = as_before b there
 
-  acts_fewer : (r : Option ℕ) → (without_flight r s).acts ≡ s.acts
-  acts_fewer None = refl
-  acts_fewer (Some r) = refl
-
-  acts_child : (p : Option (List (List ℕ))) (t : Standing) → (with_child p t).acts ≡ t.acts
-  acts_child None t = refl
-  acts_child (Some p) t = refl
-
-  acts_tried : (r : Option ℕ) (answer : Attempt) → (with_tried r answer s).acts ≡ s.acts
-  acts_tried r (Yes n) = acts_child (child_tried s.flights r) (without_flight r s) ∙ acts_fewer r
-  acts_tried r No = acts_fewer r
-  acts_tried r Raised = acts_fewer r
-  acts_tried r ParentDying = acts_fewer r
-
   come_from : (w r n : ℕ) (answer : Incarnation) (phase : Phase) → e ≡ Incarnated w answer → stage past w ≡ Incarnating r n → phase_by c n answer ≡ phase → (b : Act) → In b (map (at_number n (come_to phase)) s.acts) → ActFrom b
   come_from w r n answer phase is at comes =
       mapped_from (at_number n (come_to phase))
@@ -299,10 +274,10 @@ module _ (c : Config) (run : ℕ) (past : List Entry) (s : Standing) (e : Entry)
       by_call (Some (Request head target operation body)) at = message (Some (Request head target operation body)) at refl
       by_call (Some (Locate head target)) at = message (Some (Locate head target)) at refl
       by_call (Some (Line number command)) at = line (Some (Line number command)) at refl
-  from_changed (Tried w answer) is b there = as_before b (subst (λ as'. In b as') (acts_tried (arrival_in (stage past w)) answer) there)
+  from_changed (Tried w answer) is b there = as_before b (subst (λ as'. In b as') (acts_tried s (arrival_in (stage past w)) answer) there)
   from_changed (Incarnated w answer) is b there = from_incarnated w (stage past w) answer is refl b there
   from_changed (Run w) is b there = as_before b there
-  from_changed (Done w) is b there = as_before b (subst (λ as'. In b as') (acts_fewer (arrival_in (stage past w))) there)
+  from_changed (Done w) is b there = as_before b (subst (λ as'. In b as') (acts_fewer s (arrival_in (stage past w))) there)
   from_changed (TakeOut w n etherealize) is b there =
       mapped_from (at_number n (λ a. record a { out = true; remaining = is_elsewhere s.acts a }))
       (λ a. step_where (λ x. x.number == n) (λ x. record x { out = true; remaining = is_elsewhere s.acts x }) a (λ same. step_out a (is_elsewhere s.acts a) (w, etherealize, is ∙ ap (λ m. TakeOut w m etherealize) (sym (eqb-true a.number n same))))) b there

@@ -46,7 +46,7 @@ use Rattle.poa_history.specs.Bounds.{IsWithinLimits}
 use Rattle.poa_history.specs.Alone.{RunsAlone, ChangesAlone, IsMappedAlone, OwnsFresh, StandsAlone, IsGivenAlone}
 use Rattle.poa_tree.proofs.Members.{in_either}
 use Rattle.poa_tree.proofs.Finding.{find_in}
-use Rattle.poa_history.proofs.SettledKept.{any_by, or_first, or_second}
+use Rattle.poa_history.proofs.SettledKept.{any_by, not_true, or_first, or_second}
 use Rattle.poa_history.proofs.CommandMoves.{live_tells, number_live}
 use Rattle.poa_history.proofs.TurnTells.{IsAdmission, admission_is, takeout_is, incarnation_is}
 use Rattle.poa_history.proofs.TableRuns.{is_run}
@@ -200,13 +200,9 @@ module _ (c : Config) (run limit : ℕ) (past : List Entry) (e : Entry) (may : M
       let it = takeout_is c run past w a.number etherealize (subst (λ x. MayFollow c run limit past x) same may) in
       let whose : it.it ≡ a = sound.act_alone it.it a it.there is it.numbered in
       let still : is_changing c s.acts it.it.adapter ≡ false =
-      not_back (is_changing c s.acts it.it.adapter) (and_parts (not (is_used s.flights it.it.number)) (not (is_changing c s.acts it.it.adapter)) (and_parts (is_complete it.it && (is_ending it.it && (has_activator c it.it.path && not it.it.out))) (not (is_used s.flights it.it.number) && not (is_changing c s.acts it.it.adapter)) it.due).1).1 in
+      not_true (is_changing c s.acts it.it.adapter) (and_parts (not (is_used s.flights it.it.number)) (not (is_changing c s.acts it.it.adapter)) (and_parts (is_complete it.it && (is_ending it.it && (has_activator c it.it.path && not it.it.out))) (not (is_used s.flights it.it.number) && not (is_changing c s.acts it.it.adapter)) it.due).1).1 in
       true≢false (sym (changing_by b it.it.adapter is' (sym at ∙ ap (λ x. x.adapter) (sym whose)) changing) ∙ still)
     where
-      not_back : (x : Bool) → not x ≡ true → x ≡ false
-      not_back true is = absurd (let f : false ≡ true = is in cc)
-      not_back false is = refl
-
       changing_by : (x : Act) (k : ℕ) → In x s.acts → x.adapter ≡ k → is_unfinished c x ≡ true → is_changing c s.acts k ≡ true
       changing_by x k there same changing' = any_by (λ y. (y.adapter == k) && is_unfinished c y) x s.acts there (ap₂ (λ y z. y && z) (eq-eqb x.adapter k same) changing')
 
@@ -397,18 +393,15 @@ module _ (c : Config) (run limit : ℕ) (past : List Entry) (e : Entry) (may : M
 -- at opening
 module _ (c : Config) (run : ℕ) where
   abbrev Opens : Act → Type 0
-  Opens a = (a.out ≡ false) × ((k : ℕ) × (a.phase ≡ Complete (NamedServant k))) × (a.etherealized ≡ false)
+  Opens a = (a.out ≡ false) × ((k : ℕ) × (a.phase ≡ Complete (NamedServant k))) × (a.etherealized ≡ false) × (a.ending ≡ false) × (a.quiet ≡ false)
 
   abbrev AllOpen : Standing → Type 0
   AllOpen s = (a : Act) → In a s.acts → Opens a
 
-  abbrev acts_in : Standing → List Act
-  acts_in s = s.acts
-
   act_opens : (k : ℕ) (p : List (List ℕ)) (oid : List ℕ) (j : ℕ) (s : Standing) → AllOpen s → AllOpen (with_act k p oid (Complete (NamedServant j)) s)
   act_opens k p oid j s all a there =
       elim (in_either a (record { number = length s.acts; adapter = k; path = p; oid = oid; phase = Complete (NamedServant j); ending = false; quiet = false; out = false; cleanup = false; remaining = false; etherealized = false }) s.acts there)
-      [ inl was ↦ all a was | inr made ↦ (ap (λ x. x.out) made, (j, ap (λ x. x.phase) made), ap (λ x. x.etherealized) made) ]
+      [ inl was ↦ all a was | inr made ↦ (ap (λ x. x.out) made, (j, ap (λ x. x.phase) made), ap (λ x. x.etherealized) made, ap (λ x. x.ending) made, ap (λ x. x.quiet) made) ]
 
   object_opens : (o : ObjectConf) (s : Standing) → AllOpen s → AllOpen (with_object run o s)
   object_opens o s all =

@@ -22,9 +22,7 @@ use Rattle.poa_history.specs.Destroyed.{destroys, was_destroyed}
 use Rattle.poa_tree.proofs.Members.{in_either}
 use Rattle.poa_history.proofs.NodesFrom.{stood, new, node_before, count_from}
 use Rattle.poa_history.proofs.LegalSound.{legal_sound}
-
-abbrev nodes_in : Standing → List Node
-nodes_in s = s.nodes
+use Rattle.poa_history.proofs.Untouched.{nodes_in}
 
 module _ (c : Config) (run : ℕ) where
   abbrev NoneDying : Standing → Type 0

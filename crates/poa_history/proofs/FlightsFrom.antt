@@ -27,8 +27,9 @@ use Rattle.poa_tree.specs.Trees.{In}
 use Rattle.poa_history.specs.Keys.{key_in}
 use Rattle.poa_history.specs.Logs.{command_done}
 use Rattle.poa_history.specs.Commands.{is_implicit, live_at}
-use Rattle.poa_history.specs.Changes.{changed, with_admitted, with_made_act, with_manager_off, with_command, child_tried, with_child, without_flight, with_tried, with_incarnated, with_etherealized}
+use Rattle.poa_history.specs.Changes.{changed, with_admitted, with_made_act, with_manager_off, with_command, child_tried, without_flight, with_tried, with_incarnated, with_etherealized}
 use Rattle.poa_tree.proofs.Members.{in_either, in_kept}
+use Rattle.poa_history.proofs.Untouched.{flights_in, flights_child}
 
 -- the flight that an Admit begins
 abbrev pub flight_for : Standing → ℕ → Key → Verdict → Option Flight
@@ -42,9 +43,6 @@ flight_for s r key verdict = None
 pub data FlightFrom (past : List Entry) (e : Entry) (s : Standing) (f : Flight) : Type 0 where
   flew : In f s.flights → FlightFrom past e s f
   begins : (w r : ℕ) (v : Verdict) (key : Key) → e ≡ Admit w r v → key_in (call_of past r) ≡ Some key → flight_for s r key v ≡ Some f → FlightFrom past e s f
-
-abbrev pub flights_in : Standing → List Flight
-flights_in s = s.flights
 
 -- commands leave what is in flight
 pub flights_command : (c : Config) (run : ℕ) (command : Option Command) (s : Standing) → (with_command c run command s).flights ≡ s.flights
@@ -97,10 +95,6 @@ module _ (past : List Entry) (s : Standing) where
   pub was_flying : (r : Option ℕ) (f : Flight) → In f (without_flight r s).flights → In f s.flights
   was_flying None f there = there
   was_flying (Some r) f there = (in_kept (λ g. not (g.arrival == r)) f s.flights there).0
-
-  flights_child : (p : Option (List (List ℕ))) (t : Standing) → (with_child p t).flights ≡ t.flights
-  flights_child None t = refl
-  flights_child (Some p) t = refl
 
   from_tried : (r : Option ℕ) (answer : Attempt) (f : Flight) → In f (with_tried r answer s).flights → In f s.flights
   from_tried r (Yes n) f there = was_flying r f (subst (λ fs. In f fs) (flights_child (child_tried s.flights r) (without_flight r s)) there)

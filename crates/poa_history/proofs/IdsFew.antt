@@ -42,7 +42,8 @@ use Rattle.poa_history.specs.Bounds.{IsWithinLimits, HasFewIds}
 use Rattle.poa_tree.proofs.Finding.{find_in}
 use Rattle.poa_history.proofs.SettledKept.{or_first}
 use Rattle.poa_history.proofs.TurnTells.{IsAdmission, IsTrial, admission_is, trial_is}
-use Rattle.poa_history.proofs.FlightsFrom.{flights_in, flight_for, flew, begins, flight_from}
+use Rattle.poa_history.proofs.FlightsFrom.{flight_for, flew, begins, flight_from}
+use Rattle.poa_history.proofs.Untouched.{made_in, flights_in}
 
 -- counts
 abbrev one_if : Bool → ℕ
@@ -251,9 +252,6 @@ module _ (c : Config) (run limit : ℕ) (past : List Entry) where
   counted (TakeOut w n x) may messages = as_before (done_count past) (done_count (TakeOut w n x ∷ past)) refl
   counted (Etherealized w x y) may messages = as_before (done_count past) (done_count (Etherealized w x y ∷ past)) refl
   counted (Abandon w) may messages = as_before (done_count past) (done_count (Abandon w ∷ past)) refl
-
-abbrev made_in : Standing → ℕ
-made_in s = s.made
 
 -- how many ids an entry makes
 module _ (c : Config) (run : ℕ) where

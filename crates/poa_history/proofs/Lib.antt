@@ -8,6 +8,7 @@ pub mod CommandMoves
 pub mod TrialMoves
 pub mod IdsMade
 pub mod StepMoves
+pub mod Untouched
 pub mod ActsLater
 pub mod KeysSpelled
 pub mod TurnTells
@@ -27,3 +28,5 @@ pub mod StagesFrom
 pub mod MannedKept
 pub mod LivesKept
 pub mod GoneStays
+pub mod EndingsAre
+pub mod OutIs

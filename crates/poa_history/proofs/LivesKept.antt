@@ -35,7 +35,7 @@ use Rattle.poa_history.specs.Ends.{is_over, let_out}
 use Rattle.poa_history.specs.Keys.{key_in}
 use Rattle.poa_history.specs.Logs.{is_accepted, command_in, command_done}
 use Rattle.poa_history.specs.Commands.{is_implicit, live_at}
-use Rattle.poa_history.specs.Changes.{standing, changed, with_admitted, with_made_act, with_manager_off, with_reference, with_command, child_tried, with_child, without_flight, with_tried, with_incarnated, with_etherealized}
+use Rattle.poa_history.specs.Changes.{standing, changed, with_admitted, with_made_act, with_manager_off, with_reference, with_command, without_flight, with_tried, with_incarnated, with_etherealized}
 use Rattle.poa_history.specs.Situations.{is_changing}
 use Rattle.poa_history.specs.Turns.{act_numbered}
 use Rattle.poa_history.specs.Legal.{MayFollow, IsLegal}
@@ -47,7 +47,6 @@ use Rattle.poa_history.specs.Lifetime.{IsServable, IsRemovable, IsEtherealizable
 use Rattle.poa_tree.proofs.Finding.{find_in, find_none}
 use Rattle.poa_tree.proofs.Leading.{bytes_same}
 use Rattle.poa_history.proofs.SettledKept.{not_true}
-use Rattle.poa_history.proofs.GoneIs.{any_in}
 use Rattle.poa_history.proofs.ActsLater.{later_let_out}
 use Rattle.poa_history.proofs.ChangeSound.{MayMove}
 use Rattle.poa_history.proofs.StepMoves.{may_move}
@@ -57,7 +56,8 @@ use Rattle.poa_history.proofs.ActsFrom.{IsBegun, incarnating, activating, activa
 use Rattle.poa_history.proofs.CommandAnswers.{begin_keyed}
 use Rattle.poa_history.proofs.IdsFew.{has_ordinal}
 use Rattle.poa_history.proofs.LegalSound.{legal_sound}
-use Rattle.poa_history.proofs.MannedKept.{all_manned}
+use Rattle.poa_history.proofs.MannedKept.{out_unused, all_manned}
+use Rattle.poa_history.proofs.Untouched.{acts_in, acts_tried}
 
 -- an element that a list gives is one of it
 got_in : {A : Type 0} (xs : List A) (i : ℕ) (x : A) → slice_get xs i ≡ Some x → In x xs
@@ -79,12 +79,9 @@ all_by P [] each = All-nil P
 all_by P (x ∷ xs) each = All-cons P x xs (each x (inl refl)) (all_by P xs (λ y there. each y (inr there)))
 
 -- an entry begins one activation at most, with the next number
-data Shape (before after : List Act) : Type 0 where
+pub data Shape (before after : List Act) : Type 0 where
   as_many : length after ≡ length before → Shape before after
   one_more : (b : Act) → b.number ≡ length before → after ≡ before ++ b ∷ [] → Shape before after
-
-abbrev acts_in : Standing → List Act
-acts_in s = s.acts
 
 module _ (c : Config) (run : ℕ) where
   mapped_shape : (s : Standing) (f : Act → Act) → Shape s.acts (map f s.acts)
@@ -141,16 +138,8 @@ module _ (c : Config) (run : ℕ) where
   fewer_shape s None = as_many refl
   fewer_shape s (Some r) = as_many refl
 
-  acts_fewer : (s : Standing) (r : Option ℕ) → (without_flight r s).acts ≡ s.acts
-  acts_fewer s None = refl
-  acts_fewer s (Some r) = refl
-
-  acts_child : (s : Standing) (p : Option (List (List ℕ))) → (with_child p s).acts ≡ s.acts
-  acts_child s None = refl
-  acts_child s (Some p) = refl
-
   tried_shape : (s : Standing) (r : Option ℕ) (answer : Attempt) → Shape s.acts (with_tried r answer s).acts
-  tried_shape s r (Yes n) = as_many (ap length (acts_child (without_flight r s) (child_tried s.flights r) ∙ acts_fewer s r))
+  tried_shape s r (Yes n) = as_many (ap length (acts_tried s r (Yes n)))
   tried_shape s r No = fewer_shape s r
   tried_shape s r Raised = fewer_shape s r
   tried_shape s r ParentDying = fewer_shape s r
@@ -185,7 +174,7 @@ module _ (c : Config) (run : ℕ) where
   admit_shape past s w r v (Some (Line number command)) at =
       subst (λ k. Shape s.acts (with_command c run (command_done past (Admit w r v)) (with_admitted r k v s)).acts) (sym (ap key_in at)) (command_shape s (command_done past (Admit w r v)))
 
-  changed_shape : (past : List Entry) (s : Standing) (e : Entry) → Shape s.acts (changed c run past e s).acts
+  pub changed_shape : (past : List Entry) (s : Standing) (e : Entry) → Shape s.acts (changed c run past e s).acts
   changed_shape past s (Entered conn) = as_many refl
   changed_shape past s (Arrive conn size call) = as_many refl
   changed_shape past s (Filled conn size) = as_many refl
@@ -301,22 +290,10 @@ module _ (c : Config) (run limit : ℕ) (past : List Entry) (e : Entry) (may : M
         out = ap (λ x. x.out) (sym same) ∙ holds.3;
         loud = ap (λ x. x.quiet) (sym same) ∙ holds.4;
         first = ap (λ x. x.etherealized) (sym same) ∙ holds.5;
-        unused = unused_out it.number it.it there.0 (eqb-true it.it.number it.number there.1) (ap (λ x. x.out) (sym same) ∙ holds.3);
+        unused = ap (is_used s.flights) (sym (eqb-true it.it.number it.number there.1)) ∙ out_unused c run past held_ sound it.it there.0 (ap (λ x. x.out) (sym same) ∙ holds.3);
         cleanup_is = sym it.cleanup_is;
         remaining_is = sym it.remaining_is;
       }
-    where
-      -- in what is out nothing is in flight
-      unused_out : (n : ℕ) (a : Act) → In a s.acts → a.number ≡ n → a.out ≡ true → is_used s.flights n ≡ false
-      unused_out n a there at out =
-          false_from_ne_true (is_used s.flights n) (λ used.
-          let f = any_in (λ g. elim g.activation [ Some m ↦ m == n | None ↦ false ]) s.flights used in
-          let b = held_.activations f.0 n f.1 (activation_is f.0.activation f.2) in
-          true≢false (sym out ∙ (ap (λ x. x.out) (sound.act_alone a b.0 there b.1 (at ∙ sym b.2)) ∙ b.4)))
-        where
-          activation_is : (o : Option ℕ) → (elim o [ Some m ↦ m == n | None ↦ false ]) ≡ true → o ≡ Some n
-          activation_is (Some m) is' = ap (λ x. Some x) (eqb-true m n is')
-          activation_is None is' = absurd (let f : false ≡ true = is' in cc)
 
   keeps : (x : Entry) → e ≡ x → KeepsLives c run past x
   keeps (Run w) is = λ r n at names. lives_run w r n at names

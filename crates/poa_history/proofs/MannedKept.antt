@@ -38,10 +38,11 @@ use Rattle.poa_history.specs.InFlight.{named, IsFlying, IsRunning, Holds, IsMann
 use Rattle.poa_tree.proofs.Members.{in_back, image_in}
 use Rattle.poa_history.proofs.SettledKept.{any_by, not_true}
 use Rattle.poa_history.proofs.ActsLater.{step_later, later_let_out}
-use Rattle.poa_history.proofs.TurnTells.{IsAdmission, IsIncarnation, admission_is, incarnation_is, run_is, takeout_is}
+use Rattle.poa_history.proofs.TurnTells.{IsIncarnation, admission_is, incarnation_is, run_is, takeout_is}
 use Rattle.poa_history.proofs.Served.{served_by, active, preset, located, incarnated as begun_served}
 use Rattle.poa_history.proofs.FlightsFrom.{flight_for, flew, begins, flight_from}
 use Rattle.poa_history.proofs.ActsFrom.{phase_by, TakesOut, stood as act_stood, begun as act_begun, act_from}
+use Rattle.poa_history.proofs.GoneIs.{any_in}
 use Rattle.poa_history.proofs.IdsFew.{messages}
 use Rattle.poa_history.proofs.AloneKept.{brought_named, all_open}
 use Rattle.poa_history.proofs.CommandAnswers.{is_begin, begin_keyed}
@@ -160,9 +161,6 @@ module _ (c : Config) (run limit : ℕ) (past : List Entry) (e : Entry) (may : M
 
     admitted_now : (r : ℕ) (u : Verdict) → e ≡ Admit w r u → admitted (e ∷ past) r ≡ Some u
     admitted_now r u is = ap (λ y. admitted (y ∷ past) r) is ∙ own r (Some u) (admitted past r)
-
-    serves_by : (r : ℕ) (u : Verdict) (key : Key) → e ≡ Admit w r u → is_begin u ≡ true → key_in (call_of past r) ≡ Some key → IsAdmission c run past w r u
-    serves_by r u key is begins_ has = admission_is c run past w r u (as_this (Admit w r u) is)
 
     keyed : (r : ℕ) (u : Verdict) → e ≡ Admit w r u → is_begin u ≡ true → (key : Key) × (key_in (call_of past r) ≡ Some key)
     keyed r u is begins_ = begin_keyed c run past w r u begins_ (admission_is c run past w r u (as_this (Admit w r u) is)).told
@@ -584,3 +582,15 @@ module _ (c : Config) (run limit : ℕ) where
   all_manned [] given alone within legal = opens_manned
   all_manned (e ∷ past) given alone within legal =
       manned_step c run limit past e legal.0 (legal_sound c run limit past given within legal.1) (legal_sound c run limit (e ∷ past) given within legal) alone (all_manned past given alone within legal.1)
+
+-- in what is out nothing is in flight
+pub out_unused : (c : Config) (run : ℕ) (h : List Entry) → IsManned c run h → IsSound c run (standing c run h) → (a : Act) → In a (standing c run h).acts → a.out ≡ true → is_used (standing c run h).flights a.number ≡ false
+out_unused c run h held_ sound a there out =
+    false_from_ne_true (is_used (standing c run h).flights a.number) (λ used.
+    let f = any_in (λ g. elim g.activation [ Some m ↦ m == a.number | None ↦ false ]) (standing c run h).flights used in
+    let b = held_.activations f.0 a.number f.1 (activation_is f.0.activation f.2) in
+    true≢false (sym out ∙ (ap (λ x. x.out) (sound.act_alone a b.0 there b.1 (sym b.2)) ∙ b.4)))
+  where
+    activation_is : (o : Option ℕ) → (elim o [ Some m ↦ m == a.number | None ↦ false ]) ≡ true → o ≡ Some a.number
+    activation_is (Some m) is = ap (λ x. Some x) (eqb-true m a.number is)
+    activation_is None is = absurd (let e : false ≡ true = is in cc)

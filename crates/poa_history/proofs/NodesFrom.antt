@@ -33,18 +33,12 @@ use Rattle.poa_history.specs.Changes.{standing, changed, with_admitted, with_mad
 use Rattle.poa_history.specs.Destroyed.{destroys}
 use Rattle.poa_tree.proofs.Members.{in_either, in_image, in_kept}
 use Rattle.poa_tree.proofs.TreeKept.{marked_number, marked_path}
+use Rattle.poa_history.proofs.Untouched.{nodes_in, count_in}
 
 pub data NodeFrom (s : Standing) (command : Option Command) (n : Node) : Type 0 where
   -- it is dying where the command destroys it, or it was
   stood : (m : Node) → In m s.nodes → n.number ≡ m.number → n.path ≡ m.path → n.dying ≡ (destroys m.path command || m.dying) → NodeFrom s command n
   new : n.number ≡ s.count → n.dying ≡ false → NodeFrom s command n
-
--- what stands by number: nodes and how many were made
-abbrev nodes_in : Standing → List Node
-nodes_in s = s.nodes
-
-abbrev count_in : Standing → ℕ
-count_in s = s.count
 
 abbrev dying_in : Node → Bool
 dying_in n = n.dying

@@ -22,7 +22,7 @@ use Rattle.poa_tree.specs.Walks.{walk, adapter_met, child_met}
 use Rattle.poa_tree.specs.Trees.{In}
 use Rattle.poa_history.specs.Keys.{key_in}
 use Rattle.poa_history.specs.Logs.{command_done}
-use Rattle.poa_history.specs.Changes.{standing, changed, with_admitted, without_flight, child_tried, with_child, with_tried, at_number, come_to, with_incarnated, with_etherealized}
+use Rattle.poa_history.specs.Changes.{standing, changed, with_admitted, without_flight, child_tried, with_tried, at_number, come_to, with_incarnated, with_etherealized}
 use Rattle.poa_history.specs.Legal.{MayFollow}
 use Rattle.poa_history.specs.InFlight.{Holds}
 use Rattle.poa_tree.proofs.Members.{in_front, in_back, in_kept, kept_in}
@@ -30,6 +30,7 @@ use Rattle.poa_history.proofs.TurnTells.{admission_is, trial_is, incarnation_is,
 use Rattle.poa_history.proofs.FlightsFrom.{flight_for, flights_command}
 use Rattle.poa_history.proofs.ActsFrom.{phase_by}
 use Rattle.poa_history.proofs.CommandAnswers.{is_begin}
+use Rattle.poa_history.proofs.Untouched.{flights_child}
 
 -- the worker that makes the entry
 abbrev pub maker : Entry → Option ℕ
@@ -81,10 +82,6 @@ stays_fewer s (Some q) f there other = kept_in (λ g. not (g.arrival == q)) f s.
 
 pub gone_fewer : (s : Standing) (q : ℕ) (f : Flight) → In f (without_flight (Some q) s).flights → f.arrival ≡ q → ⊥
 gone_fewer s q f there at = true≢false (sym (in_kept (λ g. not (g.arrival == q)) f s.flights there).1 ∙ ap not (eq-eqb f.arrival q at))
-
-pub flights_child : (p : Option (List (List ℕ))) (t : Standing) → (with_child p t).flights ≡ t.flights
-flights_child None t = refl
-flights_child (Some p) t = refl
 
 pub flights_tried : (s : Standing) (q : Option ℕ) (answer : Attempt) → (with_tried q answer s).flights ≡ (without_flight q s).flights
 flights_tried s q (Yes n) = flights_child (child_tried s.flights q) (without_flight q s)

@@ -17,7 +17,7 @@ use Rattle.poa_verdict.specs.declared.Choice.{Choice}
 use Rattle.poa_verdict.specs.declared.Choice.TheVariants.{Go, Held}
 use Rattle.poa_verdict.specs.declared.Facts.{Facts}
 use Rattle.poa_verdict.specs.declared.KeyFact.{KeyFact}
-use Rattle.poa_verdict.specs.declared.KeyFact.TheVariants.{Absent, Bad, OtherRun, Transient, Persistent}
+use Rattle.poa_verdict.specs.declared.KeyFact.TheVariants.{Absent, Bad, OtherRun}
 use Rattle.poa_verdict.specs.declared.Located.{Located}
 use Rattle.poa_verdict.specs.declared.Located.TheVariants.{Servant, Forward as Elsewhere, Raise, NoRule}
 use Rattle.poa_verdict.specs.declared.MapFact.{MapFact}
@@ -33,13 +33,6 @@ is_run (Preset name) = true
 is_run (Locator name) = true
 is_run (Incarnate n) = true
 is_run v = false
-
--- the target has a key of this server
-abbrev pub is_keyed : KeyFact → Bool
-is_keyed Absent = false
-is_keyed Bad = false
-is_keyed OtherRun = false
-is_keyed key = true
 
 module _ (f : Facts) (v : Verdict) where
   -- an activator is asked: the id is free, and nothing is changing in the adapter
@@ -130,34 +123,32 @@ module _ (f : Facts) (v : Verdict) where
     by_object = cond_both (is_retain f.policies.retention) _ _ (λ c. c ≡ Go v → Runs) (λ _. by_map f.slot refl) (λ loose. by_processing (inr loose) f.policies.processing refl)
 
     pub record RunsWhere (worker : ℕ) : Type 0 where
-      pub keyed : is_keyed f.key ≡ true
       pub found : f.walk ≡ Found
       pub request : f.locate ≡ false
       pub alone : awaits_turn f ≡ false
       pub mine : awaits_main f worker ≡ false
       pub how : RunsBy
 
-    by_thread : (worker : ℕ) → is_keyed f.key ≡ true → f.walk ≡ Found → thread_rows f worker ≡ Go v → RunsWhere worker
-    by_thread worker keyed found = cond_both (awaits_turn f) _ _ (λ c. c ≡ Go v → RunsWhere worker) (λ _. never_held _)
+    by_thread : (worker : ℕ) → f.walk ≡ Found → thread_rows f worker ≡ Go v → RunsWhere worker
+    by_thread worker found = cond_both (awaits_turn f) _ _ (λ c. c ≡ Go v → RunsWhere worker) (λ _. never_held _)
         (λ alone. cond_both (awaits_main f worker) _ _ (λ c. c ≡ Go v → RunsWhere worker) (λ _. never_held _)
-        (λ mine same. (let it = by_object same in record { keyed = keyed; found = found; request = it.0; alone = alone; mine = mine; how = it.1 })))
+        (λ mine same. (let it = by_object same in record { found = found; request = it.0; alone = alone; mine = mine; how = it.1 })))
 
     no_trial : {A : Type 0} → trial_rows f ≡ Go v → A
     no_trial {A} = cond_both f.trial _ _ (λ c. c ≡ Go v → A) (λ _. never_held _)
         (λ _. cond_both f.tries _ _ (λ c. c ≡ Go v → A) (λ _. never Try refl) (λ _. forwarded f.entry ObjectNotExist (omg 2)))
 
-    by_walk : (worker : ℕ) → is_keyed f.key ≡ true → (walk : WalkFact) → f.walk ≡ walk → walk_rows f worker walk ≡ Go v → RunsWhere worker
-    by_walk worker keyed Dying at = refused Transiently (omg 4)
-    by_walk worker keyed Missing at = cond_both (is_transient f.key) _ _ (λ c. c ≡ Go v → RunsWhere worker) (λ _. refused ObjectNotExist (own 2)) (λ _. through_state f.state (trial_rows f) no_trial)
-    by_walk worker keyed Found at = cond_both f.differs _ _ (λ c. c ≡ Go v → RunsWhere worker) (λ _. refused ObjectNotExist (own 2)) (λ _. through_state f.state (thread_rows f worker) (by_thread worker keyed at))
+    by_walk : (worker : ℕ) (walk : WalkFact) → f.walk ≡ walk → walk_rows f worker walk ≡ Go v → RunsWhere worker
+    by_walk worker Dying at = refused Transiently (omg 4)
+    by_walk worker Missing at = cond_both (is_transient f.key) _ _ (λ c. c ≡ Go v → RunsWhere worker) (λ _. refused ObjectNotExist (own 2)) (λ _. through_state f.state (trial_rows f) no_trial)
+    by_walk worker Found at = cond_both f.differs _ _ (λ c. c ≡ Go v → RunsWhere worker) (λ _. refused ObjectNotExist (own 2)) (λ _. through_state f.state (thread_rows f worker) (by_thread worker at))
 
-    by_key : (worker : ℕ) (key : KeyFact) → f.key ≡ key → key_rows f worker key ≡ Go v → RunsWhere worker
-    by_key worker Absent at = never Addressing refl
-    by_key worker Bad at = refused ObjectNotExist (own 1)
-    by_key worker OtherRun at = refused ObjectNotExist (own 2)
-    by_key worker Transient at = by_walk worker (ap is_keyed at) f.walk refl
-    by_key worker Persistent at = by_walk worker (ap is_keyed at) f.walk refl
+    by_key : (worker : ℕ) (key : KeyFact) → key_rows f worker key ≡ Go v → RunsWhere worker
+    by_key worker Absent = never Addressing refl
+    by_key worker Bad = refused ObjectNotExist (own 1)
+    by_key worker OtherRun = refused ObjectNotExist (own 2)
+    by_key worker _ = by_walk worker f.walk refl
 
     pub runs_where : (worker : ℕ) → first_row f worker ≡ Go v → RunsWhere worker
     unfolding first_row
-    runs_where worker = cond_both f.crowded _ _ (λ c. c ≡ Go v → RunsWhere worker) (λ _. refused Transiently (omg 1)) (λ _. by_key worker f.key refl)
+    runs_where worker = cond_both f.crowded _ _ (λ c. c ≡ Go v → RunsWhere worker) (λ _. refused Transiently (omg 1)) (λ _. by_key worker f.key)

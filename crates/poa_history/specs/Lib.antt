@@ -23,5 +23,7 @@ pub mod Lifetime
 pub mod Sound
 pub mod Bounds
 pub mod Later
+pub mod Endings
+pub mod Out
 pub mod Destroyed
 pub mod Alone

@@ -10,7 +10,9 @@ ghost use Rattle.poa_history.specs.Alone.{IsGivenAlone, StandsAlone};
 ghost use Rattle.poa_history.specs.Bounds.{IsWithinLimits, HasFewIds};
 ghost use Rattle.poa_history.specs.Changes.{standing};
 ghost use Rattle.poa_history.specs.Legal.{IsLegal};
+ghost use Rattle.poa_history.specs.Endings.{was_ended, was_quieted};
 ghost use Rattle.poa_history.specs.Ends.{is_gone};
+ghost use Rattle.poa_history.specs.declared.act.Act.{Act};
 ghost use Rattle.poa_history.specs.Standings.{Standing};
 ghost use Rattle.poa_tree.specs.Paths.{is_root};
 ghost use Rattle.poa_history.specs.Destroyed.{was_destroyed, IsEnded, IsEmptied};
@@ -18,6 +20,8 @@ ghost use Rattle.poa_history.specs.InFlight.{IsManned};
 ghost use Rattle.poa_history.specs.Keys.{key_of};
 ghost use Rattle.poa_history.specs.Later.{AllLater};
 ghost use Rattle.poa_history.specs.Lifetime.{HasLifetime};
+ghost use Rattle.poa_history.specs.Out.{was_taken, has_run_out};
+ghost use Rattle.poa_history.specs.Templates.{has_activator};
 ghost use Rattle.poa_history.specs.Sound.{IsGiven, IsSound};
 
 /// What stands after a legal history is sound. Of one path at most one adapter stands, its parent stands
@@ -83,4 +87,19 @@ pub fn in_flight_has_its_worker()
 /// that, by the worker that took it out. CORBA 3.3 Part 1, sections 15.2.4 and 15.3.6.
 pub fn lifetimes_are_kept()
     ensures { (c : Config) (run limit : ℕ) (h : List Entry) → IsGiven c run → IsGivenAlone c run → IsWithinLimits c limit → IsLegal c run limit h → HasLifetime c run h }
+{}
+
+/// An activation is ending exactly where, since its begin, a command ended it: one that deactivates its id, that
+/// destroys its adapter or one above it, or that deactivates its manager so that a servant activator etherealizes.
+/// It is quiet exactly where the first of these was a destroy that etherealizes nothing.
+pub fn ended_are_ending()
+    ensures ending { (c : Config) (run limit : ℕ) → IsGiven c run → IsWithinLimits c limit → (h : List Entry) → IsLegal c run limit h → (a : Act) → In a (standing c run h).acts → a.ending ≡ was_ended c run h a }
+    ensures quiet { (c : Config) (run limit : ℕ) → IsGiven c run → IsWithinLimits c limit → (h : List Entry) → IsLegal c run limit h → (a : Act) → In a (standing c run h).acts → a.quiet ≡ was_quieted c run h a }
+{}
+
+/// Where its adapter has a servant activator, an activation is out exactly where an entry took it out. Where
+/// it has none, it is out exactly where it has a servant, is ending, and nothing is in flight in it.
+pub fn out_when_removed()
+    ensures taken { (c : Config) (run limit : ℕ) → IsGiven c run → IsGivenAlone c run → IsWithinLimits c limit → (h : List Entry) → IsLegal c run limit h → (a : Act) → In a (standing c run h).acts → has_activator c a.path ≡ true → a.out ≡ was_taken h a.number }
+    ensures left { (c : Config) (run limit : ℕ) → IsGiven c run → IsGivenAlone c run → IsWithinLimits c limit → (h : List Entry) → IsLegal c run limit h → (a : Act) → In a (standing c run h).acts → has_activator c a.path ≡ false → a.out ≡ has_run_out (standing c run h) a }
 {}
