@@ -1,10 +1,12 @@
 //! What an entry changes, and so what stands after a history.
-ghost use Rattle.std.specs.Prelude.{◌≡◌, ◌==◌, ◌&&◌, ℕ, Some, false, true, if◌then◌else◌, not, map, reverse, option_copied, IfOk, OnOk};
-ghost use Rattle.poa_base.specs.declared.Command.{Command};
-ghost use Rattle.poa_base.specs.declared.Entry.{Entry};
+ghost use Rattle.std.specs.Prelude.{◌≡◌, ◌==◌, ◌&&◌, ◌∷◌, ℕ, Some, None, false, true, if◌then◌else◌, not, map, reverse, option_copied, IfOk, OnOk};
 ghost use Rattle.poa_history.specs.declared.act.Phase.TheVariants.{Begun, Complete, Void};
+ghost use Rattle.poa_history.specs.Arrivals as calls;
 ghost use Rattle.poa_history.specs.Changes as changes;
+ghost use Rattle.poa_history.specs.Keys as keys;
+ghost use Rattle.poa_history.specs.Logs.{command_in, is_accepted};
 ghost use Rattle.poa_history.specs.Standings as stands;
+ghost use Rattle.poa_history.specs.Templates.{manager_number as number_of_manager};
 ghost use Rattle.standing_of.specs.Seen.{seen};
 
 use crate::acts::{has_servant, is_begun, is_mapped};
@@ -18,7 +20,9 @@ use crate::opening::{add_act, add_made, add_node, made_id, next, number_at, open
 use crate::standing::Standing;
 use crate::templates::{manager_number, servant_number};
 use crate::workers::{arrival_in, stage};
-use poa_base::{Attempt, Command, Config, Entry, Incarnation, Name, Order, Path, Sid, Verdict, WantMemory};
+use poa_base::{
+    Attempt, Command, Config, Entry, Incarnation, Name, Order, Path, Sid, Verdict, WantMemory,
+};
 use poa_history::{Act, Phase, Stage};
 use std::alloc::Global;
 
@@ -33,7 +37,14 @@ fn servant_of(config: &Config, name: &Name) -> Result<Phase, WantMemory>
 }
 
 /// The servant is active under a new system-made id.
-fn add_made_act(alloc: Global, config: &Config, run: u32, path: &Path, servant: &Name, standing: &mut Standing) -> Result<(), WantMemory>
+fn add_made_act(
+    alloc: Global,
+    config: &Config,
+    run: u32,
+    path: &Path,
+    servant: &Name,
+    standing: &mut Standing,
+) -> Result<(), WantMemory>
     ensures { OnOk result (seen standing.new ≡ changes.with_made_act config.now run path.now servant.now (seen standing.old)) }
 {
     let adapter = number_at(standing, path.as_slice());
@@ -44,7 +55,12 @@ fn add_made_act(alloc: Global, config: &Config, run: u32, path: &Path, servant: 
 }
 
 /// Whether a servant's reference is that of a new activation.
-fn is_made_for(config: &Config, standing: &Standing, path: &Path, servant: &Name) -> Result<bool, WantMemory>
+fn is_made_for(
+    config: &Config,
+    standing: &Standing,
+    path: &Path,
+    servant: &Name,
+) -> Result<bool, WantMemory>
     ensures { IfOk result (λ made. (run : ℕ) → changes.with_reference config.now run path.now servant.now (seen standing.now)
         ≡ (if made then changes.with_made_act config.now run path.now servant.now (seen standing.now) else seen standing.now)) }
 {
@@ -57,7 +73,14 @@ fn is_made_for(config: &Config, standing: &Standing, path: &Path, servant: &Name
     }
 }
 
-fn add_reference(alloc: Global, config: &Config, run: u32, path: &Path, servant: &Name, standing: &mut Standing) -> Result<(), WantMemory>
+fn add_reference(
+    alloc: Global,
+    config: &Config,
+    run: u32,
+    path: &Path,
+    servant: &Name,
+    standing: &mut Standing,
+) -> Result<(), WantMemory>
     ensures { OnOk result (seen standing.new ≡ changes.with_reference config.now run path.now servant.now (seen standing.old)) }
 {
     if is_made_for(config, standing, path, servant)? {
@@ -66,33 +89,47 @@ fn add_reference(alloc: Global, config: &Config, run: u32, path: &Path, servant:
     Ok(())
 }
 
-/// An order to a manager takes effect.
-fn order(alloc: Global, config: &Config, manager: &Name, order: Order, standing: &mut Standing) -> Result<(), WantMemory>
-    ensures { OnOk result ((run : ℕ) → seen standing.new ≡ changes.with_command config.now run (Some (Command.Manager manager.now order)) (seen standing.old)) }
+/// The manager of this name is turned off.
+fn off(
+    alloc: Global,
+    config: &Config,
+    manager: &Name,
+    standing: &mut Standing,
+) -> Result<(), WantMemory>
+    ensures { OnOk result (seen standing.new ≡ elim (number_of_manager config.now manager.now) [ Some m ↦ changes.with_manager_off config.now m (seen standing.old) | None ↦ seen standing.old ]) }
 {
-    match order {
-        Order::Deactivate {
-            etherealize: true, ..
-        } => match manager_number(config, manager) {
-            Some(number) => turn_off(alloc, config, standing, number),
-            None => Ok(()),
-        },
-        _ => Ok(()),
+    match manager_number(config, manager) {
+        Some(number) => turn_off(alloc, config, standing, number),
+        None => Ok(()),
     }
 }
 
 /// A command that is done takes effect.
-fn command(alloc: Global, config: &Config, run: u32, done: Option<&Command>, standing: &mut Standing) -> Result<(), WantMemory>
+fn command(
+    alloc: Global,
+    config: &Config,
+    run: u32,
+    done: Option<&Command>,
+    standing: &mut Standing,
+) -> Result<(), WantMemory>
     ensures { OnOk result (seen standing.new ≡ changes.with_command config.now run (option_copied done.entry) (seen standing.old)) }
 {
     let Some(done) = done else {
         return Ok(());
     };
     match done {
-        Command::Manager { manager, order: to } => order(alloc, config, manager, *to, standing),
+        Command::Manager { manager, order } => match order {
+            Order::Deactivate {
+                etherealize: true,
+                ..
+            } => off(alloc, config, manager, standing),
+            _ => Ok(()),
+        },
         Command::Create { path } => add_node(standing, path),
         Command::Destroy {
-            path, etherealize, ..
+            path,
+            etherealize,
+            ..
         } => destroy(alloc, standing, path.as_slice(), *etherealize),
         Command::Activate { path, servant } => {
             add_made_act(alloc, config, run, path, servant, standing)
@@ -135,7 +172,12 @@ fn add_child(child: Option<Path>, standing: &mut Standing) -> Result<(), WantMem
 }
 
 /// A trial ends.
-fn tried(alloc: Global, arrival: Option<u64>, answer: Attempt, standing: &mut Standing) -> Result<(), WantMemory>
+fn tried(
+    alloc: Global,
+    arrival: Option<u64>,
+    answer: Attempt,
+    standing: &mut Standing,
+) -> Result<(), WantMemory>
     ensures { OnOk result (seen standing.new ≡ changes.with_tried arrival answer (seen standing.old)) }
 {
     match answer {
@@ -170,7 +212,12 @@ fn acts_come(alloc: Global, acts: &[Act], number: u32, phase: Phase) -> Result<V
 }
 
 /// An activation that is being incarnated has come so far.
-fn complete(alloc: Global, standing: &mut Standing, number: u32, phase: Phase) -> Result<(), WantMemory>
+fn complete(
+    alloc: Global,
+    standing: &mut Standing,
+    number: u32,
+    phase: Phase,
+) -> Result<(), WantMemory>
     ensures { OnOk result (seen standing.new ≡ changes.with_acts (changes.at_number number (changes.come_to phase)) (seen standing.old)) }
 {
     let acts = acts_come(alloc, &standing.acts, number, phase)?;
@@ -179,7 +226,13 @@ fn complete(alloc: Global, standing: &mut Standing, number: u32, phase: Phase) -
 }
 
 /// An incarnation ends.
-fn incarnated(alloc: Global, config: &Config, stage: Stage, answer: &Incarnation, standing: &mut Standing) -> Result<(), WantMemory>
+fn incarnated(
+    alloc: Global,
+    config: &Config,
+    stage: Stage,
+    answer: &Incarnation,
+    standing: &mut Standing,
+) -> Result<(), WantMemory>
     ensures { OnOk result (seen standing.new ≡ changes.with_incarnated config.now stage answer.now (seen standing.old)) }
 {
     let Stage::Incarnating(arrival, number) = stage else {
@@ -290,8 +343,18 @@ fn etherealized(alloc: Global, stage: Stage, standing: &mut Standing) -> Result<
 }
 
 /// An Admit takes effect.
-fn admitted(alloc: Global, config: &Config, run: u32, past: &[Entry], arrival: u64, verdict: &Verdict, standing: &mut Standing) -> Result<(), WantMemory>
-    ensures { OnOk result ((worker : ℕ) → seen standing.new ≡ changes.changed config.now run (reverse past.now) (Entry.Admit worker arrival verdict.now) (seen standing.old)) }
+fn admitted(
+    alloc: Global,
+    config: &Config,
+    run: u32,
+    past: &[Entry],
+    arrival: u64,
+    verdict: &Verdict,
+    standing: &mut Standing,
+) -> Result<(), WantMemory>
+    ensures { OnOk result (seen standing.new ≡ changes.with_command config.now run
+        (if is_accepted verdict.now then command_in (calls.call_of (reverse past.now) arrival) else None)
+        (changes.with_admitted arrival (keys.key_in (calls.call_of (reverse past.now) arrival)) verdict.now (seen standing.old))) }
 {
     let key = key_in(alloc, call_of(past, arrival))?;
     admit(alloc, standing, arrival, key.as_ref(), verdict)?;
@@ -299,12 +362,21 @@ fn admitted(alloc: Global, config: &Config, run: u32, past: &[Entry], arrival: u
 }
 
 /// What an entry changes, after the entries before it.
-fn change(alloc: Global, config: &Config, run: u32, past: &[Entry], entry: &Entry, standing: &mut Standing) -> Result<(), WantMemory>
+fn change(
+    alloc: Global,
+    config: &Config,
+    run: u32,
+    past: &[Entry],
+    entry: &Entry,
+    standing: &mut Standing,
+) -> Result<(), WantMemory>
     ensures { OnOk result (seen standing.new ≡ changes.changed config.now run (reverse past.now) entry.now (seen standing.old)) }
 {
     match entry {
         Entry::Admit {
-            arrival, verdict, ..
+            arrival,
+            verdict,
+            ..
         } => admitted(alloc, config, run, past, *arrival, verdict, standing),
         Entry::Tried { worker, answer } => {
             tried(alloc, arrival_in(stage(past, *worker)), *answer, standing)
@@ -319,14 +391,35 @@ fn change(alloc: Global, config: &Config, run: u32, past: &[Entry], entry: &Entr
     }
 }
 
+/// An entry is made after those before it, and what has ended goes.
+fn advance(
+    alloc: Global,
+    config: &Config,
+    run: u32,
+    past: &[Entry],
+    entry: &Entry,
+    standing: &mut Standing,
+) -> Result<(), WantMemory>
+    requires { seen standing.old ≡ changes.standing config.now run (reverse past.now) }
+    ensures { OnOk result (seen standing.new ≡ changes.standing config.now run (entry.now ∷ reverse past.now)) }
+{
+    change(alloc, config, run, past, entry, standing)?;
+    settle(alloc, config, standing)?;
+    Ok(())
+}
+
 /// What stands after a history.
-pub fn standing_of(alloc: Global, config: &Config, run: u32, history: &[Entry]) -> Result<Standing, WantMemory>
+pub fn standing_of(
+    alloc: Global,
+    config: &Config,
+    run: u32,
+    history: &[Entry],
+) -> Result<Standing, WantMemory>
     ensures { IfOk result (λ standing. seen standing ≡ changes.standing config.now run (reverse history.now)) }
 {
     let mut standing = opening(alloc, config, run)?;
     for (i, entry) in history.iter().enumerate() {
-        change(alloc, config, run, &history[..i], entry, &mut standing)?;
-        settle(alloc, config, &mut standing)?;
+        advance(alloc, config, run, &history[..i], entry, &mut standing)?;
     }
     Ok(standing)
 }

@@ -54,7 +54,9 @@ pub fn command_done<'a>(past: &'a [Entry], entry: &Entry) -> Option<&'a Command>
 {
     match entry {
         Entry::Admit {
-            arrival, verdict, ..
+            arrival,
+            verdict,
+            ..
         } => done_by(past, *arrival, verdict),
         _ => None,
     }
@@ -65,13 +67,7 @@ pub fn live_at<'a>(standing: &'a Standing, path: &[Name]) -> Option<&'a Node>
     ensures { option_copied result ≡ rows.live_at (seen standing.now) path.now }
 {
     match node_at(&standing.nodes, path) {
-        Some(node) => {
-            if node.dying {
-                None
-            } else {
-                Some(node)
-            }
-        }
+        Some(node) => { if node.dying { None } else { Some(node) } }
         None => None,
     }
 }
@@ -91,7 +87,12 @@ fn mapped<'a>(acts: &'a [Act], adapter: u32, servant: u32) -> Option<&'a Act>
 }
 
 /// The activation by which a servant has its one reference.
-pub fn referred<'a>(config: &Config, standing: &'a Standing, node: &Node, servant: u32) -> Option<&'a Act>
+pub fn referred<'a>(
+    config: &Config,
+    standing: &'a Standing,
+    node: &Node,
+    servant: u32,
+) -> Option<&'a Act>
     ensures { option_copied result ≡ rows.referred config.now (seen standing.now) node.now servant }
 {
     let policies = policies_at(config, node.path.as_slice());
@@ -107,5 +108,6 @@ pub fn is_implicit(config: &Config, standing: &Standing, node: &Node, servant: u
     ensures { result ≡ rows.is_implicit config.now (seen standing.now) node.now servant }
 {
     let policies = policies_at(config, node.path.as_slice());
-    referred(config, standing, node, servant).is_none() && (retains(policies) && activates_implicitly(policies))
+    referred(config, standing, node, servant).is_none()
+        && (retains(policies) && activates_implicitly(policies))
 }

@@ -46,7 +46,12 @@ fn nodes_marked(alloc: Global, nodes: &[Node], path: &[Name]) -> Result<Vec<Node
 }
 
 /// An activation, ending where its adapter stands at the path or below it.
-fn act_destroyed(nodes: &[Node], path: &[Name], etherealize: bool, act: &Act) -> Result<Act, WantMemory>
+fn act_destroyed(
+    nodes: &[Node],
+    path: &[Name],
+    etherealize: bool,
+    act: &Act,
+) -> Result<Act, WantMemory>
     ensures { IfOk result (λ a. a ≡ (if tree.stands_under nodes.now path.now act.now.adapter then changes.ended_by_destroy etherealize act.now else act.now)) }
 {
     let mut ended = act.clone()?;
@@ -56,7 +61,12 @@ fn act_destroyed(nodes: &[Node], path: &[Name], etherealize: bool, act: &Act) ->
     Ok(ended)
 }
 
-fn acts_destroyed(alloc: Global, standing: &Standing, path: &[Name], etherealize: bool) -> Result<Vec<Act>, WantMemory>
+fn acts_destroyed(
+    alloc: Global,
+    standing: &Standing,
+    path: &[Name],
+    etherealize: bool,
+) -> Result<Vec<Act>, WantMemory>
     ensures { IfOk result (λ acts. acts.items ≡ map (λ a. if tree.stands_under standing.now.nodes.items path.now a.adapter then changes.ended_by_destroy etherealize a else a) standing.now.acts.items) }
 {
     let mut acts = Vec::new(alloc);
@@ -67,7 +77,12 @@ fn acts_destroyed(alloc: Global, standing: &Standing, path: &[Name], etherealize
 }
 
 /// The adapter of the path and those below it are destroyed.
-pub fn destroy(alloc: Global, standing: &mut Standing, path: &[Name], etherealize: bool) -> Result<(), WantMemory>
+pub fn destroy(
+    alloc: Global,
+    standing: &mut Standing,
+    path: &[Name],
+    etherealize: bool,
+) -> Result<(), WantMemory>
     ensures { OnOk result (seen standing.new ≡ changes.with_destroyed path.now etherealize (seen standing.old)) }
 {
     let acts = acts_destroyed(alloc, standing, path, etherealize)?;
@@ -95,7 +110,12 @@ fn act_off(config: &Config, manager: usize, act: &Act) -> Result<Act, WantMemory
     Ok(ended)
 }
 
-fn acts_off(alloc: Global, config: &Config, acts: &[Act], manager: usize) -> Result<Vec<Act>, WantMemory>
+fn acts_off(
+    alloc: Global,
+    config: &Config,
+    acts: &[Act],
+    manager: usize,
+) -> Result<Vec<Act>, WantMemory>
     ensures { IfOk result (λ off. off.items ≡ map (λ a. if configured.has_activator config.now a.path && (configured.manager_at config.now a.path == manager) then changes.ended_by_destroy true a else a) acts.now) }
 {
     let mut off = Vec::new(alloc);
@@ -106,7 +126,12 @@ fn acts_off(alloc: Global, config: &Config, acts: &[Act], manager: usize) -> Res
 }
 
 /// The manager's activations that have a servant activator are ending.
-pub fn turn_off(alloc: Global, config: &Config, standing: &mut Standing, manager: usize) -> Result<(), WantMemory>
+pub fn turn_off(
+    alloc: Global,
+    config: &Config,
+    standing: &mut Standing,
+    manager: usize,
+) -> Result<(), WantMemory>
     ensures { OnOk result (seen standing.new ≡ changes.with_manager_off config.now manager (seen standing.old)) }
 {
     let acts = acts_off(alloc, config, &standing.acts, manager)?;
@@ -124,7 +149,12 @@ fn act_deactivated(adapter: u32, oid: &Oid, act: &Act) -> Result<Act, WantMemory
     Ok(ended)
 }
 
-fn acts_deactivated(alloc: Global, acts: &[Act], adapter: u32, oid: &Oid) -> Result<Vec<Act>, WantMemory>
+fn acts_deactivated(
+    alloc: Global,
+    acts: &[Act],
+    adapter: u32,
+    oid: &Oid,
+) -> Result<Vec<Act>, WantMemory>
     ensures { IfOk result (λ ended. ended.items ≡ map (λ a. if stands.is_of adapter oid.now a then record a { ending = true } else a) acts.now) }
 {
     let mut ended = Vec::new(alloc);
@@ -135,7 +165,12 @@ fn acts_deactivated(alloc: Global, acts: &[Act], adapter: u32, oid: &Oid) -> Res
 }
 
 /// The activations of the id are ending.
-pub fn deactivate(alloc: Global, standing: &mut Standing, adapter: u32, oid: &Oid) -> Result<(), WantMemory>
+pub fn deactivate(
+    alloc: Global,
+    standing: &mut Standing,
+    adapter: u32,
+    oid: &Oid,
+) -> Result<(), WantMemory>
     ensures { OnOk result (seen standing.new ≡ changes.with_deactivated adapter oid.now (seen standing.old)) }
 {
     let acts = acts_deactivated(alloc, &standing.acts, adapter, oid)?;

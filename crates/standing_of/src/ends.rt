@@ -63,10 +63,7 @@ fn acts_left(alloc: Global, config: &Config, standing: &Standing) -> Result<Vec<
 fn is_flown_under(standing: &Standing, path: &[Name]) -> bool
     ensures { result ≡ list_any (λ f. stands_under standing.now.nodes.items path.now f.adapter) standing.now.flights.items }
 {
-    standing
-        .flights
-        .iter()
-        .any(|flight| nodes::stands_under(&standing.nodes, path, flight.adapter))
+    standing.flights.iter().any(|flight| nodes::stands_under(&standing.nodes, path, flight.adapter))
 }
 
 /// Whether the activation isn't over and is of an adapter at the path or below it.

@@ -12,7 +12,13 @@ use poa_history::{Flight, Phase};
 use std::alloc::Global;
 
 /// A request is admitted to the adapter of its key.
-fn add_request(alloc: Global, standing: &mut Standing, arrival: u64, key: &Key, activation: Option<u32>) -> Result<(), WantMemory>
+fn add_request(
+    alloc: Global,
+    standing: &mut Standing,
+    arrival: u64,
+    key: &Key,
+    activation: Option<u32>,
+) -> Result<(), WantMemory>
     ensures { OnOk result (seen standing.new ≡ changes.with_request arrival key.now activation (seen standing.old)) }
 {
     let adapter = adapter_met(walk(alloc, &standing.nodes, key.path.as_slice())?);
@@ -33,7 +39,12 @@ fn path_of(alloc: Global, names: &[Name]) -> Result<Path, WantMemory>
 }
 
 /// An adapter activator is asked for the missing child.
-fn add_trial(alloc: Global, standing: &mut Standing, arrival: u64, key: &Key) -> Result<(), WantMemory>
+fn add_trial(
+    alloc: Global,
+    standing: &mut Standing,
+    arrival: u64,
+    key: &Key,
+) -> Result<(), WantMemory>
     ensures { OnOk result (seen standing.new ≡ changes.with_trial arrival key.now (seen standing.old)) }
 {
     let found = walk(alloc, &standing.nodes, key.path.as_slice())?;
@@ -48,7 +59,12 @@ fn add_trial(alloc: Global, standing: &mut Standing, arrival: u64, key: &Key) ->
 }
 
 /// A request is admitted, and its activation begun.
-fn add_incarnation(alloc: Global, standing: &mut Standing, arrival: u64, key: &Key) -> Result<(), WantMemory>
+fn add_incarnation(
+    alloc: Global,
+    standing: &mut Standing,
+    arrival: u64,
+    key: &Key,
+) -> Result<(), WantMemory>
     ensures { OnOk result (seen standing.new ≡ changes.with_incarnation arrival key.now (seen standing.old)) }
 {
     let number = u32::try_from(standing.acts.len()).map_err(|_| WantMemory)?;
@@ -58,7 +74,13 @@ fn add_incarnation(alloc: Global, standing: &mut Standing, arrival: u64, key: &K
 }
 
 /// What the Admit of a request begins.
-pub fn admit(alloc: Global, standing: &mut Standing, arrival: u64, key: Option<&Key>, verdict: &Verdict) -> Result<(), WantMemory>
+pub fn admit(
+    alloc: Global,
+    standing: &mut Standing,
+    arrival: u64,
+    key: Option<&Key>,
+    verdict: &Verdict,
+) -> Result<(), WantMemory>
     ensures { OnOk result (seen standing.new ≡ changes.with_admitted arrival (option_copied key.entry) verdict.now (seen standing.old)) }
 {
     let Some(key) = key else {
@@ -66,7 +88,9 @@ pub fn admit(alloc: Global, standing: &mut Standing, arrival: u64, key: Option<&
     };
     match verdict {
         Verdict::Serve(number) => add_request(alloc, standing, arrival, key, Some(*number)),
-        Verdict::Preset(_) | Verdict::Locator(_) => add_request(alloc, standing, arrival, key, None),
+        Verdict::Preset(_) | Verdict::Locator(_) => add_request(
+            alloc, standing, arrival, key, None,
+        ),
         Verdict::Incarnate(_) => add_incarnation(alloc, standing, arrival, key),
         Verdict::Try => add_trial(alloc, standing, arrival, key),
         _ => Ok(()),
@@ -87,7 +111,11 @@ fn others(alloc: Global, flights: &[Flight], arrival: u64) -> Result<Vec<Flight>
 }
 
 /// The request or trial of an arrival ends.
-pub fn end_flight(alloc: Global, standing: &mut Standing, arrival: Option<u64>) -> Result<(), WantMemory>
+pub fn end_flight(
+    alloc: Global,
+    standing: &mut Standing,
+    arrival: Option<u64>,
+) -> Result<(), WantMemory>
     ensures { OnOk result (seen standing.new ≡ changes.without_flight arrival (seen standing.old)) }
 {
     if let Some(arrival) = arrival {

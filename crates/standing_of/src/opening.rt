@@ -34,7 +34,13 @@ pub fn add_node(standing: &mut Standing, path: &Path) -> Result<(), WantMemory>
 }
 
 /// An activation that has begun.
-fn begun(number: usize, adapter: u32, path: &Path, oid: &Oid, phase: Phase) -> Result<Act, WantMemory>
+fn begun(
+    number: usize,
+    adapter: u32,
+    path: &Path,
+    oid: &Oid,
+    phase: Phase,
+) -> Result<Act, WantMemory>
     ensures { IfOk result (λ act. act ≡ record { number = number; adapter = adapter; path = path.now; oid = oid.now; phase = phase; ending = false; quiet = false; out = false; cleanup = false; remaining = false; etherealized = false }) }
 {
     Ok(Act {
@@ -53,7 +59,13 @@ fn begun(number: usize, adapter: u32, path: &Path, oid: &Oid, phase: Phase) -> R
 }
 
 /// An activation is begun, and gets the next number.
-pub fn add_act(standing: &mut Standing, adapter: u32, path: &Path, oid: &Oid, phase: Phase) -> Result<(), WantMemory>
+pub fn add_act(
+    standing: &mut Standing,
+    adapter: u32,
+    path: &Path,
+    oid: &Oid,
+    phase: Phase,
+) -> Result<(), WantMemory>
     ensures { OnOk result (seen standing.new ≡ opens.with_act adapter path.now oid.now phase (seen standing.old)) }
 {
     let act = begun(standing.acts.len(), adapter, path, oid, phase)?;
@@ -126,7 +138,12 @@ pub fn number_at(standing: &Standing, path: &[Name]) -> u32
 }
 
 /// The object is active by its configured servant.
-fn add_object(alloc: Global, run: u32, object: &ObjectConf, standing: &mut Standing) -> Result<(), WantMemory>
+fn add_object(
+    alloc: Global,
+    run: u32,
+    object: &ObjectConf,
+    standing: &mut Standing,
+) -> Result<(), WantMemory>
     ensures { OnOk result (seen standing.new ≡ opens.with_object run object.now (seen standing.old)) }
 {
     let adapter = number_at(standing, object.adapter.as_slice());
@@ -141,7 +158,12 @@ fn add_object(alloc: Global, run: u32, object: &ObjectConf, standing: &mut Stand
     }
 }
 
-fn add_objects(alloc: Global, run: u32, objects: &[ObjectConf], standing: &mut Standing) -> Result<(), WantMemory>
+fn add_objects(
+    alloc: Global,
+    run: u32,
+    objects: &[ObjectConf],
+    standing: &mut Standing,
+) -> Result<(), WantMemory>
     ensures { OnOk result (seen standing.new ≡ opens.with_objects run objects.now (seen standing.old)) }
 {
     for object in objects {

@@ -86,10 +86,7 @@ fn stage_after(entry: &Entry, worker: u32, stage: Stage) -> Stage
         | Entry::Tried { worker: by, .. }
         | Entry::Done { worker: by }
         | Entry::Etherealized { worker: by, .. }
-            if *by == worker =>
-        {
-            Stage::Free
-        }
+            if *by == worker => { Stage::Free }
         _ => stage,
     }
 }
