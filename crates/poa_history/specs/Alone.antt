@@ -14,7 +14,7 @@ use Rattle.poa_history.specs.Standings.{Standing, is_mapped}
 use Rattle.poa_history.specs.Opening.{opening}
 use Rattle.poa_history.specs.Situations.{is_unfinished}
 
--- under SINGLE_THREAD_MODEL at most one request is in flight in an adapter (CORBA 3.3 Part 1, section 15.3.8.4)
+-- under SINGLE_THREAD_MODEL at most one request is in flight in an adapter (CORBA 3.3 Part 1, section 15.3.8: the thread policy)
 abbrev pub RunsAlone : Config → Standing → Type 0
 RunsAlone c s =
     (f g : Flight) (n : Node) → In f s.flights → In g s.flights → In n s.nodes → f.child ≡ None → g.child ≡ None

@@ -1,4 +1,4 @@
--- Which adapters are being destroyed, and which are gone, in plain words (CORBA 3.3 Part 1, section 15.3.8.2).
+-- Which adapters are being destroyed, and which are gone, in plain words (CORBA 3.3 Part 1, section 15.3.9: destroy).
 use Rattle.std.specs.Prelude.{◌≡◌, ℕ, Bool, true, false, ◌&&◌, ◌||◌, nat_lt, List, [], ◌∷◌, ◌++◌, Option, Some}
 use Rattle.poa_base.specs.declared.Config.{Config}
 use Rattle.poa_base.specs.declared.Command.{Command}

@@ -1,4 +1,4 @@
--- Why an activation is ending, in plain words (CORBA 3.3 Part 1, section 15.3.8.17; 15.3.8.2; 15.3.2).
+-- Why an activation is ending, in plain words (CORBA 3.3 Part 1, section 15.3.9: deactivate_object, destroy; section 15.3.2: deactivate).
 use Rattle.std.specs.Prelude.{ℕ, Bool, true, false, not, ◌&&◌, ◌||◌, ◌==◌, nat_lt, if◌then◌else◌, List, [], ◌∷◌, length, Option, Some, None}
 use Rattle.poa_base.specs.declared.Config.{Config}
 use Rattle.poa_base.specs.declared.Command.{Command}
