@@ -25,7 +25,8 @@ use Rattle.poa_history.specs.Arrivals.{call_of}
 use Rattle.poa_tree.specs.Paths.{leads_to, is_root}
 use Rattle.poa_tree.specs.Nodes.{node_at}
 use Rattle.poa_tree.specs.Trees.{In}
-use Rattle.poa_tree.specs.Walks.{walk, walk_from, Missing, Dying, Live}
+use Rattle.poa_tree.specs.declared.found.Found.TheVariants.{Missing, Dying, Live}
+use Rattle.poa_tree.specs.Walks.{walk, walk_from}
 use Rattle.poa_history.specs.Standings.{Standing, is_void, is_busy}
 use Rattle.poa_history.specs.Ends.{is_finished, is_over, is_done_with, is_gone}
 use Rattle.poa_history.specs.Keys.{key_in}
