@@ -322,6 +322,44 @@ fn ior_row(
     Ok(Some(Verdict::Answer(Answer::GoodIor(text))))
 }
 
+/// The reference under the next system-made id.
+fn made_ior_row(
+    alloc: Global,
+    config: &Config,
+    run: u32,
+    standing: &Standing,
+    node: &Node,
+    path: &Path,
+    servant: u32,
+) -> Result<Option<Verdict>, WantMemory>
+    ensures { IfOk result (λ verdict. verdict ≡ Some (Verdict.Answer (Answer.GoodIor (text_of_reference config.now run node.now.number path.now (id_made run (suc standing.now.made)) servant)))) }
+{
+    let ordinal = next(standing.made)?;
+    let oid = made_id(alloc, run, ordinal)?;
+    ior_row(alloc, config, run, node, path, &oid, servant)
+}
+
+/// The reference of a servant that the adapter activates under a system-made id.
+fn implicit_row(
+    alloc: Global,
+    config: &Config,
+    run: u32,
+    standing: &Standing,
+    node: &Node,
+    path: &Path,
+    servant: u32,
+) -> Result<Option<Verdict>, WantMemory>
+    ensures { IfOk result (λ verdict. verdict ≡ (if rows.is_implicit config.now (seen standing.now) node.now servant
+        then Some (Verdict.Answer (Answer.GoodIor (text_of_reference config.now run node.now.number path.now (id_made run (suc standing.now.made)) servant)))
+        else rows.refusal Reason.ServantNotActive)) }
+{
+    if is_implicit(config, standing, node, servant) {
+        made_ior_row(alloc, config, run, standing, node, path, servant)
+    } else {
+        Ok(refusal(Reason::ServantNotActive))
+    }
+}
+
 /// The reference of a servant that the adapter knows or activates.
 fn servant_row(
     alloc: Global,
@@ -339,14 +377,9 @@ fn servant_row(
           else rows.refusal Reason.ServantNotActive)
     ]) }
 {
-    if let Some(act) = referred(config, standing, node, servant) {
-        return ior_row(alloc, config, run, node, path, &act.oid, servant);
-    }
-    if is_implicit(config, standing, node, servant) {
-        let oid = made_id(alloc, run, next(standing.made)?)?;
-        ior_row(alloc, config, run, node, path, &oid, servant)
-    } else {
-        Ok(refusal(Reason::ServantNotActive))
+    match referred(config, standing, node, servant) {
+        Some(act) => ior_row(alloc, config, run, node, path, &act.oid, servant),
+        None => implicit_row(alloc, config, run, standing, node, path, servant),
     }
 }
 

@@ -52,6 +52,16 @@ fn type_of(config: &Config, servant: u32) -> &'static [u8]
     }
 }
 
+/// Where the server listens.
+fn endpoint(config: &Config) -> Result<Endpoint, WantMemory>
+    ensures { IfOk result (λ endpoint. endpoint ≡ record { host = config.now.host; port = config.now.port }) }
+{
+    Ok(Endpoint {
+        host: config.host.clone()?,
+        port: config.port,
+    })
+}
+
 /// The text of the reference.
 pub fn reference_text(
     alloc: Global,
@@ -65,9 +75,6 @@ pub fn reference_text(
     ensures { IfOk result (λ text. text ≡ references.reference_text config.now run number path.now oid.now servant) }
 {
     let key = key_for(config, run, number, path, oid)?;
-    let endpoint = Endpoint {
-        host: config.host.clone()?,
-        port: config.port,
-    };
+    let endpoint = endpoint(config)?;
     write_reference(alloc, &endpoint, type_of(config, servant), &key)
 }

@@ -197,6 +197,26 @@ fn first_decided(
     Ok(found)
 }
 
+/// What was found, else the least arrival that the entry at a place decided.
+fn or_decided(
+    alloc: Global,
+    config: &Config,
+    run: u32,
+    history: &[Entry],
+    conn: u32,
+    place: usize,
+    found: Option<u64>,
+) -> Result<Option<u64>, WantMemory>
+    requires place { place < length history.now }
+    requires found { found ≡ replies.next_within config.now run (reverse history.now) conn (reverse (take place history.now)) }
+    ensures { IfOk result (λ next. next ≡ replies.next_within config.now run (reverse history.now) conn (reverse (take (place + 1) history.now))) }
+{
+    match found {
+        Some(arrival) => Ok(Some(arrival)),
+        None => first_decided(alloc, config, run, history, conn, place),
+    }
+}
+
 /// The arrival whose reply a connection is given next after a history that stands oldest first; none
 /// where it is given none.
 pub fn slow_next_reply(
@@ -210,9 +230,7 @@ pub fn slow_next_reply(
 {
     let mut found = None;
     for i in 0..history.len() {
-        if found.is_none() {
-            found = first_decided(alloc, config, run, history, conn, i)?;
-        }
+        found = or_decided(alloc, config, run, history, conn, i, found)?;
     }
     Ok(found)
 }

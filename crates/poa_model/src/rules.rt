@@ -33,10 +33,10 @@ fn is_for(oid: &Oid, rule: &RuleConf) -> bool
 }
 
 /// The first rule that matches.
-pub fn rule_for<'a>(rules: &'a [RuleConf], oid: &Oid) -> Option<&'a RuleConf>
-    ensures { option_copied result ≡ rules.rule_for rules.now oid.now }
+pub fn rule_for<'a>(all: &'a [RuleConf], oid: &Oid) -> Option<&'a RuleConf>
+    ensures { option_copied result ≡ rules.rule_for all.now oid.now }
 {
-    rules.iter().find(|rule| is_for(oid, rule))
+    all.iter().find(|rule| is_for(oid, rule))
 }
 
 /// A configured servant is brought.

@@ -3,6 +3,7 @@ ghost use Rattle.std.specs.Prelude.{◌≡◌, ◌==◌, ◌&&◌, ◌||◌, not
 ghost use Rattle.poa_history.specs.Ends as ends;
 ghost use Rattle.poa_history.specs.Settling as settling;
 ghost use Rattle.poa_history.specs.Templates as configured;
+ghost use Rattle.std.specs.List.{list_any};
 ghost use Rattle.poa_history.specs.Changes.{standing};
 ghost use Rattle.poa_history.specs.Opening.{number_at as number_of_path};
 ghost use Rattle.standing_of.specs.Seen.{seen};
@@ -51,11 +52,24 @@ fn is_managed(config: &Config, standing: &Standing, manager: u32, number: u32) -
         .any(|node| is_manager_of(config, manager, number, node))
 }
 
+/// Whether something is in flight in the adapters of the manager.
+fn is_flown(config: &Config, standing: &Standing, manager: u32) -> bool
+    ensures { result ≡ list_any (λ f. settling.is_managed config.now (seen standing.now) manager f.adapter) standing.now.flights.items }
+{
+    let mut flown = false;
+    for flight in &standing.flights {
+        if is_managed(config, standing, manager, flight.adapter) {
+            flown = true;
+        }
+    }
+    flown
+}
+
 /// Whether nothing is in flight in the adapters of the manager.
 fn is_quiet(config: &Config, standing: &Standing, manager: u32) -> bool
     ensures { result ≡ settling.is_quiet config.now (seen standing.now) manager }
 {
-    !standing.flights.iter().any(|flight| is_managed(config, standing, manager, flight.adapter))
+    !is_flown(config, standing, manager)
 }
 
 /// Whether a later command on the manager was done.

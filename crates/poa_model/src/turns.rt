@@ -1,6 +1,8 @@
 //! The next entry of a worker: what it has begun goes on, else a removal that is due, else the next
 //! arrival is admitted.
-ghost use Rattle.std.specs.Prelude.{◌≡◌, ◌&&◌, find, not, reverse, option_copied, IfOk};
+ghost use Rattle.std.specs.Option.{option_or};
+ghost use Rattle.poa_base.specs.declared.Attempt.{Attempt};
+ghost use Rattle.std.specs.Prelude.{◌≡◌, ◌&&◌, None, Some, find, not, reverse, option_copied, IfOk};
 ghost use Rattle.poa_history.specs.declared.stage.Stage.TheVariants.{Free};
 ghost use Rattle.poa_history.specs.Standings as stands;
 ghost use Rattle.poa_history.specs.Templates as configured;
@@ -88,18 +90,34 @@ fn attempt_at(
     }
 }
 
+/// What the adapter activator of the adapter of this number answers for a child.
+fn attempt_in(config: &Config, standing: &Standing, adapter: u32, child: &[Name]) -> Attempt
+    ensures { result ≡ turns.attempt_at config.now (seen standing.now) (turns.node_of (seen standing.now) adapter) child.now }
+{
+    attempt_at(
+        config,
+        standing,
+        node_numbered(&standing.nodes, adapter),
+        child,
+    )
+}
+
+/// What the adapter activator answers for the child of a trial.
+fn attempt_for(config: &Config, standing: &Standing, flight: &Flight) -> Attempt
+    ensures { result ≡ elim flight.now.child [ None ↦ Attempt.No | Some child ↦ turns.attempt_at config.now (seen standing.now) (turns.node_of (seen standing.now) flight.now.adapter) child ] }
+{
+    match &flight.child {
+        Some(child) => attempt_in(config, standing, flight.adapter, child.as_slice()),
+        None => Attempt::No,
+    }
+}
+
 /// What the adapter activator answers for the child that is tried.
 fn attempt(config: &Config, standing: &Standing, arrival: u64) -> Attempt
     ensures { result ≡ turns.attempt config.now (seen standing.now) arrival }
 {
-    let Some(flight) = flight_of(standing, arrival) else {
-        return Attempt::No;
-    };
-    match &flight.child {
-        Some(child) => {
-            let parent = node_numbered(&standing.nodes, flight.adapter);
-            attempt_at(config, standing, parent, child.as_slice())
-        }
+    match flight_of(standing, arrival) {
+        Some(flight) => attempt_for(config, standing, flight),
         None => Attempt::No,
     }
 }
@@ -222,6 +240,25 @@ fn admission_of(
     }
 }
 
+/// What was found, else the Admit of an arrival that is ready for the worker.
+fn or_admission(
+    alloc: Global,
+    config: &Config,
+    run: u32,
+    store: &Store,
+    history: &[Entry],
+    worker: u32,
+    arrival: u64,
+    found: Option<Entry>,
+) -> Result<Option<Entry>, WantMemory>
+    ensures { IfOk result (λ entry. entry ≡ option_or found (turns.admission_of config.now run (reverse history.now) worker arrival)) }
+{
+    match found {
+        Some(entry) => Ok(Some(entry)),
+        None => admission_of(alloc, config, run, store, history, worker, arrival),
+    }
+}
+
 /// The least arrival that is ready is admitted.
 fn admission(
     alloc: Global,
@@ -235,9 +272,7 @@ fn admission(
 {
     let mut found = None;
     for arrival in 0..arrivals(history) {
-        if found.is_none() {
-            found = admission_of(alloc, config, run, store, history, worker, arrival)?;
-        }
+        found = or_admission(alloc, config, run, store, history, worker, arrival, found)?;
     }
     Ok(found)
 }
