@@ -1,0 +1,116 @@
+//! Whole scripts.
+ghost use Rattle.std.specs.Prelude.{◌≡◌, ◌++◌, ◌<◌, ◌+◌, ◌^◌, IfOk, OnOk, length};
+ghost use Rattle.replay_script.specs.Reading.{line_of};
+ghost use Rattle.replay_script.specs.Traffic.{names as names_of};
+ghost use Rattle.replay_script.specs.Whole.{Reads, line_at as the_line_at, numbered, script_of, step_of as the_step_of};
+
+use crate::connections::Connections;
+use crate::fault::ScriptFault;
+use crate::line::read_line;
+use crate::step::{ScriptStep, Step};
+use poa_base::{Items, Name, ScriptLine, WantMemory};
+use std::alloc::Global;
+use text_words::{WordFault, next_line};
+
+/// A script: its steps in their order, and the connections that they speak of, in the order of their first lines.
+#[derive(Debug, PartialEq, Eq, Drop)]
+pub struct Script {
+    pub connections: Items<Name>,
+    pub steps: Items<ScriptStep>,
+}
+
+/// The script of a text, whose last LF may be missing. Empty lines and lines behind `#` are no steps.
+///
+/// `BadLine` has the number of the first line that is outside the grammar, also by what the lines before it say: a
+/// connection with `admin` lines has no `ask` and no `feed`, and the other way; behind its `end` it has only `collect`.
+pub fn read_script(alloc: Global, bytes: &[u8]) -> Result<Script, ScriptFault>
+    ensures value { Reads result (script_of bytes.now) }
+{
+    read_lines(alloc, bytes)
+}
+
+fn read_lines(alloc: Global, text: &[u8]) -> Result<Script, ScriptFault>
+    requires { 1 + length text.now < 2 ^ 64 }
+    ensures { Reads result (script_of text.now) }
+{
+    let mut connections = Connections::new(alloc);
+    let mut steps = Vec::new(alloc);
+    let mut number = 1;
+    let mut rest = text;
+    while let Some((front, after)) = next_line(rest) {
+        let line = line_at(alloc, number, front)?;
+        if !connections.allow(&line) {
+            return Err(ScriptFault::BadLine { line: number });
+        }
+        connections.enter(&line)?;
+        put_step(&mut steps, number, step_of(&connections, line))?;
+        number += 1;
+        rest = after;
+    }
+    let connections = connections.names(alloc)?;
+    Ok(Script {
+        connections,
+        steps: Items::from_vec(steps),
+    })
+}
+
+fn line_at(alloc: Global, number: u64, bytes: &[u8]) -> Result<ScriptLine, ScriptFault>
+    ensures { Reads result (the_line_at number (line_of bytes.now)) }
+{
+    match read_line(alloc, bytes) {
+        Ok(line) => Ok(line),
+        Err(WordFault::OutOfForm) => Err(ScriptFault::BadLine { line: number }),
+        Err(WordFault::WantMemory) => Err(ScriptFault::WantMemory),
+    }
+}
+
+fn step_of(connections: &Connections, line: ScriptLine) -> Option<Step>
+    ensures { result ≡ the_step_of (names_of connections.now.rows.items) line }
+{
+    match line {
+        ScriptLine::Skipped => None,
+        ScriptLine::Ask {
+            conn,
+            id,
+            path,
+            oid,
+            operation,
+            argument,
+        } => Some(Step::Ask {
+            connection: connections.place(&conn),
+            id,
+            path,
+            oid,
+            operation,
+            argument,
+        }),
+        ScriptLine::Feed { conn, bytes } => Some(Step::Feed {
+            connection: connections.place(&conn),
+            bytes,
+        }),
+        ScriptLine::End { conn } => Some(Step::End {
+            connection: connections.place(&conn),
+        }),
+        ScriptLine::Admin { conn, words } => Some(Step::Admin {
+            connection: connections.place(&conn),
+            words,
+        }),
+        ScriptLine::Step { worker } => Some(Step::Step { worker }),
+        ScriptLine::Run { worker } => Some(Step::Run { worker }),
+        ScriptLine::Collect { conn } => Some(Step::Collect {
+            connection: connections.place(&conn),
+        }),
+        ScriptLine::Store => Some(Step::Store),
+        ScriptLine::Journal => Some(Step::Journal),
+    }
+}
+
+fn put_step(steps: &mut Vec<ScriptStep>, line: u64, step: Option<Step>) -> Result<(), WantMemory>
+    ensures { OnOk result (steps.new.items ≡ steps.old.items ++ numbered line step) }
+{
+    let Some(step) = step else {
+        return Ok(());
+    };
+    steps.push(ScriptStep { line, step })?;
+    Ok(())
+}
