@@ -358,7 +358,13 @@ fn admitted(
 {
     let key = key_in(alloc, call_of(past, arrival))?;
     admit(alloc, standing, arrival, key.as_ref(), verdict)?;
-    command(alloc, config, run, done_by(past, arrival, verdict), standing)
+    command(
+        alloc,
+        config,
+        run,
+        done_by(past, arrival, verdict),
+        standing,
+    )
 }
 
 /// What an entry changes, after the entries before it.
