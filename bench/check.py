@@ -7,8 +7,10 @@ usage: bench/check.py [PROGRAM]      PROGRAM is crates/poad/out/poad where it is
 There are two files of about 1,048,576 bytes, the most that a configuration has: one with as many objects as fit, and
 one with 1,024 managers, servants and adapters, and rules up to the end. Half of a file has half of its entries. The
 script ends with 1 where a whole file takes more than 2.6 times its half, or more than 2 s, or where the counts that
-are printed aren't those of the file. Each time is the least of five runs.
+are printed aren't those of the file. Of five runs the least time counts, and the least time of the processor, of
+which the ratio is, so that what else runs on the machine doesn't spoil it.
 """
+import resource
 import subprocess
 import sys
 import tempfile
@@ -52,23 +54,29 @@ def tables():
     return text, 1024
 
 
+def processor():
+    """The processor's seconds of all runs until now."""
+    used = resource.getrusage(resource.RUSAGE_CHILDREN)
+    return used.ru_utime + used.ru_stime
+
+
 def seconds(program, text, counts, folder):
-    """The least time of five runs of `check`."""
+    """The least time of five runs of `check`, and the least of the processor's."""
     if len(text.encode()) > LIMIT:
         sys.exit(f"a file of {len(text.encode())} bytes")
     file = folder / "poad.toml"
     file.write_text(text)
     names = ("managers", "servants", "adapters", "objects", "forwards")
     want = "".join(f"{name} {count}\n" for name, count in zip(names, counts))
-    least = None
+    all_times, all_used = [], []
     for _ in range(5):
-        start = time.perf_counter()
+        start, before = time.perf_counter(), processor()
         ran = subprocess.run([program, "check", str(file)], capture_output=True, text=True)
-        spent = time.perf_counter() - start
+        all_times.append(time.perf_counter() - start)
+        all_used.append(processor() - before)
         if ran.returncode != 0 or ran.stdout != want:
             sys.exit(f"status {ran.returncode} {ran.stderr.strip()}, printed {ran.stdout!r}, wanted {want!r}")
-        least = spent if least is None else min(least, spent)
-    return least
+    return min(all_times), min(all_used)
 
 
 def main():
@@ -80,12 +88,12 @@ def main():
             times = []
             for part in (count // 2, count):
                 content, counts = text(part)
-                spent = seconds(program, content, counts, Path(name))
-                print(f"{part} {what}, {len(content.encode())} bytes: {spent:.3f} s")
-                times.append(spent)
-            ratio = times[1] / times[0]
+                spent, used = seconds(program, content, counts, Path(name))
+                print(f"{part} {what}, {len(content.encode())} bytes: {spent:.3f} s, of the processor {used:.3f} s")
+                times.append((spent, used))
+            ratio = times[1][1] / times[0][1]
             print(f"ratio {ratio:.2f}")
-            slow = slow or ratio > 2.6 or times[1] > 2
+            slow = slow or ratio > 2.6 or times[1][0] > 2
     return slow
 
 
