@@ -8,6 +8,8 @@ mod adapter;
 mod answering;
 mod delivery;
 mod fault_line;
+#[cfg(test)]
+mod file_tests;
 mod filing;
 mod host;
 mod run;

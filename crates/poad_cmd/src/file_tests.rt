@@ -1,0 +1,92 @@
+use super::*;
+use conf_toml::ConfFault;
+use outside::{MemFiles, MemSink, MemSource};
+use std::alloc::Global;
+use std::test::Fail;
+
+const REGISTER: &[u8] =
+    b"root = \"active\"\n[[servant]]\nname = \"counter\"\nkind = \"register\"\n[[object]]\nadapter = \"/\"\nservant = \"counter\"\n";
+
+// How a command ended, and what it wrote.
+#[derive(Drop)]
+struct Ran {
+    status: Status,
+    written: Vec<u8>,
+}
+
+// What these words do where the file `f` has this content, and these takes fail.
+fn run(alloc: Global, words: &[&str], content: &[u8], failing_takes: &[u64]) -> Result<Ran, Fail> {
+    let mut all = Vec::new(alloc);
+    for word in words {
+        all.push(String::from_str(alloc, *word)?)?;
+    }
+    let mut files = MemFiles::new(alloc, failing_takes.to_vec(alloc)?, Vec::new(alloc));
+    files.hold("f", content)?;
+    let mut host = Host {
+        source: MemSource::new(Vec::new(alloc), Vec::new(alloc), Vec::new(alloc)),
+        sink: MemSink::new(alloc, Vec::new(alloc)),
+        files,
+    };
+    let status = run_words(alloc, all.as_slice(), &mut host);
+    let written = Vec::from_slice(alloc, host.sink.held())?;
+    Ok(Ran { status, written })
+}
+
+#[test]
+fn prints_what_a_configuration_has(rt: HostRuntime) -> Result<(), Fail> {
+    let alloc = rt.alloc();
+    let counts = b"managers 1\nservants 1\nadapters 1\nobjects 1\nforwards 0\n";
+    let checked = run(alloc, &["check", "f"], REGISTER, &[])?;
+    assert_eq!(rt; checked.status, Status::Ok);
+    assert_eq!(rt; checked.written.as_slice(), counts.as_slice());
+    let marked = run(alloc, &["check", "--", "f"], REGISTER, &[])?;
+    assert_eq!(rt; marked.written.as_slice(), counts.as_slice());
+    let printed = run(alloc, &["iors", "f"], REGISTER, &[])?;
+    assert_eq!(rt; printed.status, Status::Ok);
+    assert_eq!(rt; printed.written.len(), 218);
+    Ok(())
+}
+
+#[test]
+fn tells_why_a_file_is_no_configuration(rt: HostRuntime) -> Result<(), Fail> {
+    let alloc = rt.alloc();
+    let wrong = run(alloc, &["check", "f"], b"x = ", &[])?;
+    assert_eq!(rt; wrong.status, Status::ConfigRefused(ConfFault::NotToml));
+    assert_eq!(rt; wrong.written.len(), 0);
+    let unknown = run(alloc, &["check", "f"], b"colour = 1", &[])?;
+    assert_eq!(rt; unknown.status.number(), 3);
+    let line = unknown.status.to_string(alloc)?;
+    assert_eq!(rt; line.as_str(), "config: Field colour");
+    Ok(())
+}
+
+#[test]
+fn tells_what_hinders_a_file(rt: HostRuntime) -> Result<(), Fail> {
+    let alloc = rt.alloc();
+    assert_eq!(rt;
+        run(alloc, &["check", "none"], REGISTER, &[])?.status,
+        Status::NoFile
+    );
+    assert_eq!(rt;
+        run(alloc, &["check", "f"], REGISTER, &[0])?.status,
+        Status::FileFault
+    );
+    assert_eq!(rt;
+        run(alloc, &["check", ""], REGISTER, &[])?.status,
+        Status::BadWords
+    );
+    assert_eq!(rt;
+        run(alloc, &["check", "-"], REGISTER, &[])?.status,
+        Status::BadWords
+    );
+    assert_eq!(rt;
+        run(alloc, &["iors"], REGISTER, &[])?.status,
+        Status::BadWords
+    );
+    let long = Vec::from_elem(alloc, b'\n', 1_048_577)?;
+    assert_eq!(rt;
+        run(alloc, &["check", "f"], long.as_slice(), &[])?.status,
+        Status::FileTooLong
+    );
+    Ok(())
+}
