@@ -1,5 +1,5 @@
 -- What is printed of a configuration in a file, and the status.
-use Rattle.std.specs.Prelude.{◌≡◌, ◌≢◌, ℕ, ◌<◌, List, ◌++◌, Option, None, Some, Result, Ok as OkResult, Err, length, take, ⊤}
+use Rattle.std.specs.Prelude.{◌≡◌, ◌≢◌, ℕ, ◌<◌, ◌≤◌, List, ◌++◌, Option, None, Some, Result, Ok as OkResult, Err, length, take, ⊤}
 use Rattle.std.specs.Option.{IsSomeAnd}
 use Rattle.outside.specs.Keeping.{Contents}
 use Rattle.outside.specs.Told.{IfTold}
@@ -29,9 +29,10 @@ Printed asked content (ConfigRefused fault) held_old held_new = Prints asked con
 Printed asked content WantMemory held_old held_new = GainsNothing held_old held_new
 Printed asked content _ held_old held_new = ⊥
 
--- the same of the content that the files hold under a name, of which this is printed
+-- the same of the content that the files hold under a name, which is no longer than a configuration may be
 pub record OfFile (asked : Asked) (name : List ℕ) (status : Status) (files_old files_new : Option Contents) (held_old held_new : Option (List ℕ)) : Type 0 where
   pub content : List ℕ
+  pub within : length content ≤ config_limit
   pub held : IfTold files_old files_new (λ old new. old name ≡ Some content)
   pub printed : Printed asked content status held_old held_new
 
