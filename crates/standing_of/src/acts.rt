@@ -5,6 +5,7 @@ ghost use Rattle.poa_history.specs.Standings as stands;
 use poa_base::{Oid, Sid};
 use poa_history::{Act, Phase};
 
+/// Whether the activation has its servant.
 pub fn is_complete(act: &Act) -> bool
     ensures { result ≡ stands.is_complete act.now }
 {
@@ -14,6 +15,7 @@ pub fn is_complete(act: &Act) -> bool
     }
 }
 
+/// Whether its incarnation brought no servant.
 pub fn is_void(act: &Act) -> bool
     ensures { result ≡ stands.is_void act.now }
 {
@@ -23,6 +25,7 @@ pub fn is_void(act: &Act) -> bool
     }
 }
 
+/// Whether its servant is still being incarnated.
 pub fn is_begun(act: &Act) -> bool
     ensures { result ≡ stands.is_begun act.now }
 {
@@ -53,6 +56,7 @@ pub fn is_mapped(act: &Act) -> bool
     is_complete(act) && !act.out
 }
 
+/// Whether both are the same servant.
 pub fn same_servant(one: Sid, other: Sid) -> bool
     ensures { result ≡ stands.same_servant one other }
 {

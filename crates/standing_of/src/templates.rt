@@ -91,6 +91,7 @@ pub fn preset_at(config: &Config, path: &[Name]) -> Option<u32>
     own_entry(config, path)?.preset
 }
 
+/// Whether the policies have RETAIN.
 pub fn retains(policies: PolicySet) -> bool
     ensures { result ≡ configured.retains policies }
 {
@@ -100,6 +101,7 @@ pub fn retains(policies: PolicySet) -> bool
     }
 }
 
+/// Whether they have UNIQUE_ID.
 pub fn is_unique(policies: PolicySet) -> bool
     ensures { result ≡ configured.is_unique policies }
 {
@@ -109,6 +111,7 @@ pub fn is_unique(policies: PolicySet) -> bool
     }
 }
 
+/// Whether they have SYSTEM_ID.
 pub fn makes_ids(policies: PolicySet) -> bool
     ensures { result ≡ configured.makes_ids policies }
 {
@@ -118,6 +121,7 @@ pub fn makes_ids(policies: PolicySet) -> bool
     }
 }
 
+/// Whether they have IMPLICIT_ACTIVATION.
 pub fn activates_implicitly(policies: PolicySet) -> bool
     ensures { result ≡ configured.activates_implicitly policies }
 {
@@ -127,6 +131,7 @@ pub fn activates_implicitly(policies: PolicySet) -> bool
     }
 }
 
+/// Whether they have USE_DEFAULT_SERVANT.
 pub fn uses_default_servant(policies: PolicySet) -> bool
     ensures { result ≡ configured.uses_default_servant policies }
 {
@@ -136,6 +141,7 @@ pub fn uses_default_servant(policies: PolicySet) -> bool
     }
 }
 
+/// Whether they have USE_SERVANT_MANAGER.
 pub fn uses_servant_manager(policies: PolicySet) -> bool
     ensures { result ≡ configured.uses_servant_manager policies }
 {
@@ -145,6 +151,7 @@ pub fn uses_servant_manager(policies: PolicySet) -> bool
     }
 }
 
+/// Whether they have PERSISTENT.
 pub fn lasts(policies: PolicySet) -> bool
     ensures { result ≡ configured.lasts policies }
 {
