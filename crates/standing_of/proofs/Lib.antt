@@ -1,3 +1,4 @@
-pub mod KeysRead
-pub mod Parents
-pub mod Onward
+mod InPlace
+mod Dropping
+mod TakingOut
+pub mod Settled

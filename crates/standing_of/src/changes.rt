@@ -1,155 +1,26 @@
 //! What an entry changes, and so what stands after a history.
-ghost use Rattle.std.specs.Prelude.{◌≡◌, ◌==◌, ◌&&◌, ◌∷◌, ℕ, Some, None, false, true, if◌then◌else◌, not, map, reverse, option_copied, IfOk, OnOk};
-ghost use Rattle.poa_history.specs.declared.act.Phase.TheVariants.{Begun, Complete, Void};
-ghost use Rattle.poa_history.specs.Arrivals as calls;
+ghost use Rattle.std.specs.Prelude.{◌≡◌, ◌∷◌, ◌≤◌, ◌^◌, ℕ, List, None, false, true, if◌then◌else◌, length, reverse, option_copied, IfOk, IsOk, OnOk, OnErr};
+ghost use Rattle.poa_base.specs.declared.Entry.{Entry};
+ghost use Rattle.poa_base.specs.declared.Entry.TheVariants.{Incarnated, Tried};
 ghost use Rattle.poa_history.specs.Changes as changes;
 ghost use Rattle.poa_history.specs.Keys as keys;
-ghost use Rattle.poa_history.specs.Logs.{command_in, is_accepted};
-ghost use Rattle.poa_history.specs.Standings as stands;
-ghost use Rattle.poa_history.specs.Templates.{manager_number as number_of_manager};
-ghost use Rattle.standing_of.specs.Seen.{seen};
+ghost use Rattle.poa_history.specs.Logs.{command_in as command_of, is_accepted as accepts};
+ghost use Rattle.standing_of.specs.Entries as entries;
+ghost use Rattle.standing_queries.specs.Seen.{seen};
 
-use crate::acts::{has_servant, is_begun, is_mapped};
-use crate::calls::call_of;
-use crate::commands::{done_by, is_implicit, live_at};
-use crate::ending::{deactivate, destroy, turn_off};
-use crate::ends::settle;
+use crate::beginning::{add_node, opening};
+use crate::commands::{command, servant_of};
 use crate::flying::{admit, child_tried, end_flight};
-use crate::keys::key_in;
-use crate::opening::{add_act, add_made, add_node, made_id, next, number_at, opening};
-use crate::standing::Standing;
-use crate::templates::{manager_number, servant_number};
-use crate::workers::{arrival_in, stage};
-use poa_base::{
-    Attempt, Command, Config, Entry, Incarnation, Name, Order, Path, Sid, Verdict, WantMemory,
-};
-use poa_history::{Act, Phase, Stage};
+use crate::lives::{complete, etherealize, take_out};
+use crate::settling::settle;
+use poa_base::{Attempt, Call, Config, Entry, Incarnation, Path, Sid, Verdict, WantMemory};
+use poa_history::{Phase, Stage};
+use standing_queries::Standing;
+use standing_queries::calls::call_of;
+use standing_queries::commands::{command_in, is_accepted};
+use standing_queries::keys::key_in;
+use standing_queries::workers::{arrival_in, stage};
 use std::alloc::Global;
-
-/// The phase of an activation that this servant completes.
-fn servant_of(config: &Config, name: &Name) -> Result<Phase, WantMemory>
-    ensures { IfOk result (λ phase. phase ≡ changes.servant_of config.now name.now) }
-{
-    match servant_number(config, name)? {
-        Some(number) => Ok(Phase::Complete(Sid::Named(number))),
-        None => Ok(Phase::Void),
-    }
-}
-
-/// The servant is active under a new system-made id.
-fn add_made_act(
-    alloc: Global,
-    config: &Config,
-    run: u32,
-    path: &Path,
-    servant: &Name,
-    standing: &mut Standing,
-) -> Result<(), WantMemory>
-    ensures { OnOk result (seen standing.new ≡ changes.with_made_act config.now run path.now servant.now (seen standing.old)) }
-{
-    let adapter = number_at(standing, path.as_slice());
-    let oid = made_id(alloc, run, next(standing.made)?)?;
-    let phase = servant_of(config, servant)?;
-    add_made(standing)?;
-    add_act(standing, adapter, path, &oid, phase)
-}
-
-/// Whether a servant's reference is that of a new activation.
-fn is_made_for(
-    config: &Config,
-    standing: &Standing,
-    path: &Path,
-    servant: &Name,
-) -> Result<bool, WantMemory>
-    ensures { IfOk result (λ made. (run : ℕ) → changes.with_reference config.now run path.now servant.now (seen standing.now)
-        ≡ (if made then changes.with_made_act config.now run path.now servant.now (seen standing.now) else seen standing.now)) }
-{
-    let Some(node) = live_at(standing, path.as_slice()) else {
-        return Ok(false);
-    };
-    match servant_number(config, servant)? {
-        Some(number) => Ok(is_implicit(config, standing, node, number)),
-        None => Ok(false),
-    }
-}
-
-fn add_reference(
-    alloc: Global,
-    config: &Config,
-    run: u32,
-    path: &Path,
-    servant: &Name,
-    standing: &mut Standing,
-) -> Result<(), WantMemory>
-    ensures { OnOk result (seen standing.new ≡ changes.with_reference config.now run path.now servant.now (seen standing.old)) }
-{
-    if is_made_for(config, standing, path, servant)? {
-        add_made_act(alloc, config, run, path, servant, standing)?;
-    }
-    Ok(())
-}
-
-/// The manager of this name is turned off.
-fn off(
-    alloc: Global,
-    config: &Config,
-    manager: &Name,
-    standing: &mut Standing,
-) -> Result<(), WantMemory>
-    ensures { OnOk result (seen standing.new ≡ elim (number_of_manager config.now manager.now) [ Some m ↦ changes.with_manager_off config.now m (seen standing.old) | None ↦ seen standing.old ]) }
-{
-    match manager_number(config, manager) {
-        Some(number) => turn_off(alloc, config, standing, number),
-        None => Ok(()),
-    }
-}
-
-/// A command that is done takes effect.
-fn command(
-    alloc: Global,
-    config: &Config,
-    run: u32,
-    done: Option<&Command>,
-    standing: &mut Standing,
-) -> Result<(), WantMemory>
-    ensures { OnOk result (seen standing.new ≡ changes.with_command config.now run (option_copied done.entry) (seen standing.old)) }
-{
-    let Some(done) = done else {
-        return Ok(());
-    };
-    match done {
-        Command::Manager { manager, order } => match order {
-            Order::Deactivate {
-                etherealize: true,
-                ..
-            } => off(alloc, config, manager, standing),
-            _ => Ok(()),
-        },
-        Command::Create { path } => add_node(standing, path),
-        Command::Destroy {
-            path,
-            etherealize,
-            ..
-        } => destroy(alloc, standing, path.as_slice(), *etherealize),
-        Command::Activate { path, servant } => {
-            add_made_act(alloc, config, run, path, servant, standing)
-        }
-        Command::ActivateId { path, oid, servant } => {
-            let adapter = number_at(standing, path.as_slice());
-            let phase = servant_of(config, servant)?;
-            add_act(standing, adapter, path, oid, phase)
-        }
-        Command::Deactivate { path, oid } => {
-            let adapter = number_at(standing, path.as_slice());
-            deactivate(alloc, standing, adapter, oid)
-        }
-        Command::Reference { path, servant } => {
-            add_reference(alloc, config, run, path, servant, standing)
-        }
-        Command::Shutdown => destroy(alloc, standing, &[], true),
-        _ => Ok(()),
-    }
-}
 
 /// The path of the missing child for which the arrival is tried, copied.
 fn child_of(standing: &Standing, arrival: Option<u64>) -> Result<Option<Path>, WantMemory>
@@ -163,7 +34,8 @@ fn child_of(standing: &Standing, arrival: Option<u64>) -> Result<Option<Path>, W
 
 /// The child that an adapter activator made is created.
 fn add_child(child: Option<Path>, standing: &mut Standing) -> Result<(), WantMemory>
-    ensures { OnOk result (seen standing.new ≡ changes.with_child child (seen standing.old)) }
+    ensures ok { OnOk result (seen standing.new ≡ changes.with_child child (seen standing.old)) }
+    ensures err { OnErr result (seen standing.new ≡ seen standing.old) }
 {
     match child {
         Some(path) => add_node(standing, &path),
@@ -171,200 +43,83 @@ fn add_child(child: Option<Path>, standing: &mut Standing) -> Result<(), WantMem
     }
 }
 
-/// A trial ends.
-fn tried(
-    alloc: Global,
-    arrival: Option<u64>,
-    answer: Attempt,
-    standing: &mut Standing,
-) -> Result<(), WantMemory>
-    ensures { OnOk result (seen standing.new ≡ changes.with_tried arrival answer (seen standing.old)) }
+/// A trial ends. Where the activator said yes the child is created first, since that may fail.
+fn tried(arrival: Option<u64>, answer: Attempt, standing: &mut Standing) -> Result<(), WantMemory>
+    ensures ok { OnOk result (seen standing.new ≡ changes.with_tried arrival answer (seen standing.old)) }
+    ensures err { OnErr result (seen standing.new ≡ seen standing.old) }
+    ensures ends { (w : ℕ) → entries.takes_no_memory (Tried w answer) ≡ true → IsOk result }
 {
-    match answer {
-        Attempt::Yes { .. } => {
-            let child = child_of(standing, arrival)?;
-            end_flight(alloc, standing, arrival)?;
-            add_child(child, standing)
-        }
-        Attempt::No | Attempt::Raised | Attempt::Dying => end_flight(alloc, standing, arrival),
+    if let Attempt::Yes { .. } = answer {
+        let child = child_of(standing, arrival)?;
+        add_child(child, standing)?;
     }
-}
-
-/// An activation of this number that was begun has come so far.
-fn act_come(number: u32, phase: Phase, act: &Act) -> Result<Act, WantMemory>
-    ensures { IfOk result (λ a. a ≡ changes.at_number number (changes.come_to phase) act.now) }
-{
-    let mut come = act.clone()?;
-    if act.number == number && is_begun(act) {
-        come.phase = phase;
-    }
-    Ok(come)
-}
-
-fn acts_come(alloc: Global, acts: &[Act], number: u32, phase: Phase) -> Result<Vec<Act>, WantMemory>
-    ensures { IfOk result (λ come. come.items ≡ map (changes.at_number number (changes.come_to phase)) acts.now) }
-{
-    let mut come = Vec::new(alloc);
-    for act in acts {
-        come.push(act_come(number, phase, act)?)?;
-    }
-    Ok(come)
-}
-
-/// An activation that is being incarnated has come so far.
-fn complete(
-    alloc: Global,
-    standing: &mut Standing,
-    number: u32,
-    phase: Phase,
-) -> Result<(), WantMemory>
-    ensures { OnOk result (seen standing.new ≡ changes.with_acts (changes.at_number number (changes.come_to phase)) (seen standing.old)) }
-{
-    let acts = acts_come(alloc, &standing.acts, number, phase)?;
-    standing.acts = acts;
+    end_flight(standing, arrival);
     Ok(())
 }
 
 /// An incarnation ends.
 fn incarnated(
-    alloc: Global,
     config: &Config,
     stage: Stage,
     answer: &Incarnation,
     standing: &mut Standing,
 ) -> Result<(), WantMemory>
-    ensures { OnOk result (seen standing.new ≡ changes.with_incarnated config.now stage answer.now (seen standing.old)) }
+    ensures ok { OnOk result (seen standing.new ≡ changes.with_incarnated config.now stage answer.now (seen standing.old)) }
+    ensures err { OnErr result (seen standing.new ≡ seen standing.old) }
+    ensures ends { (w : ℕ) → entries.names_servant (Incarnated w answer.now) ≡ false → IsOk result }
+    ensures named { length config.now.servants ≤ 2 ^ 32 → IsOk result }
 {
     let Stage::Incarnating(arrival, number) = stage else {
         return Ok(());
     };
     match answer {
         Incarnation::Fresh(_) => {
-            complete(alloc, standing, number, Phase::Complete(Sid::Fresh(number)))
+            complete(
+                &mut standing.acts,
+                number,
+                Phase::Complete(Sid::Fresh(number)),
+            );
         }
         Incarnation::Named(name) => {
             let phase = servant_of(config, name)?;
-            complete(alloc, standing, number, phase)
+            complete(&mut standing.acts, number, phase);
         }
         Incarnation::Double | Incarnation::Forward(_) | Incarnation::Raise(_) => {
-            complete(alloc, standing, number, Phase::Void)?;
-            end_flight(alloc, standing, Some(arrival))
+            complete(&mut standing.acts, number, Phase::Void);
+            end_flight(standing, Some(arrival));
         }
     }
-}
-
-/// Whether the activation has the servant of another.
-fn shares_servant(act: &Act, other: &Act) -> bool
-    ensures { result ≡ elim act.now.phase [ Complete s ↦ stands.has_servant s other.now | Begun ↦ false | Void ↦ false ] }
-{
-    match act.phase {
-        Phase::Complete(servant) => has_servant(servant, other),
-        Phase::Begun | Phase::Void => false,
-    }
-}
-
-/// Whether another activation has the same servant in the map of the same adapter.
-fn is_other(act: &Act, other: &Act) -> bool
-    ensures { result ≡ not (other.now.number == act.now.number) && ((other.now.adapter == act.now.adapter)
-        && (stands.is_mapped other.now && (elim act.now.phase [ Complete s ↦ stands.has_servant s other.now | Begun ↦ false | Void ↦ false ]))) }
-{
-    other.number != act.number
-        && (other.adapter == act.adapter && (is_mapped(other) && shares_servant(act, other)))
-}
-
-/// Whether the same servant is in the map of the same adapter by another activation.
-fn is_elsewhere(acts: &[Act], act: &Act) -> bool
-    ensures { result ≡ changes.is_elsewhere acts.now act.now }
-{
-    acts.iter().any(|other| is_other(act, other))
-}
-
-/// An activation of this number is out.
-fn act_out(acts: &[Act], number: u32, act: &Act) -> Result<Act, WantMemory>
-    ensures { IfOk result (λ a. a ≡ changes.at_number number (λ a. record a { out = true; remaining = changes.is_elsewhere acts.now a }) act.now) }
-{
-    let mut out = act.clone()?;
-    if act.number == number {
-        out.out = true;
-        out.remaining = is_elsewhere(acts, act);
-    }
-    Ok(out)
-}
-
-fn acts_out(alloc: Global, acts: &[Act], number: u32) -> Result<Vec<Act>, WantMemory>
-    ensures { IfOk result (λ out. out.items ≡ map (changes.at_number number (λ a. record a { out = true; remaining = changes.is_elsewhere acts.now a })) acts.now) }
-{
-    let mut out = Vec::new(alloc);
-    for act in acts {
-        out.push(act_out(acts, number, act)?)?;
-    }
-    Ok(out)
-}
-
-/// An activation is taken out of the map.
-fn take_out(alloc: Global, standing: &mut Standing, number: u32) -> Result<(), WantMemory>
-    ensures { OnOk result (seen standing.new ≡ changes.with_takeout number (seen standing.old)) }
-{
-    let acts = acts_out(alloc, &standing.acts, number)?;
-    standing.acts = acts;
     Ok(())
 }
 
-/// An activation of this number is etherealized.
-fn act_etherealized(number: u32, act: &Act) -> Result<Act, WantMemory>
-    ensures { IfOk result (λ a. a ≡ changes.at_number number (λ a. record a { etherealized = true }) act.now) }
-{
-    let mut gone = act.clone()?;
-    if act.number == number {
-        gone.etherealized = true;
-    }
-    Ok(gone)
-}
-
-fn acts_etherealized(alloc: Global, acts: &[Act], number: u32) -> Result<Vec<Act>, WantMemory>
-    ensures { IfOk result (λ gone. gone.items ≡ map (changes.at_number number (λ a. record a { etherealized = true })) acts.now) }
-{
-    let mut gone = Vec::new(alloc);
-    for act in acts {
-        gone.push(act_etherealized(number, act)?)?;
-    }
-    Ok(gone)
-}
-
-/// The servant of an activation that was taken out is etherealized.
-fn etherealized(alloc: Global, stage: Stage, standing: &mut Standing) -> Result<(), WantMemory>
-    ensures { OnOk result (seen standing.new ≡ changes.with_etherealized stage (seen standing.old)) }
+/// The servant that a worker takes down is etherealized.
+fn etherealized(stage: Stage, standing: &mut Standing)
+    ensures { seen standing.new ≡ changes.with_etherealized stage (seen standing.old) }
 {
     if let Stage::Removing(number) = stage {
-        let acts = acts_etherealized(alloc, &standing.acts, number)?;
-        standing.acts = acts;
+        etherealize(&mut standing.acts, number);
     }
-    Ok(())
 }
 
-/// An Admit takes effect.
+/// An Admit takes effect: the command is done, or the request begins.
 fn admitted(
     alloc: Global,
     config: &Config,
     run: u32,
-    past: &[Entry],
     arrival: u64,
+    call: Option<&Call>,
     verdict: &Verdict,
     standing: &mut Standing,
 ) -> Result<(), WantMemory>
-    ensures { OnOk result (seen standing.new ≡ changes.with_command config.now run
-        (if is_accepted verdict.now then command_in (calls.call_of (reverse past.now) arrival) else None)
-        (changes.with_admitted arrival (keys.key_in (calls.call_of (reverse past.now) arrival)) verdict.now (seen standing.old))) }
+    ensures ok { OnOk result (seen standing.new ≡ changes.with_command config.now run (if accepts verdict.now then command_of (option_copied call.entry) else None)
+        (changes.with_admitted arrival (keys.key_in (option_copied call.entry)) verdict.now (seen standing.old))) }
+    ensures err { OnErr result (seen standing.new ≡ seen standing.old) }
 {
-    let key = key_in(alloc, call_of(past, arrival))?;
-    admit(alloc, standing, arrival, key.as_ref(), verdict)?;
-    command(
-        alloc,
-        config,
-        run,
-        done_by(past, arrival, verdict),
-        standing,
-    )
+    if is_accepted(verdict) {
+        return command(alloc, config, run, command_in(call), standing);
+    }
+    let key = key_in(alloc, call)?;
+    admit(alloc, standing, arrival, key.as_ref(), verdict)
 }
 
 /// What an entry changes, after the entries before it.
@@ -372,49 +127,100 @@ fn change(
     alloc: Global,
     config: &Config,
     run: u32,
-    past: &[Entry],
     entry: &Entry,
+    stage: Stage,
+    call: Option<&Call>,
     standing: &mut Standing,
 ) -> Result<(), WantMemory>
-    ensures { OnOk result (seen standing.new ≡ changes.changed config.now run (reverse past.now) entry.now (seen standing.old)) }
+    ensures ok { (past : List Entry) → stage ≡ entries.stage_at past entry.now → option_copied call.entry ≡ entries.call_admitted past entry.now
+        → OnOk result (seen standing.new ≡ changes.changed config.now run past entry.now (seen standing.old)) }
+    ensures err { OnErr result (seen standing.new ≡ seen standing.old) }
+    ensures ends { entries.takes_no_memory entry.now ≡ true → entries.names_servant entry.now ≡ false → IsOk result }
+    ensures named { entries.takes_no_memory entry.now ≡ true → length config.now.servants ≤ 2 ^ 32 → IsOk result }
 {
     match entry {
         Entry::Admit {
             arrival,
             verdict,
             ..
-        } => admitted(alloc, config, run, past, *arrival, verdict, standing),
-        Entry::Tried { worker, answer } => {
-            tried(alloc, arrival_in(stage(past, *worker)), *answer, standing)
-        }
-        Entry::Incarnated { worker, answer } => {
-            incarnated(alloc, config, stage(past, *worker), answer, standing)
-        }
-        Entry::Done { worker } => end_flight(alloc, standing, arrival_in(stage(past, *worker))),
-        Entry::TakeOut { activation, .. } => take_out(alloc, standing, *activation),
-        Entry::Etherealized { worker, .. } => etherealized(alloc, stage(past, *worker), standing),
-        _ => Ok(()),
+        } => admitted(alloc, config, run, *arrival, call, verdict, standing)?,
+        Entry::Tried { answer, .. } => tried(arrival_in(stage), *answer, standing)?,
+        Entry::Incarnated { answer, .. } => incarnated(config, stage, answer, standing)?,
+        Entry::Done { .. } => end_flight(standing, arrival_in(stage)),
+        Entry::TakeOut { activation, .. } => take_out(&mut standing.acts, *activation),
+        Entry::Etherealized { .. } => etherealized(stage, standing),
+        _ => {}
     }
-}
-
-/// An entry is made after those before it, and what has ended goes.
-fn advance(
-    alloc: Global,
-    config: &Config,
-    run: u32,
-    past: &[Entry],
-    entry: &Entry,
-    standing: &mut Standing,
-) -> Result<(), WantMemory>
-    requires { seen standing.old ≡ changes.standing config.now run (reverse past.now) }
-    ensures { OnOk result (seen standing.new ≡ changes.standing config.now run (entry.now ∷ reverse past.now)) }
-{
-    change(alloc, config, run, past, entry, standing)?;
-    settle(alloc, config, standing)?;
     Ok(())
 }
 
-/// What stands after a history.
+/// Whether something may have ended with an entry.
+fn may_end(entry: &Entry) -> bool
+    ensures { result ≡ entries.may_end entry.now }
+{
+    match entry {
+        Entry::Admit { verdict, .. } => is_accepted(verdict),
+        Entry::Tried { .. }
+        | Entry::Incarnated { .. }
+        | Entry::Done { .. }
+        | Entry::TakeOut { .. }
+        | Entry::Etherealized { .. } => true,
+        _ => false,
+    }
+}
+
+/// An entry is made after those before it, and what has ended goes. It is given what its worker had begun and,
+/// for an Admit, the call. Fails for want of memory, or of a number of 32 bits; then nothing is changed. An Admit,
+/// and a trial that made the child, may fail, and an incarnation by a servant whose number has more than 32 bits.
+pub fn advance(
+    alloc: Global,
+    config: &Config,
+    run: u32,
+    entry: &Entry,
+    stage: Stage,
+    call: Option<&Call>,
+    standing: &mut Standing,
+) -> Result<(), WantMemory>
+    ensures ok { (past : List Entry) → seen standing.old ≡ changes.standing config.now run past → stage ≡ entries.stage_at past entry.now → option_copied call.entry ≡ entries.call_admitted past entry.now
+        → OnOk result (seen standing.new ≡ changes.standing config.now run (entry.now ∷ past)) }
+    ensures err { OnErr result (seen standing.new ≡ seen standing.old) }
+    ensures ends { entries.takes_no_memory entry.now ≡ true → entries.names_servant entry.now ≡ false → IsOk result }
+    ensures named { entries.takes_no_memory entry.now ≡ true → length config.now.servants ≤ 2 ^ 32 → IsOk result }
+{
+    change(alloc, config, run, entry, stage, call, standing)?;
+    if may_end(entry) {
+        settle(config, standing);
+    }
+    Ok(())
+}
+
+/// What the worker of an entry had begun.
+fn stage_before(past: &[Entry], entry: &Entry) -> Stage
+    ensures { result ≡ entries.stage_at (reverse past.now) entry.now }
+{
+    match entry {
+        Entry::Admit { worker, .. }
+        | Entry::Tried { worker, .. }
+        | Entry::Incarnated { worker, .. }
+        | Entry::Run { worker }
+        | Entry::Done { worker }
+        | Entry::TakeOut { worker, .. }
+        | Entry::Etherealized { worker, .. } => stage(past, *worker),
+        _ => Stage::Free,
+    }
+}
+
+/// The call that an entry admits.
+fn call_admitted<'a>(past: &'a [Entry], entry: &Entry) -> Option<&'a Call>
+    ensures { option_copied result ≡ entries.call_admitted (reverse past.now) entry.now }
+{
+    match entry {
+        Entry::Admit { arrival, .. } => call_of(past, *arrival),
+        _ => None,
+    }
+}
+
+/// What stands after a history. Fails for want of memory, or of a number of 32 bits.
 pub fn standing_of(
     alloc: Global,
     config: &Config,
@@ -425,7 +231,10 @@ pub fn standing_of(
 {
     let mut standing = opening(alloc, config, run)?;
     for (i, entry) in history.iter().enumerate() {
-        advance(alloc, config, run, &history[..i], entry, &mut standing)?;
+        let past = &history[..i];
+        let stage = stage_before(past, entry);
+        let call = call_admitted(past, entry);
+        advance(alloc, config, run, entry, stage, call, &mut standing)?;
     }
     Ok(standing)
 }

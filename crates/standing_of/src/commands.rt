@@ -1,113 +1,142 @@
-//! The commands that were done, and the adapters and activations that they name.
-ghost use Rattle.std.specs.Prelude.{◌≡◌, ◌==◌, ◌&&◌, None, if◌then◌else◌, find, option_copied, reverse};
-ghost use Rattle.poa_base.specs.declared.Sid.TheVariants.{Named};
-ghost use Rattle.poa_history.specs.Commands as rows;
-ghost use Rattle.poa_history.specs.Arrivals as calls;
-ghost use Rattle.poa_history.specs.Logs as logs;
-ghost use Rattle.poa_history.specs.Standings as stands;
-ghost use Rattle.standing_of.specs.Seen.{seen};
+//! What a command that is done changes. Either all of it is changed or nothing.
+ghost use Rattle.std.specs.Prelude.{◌≡◌, ℕ, ◌≤◌, ◌^◌, length, Some, None, if◌then◌else◌, option_copied, IfOk, IsOk, OnOk, OnErr};
+ghost use Rattle.poa_history.specs.Changes as changes;
+ghost use Rattle.poa_history.specs.Templates.{manager_number as number_of_manager};
+ghost use Rattle.standing_queries.specs.Seen.{seen};
 
-use crate::acts::{has_servant, is_mapped};
-use crate::calls::call_of;
-use crate::nodes::node_at;
-use crate::standing::Standing;
-use crate::templates::{activates_implicitly, is_unique, policies_at, retains};
-use poa_base::{Answer, Call, Command, Config, Entry, Name, Sid, Verdict};
-use poa_history::Act;
-use poa_tree::Node;
+use crate::beginning::{add_act, add_node};
+use crate::ending::{deactivate, destroy, turn_off};
+use poa_base::{Command, Config, Name, Order, Path, Sid, WantMemory};
+use poa_history::Phase;
+use standing_queries::Standing;
+use standing_queries::commands::{is_implicit, live_at, number_at};
+use standing_queries::ids::{made_id, next};
+use standing_queries::templates::{manager_number, servant_number};
+use std::alloc::Global;
 
-/// Whether the command was done.
-pub fn is_accepted(verdict: &Verdict) -> bool
-    ensures { result ≡ logs.is_accepted verdict.now }
+/// The phase of an activation that this servant completes. Fails where the servant's number has more than 32
+/// bits.
+pub fn servant_of(config: &Config, name: &Name) -> Result<Phase, WantMemory>
+    ensures value { IfOk result (λ phase. phase ≡ changes.servant_of config.now name.now) }
+    ensures ok { length config.now.servants ≤ 2 ^ 32 → IsOk result }
 {
-    match verdict {
-        Verdict::Answer(Answer::No(_)) => false,
-        Verdict::Answer(_) | Verdict::Wait => true,
-        _ => false,
+    match servant_number(config, name)? {
+        Some(number) => Ok(Phase::Complete(Sid::Named(number))),
+        None => Ok(Phase::Void),
     }
 }
 
-/// The command of a call.
-pub fn command_in<'a>(call: Option<&'a Call>) -> Option<&'a Command>
-    ensures { option_copied result ≡ logs.command_in (option_copied call.entry) }
-{
-    match call {
-        Some(Call::Line { command, .. }) => Some(command),
-        Some(Call::Request { .. } | Call::Locate { .. }) | None => None,
-    }
-}
-
-/// The command that the Admit of an arrival does, after the entries before it.
-pub fn done_by<'a>(past: &'a [Entry], arrival: u64, verdict: &Verdict) -> Option<&'a Command>
-    ensures { option_copied result ≡ (if logs.is_accepted verdict.now then logs.command_in (calls.call_of (reverse past.now) arrival) else None) }
-{
-    if is_accepted(verdict) {
-        command_in(call_of(past, arrival))
-    } else {
-        None
-    }
-}
-
-/// The command that an entry does, after the entries before it.
-pub fn command_done<'a>(past: &'a [Entry], entry: &Entry) -> Option<&'a Command>
-    ensures { option_copied result ≡ logs.command_done (reverse past.now) entry.now }
-{
-    match entry {
-        Entry::Admit {
-            arrival,
-            verdict,
-            ..
-        } => done_by(past, *arrival, verdict),
-        _ => None,
-    }
-}
-
-/// The adapter at the path, where it isn't being destroyed.
-pub fn live_at<'a>(standing: &'a Standing, path: &[Name]) -> Option<&'a Node>
-    ensures { option_copied result ≡ rows.live_at (seen standing.now) path.now }
-{
-    match node_at(&standing.nodes, path) {
-        Some(node) => { if node.dying { None } else { Some(node) } }
-        None => None,
-    }
-}
-
-/// Whether the servant is in the map of the adapter by this activation.
-fn is_by(adapter: u32, servant: u32, act: &Act) -> bool
-    ensures { result ≡ (act.now.adapter == adapter) && (stands.is_mapped act.now && stands.has_servant (Named servant) act.now) }
-{
-    act.adapter == adapter && (is_mapped(act) && has_servant(Sid::Named(servant), act))
-}
-
-/// The activation by which the servant is in the map of the adapter.
-fn mapped<'a>(acts: &'a [Act], adapter: u32, servant: u32) -> Option<&'a Act>
-    ensures { option_copied result ≡ find (λ a. (a.adapter == adapter) && (stands.is_mapped a && stands.has_servant (Named servant) a)) acts.now }
-{
-    acts.iter().find(|act| is_by(adapter, servant, act))
-}
-
-/// The activation by which a servant has its one reference.
-pub fn referred<'a>(
+/// The servant is active under a new system-made id.
+fn add_made_act(
+    alloc: Global,
     config: &Config,
-    standing: &'a Standing,
-    node: &Node,
-    servant: u32,
-) -> Option<&'a Act>
-    ensures { option_copied result ≡ rows.referred config.now (seen standing.now) node.now servant }
+    run: u32,
+    path: &Path,
+    servant: &Name,
+    standing: &mut Standing,
+) -> Result<(), WantMemory>
+    ensures ok { OnOk result (seen standing.new ≡ changes.with_made_act config.now run path.now servant.now (seen standing.old)) }
+    ensures err { OnErr result (seen standing.new ≡ seen standing.old) }
 {
-    let policies = policies_at(config, node.path.as_slice());
-    if retains(policies) && is_unique(policies) {
-        mapped(&standing.acts, node.number, servant)
-    } else {
-        None
+    let adapter = number_at(standing, path.as_slice());
+    let ordinal = next(standing.made)?;
+    let oid = made_id(alloc, run, ordinal)?;
+    let phase = servant_of(config, servant)?;
+    add_act(standing, adapter, path, &oid, phase)?;
+    standing.made = ordinal;
+    Ok(())
+}
+
+/// Whether a servant's reference is that of a new activation.
+fn is_made_for(
+    config: &Config,
+    standing: &Standing,
+    path: &Path,
+    servant: &Name,
+) -> Result<bool, WantMemory>
+    ensures { IfOk result (λ made. (run : ℕ) → changes.with_reference config.now run path.now servant.now (seen standing.now)
+        ≡ (if made then changes.with_made_act config.now run path.now servant.now (seen standing.now) else seen standing.now)) }
+{
+    let Some(node) = live_at(standing, path.as_slice()) else {
+        return Ok(false);
+    };
+    match servant_number(config, servant)? {
+        Some(number) => Ok(is_implicit(config, standing, node, number)),
+        None => Ok(false),
     }
 }
 
-/// Whether the servant is activated under a system-made id.
-pub fn is_implicit(config: &Config, standing: &Standing, node: &Node, servant: u32) -> bool
-    ensures { result ≡ rows.is_implicit config.now (seen standing.now) node.now servant }
+fn add_reference(
+    alloc: Global,
+    config: &Config,
+    run: u32,
+    path: &Path,
+    servant: &Name,
+    standing: &mut Standing,
+) -> Result<(), WantMemory>
+    ensures ok { OnOk result (seen standing.new ≡ changes.with_reference config.now run path.now servant.now (seen standing.old)) }
+    ensures err { OnErr result (seen standing.new ≡ seen standing.old) }
 {
-    let policies = policies_at(config, node.path.as_slice());
-    referred(config, standing, node, servant).is_none()
-        && (retains(policies) && activates_implicitly(policies))
+    if is_made_for(config, standing, path, servant)? {
+        add_made_act(alloc, config, run, path, servant, standing)?;
+    }
+    Ok(())
+}
+
+/// The manager of this name is turned off.
+fn off(config: &Config, manager: &Name, standing: &mut Standing)
+    ensures { seen standing.new ≡ elim (number_of_manager config.now manager.now) [ Some m ↦ changes.with_manager_off config.now m (seen standing.old) | None ↦ seen standing.old ] }
+{
+    if let Some(number) = manager_number(config, manager) {
+        turn_off(config, &mut standing.acts, number);
+    }
+}
+
+/// A command that is done takes effect.
+pub fn command(
+    alloc: Global,
+    config: &Config,
+    run: u32,
+    done: Option<&Command>,
+    standing: &mut Standing,
+) -> Result<(), WantMemory>
+    ensures ok { OnOk result (seen standing.new ≡ changes.with_command config.now run (option_copied done.entry) (seen standing.old)) }
+    ensures err { OnErr result (seen standing.new ≡ seen standing.old) }
+{
+    let Some(done) = done else {
+        return Ok(());
+    };
+    match done {
+        Command::Manager {
+            manager,
+            order: Order::Deactivate {
+                etherealize: true,
+                ..
+            },
+        } => off(config, manager, standing),
+        Command::Create { path } => add_node(standing, path)?,
+        Command::Destroy {
+            path,
+            etherealize,
+            ..
+        } => destroy(standing, path.as_slice(), *etherealize),
+        Command::Activate { path, servant } => {
+            add_made_act(alloc, config, run, path, servant, standing)?
+        }
+        Command::ActivateId { path, oid, servant } => {
+            let adapter = number_at(standing, path.as_slice());
+            let phase = servant_of(config, servant)?;
+            add_act(standing, adapter, path, oid, phase)?;
+        }
+        Command::Deactivate { path, oid } => {
+            let adapter = number_at(standing, path.as_slice());
+            deactivate(&mut standing.acts, adapter, oid);
+        }
+        Command::Reference { path, servant } => {
+            add_reference(alloc, config, run, path, servant, standing)?
+        }
+        Command::Shutdown => destroy(standing, &[], true),
+        _ => {}
+    }
+    Ok(())
 }

@@ -1,19 +1,19 @@
-//! What makes activations end: a destroy, a deactivation of an id, a manager that is turned off.
-ghost use Rattle.std.specs.Prelude.{◌≡◌, ◌==◌, ◌&&◌, true, map, if◌then◌else◌, IfOk, OnOk};
+//! What makes activations end: a destroy, a deactivation of an id, a manager that is turned off. Each change
+//! is made in place and takes no memory.
+ghost use Rattle.std.specs.Prelude.{◌≡◌, ◌==◌, ◌&&◌, true, map, if◌then◌else◌};
 ghost use Rattle.poa_tree.specs.Nodes as tree;
 ghost use Rattle.poa_history.specs.Changes as changes;
 ghost use Rattle.poa_history.specs.Standings as stands;
 ghost use Rattle.poa_history.specs.Templates as configured;
-ghost use Rattle.standing_of.specs.Seen.{seen};
+ghost use Rattle.standing_queries.specs.Seen.{seen};
 
-use crate::acts::is_of;
-use crate::nodes::{leads_to, stands_under};
-use crate::standing::Standing;
-use crate::templates::{has_activator, manager_at};
-use poa_base::{Config, Name, Oid, WantMemory};
+use poa_base::{Config, Name, Oid};
 use poa_history::Act;
 use poa_tree::Node;
-use std::alloc::Global;
+use standing_queries::Standing;
+use standing_queries::acts::is_of;
+use standing_queries::nodes::{leads_to, stands_under};
+use standing_queries::templates::{has_activator, manager_at};
 
 /// The activation is ending, by a destroy or so that its servant is etherealized.
 fn end_by_destroy(act: &mut Act, etherealize: bool)
@@ -24,72 +24,50 @@ fn end_by_destroy(act: &mut Act, etherealize: bool)
     act.ending = true;
 }
 
-fn node_marked(node: &Node, path: &[Name]) -> Result<Node, WantMemory>
-    ensures { IfOk result (λ n. n ≡ tree.marked path.now node.now) }
+/// The adapter is being destroyed, if it is that of the path or below it.
+fn mark_one(node: &mut Node, path: &[Name])
+    ensures { node.new ≡ tree.marked path.now node.old }
 {
-    let mut marked = node.clone()?;
     if leads_to(path, node.path.as_slice()) {
-        marked.dying = true;
+        node.dying = true;
     }
-    Ok(marked)
 }
 
-/// The adapters, that of the path and those below it marked.
-fn nodes_marked(alloc: Global, nodes: &[Node], path: &[Name]) -> Result<Vec<Node>, WantMemory>
-    ensures { IfOk result (λ marked. marked.items ≡ map (tree.marked path.now) nodes.now) }
+/// The adapter of the path and those below it are being destroyed.
+#[tactic(auto, using(crate::proofs::InPlace::mapped_one))]
+fn mark(nodes: &mut Vec<Node>, path: &[Name])
+    ensures { nodes.new.items ≡ map (tree.marked path.now) nodes.old.items }
 {
-    let mut marked = Vec::new(alloc);
-    for node in nodes {
-        marked.push(node_marked(node, path)?)?;
+    for node in nodes.iter_mut() {
+        mark_one(node, path);
     }
-    Ok(marked)
 }
 
-/// An activation, ending where its adapter stands at the path or below it.
-fn act_destroyed(
-    nodes: &[Node],
-    path: &[Name],
-    etherealize: bool,
-    act: &Act,
-) -> Result<Act, WantMemory>
-    ensures { IfOk result (λ a. a ≡ (if tree.stands_under nodes.now path.now act.now.adapter then changes.ended_by_destroy etherealize act.now else act.now)) }
+/// An activation is ending where its adapter stands at the path or below it.
+fn end_under(nodes: &[Node], path: &[Name], etherealize: bool, act: &mut Act)
+    ensures { act.new ≡ (if tree.stands_under nodes.now path.now act.old.adapter then changes.ended_by_destroy etherealize act.old else act.old) }
 {
-    let mut ended = act.clone()?;
     if stands_under(nodes, path, act.adapter) {
-        end_by_destroy(&mut ended, etherealize);
+        end_by_destroy(act, etherealize);
     }
-    Ok(ended)
 }
 
-fn acts_destroyed(
-    alloc: Global,
-    standing: &Standing,
-    path: &[Name],
-    etherealize: bool,
-) -> Result<Vec<Act>, WantMemory>
-    ensures { IfOk result (λ acts. acts.items ≡ map (λ a. if tree.stands_under standing.now.nodes.items path.now a.adapter then changes.ended_by_destroy etherealize a else a) standing.now.acts.items) }
+/// The activations of the adapters that stand at the path or below it are ending.
+#[tactic(auto, using(crate::proofs::InPlace::mapped_one))]
+fn end_all_under(nodes: &[Node], path: &[Name], etherealize: bool, acts: &mut Vec<Act>)
+    ensures { acts.new.items ≡ map (λ a. if tree.stands_under nodes.now path.now a.adapter then changes.ended_by_destroy etherealize a else a) acts.old.items }
 {
-    let mut acts = Vec::new(alloc);
-    for act in &standing.acts {
-        acts.push(act_destroyed(&standing.nodes, path, etherealize, act)?)?;
+    for act in acts.iter_mut() {
+        end_under(nodes, path, etherealize, act);
     }
-    Ok(acts)
 }
 
 /// The adapter of the path and those below it are destroyed.
-pub fn destroy(
-    alloc: Global,
-    standing: &mut Standing,
-    path: &[Name],
-    etherealize: bool,
-) -> Result<(), WantMemory>
-    ensures { OnOk result (seen standing.new ≡ changes.with_destroyed path.now etherealize (seen standing.old)) }
+pub fn destroy(standing: &mut Standing, path: &[Name], etherealize: bool)
+    ensures { seen standing.new ≡ changes.with_destroyed path.now etherealize (seen standing.old) }
 {
-    let acts = acts_destroyed(alloc, standing, path, etherealize)?;
-    standing.acts = acts;
-    let nodes = nodes_marked(alloc, &standing.nodes, path)?;
-    standing.nodes = nodes;
-    Ok(())
+    end_all_under(&standing.nodes, path, etherealize, &mut standing.acts);
+    mark(&mut standing.nodes, path);
 }
 
 /// Whether the activation is one of the manager's, with a servant activator.
@@ -100,80 +78,40 @@ fn is_activators(config: &Config, manager: usize, act: &Act) -> bool
     has_activator(config, path) && manager_at(config, path) as usize == manager
 }
 
-fn act_off(config: &Config, manager: usize, act: &Act) -> Result<Act, WantMemory>
-    ensures { IfOk result (λ a. a ≡ (if configured.has_activator config.now act.now.path && (configured.manager_at config.now act.now.path == manager) then changes.ended_by_destroy true act.now else act.now)) }
+/// An activation is ending where it is one of the manager's, with a servant activator.
+fn end_activators(config: &Config, manager: usize, act: &mut Act)
+    ensures { act.new ≡ (if configured.has_activator config.now act.old.path && (configured.manager_at config.now act.old.path == manager) then changes.ended_by_destroy true act.old else act.old) }
 {
-    let mut ended = act.clone()?;
     if is_activators(config, manager, act) {
-        end_by_destroy(&mut ended, true);
+        end_by_destroy(act, true);
     }
-    Ok(ended)
-}
-
-fn acts_off(
-    alloc: Global,
-    config: &Config,
-    acts: &[Act],
-    manager: usize,
-) -> Result<Vec<Act>, WantMemory>
-    ensures { IfOk result (λ off. off.items ≡ map (λ a. if configured.has_activator config.now a.path && (configured.manager_at config.now a.path == manager) then changes.ended_by_destroy true a else a) acts.now) }
-{
-    let mut off = Vec::new(alloc);
-    for act in acts {
-        off.push(act_off(config, manager, act)?)?;
-    }
-    Ok(off)
 }
 
 /// The manager's activations that have a servant activator are ending.
-pub fn turn_off(
-    alloc: Global,
-    config: &Config,
-    standing: &mut Standing,
-    manager: usize,
-) -> Result<(), WantMemory>
-    ensures { OnOk result (seen standing.new ≡ changes.with_manager_off config.now manager (seen standing.old)) }
+#[tactic(auto, using(crate::proofs::InPlace::mapped_one))]
+pub fn turn_off(config: &Config, acts: &mut Vec<Act>, manager: usize)
+    ensures { acts.new.items ≡ map (λ a. if configured.has_activator config.now a.path && (configured.manager_at config.now a.path == manager) then changes.ended_by_destroy true a else a) acts.old.items }
 {
-    let acts = acts_off(alloc, config, &standing.acts, manager)?;
-    standing.acts = acts;
-    Ok(())
+    for act in acts.iter_mut() {
+        end_activators(config, manager, act);
+    }
 }
 
-fn act_deactivated(adapter: u32, oid: &Oid, act: &Act) -> Result<Act, WantMemory>
-    ensures { IfOk result (λ a. a ≡ (if stands.is_of adapter oid.now act.now then record act.now { ending = true } else act.now)) }
+/// An activation is ending where it is of the id.
+fn end_of_id(adapter: u32, oid: &Oid, act: &mut Act)
+    ensures { act.new ≡ (if stands.is_of adapter oid.now act.old then record act.old { ending = true } else act.old) }
 {
-    let mut ended = act.clone()?;
     if is_of(adapter, oid, act) {
-        ended.ending = true;
+        act.ending = true;
     }
-    Ok(ended)
-}
-
-fn acts_deactivated(
-    alloc: Global,
-    acts: &[Act],
-    adapter: u32,
-    oid: &Oid,
-) -> Result<Vec<Act>, WantMemory>
-    ensures { IfOk result (λ ended. ended.items ≡ map (λ a. if stands.is_of adapter oid.now a then record a { ending = true } else a) acts.now) }
-{
-    let mut ended = Vec::new(alloc);
-    for act in acts {
-        ended.push(act_deactivated(adapter, oid, act)?)?;
-    }
-    Ok(ended)
 }
 
 /// The activations of the id are ending.
-pub fn deactivate(
-    alloc: Global,
-    standing: &mut Standing,
-    adapter: u32,
-    oid: &Oid,
-) -> Result<(), WantMemory>
-    ensures { OnOk result (seen standing.new ≡ changes.with_deactivated adapter oid.now (seen standing.old)) }
+#[tactic(auto, using(crate::proofs::InPlace::mapped_one))]
+pub fn deactivate(acts: &mut Vec<Act>, adapter: u32, oid: &Oid)
+    ensures { acts.new.items ≡ map (λ a. if stands.is_of adapter oid.now a then record a { ending = true } else a) acts.old.items }
 {
-    let acts = acts_deactivated(alloc, &standing.acts, adapter, oid)?;
-    standing.acts = acts;
-    Ok(())
+    for act in acts.iter_mut() {
+        end_of_id(adapter, oid, act);
+    }
 }

@@ -1,14 +1,14 @@
 //! What an entry begins and ends in flight.
-ghost use Rattle.std.specs.Prelude.{◌≡◌, ◌==◌, filter, find, not, IfOk, OnOk, option_copied};
+ghost use Rattle.std.specs.Prelude.{◌≡◌, ◌==◌, filter, find, not, IfOk, OnOk, OnErr, option_copied};
 ghost use Rattle.poa_history.specs.Changes as changes;
-ghost use Rattle.standing_of.specs.Seen.{seen};
+ghost use Rattle.standing_queries.specs.Seen.{seen};
 
-use crate::nodes::copied;
-use crate::opening::add_act;
-use crate::standing::Standing;
-use crate::walks::{adapter_met, child_met, walk};
+use crate::beginning::begun;
 use poa_base::{Key, Name, Path, Verdict, WantMemory};
 use poa_history::{Flight, Phase};
+use standing_queries::Standing;
+use standing_queries::nodes::copied;
+use standing_queries::walks::{adapter_met, child_met, walk};
 use std::alloc::Global;
 
 /// A request is admitted to the adapter of its key.
@@ -19,7 +19,8 @@ fn add_request(
     key: &Key,
     activation: Option<u32>,
 ) -> Result<(), WantMemory>
-    ensures { OnOk result (seen standing.new ≡ changes.with_request arrival key.now activation (seen standing.old)) }
+    ensures ok { OnOk result (seen standing.new ≡ changes.with_request arrival key.now activation (seen standing.old)) }
+    ensures err { OnErr result (seen standing.new ≡ seen standing.old) }
 {
     let adapter = adapter_met(walk(alloc, &standing.nodes, key.path.as_slice())?);
     standing.flights.push(Flight {
@@ -45,7 +46,8 @@ fn add_trial(
     arrival: u64,
     key: &Key,
 ) -> Result<(), WantMemory>
-    ensures { OnOk result (seen standing.new ≡ changes.with_trial arrival key.now (seen standing.old)) }
+    ensures ok { OnOk result (seen standing.new ≡ changes.with_trial arrival key.now (seen standing.old)) }
+    ensures err { OnErr result (seen standing.new ≡ seen standing.old) }
 {
     let found = walk(alloc, &standing.nodes, key.path.as_slice())?;
     let child = path_of(alloc, child_met(found, key.path.as_slice()))?;
@@ -58,19 +60,34 @@ fn add_trial(
     Ok(())
 }
 
-/// A request is admitted, and its activation begun.
+/// A request is admitted, and its activation begun. Both lists have their room before either changes.
 fn add_incarnation(
     alloc: Global,
     standing: &mut Standing,
     arrival: u64,
     key: &Key,
 ) -> Result<(), WantMemory>
-    ensures { OnOk result (seen standing.new ≡ changes.with_incarnation arrival key.now (seen standing.old)) }
+    ensures ok { OnOk result (seen standing.new ≡ changes.with_incarnation arrival key.now (seen standing.old)) }
+    ensures err { OnErr result (seen standing.new ≡ seen standing.old) }
 {
-    let number = u32::try_from(standing.acts.len()).map_err(|_| WantMemory)?;
     let adapter = adapter_met(walk(alloc, &standing.nodes, key.path.as_slice())?);
-    add_request(alloc, standing, arrival, key, Some(number))?;
-    add_act(standing, adapter, &key.path, &key.oid, Phase::Begun)
+    let act = begun(
+        standing.acts.len(),
+        adapter,
+        &key.path,
+        &key.oid,
+        Phase::Begun,
+    )?;
+    standing.flights.reserve(1)?;
+    standing.acts.reserve(1)?;
+    standing.flights.push_reserved(Flight {
+        arrival,
+        adapter,
+        activation: Some(act.number),
+        child: None,
+    });
+    standing.acts.push_reserved(act);
+    Ok(())
 }
 
 /// What the Admit of a request begins.
@@ -81,7 +98,8 @@ pub fn admit(
     key: Option<&Key>,
     verdict: &Verdict,
 ) -> Result<(), WantMemory>
-    ensures { OnOk result (seen standing.new ≡ changes.with_admitted arrival (option_copied key.entry) verdict.now (seen standing.old)) }
+    ensures ok { OnOk result (seen standing.new ≡ changes.with_admitted arrival (option_copied key.entry) verdict.now (seen standing.old)) }
+    ensures err { OnErr result (seen standing.new ≡ seen standing.old) }
 {
     let Some(key) = key else {
         return Ok(());
@@ -97,36 +115,24 @@ pub fn admit(
     }
 }
 
-/// What is in flight, but for an arrival.
-fn others(alloc: Global, flights: &[Flight], arrival: u64) -> Result<Vec<Flight>, WantMemory>
-    ensures { IfOk result (λ kept. kept.items ≡ filter (λ f. not (f.arrival == arrival)) flights.now) }
+/// What is in flight for an arrival is taken off.
+fn take_off(flights: &mut Vec<Flight>, arrival: u64)
+    ensures { flights.new.items ≡ filter (λ f. not (f.arrival == arrival)) flights.old.items }
 {
-    let mut kept = Vec::new(alloc);
-    for flight in flights {
-        if flight.arrival != arrival {
-            kept.push(flight.clone()?)?;
-        }
-    }
-    Ok(kept)
+    flights.retain(|flight| flight.arrival != arrival);
 }
 
-/// The request or trial of an arrival ends.
-pub fn end_flight(
-    alloc: Global,
-    standing: &mut Standing,
-    arrival: Option<u64>,
-) -> Result<(), WantMemory>
-    ensures { OnOk result (seen standing.new ≡ changes.without_flight arrival (seen standing.old)) }
+/// The request or trial of an arrival ends. Takes no memory.
+pub fn end_flight(standing: &mut Standing, arrival: Option<u64>)
+    ensures { seen standing.new ≡ changes.without_flight arrival (seen standing.old) }
 {
     if let Some(arrival) = arrival {
-        let kept = others(alloc, &standing.flights, arrival)?;
-        standing.flights = kept;
+        take_off(&mut standing.flights, arrival);
     }
-    Ok(())
 }
 
 /// What is in flight for an arrival.
-pub fn flight_of(flights: &[Flight], arrival: u64) -> Option<&Flight>
+fn flight_of(flights: &[Flight], arrival: u64) -> Option<&Flight>
     ensures { option_copied result ≡ find (λ f. f.arrival == arrival) flights.now }
 {
     flights.iter().find(|flight| flight.arrival == arrival)

@@ -1,23 +1,17 @@
-//! What stands after a history, computed plainly from its definition: calls and their arrivals, what each
-//! worker has begun, what the configuration says, and the adapters, requests in flight and activations.
-//! Each function asks the whole history again, the oldest entry first; none keeps a table.
+//! What stands after a history: the adapters, the requests and trials in flight, and the activations. One entry
+//! at a time changes it in place, all of it or nothing, and an entry with which something ends takes no memory.
 #![tactic(auto)]
 
-pub mod acts;
-pub mod calls;
+mod beginning;
 mod changes;
-pub mod commands;
+mod commands;
 mod ending;
-pub mod ends;
-pub mod flights;
 mod flying;
-pub mod keys;
-pub mod nodes;
-pub mod opening;
-mod standing;
-pub mod templates;
-pub mod walks;
-pub mod workers;
+pub mod laws;
+mod lives;
+mod settling;
+#[cfg(test)]
+mod tests;
 
-pub use changes::standing_of;
-pub use standing::Standing;
+pub use beginning::opening;
+pub use changes::{advance, standing_of};

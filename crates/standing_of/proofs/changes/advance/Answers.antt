@@ -1,9 +1,10 @@
-use Rattle.std.proofs.Common.{◌∙◌, ap, reverse}
+use Rattle.std.proofs.Common.{◌∙◌, ap, sym}
 use Rattle.poa_history.specs.Changes.{changed}
-use Rattle.poa_history.specs.Ends.{settled}
+use Rattle.standing_of.proofs.Settled.{still_after}
 use Rattle.standing_of.proofs.changes.advance.Goals as goal
 
-pub returns : goal.returns
-returns c =
-    c.in_ok-settle.ensures
-    ∙ ap (settled c.args.config.now) (c.in_ok-change.ensures ∙ ap (changed c.args.config.now c.args.run (reverse c.args.past.now) c.args.entry.now) c.requires)
+pub returns-else-may_end-clause-ok : goal.returns-else-may_end-clause-ok
+returns-else-may_end-clause-ok c past before begun admits =
+    c.in_ok-change.ensures.ok past begun admits
+    ∙ ap (changed c.args.config.now c.args.run past c.args.entry.now) before
+    ∙ sym (still_after c.args.config.now c.args.run past c.args.entry.now (sym c.if-may_end.ensures))

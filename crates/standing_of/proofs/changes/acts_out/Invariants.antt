@@ -1,6 +1,0 @@
-use Rattle.std.proofs.Common.{◌≡◌, true, map, take}
-use Rattle.poa_history.specs.Changes as changes
-use Rattle.standing_of.proofs.changes.acts_out.Given as goal
-
-abbrev pub invariant-loop-act : goal.invariant-loop-act
-invariant-loop-act l = l.out.items ≡ map (changes.at_number l.number (λ a. record a { out = true; remaining = changes.is_elsewhere l.acts a })) (take l.act-index l.acts)

@@ -1,7 +1,0 @@
-use Rattle.std.proofs.Common.{◌≡◌, map, take, if◌then◌else◌}
-use Rattle.poa_tree.specs.Nodes as tree
-use Rattle.poa_history.specs.Changes as changes
-use Rattle.standing_of.proofs.ending.acts_destroyed.Given as goal
-
-abbrev pub invariant-loop-act : goal.invariant-loop-act
-invariant-loop-act l = l.acts.items ≡ map (λ a. if tree.stands_under l.standing.nodes.items l.path a.adapter then changes.ended_by_destroy l.etherealize a else a) (take l.act-index l.standing.acts.items)

@@ -1,7 +1,0 @@
-use Rattle.std.proofs.Common.{◌≡◌, ◌==◌, ◌&&◌, true, map, take, if◌then◌else◌}
-use Rattle.poa_history.specs.Changes as changes
-use Rattle.poa_history.specs.Templates as configured
-use Rattle.standing_of.proofs.ending.acts_off.Given as goal
-
-abbrev pub invariant-loop-act : goal.invariant-loop-act
-invariant-loop-act l = l.off.items ≡ map (λ a. if configured.has_activator l.config a.path && (configured.manager_at l.config a.path == l.manager) then changes.ended_by_destroy true a else a) (take l.act-index l.acts)

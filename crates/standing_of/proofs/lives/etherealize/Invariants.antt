@@ -1,0 +1,6 @@
+use Rattle.std.proofs.Common.{◌≡◌, ◌++◌, true, map, take, drop}
+use Rattle.poa_history.specs.Changes as changes
+use Rattle.standing_of.proofs.lives.etherealize.Given as goal
+
+abbrev pub invariant-loop-act : goal.invariant-loop-act
+invariant-loop-act l = l.act-items ≡ map (changes.at_number l.number (λ a. record a { etherealized = true })) (take l.act-index l.fn.acts.items) ++ drop l.act-index l.fn.acts.items

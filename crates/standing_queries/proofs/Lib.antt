@@ -1,0 +1,3 @@
+pub mod KeysRead
+pub mod Parents
+pub mod Onward

@@ -1,0 +1,82 @@
+//! When an activation is over, and when an adapter is gone.
+ghost use Rattle.std.specs.Prelude.{◌≡◌, ◌&&◌, ◌||◌, not};
+ghost use Rattle.std.specs.List.{list_any};
+ghost use Rattle.poa_tree.specs.Nodes.{stands_under};
+ghost use Rattle.poa_tree.specs.Paths.{is_root};
+ghost use Rattle.poa_history.specs.Ends as ends;
+ghost use Rattle.standing_queries.specs.Seen.{seen};
+
+use crate::acts::is_void;
+use crate::nodes;
+use crate::standing::Standing;
+use crate::templates::has_activator;
+use poa_base::{Config, Name};
+use poa_history::Act;
+use poa_tree::Node;
+
+/// Whether it is out of the map, and etherealized where that is due.
+pub fn is_finished(config: &Config, act: &Act) -> bool
+    ensures { result ≡ ends.is_finished config.now act.now }
+{
+    act.out && (act.quiet || act.etherealized || !has_activator(config, act.path.as_slice()))
+}
+
+/// Whether it holds its id no longer.
+pub fn is_over(config: &Config, act: &Act) -> bool
+    ensures { result ≡ ends.is_over config.now act.now }
+{
+    is_void(act) || is_finished(config, act)
+}
+
+/// Whether something is in flight at the path or below it.
+fn is_flown_under(standing: &Standing, path: &[Name]) -> bool
+    ensures { result ≡ list_any (λ f. stands_under standing.now.nodes.items path.now f.adapter) standing.now.flights.items }
+{
+    standing.flights.iter().any(|flight| nodes::stands_under(&standing.nodes, path, flight.adapter))
+}
+
+/// Whether the activation isn't over and is of an adapter at the path or below it.
+fn lives_under(config: &Config, nodes: &[Node], path: &[Name], act: &Act) -> bool
+    ensures { result ≡ not (ends.is_over config.now act.now) && stands_under nodes.now path.now act.now.adapter }
+{
+    !is_over(config, act) && nodes::stands_under(nodes, path, act.adapter)
+}
+
+/// Whether an activation at the path or below it isn't over.
+fn is_lived_under(config: &Config, standing: &Standing, path: &[Name]) -> bool
+    ensures { result ≡ list_any (λ a. not (ends.is_over config.now a) && stands_under standing.now.nodes.items path.now a.adapter) standing.now.acts.items }
+{
+    standing
+        .acts
+        .iter()
+        .any(|act| lives_under(config, &standing.nodes, path, act))
+}
+
+/// Whether an adapter is being destroyed, with nothing left to end in it or below it.
+pub fn is_done_with(config: &Config, standing: &Standing, node: &Node) -> bool
+    ensures { result ≡ ends.is_done_with config.now (seen standing.now) node.now }
+{
+    let path = node.path.as_slice();
+    node.dying && (!is_flown_under(standing, path) && !is_lived_under(config, standing, path))
+}
+
+/// Whether an adapter goes on standing.
+pub fn stays(config: &Config, standing: &Standing, node: &Node) -> bool
+    ensures { result ≡ is_root node.now.path || not (ends.is_done_with config.now (seen standing.now) node.now) }
+{
+    match node.path.as_slice() {
+        [] => true,
+        [_, ..] => !is_done_with(config, standing, node),
+    }
+}
+
+/// Whether the adapter of this number was created and is gone.
+pub fn is_gone(config: &Config, standing: &Standing, number: u32) -> bool
+    ensures { result ≡ ends.is_gone config.now (seen standing.now) number }
+{
+    number < standing.count
+        && match nodes::node_numbered(&standing.nodes, number) {
+            Some(node) => is_done_with(config, standing, node),
+            None => true,
+        }
+}

@@ -1,0 +1,71 @@
+//! What an order to a manager waits for.
+ghost use Rattle.std.specs.Prelude.{◌≡◌, ◌==◌, ◌&&◌, ◌||◌, not, nat_lt};
+ghost use Rattle.std.specs.List.{list_any};
+ghost use Rattle.poa_history.specs.Ends as ends;
+ghost use Rattle.poa_history.specs.Settling as settling;
+ghost use Rattle.poa_history.specs.Templates as configured;
+ghost use Rattle.standing_queries.specs.Seen.{seen};
+
+use crate::ends::is_over;
+use crate::standing::Standing;
+use crate::templates::{has_activator, manager_at};
+use poa_base::Config;
+use poa_history::Act;
+use poa_tree::Node;
+
+/// Whether it is the adapter of this number, and one of the manager's.
+fn is_manager_of(config: &Config, manager: u32, number: u32, node: &Node) -> bool
+    ensures { result ≡ (node.now.number == number) && (configured.manager_at config.now node.now.path == manager) }
+{
+    node.number == number && manager_at(config, node.path.as_slice()) == manager
+}
+
+/// Whether the adapter is one of the manager's.
+fn is_managed(config: &Config, standing: &Standing, manager: u32, number: u32) -> bool
+    ensures { result ≡ settling.is_managed config.now (seen standing.now) manager number }
+{
+    standing
+        .nodes
+        .iter()
+        .any(|node| is_manager_of(config, manager, number, node))
+}
+
+/// Whether something is in flight in the adapters of the manager.
+fn is_flown(config: &Config, standing: &Standing, manager: u32) -> bool
+    ensures { result ≡ list_any (λ f. settling.is_managed config.now (seen standing.now) manager f.adapter) standing.now.flights.items }
+{
+    let mut flown = false;
+    for flight in &standing.flights {
+        if is_managed(config, standing, manager, flight.adapter) {
+            flown = true;
+        }
+    }
+    flown
+}
+
+/// Whether nothing is in flight in the adapters of the manager.
+pub fn is_quiet(config: &Config, standing: &Standing, manager: u32) -> bool
+    ensures { result ≡ settling.is_quiet config.now (seen standing.now) manager }
+{
+    !is_flown(config, standing, manager)
+}
+
+/// Whether an activation is over, or none that a deactivation of the manager ends.
+fn is_ended(config: &Config, manager: u32, begun: usize, act: &Act) -> bool
+    ensures { result ≡ ends.is_over config.now act.now || (not (nat_lt act.now.number begun) || not (configured.has_activator config.now act.now.path && (configured.manager_at config.now act.now.path == manager))) }
+{
+    let path = act.path.as_slice();
+    is_over(config, act)
+        || (act.number as usize >= begun
+            || !(has_activator(config, path) && manager_at(config, path) == manager))
+}
+
+/// Whether the activations begun by then in the manager's adapters with an activator are over.
+pub fn are_ended(config: &Config, standing: &Standing, manager: u32, begun: usize) -> bool
+    ensures { result ≡ settling.are_ended config.now (seen standing.now) manager begun }
+{
+    standing
+        .acts
+        .iter()
+        .all(|act| is_ended(config, manager, begun, act))
+}
