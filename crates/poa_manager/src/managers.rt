@@ -66,4 +66,12 @@ impl Managers {
         self.states[manager as usize] = state;
         Ok(())
     }
+    /// Gives a manager this state whatever it was, INACTIVE too, as a history is read that nothing is
+    /// asked of. Takes no memory.
+    pub fn put(&mut self, manager: usize, state: ManagerState)
+        requires { manager < length self.old }
+        ensures { self.new ≡ slice_set self.old manager state }
+    {
+        self.states[manager] = state;
+    }
 }
