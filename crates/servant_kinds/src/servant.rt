@@ -62,4 +62,12 @@ impl Servant {
     {
         &self.state
     }
+
+    /// The state, given back. Takes no memory.
+    pub fn into_state(self) -> State
+        ensures { result ≡ self }
+    {
+        let Servant { state, .. } = self;
+        state
+    }
 }

@@ -1,0 +1,67 @@
+-- What stands, what is set, and the servants, after a history.
+use Rattle.std.specs.Prelude.{◌≡◌, ℕ, Bool, true, false, List, [], ◌∷◌, Option, Some, None}
+use Rattle.poa_base.specs.declared.Config.{Config}
+use Rattle.poa_base.specs.declared.Call.{Call}
+use Rattle.poa_base.specs.declared.Outcome.{Outcome}
+use Rattle.poa_base.specs.declared.Sid.{Sid}
+use Rattle.poa_base.specs.declared.Entry.{Entry}
+use Rattle.poa_base.specs.declared.Entry.TheVariants.{Admit, Tried, Incarnated, Run, Done, TakeOut, Etherealized}
+use Rattle.poa_base.specs.declared.Attempt.TheVariants.{Yes}
+use Rattle.poa_history.specs.declared.stage.Stage.{Stage}
+use Rattle.poa_history.specs.Arrivals.{call_of}
+use Rattle.poa_history.specs.Changes.{standing}
+use Rattle.poa_history.specs.States.{Stored, call_run, servant_run}
+use Rattle.poa_opening.specs.Runs.{IsRun}
+use Rattle.standing_queries.specs.Seen.{seen}
+use Rattle.standing_of.specs.Entries.{stage_at}
+use Rattle.adapter_settings.specs.Told.{Tells}
+use Rattle.servant_states.specs.Holds.{Holds}
+use Rattle.servant_states.specs.Kept.{kept_in}
+use Rattle.servant_states.specs.Comes.{outcome_told}
+use Rattle.adapter_state.specs.declared.state.State.{State}
+
+pub record IsState (c : Config) (run : ℕ) (opened : Stored) (h : List Entry) (s : State) : Type 0 where
+  pub stands : seen s.standing ≡ standing c run h
+  pub set : Tells c h s.settings
+  pub held : Holds c run opened h (kept_in s.servants)
+
+-- the call of which the entry of a worker speaks: of an Admit its own, of a Run the one that runs
+abbrev pub call_spoken : List Entry → Entry → Option Call
+call_spoken past (Admit w r verdict) = call_of past r
+call_spoken past e = call_run past (stage_at past e)
+
+-- a worker makes the entry
+abbrev pub is_turn : Entry → Bool
+is_turn (Admit w r verdict) = true
+is_turn (Tried w answer) = true
+is_turn (Incarnated w answer) = true
+is_turn (Run w) = true
+is_turn (Done w) = true
+is_turn (TakeOut w n etherealize) = true
+is_turn (Etherealized w cleanup remaining) = true
+is_turn e = false
+
+-- a worker's entry comes in a run; what its worker had begun, the call and the servant that runs are those of the history
+pub record IsNext (c : Config) (run limit : ℕ) (opened : Stored) (past : List Entry) (e : Entry) (begun : Stage) (call : Option Call) (runs : Option Sid) (s : State) : Type 0 where
+  pub follows : IsRun c run limit (e ∷ past)
+  pub turn : is_turn e ≡ true
+  pub begun_is : begun ≡ stage_at past e
+  pub call_is : call ≡ call_spoken past e
+  pub servant_is : runs ≡ servant_run c run past begun
+  pub state : IsState c run opened past s
+
+-- a servant runs, is brought or leaves, or a request ends
+abbrev pub serves : Entry → Bool
+serves (Incarnated w answer) = true
+serves (Run w) = true
+serves (Done w) = true
+serves (TakeOut w n etherealize) = true
+serves (Etherealized w cleanup remaining) = true
+serves e = false
+
+-- what was begun only ends with the entry
+abbrev pub only_ends : Entry → Bool
+only_ends (Done w) = true
+only_ends (TakeOut w n etherealize) = true
+only_ends (Etherealized w cleanup remaining) = true
+only_ends e = false

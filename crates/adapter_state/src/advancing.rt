@@ -1,0 +1,144 @@
+//! An entry of a worker changes what a history comes to.
+ghost use Rattle.std.specs.Prelude.{◌≡◌, ◌∷◌, ℕ, true, None, if◌then◌else◌, List, option_copied, Option, IfOk, IsOk, OnOk, OnErr};
+ghost use Rattle.poa_base.specs.declared.Call.{Call};
+ghost use Rattle.poa_base.specs.declared.Sid.{Sid};
+ghost use Rattle.poa_base.specs.declared.Entry.{Entry};
+ghost use Rattle.poa_history.specs.Logs as logs;
+ghost use Rattle.poa_history.specs.States.{Stored};
+ghost use Rattle.adapter_settings.specs.Told.{may_grow};
+ghost use Rattle.poa_base.specs.declared.Attempt.{Attempt};
+ghost use Rattle.servant_states.specs.Comes.{outcome_told, may_want};
+ghost use Rattle.adapter_state.specs.State.{IsNext, IsState, only_ends, serves};
+
+use crate::state::State;
+use adapter_settings::apply;
+use poa_base::{Call, Command, Config, Entry, Outcome, Sid, Verdict, WantMemory};
+use poa_history::Stage;
+use standing_queries::commands::{command_in, is_accepted};
+use std::alloc::Global;
+
+/// The command that an Admit does.
+fn done<'a>(call: Option<&'a Call>, verdict: &Verdict) -> Option<&'a Command>
+    ensures { option_copied result ≡ (if logs.is_accepted verdict.now then logs.command_in (option_copied call.entry) else None) }
+{
+    if is_accepted(verdict) {
+        command_in(call)
+    } else {
+        None
+    }
+}
+
+/// Whether the command may need a row of its own in what is set.
+fn grows(command: Option<&Command>) -> bool
+    ensures { result ≡ may_grow (option_copied command.entry) }
+{
+    match command {
+        Some(Command::Preset { .. } | Command::Forward { .. } | Command::Unforward { .. }) => true,
+        _ => false,
+    }
+}
+
+/// An arrival is admitted. A command that sets something changes nothing that stands.
+fn admit(
+    alloc: Global,
+    config: &Config,
+    run: u32,
+    entry: &Entry,
+    stage: Stage,
+    call: Option<&Call>,
+    verdict: &Verdict,
+    state: &mut State,
+) -> Result<(), WantMemory>
+    requires { (w : ℕ) × (r : ℕ) × (entry.now ≡ Entry.Admit w r verdict.now) }
+    ensures ok { (limit : ℕ) (opened : Stored) (past : List Entry) (runs : Option Sid) → IsNext config.now run limit opened past entry.now stage (option_copied call.entry) runs state.old → OnOk result (IsState config.now run opened (entry.now ∷ past) state.new) }
+    ensures err { (opened : Stored) (past : List Entry) → IsState config.now run opened past state.old → OnErr result (IsState config.now run opened past state.new) }
+{
+    let command = done(call, verdict);
+    if grows(command) {
+        return apply(config, command, &mut state.settings);
+    }
+    standing_of::advance(alloc, config, run, entry, stage, call, &mut state.standing)?;
+    apply(config, command, &mut state.settings)
+}
+
+/// A trial ends, and may have made the child.
+fn tried(
+    alloc: Global,
+    config: &Config,
+    run: u32,
+    entry: &Entry,
+    stage: Stage,
+    state: &mut State,
+) -> Result<(), WantMemory>
+    requires { (w : ℕ) × (answer : Attempt) × (entry.now ≡ Entry.Tried w answer) }
+    ensures ok { (limit : ℕ) (opened : Stored) (past : List Entry) (call : Option Call) (runs : Option Sid) → IsNext config.now run limit opened past entry.now stage call runs state.old → OnOk result (IsState config.now run opened (entry.now ∷ past) state.new) }
+    ensures err { (opened : Stored) (past : List Entry) → IsState config.now run opened past state.old → OnErr result (IsState config.now run opened past state.new) }
+{
+    standing_of::advance(alloc, config, run, entry, stage, None, &mut state.standing)?;
+    apply(config, None, &mut state.settings)
+}
+
+/// A servant runs, is brought or leaves, or a request ends.
+fn served(
+    alloc: Global,
+    config: &Config,
+    run: u32,
+    entry: &Entry,
+    stage: Stage,
+    call: Option<&Call>,
+    runs: Option<Sid>,
+    state: &mut State,
+) -> Result<Option<Outcome>, WantMemory>
+    requires next { (limit : ℕ) × (opened : Stored) × (past : List Entry) × IsNext config.now run limit opened past entry.now stage (option_copied call) runs state.old }
+    requires kind { serves entry.now ≡ true }
+    ensures ok { (limit : ℕ) (opened : Stored) (past : List Entry) → IsNext config.now run limit opened past entry.now stage (option_copied call.entry) runs state.old → OnOk result (IsState config.now run opened (entry.now ∷ past) state.new) }
+    ensures outcome { (limit : ℕ) (opened : Stored) (past : List Entry) → IsNext config.now run limit opened past entry.now stage (option_copied call.entry) runs state.old → IfOk result (λ outcome. outcome ≡ outcome_told config.now run opened past entry.now runs (option_copied call.entry)) }
+    ensures err { (opened : Stored) (past : List Entry) → IsState config.now run opened past state.old → OnErr result (IsState config.now run opened past state.new) }
+    ensures ends { OnErr result (may_want entry.now ≡ true) }
+{
+    let outcome = servant_states::advance(
+        alloc,
+        config,
+        entry,
+        stage,
+        call,
+        runs,
+        &state.standing,
+        &mut state.servants,
+    )?;
+    standing_of::advance(alloc, config, run, entry, stage, None, &mut state.standing)?;
+    apply(config, None, &mut state.settings)?;
+    Ok(outcome)
+}
+
+/// An entry of a worker comes, with what the worker had begun, the call that it speaks of and the servant that
+/// runs: all of it takes effect, or nothing. At a Run it gives the servant's outcome. Only an Admit, a trial that
+/// made the child, a Run and an incarnation of a fresh servant may want memory.
+pub fn advance(
+    alloc: Global,
+    config: &Config,
+    run: u32,
+    entry: &Entry,
+    stage: Stage,
+    call: Option<&Call>,
+    runs: Option<Sid>,
+    state: &mut State,
+) -> Result<Option<Outcome>, WantMemory>
+    requires { (limit : ℕ) × (opened : Stored) × (past : List Entry) × IsNext config.now run limit opened past entry.now stage (option_copied call) runs state.old }
+    ensures ok { (limit : ℕ) (opened : Stored) (past : List Entry) → IsNext config.now run limit opened past entry.now stage (option_copied call.entry) runs state.old → OnOk result (IsState config.now run opened (entry.now ∷ past) state.new) }
+    ensures outcome { (limit : ℕ) (opened : Stored) (past : List Entry) → IsNext config.now run limit opened past entry.now stage (option_copied call.entry) runs state.old → IfOk result (λ outcome. outcome ≡ outcome_told config.now run opened past entry.now runs (option_copied call.entry)) }
+    ensures err { (opened : Stored) (past : List Entry) → IsState config.now run opened past state.old → OnErr result (IsState config.now run opened past state.new) }
+    ensures ends { only_ends entry.now ≡ true → IsOk result }
+{
+    match entry {
+        Entry::Admit { verdict, .. } => {
+            admit(alloc, config, run, entry, stage, call, verdict, state)?;
+            Ok(None)
+        }
+        Entry::Tried { .. } => {
+            tried(alloc, config, run, entry, stage, state)?;
+            Ok(None)
+        }
+        _ => served(alloc, config, run, entry, stage, call, runs, state),
+    }
+}

@@ -1,0 +1,264 @@
+//! What stands about a request or a locate: the facts that the table of verdicts asks.
+ghost use Rattle.std.specs.Prelude.{◌≡◌, ◌==◌, ◌&&◌, ℕ, List, Some, None, if◌then◌else◌, find, not, option_copied, IfOk};
+ghost use Rattle.poa_base.specs.declared.Entry.{Entry};
+ghost use Rattle.poa_verdict.specs.declared.KeyFact.TheVariants.{OtherRun, Persistent, Transient};
+ghost use Rattle.poa_history.specs.Arrivals as calls;
+ghost use Rattle.poa_history.specs.Changes.{standing as stands_after};
+ghost use Rattle.poa_history.specs.Situations as situations;
+ghost use Rattle.poa_history.specs.Ends as ends;
+ghost use Rattle.poa_history.specs.Standings as stands;
+ghost use Rattle.standing_queries.specs.Seen.{seen};
+ghost use Rattle.poa_tree.specs.Walks.{place_met as place_is};
+ghost use Rattle.adapter_settings.specs.Told.{Tells};
+ghost use Rattle.poa_verdicts.specs.Said.{IsAsSaid};
+
+use crate::commands::is_bad_id;
+use crate::rules::located;
+use adapter_settings::{Settings, forward_of, manager_state, preset_of};
+use poa_base::{Bytes, Call, Config, Endpoint, Key, ManagerState, Name, Oid, Path, WantMemory};
+use poa_history::Act;
+use poa_tree::Found;
+use poa_verdict::{Facts, KeyFact, MapFact, WalkFact};
+use standing_queries::Standing;
+use standing_queries::acts::{is_active, is_begun, is_of};
+use standing_queries::calls::{is_locate, target_of};
+use standing_queries::ends::{is_finished, is_over};
+use standing_queries::flights::{is_running, is_tried};
+use standing_queries::keys::{key_in, key_of};
+use standing_queries::templates::{children_at, lasts, manager_at, policies_at, rules_at};
+use standing_queries::walks::{adapter_met, child_met, place_met, walk};
+use std::alloc::Global;
+
+/// What a key is to this run.
+fn lifespan_fact(run: u32, key: &Key) -> KeyFact
+    ensures { result ≡ elim key.now.stamp [ None ↦ Persistent | Some stamp ↦ (if stamp.run == run then Transient else OtherRun) ] }
+{
+    match key.stamp {
+        None => KeyFact::Persistent,
+        Some(stamp) => {
+            if stamp.run == run {
+                KeyFact::Transient
+            } else {
+                KeyFact::OtherRun
+            }
+        }
+    }
+}
+
+/// What the target of a call is as a key.
+fn key_fact(alloc: Global, run: u32, target: Option<&Bytes>) -> Result<KeyFact, WantMemory>
+    ensures { IfOk result (λ fact. fact ≡ situations.key_fact run (option_copied target.entry)) }
+{
+    let Some(bytes) = target else {
+        return Ok(KeyFact::Absent);
+    };
+    match key_of(alloc, bytes.as_slice())? {
+        Some(key) => Ok(lifespan_fact(run, &key)),
+        None => Ok(KeyFact::Bad),
+    }
+}
+
+fn walk_fact(found: Found) -> WalkFact
+    ensures { result ≡ situations.walk_fact found }
+{
+    match found {
+        Found::Live(_) => WalkFact::Found,
+        Found::Dying(_) => WalkFact::Dying,
+        Found::Missing { .. } => WalkFact::Missing,
+    }
+}
+
+/// Whether the lifespan differs, or the number that a transient key gives.
+fn differs(config: &Config, key: &Key, adapter: u32) -> bool
+    ensures { result ≡ situations.differs config.now key.now adapter }
+{
+    let lasts = lasts(policies_at(config, key.path.as_slice()));
+    match key.stamp {
+        None => !lasts,
+        Some(stamp) => lasts || stamp.number != adapter,
+    }
+}
+
+/// Whether the activation is of the id, and active.
+fn is_active_of(adapter: u32, oid: &Oid, act: &Act) -> bool
+    ensures { result ≡ stands.is_of adapter oid.now act.now && stands.is_active act.now }
+{
+    is_of(adapter, oid, act) && is_active(act)
+}
+
+/// The activation of the id that is active.
+fn active_of<'a>(acts: &'a [Act], adapter: u32, oid: &Oid) -> Option<&'a Act>
+    ensures { option_copied result ≡ find (λ a. stands.is_of adapter oid.now a && stands.is_active a) acts.now }
+{
+    acts.iter().find(|act| is_active_of(adapter, oid, act))
+}
+
+/// Whether the activation is of the id, and not over.
+fn is_kept_of(config: &Config, adapter: u32, oid: &Oid, act: &Act) -> bool
+    ensures { result ≡ stands.is_of adapter oid.now act.now && not (ends.is_over config.now act.now) }
+{
+    is_of(adapter, oid, act) && !is_over(config, act)
+}
+
+/// The activation of the id that isn't over.
+fn kept_of<'a>(config: &Config, acts: &'a [Act], adapter: u32, oid: &Oid) -> Option<&'a Act>
+    ensures { option_copied result ≡ find (λ a. stands.is_of adapter oid.now a && not (ends.is_over config.now a)) acts.now }
+{
+    acts.iter()
+        .find(|act| is_kept_of(config, adapter, oid, act))
+}
+
+/// What the active object map has for an id.
+fn slot_of(config: &Config, acts: &[Act], adapter: u32, oid: &Oid) -> MapFact
+    ensures { result ≡ situations.slot_of config.now acts.now adapter oid.now }
+{
+    match active_of(acts, adapter, oid) {
+        Some(act) => MapFact::Active(act.number),
+        None => match kept_of(config, acts, adapter, oid) {
+            Some(act) => MapFact::Busy(act.number),
+            None => MapFact::Free,
+        },
+    }
+}
+
+/// Whether its incarnation or etherealization hasn't ended.
+fn is_unfinished(config: &Config, act: &Act) -> bool
+    ensures { result ≡ situations.is_unfinished config.now act.now }
+{
+    is_begun(act) || (act.out && !is_finished(config, act))
+}
+
+/// Whether it is of the adapter and hasn't ended.
+fn is_changing_in(config: &Config, adapter: u32, act: &Act) -> bool
+    ensures { result ≡ (act.now.adapter == adapter) && situations.is_unfinished config.now act.now }
+{
+    act.adapter == adapter && is_unfinished(config, act)
+}
+
+/// Whether an incarnation or etherealization is unfinished in the adapter.
+pub fn is_changing(config: &Config, acts: &[Act], adapter: u32) -> bool
+    ensures { result ≡ situations.is_changing config.now acts.now adapter }
+{
+    acts.iter().any(|act| is_changing_in(config, adapter, act))
+}
+
+/// What is set, as the facts about a key ask it.
+#[derive(Drop)]
+struct AsSet {
+    state: ManagerState,
+    preset: Option<Name>,
+    entry: Option<Endpoint>,
+}
+
+/// What is set: the state of the manager of a place that the walk along the path meets, the default servant
+/// of the path, and the endpoint of the longest path that leads to it.
+fn as_set(
+    config: &Config,
+    settings: &Settings,
+    place: &[Name],
+    path: &Path,
+) -> Result<AsSet, WantMemory>
+    ensures { (past : List Entry) → Tells config.now past settings.now → IfOk result (λ set. IsAsSaid config.now past place.now path.now set) }
+{
+    let preset = match preset_of(config, settings, path.as_slice()) {
+        Some(name) => Some(name.clone()?),
+        None => None,
+    };
+    let entry = match forward_of(config, settings, path.as_slice()) {
+        Some(endpoint) => Some(endpoint.clone()?),
+        None => None,
+    };
+    Ok(AsSet {
+        state: manager_state(settings, manager_at(config, place)),
+        preset,
+        entry,
+    })
+}
+
+/// What a call asks, beside its key.
+#[derive(Clone, Copy, Drop)]
+struct Asked {
+    locate: bool,
+    crowded: bool,
+    key: KeyFact,
+}
+
+/// What stands about a key, given what the walk meets and what is set.
+fn facts_met(
+    config: &Config,
+    run: u32,
+    standing: &Standing,
+    set: AsSet,
+    asked: Asked,
+    key: &Key,
+    found: Found,
+) -> Result<Facts, WantMemory>
+    ensures { (past : List Entry) → IsAsSaid config.now past (place_is found key.now.path) key.now.path set
+        → IfOk result (λ facts. facts ≡ situations.facts_met config.now run past (seen standing.now) asked.locate asked.crowded asked.key key.now found) }
+{
+    let path = key.path.as_slice();
+    let adapter = adapter_met(found);
+    let place = place_met(found, path);
+    Ok(Facts {
+        locate: asked.locate,
+        crowded: asked.crowded,
+        key: asked.key,
+        walk: walk_fact(found),
+        adapter,
+        manager: manager_at(config, place),
+        state: set.state,
+        trial: is_tried(&standing.flights, child_met(found, path)),
+        tries: children_at(config, place).is_some(),
+        entry: set.entry,
+        differs: differs(config, key, adapter),
+        policies: policies_at(config, path),
+        running: is_running(&standing.flights, adapter),
+        slot: slot_of(config, &standing.acts, adapter, &key.oid),
+        bad_id: is_bad_id(config, run, standing.made, path, key.oid.as_slice()),
+        preset: set.preset,
+        rules: !rules_at(config, path).is_empty(),
+        busy: is_changing(config, &standing.acts, adapter),
+        next: u32::try_from(standing.acts.len()).map_err(|_| WantMemory)?,
+        located: located(config, path, &key.oid)?,
+    })
+}
+
+/// The key, or one that names nothing.
+fn key_or_none(alloc: Global, key: Option<Key>) -> Result<Key, WantMemory>
+    ensures { IfOk result (λ k. k ≡ situations.key_or_none key) }
+{
+    match key {
+        Some(key) => Ok(key),
+        None => Ok(Key {
+            stamp: None,
+            path: Path::root(alloc),
+            oid: Oid::from_vec(Vec::new(alloc)).ok_or(WantMemory)?,
+        }),
+    }
+}
+
+/// What stands about a request or a locate, where so many stood unadmitted when it arrived that it is
+/// `crowded`.
+pub fn facts_of(
+    alloc: Global,
+    config: &Config,
+    run: u32,
+    standing: &Standing,
+    settings: &Settings,
+    crowded: bool,
+    call: &Call,
+) -> Result<Facts, WantMemory>
+    ensures { (past : List Entry) (r : ℕ) → seen standing.now ≡ stands_after config.now run past → Tells config.now past settings.now → crowded ≡ situations.is_crowded past r → calls.call_of past r ≡ Some call.now
+        → IfOk result (λ facts. facts ≡ situations.facts_of config.now run past r) }
+{
+    let key = key_or_none(alloc, key_in(alloc, Some(call))?)?;
+    let asked = Asked {
+        locate: is_locate(Some(call)),
+        crowded,
+        key: key_fact(alloc, run, target_of(Some(call)))?,
+    };
+    let found = walk(alloc, &standing.nodes, key.path.as_slice())?;
+    let place = place_met(found, key.path.as_slice());
+    let set = as_set(config, settings, place, &key.path)?;
+    facts_met(config, run, standing, set, asked, &key, found)
+}

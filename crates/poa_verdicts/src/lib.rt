@@ -1,0 +1,14 @@
+//! What is decided, given what stands and what is set: the verdict on a call, how what a worker has begun
+//! goes on, and the removal that is due. Nothing here asks a history.
+#![tactic(auto)]
+
+mod commands;
+mod facts;
+mod references;
+mod rules;
+mod turns;
+mod verdicts;
+
+pub use rules::{brought, rule_for};
+pub use turns::{act_numbered, attempt, going_on, removal};
+pub use verdicts::verdict_on;

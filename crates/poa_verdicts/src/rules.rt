@@ -1,0 +1,108 @@
+//! What the rules of a servant manager give.
+ghost use Rattle.std.specs.Prelude.{◌≡◌, IfOk, Some, None, option_copied};
+ghost use Rattle.poa_base.specs.declared.Incarnation.TheVariants.{Named, Raise};
+ghost use Rattle.poa_verdict.specs.declared.Located.{Located};
+ghost use Rattle.poa_history.specs.Rules as rules;
+ghost use Rattle.poa_history.specs.Templates.{servant_name};
+ghost use Rattle.standing_queries.specs.Seen.{seen};
+
+use poa_base::{
+    Completion, Config, ExcName, Gives, Incarnation, Name, Oid, RuleConf, Sid, SysExc, WantMemory,
+};
+use poa_history::Act;
+use poa_verdict::Located;
+use standing_queries::Standing;
+use standing_queries::acts::is_in_map;
+use standing_queries::templates::{is_unique, policies_at, rules_at, servant_name};
+
+/// The id isn't active: minor 3 of this server's own.
+const NOT_ACTIVE: SysExc = SysExc {
+    name: ExcName::ObjectNotExist,
+    minor: 0xffff_f003,
+    done: Completion::No,
+};
+
+/// Whether a rule is for an id.
+fn is_for(oid: &Oid, rule: &RuleConf) -> bool
+    ensures { result ≡ rules.matches oid.now rule.now }
+{
+    match &rule.oid {
+        Some(wanted) => *wanted == *oid,
+        None => true,
+    }
+}
+
+/// The first rule that matches.
+pub fn rule_for<'a>(all: &'a [RuleConf], oid: &Oid) -> Option<&'a RuleConf>
+    ensures { option_copied result ≡ rules.rule_for all.now oid.now }
+{
+    all.iter().find(|rule| is_for(oid, rule))
+}
+
+/// A configured servant is brought.
+fn named(config: &Config, servant: u32) -> Result<Incarnation, WantMemory>
+    ensures { IfOk result (λ answer. answer ≡ elim (servant_name config.now servant) [ Some name ↦ Named name | None ↦ Raise rules.not_active ]) }
+{
+    match servant_name(config, servant) {
+        Some(name) => Ok(Incarnation::Named(name.clone()?)),
+        None => Ok(Incarnation::Raise(NOT_ACTIVE)),
+    }
+}
+
+/// A configured servant is brought, unless ids are unique and it is in the map already.
+fn named_or_double(
+    config: &Config,
+    standing: &Standing,
+    act: &Act,
+    servant: u32,
+) -> Result<Incarnation, WantMemory>
+    ensures { IfOk result (λ answer. answer ≡ rules.named_or_double config.now (seen standing.now) act.now servant) }
+{
+    if is_unique(policies_at(config, act.path.as_slice()))
+        && is_in_map(&standing.acts, act.adapter, Sid::Named(servant))
+    {
+        Ok(Incarnation::Double)
+    } else {
+        named(config, servant)
+    }
+}
+
+/// What the servant activator brings for an activation that was begun.
+pub fn brought(config: &Config, standing: &Standing, act: &Act) -> Result<Incarnation, WantMemory>
+    ensures { IfOk result (λ answer. answer ≡ rules.brought config.now (seen standing.now) act.now) }
+{
+    let Some(rule) = rule_for(rules_at(config, act.path.as_slice()), &act.oid) else {
+        return Ok(Incarnation::Raise(NOT_ACTIVE));
+    };
+    match &rule.gives {
+        Gives::Fresh(_) => Ok(Incarnation::Fresh(act.number)),
+        Gives::Servant(servant) => named_or_double(config, standing, act, *servant),
+        Gives::Forward(endpoint) => Ok(Incarnation::Forward(endpoint.clone()?)),
+        Gives::Raise(exception) => Ok(Incarnation::Raise(*exception)),
+    }
+}
+
+/// The servant of a locator's rule.
+fn located_servant(config: &Config, servant: u32) -> Result<Located, WantMemory>
+    ensures { IfOk result (λ found. found ≡ elim (servant_name config.now servant) [ Some name ↦ Located.Servant name | None ↦ Located.NoRule ]) }
+{
+    match servant_name(config, servant) {
+        Some(name) => Ok(Located::Servant(name.clone()?)),
+        None => Ok(Located::NoRule),
+    }
+}
+
+/// What the servant locator gives for an id.
+pub fn located(config: &Config, path: &[Name], oid: &Oid) -> Result<Located, WantMemory>
+    ensures { IfOk result (λ found. found ≡ rules.located config.now path.now oid.now) }
+{
+    let Some(rule) = rule_for(rules_at(config, path), oid) else {
+        return Ok(Located::NoRule);
+    };
+    match &rule.gives {
+        Gives::Fresh(_) => Ok(Located::NoRule),
+        Gives::Servant(servant) => located_servant(config, *servant),
+        Gives::Forward(endpoint) => Ok(Located::Forward(endpoint.clone()?)),
+        Gives::Raise(exception) => Ok(Located::Raise(*exception)),
+    }
+}

@@ -1,0 +1,5 @@
+pub mod Kept
+pub mod Steps
+pub mod Holds
+pub mod Comes
+pub mod Runs
