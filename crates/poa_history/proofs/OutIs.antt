@@ -31,7 +31,7 @@ use Rattle.poa_history.proofs.LegalSound.{legal_sound}
 use Rattle.poa_history.proofs.MannedKept.{out_unused, all_manned}
 
 -- two tests that say the same
-same_test : (x y : Bool) → (x ≡ true → y ≡ true) → (y ≡ true → x ≡ true) → x ≡ y
+pub same_test : (x y : Bool) → (x ≡ true → y ≡ true) → (y ≡ true → x ≡ true) → x ≡ y
 same_test true y one other = sym (one refl)
 same_test false true one other = other refl
 same_test false false one other = refl
@@ -139,7 +139,7 @@ module _ (c : Config) (run limit : ℕ) (given : IsGiven c run) (alone : IsGiven
   out_taken (e ∷ past) legal b there activator = taken_step past e legal (out_taken past legal.1) b there activator
 
   -- what is out has a servant
-  out_complete : (h : List Entry) → IsLegal c run limit h → (a : Act) → In a (standing c run h).acts → a.out ≡ true → is_complete a ≡ true
+  pub out_complete : (h : List Entry) → IsLegal c run limit h → (a : Act) → In a (standing c run h).acts → a.out ≡ true → is_complete a ≡ true
   out_complete [] legal a there out = absurd (true≢false (sym out ∙ (all_open c run a there).0))
   out_complete (e ∷ past) legal b there out =
       elim (act_from c run past e b there) [

@@ -1,18 +1,14 @@
 //! The verdict on an arrival and the next entry of a worker, computed plainly and slowly from their
-//! definitions, with the next reply of a connection and the first entry of a history that isn't legal.
+//! definitions, with whether an arrival is decided, the next reply of a connection and how many it is owed.
 //! They keep nothing: each asks the whole history again. Tests and the audit of journals compare with them.
 #![tactic(auto)]
 
-mod commands;
-mod facts;
-mod logs;
-mod references;
+mod crowded;
 mod replies;
-mod rules;
 mod settling;
 mod turns;
 mod verdicts;
 
-pub use replies::slow_next_reply;
+pub use replies::{decided, slow_next_reply, slow_owed};
 pub use turns::slow_next;
 pub use verdicts::slow_verdict;

@@ -8,8 +8,8 @@ ghost use Rattle.poa_history.specs.Stages as begun;
 
 use crate::settling::settles;
 use poa_base::{Attempt, Call, Config, Entry, Verdict, WantMemory};
-use standing_of::calls::{arrivals, call_of, conn_of};
-use standing_of::workers::{admitted, arrival_in, brings, is_at, stage};
+use standing_queries::calls::{arrivals, call_of, conn_of};
+use standing_queries::workers::{admitted, arrival_in, brings, is_at, stage};
 use std::alloc::Global;
 
 /// Whether a verdict is the end of a call.
@@ -215,6 +215,44 @@ fn or_decided(
         Some(arrival) => Ok(Some(arrival)),
         None => first_decided(alloc, config, run, history, conn, place),
     }
+}
+
+/// Whether an arrival is of the connection, asks a reply and isn't decided.
+fn is_owed(
+    alloc: Global,
+    config: &Config,
+    run: u32,
+    history: &[Entry],
+    conn: u32,
+    arrival: u64,
+) -> Result<bool, WantMemory>
+    ensures { IfOk result (λ owed. owed ≡ (replies.is_asked (reverse history.now) conn arrival && not (replies.decided config.now run (reverse history.now) arrival))) }
+{
+    if is_asked(history, conn, arrival) {
+        Ok(!decided(alloc, config, run, history, arrival)?)
+    } else {
+        Ok(false)
+    }
+}
+
+/// How many replies a connection is owed after a history that stands oldest first: its arrivals that ask
+/// one and aren't decided.
+pub fn slow_owed(
+    alloc: Global,
+    config: &Config,
+    run: u32,
+    history: &[Entry],
+    conn: u32,
+) -> Result<u64, WantMemory>
+    ensures { IfOk result (λ owed. owed ≡ replies.owed config.now run (reverse history.now) conn) }
+{
+    let mut owed = 0;
+    for arrival in 0..arrivals(history) {
+        if is_owed(alloc, config, run, history, conn, arrival)? {
+            owed += 1;
+        }
+    }
+    Ok(owed)
 }
 
 /// The arrival whose reply a connection is given next after a history that stands oldest first; none

@@ -1,23 +1,18 @@
 //! When a command that waits is answered.
-ghost use Rattle.std.specs.Prelude.{◌≡◌, ◌==◌, ◌&&◌, ◌||◌, not, nat_lt, reverse, option_copied, IfOk};
+ghost use Rattle.std.specs.Prelude.{◌≡◌, reverse, option_copied, IfOk};
 ghost use Rattle.poa_history.specs.Ends as ends;
 ghost use Rattle.poa_history.specs.Settling as settling;
-ghost use Rattle.poa_history.specs.Templates as configured;
-ghost use Rattle.std.specs.List.{list_any};
 ghost use Rattle.poa_history.specs.Changes.{standing};
 ghost use Rattle.poa_history.specs.Opening.{number_at as number_of_path};
-ghost use Rattle.standing_of.specs.Seen.{seen};
 
-use crate::logs::order_for;
+use adapter_settings::order_for;
 use poa_base::{Command, Config, Entry, Name, Order, WantMemory};
-use poa_history::Act;
-use poa_tree::Node;
-use standing_of::calls::call_of;
-use standing_of::commands::{command_in, done_by};
-use standing_of::ends::{is_gone, is_over};
-use standing_of::opening::number_at;
-use standing_of::templates::{has_activator, manager_at, manager_number};
-use standing_of::{Standing, standing_of};
+use standing_of::standing_of;
+use standing_queries::calls::call_of;
+use standing_queries::commands::{command_in, done_by, number_at};
+use standing_queries::ends::is_gone;
+use standing_queries::orders::{are_ended, is_quiet};
+use standing_queries::templates::manager_number;
 use std::alloc::Global;
 
 /// What stood when the arrival was admitted.
@@ -33,43 +28,6 @@ fn before_admit<'a>(history: &'a [Entry], arrival: u64) -> &'a [Entry]
         }
     }
     before
-}
-
-/// Whether it is the adapter of this number, and one of the manager's.
-fn is_manager_of(config: &Config, manager: u32, number: u32, node: &Node) -> bool
-    ensures { result ≡ (node.now.number == number) && (configured.manager_at config.now node.now.path == manager) }
-{
-    node.number == number && manager_at(config, node.path.as_slice()) == manager
-}
-
-/// Whether the adapter is one of the manager's.
-fn is_managed(config: &Config, standing: &Standing, manager: u32, number: u32) -> bool
-    ensures { result ≡ settling.is_managed config.now (seen standing.now) manager number }
-{
-    standing
-        .nodes
-        .iter()
-        .any(|node| is_manager_of(config, manager, number, node))
-}
-
-/// Whether something is in flight in the adapters of the manager.
-fn is_flown(config: &Config, standing: &Standing, manager: u32) -> bool
-    ensures { result ≡ list_any (λ f. settling.is_managed config.now (seen standing.now) manager f.adapter) standing.now.flights.items }
-{
-    let mut flown = false;
-    for flight in &standing.flights {
-        if is_managed(config, standing, manager, flight.adapter) {
-            flown = true;
-        }
-    }
-    flown
-}
-
-/// Whether nothing is in flight in the adapters of the manager.
-fn is_quiet(config: &Config, standing: &Standing, manager: u32) -> bool
-    ensures { result ≡ settling.is_quiet config.now (seen standing.now) manager }
-{
-    !is_flown(config, standing, manager)
 }
 
 /// Whether a later command on the manager was done.
@@ -92,26 +50,6 @@ fn is_overtaken(config: &Config, manager: u32, history: &[Entry], arrival: u64) 
         }
     }
     overtaken
-}
-
-/// Whether an activation is over, or none that a deactivation of the manager ends.
-fn is_ended(config: &Config, manager: u32, begun: usize, act: &Act) -> bool
-    ensures { result ≡ ends.is_over config.now act.now || (not (nat_lt act.now.number begun) || not (configured.has_activator config.now act.now.path && (configured.manager_at config.now act.now.path == manager))) }
-{
-    let path = act.path.as_slice();
-    is_over(config, act)
-        || (act.number as usize >= begun
-            || !(has_activator(config, path) && manager_at(config, path) == manager))
-}
-
-/// Whether the activations begun by then in the manager's adapters with an activator are over.
-fn are_ended(config: &Config, standing: &Standing, manager: u32, begun: usize) -> bool
-    ensures { result ≡ settling.are_ended config.now (seen standing.now) manager begun }
-{
-    standing
-        .acts
-        .iter()
-        .all(|act| is_ended(config, manager, begun, act))
 }
 
 /// Whether what an order to a manager waits for holds.

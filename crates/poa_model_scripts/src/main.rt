@@ -1,9 +1,11 @@
-//! Plays scripts: calls arrive, workers take the turns that the definitions give, and the entries that
-//! they make are printed as a journal has them. A line `idle W` stands where a worker has nothing to do.
+//! Plays scripts: calls arrive, workers take the turns that the definitions give, and connections are given
+//! their replies. The entries are printed as a journal has them, with each reply below its Collect, and at
+//! the end of a script whether its history is legal. A line `idle W` stands where a worker has nothing to do.
 #![tactic(auto)]
 
 mod fault;
 mod play;
+mod replies;
 mod scripts;
 
 use fault::Fault;
@@ -37,7 +39,7 @@ fn play_one(alloc: Global, script: &Script, out: &mut Vec<u8>) -> Result<(), Fau
     out.extend_from_slice(b"# ")?;
     out.extend_from_slice(script.name)?;
     out.extend_from_slice(b"\n")?;
-    let mut play = Play::new(alloc, script.configuration)?;
+    let mut play = Play::new(alloc, script.configuration, out)?;
     for line in &text_words::parts(alloc, script.lines, b'\n')? {
         play.line(line, out)?;
     }

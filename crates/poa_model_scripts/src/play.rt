@@ -1,13 +1,17 @@
 //! A script that is played.
 use crate::fault::Fault;
+use crate::replies::{put_reply, request_id};
 use conf_toml::read_config;
+use history_check::first_illegal;
 use object_key::write_key;
 use poa_base::{Body, Bytes, Call, Config, Entry, Head, Key, Path, Stamp, Store, WantMemory};
 use poa_journal::print_entry;
-use poa_model::slow_next;
-use standing_of::nodes::node_at;
+use poa_model::{slow_next, slow_next_reply, slow_owed};
+use slow_replies::slow_reply;
 use standing_of::standing_of;
-use standing_of::templates::{has_template, lasts, policies_at};
+use standing_queries::calls::call_of;
+use standing_queries::nodes::node_at;
+use standing_queries::templates::{has_template, lasts, policies_at};
 use std::alloc::Global;
 use text_words::{any_identity, number32, path, put_number, signed, words};
 
@@ -16,6 +20,19 @@ const NEVER: u32 = 4294967295;
 
 /// How many turns a worker takes at most until it is idle.
 const TURNS: u32 = 64;
+
+/// How many replies a connection is given at most at once.
+const REPLIES: u32 = 64;
+
+/// How many calls the run takes, and the size that each has.
+const LIMIT: u64 = 64;
+
+const SIZE: u64 = 64;
+
+/// The connections of the requests and of the administrator's lines.
+const CLIENT: u32 = 0;
+
+const ADMINISTRATOR: u32 = 1;
 
 /// The history so far. Requests come over connection 0, and an administrator's lines over 1.
 pub struct Play {
@@ -39,18 +56,23 @@ impl Drop for Play {
 }
 
 impl Play {
-    /// A script of this configuration before its first line.
-    pub fn new(alloc: Global, configuration: &[u8]) -> Result<Play, Fault> {
-        let mut history = Vec::new(alloc);
-        history.push(Entry::Entered { conn: 0 })?;
-        history.push(Entry::Entered { conn: 1 })?;
-        Ok(Play {
+    /// A script of this configuration before its first line. Both connections enter.
+    pub fn new(alloc: Global, configuration: &[u8], out: &mut Vec<u8>) -> Result<Play, Fault> {
+        let mut play = Play {
             alloc,
             config: read_config(alloc, configuration)?,
             store: Store::new(alloc),
-            history,
+            history: Vec::new(alloc),
             lines: 0,
-        })
+        };
+        play.add(Entry::Entered { conn: CLIENT }, out)?;
+        play.add(
+            Entry::Entered {
+                conn: ADMINISTRATOR,
+            },
+            out,
+        )?;
+        Ok(play)
     }
 
     /// Does what a line says.
@@ -60,9 +82,9 @@ impl Play {
             return Ok(());
         };
         if *verb == b"ask".as_slice() {
-            self.ask(&words)
+            self.ask(&words, out)
         } else if *verb == b"admin".as_slice() {
-            self.admin(line)
+            self.admin(line, out)
         } else if *verb == b"step".as_slice() {
             self.step(worker_of(&words)?, out)
         } else if *verb == b"run".as_slice() {
@@ -72,16 +94,45 @@ impl Play {
         }
     }
 
-    /// All workers run until they are idle.
+    /// All workers run until they are idle, the connections are given their replies, and the history is
+    /// looked over.
     pub fn finish(&mut self, out: &mut Vec<u8>) -> Result<(), Fault> {
         for worker in 0..4 {
             self.run(worker, out)?;
         }
+        for conn in [CLIENT, ADMINISTRATOR] {
+            self.collect(conn, out)?;
+            self.count_owed(conn, out)?;
+        }
+        self.judge(out)
+    }
+
+    /// Says whether the history is legal, or which entry isn't.
+    fn judge(&self, out: &mut Vec<u8>) -> Result<(), Fault> {
+        let alloc = self.alloc;
+        let config = &self.config;
+        let first = first_illegal(alloc, config, config.run, LIMIT, &self.store, &self.history)?;
+        match first {
+            Some(place) => {
+                out.extend_from_slice(b"illegal")?;
+                put_number(out, place as u64)?;
+            }
+            None => out.extend_from_slice(b"legal")?,
+        }
+        out.extend_from_slice(b"\n")?;
+        Ok(())
+    }
+
+    /// Adds an entry, and prints it.
+    fn add(&mut self, entry: Entry, out: &mut Vec<u8>) -> Result<(), Fault> {
+        out.extend_from_slice(print_entry(self.alloc, &entry)?.as_slice())?;
+        out.extend_from_slice(b"\n")?;
+        self.history.push(entry)?;
         Ok(())
     }
 
     /// A request arrives: `ask CONN ID PATH OID OP` and perhaps an argument.
-    fn ask(&mut self, words: &[&[u8]]) -> Result<(), Fault> {
+    fn ask(&mut self, words: &[&[u8]], out: &mut Vec<u8>) -> Result<(), Fault> {
         let alloc = self.alloc;
         let [_, _, id, path_word, oid, operation, argument @ ..] = words else {
             return Err(Fault::Script);
@@ -105,7 +156,7 @@ impl Play {
             operation: Bytes::from_vec(Vec::from_slice(alloc, operation)?),
             body: body(alloc, argument)?,
         };
-        self.arrive(0, call)
+        self.arrive(CLIENT, call, out)
     }
 
     /// What a key of the path says of its adapter.
@@ -126,26 +177,58 @@ impl Play {
     }
 
     /// An administrator's line arrives: `admin CONN` and its words.
-    fn admin(&mut self, line: &[u8]) -> Result<(), Fault> {
+    fn admin(&mut self, line: &[u8], out: &mut Vec<u8>) -> Result<(), Fault> {
         let Some(text) = line.strip_prefix(b"admin m ".as_slice()) else {
             return Err(Fault::Script);
         };
         let command = admin_line::read_line(self.alloc, text)?;
         let number = self.lines.checked_add(1).ok_or(Fault::Script)?;
         self.lines = number;
-        self.arrive(1, Call::Line { number, command })
+        self.arrive(ADMINISTRATOR, Call::Line { number, command }, out)
     }
 
-    fn arrive(&mut self, conn: u32, call: Call) -> Result<(), Fault> {
-        self.history.push(Entry::Arrive {
-            conn,
-            size: 64,
-            call,
-        })?;
+    fn arrive(&mut self, conn: u32, call: Call, out: &mut Vec<u8>) -> Result<(), Fault> {
+        let size = SIZE;
+        self.add(Entry::Arrive { conn, size, call }, out)
+    }
+
+    /// The connection is given the replies that are ready.
+    fn collect(&mut self, conn: u32, out: &mut Vec<u8>) -> Result<(), Fault> {
+        for _ in 0..REPLIES {
+            let run = self.config.run;
+            let next = slow_next_reply(self.alloc, &self.config, run, &self.history, conn)?;
+            let Some(arrival) = next else {
+                return Ok(());
+            };
+            self.add(Entry::Collect { conn, arrival }, out)?;
+            self.tell(conn, arrival, out)?;
+        }
         Ok(())
     }
 
-    /// A worker's next entry is made and printed. Whether there is one.
+    /// Prints how many replies the connection is still owed.
+    fn count_owed(&self, conn: u32, out: &mut Vec<u8>) -> Result<(), Fault> {
+        let run = self.config.run;
+        let owed = slow_owed(self.alloc, &self.config, run, &self.history, conn)?;
+        out.extend_from_slice(b"owed")?;
+        put_number(out, u64::from(conn))?;
+        put_number(out, owed)?;
+        out.extend_from_slice(b"\n")?;
+        Ok(())
+    }
+
+    /// Prints the reply to an arrival.
+    fn tell(&self, conn: u32, arrival: u64, out: &mut Vec<u8>) -> Result<(), Fault> {
+        let run = self.config.run;
+        let history = self.history.as_slice();
+        let reply = slow_reply(self.alloc, &self.config, run, &self.store, history, arrival)?;
+        match reply {
+            Some(reply) => put_reply(out, conn, request_id(call_of(history, arrival)), &reply),
+            None => Err(Fault::Script),
+        }
+    }
+
+    /// A worker's next entry is made. Whether there is one.
     fn turn(&mut self, worker: u32, out: &mut Vec<u8>) -> Result<bool, Fault> {
         let run = self.config.run;
         let next = slow_next(
@@ -159,9 +242,7 @@ impl Play {
         let Some(entry) = next else {
             return Ok(false);
         };
-        out.extend_from_slice(print_entry(self.alloc, &entry)?.as_slice())?;
-        out.extend_from_slice(b"\n")?;
-        self.history.push(entry)?;
+        self.add(entry, out)?;
         Ok(true)
     }
 

@@ -125,8 +125,18 @@ path = \"/\"
 children = \"refuse\"
 ";
 
+/// A register of the root, under a system-made id.
+const COUNTER: &[u8] = b"root = \"active\"
+[[servant]]
+name = \"counter\"
+kind = \"register\"
+[[object]]
+adapter = \"/\"
+servant = \"counter\"
+";
+
 /// The scripts, in the order in which they are played.
-pub static SCRIPTS: [Script; 11] = [
+pub static SCRIPTS: [Script; 13] = [
     Script {
         name: b"deactivation between incarnation and run",
         configuration: ACTIVATOR,
@@ -254,5 +264,31 @@ run 0
 admin m shutdown
 run 0
 ask a 2 /s t:x get",
+    },
+    Script {
+        name: b"what a register answers",
+        configuration: COUNTER,
+        lines: b"ask a 1 / h:0000000100000001 set i:9223372036854775807
+ask a 2 / h:0000000100000001 add i:1
+ask a 3 / h:0000000100000001 sing
+ask a 4 / h:0000000100000001 add
+ask a 5 / h:0000000100000002 get",
+    },
+    Script {
+        name: b"what commands are answered",
+        configuration: COUNTER,
+        lines: b"admin m activate / counter
+admin m reference / counter
+admin m deactivate / h:0000000100000001
+admin m activate / counter
+admin m deactivate / t:zz
+admin m create /zz
+admin m destroy /zz keep now
+admin m manager zz activate
+admin m default / counter
+admin m activate / zz
+admin m activate-id / t:q counter
+admin m manger root activate
+admin m unforward /q",
     },
 ];

@@ -1,0 +1,2 @@
+pub mod Illegal
+pub mod Workers

@@ -1,6 +1,0 @@
-use Rattle.std.proofs.Common.{◌≡◌, take, reverse}
-use Rattle.poa_history.specs.Situations as situations
-use Rattle.poa_model.proofs.facts.is_crowded.Given as goal
-
-abbrev pub invariant-loop-i : goal.invariant-loop-i
-invariant-loop-i l = l.crowded ≡ situations.is_crowded (reverse (take l.i l.history)) l.arrival

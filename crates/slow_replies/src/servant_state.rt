@@ -1,0 +1,9 @@
+//! The state of a servant.
+use poa_base::{Sid, State};
+
+/// The state of a servant, as an entry left it.
+#[derive(Debug, Drop)]
+pub struct ServantState {
+    pub servant: Sid,
+    pub state: State,
+}
