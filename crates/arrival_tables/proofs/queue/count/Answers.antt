@@ -1,0 +1,8 @@
+use Rattle.std.proofs.Common.{length, sym, ap, ◌∙◌}
+use Rattle.poa_history.specs.Arrivals.{arrivals}
+use Rattle.poa_history.specs.Stages.{is_unadmitted}
+use Rattle.arrival_tables.proofs.Numbers.{counted}
+use Rattle.arrival_tables.proofs.queue.count.Goals as goal
+
+pub returns : goal.returns
+returns c = λ h is. ap length (c.as_slice.ensures.value ∙ is.unadmitted_are) ∙ sym (counted (is_unadmitted h) (arrivals h))

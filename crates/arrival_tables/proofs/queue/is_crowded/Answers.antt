@@ -1,0 +1,14 @@
+use Rattle.std.proofs.Common.{◌==◌, sym, subst, ap, ◌∙◌}
+use Rattle.std.specs.List.{list_any}
+use Rattle.poa_history.specs.Arrivals.{arrivals}
+use Rattle.poa_history.specs.Situations as situations
+use Rattle.arrival_tables.specs.Numbers.{Ascends}
+use Rattle.arrival_tables.proofs.Numbers.{ascending}
+use Rattle.arrival_tables.proofs.Queueing.{crowded_told}
+use Rattle.arrival_tables.proofs.queue.is_crowded.Goals as goal
+
+pub returns : goal.returns
+returns c = λ h is.
+    (let same = c.deref.ensures.value ∙ is.crowded_are in
+    c.has.ensures (subst Ascends (sym same) (ascending (situations.is_crowded h) (arrivals h)))
+    ∙ (ap (list_any (λ x. x == c.args.arrival)) same ∙ crowded_told h c.args.arrival))

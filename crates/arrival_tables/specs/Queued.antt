@@ -1,0 +1,39 @@
+-- Which arrivals wait to be admitted, and which came when too many waited.
+use Rattle.std.specs.Prelude.{◌≡◌, ℕ, ◌≤◌, ◌<◌, Bool, true, false, ◌&&◌, List, filter, Option, Some, None, vec_len, vec_capacity}
+use Rattle.poa_base.specs.declared.Call.{Call}
+use Rattle.poa_base.specs.declared.Entry.{Entry}
+use Rattle.poa_base.specs.declared.Entry.TheVariants.{Arrive, Tried}
+use Rattle.poa_base.specs.declared.Attempt.TheVariants.{Yes}
+use Rattle.poa_history.specs.Arrivals.{arrivals, call_of, is_message}
+use Rattle.poa_history.specs.Stages.{stage, arrival_in, admitted, is_unadmitted}
+use Rattle.poa_history.specs.Situations.{is_crowded}
+use Rattle.arrival_tables.specs.Numbers.{below}
+use Rattle.arrival_tables.specs.declared.queue.Queue.{Queue}
+
+-- a request or a locate that wasn't admitted
+abbrev pub is_waiting : List Entry → ℕ → Bool
+is_waiting h r = is_unadmitted h r && is_message (call_of h r)
+
+pub record IsQueue (h : List Entry) (q : Queue) : Type 0 where
+  pub unadmitted_are : q.unadmitted.items ≡ filter (is_unadmitted h) (below (arrivals h))
+  pub messages_are : q.messages.items ≡ filter (is_waiting h) (below (arrivals h))
+  pub crowded_are : q.crowded.items ≡ filter (is_crowded h) (below (arrivals h))
+  -- what hasn't arrived wasn't admitted
+  pub later : (r : ℕ) → arrivals h ≤ r → admitted h r ≡ None
+
+-- the call that goes back to the queue with the entry, where one does
+abbrev pub call_tried : List Entry → Entry → Option Call
+call_tried past (Tried w (Yes number)) = elim (arrival_in (stage past w)) [ Some r ↦ call_of past r | None ↦ None ]
+call_tried past e = None
+
+-- a call comes into the queue with the entry
+abbrev pub may_queue : Entry → Bool
+may_queue (Arrive conn size call) = true
+may_queue (Tried w (Yes number)) = true
+may_queue e = false
+
+-- one call more takes no memory
+pub record HasPlace (q : Queue) : Type 0 where
+  pub unadmitted : vec_len q.unadmitted < vec_capacity q.unadmitted
+  pub messages : vec_len q.messages < vec_capacity q.messages
+  pub crowded : vec_len q.crowded < vec_capacity q.crowded

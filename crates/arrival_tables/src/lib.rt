@@ -1,0 +1,16 @@
+//! What a journal says of arrivals and workers, kept as tables in place of walks over it: where each call
+//! arrived, which arrivals wait to be admitted and which came when too many waited, and what each worker has
+//! begun; and by them a worker's next entry. Each table takes in the journal's entries one by one.
+#![tactic(auto)]
+
+pub mod calls;
+mod ordered;
+pub mod queue;
+#[cfg(test)]
+mod tests;
+pub mod turns;
+pub mod workers;
+
+pub use calls::Calls;
+pub use queue::Queue;
+pub use workers::Workers;

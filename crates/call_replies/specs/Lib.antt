@@ -1,0 +1,3 @@
+pub mod Unmade
+pub mod Comes
+pub mod Fixed

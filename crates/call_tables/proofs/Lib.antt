@@ -1,0 +1,13 @@
+pub mod Lists
+pub mod Filing
+pub mod InPlace
+pub mod Waiting
+pub mod Deciding
+pub mod Kept
+pub mod FiledAfter
+pub mod RowsNext
+pub mod Given
+pub mod Arrived
+pub mod Removed
+pub mod DeskAfter
+pub mod Coming

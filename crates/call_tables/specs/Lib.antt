@@ -1,0 +1,5 @@
+pub mod Numbers
+pub mod Waits
+pub mod Owed
+pub mod Decided
+pub mod Desk

@@ -1,0 +1,15 @@
+//! The tables that the adapter's core keeps of calls: those that are owed a reply, with what each command that
+//! waits is waiting for, and the decided replies that aren't collected, in the order in which they are given.
+#![tactic(auto)]
+
+mod advancing;
+mod desk;
+mod filed;
+mod owing;
+mod wait;
+
+pub use advancing::advance;
+pub use desk::Desk;
+pub use filed::Filed;
+pub use owing::Owing;
+pub use wait::{Ordered, Wait, ordered_by, wait_by};

@@ -1,0 +1,4 @@
+pub mod Flags
+pub mod Staying
+pub mod Bounds
+pub mod Follows

@@ -1,0 +1,25 @@
+-- How a run comes to its end: a `shutdown` is admitted, and the connections leave.
+use Rattle.std.specs.Prelude.{ℕ, Bool, false, not, ◌&&◌, ◌||◌, ◌==◌, List, [], ◌∷◌, Some, None}
+use Rattle.poa_base.specs.declared.Entry.{Entry}
+use Rattle.poa_base.specs.declared.Entry.TheVariants.{Admit}
+use Rattle.poa_history.specs.Arrivals.{call_of}
+use Rattle.poa_history.specs.Legal.{has_left, is_shutdown}
+use Rattle.poa_history.specs.Logs.{is_accepted}
+use Rattle.poa_history.specs.Searches.{count_below}
+
+-- a `shutdown` was admitted
+abbrev pub is_shut : List Entry → Bool
+is_shut [] = false
+is_shut (Admit w r verdict ∷ past) = (is_accepted verdict && elim (call_of past r) [ Some call ↦ is_shutdown call | None ↦ false ]) || is_shut past
+is_shut (e ∷ past) = is_shut past
+
+-- a connection is there still, and isn't the first
+abbrev pub is_staying : List Entry → ℕ → Bool
+is_staying h conn = not (conn == 0) && not (has_left h conn)
+
+-- so many connections are there still, but for the first
+abbrev pub staying : List Entry → ℕ → ℕ
+staying h conns = count_below (is_staying h) conns
+
+abbrev pub are_gone : List Entry → ℕ → Bool
+are_gone h conns = staying h conns == 0

@@ -1,0 +1,15 @@
+//! What the adapter's core counts of a run, so that it needn't walk its journal: the connections, the calls and
+//! bytes that arrived, when the run was filled, and whether a `shutdown` arrived or was admitted.
+#![tactic(auto)]
+
+mod full;
+mod moves;
+mod queries;
+mod tally;
+#[cfg(test)]
+mod tests;
+
+pub use full::Full;
+pub use moves::advance;
+pub use queries::{connections, is_open, is_over, is_taken};
+pub use tally::{Tally, none, reserve};

@@ -1,0 +1,131 @@
+//! What each entry of a history adds to the tally.
+ghost use Rattle.std.specs.Prelude.{◌≡◌, ◌∷◌, ◌+◌, ◌-◌, ◌^◌, ◌<◌, ◌≤◌, ◌==◌, ℕ, List, length, min, true, if◌then◌else◌, option_copied, slice_set};
+ghost use Rattle.poa_base.specs.declared.Config.{Config};
+ghost use Rattle.poa_base.specs.declared.Entry.{Entry as EntryOf};
+ghost use Rattle.poa_base.specs.declared.Entry.TheVariants.{Entered, Arrive, Filled, Left, Admit};
+ghost use Rattle.poa_history.specs.Arrivals as calls;
+ghost use Rattle.poa_history.specs.Legal as legal;
+ghost use Rattle.run_tally.specs.Tallies as tallies;
+ghost use Rattle.run_tally.specs.Tallies.{IsTally, HasRoomFor, HasRoomForOne};
+
+use crate::full::Full;
+use crate::tally::Tally;
+use poa_base::{Call, Command, Entry, Verdict};
+use standing_queries::commands::is_accepted;
+
+/// Whether a call is the administrator's `shutdown`.
+pub fn is_shutdown(call: &Call) -> bool
+    ensures { result ≡ legal.is_shutdown call.now }
+{
+    match call {
+        Call::Line {
+            command: Command::Shutdown,
+            ..
+        } => true,
+        _ => false,
+    }
+}
+
+/// Whether the verdict on a call is that a `shutdown` is done.
+fn is_shut_by(verdict: &Verdict, call: Option<&Call>) -> bool
+    ensures { result ≡ tallies.is_shut_by verdict.now (option_copied call.entry) }
+{
+    is_accepted(verdict)
+        && match call {
+            Some(call) => is_shutdown(call),
+            None => false,
+        }
+}
+
+/// One connection more is there; the first isn't counted.
+fn with_one(conn: u32, staying: u64) -> u64
+    ensures { result ≡ (if conn == 0 then staying else min (staying + 1) (2 ^ 64 - 1)) }
+{
+    if conn == 0 {
+        staying
+    } else {
+        staying.saturating_add(1)
+    }
+}
+
+/// One connection less is there.
+fn without_one(conn: u32, staying: u64) -> u64
+    ensures { result ≡ (if conn == 0 then staying else staying - 1) }
+{
+    if conn == 0 {
+        staying
+    } else {
+        staying.saturating_sub(1)
+    }
+}
+
+/// Notes that a connection has left.
+fn mark(conn: u32, left: &mut Vec<bool>)
+    ensures { conn < length left.old.items → left.new.items ≡ slice_set left.old.items conn true }
+{
+    if (conn as usize) < left.len() {
+        left[conn as usize] = true;
+    }
+}
+
+/// A connection enters.
+fn enter(conn: u32, tally: &mut Tally)
+    requires { HasRoomForOne tally.old }
+    ensures { (past : List EntryOf) → conn ≡ calls.connections past → conn < 4000000 → IsTally past tally.old → IsTally (Entered conn ∷ past) tally.new }
+{
+    tally.staying = with_one(conn, tally.staying);
+    tally.left.push_reserved(false);
+}
+
+/// A call arrives.
+fn arrive(conn: u32, size: u64, call: &Call, tally: &mut Tally)
+    ensures { (past : List EntryOf) → tallies.AreFew (Arrive conn size call.now ∷ past) → IsTally past tally.old → IsTally (Arrive conn size call.now ∷ past) tally.new }
+{
+    tally.arrivals = tally.arrivals.saturating_add(1);
+    tally.bytes = tally.bytes.saturating_add(size);
+    tally.ordered = is_shutdown(call) || tally.ordered;
+}
+
+/// A call is refused, since the run takes no more.
+fn fill(conn: u32, size: u64, tally: &mut Tally)
+    ensures { (past : List EntryOf) → IsTally past tally.old → IsTally (Filled conn size ∷ past) tally.new }
+{
+    tally.filled = Some(Full {
+        arrivals: tally.arrivals,
+        bytes: tally.bytes,
+    });
+}
+
+/// A connection leaves.
+fn leave(conn: u32, tally: &mut Tally)
+    ensures { (past : List EntryOf) → legal.IsOpen past conn → IsTally past tally.old → IsTally (Left conn ∷ past) tally.new }
+{
+    tally.staying = without_one(conn, tally.staying);
+    mark(conn, &mut tally.left);
+}
+
+/// A call is admitted.
+fn admit(worker: u32, arrival: u64, verdict: &Verdict, call: Option<&Call>, tally: &mut Tally)
+    ensures { (past : List EntryOf) → option_copied call.entry ≡ calls.call_of past arrival → IsTally past tally.old → IsTally (Admit worker arrival verdict.now ∷ past) tally.new }
+{
+    tally.shut = is_shut_by(verdict, call) || tally.shut;
+}
+
+/// Takes in an entry, with the call of the arrival that it admits. Takes no memory.
+pub fn advance(entry: &Entry, call: Option<&Call>, tally: &mut Tally)
+    requires { HasRoomFor entry.now tally.old }
+    ensures { (c : Config) (run limit : ℕ) (past : List EntryOf) → legal.IsLegal c run limit (entry.now ∷ past) → limit ≤ 4000000 → option_copied call.entry ≡ tallies.call_admitted past entry.now → IsTally past tally.old → IsTally (entry.now ∷ past) tally.new }
+{
+    match entry {
+        Entry::Entered { conn } => enter(*conn, tally),
+        Entry::Arrive { conn, size, call } => arrive(*conn, *size, call, tally),
+        Entry::Filled { conn, size } => fill(*conn, *size, tally),
+        Entry::Left { conn } => leave(*conn, tally),
+        Entry::Admit {
+            worker,
+            arrival,
+            verdict,
+        } => admit(*worker, *arrival, verdict, call, tally),
+        _ => {}
+    }
+}

@@ -1,0 +1,51 @@
+//! The tally of a run.
+ghost use Rattle.std.specs.Prelude.{◌≡◌, [], List, OnOk};
+ghost use Rattle.poa_base.specs.declared.Entry.{Entry};
+ghost use Rattle.run_tally.specs.Tallies.{IsTally, HasRoomForOne};
+
+use crate::full::Full;
+use poa_base::WantMemory;
+use std::alloc::Global;
+
+/// What is counted of a run.
+#[derive(Debug, Drop)]
+pub struct Tally {
+    /// Of each connection that entered, whether it has left.
+    pub left: Vec<bool>,
+    /// How many connections but the first haven't left.
+    pub staying: u64,
+    /// How many calls arrived.
+    pub arrivals: u64,
+    /// How many bytes arrived.
+    pub bytes: u64,
+    /// What stood when the run was filled.
+    pub filled: Option<Full>,
+    /// Whether a `shutdown` arrived.
+    pub ordered: bool,
+    /// Whether a `shutdown` was admitted.
+    pub shut: bool,
+}
+
+/// The tally of a run that hasn't begun. Takes no memory.
+pub fn none(alloc: Global) -> Tally
+    ensures { IsTally [] result }
+{
+    Tally {
+        left: Vec::new(alloc),
+        staying: 0,
+        arrivals: 0,
+        bytes: 0,
+        filled: None,
+        ordered: false,
+        shut: false,
+    }
+}
+
+/// Makes room for a connection; all else is as it was.
+pub fn reserve(tally: &mut Tally) -> Result<(), WantMemory>
+    ensures room { OnOk result (HasRoomForOne tally.new) }
+    ensures same { (h : List Entry) → IsTally h tally.old → IsTally h tally.new }
+{
+    tally.left.try_reserve(1)?;
+    Ok(())
+}
