@@ -1,0 +1,137 @@
+-- A call arrives.
+use Rattle.std.proofs.Common.{◌≡◌, ℕ, ◌+◌, ◌^◌, ◌<◌, ◌≤◌, Bool, true, false, not, ◌&&◌, ◌||◌, nat_lt, nat_le, List, [], ◌∷◌, ◌++◌, Some, None, Option, ◌⊎◌, inl, inr, if◌then◌else◌, refl, sym, ap, subst, ◌∙◌, length, vec_len, vec_capacity, arith}
+use Rattle.std.proofs.lemmas.Bool.{ltb-true, leb-true, and_parts}
+use Rattle.std.proofs.lemmas.List.{length-append}
+use Rattle.poa_base.specs.declared.Call.{Call}
+use Rattle.poa_base.specs.declared.Entry.{Entry}
+use Rattle.poa_base.specs.declared.Entry.TheVariants.{Arrive}
+use Rattle.poa_history.specs.Arrivals.{arrivals, arrived_bytes}
+use Rattle.poa_history.specs.Legal.{IsOpen, IsSize, HasRoom, is_filled, is_shutdown, had_shutdown}
+use Rattle.poa_history.specs.Replies.{asks, number_of}
+use Rattle.run_tally.specs.Limits.{has_room, is_taken}
+use Rattle.call_tables.specs.declared.desk.Desk.{Desk}
+use Rattle.call_tables.specs.declared.owing.Owing.{Owing}
+use Rattle.call_tables.specs.Owed.{AreOwed, head_of}
+use Rattle.call_tables.specs.Decided.{AreFiled}
+use Rattle.call_tables.specs.Desk.{HasRoom as HasRoomInDesk}
+use Rattle.call_tables.proofs.DeskAfter.{new_owes, owed_with, owed_without}
+use Rattle.poa_core.specs.declared.inside.Inside.{Inside}
+use Rattle.poa_core.specs.Arriving.{row_of}
+use Rattle.poa_core.specs.Agrees.{Agrees, history, opened_in}
+use Rattle.poa_core.specs.Noting.{IsNoted}
+use Rattle.poa_core.specs.Kept.{IsKept, IsReady, IsQuiet, stay}
+use Rattle.poa_core.proofs.Space.{stay_after}
+use Rattle.poa_core.proofs.Keeping.{longer}
+
+not_true : (b : Bool) → not b ≡ true → b ≡ false
+not_true false is = refl
+not_true true is = absurd (let e : false ≡ true = is in cc)
+
+room_of : (limit : ℕ) (h : List Entry) (size : ℕ) → has_room limit h size ≡ true → HasRoom limit h size
+room_of limit h size is =
+    (let a = and_parts (not (is_filled h)) (nat_lt (arrivals h) limit && nat_le (arrived_bytes h + size) (2 ^ 30)) is in
+    let b = and_parts (nat_lt (arrivals h) limit) (nat_le (arrived_bytes h + size) (2 ^ 30)) a.1 in
+    record { unfilled = not_true (is_filled h) a.0; fewer = ltb-true (arrivals h) limit b.0; bytes = leb-true (arrived_bytes h + size) (2 ^ 30) b.1 })
+
+taken_of : (limit : ℕ) (h : List Entry) (size : ℕ) (call : Call) → is_taken limit h size call ≡ true → ((is_shutdown call ≡ true) × (had_shutdown h ≡ false)) ⊎ HasRoom limit h size
+taken_of limit h size call is =
+    elim (is_shutdown call && not (had_shutdown h)) as (λ b. (is_shutdown call && not (had_shutdown h)) ≡ b → (b || has_room limit h size) ≡ true → ((is_shutdown call ≡ true) × (had_shutdown h ≡ false)) ⊎ HasRoom limit h size) [
+      | true ↦ (λ first _. (let parts = and_parts (is_shutdown call) (not (had_shutdown h)) first in inl (parts.0, not_true (had_shutdown h) parts.1)))
+      | false ↦ (λ _ rest. inr (room_of limit h size rest))
+    ] refl is
+
+pub not_taken : (limit : ℕ) (h : List Entry) (size : ℕ) (call : Call) → is_taken limit h size call ≡ false → has_room limit h size ≡ false
+not_taken limit h size call is = second (is_shutdown call && not (had_shutdown h)) (has_room limit h size) is
+  where
+    second : (a b : Bool) → (a || b) ≡ false → b ≡ false
+    second false b is = is
+    second true b is = absurd (let e : true ≡ false = is in cc)
+
+pub arrived_quiet : (conn size : ℕ) (call : Call) (i : Inside) → IsReady i → IsOpen (history i) conn → IsSize size → is_taken i.limit (history i) size call ≡ true → IsQuiet (history i) (Arrive conn size call) i
+arrived_quiet conn size call i ready open_ sized taken =
+    (let agrees = ready.agrees in let runs = agrees.runs in record {
+      follows = record { accepted = runs.accepted; numbered = runs.numbered; limited = runs.limited; legal = (record { open_ = open_; sized = sized; room = taken_of i.limit (history i) size call taken }, runs.legal) };
+      conn = refl;
+      state = agrees.state;
+      tables = agrees.tables;
+      owed = agrees.owed;
+      left = record { which = agrees.filed.which; each = agrees.filed.each };
+    })
+
+module _ (conn size : ℕ) (call : Call) (old new : Inside) (ready : IsReady old) (noted : IsNoted (Arrive conn size call) old new) where
+  abbrev e : Entry
+  e = Arrive conn size call
+
+  same_stay : stay new.tables.tally ≡ stay old.tables.tally
+  same_stay = stay_after (history old) e old.tables.tally new.tables.tally refl ready.agrees.tables.tally noted.tables.tally
+
+  space_of : (l l' many many' s s' room room' more : ℕ) → l' ≡ l + 1 → many' ≡ many + more → more ≤ 1 → s' ≡ s → room' ≡ room → l + (many + s) + 2 ≤ room → l' + (many' + s') + 0 ≤ room'
+  space_of l l' many many' s s' room room' more a b few c d fits = omega (arith, a, b, few, c, d, fits)
+
+  -- it asks no reply
+  pub kept_unasked : asks (Some call) ≡ false → IsKept new
+  kept_unasked unasked =
+      record {
+        agrees = subst (λ h. Agrees h new) (sym (longer e old new noted))
+            (record {
+              runs = noted.runs;
+              state = noted.state;
+              tables = noted.tables;
+              filed = noted.filed;
+              room = noted.room;
+              owed = owed_without new.config new.run new.limit (history old) conn size call noted.runs.legal new.desk.owing.items noted.before.which noted.before.each unasked;
+            });
+        space = space_of (vec_len old.entries) (vec_len new.entries) (length old.desk.owing.items + length old.desk.outbox.items) (length new.desk.owing.items + length new.desk.outbox.items)
+            (stay old.tables.tally) (stay new.tables.tally) (vec_capacity old.entries) (vec_capacity new.entries) 0 noted.len (none_more (length old.desk.owing.items + length old.desk.outbox.items) (length new.desk.owing.items + length new.desk.outbox.items) noted.as_many) (omega arith) same_stay noted.capacity ready.space;
+      }
+    where
+      none_more : (a b : ℕ) → b ≡ a → b ≡ a + 0
+      none_more a b is = omega (arith, is)
+
+  -- it asks one, and is owed it
+  pub kept_asked : (row : Owing) (desk : Desk) → row_of old.tables.tally.arrivals conn call ≡ Some row → asks (Some call) ≡ true
+      → desk.owing.items ≡ new.desk.owing.items ++ row ∷ [] → desk.outbox.items ≡ new.desk.outbox.items → HasRoomInDesk desk → IsKept (record new { desk = desk })
+  kept_asked row desk is asked owing outbox room =
+      record {
+        agrees = subst (λ h. Agrees h (record new { desk = desk })) (sym (longer e old new noted))
+            (record {
+              runs = noted.runs;
+              state = noted.state;
+              tables = noted.tables;
+              room = room;
+              filed = subst (λ fs. AreFiled new.config new.run (opened_in new) (e ∷ history old) fs) (sym outbox) noted.filed;
+              owed = subst (λ os. AreOwed new.config new.run (e ∷ history old) os) (sym owing)
+                  (owed_with new.config new.run new.limit (history old) conn size call noted.runs.legal new.desk.owing.items row noted.before.which noted.before.each at
+                  (new_owes new.config new.run new.limit (history old) conn size call noted.runs.legal row at (sym (ap (λ (o : Owing). o.conn) it)) (sym (ap (λ (o : Owing). o.number) it)) (sym (ap (λ (o : Owing). o.head) it)) (sym (ap (λ (o : Owing). o.wait) it))) asked);
+            });
+        space = space_of (vec_len old.entries) (vec_len new.entries) (length old.desk.owing.items + length old.desk.outbox.items) (length desk.owing.items + length desk.outbox.items)
+            (stay old.tables.tally) (stay new.tables.tally) (vec_capacity old.entries) (vec_capacity new.entries) 1 noted.len
+            (one_more (length old.desk.owing.items + length old.desk.outbox.items) (length new.desk.owing.items) (length new.desk.outbox.items) (length desk.owing.items) (length desk.outbox.items) noted.as_many (ap length owing ∙ length-append new.desk.owing.items (row ∷ [])) (ap length outbox)) (omega arith) same_stay noted.capacity ready.space;
+      }
+    where
+      made : Owing
+      made = record { arrival = old.tables.tally.arrivals; conn = conn; number = number_of (Some call); head = head_of (Some call); wait = None }
+
+      it : made ≡ row
+      it = (let some : Some made ≡ Some row = sym (ap (λ b. if b then Some made else None) asked) ∙ is in cc)
+
+      at : row.arrival ≡ arrivals (history old)
+      at = sym (ap (λ (o : Owing). o.arrival) it) ∙ ready.agrees.tables.tally.calls
+
+      one_more : (a b d b' d' : ℕ) → b + d ≡ a → b' ≡ b + 1 → d' ≡ d → b' + d' ≡ a + 1
+      one_more a b d b' d' x y z = omega (arith, x, y, z)
+
+-- the row tells whether it asks one
+pub has_row : (r conn : ℕ) (call : Call) (row : Owing) → row_of r conn call ≡ Some row → asks (Some call) ≡ true
+has_row r conn call row = by_asking (asks (Some call)) (record { arrival = r; conn = conn; number = number_of (Some call); head = head_of (Some call); wait = None })
+  where
+    by_asking : (b : Bool) (o : Owing) → (if b then Some o else None) ≡ Some row → b ≡ true
+    by_asking true o is = refl
+    by_asking false o is = absurd (let e : None ≡ Some row = is in cc)
+
+pub has_none : (r conn : ℕ) (call : Call) → row_of r conn call ≡ None → asks (Some call) ≡ false
+has_none r conn call = by_asking (asks (Some call)) (record { arrival = r; conn = conn; number = number_of (Some call); head = head_of (Some call); wait = None })
+  where
+    by_asking : (b : Bool) (o : Owing) → (if b then Some o else None) ≡ None → b ≡ false
+    by_asking false o is = refl
+    by_asking true o is = absurd (let e : Some o ≡ None = is in cc)

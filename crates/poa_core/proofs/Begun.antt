@@ -1,0 +1,47 @@
+-- A run that hasn't begun is kept.
+use Rattle.std.proofs.Common.{◌≡◌, ℕ, ◌+◌, ◌^◌, ◌<◌, ◌≤◌, List, [], ◌∷◌, length, reverse, refl, sym, ap, ap₂, subst, ◌∙◌, vec_len, vec_capacity, arith}
+use Rattle.poa_base.specs.declared.Entry.{Entry}
+use Rattle.conf_rules.specs.Rules.{KeepsRules}
+use Rattle.call_tables.specs.declared.filed.Filed.{Filed}
+use Rattle.call_tables.specs.declared.owing.Owing.{Owing}
+use Rattle.call_tables.specs.Owed.{AreOwed}
+use Rattle.call_tables.specs.Decided.{AreFiled}
+use Rattle.call_tables.specs.Desk.{HasRoom}
+use Rattle.adapter_state.specs.State.{IsState}
+use Rattle.poa_core.specs.declared.inside.Inside.{Inside}
+use Rattle.poa_core.specs.Agrees.{Agrees, KnowsTables, history, opened_in}
+use Rattle.poa_core.specs.Kept.{IsKept, stay}
+use Rattle.poa_core.proofs.Space.{stay_is}
+
+-- what is known of what was made
+pub record IsNew (i : Inside) : Type 0 where
+  pub rules : KeepsRules i.config
+  pub numbered : i.run < 2 ^ 32
+  pub limited : i.limit ≤ 4000000
+  pub state : IsState i.config i.run (opened_in i) [] i.state
+  pub tables : KnowsTables [] i.tables
+  pub owing : i.desk.owing.items ≡ []
+  pub outbox : i.desk.outbox.items ≡ []
+  pub room : HasRoom i.desk
+  pub entries : i.entries.items ≡ []
+  pub len : vec_len i.entries ≡ 0
+  pub space : 2 ≤ vec_capacity i.entries
+
+space_of : (l a b s room : ℕ) → l ≡ 0 → a ≡ 0 → b ≡ 0 → s ≡ 2 → 2 ≤ room → l + (a + b + s) + 0 ≤ room
+space_of l a b s room w x y z fits = omega (arith, w, x, y, z, fits)
+
+pub begun_kept : (i : Inside) → IsNew i → IsKept i
+begun_kept i is =
+    record {
+      agrees = subst (λ h. Agrees h i) (sym (ap reverse is.entries))
+          (record {
+            runs = record { accepted = is.rules; numbered = is.numbered; limited = is.limited; legal = tt };
+            state = is.state;
+            tables = is.tables;
+            owed = subst (AreOwed i.config i.run []) (sym is.owing) (record { which = refl; each = λ o none. absurd none });
+            filed = subst (AreFiled i.config i.run (opened_in i) []) (sym is.outbox) (record { which = refl; each = λ f none. absurd none });
+            room = is.room;
+          });
+      space = space_of (vec_len i.entries) (length i.desk.owing.items) (length i.desk.outbox.items) (stay i.tables.tally) (vec_capacity i.entries)
+          is.len (ap length is.owing) (ap length is.outbox) (stay_is [] i.tables.tally is.tables.tally) is.space;
+    }

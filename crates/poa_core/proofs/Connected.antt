@@ -1,0 +1,63 @@
+-- A connection enters, or leaves.
+use Rattle.std.proofs.Common.{◌≡◌, ℕ, ◌+◌, ◌<◌, ◌≤◌, true, false, ◌∷◌, refl, length, vec_len, vec_capacity, arith}
+use Rattle.poa_base.specs.declared.Entry.{Entry}
+use Rattle.poa_base.specs.declared.Entry.TheVariants.{Entered, Left}
+use Rattle.poa_history.specs.Arrivals.{connections}
+use Rattle.poa_history.specs.Legal.{IsOpen}
+use Rattle.poa_core.specs.declared.inside.Inside.{Inside}
+use Rattle.poa_core.specs.Agrees.{history}
+use Rattle.poa_core.specs.Noting.{HasRoomForEntry, IsNoted}
+use Rattle.poa_core.specs.Kept.{IsKept, IsReady, IsQuiet, stay}
+use Rattle.poa_core.proofs.Space.{stay_entered, stay_left, stay_open}
+use Rattle.poa_core.proofs.Keeping.{kept_then}
+
+pub entered_quiet : (conn : ℕ) (i : Inside) → IsReady i → conn ≡ connections (history i) → conn < 4000000 → IsQuiet (history i) (Entered conn) i
+entered_quiet conn i ready is few =
+    (let agrees = ready.agrees in let runs = agrees.runs in record {
+      follows = record { accepted = runs.accepted; numbered = runs.numbered; limited = runs.limited; legal = ((is, few), runs.legal) };
+      conn = refl;
+      state = agrees.state;
+      tables = agrees.tables;
+      owed = agrees.owed;
+      left = record { which = agrees.filed.which; each = agrees.filed.each };
+    })
+
+entered_one : (s s' : ℕ) → s' ≤ s + 1 → s' + 1 ≤ s + 2
+entered_one s s' more = omega (arith, more)
+
+pub entered_kept : (conn : ℕ) (old new : Inside) → IsReady old → IsNoted (Entered conn) old new → IsKept new
+entered_kept conn old new ready noted =
+    kept_then 2 (Entered conn) old new noted refl
+    (entered_one (stay old.tables.tally) (stay new.tables.tally) (stay_entered (history old) conn old.tables.tally new.tables.tally ready.agrees.tables.tally noted.tables.tally)) ready.space
+
+pub left_quiet : (conn : ℕ) (i : Inside) → IsKept i → IsOpen (history i) conn → IsQuiet (history i) (Left conn) i
+left_quiet conn i kept open_ =
+    (let agrees = kept.agrees in let runs = agrees.runs in record {
+      follows = record { accepted = runs.accepted; numbered = runs.numbered; limited = runs.limited; legal = (open_, runs.legal) };
+      conn = refl;
+      state = agrees.state;
+      tables = agrees.tables;
+      owed = agrees.owed;
+      left = record { which = agrees.filed.which; each = agrees.filed.each };
+    })
+
+pub some_room : (l many s room : ℕ) → 1 ≤ s → l + (many + s) + 0 ≤ room → l < room
+some_room l many s room some fits = omega (arith, some, fits)
+
+pub left_room : (conn : ℕ) (i : Inside) → IsKept i → IsOpen (history i) conn → HasRoomForEntry (Left conn) i
+left_room conn i kept open_ =
+    record {
+      entries = some_room (vec_len i.entries) (length i.desk.owing.items + length i.desk.outbox.items) (stay i.tables.tally) (vec_capacity i.entries) (stay_open (history i) conn i.tables.tally open_ kept.agrees.tables.tally) kept.space;
+      calls = λ is. absurd (let e : false ≡ true = is in cc);
+      queue = λ is. absurd (let e : false ≡ true = is in cc);
+      tally = tt;
+      desk = kept.agrees.room;
+    }
+
+pub less_one : (s s' : ℕ) → s' + 1 ≡ s → s' + 1 ≤ s + 0
+less_one s s' is = omega (arith, is)
+
+pub left_kept : (conn : ℕ) (old new : Inside) → IsKept old → IsOpen (history old) conn → IsNoted (Left conn) old new → IsKept new
+left_kept conn old new kept open_ noted =
+    kept_then 0 (Left conn) old new noted refl
+    (less_one (stay old.tables.tally) (stay new.tables.tally) (stay_left (history old) conn old.tables.tally new.tables.tally open_ kept.agrees.tables.tally noted.tables.tally)) kept.space

@@ -1,0 +1,73 @@
+-- The core is kept after an entry is noted.
+use Rattle.std.proofs.Common.{◌≡◌, ℕ, ◌+◌, ◌≤◌, true, false, List, ◌∷◌, length, sym, ap, subst, ◌∙◌, vec_len, vec_capacity, arith}
+use Rattle.poa_base.specs.declared.Entry.{Entry}
+use Rattle.poa_base.specs.declared.Entry.TheVariants.{Entered, Arrive, Filled, Left, Collect, Admit, Tried, Incarnated, Run, Done, TakeOut, Etherealized, Abandon}
+use Rattle.poa_history.specs.declared.stage.Stage.{Stage}
+use Rattle.poa_history.specs.Arrivals.{arrivals}
+use Rattle.poa_opening.specs.Runs.{IsRun}
+use Rattle.standing_of.specs.Entries.{stage_at}
+use Rattle.call_tables.specs.Desk.{AreLeft}
+use Rattle.call_tables.specs.Decided.{AreFiled}
+use Rattle.adapter_state.specs.State.{IsState, is_turn}
+use Rattle.adapter_state.specs.declared.state.State.{State}
+use Rattle.poa_core.specs.declared.inside.Inside.{Inside}
+use Rattle.poa_core.specs.declared.turning.Brought.{Brought}
+use Rattle.poa_core.specs.Life.{Life, with_entry}
+use Rattle.poa_core.specs.Agrees.{Agrees, KnowsTables, history, opened_in}
+use Rattle.poa_core.specs.Turning.{IsTaken, IsBrought}
+use Rattle.poa_core.specs.Noting.{IsHalfway, IsNoted}
+use Rattle.poa_core.specs.Kept.{IsKept, IsReady, HasSpace, life, to_come, stay}
+use Rattle.poa_core.proofs.Space.{stay_after, turns_keep, turns_arrive_none}
+
+-- the history goes on by the entry
+pub longer : (e : Entry) (old new : Inside) → IsNoted e old new → history new ≡ e ∷ history old
+longer e old new noted = ap (λ (l : Life). l.history) noted.life_is
+
+-- what is kept agrees with the history then, where no call arrived
+pub agrees_then : (e : Entry) (old new : Inside) → IsNoted e old new → arrivals (e ∷ history old) ≡ arrivals (history old) → Agrees (history new) new
+agrees_then e old new noted same =
+    subst (λ h. Agrees h new) (sym (longer e old new noted))
+    (record { runs = noted.runs; state = noted.state; tables = noted.tables; owed = noted.owed same; filed = noted.filed; room = noted.room })
+
+-- the journal has the room that it needs
+space_then : (k l l' many many' s s' room room' : ℕ) → l' ≡ l + 1 → many' ≡ many → s' + 1 ≤ s + k → room' ≡ room → l + (many + s) + k ≤ room → l' + (many' + s') + 0 ≤ room'
+space_then k l l' many many' s s' room room' a b c d fits = omega (arith, a, b, c, d, fits)
+
+pub kept_then : (k : ℕ) (e : Entry) (old new : Inside) → IsNoted e old new → arrivals (e ∷ history old) ≡ arrivals (history old) → stay new.tables.tally + 1 ≤ stay old.tables.tally + k → HasSpace k old → IsKept new
+kept_then k e old new noted same less space =
+    record {
+      agrees = agrees_then e old new noted same;
+      space = space_then k (vec_len old.entries) (vec_len new.entries) (length old.desk.owing.items + length old.desk.outbox.items) (length new.desk.owing.items + length new.desk.outbox.items)
+          (stay old.tables.tally) (stay new.tables.tally) (vec_capacity old.entries) (vec_capacity new.entries) noted.len noted.as_many less noted.capacity space;
+    }
+
+pub at_most : (a b k : ℕ) → a ≡ b → 1 ≤ k → a + 1 ≤ b + k
+at_most a b k is some = omega (arith, is, some)
+
+pub turn_kept : (e : Entry) (old new : Inside) → IsNoted e old new → is_turn e ≡ true → KnowsTables (history old) old.tables → HasSpace 2 old → IsKept new
+turn_kept e old new noted turn tables space =
+    kept_then 2 e old new noted (turns_arrive_none (history old) e turn)
+    (at_most (stay new.tables.tally) (stay old.tables.tally) 2 (stay_after (history old) e old.tables.tally new.tables.tally (turns_keep e turn) tables.tally noted.tables.tally) (omega arith)) space
+
+-- the history of the run goes on
+pub runs_still : (e : Entry) (old new : Inside) → life new ≡ life old → IsRun old.config old.run old.limit (e ∷ history old) → IsRun new.config new.run new.limit (e ∷ history new)
+runs_still e old new same = subst (λ (l : Life). IsRun l.config l.run l.limit (e ∷ l.history)) (sym same)
+
+pub begun_still : (e : Entry) (begun : Stage) (old new : Inside) → life new ≡ life old → begun ≡ stage_at (history old) e → begun ≡ stage_at (history new) e
+begun_still e begun old new same = subst (λ (l : Life). begun ≡ stage_at l.history e) (sym same)
+
+-- a worker's entry collects nothing
+pub left_still : (e : Entry) (i : Inside) → is_turn e ≡ true → AreFiled i.config i.run (opened_in i) (history i) i.desk.outbox.items → AreLeft i.config i.run (opened_in i) (history i) e i.desk.outbox.items
+left_still (Admit w r v) i is filed = record { which = filed.which; each = filed.each }
+left_still (Tried w a) i is filed = record { which = filed.which; each = filed.each }
+left_still (Incarnated w a) i is filed = record { which = filed.which; each = filed.each }
+left_still (Run w) i is filed = record { which = filed.which; each = filed.each }
+left_still (Done w) i is filed = record { which = filed.which; each = filed.each }
+left_still (TakeOut w n x) i is filed = record { which = filed.which; each = filed.each }
+left_still (Etherealized w x y) i is filed = record { which = filed.which; each = filed.each }
+left_still (Entered conn) i is filed = absurd (let e : false ≡ true = is in cc)
+left_still (Arrive conn size call) i is filed = absurd (let e : false ≡ true = is in cc)
+left_still (Filled conn size) i is filed = absurd (let e : false ≡ true = is in cc)
+left_still (Left conn) i is filed = absurd (let e : false ≡ true = is in cc)
+left_still (Collect conn a) i is filed = absurd (let e : false ≡ true = is in cc)
+left_still (Abandon w) i is filed = absurd (let e : false ≡ true = is in cc)

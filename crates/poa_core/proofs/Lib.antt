@@ -1,0 +1,13 @@
+pub mod Turned
+pub mod Tabled
+pub mod Noted
+pub mod Quieted
+pub mod Space
+pub mod Connected
+pub mod Keeping
+pub mod Taken
+pub mod GivenOut
+pub mod NextTurn
+pub mod Filling
+pub mod ArrivedThen
+pub mod Begun

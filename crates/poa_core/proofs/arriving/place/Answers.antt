@@ -1,0 +1,21 @@
+use Rattle.std.proofs.Common.{◌≡◌, Bool, true, false, Some, None, Option, if◌then◌else◌, refl, sym, ◌∙◌}
+use Rattle.poa_base.specs.declared.Call.{Call}
+use Rattle.poa_history.specs.Replies.{asks}
+use Rattle.call_tables.specs.declared.owing.Owing.{Owing}
+use Rattle.poa_core.specs.Arriving.{row_of}
+use Rattle.poa_core.proofs.ArrivedThen.{arrived_quiet, kept_asked, kept_unasked, has_row, has_none}
+use Rattle.poa_core.proofs.arriving.place.Goals as goal
+
+pub quiet-requires-clause-quiet : goal.quiet-requires-clause-quiet
+quiet-requires-clause-quiet c = arrived_quiet c.args.conn c.args.size c.args.call c.args.inside.now c.requires.ready c.requires.conn c.requires.size c.requires.taken
+
+pub returns-in-Some-clause-kept : goal.returns-in-Some-clause-kept
+returns-in-Some-clause-kept c =
+    (let is = sym c.row_of-row.ensures ∙ c.in-Some.is in
+    kept_asked c.args.conn c.args.size c.args.call c.args.inside.now c.quiet.new.inside c.requires.ready c.quiet.ensures c.in-Some.row c.owe.new.self is
+    (has_row c.args.inside.now.tables.tally.arrivals c.args.conn c.args.call c.in-Some.row is) c.owe.ensures.owing c.owe.ensures.outbox c.owe.ensures.room)
+
+pub returns-in_default-clause-kept : goal.returns-in_default-clause-kept
+returns-in_default-clause-kept c =
+    kept_unasked c.args.conn c.args.size c.args.call c.args.inside.now c.quiet.new.inside c.requires.ready c.quiet.ensures
+    (has_none c.args.inside.now.tables.tally.arrivals c.args.conn c.args.call (sym c.row_of-row.ensures ∙ c.in_default.is))

@@ -1,0 +1,14 @@
+use Rattle.std.proofs.Common.{◌≡◌, reverse}
+use Rattle.poa_core.proofs.Turned.{manned_before}
+use Rattle.poa_core.proofs.Tabled.{length_reversed}
+use Rattle.poa_core.proofs.tables.advance.Goals as goal
+
+pub returns : goal.returns
+returns c = λ conf run limit follows begun known.
+    let past = reverse c.args.entries.now in
+    record {
+      calls = c.advance-4.ensures past (length_reversed c.args.entries.now) known.calls;
+      queue = c.advance-2.ensures conf run limit past follows.legal.0 (manned_before conf run limit past c.args.entry.now follows) known.tally.calls begun (c.call_tried-tried.ensures known.calls begun) known.queue;
+      workers = c.advance-3.ensures past known.workers;
+      tally = c.advance.ensures conf run limit past follows.legal follows.limited (c.call_admitted-admitted.ensures known.calls) known.tally;
+    }

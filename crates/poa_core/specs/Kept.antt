@@ -1,0 +1,64 @@
+-- What stays true of the core between its calls.
+use Rattle.std.specs.Prelude.{◌≡◌, ℕ, ◌+◌, ◌≤◌, Bool, true, false, if◌then◌else◌, List, ◌∷◌, length, is_some, vec_len, vec_capacity}
+use Rattle.poa_base.specs.declared.Entry.{Entry}
+use Rattle.poa_base.specs.declared.Entry.TheVariants.{Entered, Arrive, Filled, Left, Collect}
+use Rattle.poa_opening.specs.Runs.{IsRun}
+use Rattle.run_tally.specs.declared.Tally.{Tally}
+use Rattle.run_tally.specs.Tallies.{flag_of, HasRoomForOne as HasRoomForConnection}
+use Rattle.call_tables.specs.Desk.{AreLeft, HasRoomForOne}
+use Rattle.arrival_tables.specs.Queued.{HasPlace}
+use Rattle.poa_core.specs.declared.inside.Inside.{Inside}
+use Rattle.poa_core.specs.Life.{Life}
+use Rattle.call_tables.specs.Owed.{AreOwed}
+use Rattle.adapter_state.specs.State.{IsState}
+use Rattle.poa_core.specs.Agrees.{Agrees, KnowsTables, history, opened_in}
+
+abbrev pub unless : Bool → ℕ
+unless b = if b then 0 else 1
+
+-- how many connections may leave, and whether the run may be filled
+abbrev pub stay : Tally → ℕ
+stay t = t.staying + unless (flag_of t.left.items 0) + unless (is_some t.filled)
+
+-- how many entries may still come that take no memory: a Collect of each reply, a Left of each connection, one Filled
+abbrev pub to_come : Inside → ℕ
+to_come i = length i.desk.owing.items + length i.desk.outbox.items + stay i.tables.tally
+
+-- the journal has room for them, and for so many more
+abbrev pub HasSpace : ℕ → Inside → Type 0
+HasSpace more i = vec_len i.entries + to_come i + more ≤ vec_capacity i.entries
+
+pub record IsKept (i : Inside) : Type 0 where
+  pub agrees : Agrees (history i) i
+  pub space : HasSpace 0 i
+
+-- there is room for one entry more, whatever it is
+pub record IsReady (i : Inside) : Type 0 where
+  pub agrees : Agrees (history i) i
+  pub space : HasSpace 2 i
+  pub calls : vec_len i.tables.calls.places + 1 ≤ vec_capacity i.tables.calls.places
+  pub queue : HasPlace i.tables.queue
+  pub tally : HasRoomForConnection i.tables.tally
+  pub desk : HasRoomForOne i.desk
+
+-- the run as it is seen
+abbrev pub life : Inside → Life
+life i = record { config = i.config; run = i.run; limit = i.limit; opening = i.opening; history = history i }
+
+-- a connection makes the entry
+abbrev pub is_conn : Entry → Bool
+is_conn (Entered conn) = true
+is_conn (Arrive conn size call) = true
+is_conn (Filled conn size) = true
+is_conn (Left conn) = true
+is_conn (Collect conn r) = true
+is_conn e = false
+
+-- an entry of a connection comes; what it collects was collected
+pub record IsQuiet (h : List Entry) (e : Entry) (i : Inside) : Type 0 where
+  pub follows : IsRun i.config i.run i.limit (e ∷ h)
+  pub conn : is_conn e ≡ true
+  pub state : IsState i.config i.run (opened_in i) h i.state
+  pub tables : KnowsTables h i.tables
+  pub owed : AreOwed i.config i.run h i.desk.owing.items
+  pub left : AreLeft i.config i.run (opened_in i) h e i.desk.outbox.items

@@ -1,0 +1,7 @@
+pub mod Life
+pub mod Answers
+pub mod Agrees
+pub mod Turning
+pub mod Noting
+pub mod Kept
+pub mod Arriving

@@ -1,0 +1,53 @@
+-- How the core notes an entry behind its journal.
+use Rattle.std.specs.Prelude.{◌≡◌, ◌+◌, ◌<◌, true, List, ◌∷◌, length, vec_len, vec_capacity}
+use Rattle.poa_base.specs.declared.Entry.{Entry}
+use Rattle.poa_history.specs.declared.stage.Stage.{Stage}
+use Rattle.poa_opening.specs.Runs.{IsRun}
+use Rattle.standing_of.specs.Entries.{stage_at}
+use Rattle.call_tables.specs.Owed.{AreOwed}
+use Rattle.poa_history.specs.Arrivals.{arrivals}
+use Rattle.call_tables.specs.Decided.{AreFiled}
+use Rattle.call_tables.specs.Desk.{AreLeft, AreOwedBefore, HasRoom, HasRoomForOne}
+use Rattle.arrival_tables.specs.Placed.{arrives}
+use Rattle.arrival_tables.specs.Queued.{HasPlace, may_queue}
+use Rattle.run_tally.specs.Tallies.{HasRoomFor}
+use Rattle.adapter_state.specs.State.{IsState}
+use Rattle.poa_core.specs.declared.inside.Inside.{Inside}
+use Rattle.poa_core.specs.declared.turning.Brought.{Brought}
+use Rattle.poa_core.specs.Life.{with_entry}
+use Rattle.poa_core.specs.Agrees.{KnowsTables, opened_in, history}
+use Rattle.poa_core.specs.Kept.{life}
+use Rattle.poa_core.specs.Turning.{IsBrought}
+
+-- there is room for the entry
+pub record HasRoomForEntry (e : Entry) (i : Inside) : Type 0 where
+  pub entries : vec_len i.entries < vec_capacity i.entries
+  pub calls : arrives e ≡ true → vec_len i.tables.calls.places < vec_capacity i.tables.calls.places
+  pub queue : may_queue e ≡ true → HasPlace i.tables.queue
+  pub tally : HasRoomFor e i.tables.tally
+  pub desk : HasRoom i.desk
+
+-- what stands is that after the entry; all else that of the history before it
+pub record IsHalfway (h : List Entry) (e : Entry) (begun : Stage) (b : Brought) (i : Inside) : Type 0 where
+  pub follows : IsRun i.config i.run i.limit (e ∷ h)
+  pub begun_is : begun ≡ stage_at h e
+  pub state : IsState i.config i.run (opened_in i) (e ∷ h) i.state
+  pub brought : IsBrought i.config i.run (opened_in i) h e b
+  pub tables : KnowsTables h i.tables
+  pub owed : AreOwed i.config i.run h i.desk.owing.items
+  pub left : AreLeft i.config i.run (opened_in i) h e i.desk.outbox.items
+
+-- the entry was noted, and what is kept says what the history says then, but for a call that arrives with it
+pub record IsNoted (e : Entry) (old new : Inside) : Type 0 where
+  pub runs : IsRun new.config new.run new.limit (e ∷ history old)
+  pub state : IsState new.config new.run (opened_in new) (e ∷ history old) new.state
+  pub tables : KnowsTables (e ∷ history old) new.tables
+  pub before : AreOwedBefore new.config new.run (history old) e new.desk.owing.items
+  pub owed : arrivals (e ∷ history old) ≡ arrivals (history old) → AreOwed new.config new.run (e ∷ history old) new.desk.owing.items
+  pub filed : AreFiled new.config new.run (opened_in new) (e ∷ history old) new.desk.outbox.items
+  pub as_many : length new.desk.owing.items + length new.desk.outbox.items ≡ length old.desk.owing.items + length old.desk.outbox.items
+  pub room : HasRoom new.desk
+  pub spare : HasRoomForOne old.desk → HasRoomForOne new.desk
+  pub life_is : life new ≡ with_entry e (life old)
+  pub len : vec_len new.entries ≡ vec_len old.entries + 1
+  pub capacity : vec_capacity new.entries ≡ vec_capacity old.entries

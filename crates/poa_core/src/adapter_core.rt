@@ -1,0 +1,163 @@
+//! The core of the adapter.
+ghost use Rattle.std.specs.Prelude.{◌≡◌, ℕ, ◌≤◌, ◌<◌, List, find, option_map, reverse, IfOk};
+ghost use Rattle.poa_base.specs.Store.{stored as stored_in};
+ghost use Rattle.conf_rules.specs.Rules.{KeepsRules};
+ghost use Rattle.poa_history.specs.Arrivals.{connections};
+ghost use Rattle.poa_history.specs.Changes.{standing};
+ghost use Rattle.poa_history.specs.Legal.{IsLegal, IsOpen, IsSize};
+ghost use Rattle.poa_history.specs.Lifetime.{HasLifetime};
+ghost use Rattle.poa_history.specs.States.{stored};
+ghost use Rattle.poa_tree.specs.Nodes.{node_at};
+ghost use Rattle.poa_base.specs.declared.Entry.TheVariants.{Left};
+ghost use Rattle.poa_core.specs.Life.{begun, opened, with_entry};
+ghost use Rattle.poa_core.specs.Answers as answers;
+
+use crate::arrive_fault::ArriveFault;
+use crate::collected::Collected;
+use crate::enter_fault::EnterFault;
+use crate::inside::Inside;
+use crate::step_out::StepOut;
+use crate::{arriving, beginning, collecting, connecting, stepping};
+use arrival_tables::queue;
+use poa_base::{Call, Config, Entry, Path, Store, WantMemory};
+use poa_opening::laws::lifetimes_are_kept;
+use standing_queries::nodes;
+use std::alloc::Global;
+use std::marker::Model;
+
+/// The adapter: what a run was given, its journal, and what stands after it. Contracts see the givens and the
+/// history.
+#[derive(Drop)]
+pub struct Core {
+    inside: Inside,
+}
+
+impl Model for Core {
+    ghost use Rattle.std.specs.Coded.{codes};
+    ghost use Rattle.poa_base.specs.contracts.store.Store as store;
+    ghost use Rattle.poa_core.specs.Life.{Life};
+    ghost use Rattle.poa_core.specs.Kept.{IsKept, life};
+
+    ghost Value = { Life };
+
+    ghost coded = { Prim.hlevel (codes, store.the_row.coded) };
+
+    ghost view = { λ c. life c.inside };
+
+    ghost invariant = { λ c. IsKept c.inside };
+}
+
+impl Core {
+    /// A run of a configuration that keeps its rules, with what was stored before it. It takes so many
+    /// arrivals, from 1 to 4,000,000.
+    pub fn new(
+        alloc: Global,
+        config: Config,
+        run: u32,
+        store: Store,
+        limit: u64,
+    ) -> Result<Core, WantMemory>
+        requires rules { KeepsRules config }
+        requires limit { (1 ≤ limit) × (limit ≤ 4000000) }
+        ensures { IfOk result (λ core. core ≡ begun config run limit store) }
+    {
+        Ok(Core {
+            inside: beginning::begin(alloc, config, run, store, limit)?,
+        })
+    }
+
+    /// A connection enters, and gets its number. `Limit` exactly where 4,000,000 entered before.
+    pub fn enter(&mut self) -> Result<u32, EnterFault>
+        ensures { answers.Enters self.old result self.new }
+    {
+        connecting::enter(&mut self.inside)
+    }
+
+    /// A call of so many bytes arrives on a connection, and gets its number. `Limit` exactly where the run is
+    /// full: the first such call is noted in the journal. The first `shutdown` is taken nevertheless.
+    pub fn arrive(&mut self, conn: u32, call: Call, size: u64) -> Result<u64, ArriveFault>
+        requires conn { IsOpen self.old.history conn }
+        requires size { IsSize size }
+        ensures { answers.Arrives conn call size self.old result self.new }
+    {
+        arriving::arrive(&mut self.inside, conn, call, size)
+    }
+
+    /// A worker below 16 makes its next entry.
+    pub fn step(&mut self, worker: u32) -> Result<StepOut, WantMemory>
+        requires { worker < 16 }
+        ensures { answers.Steps worker self.old result self.new }
+    {
+        stepping::step(&mut self.inside, worker)
+    }
+
+    /// A connection that entered is given its next reply. It may have left. Takes no memory.
+    pub fn collect(&mut self, conn: u32) -> Collected
+        requires { conn < connections self.old.history }
+        ensures { answers.Collects conn self.old result self.new }
+    {
+        collecting::collect(&mut self.inside, conn)
+    }
+
+    /// A connection leaves; its undecided calls go on. Takes no memory.
+    pub fn leave(&mut self, conn: u32)
+        requires { IsOpen self.old.history conn }
+        ensures { self.new ≡ with_entry (Left conn) self.old }
+    {
+        connecting::leave(&mut self.inside, conn);
+    }
+
+    /// The journal's entries, the oldest first. They are a legal history, which keeps the lifetime of every
+    /// activation.
+    pub fn entries(&self) -> &[Entry]
+        ensures entries { result.now ≡ reverse self.now.history }
+        ensures legal { IsLegal self.now.config self.now.run self.now.limit self.now.history }
+        ensures lifetime { HasLifetime self.now.config self.now.run self.now.history }
+    {
+        lifetimes_are_kept();
+        &self.inside.entries
+    }
+
+    /// The number of the run.
+    pub fn run(&self) -> u32
+        ensures { result ≡ self.now.run }
+    {
+        self.inside.run
+    }
+
+    /// The configuration.
+    pub fn config(&self) -> &Config
+        ensures { result.now ≡ self.now.config }
+    {
+        &self.inside.config
+    }
+
+    /// What was stored when the run began.
+    pub fn opening(&self) -> &Store
+        ensures { result.now ≡ self.now.opening }
+    {
+        &self.inside.opening
+    }
+
+    /// What is stored.
+    pub fn store(&self) -> &Store
+        ensures { (path : List (List ℕ)) (oid : List ℕ) → stored_in result.now path oid ≡ stored self.now.config self.now.run (opened self.now) self.now.history path oid }
+    {
+        &self.inside.state.servants.store
+    }
+
+    /// The number of the adapter at a path, also while it is being destroyed; none where there is none.
+    pub fn adapter_number(&self, path: &Path) -> Option<u32>
+        ensures { result ≡ option_map (λ n. n.number) (node_at (standing self.now.config self.now.run self.now.history).nodes path.now) }
+    {
+        let node = nodes::node_at(&self.inside.state.standing.nodes, path.as_slice())?;
+        Some(node.number)
+    }
+
+    /// How many arrivals are unadmitted.
+    pub fn unadmitted(&self) -> u64
+        ensures { result ≡ answers.unadmitted self.now.history }
+    {
+        queue::count(&self.inside.tables.queue)
+    }
+}

@@ -1,0 +1,42 @@
+//! A run begins.
+ghost use Rattle.std.specs.Prelude.{◌≡◌, ◌≤◌, IfOk};
+ghost use Rattle.conf_rules.specs.Rules.{KeepsRules};
+ghost use Rattle.poa_core.specs.Life as lives;
+ghost use Rattle.poa_core.specs.Kept.{IsKept, life};
+
+use crate::inside::Inside;
+use crate::tables;
+use call_tables::Desk;
+use poa_base::{Config, Store, WantMemory};
+use std::alloc::Global;
+
+/// A run of a configuration, before its first entry. Room is kept for the first connection's leaving, and for the
+/// first call that isn't taken.
+pub fn begin(
+    alloc: Global,
+    config: Config,
+    run: u32,
+    opening: Store,
+    limit: u64,
+) -> Result<Inside, WantMemory>
+    requires rules { KeepsRules config }
+    requires limit { limit ≤ 4000000 }
+    ensures kept { IfOk result (λ inside. IsKept inside) }
+    ensures begun { IfOk result (λ inside. life inside ≡ lives.begun config run limit opening) }
+{
+    let tables = tables::none(alloc)?;
+    let state = adapter_state::opening(alloc, &config, run, &opening)?;
+    let mut entries = Vec::new(alloc);
+    entries.try_reserve(2)?;
+    Ok(Inside {
+        alloc,
+        config,
+        run,
+        limit,
+        opening,
+        entries,
+        tables,
+        desk: Desk::new(alloc),
+        state,
+    })
+}

@@ -1,0 +1,63 @@
+//! Connections enter and leave.
+ghost use Rattle.std.specs.Prelude.{◌≡◌, List, if◌then◌else◌, nat_lt, Some, None};
+ghost use Rattle.poa_base.specs.declared.Entry.{Entry as EntryOf};
+ghost use Rattle.poa_base.specs.declared.Entry.TheVariants.{Left};
+ghost use Rattle.poa_history.specs.Arrivals.{connections};
+ghost use Rattle.poa_history.specs.Legal.{IsOpen};
+ghost use Rattle.run_tally.specs.Tallies.{IsTally};
+ghost use Rattle.poa_core.specs.Life.{with_entry};
+ghost use Rattle.poa_core.specs.Agrees.{history};
+ghost use Rattle.poa_core.specs.Answers.{Enters};
+ghost use Rattle.poa_core.specs.Kept.{IsKept, life};
+
+use crate::enter_fault::EnterFault;
+use crate::inside::Inside;
+use crate::quieting::quiet;
+use crate::room::make_room;
+use poa_base::Entry;
+use run_tally::Tally;
+
+/// How many connections a run has at most.
+const CONNECTIONS: u64 = 4_000_000;
+
+/// The number of the next connection; none where the run had all that it may.
+fn next_number(tally: &Tally) -> Option<u32>
+    ensures { (h : List EntryOf) → IsTally h tally.now → result ≡ (if nat_lt (connections h) 4000000 then Some (connections h) else None) }
+{
+    let conns = run_tally::connections(tally);
+    if conns < CONNECTIONS {
+        u32::try_from(conns).ok()
+    } else {
+        None
+    }
+}
+
+/// A connection enters, and gets its number; or nothing changes.
+pub fn enter(inside: &mut Inside) -> Result<u32, EnterFault>
+    requires { IsKept inside.old }
+    ensures kept { IsKept inside.new }
+    ensures entered { Enters (life inside.old) result (life inside.new) }
+{
+    let Some(conn) = next_number(&inside.tables.tally) else {
+        return Err(EnterFault::Limit {
+            conns: run_tally::connections(&inside.tables.tally),
+            arrivals: inside.tables.tally.arrivals,
+            bytes: inside.tables.tally.bytes,
+        });
+    };
+    if make_room(inside).is_err() {
+        return Err(EnterFault::WantMemory);
+    }
+    quiet(inside, Entry::Entered { conn });
+    Ok(conn)
+}
+
+/// A connection leaves. Takes no memory.
+pub fn leave(inside: &mut Inside, conn: u32)
+    requires kept { IsKept inside.old }
+    requires conn { IsOpen (history inside.old) conn }
+    ensures kept { IsKept inside.new }
+    ensures left { life inside.new ≡ with_entry (Left conn) (life inside.old) }
+{
+    quiet(inside, Entry::Left { conn });
+}

@@ -1,0 +1,34 @@
+//! An entry comes behind the journal.
+ghost use Rattle.poa_core.specs.Agrees.{history};
+ghost use Rattle.poa_core.specs.Noting.{HasRoomForEntry, IsHalfway, IsNoted};
+
+use crate::inside::Inside;
+use crate::tables;
+use crate::turning::Brought;
+use poa_base::Entry;
+use poa_history::Stage;
+
+/// Notes an entry, for which there is room, once what stands is that after it. Takes no memory.
+pub fn note(inside: &mut Inside, entry: Entry, stage: Stage, brought: Brought)
+    requires room { HasRoomForEntry entry inside.old }
+    requires halfway { IsHalfway (history inside.old) entry stage brought inside.old }
+    ensures { IsNoted entry inside.old inside.new }
+{
+    let Brought {
+        decision,
+        wait,
+        ordered,
+    } = brought;
+    call_tables::advance(
+        &inside.config,
+        &inside.state.standing,
+        &entry,
+        decision.target,
+        decision.reply,
+        wait,
+        ordered,
+        &mut inside.desk,
+    );
+    tables::advance(&entry, &inside.entries, stage, &mut inside.tables);
+    inside.entries.push_reserved(entry);
+}

@@ -1,0 +1,28 @@
+//! The entries of connections.
+ghost use Rattle.poa_core.specs.Agrees.{history};
+ghost use Rattle.poa_core.specs.Noting.{HasRoomForEntry, IsNoted};
+ghost use Rattle.poa_core.specs.Kept.{IsQuiet};
+
+use crate::inside::Inside;
+use crate::noting::note;
+use crate::turning::Brought;
+use call_replies::Decision;
+use poa_base::{Entry, Reply};
+use poa_history::Stage;
+
+/// An entry of a connection is noted. It changes nothing that stands. Takes no memory.
+pub fn quiet(inside: &mut Inside, entry: Entry)
+    requires room { HasRoomForEntry entry inside.old }
+    requires quiet { IsQuiet (history inside.old) entry inside.old }
+    ensures { IsNoted entry inside.old inside.new }
+{
+    let brought = Brought {
+        decision: Decision {
+            target: None,
+            reply: Reply::Addressing,
+        },
+        wait: None,
+        ordered: None,
+    };
+    note(inside, entry, Stage::Free, brought);
+}

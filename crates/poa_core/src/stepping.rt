@@ -1,0 +1,67 @@
+//! A worker makes its next entry.
+ghost use Rattle.std.specs.Prelude.{◌≡◌, ◌<◌, ℕ, reverse, IfOk};
+ghost use Rattle.poa_history.specs.Turns.{turn};
+ghost use Rattle.poa_core.specs.Answers as answers;
+ghost use Rattle.poa_core.specs.Agrees.{Agrees, history};
+ghost use Rattle.poa_core.specs.Kept.{IsKept, life};
+
+use crate::inside::Inside;
+use crate::step_out::StepOut;
+use crate::taking::take;
+use arrival_tables::{queue, turns, workers};
+use poa_base::{Entry, Point, WantMemory};
+use poa_history::Stage;
+
+/// What a worker is at between two of its turns.
+fn point_of(stage: Stage) -> Point
+    ensures { result ≡ answers.point_of stage }
+{
+    match stage {
+        Stage::Free => Point::Free,
+        Stage::Trying(arrival) => Point::Trying { arrival },
+        Stage::Incarnating(arrival, _) => Point::Incarnating { arrival },
+        Stage::Serving(arrival) | Stage::Ran(arrival) => Point::Serving { arrival },
+        Stage::Removing(activation) => Point::Etherealizing { activation },
+    }
+}
+
+/// The entry that a worker makes next.
+fn next(inside: &Inside, worker: u32) -> Result<Option<Entry>, WantMemory>
+    requires kept { IsKept inside.now }
+    requires worker { worker < 16 }
+    ensures { IfOk result (λ entry. entry ≡ turn inside.now.config inside.now.run (history inside.now) worker) }
+{
+    turns::next(
+        inside.alloc,
+        &inside.config,
+        inside.run,
+        &inside.entries,
+        &inside.tables.calls,
+        &inside.tables.queue,
+        &inside.tables.workers,
+        &inside.state.standing,
+        &inside.state.settings,
+        worker,
+    )
+}
+
+/// A worker below 16 makes its next entry; or nothing changes.
+pub fn step(inside: &mut Inside, worker: u32) -> Result<StepOut, WantMemory>
+    requires kept { IsKept inside.old }
+    requires worker { worker < 16 }
+    ensures kept { IsKept inside.new }
+    ensures stepped { answers.Steps worker (life inside.old) result (life inside.new) }
+{
+    if workers::is_abandoned(&inside.tables.workers, worker) {
+        return Ok(StepOut::Stopped);
+    }
+    let Some(entry) = next(inside, worker)? else {
+        let unadmitted = queue::count(&inside.tables.queue);
+        return Ok(StepOut::Idle {
+            over: run_tally::is_over(&inside.tables.tally, unadmitted),
+        });
+    };
+    let stage = workers::stage(&inside.tables.workers, worker);
+    take(inside, entry, stage)?;
+    Ok(StepOut::Did(point_of(workers::stage(&inside.tables.workers, worker))))
+}

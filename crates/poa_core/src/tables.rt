@@ -1,0 +1,66 @@
+//! What is kept of the entries, so that nobody has to look for it in the journal.
+ghost use Rattle.std.specs.Prelude.{◌≡◌, ◌<◌, ◌∷◌, ℕ, true, [], List, reverse, vec_len, vec_capacity, IfOk, OnOk};
+ghost use Rattle.poa_base.specs.declared.Config.{Config};
+ghost use Rattle.poa_base.specs.declared.Entry.{Entry as EntryOf};
+ghost use Rattle.poa_opening.specs.Runs.{IsRun};
+ghost use Rattle.standing_of.specs.Entries.{stage_at};
+ghost use Rattle.arrival_tables.specs.Placed.{arrives};
+ghost use Rattle.arrival_tables.specs.Queued.{HasPlace, may_queue};
+ghost use Rattle.run_tally.specs.Tallies.{HasRoomFor, HasRoomForOne};
+ghost use Rattle.poa_core.specs.Agrees.{KnowsTables};
+
+use arrival_tables::{Calls, Queue, Workers, calls, queue, workers};
+use poa_base::{Entry, WantMemory};
+use poa_history::Stage;
+use run_tally::Tally;
+use std::alloc::Global;
+
+/// Where each call arrived, which calls wait, what each worker has begun, and what was counted.
+#[derive(Drop)]
+pub struct Tables {
+    pub calls: Calls,
+    pub queue: Queue,
+    pub workers: Workers,
+    pub tally: Tally,
+}
+
+/// The tables of a run that hasn't begun.
+pub fn none(alloc: Global) -> Result<Tables, WantMemory>
+    ensures { IfOk result (λ tables. KnowsTables [] tables) }
+{
+    Ok(Tables {
+        calls: calls::none(alloc),
+        queue: queue::empty(alloc),
+        workers: workers::all_free(alloc)?,
+        tally: run_tally::none(alloc),
+    })
+}
+
+/// Makes room for a connection or a call; all else is as it was.
+pub fn reserve(tables: &mut Tables) -> Result<(), WantMemory>
+    ensures same { (h : List EntryOf) → KnowsTables h tables.old → KnowsTables h tables.new }
+    ensures calls { OnOk result (vec_len tables.new.calls.places < vec_capacity tables.new.calls.places) }
+    ensures queue { OnOk result (HasPlace tables.new.queue) }
+    ensures tally { OnOk result (HasRoomForOne tables.new.tally) }
+{
+    calls::reserve(&mut tables.calls)?;
+    queue::reserve(&mut tables.queue)?;
+    run_tally::reserve(&mut tables.tally)
+}
+
+/// An entry comes behind the journal's, for which there is room.
+pub fn advance(entry: &Entry, entries: &[Entry], stage: Stage, tables: &mut Tables)
+    requires calls { arrives entry.now ≡ true → vec_len tables.old.calls.places < vec_capacity tables.old.calls.places }
+    requires queue { may_queue entry.now ≡ true → HasPlace tables.old.queue }
+    requires tally { HasRoomFor entry.now tables.old.tally }
+    ensures { (c : Config) (run limit : ℕ) → IsRun c run limit (entry.now ∷ reverse entries.now) → stage ≡ stage_at (reverse entries.now) entry.now
+        → KnowsTables (reverse entries.now) tables.old → KnowsTables (entry.now ∷ reverse entries.now) tables.new }
+{
+    let arrivals = tables.tally.arrivals;
+    let admitted = calls::call_admitted(entries, &tables.calls, entry);
+    run_tally::advance(entry, admitted, &mut tables.tally);
+    let tried = calls::call_tried(entries, &tables.calls, entry, stage);
+    queue::advance(entry, arrivals, stage, tried, &mut tables.queue);
+    workers::advance(entry, &mut tables.workers);
+    calls::advance(entry, entries.len(), &mut tables.calls);
+}

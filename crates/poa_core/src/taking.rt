@@ -1,0 +1,40 @@
+//! A worker's entry is taken.
+ghost use Rattle.std.specs.Prelude.{◌≡◌, ◌∷◌, true, OnOk, OnErr};
+ghost use Rattle.poa_opening.specs.Runs.{IsRun};
+ghost use Rattle.standing_of.specs.Entries.{stage_at};
+ghost use Rattle.adapter_state.specs.State.{is_turn};
+ghost use Rattle.poa_core.specs.Life.{with_entry};
+ghost use Rattle.poa_core.specs.Agrees.{history};
+ghost use Rattle.poa_core.specs.Kept.{IsKept, life};
+
+use crate::inside::Inside;
+use crate::noting::note;
+use crate::room::make_room;
+use crate::turning::bring;
+use poa_base::{Entry, WantMemory};
+use poa_history::Stage;
+
+/// An entry of a worker is taken: all of it takes effect and it stands in the journal, or nothing changes.
+pub fn take(inside: &mut Inside, entry: Entry, stage: Stage) -> Result<(), WantMemory>
+    requires kept { IsKept inside.old }
+    requires follows { IsRun inside.old.config inside.old.run inside.old.limit (entry ∷ history inside.old) }
+    requires turn { is_turn entry ≡ true }
+    requires begun { stage ≡ stage_at (history inside.old) entry }
+    ensures kept { IsKept inside.new }
+    ensures ok { OnOk result (life inside.new ≡ with_entry entry (life inside.old)) }
+    ensures err { OnErr result (life inside.new ≡ life inside.old) }
+{
+    make_room(inside)?;
+    let brought = bring(
+        inside.alloc,
+        &inside.config,
+        inside.run,
+        &inside.entries,
+        &inside.tables.calls,
+        &entry,
+        stage,
+        &mut inside.state,
+    )?;
+    note(inside, entry, stage, brought);
+    Ok(())
+}

@@ -1,0 +1,180 @@
+//! The entries that workers make.
+ghost use Rattle.std.specs.Prelude.{◌≡◌, ◌∷◌, ℕ, List, reverse, option_copied, IfOk, OnOk, OnErr};
+ghost use Rattle.poa_history.specs.Changes.{standing as stands_after};
+ghost use Rattle.poa_history.specs.States.{Stored, servant_run};
+ghost use Rattle.standing_of.specs.Entries.{stage_at};
+ghost use Rattle.standing_queries.specs.Seen.{seen};
+ghost use Rattle.arrival_tables.specs.Placed.{KnowsCalls};
+ghost use Rattle.call_replies.specs.Comes.{call_at as the_call_at};
+ghost use Rattle.adapter_state.specs.State.{IsState};
+ghost use Rattle.poa_base.specs.declared.Entry.{Entry as EntryOf};
+ghost use Rattle.call_tables.specs.Decided.{Decides};
+ghost use Rattle.call_tables.specs.Waits.{call_told};
+ghost use Rattle.poa_core.specs.Turning as turning;
+ghost use Rattle.poa_core.specs.Turning.{IsBrought, IsTaken};
+
+use adapter_state::State;
+use arrival_tables::{Calls, calls};
+use call_replies::{Decision, decision_of};
+use call_tables::{Ordered, Wait, ordered_by, wait_by};
+use poa_base::{Call, Config, Entry, Sid, WantMemory};
+use poa_history::Stage;
+use servant_states::servant_by;
+use standing_queries::Standing;
+use standing_queries::workers::{admitted, arrival_in};
+use std::alloc::Global;
+
+/// What an entry of a worker brings, beside what it changes.
+#[derive(Drop)]
+pub struct Brought {
+    pub decision: Decision,
+    pub wait: Option<Wait>,
+    pub ordered: Option<Ordered>,
+}
+
+/// The call of which an entry speaks: that of the arrival that it admits, or that its worker is at.
+fn call_at<'a>(entries: &'a [Entry], known: &Calls, entry: &Entry, stage: Stage) -> Option<&'a Call>
+    ensures { KnowsCalls (reverse entries.now) known.now.places.items → stage ≡ stage_at (reverse entries.now) entry.now → option_copied result ≡ the_call_at (reverse entries.now) entry.now }
+{
+    let arrival = match entry {
+        Entry::Admit { arrival, .. } => Some(*arrival),
+        _ => arrival_in(stage),
+    };
+    calls::call(entries, known, arrival?)
+}
+
+/// The call that an entry admits or runs.
+fn call_in<'a>(entry: &Entry, call: Option<&'a Call>) -> Option<&'a Call>
+    ensures { option_copied result ≡ turning.call_in entry.now (option_copied call.entry) }
+{
+    match entry {
+        Entry::Admit { .. } | Entry::Run { .. } => call,
+        _ => None,
+    }
+}
+
+/// The call that an entry admits.
+fn call_admitted<'a>(entry: &Entry, call: Option<&'a Call>) -> Option<&'a Call>
+    ensures { (past : List EntryOf) → option_copied call.entry ≡ the_call_at past entry.now → option_copied result ≡ call_told past entry.now }
+{
+    match entry {
+        Entry::Admit { .. } => call,
+        _ => None,
+    }
+}
+
+/// The servant of a request that runs.
+fn servant_in(
+    config: &Config,
+    standing: &Standing,
+    entries: &[Entry],
+    stage: Stage,
+) -> Result<Option<Sid>, WantMemory>
+    ensures { (run : ℕ) → seen standing.now ≡ stands_after config.now run (reverse entries.now) → IfOk result (λ servant. servant ≡ servant_run config.now run (reverse entries.now) stage) }
+{
+    match stage {
+        Stage::Serving(arrival) => servant_by(config, standing, admitted(entries, arrival)),
+        _ => Ok(None),
+    }
+}
+
+/// A request runs: its servant acts, and the outcome decides it.
+fn ran(
+    alloc: Global,
+    config: &Config,
+    run: u32,
+    entry: &Entry,
+    stage: Stage,
+    call: Option<&Call>,
+    runs: Option<Sid>,
+    state: &mut State,
+) -> Result<Decision, WantMemory>
+    requires { (limit : ℕ) × (opened : Stored) × (past : List EntryOf) × turning.Runs config.now run limit opened past entry.now stage (option_copied call) runs state.old }
+    ensures ok { (limit : ℕ) (opened : Stored) (past : List EntryOf) → turning.Runs config.now run limit opened past entry.now stage (option_copied call.entry) runs state.old → OnOk result (IsState config.now run opened (entry.now ∷ past) state.new) }
+    ensures decides { (limit : ℕ) (opened : Stored) (past : List EntryOf) → turning.Runs config.now run limit opened past entry.now stage (option_copied call.entry) runs state.old → IfOk result (λ it. Decides config.now run opened past entry.now it.target it.reply) }
+    ensures err { (opened : Stored) (past : List EntryOf) → IsState config.now run opened past state.old → OnErr result (IsState config.now run opened past state.new) }
+{
+    let outcome = adapter_state::advance(alloc, config, run, entry, stage, call, runs, state)?;
+    decision_of(alloc, config, entry, stage, call, &state.settings, outcome)
+}
+
+/// Any other entry: what it decides is told by what stood before it.
+fn told(
+    alloc: Global,
+    config: &Config,
+    run: u32,
+    entry: &Entry,
+    stage: Stage,
+    call: Option<&Call>,
+    runs: Option<Sid>,
+    state: &mut State,
+) -> Result<Decision, WantMemory>
+    requires { (limit : ℕ) × (opened : Stored) × (past : List EntryOf) × turning.Tells config.now run limit opened past entry.now stage (option_copied call) runs state.old }
+    ensures ok { (limit : ℕ) (opened : Stored) (past : List EntryOf) → turning.Tells config.now run limit opened past entry.now stage (option_copied call.entry) runs state.old → OnOk result (IsState config.now run opened (entry.now ∷ past) state.new) }
+    ensures decides { (limit : ℕ) (opened : Stored) (past : List EntryOf) → turning.Tells config.now run limit opened past entry.now stage (option_copied call.entry) runs state.old → IfOk result (λ it. Decides config.now run opened past entry.now it.target it.reply) }
+    ensures err { (opened : Stored) (past : List EntryOf) → IsState config.now run opened past state.old → OnErr result (IsState config.now run opened past state.new) }
+{
+    let decision = decision_of(alloc, config, entry, stage, call, &state.settings, None)?;
+    adapter_state::advance(
+        alloc,
+        config,
+        run,
+        entry,
+        stage,
+        call_in(entry, call),
+        runs,
+        state,
+    )?;
+    Ok(decision)
+}
+
+/// An entry of a worker changes what stands, and what it decides is told; or nothing changes.
+fn decide(
+    alloc: Global,
+    config: &Config,
+    run: u32,
+    entry: &Entry,
+    stage: Stage,
+    call: Option<&Call>,
+    runs: Option<Sid>,
+    state: &mut State,
+) -> Result<Decision, WantMemory>
+    requires { (limit : ℕ) × (opened : Stored) × (past : List EntryOf) × (places : List ℕ) × turning.IsAsked config.now run limit opened past entry.now stage places (option_copied call) runs state.old }
+    ensures ok { (limit : ℕ) (opened : Stored) (past : List EntryOf) (places : List ℕ) → turning.IsAsked config.now run limit opened past entry.now stage places (option_copied call.entry) runs state.old → OnOk result (IsState config.now run opened (entry.now ∷ past) state.new) }
+    ensures decides { (limit : ℕ) (opened : Stored) (past : List EntryOf) (places : List ℕ) → turning.IsAsked config.now run limit opened past entry.now stage places (option_copied call.entry) runs state.old → IfOk result (λ it. Decides config.now run opened past entry.now it.target it.reply) }
+    ensures err { (opened : Stored) (past : List EntryOf) → IsState config.now run opened past state.old → OnErr result (IsState config.now run opened past state.new) }
+{
+    match entry {
+        Entry::Run { .. } => ran(alloc, config, run, entry, stage, call, runs, state),
+        _ => told(alloc, config, run, entry, stage, call, runs, state),
+    }
+}
+
+/// An entry of a worker changes what stands, and what it brings is told; or nothing changes.
+pub fn bring(
+    alloc: Global,
+    config: &Config,
+    run: u32,
+    entries: &[Entry],
+    known: &Calls,
+    entry: &Entry,
+    stage: Stage,
+    state: &mut State,
+) -> Result<Brought, WantMemory>
+    requires { (limit : ℕ) × (opened : Stored) × IsTaken config.now run limit opened (reverse entries.now) entry.now stage known.now.places.items state.old }
+    ensures ok { (limit : ℕ) (opened : Stored) → IsTaken config.now run limit opened (reverse entries.now) entry.now stage known.now.places.items state.old → OnOk result (IsState config.now run opened (entry.now ∷ reverse entries.now) state.new) }
+    ensures brought { (limit : ℕ) (opened : Stored) → IsTaken config.now run limit opened (reverse entries.now) entry.now stage known.now.places.items state.old → IfOk result (λ b. IsBrought config.now run opened (reverse entries.now) entry.now b) }
+    ensures err { (opened : Stored) → IsState config.now run opened (reverse entries.now) state.old → OnErr result (IsState config.now run opened (reverse entries.now) state.new) }
+{
+    let call = call_at(entries, known, entry, stage);
+    let admits = call_admitted(entry, call);
+    let wait = wait_by(config, &state.standing, entry, admits)?;
+    let ordered = ordered_by(config, entry, admits)?;
+    let runs = servant_in(config, &state.standing, entries, stage)?;
+    let decision = decide(alloc, config, run, entry, stage, call, runs, state)?;
+    Ok(Brought {
+        decision,
+        wait,
+        ordered,
+    })
+}
