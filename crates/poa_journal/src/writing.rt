@@ -8,7 +8,7 @@ ghost use Rattle.poa_journal.specs.Journal.{head_tokens, journal_text, text_of};
 
 use journal_lines::{put_entry, put_row};
 use journal_words::Mark;
-use poa_base::{Bytes, Entry, Journal, Row, WantMemory};
+use poa_base::{Bytes, Entry, Journal, Row, Store, WantMemory};
 use std::alloc::Global;
 use text_words::{Worded, put_number, put_word};
 
@@ -16,10 +16,28 @@ use text_words::{Worded, put_number, put_word};
 pub fn print(alloc: Global, journal: &Journal) -> Result<Bytes, WantMemory>
     ensures { IfOk result (λ text. text ≡ journal_text journal.now) }
 {
-    let mut out = head_line(alloc, journal.run)?;
-    let rows = journal.opening.rows()?;
+    print_parts(
+        alloc,
+        journal.run,
+        &journal.opening,
+        journal.entries.as_slice(),
+    )
+}
+
+/// The text of the journal that has these parts: the number of the run, what was stored when it began, and the
+/// entries, the oldest first.
+pub fn print_parts(
+    alloc: Global,
+    run: u32,
+    opening: &Store,
+    entries: &[Entry],
+) -> Result<Bytes, WantMemory>
+    ensures { IfOk result (λ text. text ≡ journal_text (record { run = run; opening = opening.now; entries = entries.now })) }
+{
+    let mut out = head_line(alloc, run)?;
+    let rows = opening.rows()?;
     put_rows(&mut out, rows.as_slice())?;
-    put_entries(&mut out, journal.entries.as_slice())?;
+    put_entries(&mut out, entries)?;
     Ok(Bytes::from_vec(out))
 }
 

@@ -1,0 +1,12 @@
+pub mod Turning
+pub mod Same
+pub mod Seats
+pub mod Onward
+pub mod Turned
+pub mod Listed
+pub mod Read
+pub mod Collected
+pub mod Meeting
+pub mod Given
+pub mod Whole
+pub mod Asked

@@ -1,0 +1,14 @@
+use Rattle.std.proofs.Common.{arith}
+use Rattle.replay_run.proofs.Whole.{still_of}
+use Rattle.replay_run.proofs.Listed.{collects_more, collects_end, entered_still}
+use Rattle.replay_run.proofs.player.Player.collect_each.Goals as goal
+
+pub loop-channel-preserved : goal.loop-channel-preserved
+loop-channel-preserved c = record {
+  collects = collects_more c.args.channels.now c.loop-channel.channel-index c.channel-item.result c.loop-channel-test.true c.channel-item.is _ c.loop-channel.self c.collect_of.new.self c.loop-channel.invariant.collects c.in_ok-collect_of.ensures;
+  entered = entered_still c.args.channels.now c.loop-channel.self.core c.collect_of.new.self.core
+      (still_of c.channel-item.result.name c.channel-item.result.number c.loop-channel.self.core c.in_ok-collect_of.ensures.text c.collect_of.new.self.core c.in_ok-collect_of.ensures.does) c.loop-channel.invariant.entered;
+}
+
+pub returns : goal.returns
+returns c = collects_end c.args.channels.now c.loop-channel.channel-index c.loop-channel-test.false _ c.loop-channel.self c.loop-channel.invariant.collects

@@ -1,0 +1,16 @@
+use Rattle.std.proofs.Common.{refl}
+use Rattle.replay_run.specs.Working.{Settles, Then}
+use Rattle.replay_run.specs.Playing.{CollectsEach}
+use Rattle.replay_run.proofs.Onward.{works_join}
+use Rattle.replay_run.proofs.Same.{still_settles}
+use Rattle.replay_run.proofs.Listed.{entered_still}
+use Rattle.replay_run.proofs.player.Player.finish.Goals as goal
+
+pub collect_each-requires : goal.collect_each-requires
+collect_each-requires c = entered_still c.args.channels.now c.args.self.now.core c.settle.new.self.core
+    (still_settles c.args.self.now.core c.in_ok-settle.ensures.text c.settle.new.self.core c.in_ok-settle.ensures.does)
+    (λ i n a at is. (c.requires.seated i a at).entered n is)
+
+pub returns : goal.returns
+returns c = works_join Settles (CollectsEach c.args.channels.now) (Then Settles (CollectsEach c.args.channels.now)) c.args.self.now c.settle.new.self c.collect_each.new.self
+    (λ s t p q. record { between = c.settle.new.self.core; front = s; rest = t; first = p; second = q; joined = refl }) c.in_ok-settle.ensures c.in_ok-collect_each.ensures

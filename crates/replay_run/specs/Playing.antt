@@ -1,0 +1,127 @@
+-- What a script prints.
+use Rattle.std.specs.Prelude.{◌≡◌, ℕ, false, List, [], ◌∷◌, ◌++◌, Option, Some, None, reverse, option_map}
+use Rattle.std.specs.Option.{option_or}
+use Rattle.std.specs.FinMap as finite
+use Rattle.poa_base.specs.declared.Config.{Config}
+use Rattle.poa_base.specs.Store.{Slots, stored as stored_in}
+use Rattle.giop_frame.specs.Framer.{HasGiven}
+use Rattle.poa_history.specs.Legal.{IsLegal}
+use Rattle.poa_history.specs.Lifetime.{HasLifetime}
+use Rattle.poa_history.specs.States.{stored}
+use Rattle.poa_journal.specs.Journal.{journal_text, store_text}
+use Rattle.poa_core.specs.Life.{Life, begun, opened}
+use Rattle.poa_core.specs.Answers.{filled_at, unadmitted}
+use Rattle.replay_script.specs.declared.Script.{Script}
+use Rattle.replay_script.specs.declared.ScriptStep.{ScriptStep}
+use Rattle.replay_script.specs.declared.Step.{Step as StepData}
+use Rattle.replay_script.specs.declared.Step.TheVariants as step
+use Rattle.replay_run.specs.declared.channel.Channel.{Channel}
+use Rattle.replay_run.specs.declared.played.Full.{Full}
+use Rattle.replay_run.specs.declared.played.Played.{Played}
+use Rattle.replay_run.specs.World.{World}
+use Rattle.replay_run.specs.Lines.{reply_line}
+use Rattle.replay_run.specs.Working.{Turns, Runs, ByWorker, Then, Stays, Settles}
+use Rattle.replay_run.specs.Reading.{Feeds}
+use Rattle.replay_run.specs.Asking.{asked}
+use Rattle.replay_run.specs.Talking.{OnLine, Commands, Ends, Collects, CollectsAll}
+
+-- what the workers do is done
+pub record OnLife (P : Life → List ℕ → Life → Type 0) (before : World) (text : List ℕ) (after : World) : Type 0 where
+  pub life : Life
+  pub does : P before.life text life
+  pub became : after ≡ record before { life = life }
+
+-- a store of what is stored
+abbrev pub Stores : Life → Slots → Type 0
+Stores life slots = (path : List (List ℕ)) (oid : List ℕ) → stored_in slots path oid ≡ stored life.config life.run (opened life) life.history path oid
+
+pub record IsStoreText (life : Life) (text : List ℕ) : Type 0 where
+  pub slots : Slots
+  pub stores : Stores life slots
+  pub told : text ≡ store_text slots
+
+-- the text of the journal
+abbrev pub history_text : Life → List ℕ
+history_text life = journal_text (record { run = life.run; opening = life.opening; entries = reverse life.history })
+
+-- something is printed, and nothing changes
+abbrev pub Prints : (Life → List ℕ → Type 0) → World → List ℕ → World → Type 0
+Prints P before text after = P before.life text × (after ≡ before)
+
+-- what a step prints and does
+abbrev pub Plays : StepData → World → List ℕ → World → Type 0
+Plays (step.Ask place id path oid operation argument) = λ w. OnLine (Feeds (asked w.life id path oid operation argument)) place w
+Plays (step.Feed place bytes) = OnLine (Feeds bytes) place
+Plays (step.End place) = OnLine Ends place
+Plays (step.Admin place words) = OnLine (Commands words) place
+Plays (step.Step worker) = OnLife (ByWorker Turns worker)
+Plays (step.Run worker) = OnLife (ByWorker Runs worker)
+Plays (step.Collect place) = OnLine Collects place
+Plays step.Store = Prints IsStoreText
+Plays step.Journal = Prints (λ life text. text ≡ history_text life)
+
+-- the steps one behind the other
+abbrev pub PlaysAll : List ScriptStep → World → List ℕ → World → Type 0
+PlaysAll [] = Stays
+PlaysAll (s ∷ ss) = Then (Plays s.step) (PlaysAll ss)
+
+-- a connection before its first line
+pub record IsFresh (name : List ℕ) (channel : Channel) : Type 0 where
+  pub named : channel.name ≡ name
+  pub number : channel.number ≡ None
+  pub stream : HasGiven 1048576 [] [] channel.stream
+  pub fed : channel.fed ≡ 0
+  pub lines : channel.lines ≡ 0
+  pub dropped : channel.dropped ≡ false
+  pub ended : channel.ended ≡ false
+
+abbrev pub AreFresh : List (List ℕ) → List Channel → Type 0
+AreFresh [] [] = Unit {0}
+AreFresh (name ∷ names) (channel ∷ channels) = IsFresh name channel × AreFresh names channels
+AreFresh names channels = ⊥
+
+-- a run of the configuration's number, with nothing stored, that takes 4,000,000 arrivals
+abbrev pub life_at_first : Config → Life
+life_at_first c = begun c c.run 4000000 finite.empty
+
+pub record IsOpening (c : Config) (names : List (List ℕ)) (w : World) : Type 0 where
+  pub life : w.life ≡ life_at_first c
+  pub channels : AreFresh names w.channels
+  pub nobody : w.turned_away ≡ None
+
+-- what is collected at the end of a connection that entered
+abbrev pub CollectsOf : List ℕ → Option ℕ → Life → List ℕ → Life → Type 0
+CollectsOf name None = Stays
+CollectsOf name (Some conn) = CollectsAll (reply_line name) conn
+
+-- the connections one behind the other
+abbrev pub CollectsEach : List Channel → Life → List ℕ → Life → Type 0
+CollectsEach [] = Stays
+CollectsEach (c ∷ cs) = Then (CollectsOf c.name c.number) (CollectsEach cs)
+
+-- a script prints this, and leaves this history; `played` is how things stand behind its last line
+pub record Outputs (c : Config) (script : Script) (text : List ℕ) (played : World) (last : Life) : Type 0 where
+  pub opening : World
+  pub opens : IsOpening c script.connections opening
+  pub front : List ℕ
+  pub rest : List ℕ
+  pub plays : PlaysAll script.steps opening front played
+  pub finishes : Then Settles (CollectsEach played.channels) played.life rest last
+  pub joined : text ≡ front ++ rest
+
+abbrev pub numbers : Full → ℕ × ℕ
+numbers full = (full.arrivals, full.bytes)
+
+-- the numbers of calls and of bytes of them at the first call that the run refused, or else at the first connection
+abbrev pub full_of : Life → Option Full → Option (ℕ × ℕ)
+full_of last turned_away = option_or (filled_at last.history) (option_map numbers turned_away)
+
+-- what is answered for a script
+pub record IsPlayed (c : Config) (script : Script) (answer : Played) : Type 0 where
+  pub played : World
+  pub last : Life
+  pub outputs : Outputs c script answer.printed played last
+  pub legal : IsLegal c c.run 4000000 last.history
+  pub lifetime : HasLifetime c c.run last.history
+  pub held : answer.held ≡ unadmitted last.history
+  pub full : option_map numbers answer.full ≡ full_of last played.turned_away

@@ -1,0 +1,135 @@
+//! Scripts played.
+ghost use Rattle.std.specs.Prelude.{◌≡◌, IfOk, OnOk};
+ghost use Rattle.std.specs.Option.{option_or};
+ghost use Rattle.poa_history.specs.Legal.{IsLegal};
+ghost use Rattle.poa_history.specs.Lifetime.{HasLifetime};
+ghost use Rattle.poa_core.specs.Answers.{unadmitted};
+ghost use Rattle.conf_rules.specs.Rules.{KeepsRules};
+ghost use Rattle.replay_run.specs.Playing.{IsPlayed, Plays, PlaysAll};
+ghost use Rattle.replay_run.specs.Keeping.{Keeps, Shows, IsAtFirst};
+
+use crate::asking::request;
+use crate::channel::{Channel, channels_of};
+use crate::line::Line;
+use crate::played::Played;
+use crate::player::Player;
+use poa_base::{Bytes, Config, Store, WantMemory};
+use poa_core::Core;
+use replay_script::{Script, ScriptStep, Step};
+use std::alloc::Global;
+
+/// The most calls that a run takes.
+const LIMIT: u64 = 4_000_000;
+
+/// Plays a script on a run of a configuration, with nothing stored before.
+///
+/// The steps come one behind the other. Then the workers 0 to 15 run until none has anything to do, and the
+/// replies of each connection are collected. A connection enters at its first line. Its bytes are read message by
+/// message; behind a message that can't be read, that isn't for a server or that isn't served yet no byte is read.
+///
+/// `held` counts the calls that are unadmitted at the end. `full` has the numbers of calls and of bytes that there
+/// were when the first call was refused for the limits of the run, or, where none was, the first connection.
+pub fn replay(alloc: Global, config: Config, script: &Script) -> Result<Played, WantMemory>
+    requires rules { KeepsRules config }
+    ensures { IfOk result (λ played. IsPlayed config script.now played) }
+{
+    let mut player = player_of(alloc, config)?;
+    let mut channels = channels_of(alloc, script.connections.as_slice())?;
+    player.play_all(alloc, &mut channels, script.steps.as_slice())?;
+    player.finish(alloc, &channels)?;
+    Ok(result_of(player))
+}
+
+// A player before the first line.
+fn player_of(alloc: Global, config: Config) -> Result<Player, WantMemory>
+    requires rules { KeepsRules config }
+    ensures { IfOk result (λ player. IsAtFirst config player) }
+{
+    let run = config.run;
+    let core = Core::new(alloc, config, run, Store::new(alloc), LIMIT)?;
+    Ok(Player {
+        core,
+        printed: Vec::new(alloc),
+        filled: None,
+        turned_away: None,
+    })
+}
+
+// What came of a script.
+fn result_of(player: Player) -> Played
+    ensures printed { result.printed ≡ player.printed.items }
+    ensures held { result.held ≡ unadmitted player.core.history }
+    ensures full { result.full ≡ option_or player.filled player.turned_away }
+    ensures legal { IsLegal player.core.config player.core.run player.core.limit player.core.history }
+    ensures lifetime { HasLifetime player.core.config player.core.run player.core.history }
+{
+    let _ = player.core.entries();
+    let Player {
+        core,
+        printed,
+        filled,
+        turned_away,
+    } = player;
+    Played {
+        printed: Bytes::from_vec(printed),
+        held: core.unadmitted(),
+        full: filled.or(turned_away),
+    }
+}
+
+impl Player {
+    // Plays steps one behind the other.
+    fn play_all(
+        &mut self,
+        alloc: Global,
+        channels: &mut Vec<Channel>,
+        steps: &[ScriptStep],
+    ) -> Result<(), WantMemory>
+        requires { Keeps self.old channels.old.items }
+        ensures shows { OnOk result (Shows (PlaysAll steps.now) self.old self.new channels.old.items channels.new.items) }
+        ensures keeps { OnOk result (Keeps self.new channels.new.items) }
+    {
+        for step in steps {
+            self.play(alloc, channels, &step.step)?;
+        }
+        Ok(())
+    }
+
+    // Plays a step.
+    fn play(
+        &mut self,
+        alloc: Global,
+        channels: &mut Vec<Channel>,
+        step: &Step,
+    ) -> Result<(), WantMemory>
+        requires { Keeps self.old channels.old.items }
+        ensures shows { OnOk result (Shows (Plays step.now) self.old self.new channels.old.items channels.new.items) }
+        ensures keeps { OnOk result (Keeps self.new channels.new.items) }
+    {
+        match step {
+            Step::Ask {
+                connection,
+                id,
+                path,
+                oid,
+                operation,
+                argument,
+            } => {
+                let bytes = request(alloc, &self.core, *id, path, oid, operation, argument)?;
+                self.line(alloc, channels, *connection, Line::Bytes(bytes.as_slice()))
+            }
+            Step::Feed { connection, bytes } => {
+                self.line(alloc, channels, *connection, Line::Bytes(bytes.as_slice()))
+            }
+            Step::End { connection } => self.line(alloc, channels, *connection, Line::End),
+            Step::Admin { connection, words } => {
+                self.line(alloc, channels, *connection, Line::Words(words.as_slice()))
+            }
+            Step::Step { worker } => self.step(*worker),
+            Step::Run { worker } => self.run(*worker),
+            Step::Collect { connection } => self.line(alloc, channels, *connection, Line::Collect),
+            Step::Store => self.show_store(alloc),
+            Step::Journal => self.show_journal(alloc),
+        }
+    }
+}
