@@ -4,13 +4,14 @@
 #![tactic(auto)]
 
 pub mod calls;
+mod known;
 mod ordered;
 pub mod queue;
 #[cfg(test)]
 mod tests;
-pub mod turns;
 pub mod workers;
 
 pub use calls::Calls;
+pub use known::Known;
 pub use queue::Queue;
 pub use workers::Workers;

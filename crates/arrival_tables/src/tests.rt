@@ -1,7 +1,7 @@
 //! What no clause says: that with ample memory each call succeeds, and what the tables hold after a short journal.
 use crate::calls::{Calls, call, call_admitted, call_tried, conn};
+use crate::known::Known;
 use crate::queue::{Queue, count, is_crowded};
-use crate::turns::{admission, next};
 use crate::workers::{Workers, all_free, is_abandoned, stage, stage_at};
 use crate::{calls, queue, workers};
 use adapter_settings::Settings;
@@ -23,6 +23,18 @@ struct Small {
     workers: Workers,
     standing: Standing,
     settings: Settings,
+}
+
+fn known(run: &Small) -> Known<'_> {
+    Known {
+        config: &run.config,
+        run: 1,
+        entries: &run.entries,
+        calls: &run.calls,
+        queue: &run.queue,
+        standing: &run.standing,
+        settings: &run.settings,
+    }
 }
 
 fn config(alloc: Global) -> Result<Config, Fail> {
@@ -173,17 +185,7 @@ fn a_call_that_was_tried_goes_back_to_its_place(rt: HostRuntime) -> Result<(), F
 fn the_least_arrival_that_is_not_held_is_admitted(rt: HostRuntime) -> Result<(), Fail> {
     let mut run = arrived(rt.alloc())?;
     note(&mut run, admit(0, Verdict::Answer(Answer::Good)))?;
-    let entry = admission(
-        rt.alloc(),
-        &run.config,
-        1,
-        &run.entries,
-        &run.calls,
-        &run.queue,
-        &run.standing,
-        &run.settings,
-        4,
-    )?;
+    let entry = known(&run).admission(rt.alloc(), 4)?;
     assert!(rt;
         matches!(
             &entry,
@@ -195,18 +197,7 @@ fn the_least_arrival_that_is_not_held_is_admitted(rt: HostRuntime) -> Result<(),
         )
     );
     note(&mut run, admit(1, Verdict::Addressing))?;
-    let entry = next(
-        rt.alloc(),
-        &run.config,
-        1,
-        &run.entries,
-        &run.calls,
-        &run.queue,
-        &run.workers,
-        &run.standing,
-        &run.settings,
-        4,
-    )?;
+    let entry = known(&run).next(rt.alloc(), &run.workers, 4)?;
     assert!(rt;
         matches!(
             &entry,

@@ -1,14 +1,14 @@
 //! A worker makes its next entry.
-ghost use Rattle.std.specs.Prelude.{◌≡◌, ◌<◌, ℕ, reverse, IfOk};
+ghost use Rattle.std.specs.Prelude.{◌≡◌, ◌<◌, IfOk};
 ghost use Rattle.poa_history.specs.Turns.{turn};
 ghost use Rattle.poa_core.specs.Answers as answers;
-ghost use Rattle.poa_core.specs.Agrees.{Agrees, history};
+ghost use Rattle.poa_core.specs.Agrees.{history};
 ghost use Rattle.poa_core.specs.Kept.{IsKept, life};
 
 use crate::inside::Inside;
 use crate::step_out::StepOut;
 use crate::taking::take;
-use arrival_tables::{queue, turns, workers};
+use arrival_tables::{Known, queue, workers};
 use poa_base::{Entry, Point, WantMemory};
 use poa_history::Stage;
 
@@ -31,18 +31,16 @@ fn next(inside: &Inside, worker: u32) -> Result<Option<Entry>, WantMemory>
     requires worker { worker < 16 }
     ensures { IfOk result (λ entry. entry ≡ turn inside.now.config inside.now.run (history inside.now) worker) }
 {
-    turns::next(
-        inside.alloc,
-        &inside.config,
-        inside.run,
-        &inside.entries,
-        &inside.tables.calls,
-        &inside.tables.queue,
-        &inside.tables.workers,
-        &inside.state.standing,
-        &inside.state.settings,
-        worker,
-    )
+    let known = Known {
+        config: &inside.config,
+        run: inside.run,
+        entries: &inside.entries,
+        calls: &inside.tables.calls,
+        queue: &inside.tables.queue,
+        standing: &inside.state.standing,
+        settings: &inside.state.settings,
+    };
+    known.next(inside.alloc, &inside.tables.workers, worker)
 }
 
 /// A worker below 16 makes its next entry; or nothing changes.
