@@ -1,20 +1,17 @@
 -- What an entry of a worker leaves, from what is given of it.
-use Rattle.std.proofs.Common.{◌≡◌, ℕ, ◌^◌, ◌≤◌, Bool, true, false, List, ◌∷◌, length, Option, Some, None, if◌then◌else◌, refl, sym, ap, subst, ◌∙◌, arith}
-use Rattle.std.specs.Prelude.{Result, Ok, Err, OnOk, OnErr}
+use Rattle.std.proofs.Common.{◌≡◌, ℕ, Bool, true, false, List, ◌∷◌, Option, Some, None, if◌then◌else◌, refl, sym, ap, subst, ◌∙◌}
+use Rattle.std.specs.Prelude.{Result, Ok, Err, OnOk, option_copied}
 use Rattle.poa_base.specs.declared.Config.{Config}
 use Rattle.poa_base.specs.declared.Call.{Call}
-use Rattle.poa_base.specs.declared.Command.{Command}
-use Rattle.poa_base.specs.declared.Sid.{Sid}
 use Rattle.poa_base.specs.declared.Verdict.{Verdict}
 use Rattle.poa_base.specs.declared.Attempt.{Attempt}
+use Rattle.poa_base.specs.declared.Incarnation.{Incarnation}
 use Rattle.poa_base.specs.declared.Entry.{Entry}
 use Rattle.poa_base.specs.declared.Entry.TheVariants.{Entered, Arrive, Filled, Left, Collect, Admit, Tried, Incarnated, Run, Done, TakeOut, Etherealized, Abandon}
 use Rattle.poa_history.specs.declared.stage.Stage.{Stage}
-use Rattle.poa_history.specs.Arrivals.{call_of}
 use Rattle.poa_history.specs.Changes.{standing}
 use Rattle.poa_history.specs.Logs.{is_accepted, command_in, command_done}
 use Rattle.poa_history.specs.Stages.{stage}
-use Rattle.poa_history.specs.Standings.{Standing as StandingOf}
 use Rattle.poa_history.specs.States.{Stored, call_run}
 use Rattle.poa_opening.specs.Runs.{IsRun}
 use Rattle.poa_opening.proofs.Opened.{given, alone, within}
@@ -23,11 +20,11 @@ use Rattle.standing_queries.specs.Seen.{seen}
 use Rattle.standing_of.specs.Entries.{stage_at, call_admitted}
 use Rattle.adapter_settings.specs.declared.settings.Settings.{Settings}
 use Rattle.adapter_settings.specs.Told.{Tells, may_grow}
-use Rattle.servant_states.specs.declared.servants.Servants.{Servants}
 use Rattle.servant_states.specs.Holds.{Holds}
 use Rattle.servant_states.specs.Kept.{kept_in}
 use Rattle.servant_states.specs.Comes.{Comes, worker_of}
 use Rattle.servant_states.proofs.QuietHolds.{quiet_holds, is_quiet}
+use Rattle.adapter_state.specs.declared.coming.Coming.{Coming}
 use Rattle.adapter_state.specs.declared.state.State.{State}
 use Rattle.adapter_state.specs.State.{IsState, IsNext, call_spoken, serves}
 use Rattle.adapter_state.proofs.Growing.{growing_stands}
@@ -35,10 +32,6 @@ use Rattle.adapter_state.proofs.Growing.{growing_stands}
 pub ok_then : {T E : Type 0} {P Q : Type 0} (r : Result T E) → (P → Q) → OnOk r P → OnOk r Q
 ok_then (Ok x) f p = f p
 ok_then (Err x) f p = tt
-
-pub at_err : {T E : Type 0} {P : Type 0} (r : Result T E) → P → OnErr r P
-at_err (Ok x) p = tt
-at_err (Err x) p = p
 
 -- no servant acts, comes or leaves
 pub quiet_state : (c : Config) (run limit : ℕ) (opened : Stored) (past : List Entry) (e : Entry) (s : State) (stands : Standing) (set : Settings) → IsRun c run limit (e ∷ past) → is_quiet e ≡ true
@@ -75,73 +68,51 @@ tries_no_command past e w a is = ap (command_done past) (sym is)
 pub tries_no_call : (past : List Entry) (e : Entry) (w : ℕ) (a : Attempt) → e ≡ Tried w a → None ≡ call_admitted past e
 tries_no_call past e w a is = ap (call_admitted past) (sym is)
 
--- an entry that serves does no command and admits no call
+-- what is so of each entry that serves
+by_serving : (P : Entry → Type 0) → ((w : ℕ) (a : Incarnation) → P (Incarnated w a)) → ((w : ℕ) → P (Run w)) → ((w : ℕ) → P (Done w)) → ((w n : ℕ) (x : Bool) → P (TakeOut w n x)) → ((w : ℕ) (x y : Bool) → P (Etherealized w x y))
+    → (e : Entry) → serves e ≡ true → P e
+by_serving P incarnated run done takeout etherealized (Incarnated w a) is = incarnated w a
+by_serving P incarnated run done takeout etherealized (Run w) is = run w
+by_serving P incarnated run done takeout etherealized (Done w) is = done w
+by_serving P incarnated run done takeout etherealized (TakeOut w n x) is = takeout w n x
+by_serving P incarnated run done takeout etherealized (Etherealized w x y) is = etherealized w x y
+by_serving P incarnated run done takeout etherealized (Admit w r v) is = absurd (let e : false ≡ true = is in cc)
+by_serving P incarnated run done takeout etherealized (Tried w a) is = absurd (let e : false ≡ true = is in cc)
+by_serving P incarnated run done takeout etherealized (Entered conn) is = absurd (let e : false ≡ true = is in cc)
+by_serving P incarnated run done takeout etherealized (Arrive conn size call) is = absurd (let e : false ≡ true = is in cc)
+by_serving P incarnated run done takeout etherealized (Filled conn size) is = absurd (let e : false ≡ true = is in cc)
+by_serving P incarnated run done takeout etherealized (Left conn) is = absurd (let e : false ≡ true = is in cc)
+by_serving P incarnated run done takeout etherealized (Collect conn a) is = absurd (let e : false ≡ true = is in cc)
+by_serving P incarnated run done takeout etherealized (Abandon w) is = absurd (let e : false ≡ true = is in cc)
+
+-- it does no command and admits no call
 pub serves_no_command : (past : List Entry) (e : Entry) → serves e ≡ true → None ≡ command_done past e
-serves_no_command past (Incarnated w a) is = refl
-serves_no_command past (Run w) is = refl
-serves_no_command past (Done w) is = refl
-serves_no_command past (TakeOut w n x) is = refl
-serves_no_command past (Etherealized w x y) is = refl
-serves_no_command past (Admit w r v) is = absurd (let e : false ≡ true = is in cc)
-serves_no_command past (Tried w a) is = absurd (let e : false ≡ true = is in cc)
-serves_no_command past (Entered conn) is = refl
-serves_no_command past (Arrive conn size call) is = refl
-serves_no_command past (Filled conn size) is = refl
-serves_no_command past (Left conn) is = refl
-serves_no_command past (Collect conn a) is = refl
-serves_no_command past (Abandon w) is = refl
+serves_no_command past = by_serving (λ e. None ≡ command_done past e) (λ _ _. refl) (λ _. refl) (λ _. refl) (λ _ _ _. refl) (λ _ _ _. refl)
 
 pub serves_no_call : (past : List Entry) (e : Entry) → serves e ≡ true → None ≡ call_admitted past e
-serves_no_call past (Incarnated w a) is = refl
-serves_no_call past (Run w) is = refl
-serves_no_call past (Done w) is = refl
-serves_no_call past (TakeOut w n x) is = refl
-serves_no_call past (Etherealized w x y) is = refl
-serves_no_call past (Admit w r v) is = absurd (let e : false ≡ true = is in cc)
-serves_no_call past (Tried w a) is = refl
-serves_no_call past (Entered conn) is = refl
-serves_no_call past (Arrive conn size call) is = refl
-serves_no_call past (Filled conn size) is = refl
-serves_no_call past (Left conn) is = refl
-serves_no_call past (Collect conn a) is = refl
-serves_no_call past (Abandon w) is = refl
+serves_no_call past = by_serving (λ e. None ≡ call_admitted past e) (λ _ _. refl) (λ _. refl) (λ _. refl) (λ _ _ _. refl) (λ _ _ _. refl)
 
--- the call of such an entry is the one that runs
+-- its call is the one that runs
+spoken_runs : (past : List Entry) (e : Entry) → serves e ≡ true → call_spoken past e ≡ call_run past (stage_at past e)
+spoken_runs past = by_serving (λ e. call_spoken past e ≡ call_run past (stage_at past e)) (λ _ _. refl) (λ _. refl) (λ _. refl) (λ _ _ _. refl) (λ _ _ _. refl)
+
 pub runs_call : (past : List Entry) (e : Entry) (begun : Stage) (call : Option Call) → serves e ≡ true → begun ≡ stage_at past e → call ≡ call_spoken past e → call ≡ call_run past begun
-runs_call past (Incarnated w a) begun call is at spoken = spoken ∙ ap (call_run past) (sym at)
-runs_call past (Run w) begun call is at spoken = spoken ∙ ap (call_run past) (sym at)
-runs_call past (Done w) begun call is at spoken = spoken ∙ ap (call_run past) (sym at)
-runs_call past (TakeOut w n x) begun call is at spoken = spoken ∙ ap (call_run past) (sym at)
-runs_call past (Etherealized w x y) begun call is at spoken = spoken ∙ ap (call_run past) (sym at)
-runs_call past (Admit w r v) begun call is at spoken = absurd (let e : false ≡ true = is in cc)
-runs_call past (Tried w a) begun call is at spoken = spoken ∙ ap (call_run past) (sym at)
-runs_call past (Entered conn) begun call is at spoken = spoken ∙ ap (call_run past) (sym at)
-runs_call past (Arrive conn size x) begun call is at spoken = spoken ∙ ap (call_run past) (sym at)
-runs_call past (Filled conn size) begun call is at spoken = spoken ∙ ap (call_run past) (sym at)
-runs_call past (Left conn) begun call is at spoken = spoken ∙ ap (call_run past) (sym at)
-runs_call past (Collect conn a) begun call is at spoken = spoken ∙ ap (call_run past) (sym at)
-runs_call past (Abandon w) begun call is at spoken = spoken ∙ ap (call_run past) (sym at)
+runs_call past e begun call is at spoken = spoken ∙ (spoken_runs past e is ∙ ap (call_run past) (sym at))
+
+begun_there : (past : List Entry) (w : ℕ) (e : Entry) → serves e ≡ true → worker_of e ≡ Some w → stage_at past e ≡ stage past w
+begun_there past w = by_serving (λ e. worker_of e ≡ Some w → stage_at past e ≡ stage past w) (λ v _. same v) same same (λ v _ _. same v) (λ v _ _. same v)
+  where
+    same : (v : ℕ) → Some v ≡ Some w → stage past v ≡ stage past w
+    same v by = ap (stage past) (let e : Some v ≡ Some w = by in cc)
 
 pub begun_by_worker : (past : List Entry) (e : Entry) (begun : Stage) (w : ℕ) → serves e ≡ true → begun ≡ stage_at past e → worker_of e ≡ Some w → begun ≡ stage past w
-begun_by_worker past (Incarnated v a) begun w is at by = at ∙ ap (stage past) (let e : Some v ≡ Some w = by in cc)
-begun_by_worker past (Run v) begun w is at by = at ∙ ap (stage past) (let e : Some v ≡ Some w = by in cc)
-begun_by_worker past (Done v) begun w is at by = at ∙ ap (stage past) (let e : Some v ≡ Some w = by in cc)
-begun_by_worker past (TakeOut v n x) begun w is at by = at ∙ ap (stage past) (let e : Some v ≡ Some w = by in cc)
-begun_by_worker past (Etherealized v x y) begun w is at by = at ∙ ap (stage past) (let e : Some v ≡ Some w = by in cc)
-begun_by_worker past (Admit v r u) begun w is at by = absurd (let e : false ≡ true = is in cc)
-begun_by_worker past (Tried v a) begun w is at by = absurd (let e : false ≡ true = is in cc)
-begun_by_worker past (Entered conn) begun w is at by = absurd (let e : false ≡ true = is in cc)
-begun_by_worker past (Arrive conn size x) begun w is at by = absurd (let e : false ≡ true = is in cc)
-begun_by_worker past (Filled conn size) begun w is at by = absurd (let e : false ≡ true = is in cc)
-begun_by_worker past (Left conn) begun w is at by = absurd (let e : false ≡ true = is in cc)
-begun_by_worker past (Collect conn a) begun w is at by = absurd (let e : false ≡ true = is in cc)
-begun_by_worker past (Abandon v) begun w is at by = absurd (let e : false ≡ true = is in cc)
+begun_by_worker past e begun w is at by = at ∙ begun_there past w e is by
 
 -- such an entry comes to the servants
-abbrev pub comes : (c : Config) (run limit : ℕ) (opened : Stored) (past : List Entry) (e : Entry) (begun : Stage) (call : Option Call) (runs : Option Sid) (s : State) → IsNext c run limit opened past e begun call runs s → serves e ≡ true
-    → Comes c e begun call runs (seen s.standing) (kept_in s.servants)
-comes c run limit opened past e begun call runs s next kind =
-    record {
+abbrev pub comes : (c : Config) (run limit : ℕ) (opened : Stored) (past : List Entry) (k : Coming) (s : State) → IsNext c run limit opened past k s → serves k.entry.now ≡ true
+    → Comes c k.entry.now k.stage (option_copied k.call) k.runs (seen s.standing) (kept_in s.servants)
+comes c run limit opened past k s next kind =
+    (let e = k.entry.now in record {
       run = run;
       limit = limit;
       opened = opened;
@@ -151,8 +122,8 @@ comes c run limit opened past e begun call runs s next kind =
       within = within c run limit (e ∷ past) next.follows;
       legal = next.follows.legal;
       stands = next.state.stands;
-      at_stage = λ w by. begun_by_worker past e begun w kind next.begun_is by;
-      call_is = runs_call past e begun call kind next.begun_is next.call_is;
+      at_stage = λ w by. begun_by_worker past e k.stage w kind next.begun_is by;
+      call_is = runs_call past e k.stage (option_copied k.call) kind next.begun_is next.call_is;
       servant_is = next.servant_is;
       holds = next.state.held;
-    }
+    })

@@ -1,13 +1,10 @@
 -- What stands, what is set, and the servants, after a history.
-use Rattle.std.specs.Prelude.{◌≡◌, ℕ, Bool, true, false, List, [], ◌∷◌, Option, Some, None}
+use Rattle.std.specs.Prelude.{◌≡◌, ℕ, Bool, true, false, List, ◌∷◌, Option, option_copied}
 use Rattle.poa_base.specs.declared.Config.{Config}
 use Rattle.poa_base.specs.declared.Call.{Call}
 use Rattle.poa_base.specs.declared.Outcome.{Outcome}
-use Rattle.poa_base.specs.declared.Sid.{Sid}
 use Rattle.poa_base.specs.declared.Entry.{Entry}
 use Rattle.poa_base.specs.declared.Entry.TheVariants.{Admit, Tried, Incarnated, Run, Done, TakeOut, Etherealized}
-use Rattle.poa_base.specs.declared.Attempt.TheVariants.{Yes}
-use Rattle.poa_history.specs.declared.stage.Stage.{Stage}
 use Rattle.poa_history.specs.Arrivals.{call_of}
 use Rattle.poa_history.specs.Changes.{standing}
 use Rattle.poa_history.specs.States.{Stored, call_run, servant_run}
@@ -18,6 +15,7 @@ use Rattle.adapter_settings.specs.Told.{Tells}
 use Rattle.servant_states.specs.Holds.{Holds}
 use Rattle.servant_states.specs.Kept.{kept_in}
 use Rattle.servant_states.specs.Comes.{outcome_told}
+use Rattle.adapter_state.specs.declared.coming.Coming.{Coming}
 use Rattle.adapter_state.specs.declared.state.State.{State}
 
 pub record IsState (c : Config) (run : ℕ) (opened : Stored) (h : List Entry) (s : State) : Type 0 where
@@ -42,13 +40,17 @@ is_turn (Etherealized w cleanup remaining) = true
 is_turn e = false
 
 -- a worker's entry comes in a run; what its worker had begun, the call and the servant that runs are those of the history
-pub record IsNext (c : Config) (run limit : ℕ) (opened : Stored) (past : List Entry) (e : Entry) (begun : Stage) (call : Option Call) (runs : Option Sid) (s : State) : Type 0 where
-  pub follows : IsRun c run limit (e ∷ past)
-  pub turn : is_turn e ≡ true
-  pub begun_is : begun ≡ stage_at past e
-  pub call_is : call ≡ call_spoken past e
-  pub servant_is : runs ≡ servant_run c run past begun
+pub record IsNext (c : Config) (run limit : ℕ) (opened : Stored) (past : List Entry) (k : Coming) (s : State) : Type 0 where
+  pub follows : IsRun c run limit (k.entry.now ∷ past)
+  pub turn : is_turn k.entry.now ≡ true
+  pub begun_is : k.stage ≡ stage_at past k.entry.now
+  pub call_is : option_copied k.call ≡ call_spoken past k.entry.now
+  pub servant_is : k.runs ≡ servant_run c run past k.stage
   pub state : IsState c run opened past s
+
+-- at a Run, what the servant says of the call
+abbrev pub outcome_of : Config → ℕ → Stored → List Entry → Coming → Option Outcome
+outcome_of c run opened past k = outcome_told c run opened past k.entry.now k.runs (option_copied k.call)
 
 -- a servant runs, is brought or leaves, or a request ends
 abbrev pub serves : Entry → Bool

@@ -1,19 +1,17 @@
 //! An entry of a worker changes what a history comes to.
-ghost use Rattle.std.specs.Prelude.{◌≡◌, ◌∷◌, ℕ, true, None, if◌then◌else◌, List, option_copied, Option, IfOk, IsOk, OnOk, OnErr};
-ghost use Rattle.poa_base.specs.declared.Call.{Call};
-ghost use Rattle.poa_base.specs.declared.Sid.{Sid};
+ghost use Rattle.std.specs.Prelude.{◌≡◌, ◌∷◌, ℕ, true, None, if◌then◌else◌, List, option_copied, IfOk, IsOk, OnOk, OnErr};
 ghost use Rattle.poa_base.specs.declared.Entry.{Entry};
 ghost use Rattle.poa_history.specs.Logs as logs;
 ghost use Rattle.poa_history.specs.States.{Stored};
 ghost use Rattle.adapter_settings.specs.Told.{may_grow};
 ghost use Rattle.poa_base.specs.declared.Attempt.{Attempt};
-ghost use Rattle.servant_states.specs.Comes.{outcome_told, may_want};
-ghost use Rattle.adapter_state.specs.State.{IsNext, IsState, only_ends, serves};
+ghost use Rattle.servant_states.specs.Comes.{may_want};
+ghost use Rattle.adapter_state.specs.State.{IsNext, IsState, only_ends, outcome_of, serves};
 
+use crate::coming::Coming;
 use crate::state::State;
 use adapter_settings::apply;
-use poa_base::{Call, Command, Config, Entry, Outcome, Sid, Verdict, WantMemory};
-use poa_history::Stage;
+use poa_base::{Call, Command, Config, Entry, Outcome, Verdict, WantMemory};
 use standing_queries::commands::{command_in, is_accepted};
 use std::alloc::Global;
 
@@ -43,21 +41,27 @@ fn admit(
     alloc: Global,
     config: &Config,
     run: u32,
-    entry: &Entry,
-    stage: Stage,
-    call: Option<&Call>,
+    coming: &Coming<'_>,
     verdict: &Verdict,
     state: &mut State,
 ) -> Result<(), WantMemory>
-    requires { (w : ℕ) × (r : ℕ) × (entry.now ≡ Entry.Admit w r verdict.now) }
-    ensures ok { (limit : ℕ) (opened : Stored) (past : List Entry) (runs : Option Sid) → IsNext config.now run limit opened past entry.now stage (option_copied call.entry) runs state.old → OnOk result (IsState config.now run opened (entry.now ∷ past) state.new) }
+    requires { (w : ℕ) × (r : ℕ) × (coming.now.entry.now ≡ Entry.Admit w r verdict.now) }
+    ensures ok { (limit : ℕ) (opened : Stored) (past : List Entry) → IsNext config.now run limit opened past coming.now state.old → OnOk result (IsState config.now run opened (coming.now.entry.now ∷ past) state.new) }
     ensures err { (opened : Stored) (past : List Entry) → IsState config.now run opened past state.old → OnErr result (IsState config.now run opened past state.new) }
 {
-    let command = done(call, verdict);
+    let command = done(coming.call, verdict);
     if grows(command) {
         return apply(config, command, &mut state.settings);
     }
-    standing_of::advance(alloc, config, run, entry, stage, call, &mut state.standing)?;
+    standing_of::advance(
+        alloc,
+        config,
+        run,
+        coming.entry,
+        coming.stage,
+        coming.call,
+        &mut state.standing,
+    )?;
     apply(config, command, &mut state.settings)
 }
 
@@ -66,15 +70,22 @@ fn tried(
     alloc: Global,
     config: &Config,
     run: u32,
-    entry: &Entry,
-    stage: Stage,
+    coming: &Coming<'_>,
     state: &mut State,
 ) -> Result<(), WantMemory>
-    requires { (w : ℕ) × (answer : Attempt) × (entry.now ≡ Entry.Tried w answer) }
-    ensures ok { (limit : ℕ) (opened : Stored) (past : List Entry) (call : Option Call) (runs : Option Sid) → IsNext config.now run limit opened past entry.now stage call runs state.old → OnOk result (IsState config.now run opened (entry.now ∷ past) state.new) }
+    requires { (w : ℕ) × (answer : Attempt) × (coming.now.entry.now ≡ Entry.Tried w answer) }
+    ensures ok { (limit : ℕ) (opened : Stored) (past : List Entry) → IsNext config.now run limit opened past coming.now state.old → OnOk result (IsState config.now run opened (coming.now.entry.now ∷ past) state.new) }
     ensures err { (opened : Stored) (past : List Entry) → IsState config.now run opened past state.old → OnErr result (IsState config.now run opened past state.new) }
 {
-    standing_of::advance(alloc, config, run, entry, stage, None, &mut state.standing)?;
+    standing_of::advance(
+        alloc,
+        config,
+        run,
+        coming.entry,
+        coming.stage,
+        None,
+        &mut state.standing,
+    )?;
     apply(config, None, &mut state.settings)
 }
 
@@ -83,30 +94,35 @@ fn served(
     alloc: Global,
     config: &Config,
     run: u32,
-    entry: &Entry,
-    stage: Stage,
-    call: Option<&Call>,
-    runs: Option<Sid>,
+    coming: &Coming<'_>,
     state: &mut State,
 ) -> Result<Option<Outcome>, WantMemory>
-    requires next { (limit : ℕ) × (opened : Stored) × (past : List Entry) × IsNext config.now run limit opened past entry.now stage (option_copied call) runs state.old }
-    requires kind { serves entry.now ≡ true }
-    ensures ok { (limit : ℕ) (opened : Stored) (past : List Entry) → IsNext config.now run limit opened past entry.now stage (option_copied call.entry) runs state.old → OnOk result (IsState config.now run opened (entry.now ∷ past) state.new) }
-    ensures outcome { (limit : ℕ) (opened : Stored) (past : List Entry) → IsNext config.now run limit opened past entry.now stage (option_copied call.entry) runs state.old → IfOk result (λ outcome. outcome ≡ outcome_told config.now run opened past entry.now runs (option_copied call.entry)) }
+    requires next { (limit : ℕ) × (opened : Stored) × (past : List Entry) × IsNext config.now run limit opened past coming.now state.old }
+    requires kind { serves coming.now.entry.now ≡ true }
+    ensures ok { (limit : ℕ) (opened : Stored) (past : List Entry) → IsNext config.now run limit opened past coming.now state.old → OnOk result (IsState config.now run opened (coming.now.entry.now ∷ past) state.new) }
+    ensures outcome { (limit : ℕ) (opened : Stored) (past : List Entry) → IsNext config.now run limit opened past coming.now state.old → IfOk result (λ outcome. outcome ≡ outcome_of config.now run opened past coming.now) }
     ensures err { (opened : Stored) (past : List Entry) → IsState config.now run opened past state.old → OnErr result (IsState config.now run opened past state.new) }
-    ensures ends { OnErr result (may_want entry.now ≡ true) }
+    ensures ends { OnErr result (may_want coming.now.entry.now ≡ true) }
 {
     let outcome = servant_states::advance(
         alloc,
         config,
-        entry,
-        stage,
-        call,
-        runs,
+        coming.entry,
+        coming.stage,
+        coming.call,
+        coming.runs,
         &state.standing,
         &mut state.servants,
     )?;
-    standing_of::advance(alloc, config, run, entry, stage, None, &mut state.standing)?;
+    standing_of::advance(
+        alloc,
+        config,
+        run,
+        coming.entry,
+        coming.stage,
+        None,
+        &mut state.standing,
+    )?;
     apply(config, None, &mut state.settings)?;
     Ok(outcome)
 }
@@ -118,27 +134,24 @@ pub fn advance(
     alloc: Global,
     config: &Config,
     run: u32,
-    entry: &Entry,
-    stage: Stage,
-    call: Option<&Call>,
-    runs: Option<Sid>,
+    coming: &Coming<'_>,
     state: &mut State,
 ) -> Result<Option<Outcome>, WantMemory>
-    requires { (limit : ℕ) × (opened : Stored) × (past : List Entry) × IsNext config.now run limit opened past entry.now stage (option_copied call) runs state.old }
-    ensures ok { (limit : ℕ) (opened : Stored) (past : List Entry) → IsNext config.now run limit opened past entry.now stage (option_copied call.entry) runs state.old → OnOk result (IsState config.now run opened (entry.now ∷ past) state.new) }
-    ensures outcome { (limit : ℕ) (opened : Stored) (past : List Entry) → IsNext config.now run limit opened past entry.now stage (option_copied call.entry) runs state.old → IfOk result (λ outcome. outcome ≡ outcome_told config.now run opened past entry.now runs (option_copied call.entry)) }
+    requires { (limit : ℕ) × (opened : Stored) × (past : List Entry) × IsNext config.now run limit opened past coming.now state.old }
+    ensures ok { (limit : ℕ) (opened : Stored) (past : List Entry) → IsNext config.now run limit opened past coming.now state.old → OnOk result (IsState config.now run opened (coming.now.entry.now ∷ past) state.new) }
+    ensures outcome { (limit : ℕ) (opened : Stored) (past : List Entry) → IsNext config.now run limit opened past coming.now state.old → IfOk result (λ outcome. outcome ≡ outcome_of config.now run opened past coming.now) }
     ensures err { (opened : Stored) (past : List Entry) → IsState config.now run opened past state.old → OnErr result (IsState config.now run opened past state.new) }
-    ensures ends { only_ends entry.now ≡ true → IsOk result }
+    ensures ends { only_ends coming.now.entry.now ≡ true → IsOk result }
 {
-    match entry {
+    match coming.entry {
         Entry::Admit { verdict, .. } => {
-            admit(alloc, config, run, entry, stage, call, verdict, state)?;
+            admit(alloc, config, run, coming, verdict, state)?;
             Ok(None)
         }
         Entry::Tried { .. } => {
-            tried(alloc, config, run, entry, stage, state)?;
+            tried(alloc, config, run, coming, state)?;
             Ok(None)
         }
-        _ => served(alloc, config, run, entry, stage, call, runs, state),
+        _ => served(alloc, config, run, coming, state),
     }
 }

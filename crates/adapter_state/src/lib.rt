@@ -2,7 +2,9 @@
 #![tactic(auto)]
 
 mod advancing;
+mod coming;
 mod state;
 
 pub use advancing::advance;
+pub use coming::Coming;
 pub use state::{State, opening};

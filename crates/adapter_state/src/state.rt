@@ -1,5 +1,5 @@
 //! What stands, what is set, and the servants.
-ghost use Rattle.std.specs.Prelude.{◌≡◌, ℕ, [], IfOk};
+ghost use Rattle.std.specs.Prelude.{[], IfOk};
 ghost use Rattle.poa_base.specs.Store.{stored as stored_in};
 ghost use Rattle.adapter_state.specs.State.{IsState};
 

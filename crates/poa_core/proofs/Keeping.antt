@@ -1,22 +1,27 @@
 -- The core is kept after an entry is noted.
-use Rattle.std.proofs.Common.{◌≡◌, ℕ, ◌+◌, ◌≤◌, true, false, List, ◌∷◌, length, sym, ap, subst, ◌∙◌, vec_len, vec_capacity, arith}
+use Rattle.std.proofs.Common.{◌≡◌, ℕ, ◌+◌, ◌≤◌, true, false, List, ◌∷◌, length, reverse, sym, ap, subst, vec_len, vec_capacity, arith}
+use Rattle.std.specs.Prelude.{option_copied}
 use Rattle.poa_base.specs.declared.Entry.{Entry}
 use Rattle.poa_base.specs.declared.Entry.TheVariants.{Entered, Arrive, Filled, Left, Collect, Admit, Tried, Incarnated, Run, Done, TakeOut, Etherealized, Abandon}
 use Rattle.poa_history.specs.declared.stage.Stage.{Stage}
 use Rattle.poa_history.specs.Arrivals.{arrivals}
+use Rattle.poa_history.specs.Changes.{standing}
+use Rattle.poa_history.specs.States.{servant_run}
 use Rattle.poa_opening.specs.Runs.{IsRun}
+use Rattle.standing_queries.specs.Seen.{seen}
 use Rattle.standing_of.specs.Entries.{stage_at}
+use Rattle.arrival_tables.specs.Placed.{KnowsCalls}
+use Rattle.call_replies.specs.Comes.{call_at}
 use Rattle.call_tables.specs.Desk.{AreLeft}
 use Rattle.call_tables.specs.Decided.{AreFiled}
-use Rattle.adapter_state.specs.State.{IsState, is_turn}
-use Rattle.adapter_state.specs.declared.state.State.{State}
+use Rattle.adapter_state.specs.declared.coming.Coming.{Coming}
+use Rattle.adapter_state.specs.State.{is_turn}
 use Rattle.poa_core.specs.declared.inside.Inside.{Inside}
-use Rattle.poa_core.specs.declared.turning.Brought.{Brought}
-use Rattle.poa_core.specs.Life.{Life, with_entry}
+use Rattle.poa_core.specs.Life.{Life}
 use Rattle.poa_core.specs.Agrees.{Agrees, KnowsTables, history, opened_in}
-use Rattle.poa_core.specs.Turning.{IsTaken, IsBrought}
-use Rattle.poa_core.specs.Noting.{IsHalfway, IsNoted}
-use Rattle.poa_core.specs.Kept.{IsKept, IsReady, HasSpace, life, to_come, stay}
+use Rattle.poa_core.specs.Turning.{IsAsked}
+use Rattle.poa_core.specs.Noting.{IsNoted}
+use Rattle.poa_core.specs.Kept.{IsKept, HasSpace, life, stay}
 use Rattle.poa_core.proofs.Space.{stay_after, turns_keep, turns_arrive_none}
 
 -- the history goes on by the entry
@@ -55,6 +60,22 @@ runs_still e old new same = subst (λ (l : Life). IsRun l.config l.run l.limit (
 
 pub begun_still : (e : Entry) (begun : Stage) (old new : Inside) → life new ≡ life old → begun ≡ stage_at (history old) e → begun ≡ stage_at (history new) e
 begun_still e begun old new same = subst (λ (l : Life). begun ≡ stage_at l.history e) (sym same)
+
+-- it comes with what the journal and the tables say of it
+pub asked_then : (old mid : Inside) (k : Coming) (es es' : List Entry) → es ≡ mid.entries.items → es' ≡ mid.entries.items → Agrees (history mid) mid → life mid ≡ life old
+    → IsRun old.config old.run old.limit (k.entry.now ∷ history old) → is_turn k.entry.now ≡ true → k.stage ≡ stage_at (history old) k.entry.now
+    → (KnowsCalls (reverse es) mid.tables.calls.places.items → k.stage ≡ stage_at (reverse es) k.entry.now → option_copied k.call ≡ call_at (reverse es) k.entry.now)
+    → (seen mid.state.standing ≡ standing mid.config mid.run (reverse es') → k.runs ≡ servant_run mid.config mid.run (reverse es') k.stage)
+    → IsAsked mid.config mid.run mid.limit (opened_in mid) (history mid) k mid.state
+asked_then old mid k es es' same same' agrees life_is follows turn begun_is called served =
+    (let begun = begun_still k.entry.now k.stage old mid life_is begun_is in record {
+      follows = runs_still k.entry.now old mid life_is follows;
+      turn = turn;
+      begun_is = begun;
+      call_is = subst (λ (xs : List Entry). KnowsCalls (reverse xs) mid.tables.calls.places.items → k.stage ≡ stage_at (reverse xs) k.entry.now → option_copied k.call ≡ call_at (reverse xs) k.entry.now) same called agrees.tables.calls begun;
+      servant_is = subst (λ (xs : List Entry). seen mid.state.standing ≡ standing mid.config mid.run (reverse xs) → k.runs ≡ servant_run mid.config mid.run (reverse xs) k.stage) same' served agrees.state.stands;
+      state = agrees.state;
+    })
 
 -- a worker's entry collects nothing
 pub left_still : (e : Entry) (i : Inside) → is_turn e ≡ true → AreFiled i.config i.run (opened_in i) (history i) i.desk.outbox.items → AreLeft i.config i.run (opened_in i) (history i) e i.desk.outbox.items

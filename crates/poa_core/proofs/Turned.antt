@@ -1,13 +1,13 @@
 -- What an entry of a worker comes with.
-use Rattle.std.proofs.Common.{◌≡◌, ℕ, Bool, true, false, List, ◌∷◌, Option, Some, None, option_map, refl, sym, ap, ap₂, subst, ◌∙◌}
+use Rattle.std.proofs.Common.{◌≡◌, ℕ, true, false, List, ◌∷◌, Option, Some, None, option_map, refl, sym, ap, ap₂, subst, ◌∙◌}
+use Rattle.std.specs.Prelude.{Result, Ok, Err, OnOk, option_copied}
+use Rattle.std.specs.Borrow.{Bor}
 use Rattle.poa_base.specs.declared.Config.{Config}
 use Rattle.poa_base.specs.declared.Call.{Call}
 use Rattle.poa_base.specs.declared.Outcome.{Outcome}
-use Rattle.poa_base.specs.declared.Sid.{Sid}
 use Rattle.poa_base.specs.declared.Entry.{Entry}
 use Rattle.poa_base.specs.declared.Entry.TheVariants.{Entered, Arrive, Filled, Left, Collect, Admit, Tried, Incarnated, Run, Done, TakeOut, Etherealized, Abandon}
 use Rattle.poa_history.specs.declared.stage.Stage.{Stage}
-use Rattle.poa_history.specs.declared.stage.Stage.TheVariants.{Free, Trying, Incarnating, Serving, Ran, Removing}
 use Rattle.poa_history.specs.Arrivals.{call_of}
 use Rattle.poa_history.specs.InFlight.{IsManned}
 use Rattle.poa_history.specs.Stages.{stage}
@@ -22,9 +22,14 @@ use Rattle.adapter_settings.specs.Told.{Tells as SettingsTell}
 use Rattle.servant_states.specs.Comes.{outcome_told}
 use Rattle.servant_states.proofs.RunsHave.{serving_has}
 use Rattle.call_replies.specs.Comes.{Comes, HasOutcome, call_at}
-use Rattle.adapter_state.specs.State.{IsNext, IsState, call_spoken, is_turn}
+use Rattle.adapter_state.specs.declared.coming.Coming.{Coming}
+use Rattle.adapter_state.specs.State.{IsNext, call_spoken, is_turn, outcome_of}
 use Rattle.adapter_state.specs.declared.state.State.{State}
-use Rattle.poa_core.specs.Turning.{Tells, Runs, IsTaken, IsAsked, call_in, is_run}
+use Rattle.poa_core.specs.Turning.{IsAsked, call_in, is_run}
+
+pub at_ok : {T E : Type 0} {P : Type 0} (r : Result T E) → P → OnOk r P
+at_ok (Ok x) is = is
+at_ok (Err e) is = tt
 
 -- what the entry admits or runs is the call of which it speaks
 pub spoken_is : (c : Config) (run limit : ℕ) (past : List Entry) (e : Entry) → IsRun c run limit (e ∷ past) → is_turn e ≡ true → call_in e (call_at past e) ≡ call_spoken past e
@@ -63,44 +68,7 @@ no_outcome c run opened past (Left conn) silent = tt
 no_outcome c run opened past (Collect conn a) silent = tt
 no_outcome c run opened past (Abandon w) silent = tt
 
--- any other entry comes to its decision
-pub told_comes : (c : Config) (run limit : ℕ) (opened : Stored) (past : List Entry) (e : Entry) (begun : Stage) (call : Option Call) (runs : Option Sid) (s : State) → Tells c run limit opened past e begun call runs s → Comes c run opened past e begun call s.settings None
-told_comes c run limit opened past e begun call runs s tells =
-    record {
-      manned = manned_before c run limit past e tells.next.follows;
-      at_stage = tells.next.begun_is;
-      call_is = tells.call_is;
-      told = tells.next.state.set;
-      ran = no_outcome c run opened past e tells.silent;
-    }
-
-told_before : (c : Config) (past : List Entry) (w : ℕ) (settings : Settings) → SettingsTell c (Run w ∷ past) settings → SettingsTell c past settings
-told_before c past w settings is = record { managed = is.managed; states = is.states; presets = is.presets; endpoints = is.endpoints }
-
--- a Run comes to its decision, with the outcome of the servant that ran
-pub run_comes : (c : Config) (run limit : ℕ) (opened : Stored) (past : List Entry) (e : Entry) (begun : Stage) (call : Option Call) (runs : Option Sid) (s : State) (settings : Settings) (outcome : Option Outcome)
-    → Runs c run limit opened past e begun call runs s → SettingsTell c (e ∷ past) settings → outcome ≡ outcome_told c run opened past e runs call → Comes c run opened past e begun call settings outcome
-run_comes c run limit opened past e begun call runs s settings outcome it set told =
-    record {
-      manned = manned_before c run limit past e it.next.follows;
-      at_stage = it.next.begun_is;
-      call_is = it.call_is;
-      told = told_before c past it.worker settings (subst (λ x. SettingsTell c (x ∷ past) settings) it.is set);
-      ran = has_outcome e it.is it.next.follows it.next.begun_is it.next.servant_is it.next.call_is told;
-    }
-  where
-    has_outcome : (x : Entry) → x ≡ Run it.worker → IsRun c run limit (x ∷ past) → begun ≡ stage_at past x → runs ≡ servant_run c run past begun → call ≡ call_spoken past x → outcome ≡ outcome_told c run opened past x runs call → HasOutcome c run opened past x outcome
-    has_outcome x is follows at by spoken told =
-        subst (λ y. IsRun c run limit (y ∷ past) → begun ≡ stage_at past y → call ≡ call_spoken past y → outcome ≡ outcome_told c run opened past y runs call → HasOutcome c run opened past y outcome) (sym is)
-        (λ follows at spoken told.
-        (let serves = run_is c run past it.worker follows.legal.0 in
-        let has = serving_has c run limit past (given c run limit (Run it.worker ∷ past) follows) (alone c run limit (Run it.worker ∷ past) follows) (within c run limit (Run it.worker ∷ past) follows) follows.legal.1 it.worker serves.0 serves.1 in
-        let same : servant_run c run past (stage past it.worker) ≡ Some has.0 = ap (servant_run c run past) serves.1 ∙ has.1 in
-        let mine : runs ≡ Some has.0 = by ∙ ap (servant_run c run past) at ∙ same in
-        (has.0, same, told ∙ ap₂ (λ r x. option_map (λ t. (acted (state_of c run opened past t) x).1) r) mine spoken)))
-        follows at spoken told
-
-not_run : (e : Entry) → ((w : ℕ) → e ≡ Run w → ⊥) → is_run e ≡ false
+pub not_run : (e : Entry) → ((w : ℕ) → e ≡ Run w → ⊥) → is_run e ≡ false
 not_run (Run w) none = absurd (none w refl)
 not_run (Admit w r v) none = refl
 not_run (Tried w a) none = refl
@@ -115,29 +83,53 @@ not_run (Left conn) none = refl
 not_run (Collect conn a) none = refl
 not_run (Abandon w) none = refl
 
-module _ (c : Config) (run limit : ℕ) (opened : Stored) (past : List Entry) (e : Entry) (begun : Stage) (places : List ℕ) (call : Option Call) (runs : Option Sid) (s : State) (asked : IsAsked c run limit opened past e begun places call runs s) where
-  next_with : (x : Option Call) → x ≡ call_in e call → IsNext c run limit opened past e begun x runs s
+told_before : (c : Config) (past : List Entry) (w : ℕ) (settings : Settings) → SettingsTell c (Run w ∷ past) settings → SettingsTell c past settings
+told_before c past w settings is = record { managed = is.managed; states = is.states; presets = is.presets; endpoints = is.endpoints }
+
+module _ (c : Config) (run limit : ℕ) (opened : Stored) (past : List Entry) (k : Coming) (s : State) (asked : IsAsked c run limit opened past k s) where
+  -- what the entry changes comes next, with the call that it admits or runs
+  pub next_with : (x : Option (Bor Call)) → option_copied x ≡ call_in k.entry.now (option_copied k.call) → IsNext c run limit opened past (record k { call = x }) s
   next_with x is =
       record {
-        follows = asked.taken.follows;
-        turn = asked.taken.turn;
-        begun_is = asked.taken.begun_is;
-        call_is = is ∙ ap (call_in e) asked.call_is ∙ spoken_is c run limit past e asked.taken.follows asked.taken.turn;
+        follows = asked.follows;
+        turn = asked.turn;
+        begun_is = asked.begun_is;
+        call_is = is ∙ (ap (call_in k.entry.now) asked.call_is ∙ spoken_is c run limit past k.entry.now asked.follows asked.turn);
         servant_is = asked.servant_is;
-        state = asked.taken.state;
+        state = asked.state;
       }
 
-  pub runs_from : (w : ℕ) → e ≡ Run w → Runs c run limit opened past e begun call runs s
-  runs_from w is = record { next = next_with call (sym (ap (λ x. call_in x call) is)); call_is = asked.call_is; worker = w; is = is }
+  pub next_run : (w : ℕ) → k.entry.now ≡ Run w → IsNext c run limit opened past k s
+  next_run w is = next_with k.call (sym (ap (λ x. call_in x (option_copied k.call)) is))
 
-  pub tells_from : ((w : ℕ) → e ≡ Run w → ⊥) → Tells c run limit opened past e begun call runs s
-  tells_from none = record { next = next_with (call_in e call) refl; call_is = asked.call_is; silent = not_run e none }
+  -- any other entry comes to its decision
+  pub told_comes : is_run k.entry.now ≡ false → Comes c run opened past k.entry.now k.stage (option_copied k.call) s.settings None
+  told_comes silent =
+      record {
+        manned = manned_before c run limit past k.entry.now asked.follows;
+        at_stage = asked.begun_is;
+        call_is = asked.call_is;
+        told = asked.state.set;
+        ran = no_outcome c run opened past k.entry.now silent;
+      }
 
-pub next_in : (c : Config) (run limit : ℕ) (opened : Stored) (past : List Entry) (e : Entry) (begun : Stage) (call : Option Call) (runs : Option Sid) (s : State) → Tells c run limit opened past e begun call runs s
-    → (x : Option Call) → x ≡ call_in e call → IsNext c run limit opened past e begun x runs s
-next_in c run limit opened past e begun call runs s tells x is = subst (λ y. IsNext c run limit opened past e begun y runs s) (sym is) tells.next
-
--- an entry that is taken is asked with its call and its servant
-pub asked : (c : Config) (run limit : ℕ) (opened : Stored) (past : List Entry) (e : Entry) (begun : Stage) (places : List ℕ) (call : Option Call) (runs : Option Sid) (s : State) → IsTaken c run limit opened past e begun places s
-    → call ≡ call_at past e → runs ≡ servant_run c run past begun → IsAsked c run limit opened past e begun places call runs s
-asked c run limit opened past e begun places call runs s taken call_is servant_is = record { taken = taken; call_is = call_is; servant_is = servant_is }
+  -- a Run comes to its decision, with the outcome of the servant that ran
+  pub run_comes : (w : ℕ) → k.entry.now ≡ Run w → (settings : Settings) (outcome : Option Outcome) → SettingsTell c (k.entry.now ∷ past) settings → outcome ≡ outcome_of c run opened past k
+      → Comes c run opened past k.entry.now k.stage (option_copied k.call) settings outcome
+  run_comes w is settings outcome set told =
+      record {
+        manned = manned_before c run limit past k.entry.now asked.follows;
+        at_stage = asked.begun_is;
+        call_is = asked.call_is;
+        told = told_before c past w settings (subst (λ x. SettingsTell c (x ∷ past) settings) is set);
+        ran = subst (λ x. IsRun c run limit (x ∷ past) → k.stage ≡ stage_at past x → option_copied k.call ≡ call_spoken past x → outcome ≡ outcome_told c run opened past x k.runs (option_copied k.call) → HasOutcome c run opened past x outcome) (sym is)
+            (λ follows at spoken told. has_outcome follows at spoken told) asked.follows asked.begun_is (next_run w is).call_is told;
+      }
+    where
+      has_outcome : IsRun c run limit (Run w ∷ past) → k.stage ≡ stage past w → option_copied k.call ≡ call_run past (stage past w) → outcome ≡ outcome_told c run opened past (Run w) k.runs (option_copied k.call) → HasOutcome c run opened past (Run w) outcome
+      has_outcome follows at spoken told =
+          (let serves = run_is c run past w follows.legal.0 in
+          let has = serving_has c run limit past (given c run limit (Run w ∷ past) follows) (alone c run limit (Run w ∷ past) follows) (within c run limit (Run w ∷ past) follows) follows.legal.1 w serves.0 serves.1 in
+          let same : servant_run c run past (stage past w) ≡ Some has.0 = ap (servant_run c run past) serves.1 ∙ has.1 in
+          let mine : k.runs ≡ Some has.0 = asked.servant_is ∙ ap (servant_run c run past) at ∙ same in
+          (has.0, same, told ∙ ap₂ (λ r x. option_map (λ t. (acted (state_of c run opened past t) x).1) r) mine spoken))

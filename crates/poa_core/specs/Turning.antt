@@ -1,20 +1,18 @@
 -- How the core takes an entry of a worker.
-use Rattle.std.specs.Prelude.{◌≡◌, ℕ, Bool, true, false, List, ◌∷◌, Option, None}
+use Rattle.std.specs.Prelude.{◌≡◌, ℕ, Bool, true, false, List, ◌∷◌, Option, None, option_copied}
 use Rattle.poa_base.specs.declared.Call.{Call}
 use Rattle.poa_base.specs.declared.Config.{Config}
-use Rattle.poa_base.specs.declared.Sid.{Sid}
 use Rattle.poa_base.specs.declared.Entry.{Entry}
 use Rattle.poa_base.specs.declared.Entry.TheVariants.{Admit, Run}
-use Rattle.poa_history.specs.declared.stage.Stage.{Stage}
 use Rattle.poa_history.specs.States.{Stored, servant_run}
 use Rattle.poa_opening.specs.Runs.{IsRun}
 use Rattle.standing_of.specs.Entries.{stage_at}
-use Rattle.arrival_tables.specs.Placed.{KnowsCalls}
 use Rattle.call_tables.specs.Decided.{Decides}
 use Rattle.call_tables.specs.Desk.{WaitIs}
 use Rattle.call_tables.specs.Waits.{ordered_by}
 use Rattle.adapter_state.specs.declared.state.State.{State}
-use Rattle.adapter_state.specs.State.{IsState, IsNext, is_turn}
+use Rattle.adapter_state.specs.declared.coming.Coming.{Coming}
+use Rattle.adapter_state.specs.State.{IsState, is_turn}
 use Rattle.call_replies.specs.Comes.{call_at}
 use Rattle.poa_core.specs.declared.turning.Brought.{Brought}
 
@@ -28,12 +26,13 @@ abbrev pub is_run : Entry → Bool
 is_run (Run w) = true
 is_run e = false
 
--- an entry of a worker is taken, behind a history of which this is known
-pub record IsTaken (c : Config) (run limit : ℕ) (opened : Stored) (past : List Entry) (e : Entry) (begun : Stage) (places : List ℕ) (s : State) : Type 0 where
-  pub follows : IsRun c run limit (e ∷ past)
-  pub turn : is_turn e ≡ true
-  pub begun_is : begun ≡ stage_at past e
-  pub called : KnowsCalls past places
+-- an entry of a worker comes behind a history, with what the history says of it
+pub record IsAsked (c : Config) (run limit : ℕ) (opened : Stored) (past : List Entry) (k : Coming) (s : State) : Type 0 where
+  pub follows : IsRun c run limit (k.entry.now ∷ past)
+  pub turn : is_turn k.entry.now ≡ true
+  pub begun_is : k.stage ≡ stage_at past k.entry.now
+  pub call_is : option_copied k.call ≡ call_at past k.entry.now
+  pub servant_is : k.runs ≡ servant_run c run past k.stage
   pub state : IsState c run opened past s
 
 -- what it brings is what the history says
@@ -41,21 +40,3 @@ pub record IsBrought (c : Config) (run : ℕ) (opened : Stored) (past : List Ent
   pub decides : Decides c run opened past e b.decision.target b.decision.reply
   pub waits : WaitIs c run past e b.wait
   pub orders : b.ordered ≡ ordered_by c past e
-
--- the entry comes with the call that it speaks of and the servant that runs; at a Run there is one
-pub record Tells (c : Config) (run limit : ℕ) (opened : Stored) (past : List Entry) (e : Entry) (begun : Stage) (call : Option Call) (runs : Option Sid) (s : State) : Type 0 where
-  pub next : IsNext c run limit opened past e begun (call_in e call) runs s
-  pub call_is : call ≡ call_at past e
-  pub silent : is_run e ≡ false
-
-pub record Runs (c : Config) (run limit : ℕ) (opened : Stored) (past : List Entry) (e : Entry) (begun : Stage) (call : Option Call) (runs : Option Sid) (s : State) : Type 0 where
-  pub next : IsNext c run limit opened past e begun call runs s
-  pub call_is : call ≡ call_at past e
-  pub worker : ℕ
-  pub is : e ≡ Run worker
-
--- an entry that is taken, with the call that it speaks of and the servant that runs
-pub record IsAsked (c : Config) (run limit : ℕ) (opened : Stored) (past : List Entry) (e : Entry) (begun : Stage) (places : List ℕ) (call : Option Call) (runs : Option Sid) (s : State) : Type 0 where
-  pub taken : IsTaken c run limit opened past e begun places s
-  pub call_is : call ≡ call_at past e
-  pub servant_is : runs ≡ servant_run c run past begun

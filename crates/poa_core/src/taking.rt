@@ -10,7 +10,8 @@ ghost use Rattle.poa_core.specs.Kept.{IsKept, life};
 use crate::inside::Inside;
 use crate::noting::note;
 use crate::room::make_room;
-use crate::turning::bring;
+use crate::turning::{bring, call_at, servant_in};
+use adapter_state::Coming;
 use poa_base::{Entry, WantMemory};
 use poa_history::Stage;
 
@@ -25,14 +26,24 @@ pub fn take(inside: &mut Inside, entry: Entry, stage: Stage) -> Result<(), WantM
     ensures err { OnErr result (life inside.new ≡ life inside.old) }
 {
     make_room(inside)?;
+    let call = call_at(&inside.entries, &inside.tables.calls, &entry, stage);
+    let runs = servant_in(
+        &inside.config,
+        &inside.state.standing,
+        &inside.entries,
+        stage,
+    )?;
+    let coming = Coming {
+        entry: &entry,
+        stage,
+        call,
+        runs,
+    };
     let brought = bring(
         inside.alloc,
         &inside.config,
         inside.run,
-        &inside.entries,
-        &inside.tables.calls,
-        &entry,
-        stage,
+        &coming,
         &mut inside.state,
     )?;
     note(inside, entry, stage, brought);

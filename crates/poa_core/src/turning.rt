@@ -1,5 +1,5 @@
 //! The entries that workers make.
-ghost use Rattle.std.specs.Prelude.{◌≡◌, ◌∷◌, ℕ, List, reverse, option_copied, IfOk, OnOk, OnErr};
+ghost use Rattle.std.specs.Prelude.{◌≡◌, ◌∷◌, ℕ, false, List, reverse, option_copied, IfOk, OnOk, OnErr};
 ghost use Rattle.poa_history.specs.Changes.{standing as stands_after};
 ghost use Rattle.poa_history.specs.States.{Stored, servant_run};
 ghost use Rattle.standing_of.specs.Entries.{stage_at};
@@ -11,9 +11,9 @@ ghost use Rattle.poa_base.specs.declared.Entry.{Entry as EntryOf};
 ghost use Rattle.call_tables.specs.Decided.{Decides};
 ghost use Rattle.call_tables.specs.Waits.{call_told};
 ghost use Rattle.poa_core.specs.Turning as turning;
-ghost use Rattle.poa_core.specs.Turning.{IsBrought, IsTaken};
+ghost use Rattle.poa_core.specs.Turning.{IsAsked, IsBrought};
 
-use adapter_state::State;
+use adapter_state::{Coming, State};
 use arrival_tables::{Calls, calls};
 use call_replies::{Decision, decision_of};
 use call_tables::{Ordered, Wait, ordered_by, wait_by};
@@ -33,7 +33,12 @@ pub struct Brought {
 }
 
 /// The call of which an entry speaks: that of the arrival that it admits, or that its worker is at.
-fn call_at<'a>(entries: &'a [Entry], known: &Calls, entry: &Entry, stage: Stage) -> Option<&'a Call>
+pub fn call_at<'a>(
+    entries: &'a [Entry],
+    known: &Calls,
+    entry: &Entry,
+    stage: Stage,
+) -> Option<&'a Call>
     ensures { KnowsCalls (reverse entries.now) known.now.places.items → stage ≡ stage_at (reverse entries.now) entry.now → option_copied result ≡ the_call_at (reverse entries.now) entry.now }
 {
     let arrival = match entry {
@@ -44,27 +49,27 @@ fn call_at<'a>(entries: &'a [Entry], known: &Calls, entry: &Entry, stage: Stage)
 }
 
 /// The call that an entry admits or runs.
-fn call_in<'a>(entry: &Entry, call: Option<&'a Call>) -> Option<&'a Call>
-    ensures { option_copied result ≡ turning.call_in entry.now (option_copied call.entry) }
+fn call_in<'a>(coming: &Coming<'a>) -> Option<&'a Call>
+    ensures { option_copied result ≡ turning.call_in coming.now.entry.now (option_copied coming.now.call) }
 {
-    match entry {
-        Entry::Admit { .. } | Entry::Run { .. } => call,
+    match coming.entry {
+        Entry::Admit { .. } | Entry::Run { .. } => coming.call,
         _ => None,
     }
 }
 
 /// The call that an entry admits.
-fn call_admitted<'a>(entry: &Entry, call: Option<&'a Call>) -> Option<&'a Call>
-    ensures { (past : List EntryOf) → option_copied call.entry ≡ the_call_at past entry.now → option_copied result ≡ call_told past entry.now }
+fn call_admitted<'a>(coming: &Coming<'a>) -> Option<&'a Call>
+    ensures { (past : List EntryOf) → option_copied coming.now.call ≡ the_call_at past coming.now.entry.now → option_copied result ≡ call_told past coming.now.entry.now }
 {
-    match entry {
-        Entry::Admit { .. } => call,
+    match coming.entry {
+        Entry::Admit { .. } => coming.call,
         _ => None,
     }
 }
 
 /// The servant of a request that runs.
-fn servant_in(
+pub fn servant_in(
     config: &Config,
     standing: &Standing,
     entries: &[Entry],
@@ -83,19 +88,25 @@ fn ran(
     alloc: Global,
     config: &Config,
     run: u32,
-    entry: &Entry,
-    stage: Stage,
-    call: Option<&Call>,
-    runs: Option<Sid>,
+    coming: &Coming<'_>,
     state: &mut State,
 ) -> Result<Decision, WantMemory>
-    requires { (limit : ℕ) × (opened : Stored) × (past : List EntryOf) × turning.Runs config.now run limit opened past entry.now stage (option_copied call) runs state.old }
-    ensures ok { (limit : ℕ) (opened : Stored) (past : List EntryOf) → turning.Runs config.now run limit opened past entry.now stage (option_copied call.entry) runs state.old → OnOk result (IsState config.now run opened (entry.now ∷ past) state.new) }
-    ensures decides { (limit : ℕ) (opened : Stored) (past : List EntryOf) → turning.Runs config.now run limit opened past entry.now stage (option_copied call.entry) runs state.old → IfOk result (λ it. Decides config.now run opened past entry.now it.target it.reply) }
+    requires asked { (limit : ℕ) × (opened : Stored) × (past : List EntryOf) × IsAsked config.now run limit opened past coming.now state.old }
+    requires kind { (w : ℕ) × (coming.now.entry.now ≡ EntryOf.Run w) }
+    ensures ok { (limit : ℕ) (opened : Stored) (past : List EntryOf) → IsAsked config.now run limit opened past coming.now state.old → OnOk result (IsState config.now run opened (coming.now.entry.now ∷ past) state.new) }
+    ensures decides { (limit : ℕ) (opened : Stored) (past : List EntryOf) → IsAsked config.now run limit opened past coming.now state.old → IfOk result (λ it. Decides config.now run opened past coming.now.entry.now it.target it.reply) }
     ensures err { (opened : Stored) (past : List EntryOf) → IsState config.now run opened past state.old → OnErr result (IsState config.now run opened past state.new) }
 {
-    let outcome = adapter_state::advance(alloc, config, run, entry, stage, call, runs, state)?;
-    decision_of(alloc, config, entry, stage, call, &state.settings, outcome)
+    let outcome = adapter_state::advance(alloc, config, run, coming, state)?;
+    decision_of(
+        alloc,
+        config,
+        coming.entry,
+        coming.stage,
+        coming.call,
+        &state.settings,
+        outcome,
+    )
 }
 
 /// Any other entry: what it decides is told by what stood before it.
@@ -103,28 +114,29 @@ fn told(
     alloc: Global,
     config: &Config,
     run: u32,
-    entry: &Entry,
-    stage: Stage,
-    call: Option<&Call>,
-    runs: Option<Sid>,
+    coming: &Coming<'_>,
     state: &mut State,
 ) -> Result<Decision, WantMemory>
-    requires { (limit : ℕ) × (opened : Stored) × (past : List EntryOf) × turning.Tells config.now run limit opened past entry.now stage (option_copied call) runs state.old }
-    ensures ok { (limit : ℕ) (opened : Stored) (past : List EntryOf) → turning.Tells config.now run limit opened past entry.now stage (option_copied call.entry) runs state.old → OnOk result (IsState config.now run opened (entry.now ∷ past) state.new) }
-    ensures decides { (limit : ℕ) (opened : Stored) (past : List EntryOf) → turning.Tells config.now run limit opened past entry.now stage (option_copied call.entry) runs state.old → IfOk result (λ it. Decides config.now run opened past entry.now it.target it.reply) }
+    requires asked { (limit : ℕ) × (opened : Stored) × (past : List EntryOf) × IsAsked config.now run limit opened past coming.now state.old }
+    requires kind { turning.is_run coming.now.entry.now ≡ false }
+    ensures ok { (limit : ℕ) (opened : Stored) (past : List EntryOf) → IsAsked config.now run limit opened past coming.now state.old → OnOk result (IsState config.now run opened (coming.now.entry.now ∷ past) state.new) }
+    ensures decides { (limit : ℕ) (opened : Stored) (past : List EntryOf) → IsAsked config.now run limit opened past coming.now state.old → IfOk result (λ it. Decides config.now run opened past coming.now.entry.now it.target it.reply) }
     ensures err { (opened : Stored) (past : List EntryOf) → IsState config.now run opened past state.old → OnErr result (IsState config.now run opened past state.new) }
 {
-    let decision = decision_of(alloc, config, entry, stage, call, &state.settings, None)?;
-    adapter_state::advance(
+    let decision = decision_of(
         alloc,
         config,
-        run,
-        entry,
-        stage,
-        call_in(entry, call),
-        runs,
-        state,
+        coming.entry,
+        coming.stage,
+        coming.call,
+        &state.settings,
+        None,
     )?;
+    let changing = Coming {
+        call: call_in(coming),
+        ..*coming
+    };
+    adapter_state::advance(alloc, config, run, &changing, state)?;
     Ok(decision)
 }
 
@@ -133,20 +145,17 @@ fn decide(
     alloc: Global,
     config: &Config,
     run: u32,
-    entry: &Entry,
-    stage: Stage,
-    call: Option<&Call>,
-    runs: Option<Sid>,
+    coming: &Coming<'_>,
     state: &mut State,
 ) -> Result<Decision, WantMemory>
-    requires { (limit : ℕ) × (opened : Stored) × (past : List EntryOf) × (places : List ℕ) × turning.IsAsked config.now run limit opened past entry.now stage places (option_copied call) runs state.old }
-    ensures ok { (limit : ℕ) (opened : Stored) (past : List EntryOf) (places : List ℕ) → turning.IsAsked config.now run limit opened past entry.now stage places (option_copied call.entry) runs state.old → OnOk result (IsState config.now run opened (entry.now ∷ past) state.new) }
-    ensures decides { (limit : ℕ) (opened : Stored) (past : List EntryOf) (places : List ℕ) → turning.IsAsked config.now run limit opened past entry.now stage places (option_copied call.entry) runs state.old → IfOk result (λ it. Decides config.now run opened past entry.now it.target it.reply) }
+    requires { (limit : ℕ) × (opened : Stored) × (past : List EntryOf) × IsAsked config.now run limit opened past coming.now state.old }
+    ensures ok { (limit : ℕ) (opened : Stored) (past : List EntryOf) → IsAsked config.now run limit opened past coming.now state.old → OnOk result (IsState config.now run opened (coming.now.entry.now ∷ past) state.new) }
+    ensures decides { (limit : ℕ) (opened : Stored) (past : List EntryOf) → IsAsked config.now run limit opened past coming.now state.old → IfOk result (λ it. Decides config.now run opened past coming.now.entry.now it.target it.reply) }
     ensures err { (opened : Stored) (past : List EntryOf) → IsState config.now run opened past state.old → OnErr result (IsState config.now run opened past state.new) }
 {
-    match entry {
-        Entry::Run { .. } => ran(alloc, config, run, entry, stage, call, runs, state),
-        _ => told(alloc, config, run, entry, stage, call, runs, state),
+    match coming.entry {
+        Entry::Run { .. } => ran(alloc, config, run, coming, state),
+        _ => told(alloc, config, run, coming, state),
     }
 }
 
@@ -155,23 +164,18 @@ pub fn bring(
     alloc: Global,
     config: &Config,
     run: u32,
-    entries: &[Entry],
-    known: &Calls,
-    entry: &Entry,
-    stage: Stage,
+    coming: &Coming<'_>,
     state: &mut State,
 ) -> Result<Brought, WantMemory>
-    requires { (limit : ℕ) × (opened : Stored) × IsTaken config.now run limit opened (reverse entries.now) entry.now stage known.now.places.items state.old }
-    ensures ok { (limit : ℕ) (opened : Stored) → IsTaken config.now run limit opened (reverse entries.now) entry.now stage known.now.places.items state.old → OnOk result (IsState config.now run opened (entry.now ∷ reverse entries.now) state.new) }
-    ensures brought { (limit : ℕ) (opened : Stored) → IsTaken config.now run limit opened (reverse entries.now) entry.now stage known.now.places.items state.old → IfOk result (λ b. IsBrought config.now run opened (reverse entries.now) entry.now b) }
-    ensures err { (opened : Stored) → IsState config.now run opened (reverse entries.now) state.old → OnErr result (IsState config.now run opened (reverse entries.now) state.new) }
+    requires { (limit : ℕ) × (opened : Stored) × (past : List EntryOf) × IsAsked config.now run limit opened past coming.now state.old }
+    ensures ok { (limit : ℕ) (opened : Stored) (past : List EntryOf) → IsAsked config.now run limit opened past coming.now state.old → OnOk result (IsState config.now run opened (coming.now.entry.now ∷ past) state.new) }
+    ensures brought { (limit : ℕ) (opened : Stored) (past : List EntryOf) → IsAsked config.now run limit opened past coming.now state.old → IfOk result (λ b. IsBrought config.now run opened past coming.now.entry.now b) }
+    ensures err { (opened : Stored) (past : List EntryOf) → IsState config.now run opened past state.old → OnErr result (IsState config.now run opened past state.new) }
 {
-    let call = call_at(entries, known, entry, stage);
-    let admits = call_admitted(entry, call);
-    let wait = wait_by(config, &state.standing, entry, admits)?;
-    let ordered = ordered_by(config, entry, admits)?;
-    let runs = servant_in(config, &state.standing, entries, stage)?;
-    let decision = decide(alloc, config, run, entry, stage, call, runs, state)?;
+    let admits = call_admitted(coming);
+    let wait = wait_by(config, &state.standing, coming.entry, admits)?;
+    let ordered = ordered_by(config, coming.entry, admits)?;
+    let decision = decide(alloc, config, run, coming, state)?;
     Ok(Brought {
         decision,
         wait,

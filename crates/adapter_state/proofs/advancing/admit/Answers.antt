@@ -1,11 +1,11 @@
-use Rattle.std.proofs.Common.{◌≡◌, ◌∙◌, sym, ap}
+use Rattle.std.proofs.Common.{◌∙◌, sym, ap}
 use Rattle.adapter_settings.specs.Told.{may_grow}
 use Rattle.adapter_state.proofs.Stated.{ok_then, quiet_state, admits_quietly, done_is, admitted_is, growing_stays}
 use Rattle.adapter_state.proofs.advancing.admit.Goals as goal
 
 pub returns-then-grows-clause-ok : goal.returns-then-grows-clause-ok
-returns-then-grows-clause-ok c = λ limit opened past runs next.
-    let e = c.args.entry.now in
+returns-then-grows-clause-ok c = λ limit opened past next.
+    let e = c.args.coming.now.entry.now in
     let done = c.done-command.ensures ∙ done_is past e _ c.requires.0 c.requires.1 c.args.verdict.now c.requires.2 next.call_is in
     ok_then c.apply.result
     (quiet_state c.args.config.now c.args.run limit opened past e c.args.state.now c.args.state.now.standing c.apply.new.settings next.follows (admits_quietly e c.requires.0 c.requires.1 c.args.verdict.now c.requires.2) next.state.held
@@ -13,8 +13,8 @@ returns-then-grows-clause-ok c = λ limit opened past runs next.
     (c.apply.ensures.ok past e next.state.set done)
 
 pub returns-clause-ok : goal.returns-clause-ok
-returns-clause-ok c = λ limit opened past runs next.
-    let e = c.args.entry.now in
+returns-clause-ok c = λ limit opened past next.
+    let e = c.args.coming.now.entry.now in
     let done = c.done-command.ensures ∙ done_is past e _ c.requires.0 c.requires.1 c.args.verdict.now c.requires.2 next.call_is in
     ok_then c.apply-2.result
     (quiet_state c.args.config.now c.args.run limit opened past e c.args.state.now c.advance.new.standing c.apply-2.new.settings next.follows (admits_quietly e c.requires.0 c.requires.1 c.args.verdict.now c.requires.2) next.state.held

@@ -1,37 +1,33 @@
-use Rattle.std.proofs.Common.{◌≡◌, ◌∷◌, true, List, reverse, sym, subst}
-use Rattle.poa_base.specs.declared.Entry.{Entry}
-use Rattle.poa_core.specs.declared.inside.Inside.{Inside}
 use Rattle.poa_core.specs.Agrees.{history, opened_in}
-use Rattle.poa_core.specs.Turning.{IsTaken, IsBrought}
-use Rattle.adapter_state.specs.State.{IsState}
-use Rattle.poa_core.proofs.Keeping.{runs_still, begun_still, left_still, turn_kept}
+use Rattle.poa_core.proofs.Keeping.{asked_then, runs_still, begun_still, left_still, turn_kept}
 use Rattle.poa_core.proofs.taking.take.Goals as goal
+
+pub bring-requires : goal.bring-requires
+bring-requires c =
+    let mid = c.make_room.new.inside in
+    let room = c.in_ok-make_room.ensures in (
+      mid.limit,
+      opened_in mid,
+      history mid,
+      asked_then c.args.inside.now mid _ _ _ c.deref.ensures.value c.deref-2.ensures.value room.ready.agrees c.make_room.ensures.life c.requires.follows c.requires.turn c.requires.begun c.call_at-call.ensures (c.in_ok-runs.ensures mid.run),
+    )
 
 pub note-requires-clause-halfway : goal.note-requires-clause-halfway
 note-requires-clause-halfway c =
     let old = c.args.inside.now in
     let mid = c.make_room.new.inside in
     let entry = c.args.entry in
-    let stage = c.args.stage in
-    let ready = c.in_ok-make_room.ensures.ready in
-    let follows = runs_still entry old mid c.make_room.ensures.life c.requires.follows in
-    let begun_is = begun_still entry stage old mid c.make_room.ensures.life c.requires.begun in
-    let taken : IsTaken mid.config mid.run mid.limit (opened_in mid) (history mid) entry stage mid.tables.calls.places.items mid.state =
-    record { follows = follows; turn = c.requires.turn; begun_is = begun_is; called = ready.agrees.tables.calls; state = ready.agrees.state } in
+    let agrees = c.in_ok-make_room.ensures.ready.agrees in
     record {
-      follows = follows;
-      begun_is = begun_is;
-      state =
-          subst (λ (es : List Entry). IsTaken mid.config mid.run mid.limit (opened_in mid) (reverse es) entry stage mid.tables.calls.places.items mid.state
-          → IsState mid.config mid.run (opened_in mid) (entry ∷ reverse es) c.bring.new.state)
-          c.deref.ensures.value (c.in_ok-brought.ensures.ok mid.limit (opened_in mid)) taken;
-      brought =
-          subst (λ (es : List Entry). IsTaken mid.config mid.run mid.limit (opened_in mid) (reverse es) entry stage mid.tables.calls.places.items mid.state
-          → IsBrought mid.config mid.run (opened_in mid) (reverse es) entry c.in_ok-brought.brought)
-          c.deref.ensures.value (c.in_ok-brought.ensures.brought mid.limit (opened_in mid)) taken;
-      tables = ready.agrees.tables;
-      owed = ready.agrees.owed;
-      left = left_still entry mid c.requires.turn ready.agrees.filed;
+      follows = runs_still entry old mid c.make_room.ensures.life c.requires.follows;
+      begun_is = begun_still entry c.args.stage old mid c.make_room.ensures.life c.requires.begun;
+      state = c.in_ok-brought.ensures.ok mid.limit (opened_in mid) (history mid)
+          (asked_then old mid _ _ _ c.deref.ensures.value c.deref-2.ensures.value agrees c.make_room.ensures.life c.requires.follows c.requires.turn c.requires.begun c.call_at-call.ensures (c.in_ok-runs.ensures mid.run));
+      brought = c.in_ok-brought.ensures.brought mid.limit (opened_in mid) (history mid)
+          (asked_then old mid _ _ _ c.deref.ensures.value c.deref-2.ensures.value agrees c.make_room.ensures.life c.requires.follows c.requires.turn c.requires.begun c.call_at-call.ensures (c.in_ok-runs.ensures mid.run));
+      tables = agrees.tables;
+      owed = agrees.owed;
+      left = left_still entry mid c.requires.turn agrees.filed;
     }
 
 pub returns-clause-kept : goal.returns-clause-kept
