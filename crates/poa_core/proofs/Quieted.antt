@@ -1,5 +1,6 @@
 -- An entry of a connection changes nothing that stands, and decides nothing by itself.
-use Rattle.std.proofs.Common.{◌≡◌, ℕ, true, false, List, ◌∷◌, Option, Some, None, refl, sym, ◌∙◌}
+use Rattle.std.proofs.Common.{◌≡◌, ℕ, true, false, List, ◌∷◌, None, refl, sym, ◌∙◌}
+use Rattle.poa_base.specs.declared.Call.{Call}
 use Rattle.poa_base.specs.declared.Config.{Config}
 use Rattle.poa_base.specs.declared.Reply.TheVariants.{Addressing}
 use Rattle.poa_base.specs.declared.Entry.{Entry}
@@ -20,116 +21,48 @@ use Rattle.call_tables.specs.Waits.{ordered_by}
 use Rattle.adapter_state.specs.declared.state.State.{State}
 use Rattle.adapter_state.specs.State.{IsState}
 use Rattle.poa_core.specs.declared.inside.Inside.{Inside}
-use Rattle.poa_core.specs.declared.turning.Brought.{Brought}
 use Rattle.poa_core.specs.Agrees.{opened_in}
-use Rattle.poa_core.specs.Turning.{IsBrought}
 use Rattle.poa_core.specs.Noting.{IsHalfway}
 use Rattle.poa_core.specs.Kept.{IsQuiet, is_conn}
 
+-- what is so of each entry of a connection
+by_conn : (P : Entry → Type 0) → ((conn : ℕ) → P (Entered conn)) → ((conn size : ℕ) (call : Call) → P (Arrive conn size call)) → ((conn size : ℕ) → P (Filled conn size)) → ((conn : ℕ) → P (Left conn)) → ((conn r : ℕ) → P (Collect conn r))
+    → (e : Entry) → is_conn e ≡ true → P e
+by_conn P entered arrive filled left collect (Entered conn) is = entered conn
+by_conn P entered arrive filled left collect (Arrive conn size call) is = arrive conn size call
+by_conn P entered arrive filled left collect (Filled conn size) is = filled conn size
+by_conn P entered arrive filled left collect (Left conn) is = left conn
+by_conn P entered arrive filled left collect (Collect conn r) is = collect conn r
+by_conn P entered arrive filled left collect (Admit w r v) is = absurd (let e : false ≡ true = is in cc)
+by_conn P entered arrive filled left collect (Tried w a) is = absurd (let e : false ≡ true = is in cc)
+by_conn P entered arrive filled left collect (Incarnated w a) is = absurd (let e : false ≡ true = is in cc)
+by_conn P entered arrive filled left collect (Run w) is = absurd (let e : false ≡ true = is in cc)
+by_conn P entered arrive filled left collect (Done w) is = absurd (let e : false ≡ true = is in cc)
+by_conn P entered arrive filled left collect (TakeOut w n x) is = absurd (let e : false ≡ true = is in cc)
+by_conn P entered arrive filled left collect (Etherealized w x y) is = absurd (let e : false ≡ true = is in cc)
+by_conn P entered arrive filled left collect (Abandon w) is = absurd (let e : false ≡ true = is in cc)
+
 begins_free : (h : List Entry) (e : Entry) → is_conn e ≡ true → Free ≡ stage_at h e
-begins_free h (Entered conn) is = refl
-begins_free h (Arrive conn size call) is = refl
-begins_free h (Filled conn size) is = refl
-begins_free h (Left conn) is = refl
-begins_free h (Collect conn a) is = refl
-begins_free h (Admit w r v) is = absurd (let e : false ≡ true = is in cc)
-begins_free h (Tried w a) is = absurd (let e : false ≡ true = is in cc)
-begins_free h (Incarnated w a) is = absurd (let e : false ≡ true = is in cc)
-begins_free h (Run w) is = absurd (let e : false ≡ true = is in cc)
-begins_free h (Done w) is = absurd (let e : false ≡ true = is in cc)
-begins_free h (TakeOut w n x) is = absurd (let e : false ≡ true = is in cc)
-begins_free h (Etherealized w x y) is = absurd (let e : false ≡ true = is in cc)
-begins_free h (Abandon w) is = absurd (let e : false ≡ true = is in cc)
+begins_free h = by_conn (λ e. Free ≡ stage_at h e) (λ _. refl) (λ _ _ _. refl) (λ _ _. refl) (λ _. refl) (λ _ _. refl)
 
 nothing_by : (e : Entry) → is_conn e ≡ true → changes_nothing e ≡ true
-nothing_by (Entered conn) is = refl
-nothing_by (Arrive conn size call) is = refl
-nothing_by (Filled conn size) is = refl
-nothing_by (Left conn) is = refl
-nothing_by (Collect conn a) is = refl
-nothing_by (Admit w r v) is = absurd (let e : false ≡ true = is in cc)
-nothing_by (Tried w a) is = absurd (let e : false ≡ true = is in cc)
-nothing_by (Incarnated w a) is = absurd (let e : false ≡ true = is in cc)
-nothing_by (Run w) is = absurd (let e : false ≡ true = is in cc)
-nothing_by (Done w) is = absurd (let e : false ≡ true = is in cc)
-nothing_by (TakeOut w n x) is = absurd (let e : false ≡ true = is in cc)
-nothing_by (Etherealized w x y) is = absurd (let e : false ≡ true = is in cc)
-nothing_by (Abandon w) is = absurd (let e : false ≡ true = is in cc)
+nothing_by = by_conn (λ e. changes_nothing e ≡ true) (λ _. refl) (λ _ _ _. refl) (λ _ _. refl) (λ _. refl) (λ _ _. refl)
 
 quiet_by : (e : Entry) → is_conn e ≡ true → is_quiet e ≡ true
-quiet_by (Entered conn) is = refl
-quiet_by (Arrive conn size call) is = refl
-quiet_by (Filled conn size) is = refl
-quiet_by (Left conn) is = refl
-quiet_by (Collect conn a) is = refl
-quiet_by (Admit w r v) is = absurd (let e : false ≡ true = is in cc)
-quiet_by (Tried w a) is = absurd (let e : false ≡ true = is in cc)
-quiet_by (Incarnated w a) is = absurd (let e : false ≡ true = is in cc)
-quiet_by (Run w) is = absurd (let e : false ≡ true = is in cc)
-quiet_by (Done w) is = absurd (let e : false ≡ true = is in cc)
-quiet_by (TakeOut w n x) is = absurd (let e : false ≡ true = is in cc)
-quiet_by (Etherealized w x y) is = absurd (let e : false ≡ true = is in cc)
-quiet_by (Abandon w) is = absurd (let e : false ≡ true = is in cc)
+quiet_by = by_conn (λ e. is_quiet e ≡ true) (λ _. refl) (λ _ _ _. refl) (λ _ _. refl) (λ _. refl) (λ _ _. refl)
 
 same_set : (c : Config) (h : List Entry) (e : Entry) (s : Settings) → is_conn e ≡ true → Tells c h s → Tells c (e ∷ h) s
-same_set c h (Entered conn) s is t = record { managed = t.managed; states = t.states; presets = t.presets; endpoints = t.endpoints }
-same_set c h (Arrive conn size call) s is t = record { managed = t.managed; states = t.states; presets = t.presets; endpoints = t.endpoints }
-same_set c h (Filled conn size) s is t = record { managed = t.managed; states = t.states; presets = t.presets; endpoints = t.endpoints }
-same_set c h (Left conn) s is t = record { managed = t.managed; states = t.states; presets = t.presets; endpoints = t.endpoints }
-same_set c h (Collect conn a) s is t = record { managed = t.managed; states = t.states; presets = t.presets; endpoints = t.endpoints }
-same_set c h (Admit w r v) s is t = absurd (let e : false ≡ true = is in cc)
-same_set c h (Tried w a) s is t = absurd (let e : false ≡ true = is in cc)
-same_set c h (Incarnated w a) s is t = absurd (let e : false ≡ true = is in cc)
-same_set c h (Run w) s is t = absurd (let e : false ≡ true = is in cc)
-same_set c h (Done w) s is t = absurd (let e : false ≡ true = is in cc)
-same_set c h (TakeOut w n x) s is t = absurd (let e : false ≡ true = is in cc)
-same_set c h (Etherealized w x y) s is t = absurd (let e : false ≡ true = is in cc)
-same_set c h (Abandon w) s is t = absurd (let e : false ≡ true = is in cc)
+same_set c h e s is t = by_conn (λ x. Tells c (x ∷ h) s) (λ _. record { managed = t.managed; states = t.states; presets = t.presets; endpoints = t.endpoints }) (λ _ _ _. record { managed = t.managed; states = t.states; presets = t.presets; endpoints = t.endpoints }) (λ _ _. record { managed = t.managed; states = t.states; presets = t.presets; endpoints = t.endpoints }) (λ _. record { managed = t.managed; states = t.states; presets = t.presets; endpoints = t.endpoints }) (λ _ _. record { managed = t.managed; states = t.states; presets = t.presets; endpoints = t.endpoints }) e is
 
 decides_none : (c : Config) (run : ℕ) (opened : Stored) (h : List Entry) (e : Entry) → is_conn e ≡ true → Decides c run opened h e None Addressing
-decides_none c run opened h (Entered conn) is = record { target_is = λ r _. refl; reply_is = λ r _ _ _. refl }
-decides_none c run opened h (Arrive conn size call) is = record { target_is = λ r _. refl; reply_is = λ r _ _ _. refl }
-decides_none c run opened h (Filled conn size) is = record { target_is = λ r _. refl; reply_is = λ r _ _ _. refl }
-decides_none c run opened h (Left conn) is = record { target_is = λ r _. refl; reply_is = λ r _ _ _. refl }
-decides_none c run opened h (Collect conn a) is = record { target_is = λ r _. refl; reply_is = λ r _ _ _. refl }
-decides_none c run opened h (Admit w r v) is = absurd (let e : false ≡ true = is in cc)
-decides_none c run opened h (Tried w a) is = absurd (let e : false ≡ true = is in cc)
-decides_none c run opened h (Incarnated w a) is = absurd (let e : false ≡ true = is in cc)
-decides_none c run opened h (Run w) is = absurd (let e : false ≡ true = is in cc)
-decides_none c run opened h (Done w) is = absurd (let e : false ≡ true = is in cc)
-decides_none c run opened h (TakeOut w n x) is = absurd (let e : false ≡ true = is in cc)
-decides_none c run opened h (Etherealized w x y) is = absurd (let e : false ≡ true = is in cc)
-decides_none c run opened h (Abandon w) is = absurd (let e : false ≡ true = is in cc)
+decides_none c run opened h =
+    by_conn (λ e. Decides c run opened h e None Addressing) (λ _. record { target_is = λ r _. refl; reply_is = λ r _ _ _. refl }) (λ _ _ _. record { target_is = λ r _. refl; reply_is = λ r _ _ _. refl }) (λ _ _. record { target_is = λ r _. refl; reply_is = λ r _ _ _. refl }) (λ _. record { target_is = λ r _. refl; reply_is = λ r _ _ _. refl }) (λ _ _. record { target_is = λ r _. refl; reply_is = λ r _ _ _. refl })
 
 waits_none : (c : Config) (run : ℕ) (h : List Entry) (e : Entry) → is_conn e ≡ true → WaitIs c run h e None
-waits_none c run h (Entered conn) is = tt
-waits_none c run h (Arrive conn size call) is = tt
-waits_none c run h (Filled conn size) is = tt
-waits_none c run h (Left conn) is = tt
-waits_none c run h (Collect conn a) is = tt
-waits_none c run h (Admit w r v) is = absurd (let e : false ≡ true = is in cc)
-waits_none c run h (Tried w a) is = absurd (let e : false ≡ true = is in cc)
-waits_none c run h (Incarnated w a) is = absurd (let e : false ≡ true = is in cc)
-waits_none c run h (Run w) is = absurd (let e : false ≡ true = is in cc)
-waits_none c run h (Done w) is = absurd (let e : false ≡ true = is in cc)
-waits_none c run h (TakeOut w n x) is = absurd (let e : false ≡ true = is in cc)
-waits_none c run h (Etherealized w x y) is = absurd (let e : false ≡ true = is in cc)
-waits_none c run h (Abandon w) is = absurd (let e : false ≡ true = is in cc)
+waits_none c run h = by_conn (λ e. WaitIs c run h e None) (λ _. tt) (λ _ _ _. tt) (λ _ _. tt) (λ _. tt) (λ _ _. tt)
 
 orders_none : (c : Config) (h : List Entry) (e : Entry) → is_conn e ≡ true → None ≡ ordered_by c h e
-orders_none c h (Entered conn) is = refl
-orders_none c h (Arrive conn size call) is = refl
-orders_none c h (Filled conn size) is = refl
-orders_none c h (Left conn) is = refl
-orders_none c h (Collect conn a) is = refl
-orders_none c h (Admit w r v) is = absurd (let e : false ≡ true = is in cc)
-orders_none c h (Tried w a) is = absurd (let e : false ≡ true = is in cc)
-orders_none c h (Incarnated w a) is = absurd (let e : false ≡ true = is in cc)
-orders_none c h (Run w) is = absurd (let e : false ≡ true = is in cc)
-orders_none c h (Done w) is = absurd (let e : false ≡ true = is in cc)
-orders_none c h (TakeOut w n x) is = absurd (let e : false ≡ true = is in cc)
-orders_none c h (Etherealized w x y) is = absurd (let e : false ≡ true = is in cc)
-orders_none c h (Abandon w) is = absurd (let e : false ≡ true = is in cc)
+orders_none c h = by_conn (λ e. None ≡ ordered_by c h e) (λ _. refl) (λ _ _ _. refl) (λ _ _. refl) (λ _. refl) (λ _ _. refl)
 
 pub quiet_state : (c : Config) (run limit : ℕ) (opened : Stored) (h : List Entry) (e : Entry) (s : State) → IsRun c run limit (e ∷ h) → is_conn e ≡ true → IsState c run opened h s → IsState c run opened (e ∷ h) s
 quiet_state c run limit opened h e s follows conn state =
