@@ -1,15 +1,12 @@
 -- A run that hasn't begun is kept.
-use Rattle.std.proofs.Common.{◌≡◌, ℕ, ◌+◌, ◌^◌, ◌<◌, ◌≤◌, List, [], ◌∷◌, length, reverse, refl, sym, ap, ap₂, subst, ◌∙◌, vec_len, vec_capacity, arith}
-use Rattle.poa_base.specs.declared.Entry.{Entry}
+use Rattle.std.proofs.Common.{◌≡◌, ℕ, ◌+◌, ◌^◌, ◌<◌, ◌≤◌, [], length, reverse, refl, sym, ap, subst, vec_len, vec_capacity, arith}
 use Rattle.conf_rules.specs.Rules.{KeepsRules}
-use Rattle.call_tables.specs.declared.filed.Filed.{Filed}
-use Rattle.call_tables.specs.declared.owing.Owing.{Owing}
 use Rattle.call_tables.specs.Owed.{AreOwed}
 use Rattle.call_tables.specs.Decided.{AreFiled}
 use Rattle.call_tables.specs.Desk.{HasRoom}
 use Rattle.adapter_state.specs.State.{IsState}
 use Rattle.poa_core.specs.declared.inside.Inside.{Inside}
-use Rattle.poa_core.specs.Agrees.{Agrees, KnowsTables, history, opened_in}
+use Rattle.poa_core.specs.Agrees.{Agrees, KnowsTables, opened_in}
 use Rattle.poa_core.specs.Kept.{IsKept, stay}
 use Rattle.poa_core.proofs.Space.{stay_is}
 

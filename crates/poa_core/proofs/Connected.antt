@@ -1,6 +1,5 @@
 -- A connection enters, or leaves.
-use Rattle.std.proofs.Common.{◌≡◌, ℕ, ◌+◌, ◌<◌, ◌≤◌, true, false, ◌∷◌, refl, length, vec_len, vec_capacity, arith}
-use Rattle.poa_base.specs.declared.Entry.{Entry}
+use Rattle.std.proofs.Common.{◌≡◌, ℕ, ◌+◌, ◌<◌, ◌≤◌, true, false, refl, length, vec_len, vec_capacity, arith}
 use Rattle.poa_base.specs.declared.Entry.TheVariants.{Entered, Left}
 use Rattle.poa_history.specs.Arrivals.{connections}
 use Rattle.poa_history.specs.Legal.{IsOpen}

@@ -1,5 +1,5 @@
 -- A call isn't taken, and fills the run.
-use Rattle.std.proofs.Common.{◌≡◌, ℕ, ◌+◌, ◌^◌, ◌<◌, ◌≤◌, Bool, true, false, not, ◌&&◌, nat_lt, nat_le, List, ◌∷◌, Some, None, Option, option_map, is_none, ◌⊎◌, inl, inr, if◌then◌else◌, refl, sym, ap, ap₂, ◌∙◌, length, vec_len, vec_capacity, arith}
+use Rattle.std.proofs.Common.{◌≡◌, ℕ, ◌+◌, ◌^◌, ◌<◌, ◌≤◌, Bool, true, false, not, ◌&&◌, nat_lt, nat_le, List, Some, None, option_map, is_none, ◌⊎◌, inl, inr, if◌then◌else◌, refl, sym, ap, ap₂, ◌∙◌, length, vec_len, vec_capacity}
 use Rattle.std.proofs.lemmas.Bool.{ltb-false, leb-false}
 use Rattle.poa_base.specs.declared.Entry.{Entry}
 use Rattle.poa_base.specs.declared.Entry.TheVariants.{Filled}
@@ -15,7 +15,7 @@ use Rattle.poa_core.specs.Life.{Life, with_entry}
 use Rattle.poa_core.specs.Answers.{filled_by}
 use Rattle.poa_core.specs.Agrees.{history}
 use Rattle.poa_core.specs.Noting.{HasRoomForEntry, IsNoted}
-use Rattle.poa_core.specs.Kept.{IsKept, IsQuiet, stay, life}
+use Rattle.poa_core.specs.Kept.{IsKept, IsQuiet, stay}
 use Rattle.poa_core.proofs.Space.{stay_filled, stay_unfilled}
 use Rattle.poa_core.proofs.Connected.{some_room, less_one}
 use Rattle.poa_core.proofs.Keeping.{kept_then}

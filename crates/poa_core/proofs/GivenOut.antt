@@ -1,6 +1,5 @@
 -- A connection is given its next reply.
-use Rattle.std.proofs.Common.{◌≡◌, ℕ, ◌+◌, ◌<◌, ◌≤◌, ◌==◌, true, false, List, ◌∷◌, length, map, find, Some, None, Option, option_map, refl, sym, ap, subst, ◌∙◌, vec_len, vec_capacity, arith}
-use Rattle.poa_base.specs.declared.Entry.{Entry}
+use Rattle.std.proofs.Common.{◌≡◌, ℕ, ◌+◌, ◌<◌, ◌≤◌, ◌==◌, true, false, List, length, map, find, Some, None, option_map, refl, sym, ap, subst, ◌∙◌, vec_len, vec_capacity, arith}
 use Rattle.poa_base.specs.declared.Entry.TheVariants.{Collect}
 use Rattle.poa_history.specs.Replies.{next_reply, owed}
 use Rattle.poa_tree.specs.Trees.{In}
@@ -13,7 +12,7 @@ use Rattle.call_tables.specs.Desk.{HasRoom, without_first}
 use Rattle.call_tables.proofs.Given.{next_is}
 use Rattle.call_tables.proofs.Removed.{left_which, left_in}
 use Rattle.poa_core.specs.declared.inside.Inside.{Inside}
-use Rattle.poa_core.specs.Agrees.{Agrees, history, opened_in}
+use Rattle.poa_core.specs.Agrees.{history, opened_in}
 use Rattle.poa_core.specs.Noting.{HasRoomForEntry, IsNoted}
 use Rattle.poa_core.specs.Kept.{IsKept, HasSpace, IsQuiet, stay}
 use Rattle.poa_core.proofs.Space.{stay_after}

@@ -1,5 +1,5 @@
 -- The first element that passes is taken out of a list.
-use Rattle.std.proofs.Common.{◌≡◌, ℕ, ◌+◌, suc, Bool, true, false, not, List, [], ◌∷◌, ◌++◌, find, take, drop, cond, length, Option, Some, None, refl, ap, subst, arith}
+use Rattle.std.proofs.Common.{◌≡◌, ℕ, ◌+◌, suc, Bool, true, false, not, List, [], ◌∷◌, ◌++◌, find, take, drop, cond, length, Some, None, refl, ap, subst, arith}
 use Rattle.std.specs.List.{position_or_len}
 
 abbrev pub without : {A : Type 0} (p : A → Bool) → List A → List A

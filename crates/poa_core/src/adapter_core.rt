@@ -1,5 +1,5 @@
 //! The core of the adapter.
-ghost use Rattle.std.specs.Prelude.{◌≡◌, ℕ, ◌≤◌, ◌<◌, List, find, option_map, reverse, IfOk};
+ghost use Rattle.std.specs.Prelude.{◌≡◌, ℕ, ◌≤◌, ◌<◌, List, option_map, reverse, IfOk};
 ghost use Rattle.poa_base.specs.Store.{stored as stored_in};
 ghost use Rattle.conf_rules.specs.Rules.{KeepsRules};
 ghost use Rattle.poa_history.specs.Arrivals.{connections};

@@ -25,5 +25,4 @@ pub use adapter_core::Core;
 pub use arrive_fault::ArriveFault;
 pub use collected::Collected;
 pub use enter_fault::EnterFault;
-pub use inside::Inside;
 pub use step_out::StepOut;

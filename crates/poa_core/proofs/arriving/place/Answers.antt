@@ -1,8 +1,4 @@
-use Rattle.std.proofs.Common.{◌≡◌, Bool, true, false, Some, None, Option, if◌then◌else◌, refl, sym, ◌∙◌}
-use Rattle.poa_base.specs.declared.Call.{Call}
-use Rattle.poa_history.specs.Replies.{asks}
-use Rattle.call_tables.specs.declared.owing.Owing.{Owing}
-use Rattle.poa_core.specs.Arriving.{row_of}
+use Rattle.std.proofs.Common.{Some, sym, ◌∙◌}
 use Rattle.poa_core.proofs.ArrivedThen.{arrived_quiet, kept_asked, kept_unasked, has_row, has_none}
 use Rattle.poa_core.proofs.arriving.place.Goals as goal
 

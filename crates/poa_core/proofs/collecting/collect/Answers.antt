@@ -1,4 +1,4 @@
-use Rattle.std.proofs.Common.{◌≡◌, refl, sym, ◌∙◌}
+use Rattle.std.proofs.Common.{refl, sym, ◌∙◌}
 use Rattle.call_tables.proofs.Given.{owed_is}
 use Rattle.poa_core.specs.Agrees.{history}
 use Rattle.poa_core.proofs.GivenOut.{IsGiven, kept_without, none_next, collect_quiet, kept_with, filed_here, next_here, collect_room, owed_still}

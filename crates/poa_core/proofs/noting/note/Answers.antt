@@ -1,5 +1,4 @@
-use Rattle.std.proofs.Common.{◌≡◌, ◌∷◌, ◌∙◌, [], List, reverse, ap, subst}
-use Rattle.std.proofs.lemmas.List.{reverse-append}
+use Rattle.std.proofs.Common.{◌≡◌, ◌∷◌, List, reverse, subst}
 use Rattle.poa_base.specs.declared.Entry.{Entry}
 use Rattle.poa_opening.specs.Runs.{IsRun}
 use Rattle.standing_of.specs.Entries.{stage_at}

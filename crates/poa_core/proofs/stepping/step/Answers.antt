@@ -1,5 +1,4 @@
-use Rattle.std.proofs.Common.{◌≡◌, Some, Option, sym, ap, ◌∙◌}
-use Rattle.poa_base.specs.declared.Entry.{Entry}
+use Rattle.std.proofs.Common.{Some, sym, ◌∙◌}
 use Rattle.poa_history.specs.Stages.{is_abandoned}
 use Rattle.poa_history.specs.Turns.{turn}
 use Rattle.poa_core.specs.Agrees.{history}

@@ -1,4 +1,4 @@
-use Rattle.std.proofs.Common.{◌≡◌, reverse}
+use Rattle.std.proofs.Common.{reverse}
 use Rattle.poa_core.proofs.Turned.{manned_before}
 use Rattle.poa_core.proofs.Tabled.{length_reversed}
 use Rattle.poa_core.proofs.tables.advance.Goals as goal

@@ -1,4 +1,4 @@
-use Rattle.std.proofs.Common.{◌≡◌, subst}
+use Rattle.std.proofs.Common.{subst}
 use Rattle.poa_history.specs.Lifetime.{HasLifetime}
 use Rattle.poa_core.specs.Life.{Life}
 use Rattle.poa_core.specs.Agrees.{history}
