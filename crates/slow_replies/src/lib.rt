@@ -1,12 +1,16 @@
 //! The reply to an arrival, computed plainly and slowly from its definition: the states that servants have
-//! and leave behind, from the oldest entry on, and the reply that the deciding entry fixes. Tests and the
-//! audit of journals compare with it.
+//! and leave behind, from the oldest entry on, and the reply that the deciding entry fixes; with whether an
+//! arrival is decided, the next reply of a connection and how many it is owed. Tests and the audit of journals
+//! compare with them.
 #![tactic(auto)]
 
 mod acting;
+mod deciding;
 mod entries;
 mod kept;
 mod kinds;
+mod next_reply;
+mod owing;
 mod reply;
 mod servant_state;
 mod servants;
@@ -14,4 +18,7 @@ mod stored_state;
 #[cfg(test)]
 mod tests;
 
+pub use deciding::decided;
+pub use next_reply::slow_next_reply;
+pub use owing::slow_owed;
 pub use reply::slow_reply;

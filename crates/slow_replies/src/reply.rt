@@ -6,15 +6,15 @@ ghost use Rattle.poa_history.specs.Stages as begun;
 ghost use Rattle.poa_history.specs.States as states;
 
 use crate::acting::act;
+use crate::deciding::{decided, is_at_work};
 use crate::entries::kept_of;
 use crate::kept::state_in;
 use crate::servants::{call_run, servant_run};
 use adapter_settings::settings_of;
 use call_replies::{good, reply_admitted, reply_incarnated, reply_tried};
 use poa_base::{Attempt, Call, Config, Entry, Reply, Sid, Store, WantMemory};
-use poa_model::decided;
 use standing_queries::calls::call_of;
-use standing_queries::workers::{arrival_in, is_at, stage};
+use standing_queries::workers::stage;
 use std::alloc::Global;
 
 /// The reply that the adapter activator's answer fixes, by what was set until then.
@@ -75,13 +75,6 @@ fn reply_ran(
         servant,
         call_run(past, stage),
     )
-}
-
-/// Whether the arrival is the one that the worker is at.
-fn is_at_work(past: &[Entry], worker: u32, arrival: u64) -> bool
-    ensures { result ≡ begun.is_at arrival (begun.arrival_in (begun.stage (reverse past.now) worker)) }
-{
-    is_at(arrival, arrival_in(stage(past, worker)))
 }
 
 /// The reply that an entry fixes for the arrival that it decides.

@@ -4,8 +4,8 @@ use Rattle.std.specs.Option.{option_or}
 use Rattle.poa_history.specs.Arrivals.{arrivals}
 use Rattle.poa_history.specs.Searches.{least}
 use Rattle.poa_history.specs.Replies as replies
-use Rattle.poa_model.proofs.Next.{next_at}
-use Rattle.poa_model.proofs.replies.or_decided.Goals as goal
+use Rattle.slow_replies.proofs.Next.{next_at}
+use Rattle.slow_replies.proofs.next_reply.or_decided.Goals as goal
 
 pub returns-in-Some : goal.returns-in-Some
 returns-in-Some c =
