@@ -1,20 +1,16 @@
 //! A fresh servant is brought.
-ghost use Rattle.std.specs.Prelude.{◌≡◌, ◌==◌, true, IfOk, OnOk, OnErr, find, option_copied};
-ghost use Rattle.poa_history.specs.Rules as rules;
-ghost use Rattle.poa_history.specs.States as states;
+ghost use Rattle.std.specs.Prelude.{◌≡◌, ◌==◌, true, OnOk, OnErr, find, option_copied};
 ghost use Rattle.poa_history.specs.Turns as turns;
 ghost use Rattle.standing_queries.specs.Seen.{seen};
 ghost use Rattle.servant_states.specs.Kept.{kept_in};
 ghost use Rattle.servant_states.specs.Steps.{Brings, Incarnates, IsUnchanged, is_new};
 
+use crate::kinds::{kind_brought, restored};
 use crate::servants::Servants;
-use poa_base::{
-    Config, Gives, Incarnation, Items, Kind, Oid, RuleConf, State, TryClone, WantMemory,
-};
+use poa_base::{Config, Incarnation, WantMemory};
 use poa_history::Act;
 use servant_kinds::Servant;
 use standing_queries::Standing;
-use standing_queries::templates::rules_at;
 use std::alloc::Global;
 
 /// The activation of a number.
@@ -22,88 +18,6 @@ pub fn act_numbered(acts: &[Act], number: u32) -> Option<&Act>
     ensures { option_copied result ≡ find (λ a. a.number == number) acts.now }
 {
     acts.iter().find(|act| act.number == number)
-}
-
-/// Whether a rule matches an id.
-fn matches(oid: &Oid, rule: &RuleConf) -> bool
-    ensures { result ≡ rules.matches oid.now rule.now }
-{
-    match &rule.oid {
-        Some(wanted) => wanted == oid,
-        None => true,
-    }
-}
-
-/// The first rule that matches.
-fn rule_for<'a>(conf: &'a [RuleConf], oid: &Oid) -> Option<&'a RuleConf>
-    ensures { option_copied result ≡ rules.rule_for conf.now oid.now }
-{
-    conf.iter().find(|rule| matches(oid, rule))
-}
-
-/// The kind of the fresh servant that an activation's rule brings.
-fn kind_brought(config: &Config, act: &Act) -> Kind
-    ensures { result ≡ states.kind_brought config.now act.now }
-{
-    match rule_for(rules_at(config, act.path.as_slice()), &act.oid) {
-        Some(rule) => match rule.gives {
-            Gives::Fresh(kind) => kind,
-            Gives::Servant(_) | Gives::Forward(_) | Gives::Raise(_) => Kind::Fault,
-        },
-        None => Kind::Fault,
-    }
-}
-
-/// The state in which a servant of the kind opens.
-fn opening_state(alloc: Global, kind: Kind) -> State
-    ensures { result ≡ states.opening_state kind }
-{
-    match kind {
-        Kind::Register => State::Register(0),
-        Kind::Log => State::Book(Items::new(alloc)),
-        Kind::Echo => State::Echo,
-        Kind::Fault => State::Fault,
-    }
-}
-
-/// Whether a state is one of the kind.
-fn is_of_kind(kind: Kind, state: &State) -> bool
-    ensures { result ≡ states.is_of_kind kind state.now }
-{
-    match kind {
-        Kind::Register => match state {
-            State::Register(_) => true,
-            State::Book(_) | State::Echo | State::Fault => false,
-        },
-        Kind::Log => match state {
-            State::Book(_) => true,
-            State::Register(_) | State::Echo | State::Fault => false,
-        },
-        Kind::Echo => match state {
-            State::Echo => true,
-            State::Register(_) | State::Book(_) | State::Fault => false,
-        },
-        Kind::Fault => match state {
-            State::Fault => true,
-            State::Register(_) | State::Book(_) | State::Echo => false,
-        },
-    }
-}
-
-/// The stored state where it is of the kind, else the one in which the kind opens.
-fn restored(alloc: Global, kind: Kind, stored: Option<&State>) -> Result<State, WantMemory>
-    ensures { IfOk result (λ state. state ≡ states.restored kind (option_copied stored.entry)) }
-{
-    match stored {
-        Some(state) => {
-            if is_of_kind(kind, state) {
-                state.try_clone()
-            } else {
-                Ok(opening_state(alloc, kind))
-            }
-        }
-        None => Ok(opening_state(alloc, kind)),
-    }
 }
 
 /// Brings a fresh servant of an activation.

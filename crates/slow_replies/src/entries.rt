@@ -8,13 +8,13 @@ ghost use Rattle.standing_queries.specs.Seen.{seen};
 
 use crate::acting::act;
 use crate::kept::{Kept, state_in, stored_in};
-use crate::kinds::{kind_brought, restored};
 use crate::servant_state::ServantState;
 use crate::servants::{call_run, servant_run};
 use crate::stored_state::StoredState;
 use poa_base::{Call, Config, Entry, Incarnation, Sid, State, Store, WantMemory};
 use poa_history::{Act, Phase, Stage};
 use poa_verdicts::act_numbered;
+use servant_states::{kind_brought, restored};
 use standing_of::standing_of;
 use standing_queries::Standing;
 use standing_queries::workers::stage;

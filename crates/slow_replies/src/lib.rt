@@ -8,7 +8,6 @@ mod acting;
 mod deciding;
 mod entries;
 mod kept;
-mod kinds;
 mod next_reply;
 mod owing;
 mod reply;
