@@ -3,7 +3,8 @@ ghost use Rattle.std.specs.Prelude.{◌≡◌, ◌-◌, ◌^◌, reverse, min};
 ghost use Rattle.poa_history.specs.Arrivals as calls;
 ghost use Rattle.poa_history.specs.Legal as legal;
 
-use poa_base::{Call, Command, Entry};
+use poa_base::Entry;
+use run_tally::is_shutdown;
 
 /// Whether the connection has left.
 pub fn has_left(history: &[Entry], conn: u32) -> bool
@@ -31,19 +32,6 @@ pub fn is_filled(history: &[Entry]) -> bool
         }
     }
     filled
-}
-
-/// Whether a call is the administrator's `shutdown`.
-pub fn is_shutdown(call: &Call) -> bool
-    ensures { result ≡ legal.is_shutdown call.now }
-{
-    match call {
-        Call::Line {
-            command: Command::Shutdown,
-            ..
-        } => true,
-        _ => false,
-    }
 }
 
 /// Whether a `shutdown` arrived.

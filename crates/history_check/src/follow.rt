@@ -6,10 +6,11 @@ ghost use Rattle.poa_history.specs.Replies as replies;
 ghost use Rattle.poa_history.specs.Stages as begun;
 ghost use Rattle.history_check.specs.Workers.{is_step};
 
-use crate::arriving::{arrived_bytes, had_shutdown, has_left, is_filled, is_shutdown};
+use crate::arriving::{arrived_bytes, had_shutdown, has_left, is_filled};
 use crate::same::is_that;
 use poa_base::{Call, Config, Entry, Store, WantMemory};
 use poa_model::slow_next;
+use run_tally::is_shutdown;
 use slow_replies::slow_next_reply;
 use standing_queries::calls::{arrivals, connections};
 use standing_queries::workers::is_abandoned;

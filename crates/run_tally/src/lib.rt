@@ -10,6 +10,6 @@ mod tally;
 mod tests;
 
 pub use full::Full;
-pub use moves::advance;
+pub use moves::{advance, is_shutdown};
 pub use queries::{connections, is_open, is_over, is_taken};
 pub use tally::{Tally, none, reserve};
