@@ -30,7 +30,7 @@ start_absent : (limit : ℕ) (pending : Opens) (part : List ℕ) → id_fault li
     → find_open (id_of part) pending ≡ None
 start_absent limit pending part e first o = grind (arith, nat_tests)
 
-fragment_good : (limit : ℕ) (pending : Opens) (part : List ℕ) → id_fault limit pending part ≡ None → continues (header_of part) ≡ true
+pub fragment_good : (limit : ℕ) (pending : Opens) (part : List ℕ) → id_fault limit pending part ≡ None → continues (header_of part) ≡ true
     → fragment_fault limit pending (header_of part) (find_open (id_of part) pending) ≡ None
 fragment_good limit pending part e more = grind (arith, nat_tests)
 

@@ -8,3 +8,4 @@ pub mod Answering
 pub mod Cutting
 pub mod Bounds
 pub mod Streams
+pub mod Sizes

@@ -1,5 +1,6 @@
 -- What a framer still gives.
-use Rattle.std.specs.Prelude.{◌≡◌, ◌↔◌, ℕ, ◌+◌, ◌<◌, List, [], ◌∷◌, ◌++◌, None, MatchOption, length, take, drop}
+use Rattle.std.specs.Prelude.{◌≡◌, ◌↔◌, ℕ, ◌+◌, ◌<◌, ◌≤◌, List, [], ◌∷◌, ◌++◌, None, MatchOption, length, take, drop}
+use Rattle.giop_frame.specs.declared.header.TheConstants.{HEADER}
 use Rattle.giop_frame.specs.declared.next.Next.{Next}
 use Rattle.giop_frame.specs.declared.next.Next.TheVariants as answer
 use Rattle.giop_frame.specs.Stream.{Framed, End, left_over, bad_place, after, completed, StreamFrom, Stream}
@@ -34,6 +35,12 @@ abbrev pub TakesBytes : Framing → Next → Framing → Type 0
 TakesBytes f (answer.Message m) g = length g.unread < length f.unread
 TakesBytes f (answer.NeedMore have) g = Unit {0}
 TakesBytes f (answer.Bad at why) g = Unit {0}
+
+-- a message has no more than so many bytes behind a header
+abbrev pub IsWithin : ℕ → Next → Type 0
+IsWithin limit (answer.Message m) = length m.bytes ≤ HEADER + limit
+IsWithin limit (answer.NeedMore have) = Unit {0}
+IsWithin limit (answer.Bad at why) = Unit {0}
 
 -- a framer that read the part of this length in front, which completed these messages
 pub record TakesPart (f : Framing) (size : ℕ) (messages : List Framed) (g : Framing) : Type 0 where

@@ -3,7 +3,7 @@ ghost use Rattle.std.specs.Prelude.{◌≡◌, ◌+◌, ◌<◌, ◌≤◌, ◌^
 ghost use Rattle.giop_frame.specs.Open.{taken_bytes};
 ghost use Rattle.giop_frame.specs.Rules.{look_at, IsGood};
 ghost use Rattle.giop_frame.specs.Stream.{Framed, End, Stream, after, open_after, completed};
-ghost use Rattle.giop_frame.specs.Framer.{Gives, HasGiven, GiveTheSame, Answers, TakesBytes, JoinsPart, TakesPart, reach};
+ghost use Rattle.giop_frame.specs.Framer.{Gives, HasGiven, GiveTheSame, Answers, TakesBytes, IsWithin, JoinsPart, TakesPart, reach};
 
 use crate::header::{Header, id_of};
 use crate::message::Message;
@@ -54,6 +54,7 @@ impl Framer {
     pub fn new(alloc: Global, limit: u32) -> Self
         ensures stream { HasGiven limit [] [] result }
         ensures nothing_fed { reach result ≡ 0 }
+        ensures limited { result.limit ≡ limit }
     {
         Framer {
             alloc,
@@ -73,6 +74,7 @@ impl Framer {
             → Gives self.new text messages end ↔ Gives self.old (piece.now ++ text) messages end) }
         ensures reached { reach self.new ≤ reach self.old + length piece.now }
         ensures closed { IsSome self.old.closed → self.new ≡ self.old }
+        ensures limited { self.new.limit ≡ self.old.limit }
         ensures refused { OnErr result (self.new ≡ self.old) }
     {
         if self.closed.is_some() {
@@ -87,7 +89,9 @@ impl Framer {
     pub fn next(&mut self) -> Result<Next, WantMemory>
         ensures answer { IfOk result (λ n. Answers self.old n self.new) }
         ensures shorter { IfOk result (λ n. TakesBytes self.old n self.new) }
+        ensures sized { IfOk result (IsWithin self.old.limit) }
         ensures reached { reach self.new ≡ reach self.old }
+        ensures limited { self.new.limit ≡ self.old.limit }
         ensures refused { OnErr result (GiveTheSame self.old self.new) }
     {
         if let Some(why) = self.closed {
@@ -105,7 +109,9 @@ impl Framer {
         requires { self.old.closed ≡ None }
         ensures answer { IfOk result (λ n. MatchOption n (JoinsPart self.old self.new) (λ a. Answers self.old a self.new)) }
         ensures shorter { IfOk result (λ n. MatchOption n ⊤ (λ a. TakesBytes self.old a self.new)) }
+        ensures sized { IfOk result (λ n. MatchOption n ⊤ (IsWithin self.old.limit)) }
         ensures reached { reach self.new ≡ reach self.old }
+        ensures limited { self.new.limit ≡ self.old.limit }
         ensures refused { OnErr result (self.new ≡ self.old) }
     {
         match look_at(self.limit, &self.pending, self.unread.as_slice()) {
