@@ -1,0 +1,21 @@
+//! The commands.
+
+/// What the words of a command line ask for.
+#[derive(Clone, Copy)]
+pub enum Command<'a> {
+    /// To serve messages by the configuration in the file of this name, or by the built-in one.
+    Answer(Option<&'a str>),
+    /// To print the reference that this text is.
+    Show(&'a str),
+    /// To check the configuration in the file of this name.
+    Check(&'a str),
+    /// To print the references of the configuration in the file of this name.
+    Iors(&'a str),
+    /// To play a script.
+    Replay {
+        /// The name of the file with the configuration.
+        config: &'a str,
+        /// The name of the file with the script.
+        script: &'a str,
+    },
+}

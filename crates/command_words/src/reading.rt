@@ -1,0 +1,39 @@
+//! The command that words are.
+ghost use Rattle.std.specs.Prelude.{◌≡◌, IfOk, Err, Some, None, false, map, string_bytes};
+ghost use Rattle.command_words.specs.declared.fault.WordsFault.TheVariants.{BadWords};
+ghost use Rattle.command_words.specs.Words as spec;
+ghost use Rattle.command_words.specs.Words.{arguments_of, command_in, seen};
+
+use crate::command::Command;
+use crate::fault::WordsFault;
+use crate::parsing::{one_argument, required_argument, two_arguments};
+use std::alloc::Global;
+
+/// The command that the words are.
+pub fn command_of<'a>(alloc: Global, words: &'a [String]) -> Result<Command<'a>, WordsFault>
+    ensures ok { IfOk result (λ command. command_in words.now ≡ Some (seen command)) }
+    ensures bad { result ≡ Err BadWords → command_in words.now ≡ None }
+{
+    match words {
+        [] => Err(WordsFault::BadWords),
+        [word, rest @ ..] => named(alloc, word.as_str(), rest),
+    }
+}
+
+// The command of a first word, and of those behind it.
+fn named<'a>(alloc: Global, word: &str, rest: &'a [String]) -> Result<Command<'a>, WordsFault>
+    ensures ok { IfOk result (λ command. spec.named word.now (arguments_of false (map string_bytes rest.now)) ≡ Some (seen command)) }
+    ensures bad { result ≡ Err BadWords → spec.named word.now (arguments_of false (map string_bytes rest.now)) ≡ None }
+{
+    match word {
+        "answer" => Ok(Command::Answer(one_argument(alloc, "answer", false, rest)?)),
+        "show" => Ok(Command::Show(required_argument(alloc, "show", rest)?)),
+        "check" => Ok(Command::Check(required_argument(alloc, "check", rest)?)),
+        "iors" => Ok(Command::Iors(required_argument(alloc, "iors", rest)?)),
+        "replay" => {
+            let (config, script) = two_arguments(alloc, "replay", rest)?;
+            Ok(Command::Replay { config, script })
+        }
+        _ => Err(WordsFault::BadWords),
+    }
+}
