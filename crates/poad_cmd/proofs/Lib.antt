@@ -1,7 +1,9 @@
 pub mod Told
 pub mod Causes
 pub mod Delivered
-pub mod Decisions
 pub mod Serving
 pub mod Pieces
+pub mod Worked
 pub mod Running
+pub mod Files
+pub mod Named

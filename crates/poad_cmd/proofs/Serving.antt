@@ -1,6 +1,6 @@
 -- How a service comes on in a stream, message by message.
 use Rattle.std.proofs.Common.{◌≡◌, ℕ, ◌<◌, List, [], ◌∷◌, ◌++◌, length, Option, Some, None, refl, sym, ap, ◌∙◌, subst, append_assoc, append-nil, inl, inr}
-use Rattle.poa_base.specs.declared.State.{State}
+use Rattle.poa_core.specs.Life.{Life}
 use Rattle.giop_frame.specs.declared.Why.{Why}
 use Rattle.giop_frame.specs.declared.Next.TheVariants as next
 use Rattle.giop_frame.specs.Stream.{Framed, Reading, End, Stream, bad_place}
@@ -10,10 +10,10 @@ use Rattle.giop_frame.proofs.Streams.{SomeStream, some_stream}
 use Rattle.giop_frame.proofs.Cutting.{given_message, stream_fails_here}
 use Rattle.poad_cmd.specs.declared.service.Service.{Service}
 use Rattle.poad_cmd.specs.declared.stop.Stop.{Stop}
-use Rattle.poad_cmd.specs.declared.stop.Stop.TheVariants.{Waits, Closed, Refused, Unbuilt, NoMemory}
-use Rattle.poad_cmd.specs.Serving.{Gives, Serves}
+use Rattle.poad_cmd.specs.declared.stop.Stop.TheVariants.{Waits, Closed, Refused, Unbuilt, Full, NoMemory}
+use Rattle.poad_cmd.specs.Serving.{Gives, IsLegalRun, Serves}
 use Rattle.poad_cmd.specs.Stop.{message_limit, Begins, StopsAt}
-use Rattle.poad_cmd.specs.Service.{HasServed, ServedMore, Keeps, ServesUpTo, ServesOne, StopsHere, Turns, StopsBy, Handles, GivesBytes}
+use Rattle.poad_cmd.specs.Service.{HasServed, ServedMore, Keeps, IsKept, ServesUpTo, ServesOne, StopsHere, Turns, StopsBy, Handles, GivesBytes}
 
 -- what a framer gives for a text
 record SomeGiven (f : Framing) (text : List ℕ) : Type 0 where
@@ -61,34 +61,37 @@ stops_at_place old new at why bad waiting reached = record {
 came : (old mid : Service) (message : Framed) → Answers old.framer (next.Message message) mid.framer → (fed : List ℕ) (given : List Framed) → HasServed fed given old → HasServed fed (given ++ message ∷ []) mid
 came old mid message took fed given h = given_message message_limit fed given message old.framer mid.framer h took
 
-stops_by : (old mid : Service) (message : Framed) → Answers old.framer (next.Message message) mid.framer → (why : Stop) → StopsBy why message → (fed : List ℕ) (given : List Framed) → HasServed fed given old → StopsAt why fed given
+stops_by : (old mid : Service) (message : Framed) → Answers old.framer (next.Message message) mid.framer → (why : Stop) → StopsBy why old.core message → (fed : List ℕ) (given : List Framed) → HasServed fed given old → StopsAt why old.core fed given
 stops_by old mid message took (Waits have) by fed given h = absurd by
 stops_by old mid message took Closed by fed given h = record { message = message; begins = begins fed (given ++ message ∷ []) mid.framer (came old mid message took fed given h); is = by }
 stops_by old mid message took (Refused at) by fed given h = inr (record { message = message; begins = begins fed (given ++ message ∷ []) mid.framer (came old mid message took fed given h); is = by })
 stops_by old mid message took (Unbuilt at) by fed given h = record { message = message; begins = begins fed (given ++ message ∷ []) mid.framer (came old mid message took fed given h); is = by }
+stops_by old mid message took (Full calls bytes) by fed given h = record { message = message; begins = begins fed (given ++ message ∷ []) mid.framer (came old mid message took fed given h); is = by }
 stops_by old mid message took NoMemory by fed given h = begins fed given old.framer h
 
 -- only waiting goes on
-nothing_kept : (old new : Service) (message : Framed) (why : Stop) → StopsBy why message → Keeps why [] old.servant old new
-nothing_kept old new message (Waits have) by = absurd by
-nothing_kept old new message _ by = tt
+nothing_kept : (old new : Service) (message : Framed) (why : Stop) → StopsBy why old.core message → IsKept why old.core new.core → Keeps why [] old.core old new
+nothing_kept old new message (Waits have) by kept = absurd by
+nothing_kept old new message Closed by kept = kept
+nothing_kept old new message _ by kept = tt
 
 -- a message came, and was served or stops the service
-pub turn : (result : Option Stop) (old mid new : Service) (message : Framed) → Answers old.framer (next.Message message) mid.framer → length mid.framer.unread < length old.framer.unread → reach mid.framer ≡ reach old.framer → mid.servant ≡ old.servant → mid.replies.items ≡ old.replies.items → new.framer ≡ mid.framer → Handles result message mid new → Turns result old new
-turn None old mid new message took fewer reached servant replies same done = record {
+pub turn : (result : Option Stop) (old mid new : Service) (message : Framed) → Answers old.framer (next.Message message) mid.framer → length mid.framer.unread < length old.framer.unread → reach mid.framer ≡ reach old.framer → mid.core ≡ old.core → mid.replies.items ≡ old.replies.items → new.framer ≡ mid.framer → Handles result message mid new → IsLegalRun new.core → Turns result old new
+turn None old mid new message took fewer reached servant replies same done legal = record {
   message = message;
   reply = done.reply;
-  gives = subst (λ (s : State). Gives s message done.reply new.servant) servant done.gives;
+  gives = subst (λ (s : Life). Gives s message done.reply new.core) servant done.gives;
   waiting = done.waiting ∙ ap (λ (front : List ℕ). front ++ done.reply) replies;
   reached = ap reach same ∙ reached;
   given = λ fed given h. subst (λ (f : Framing). HasGiven message_limit fed (given ++ message ∷ []) f) (sym same) (came old mid message took fed given h);
   fewer = subst (λ (f : Framing). length f.unread < length old.framer.unread) (sym same) fewer;
+  legal = legal;
 }
-turn (Some why) old mid new message took fewer reached servant replies same done = record {
+turn (Some why) old mid new message took fewer reached servant replies same done legal = record {
   waiting = done.1 ∙ replies;
   reached = ap reach same ∙ reached;
-  stops = stops_by old mid message took why done.0;
-  kept = nothing_kept old new message why done.0;
+  stops = stops_by old mid message took why (subst (λ (s : Life). StopsBy why s message) servant done.0);
+  kept = nothing_kept old new message why (subst (λ (s : Life). StopsBy why s message) servant done.0) (subst (λ (s : Life). IsKept why s new.core) servant done.2);
 }
 
 -- messages served, and then others
@@ -103,13 +106,15 @@ serves_then {S} Each a b c (m ∷ ms) ns xs ys p q =
 pub record ServesSome (old new : Service) : Type 0 where
   pub messages : List Framed
   pub replies : List ℕ
-  pub served : Serves Gives old.servant messages replies new.servant
+  pub served : Serves Gives old.core messages replies new.core
   pub waiting : new.replies.items ≡ old.replies.items ++ replies
   pub reached : reach new.framer ≡ reach old.framer
   pub given : ServedMore old messages new
+  pub legal : IsLegalRun new.core
 
-pub serves_none : (s : Service) → ServesSome s s
-serves_none s = record {
+pub serves_none : (s : Service) → IsLegalRun s.core → ServesSome s s
+serves_none s legal = record {
+  legal = legal;
   messages = [];
   replies = [];
   served = (refl, refl);
@@ -121,24 +126,27 @@ serves_none s = record {
 -- and one more
 pub serves_more : (a b c : Service) → ServesSome a b → ServesOne b c → ServesSome a c
 serves_more a b c p q = record {
+  legal = q.legal;
   messages = p.messages ++ q.message ∷ [];
   replies = p.replies ++ q.reply;
-  served = serves_then Gives a.servant b.servant c.servant p.messages (q.message ∷ []) p.replies q.reply p.served (q.reply, (c.servant, ([], (q.gives, (refl, refl), sym (append-nil q.reply)))));
+  served = serves_then Gives a.core b.core c.core p.messages (q.message ∷ []) p.replies q.reply p.served (q.reply, (c.core, ([], (q.gives, (refl, refl), sym (append-nil q.reply)))));
   waiting = q.waiting ∙ (ap (λ (front : List ℕ). front ++ q.reply) p.waiting ∙ append_assoc a.replies.items p.replies q.reply);
   reached = q.reached ∙ p.reached;
   given = λ fed given h. subst (λ (ms : List Framed). HasServed fed ms c) (append_assoc given p.messages (q.message ∷ [])) (q.given fed (given ++ p.messages) (p.given fed given h));
 }
 
-keeps_on : (why : Stop) (a b c : Service) (messages : List Framed) → ServedMore a messages b → Keeps why [] b.servant b c → Keeps why messages b.servant a c
+keeps_on : (why : Stop) (a b c : Service) (messages : List Framed) → ServedMore a messages b → Keeps why [] b.core b c → Keeps why messages b.core a c
 keeps_on (Waits have) a b c messages given kept = (kept.0, λ fed before h. subst (λ (ms : List Framed). HasServed fed ms c) (append-nil (before ++ messages)) (kept.1 fed (before ++ messages) (given fed before h)))
+keeps_on Closed a b c messages given kept = kept
 keeps_on _ a b c messages given kept = tt
 
 -- and then the service stops
 pub serves_up_to : (why : Stop) (a b c : Service) → ServesSome a b → StopsHere why b c → ServesUpTo why a c
 serves_up_to why a b c p q = record {
+  legal = p.legal;
   messages = p.messages;
   replies = p.replies;
-  state = b.servant;
+  life = b.core;
   served = p.served;
   waiting = q.waiting ∙ p.waiting;
   reached = q.reached ∙ p.reached;

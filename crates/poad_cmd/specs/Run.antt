@@ -1,11 +1,16 @@
 -- What a run of `answer` did, and its status.
-use Rattle.std.specs.Prelude.{◌≡◌, ℕ, ◌^◌, ◌<◌, pos, List, [], ◌++◌, ◌⊎◌, Option, length, take, ⊤}
+use Rattle.std.specs.Prelude.{◌≡◌, ℕ, ◌^◌, ◌<◌, List, [], ◌++◌, ◌⊎◌, Option, length, take, ⊤}
 use Rattle.outside.specs.Told.{IfTold}
-use Rattle.poa_base.specs.declared.State.{State}
-use Rattle.poa_base.specs.declared.State.TheVariants.{Register}
+use Rattle.poa_base.specs.declared.Config.{Config}
+use Rattle.poa_base.specs.declared.Entry.TheVariants.{Entered}
+use Rattle.poa_history.specs.Legal.{IsLegal}
+use Rattle.poa_history.specs.Lifetime.{HasLifetime}
+use Rattle.poa_core.specs.Life.{Life, with_entry}
+use Rattle.poa_core.specs.Answers.{unadmitted}
+use Rattle.replay_run.specs.Playing.{life_at_first}
 use Rattle.giop_frame.specs.Stream.{Framed}
 use Rattle.poad_cmd.specs.declared.status.Status.{Status}
-use Rattle.poad_cmd.specs.declared.status.Status.TheVariants.{Ok, Malformed, ReadFault, WriteFault, Truncated, WantMemory, InputLimit, Unbuilt}
+use Rattle.poad_cmd.specs.declared.status.Status.TheVariants.{Ok, Malformed, ReadFault, WriteFault, Truncated, Held, Limit, WantMemory, InputLimit, Unbuilt}
 use Rattle.poad_cmd.specs.declared.stop.Stop.{Stop}
 use Rattle.poad_cmd.specs.declared.stop.Stop.TheVariants as stop
 use Rattle.poad_cmd.specs.Serving.{Gives, Serves}
@@ -19,17 +24,24 @@ IsDrained left = IfTold left left (λ old new. new ≡ [])
 abbrev pub IsWaiting : Stop → Type 0
 IsWaiting why = (have : ℕ) × (why ≡ stop.Waits have)
 
--- why a run ends with a status: `got` was taken of the source, and serving it stopped for this reason
-abbrev pub Ends : Status → Stop → List ℕ → Option (List ℕ) → Type 0
-Ends Ok why got left = (why ≡ stop.Closed) ⊎ ((why ≡ stop.Waits 0) × IsDrained left)
-Ends (Truncated have) why got left = (why ≡ stop.Waits have) × (0 < have) × IsDrained left
-Ends (Malformed at) why got left = why ≡ stop.Refused at
-Ends (Unbuilt at) why got left = why ≡ stop.Unbuilt at
-Ends (InputLimit taken) why got left = IsWaiting why × (taken ≡ length got) × (taken ≡ 2 ^ 32)
-Ends ReadFault why got left = IsWaiting why
-Ends WriteFault why got left = ⊤
-Ends WantMemory why got left = ⊤
-Ends _ why got left = ⊥
+-- the input was read to a CloseConnection, or to its end with nothing left over
+abbrev pub IsRead : Stop → Option (List ℕ) → Type 0
+IsRead why left = (why ≡ stop.Closed) ⊎ ((why ≡ stop.Waits 0) × IsDrained left)
+
+-- why a run ends with a status: `got` was taken of the source, serving it stopped for this reason, and so many calls
+-- are unadmitted
+abbrev pub Ends : Status → Stop → ℕ → List ℕ → Option (List ℕ) → Type 0
+Ends Ok why held got left = IsRead why left × (held ≡ 0)
+Ends (Held count) why held got left = IsRead why left × (count ≡ held) × (0 < held)
+Ends (Truncated have) why held got left = (why ≡ stop.Waits have) × (0 < have) × IsDrained left
+Ends (Malformed at) why held got left = why ≡ stop.Refused at
+Ends (Unbuilt at) why held got left = why ≡ stop.Unbuilt at
+Ends (Limit calls bytes) why held got left = why ≡ stop.Full calls bytes
+Ends (InputLimit taken) why held got left = IsWaiting why × (taken ≡ length got) × (taken ≡ 2 ^ 32)
+Ends ReadFault why held got left = IsWaiting why
+Ends WriteFault why held got left = ⊤
+Ends WantMemory why held got left = ⊤
+Ends _ why held got left = ⊥
 
 -- the sink gained these bytes, or after a fault of writing or want of memory a front of them
 abbrev pub Gains : Status → List ℕ → List ℕ → List ℕ → Type 0
@@ -37,16 +49,27 @@ Gains WriteFault bytes old new = (n : ℕ) × (new ≡ old ++ take n bytes)
 Gains WantMemory bytes old new = (n : ℕ) × (new ≡ old ++ take n bytes)
 Gains _ bytes old new = new ≡ old ++ bytes
 
--- `answer` took bytes of the source, served the messages of their stream in order from a register of 0, up to one
--- that it doesn't serve, and gave the sink their replies, and MessageError where the next message is bad
-pub record Answers (status : Status) (left_old left_new held_old held_new : Option (List ℕ)) : Type 0 where
+-- the run of a configuration, once its one connection has entered
+abbrev pub life_at_answer : Config → Life
+life_at_answer c = with_entry (Entered 0) (life_at_first c)
+
+-- the run is a legal one of the configuration, and keeps the lifetimes of activations; of want of memory nothing is said
+abbrev pub IsKeptBy : Status → Config → Life → Type 0
+IsKeptBy WantMemory c life = ⊤
+IsKeptBy status c life = IsLegal c c.run 4000000 life.history × HasLifetime c c.run life.history
+
+-- `answer` took bytes of the source, served the messages of their stream in order, up to one that it doesn't serve, and
+-- gave the sink their replies, and behind them MessageError where the next message is bad, or CloseConnection where the
+-- run refuses its call
+pub record Answers (c : Config) (status : Status) (left_old left_new held_old held_new : Option (List ℕ)) : Type 0 where
   pub got : List ℕ
   pub took : IfTold left_old left_new (λ old new. old ≡ got ++ new)
   pub messages : List Framed
   pub replies : List ℕ
-  pub state : State
-  pub served : Serves Gives (Register (pos 0)) messages replies state
+  pub life : Life
+  pub served : Serves Gives (life_at_answer c) messages replies life
   pub why : Stop
-  pub stops : StopsAt why got messages
+  pub stops : StopsAt why life got messages
   pub gave : IfTold held_old held_new (Gains status (replies ++ last_words why))
-  pub ends : Ends status why got left_new
+  pub ends : Ends status why (unadmitted life.history) got left_new
+  pub kept : IsKeptBy status c life

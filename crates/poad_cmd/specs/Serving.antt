@@ -1,48 +1,48 @@
--- Messages served one behind the other, each in the state that those before it left.
-use Rattle.std.specs.Prelude.{◌≡◌, ℕ, ◌==◌, Bool, if◌then◌else◌, bit_and, List, [], ◌∷◌, ◌++◌, Option, Ok}
-use Rattle.poa_base.specs.declared.Body.{Body}
+-- Messages served one behind the other, each by the run that those before it left.
+use Rattle.std.specs.Prelude.{◌≡◌, ℕ, Bool, true, List, [], ◌∷◌, ◌++◌, length, Ok}
 use Rattle.poa_base.specs.declared.Call.{Call}
-use Rattle.poa_base.specs.declared.Call.TheVariants.{Request, Locate, Line}
-use Rattle.poa_base.specs.declared.Head.{Head}
-use Rattle.poa_base.specs.declared.Reply.{Reply}
-use Rattle.poa_base.specs.declared.State.{State}
+use Rattle.poa_base.specs.declared.Entry.{Entry}
+use Rattle.poa_base.specs.declared.Entry.TheVariants.{Arrive}
 use Rattle.giop_frame.specs.Stream.{Framed}
 use Rattle.giop_msg.specs.declared.Incoming.{Incoming}
 use Rattle.giop_msg.specs.declared.Incoming.TheVariants as incoming
 use Rattle.giop_msg.specs.Call.{CallOf}
 use Rattle.giop_msg.specs.Reply.{reply_bytes}
-use Rattle.poad_cmd.specs.Adapter.{Replies}
+use Rattle.poa_history.specs.Legal.{IsLegal}
+use Rattle.poa_history.specs.Lifetime.{HasLifetime}
+use Rattle.poa_core.specs.Life.{Life, with_entry}
+use Rattle.poa_core.specs.Answers.{is_taken}
+use Rattle.replay_run.specs.Working.{IsIdle, Makes}
+use Rattle.replay_run.specs.Talking.{CollectsAll}
 
--- bit 0 of the response flags: a reply is asked (CORBA 3.3 Part 2, 9.4.2)
-abbrev pub asks_reply : Head → Bool
-asks_reply head = bit_and head.flags 1 == 1
+-- worker 0 takes turns until it has nothing to do
+pub data Works : Life → Life → Type 0 where
+  works_out : (life : Life) → IsIdle life 0 → Works life life
+  works_on : (life last : Life) (e : Entry) → Makes life 0 e → Works (with_entry e life) last → Works life last
 
--- the bytes that a reply puts into the output
-abbrev pub owed : Head → Reply → List ℕ
-owed head reply = if asks_reply head then reply_bytes head reply else []
-
--- a request gives these bytes in the one state, and leaves the other
-pub record GivesReply (state : State) (head : Head) (target : Option (List ℕ)) (operation : List ℕ) (body : Body) (bytes : List ℕ) (after : State) : Type 0 where
-  pub reply : Reply
-  pub replied : Replies state target operation body reply after
-  pub is : bytes ≡ owed head reply
-
-abbrev pub GivesCall : State → Call → List ℕ → State → Type 0
-GivesCall state (Request head target operation body) bytes after = GivesReply state head target operation body bytes after
-GivesCall state (Locate head target) bytes after = ⊥
-GivesCall state (Line number command) bytes after = ⊥
+-- a call of this size arrives on the one connection, worker 0 takes its turns, and the replies that are decided then are given
+pub record GivesCall (life : Life) (call : Call) (size : ℕ) (bytes : List ℕ) (after : Life) : Type 0 where
+  pub taken : is_taken life.limit life.history size call ≡ true
+  pub worked : Life
+  pub works : Works (with_entry (Arrive 0 size call) life) worked
+  pub collects : CollectsAll reply_bytes 0 worked bytes after
 
 -- what was asked gives these bytes; a CancelRequest has no effect
-abbrev pub GivesAsked : State → Incoming → List ℕ → State → Type 0
-GivesAsked state (incoming.Call call) bytes after = GivesCall state call bytes after
-GivesAsked state (incoming.Cancel id) bytes after = (bytes ≡ []) × (after ≡ state)
-GivesAsked state incoming.Closing bytes after = ⊥
+abbrev pub GivesAsked : Life → Incoming → ℕ → List ℕ → Life → Type 0
+GivesAsked life (incoming.Call call) size bytes after = GivesCall life call size bytes after
+GivesAsked life (incoming.Cancel id) size bytes after = (bytes ≡ []) × (after ≡ life)
+GivesAsked life incoming.Closing size bytes after = ⊥
 
 -- a message gives these bytes
-pub record Gives (state : State) (message : Framed) (bytes : List ℕ) (after : State) : Type 0 where
+pub record Gives (life : Life) (message : Framed) (bytes : List ℕ) (after : Life) : Type 0 where
   pub asked : Incoming
   pub asks : CallOf message.bytes (Ok asked)
-  pub gives : GivesAsked state asked bytes after
+  pub gives : GivesAsked life asked (length message.bytes) bytes after
+
+-- what has happened is legal, and keeps the lifetimes of activations
+pub record IsLegalRun (life : Life) : Type 0 where
+  pub legal : IsLegal life.config life.run life.limit life.history
+  pub lifetime : HasLifetime life.config life.run life.history
 
 -- messages served in order from the one state to the other, with all their replies; `Each` says what one message gives
 abbrev pub Serves : {State Message : Type 0} → (State → Message → List ℕ → State → Type 0) → State → List Message → List ℕ → State → Type 0

@@ -5,11 +5,15 @@ ghost use Rattle.outside.specs.Reading.{IsWithin, Delivers};
 ghost use Rattle.outside.specs.Told.{IfTold};
 ghost use Rattle.poad_cmd.specs.Run.{Answers};
 ghost use Rattle.giop_frame.specs.Framer.{reach};
+ghost use Rattle.conf_rules.specs.Rules.{KeepsRules};
+ghost use Rattle.poa_core.specs.Answers.{unadmitted};
+ghost use Rattle.poa_history.specs.Legal.{IsOpen};
 ghost use Rattle.poad_cmd.specs.Piece.{TakesPiece, EndsAt};
 
 use crate::service::Service;
 use crate::status::Status;
 use outside::{Sink, Source, Took};
+use poa_base::Config;
 use std::alloc::Global;
 
 /// How much a read takes at most.
@@ -18,18 +22,28 @@ const PIECE: usize = 65_536;
 /// How much a run takes of its source at most.
 const INPUT_LIMIT: u64 = 1 << 32;
 
-/// Serves the messages of the source in order, from a register that holds 0, and writes the replies that a piece
-/// of input owes before it reads the next piece. Where a message is bad, MessageError follows the replies.
-pub(crate) fn answer<S: Source, K: Sink>(alloc: Global, source: &mut S, sink: &mut K) -> Status
-    requires { S.is_waiting source.old ≡ false }
-    ensures answers { Answers result (S.left source.old) (S.left source.new) (K.held sink.old) (K.held sink.new) }
+/// Serves the messages of the source in order, by a run of a configuration, and writes the replies that a piece of
+/// input owes before it reads the next piece. Where a message is bad MessageError follows the replies, and where
+/// the run refuses a call CloseConnection does.
+pub(crate) fn answer<S: Source, K: Sink>(
+    alloc: Global,
+    config: Config,
+    source: &mut S,
+    sink: &mut K,
+) -> Status
+    requires patient { S.is_waiting source.old ≡ false }
+    requires rules { KeepsRules config }
+    ensures answers { Answers config result (S.left source.old) (S.left source.new) (K.held sink.old) (K.held sink.new) }
     ensures read { HasCause (S.read_faults source.old) (S.read_faults source.new) (result ≡ Status.ReadFault) }
     ensures written { HasCause (K.write_faults sink.old) (K.write_faults sink.new) (result ≡ Status.WriteFault) }
 {
     let Ok(mut buffer) = Vec::from_elem(alloc, 0u8, PIECE) else {
         return Status::WantMemory;
     };
-    let mut service = Service::new(alloc);
+    let Ok(mut service) = Service::new(alloc, config) else {
+        return Status::WantMemory;
+    };
+    let _ = service.core.entries();
     let mut taken = 0;
     while taken < INPUT_LIMIT {
         match read_front(source, &mut buffer, INPUT_LIMIT - taken) {
@@ -73,9 +87,12 @@ fn take_piece<K: Sink>(
 ) -> Option<Status>
     requires room { reach service.old.framer + length piece.now < 2 ^ 62 }
     requires delivered { service.old.replies.items ≡ [] }
+    requires open_ { IsOpen service.old.core.history 0 }
     ensures takes { TakesPiece result piece.now service.old service.new (K.held sink.old) (K.held sink.new) }
     ensures written { HasCause (K.write_faults sink.old) (K.write_faults sink.new) (result ≡ Some Status.WriteFault) }
+    ensures open_ { IsOpen service.new.core.history 0 }
 {
+    let _ = service.core.entries();
     let Ok(()) = service.framer.feed(piece) else {
         return Some(Status::WantMemory);
     };
@@ -88,10 +105,10 @@ fn take_piece<K: Sink>(
 
 // The status at the end of the source.
 fn ended(service: &Service) -> Status
-    ensures { EndsAt result service.now.waiting }
+    ensures { EndsAt result service.now.waiting (unadmitted service.now.core.history) }
 {
     match service.waiting {
-        0 => Status::Ok,
+        0 => service.read_whole(),
         have => Status::Truncated { have },
     }
 }

@@ -90,3 +90,63 @@ fn tells_what_hinders_a_file(rt: HostRuntime) -> Result<(), Fail> {
     );
     Ok(())
 }
+
+// A register in an adapter of its own, for the first worker alone.
+const MAIN_THREAD: &[u8] =
+    b"root = \"active\"\n[[servant]]\nname = \"r\"\nkind = \"register\"\n[[adapter]]\npath = \"/d\"\nboot = true\npolicies = [\"PERSISTENT\", \"USER_ID\", \"MAIN_THREAD_MODEL\"]\n[[object]]\nadapter = \"/d\"\nid = \"t:x\"\nservant = \"r\"\n";
+
+// A register whose manager holds at first.
+const HOLDING: &[u8] =
+    b"[[servant]]\nname = \"r\"\nkind = \"register\"\n[[adapter]]\npath = \"/h\"\nboot = true\npolicies = [\"PERSISTENT\", \"USER_ID\"]\n[[object]]\nadapter = \"/h\"\nid = \"t:x\"\nservant = \"r\"\n";
+
+// What `replay f s` does with this configuration and this script.
+fn replayed(alloc: Global, configuration: &[u8], script: &[u8]) -> Result<Ran, Fail> {
+    let mut words = Vec::new(alloc);
+    for word in ["replay", "f", "s"] {
+        words.push(String::from_str(alloc, word)?)?;
+    }
+    let mut files = MemFiles::new(alloc, Vec::new(alloc), Vec::new(alloc));
+    files.hold("f", configuration)?;
+    files.hold("s", script)?;
+    let mut host = Host {
+        source: MemSource::new(Vec::new(alloc), Vec::new(alloc), Vec::new(alloc)),
+        sink: MemSink::new(alloc, Vec::new(alloc)),
+        files,
+    };
+    let status = run_words(alloc, words.as_slice(), &mut host);
+    let written = Vec::from_slice(alloc, host.sink.held())?;
+    Ok(Ran { status, written })
+}
+
+#[test]
+fn plays_a_script(rt: HostRuntime) -> Result<(), Fail> {
+    let alloc = rt.alloc();
+    let played = replayed(
+        alloc,
+        MAIN_THREAD,
+        b"ask a 1 /d t:x add i:1\nstep 1\nstep 0\n",
+    )?;
+    let want =
+        b"idle 1\nadmit 0 0 serve 0\nrun 0\ndone 0\nreply a 47494f5001020101140000000100000000000000000000000100000000000000\n";
+    assert_eq!(rt; played.status, Status::Ok);
+    assert_eq!(rt; played.written.as_slice(), want.as_slice());
+    Ok(())
+}
+
+#[test]
+fn tells_how_many_calls_are_held(rt: HostRuntime) -> Result<(), Fail> {
+    let alloc = rt.alloc();
+    let played = replayed(alloc, HOLDING, b"ask a 1 /h t:x get\nrun 0\n")?;
+    assert_eq!(rt; played.status, Status::Held { count: 1 });
+    assert_eq!(rt; played.written.len(), 0);
+    Ok(())
+}
+
+#[test]
+fn refuses_the_first_line_that_is_none(rt: HostRuntime) -> Result<(), Fail> {
+    let alloc = rt.alloc();
+    let played = replayed(alloc, HOLDING, b"step x")?;
+    assert_eq!(rt; played.status, Status::ScriptRefused { line: 1 });
+    assert_eq!(rt; played.written.len(), 0);
+    Ok(())
+}

@@ -3,17 +3,14 @@ ghost use Rattle.std.specs.Prelude.{◌≡◌, Err, List, ℕ};
 ghost use Rattle.outside.specs.Cause.{HasCause};
 ghost use Rattle.outside.specs.Told.{IfTold};
 ghost use Rattle.conf_fields.specs.declared.ConfFault.TheVariants as fault;
-ghost use Rattle.poad_cmd.specs.Filing.{Filed, HoldsStill, Printed, Refuses};
+ghost use Rattle.poad_cmd.specs.Filing.{Filed, HoldsStill, Printed};
 
 use crate::delivery::deliver;
 use crate::status::Status;
+use crate::taking::{CONFIG_LIMIT, refusal};
 use conf_commands::{Asked, print_config};
-use conf_toml::ConfFault;
 use outside::{Files, Sink, Taken};
 use std::alloc::Global;
-
-/// The bytes that a configuration has at most.
-const CONFIG_LIMIT: u64 = 1 << 20;
 
 /// Prints what is asked of the configuration in the file, or tells why it is none.
 pub(crate) fn print_file<K: Sink, F: Files>(
@@ -52,15 +49,5 @@ fn print_content<K: Sink>(alloc: Global, asked: Asked, content: &[u8], sink: &mu
         Status::Ok
     } else {
         Status::WriteFault
-    }
-}
-
-// The status where a text is no configuration.
-fn refusal(fault: ConfFault) -> Status
-    ensures { Refuses result fault }
-{
-    match fault {
-        ConfFault::WantMemory => Status::WantMemory,
-        fault => Status::ConfigRefused(fault),
     }
 }

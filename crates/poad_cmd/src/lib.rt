@@ -1,10 +1,9 @@
 //! The commands of the program: `run_words` does what the words of a command line say, over a source, a
-//! sink and files, and answers how it ended. `answer` serves the GIOP messages of the source, in order, by one
-//! register in a tree that has the root adapter alone. `show` prints a reference, and `check` and
-//! `iors` print what a configuration has.
+//! sink and files, and answers how it ended. `answer` serves the GIOP messages of the source, in order, by the
+//! adapter of a configuration. `replay` plays a script on one. `show` prints a reference, and `check` and `iors`
+//! print what a configuration has.
 #![tactic(auto)]
 
-mod adapter;
 mod answering;
 mod delivery;
 mod fault_line;
@@ -12,14 +11,17 @@ mod fault_line;
 mod file_tests;
 mod filing;
 mod host;
+mod naming;
+mod playing;
 mod run;
 mod service;
 mod showing;
 mod status;
 mod stop;
+mod taking;
 #[cfg(test)]
 mod tests;
-mod verdict;
+mod turns;
 mod words;
 
 pub use host::Host;

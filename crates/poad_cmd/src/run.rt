@@ -1,17 +1,19 @@
 //! A command over a source, a sink and files.
-ghost use Rattle.std.specs.Prelude.{◌≡◌, ◌↔◌, ℕ, List, Some, None, false};
+ghost use Rattle.std.specs.Prelude.{◌≡◌, ◌↔◌, ℕ, List, Option, Some, None, false};
 ghost use Rattle.outside.specs.Cause.{HasCause};
 ghost use Rattle.outside.specs.Told.{IfTold};
 ghost use Rattle.conf_commands.specs.declared.Asked.{Asked};
-ghost use Rattle.poad_cmd.specs.Run.{Answers};
+ghost use Rattle.poad_cmd.specs.Answering.{AnswersBy};
+ghost use Rattle.poad_cmd.specs.Playing.{PlaysFiles};
 ghost use Rattle.poad_cmd.specs.Showing.{Tells};
 ghost use Rattle.poad_cmd.specs.Filing.{Filed, HoldsStill};
 ghost use Rattle.poad_cmd.specs.Words as spec;
 ghost use Rattle.poad_cmd.specs.Words.{command_in};
 
-use crate::answering::answer;
 use crate::filing::print_file;
 use crate::host::Host;
+use crate::naming::answer_by;
+use crate::playing::play_files;
 use crate::showing::show_text;
 use crate::status::Status;
 use crate::words::{Command, command_of};
@@ -20,7 +22,9 @@ use std::alloc::Global;
 
 /// Does what the words say.
 ///
-/// - `answer`: reads GIOP messages from the source and writes the replies to the sink.
+/// - `answer`, `answer FILE`: reads GIOP messages from the source, serves them by a run of the configuration in the
+///   file, or of the built-in one, and writes the replies to the sink.
+/// - `replay FILE SCRIPT`: plays the script in a file on a run of a configuration, and writes what it prints.
 /// - `show IOR`: prints the reference to the sink.
 /// - `check FILE`: reads the configuration in the file, and prints how many there are of each kind.
 /// - `iors FILE`: reads the configuration in the file, and prints the references of its objects.
@@ -29,11 +33,15 @@ use std::alloc::Global;
 ///
 /// How it ends:
 /// - `Ok`: `answer` read the source to its end, or to a CloseConnection, and every owed reply was written; or
-///   what the other commands print was written whole.
+///   what the other commands print was written whole. No call is unadmitted.
+/// - `Held`: the same of `answer` and `replay`, but so many calls are unadmitted.
+/// - `Limit`: `answer` came to a call that the run refuses: the replies to those before it were written, and then
+///   CloseConnection. Or `replay` came to such a call or connection, and what the script prints was written whole.
+/// - `ScriptRefused`: this line of the script is the first outside the grammar. Nothing was written.
 /// - `BadWords`: the words are none of these commands. Nothing was read or written.
 /// - `TextRefused`: the text of `show` is no reference, with its first fault. Nothing was written.
-/// - `NoFile`, `FileTooLong`, `FileFault`: the file isn't there, is longer than a configuration may be, or a read
-///   of it failed in this call. Nothing was written.
+/// - `NoFile`, `FileTooLong`, `FileFault`: a file isn't there, is longer than a configuration or a script may be,
+///   or a read of it failed in this call. Nothing was written.
 /// - `ConfigRefused`: the file holds no configuration, with its first fault. Nothing was written.
 /// - `Malformed`: the first bad message of the source starts at this byte. The replies to the messages before
 ///   it were written, and then MessageError (CORBA 3.3 Part 2, 9.4.8).
@@ -58,8 +66,10 @@ pub fn run_words<S: Source, K: Sink, F: Files>(
     ensures bad_words { result ≡ Status.BadWords ↔ (command_in words.now ≡ None) }
     ensures untouched { result ≡ Status.BadWords → host.new ≡ host.old }
 
-    ensures answers { command_in words.now ≡ Some spec.answer
-        → Answers result (S.left host.old.source) (S.left host.new.source) (K.held host.old.sink) (K.held host.new.sink) × (host.new.files ≡ host.old.files) }
+    ensures answers { (name : Option (List ℕ)) → command_in words.now ≡ Some (spec.answer name)
+        → AnswersBy name result (F.contents host.old.files) (F.contents host.new.files) (S.left host.old.source) (S.left host.new.source) (K.held host.old.sink) (K.held host.new.sink) }
+    ensures plays { (file script : List ℕ) → command_in words.now ≡ Some (spec.replay file script)
+        → PlaysFiles file script result (F.contents host.old.files) (F.contents host.new.files) (K.held host.old.sink) (K.held host.new.sink) × (host.new.source ≡ host.old.source) }
     ensures shows { (text : List ℕ) → command_in words.now ≡ Some (spec.show text)
         → Tells result text (K.held host.old.sink) (K.held host.new.sink) × (host.new.source ≡ host.old.source) × (host.new.files ≡ host.old.files) }
     ensures configs { (asked : Asked) (name : List ℕ) → command_in words.now ≡ Some (spec.config asked name)
@@ -72,7 +82,18 @@ pub fn run_words<S: Source, K: Sink, F: Files>(
     ensures too_long { HasCause (F.long_ones host.old.files) (F.long_ones host.new.files) (result ≡ Status.FileTooLong) }
 {
     match command_of(words) {
-        Some(Command::Answer) => answer(alloc, &mut host.source, &mut host.sink),
+        Some(Command::Answer(name)) => {
+            answer_by(
+                alloc,
+                name,
+                &mut host.files,
+                &mut host.source,
+                &mut host.sink,
+            )
+        }
+        Some(Command::Replay(file, script)) => {
+            play_files(alloc, file, script, &mut host.files, &mut host.sink)
+        }
         Some(Command::Show(text)) => show_text(alloc, text.as_bytes(), &mut host.sink),
         Some(Command::Config(asked, name)) => {
             print_file(alloc, asked, name, &mut host.files, &mut host.sink)

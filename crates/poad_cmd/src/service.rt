@@ -1,61 +1,73 @@
-//! The stream, the register, and the replies that aren't written yet.
-ghost use Rattle.std.specs.Prelude.{◌≡◌, ◌≢◌, ◌≤◌, ◌++◌, [], pos, Some, false, IfOk, OnOk, OnErr};
+//! The stream, the run that serves it, and the replies that aren't written yet.
+ghost use Rattle.std.specs.Prelude.{◌≡◌, ◌≢◌, ◌++◌, [], Some, false, IfOk, OnOk, OnErr};
 ghost use Rattle.outside.specs.Cause.{HasCause};
 ghost use Rattle.outside.specs.Told.{IfTold};
+ghost use Rattle.conf_rules.specs.Rules.{KeepsRules};
 ghost use Rattle.giop_frame.specs.Framer.{reach};
-ghost use Rattle.giop_msg.specs.Reply.{Answers};
+ghost use Rattle.poa_history.specs.Legal.{IsOpen, IsSize};
 ghost use Rattle.poad_cmd.specs.Delivery.{Hands};
-ghost use Rattle.poad_cmd.specs.Serving.{GivesReply, owed as owed_bytes};
-ghost use Rattle.poad_cmd.specs.Piece.{Settles};
+ghost use Rattle.poa_core.specs.Answers.{unadmitted};
+ghost use Rattle.poad_cmd.specs.Piece.{Settles, TellsHeld};
 ghost use Rattle.poad_cmd.specs.Stop.{last_words};
-ghost use Rattle.poad_cmd.specs.Service.{HasServed, ServesUpTo, Turns, Handles, IsAsked, Does, IsRequestHead, GivesBytes, StopsByFault};
+ghost use Rattle.poad_cmd.specs.Service.{IsNew, ServesUpTo, Turns, Handles, IsAsked, Does, GivesBytes, GivesReplies, StopsByFault};
 
-use crate::adapter::reply_to;
 use crate::delivery::deliver;
 use crate::status::Status;
 use crate::stop::Stop;
+use crate::turns::{collected, take_turns};
 use giop_frame::{Framer, Message, Next};
-use giop_msg::{Incoming, MsgFault, read_call, write_error, write_reply};
+use giop_msg::{Incoming, MsgFault, read_call, write_closing, write_error};
 use outside::Sink;
-use poa_base::{Body, Bytes, Call, Head, Reply, State, WantMemory};
-use servant_kinds::Servant;
+use poa_base::{Call, Config, Store, WantMemory};
+use poa_core::{ArriveFault, Core};
 use std::alloc::Global;
 
 /// The largest size that a message may have, without its header.
 const MESSAGE_LIMIT: u32 = 1_048_576;
 
-/// What serves a stream of messages: the framer of the stream, the servant of the one object, and the replies that
-/// aren't written yet.
+/// The most bytes that a message has with its header.
+const LONGEST: u64 = 1_048_588;
+
+/// The most calls that a run takes.
+const CALLS: u64 = 4_000_000;
+
+/// What serves a stream of messages: the framer of the stream, the adapter with its one connection, and the replies
+/// that aren't written yet.
 #[derive(Drop)]
 pub(crate) struct Service {
     pub(crate) framer: Framer,
-    pub(crate) servant: Servant,
+    pub(crate) core: Core,
     pub(crate) replies: Vec<u8>,
     /// How many bytes belonged to no message when the service waited last.
     pub(crate) waiting: u64,
 }
 
 impl Service {
-    /// A service of a register that holds 0, to which nothing came yet.
-    pub(crate) fn new(alloc: Global) -> Self
-        ensures served { HasServed [] [] result }
-        ensures reached { reach result.framer ≡ 0 }
-        ensures servant { result.servant ≡ State.Register (pos 0) }
-        ensures replies { result.replies.items ≡ [] }
-        ensures waiting { result.waiting ≡ 0 }
+    /// A service by a run of a configuration, to which nothing came yet.
+    pub(crate) fn new(alloc: Global, config: Config) -> Result<Self, WantMemory>
+        requires rules { KeepsRules config }
+        ensures { IfOk result (λ service. IsNew config service) }
     {
-        Service {
+        let run = config.run;
+        let mut core = Core::new(alloc, config, run, Store::new(alloc), CALLS)?;
+        let Ok(_) = core.enter() else {
+            return Err(WantMemory);
+        };
+        Ok(Service {
             framer: Framer::new(alloc, MESSAGE_LIMIT),
-            servant: Servant::new(alloc, State::Register(0)),
+            core,
             replies: Vec::new(alloc),
             waiting: 0,
-        }
+        })
     }
 
     /// Serves the messages that wait, up to one that stops it.
     pub(crate) fn serve(&mut self, alloc: Global) -> Stop
-        ensures { ServesUpTo result self.old self.new }
+        requires { IsOpen self.old.core.history 0 }
+        ensures served { ServesUpTo result self.old self.new }
+        ensures open_ { IsOpen self.new.core.history 0 }
     {
+        let _ = self.core.entries();
         loop {
             if let Some(why) = self.serve_next(alloc) {
                 return why;
@@ -65,13 +77,19 @@ impl Service {
 
     /// Serves the next message. Answers why where there is none, or where it isn't served.
     fn serve_next(&mut self, alloc: Global) -> Option<Stop>
-        ensures { Turns result self.old self.new }
+        requires { IsOpen self.old.core.history 0 }
+        ensures turns { Turns result self.old self.new }
+        ensures open_ { IsOpen self.new.core.history 0 }
     {
         let Ok(next) = self.framer.next() else {
             return Some(Stop::NoMemory);
         };
         match next {
-            Next::Message(message) => self.serve_message(alloc, &message),
+            Next::Message(message) => {
+                let stop = self.serve_message(alloc, &message);
+                let _ = self.core.entries();
+                stop
+            }
             Next::NeedMore { have } => Some(Stop::Waits { have }),
             Next::Bad { at, .. } => Some(Stop::Refused { at }),
         }
@@ -79,78 +97,75 @@ impl Service {
 
     /// Serves a message. Answers why where it isn't served.
     fn serve_message(&mut self, alloc: Global, message: &Message) -> Option<Stop>
+        requires { IsOpen self.old.core.history 0 }
         ensures framer { self.new.framer ≡ self.old.framer }
         ensures handled { Handles result message.now self.old self.new }
+        ensures open_ { IsOpen self.new.core.history 0 }
     {
         match read_call(alloc, message) {
-            Ok(asked) => self.serve_asked(alloc, &asked),
+            Ok(asked) => self.serve_asked(alloc, asked, message.bytes().len() as u64),
             Err(fault) => Some(stop_of(fault, message.at())),
         }
     }
 
-    /// Does what a message asks. Answers why where it isn't done.
-    fn serve_asked(&mut self, alloc: Global, asked: &Incoming) -> Option<Stop>
-        requires { IsAsked asked.now }
+    /// Does what a message of this size asks. Answers why where it isn't done.
+    fn serve_asked(&mut self, alloc: Global, asked: Incoming, size: u64) -> Option<Stop>
+        requires { IsOpen self.old.core.history 0 }
         ensures framer { self.new.framer ≡ self.old.framer }
-        ensures done { Does result asked.now self.old self.new }
+        ensures done { Does result asked size self.old self.new }
+        ensures open_ { IsOpen self.new.core.history 0 }
     {
         match asked {
-            Incoming::Call(call) => self.serve_call(alloc, call),
+            Incoming::Call(call) => self.serve_call(alloc, call, size),
             Incoming::Cancel { .. } => None,
             Incoming::Closing => Some(Stop::Closed),
         }
     }
 
-    /// Serves a call. Answers why where it isn't served.
-    fn serve_call(&mut self, alloc: Global, call: &Call) -> Option<Stop>
-        requires { IsAsked (Incoming.Call call.now) }
+    /// Serves a call of this size. Answers why where it isn't served.
+    fn serve_call(&mut self, alloc: Global, call: Call, size: u64) -> Option<Stop>
+        requires { IsOpen self.old.core.history 0 }
         ensures framer { self.new.framer ≡ self.old.framer }
-        ensures done { Does result (Incoming.Call call.now) self.old self.new }
+        ensures done { Does result (Incoming.Call call) size self.old self.new }
+        ensures open_ { IsOpen self.new.core.history 0 }
     {
-        match call {
-            Call::Request {
-                head,
-                target,
-                operation,
-                body,
-            } => {
-                let served = self.serve_request(alloc, head, target, operation.as_slice(), body);
-                match served {
-                    Ok(()) => None,
-                    Err(_) => Some(Stop::NoMemory),
-                }
-            }
-            // No message asks these.
-            Call::Locate { .. } | Call::Line { .. } => unreachable!(),
+        // The stream has no other message.
+        if size < 1 || size > LONGEST {
+            return Some(Stop::NoMemory);
+        }
+        match self.core.arrive(0, call, size) {
+            Ok(_) => self.serve_arrived(alloc),
+            Err(ArriveFault::Limit { arrivals, bytes }) => Some(Stop::Full { arrivals, bytes }),
+            Err(ArriveFault::WantMemory) => Some(Stop::NoMemory),
         }
     }
 
-    /// Serves a request, and puts its reply behind those that wait, where one is asked.
-    fn serve_request(
-        &mut self,
-        alloc: Global,
-        head: &Head,
-        target: &Option<Bytes>,
-        operation: &[u8],
-        body: &Body,
-    ) -> Result<(), WantMemory>
-        requires { IsRequestHead head.now }
+    /// Takes the turns of worker 0, and puts the replies that are decided then behind those that wait.
+    fn serve_arrived(&mut self, alloc: Global) -> Option<Stop>
+        requires { IsOpen self.old.core.history 0 }
         ensures framer { self.new.framer ≡ self.old.framer }
-        ensures served { OnOk result (GivesBytes (GivesReply self.old.servant head.now target.now operation.now body.now) self.old self.new) }
-        ensures refused { OnErr result (self.new.replies.items ≡ self.old.replies.items) }
+        ensures served { GivesReplies result self.old self.new }
+        ensures open_ { IsOpen self.new.core.history 0 }
     {
-        let reply = reply_to(alloc, &mut self.servant, target, operation, body)?;
-        let bytes = owed(alloc, head, &reply)?;
-        self.replies.extend_from_slice(bytes.as_slice())
+        let Ok(()) = take_turns(&mut self.core) else {
+            return Some(Stop::NoMemory);
+        };
+        let Ok(bytes) = collected(alloc, &mut self.core) else {
+            return Some(Stop::NoMemory);
+        };
+        match self.replies.extend_from_slice(bytes.as_slice()) {
+            Ok(()) => None,
+            Err(_) => Some(Stop::NoMemory),
+        }
     }
 
-    /// Writes the replies that wait, and MessageError behind them where a message is bad, and answers whether the
-    /// sink took them. No reply waits then.
+    /// Writes the replies that wait, and behind them MessageError where a message is bad, or CloseConnection
+    /// where its call is refused. Answers whether the sink took them. No reply waits then.
     pub(crate) fn write_replies<K: Sink>(&mut self, why: Stop, sink: &mut K) -> bool
         ensures held { IfTold (K.held sink.old) (K.held sink.new) (Hands result (self.old.replies.items ++ last_words why)) }
         ensures failed { HasCause (K.write_faults sink.old) (K.write_faults sink.new) (result ≡ false) }
         ensures framer { self.new.framer ≡ self.old.framer }
-        ensures servant { self.new.servant ≡ self.old.servant }
+        ensures core { self.new.core ≡ self.old.core }
         ensures none_waits { self.new.replies.items ≡ [] }
     {
         let written = deliver(sink, self.replies.as_slice());
@@ -166,7 +181,7 @@ impl Service {
         ensures settled { Settles result why self.new }
         ensures no_fault { result ≢ Some Status.WriteFault }
         ensures framer { self.new.framer ≡ self.old.framer }
-        ensures servant { self.new.servant ≡ self.old.servant }
+        ensures core { self.new.core ≡ self.old.core }
         ensures replies { self.new.replies.items ≡ self.old.replies.items }
     {
         match why {
@@ -174,10 +189,21 @@ impl Service {
                 self.waiting = have;
                 None
             }
-            Stop::Closed => Some(Status::Ok),
+            Stop::Closed => Some(self.read_whole()),
             Stop::Refused { at } => Some(Status::Malformed { at }),
             Stop::Unbuilt { at } => Some(Status::Unbuilt { at }),
+            Stop::Full { arrivals, bytes } => Some(Status::Limit { arrivals, bytes }),
             Stop::NoMemory => Some(Status::WantMemory),
+        }
+    }
+
+    /// The status where the input was read whole: it says whether calls are unadmitted.
+    pub(crate) fn read_whole(&self) -> Status
+        ensures { TellsHeld result (unadmitted self.now.core.history) }
+    {
+        match self.core.unadmitted() {
+            0 => Status::Ok,
+            count => Status::Held { count },
         }
     }
 }
@@ -189,20 +215,9 @@ fn write_last<K: Sink>(why: Stop, sink: &mut K) -> bool
 {
     match why {
         Stop::Refused { .. } => deliver(sink, &write_error()),
+        Stop::Full { .. } => deliver(sink, &write_closing()),
         Stop::Waits { .. } | Stop::Closed | Stop::Unbuilt { .. } | Stop::NoMemory => true,
     }
-}
-
-// The bytes of a reply, where one is asked, and else none.
-fn owed(alloc: Global, head: &Head, reply: &Reply) -> Result<Bytes, WantMemory>
-    requires version { head.now.minor ≤ 2 }
-    requires answers { Answers head.now reply.now }
-    ensures { IfOk result (λ bytes. bytes ≡ owed_bytes head.now reply.now) }
-{
-    if head.flags & 1 == 1 {
-        return write_reply(alloc, head, reply);
-    }
-    Ok(Bytes::new(alloc))
 }
 
 // Why a message that couldn't be read at this place stops a service.

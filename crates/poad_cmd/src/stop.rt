@@ -11,6 +11,8 @@ pub(crate) enum Stop {
     Refused { at: u64 },
     /// A message that isn't served yet starts here.
     Unbuilt { at: u64 },
+    /// The call of a message is refused for the limits of the run: so many calls, and bytes of them, had arrived.
+    Full { arrivals: u64, bytes: u64 },
     /// No memory was left.
     NoMemory,
 }

@@ -433,8 +433,25 @@ fn refuses_other_words(rt: HostRuntime) -> Result<(), Fail> {
     assert_eq!(rt; run_alone(alloc, &[])?.status, Status::BadWords);
     assert_eq!(rt; run_alone(alloc, &["fly"])?.status, Status::BadWords);
     assert_eq!(rt; run_alone(alloc, &["answer"])?.status, Status::Ok);
+    assert_eq!(rt; run_alone(alloc, &["answer", "f"])?.status, Status::NoFile);
     assert_eq!(rt;
-        run_alone(alloc, &["answer", "answer"])?.status,
+        run_alone(alloc, &["answer", "f", "g"])?.status,
+        Status::BadWords
+    );
+    assert_eq!(rt;
+        run_alone(alloc, &["answer", "-"])?.status,
+        Status::BadWords
+    );
+    assert_eq!(rt;
+        run_alone(alloc, &["replay", "f"])?.status,
+        Status::BadWords
+    );
+    assert_eq!(rt;
+        run_alone(alloc, &["replay", "--", "-f", "-g"])?.status,
+        Status::NoFile
+    );
+    assert_eq!(rt;
+        run_alone(alloc, &["replay", "f", "-g"])?.status,
         Status::BadWords
     );
     assert_eq!(rt; run_alone(alloc, &["show"])?.status, Status::BadWords);

@@ -3,10 +3,10 @@ use Rattle.poad_cmd.proofs.Serving.{serves_none, serves_more, serves_up_to}
 use Rattle.poad_cmd.proofs.service.Service.serve.Goals as goal
 
 pub loop-why-init : goal.loop-why-init
-loop-why-init c = serves_none c.args.self.now
+loop-why-init c = record { serves = serves_none c.args.self.now (record { legal = c.entries.ensures.legal; lifetime = c.entries.ensures.lifetime }); open_ = c.requires }
 
-pub returns-in-Some : goal.returns-in-Some
-returns-in-Some c = serves_up_to c.in-Some.why _ _ _ c.loop-why.invariant c.in-Some.ensures
+pub returns-in-Some-clause-served : goal.returns-in-Some-clause-served
+returns-in-Some-clause-served c = serves_up_to c.in-Some.why _ _ _ c.loop-why.invariant.serves c.in-Some.ensures.turns
 
 pub loop-why-preserved : goal.loop-why-preserved
-loop-why-preserved c = serves_more _ _ _ c.loop-why.invariant c.in_default.ensures
+loop-why-preserved c = record { serves = serves_more _ _ _ c.loop-why.invariant.serves c.in_default.ensures.turns; open_ = c.in_default.ensures.open_ }
