@@ -8,9 +8,10 @@ use Rattle.poa_base.specs.declared.Config.{Config}
 use Rattle.replay_script.specs.declared.Script.{Script}
 use Rattle.poad_cmd.specs.declared.status.Status.{Status}
 use Rattle.poad_cmd.specs.declared.status.Status.TheVariants as status
-use Rattle.poad_cmd.specs.Filing.{HoldsStill}
+use Rattle.conf_commands.specs.declared.Asked.{Asked}
+use Rattle.poad_cmd.specs.Filing.{Filed, Printed}
+use Rattle.poad_cmd.specs.Taking.{HoldsStill, config_limit, script_limit, IsHeld, OfContent, ReadsConfig, ReadsScript, Refused, TakesConfig, TakesFile, TakesScript}
 use Rattle.poad_cmd.specs.Showing.{GainsNothing}
-use Rattle.poad_cmd.specs.Taking.{config_limit, script_limit, IsHeld, OfContent, ReadsConfig, ReadsScript, Refused, TakesConfig, TakesFile, TakesScript}
 use Rattle.poad_cmd.specs.Playing.{NotTaken, no_config, no_script, PlaysFiles, PlaysScript, PlaysTaken}
 use Rattle.poad_cmd.proofs.Told.{told_then, told_here}
 use Rattle.poad_cmd.proofs.Causes.{cause_still, cause_from}
@@ -74,6 +75,22 @@ no_script_before name _ a b c still t = absurd t
 
 same_held : (h : Option (List ℕ)) → GainsNothing h h
 same_held h = told_here h (λ old new. new ≡ old) (λ x. refl)
+
+-- what is printed of a file that isn't taken
+pub filed_untaken : (asked : Asked) (name : List ℕ) (s : Status) (a b : Option Contents) (h : Option (List ℕ)) → Refused name config_limit s a b → Filed asked name s a b h h
+filed_untaken asked name status.NoFile a b h r = (r, same_held h)
+filed_untaken asked name status.FileTooLong a b h r = (r, same_held h)
+filed_untaken asked name status.FileFault a b h r = same_held h
+filed_untaken asked name status.WantMemory a b h r = same_held h
+filed_untaken asked name _ a b h r = absurd r
+
+-- and of one that is
+pub filed_taken : (asked : Asked) (name content : List ℕ) (s : Status) (a b : Option Contents) (h k : Option (List ℕ)) → IsHeld name config_limit content a b → Printed asked content s h k → Filed asked name s a b h k
+filed_taken asked name content status.NoFile a b h k held p = absurd p
+filed_taken asked name content status.FileTooLong a b h k held p = absurd p
+filed_taken asked name content status.FileFault a b h k held p = absurd p
+filed_taken asked name content status.WantMemory a b h k held p = p
+filed_taken asked name content _ a b h k held p = record { content = content; held = held; printed = p }
 
 -- the configuration isn't taken
 pub plays_no_config : (file script : List ℕ) (s : Status) (a b : Option Contents) (h : Option (List ℕ)) → TakesConfig file (Err s) a b → PlaysFiles file script s a b h h

@@ -4,6 +4,7 @@ use Rattle.std.specs.Option.{IsSomeAnd}
 use Rattle.outside.specs.Keeping.{Contents}
 use Rattle.outside.specs.Told.{IfTold}
 use Rattle.poa_base.specs.declared.Config.{Config}
+use Rattle.conf_fields.specs.declared.ConfFault.{ConfFault}
 use Rattle.conf_fields.specs.declared.ConfFault.TheVariants as conf
 use Rattle.conf_toml.specs.Configuration.{ReadAs}
 use Rattle.replay_script.specs.declared.Script.{Script}
@@ -64,3 +65,13 @@ abbrev pub TakesScript : List ℕ → Result Script Status → Option Contents �
 TakesScript name (Ok script) old new = OfContent name script_limit (λ content. ReadsScript content (Ok script)) old new
 TakesScript name (Err (ScriptRefused line)) old new = OfContent name script_limit (λ content. ReadsScript content (Err (ScriptRefused line))) old new
 TakesScript name (Err status) old new = Refused name script_limit status old new
+
+-- each name holds what it held
+abbrev pub HoldsStill : Contents → Contents → Type 0
+HoldsStill old new = (name : List ℕ) → new name ≡ old name
+
+-- the status where reading a text gave this fault
+abbrev pub Refuses : Status → ConfFault → Type 0
+Refuses WantMemory fault = fault ≡ conf.WantMemory
+Refuses (ConfigRefused told) fault = (told ≡ fault) × (fault ≢ conf.WantMemory)
+Refuses _ fault = ⊥

@@ -3,13 +3,14 @@ ghost use Rattle.std.specs.Prelude.{◌≡◌, Err, List, ℕ};
 ghost use Rattle.outside.specs.Cause.{HasCause};
 ghost use Rattle.outside.specs.Told.{IfTold};
 ghost use Rattle.conf_fields.specs.declared.ConfFault.TheVariants as fault;
-ghost use Rattle.poad_cmd.specs.Filing.{Filed, HoldsStill, Printed};
+ghost use Rattle.poad_cmd.specs.Filing.{Filed, Printed};
+ghost use Rattle.poad_cmd.specs.Taking.{HoldsStill};
 
 use crate::delivery::deliver;
 use crate::status::Status;
-use crate::taking::{CONFIG_LIMIT, refusal};
+use crate::taking::{CONFIG_LIMIT, refusal, take};
 use conf_commands::{Asked, print_config};
-use outside::{Files, Sink, Taken};
+use outside::{Files, Sink};
 use std::alloc::Global;
 
 /// Prints what is asked of the configuration in the file, or tells why it is none.
@@ -27,12 +28,9 @@ pub(crate) fn print_file<K: Sink, F: Files>(
     ensures too_long { HasCause (F.long_ones files.old) (F.long_ones files.new) (result ≡ Status.FileTooLong) }
     ensures written { HasCause (K.write_faults sink.old) (K.write_faults sink.new) (result ≡ Status.WriteFault) }
 {
-    match files.take(name, CONFIG_LIMIT) {
-        Taken::Bytes(content) => print_content(alloc, asked, content.as_slice(), sink),
-        Taken::Absent => Status::NoFile,
-        Taken::TooLong => Status::FileTooLong,
-        Taken::Failed => Status::FileFault,
-        Taken::WantMemory => Status::WantMemory,
+    match take(name, CONFIG_LIMIT, files) {
+        Ok(content) => print_content(alloc, asked, content.as_slice(), sink),
+        Err(status) => status,
     }
 }
 

@@ -3,7 +3,7 @@ ghost use Rattle.std.specs.Prelude.{◌≡◌, Err, IfOk, false, option_map};
 ghost use Rattle.outside.specs.Cause.{HasCause};
 ghost use Rattle.outside.specs.Told.{IfTold};
 ghost use Rattle.conf_rules.specs.Rules.{KeepsRules};
-ghost use Rattle.poad_cmd.specs.Filing.{HoldsStill};
+ghost use Rattle.poad_cmd.specs.Taking.{HoldsStill};
 ghost use Rattle.poad_cmd.specs.Answering.{AnswersBy, NamesConfig};
 
 use crate::answering::answer;

@@ -3,7 +3,7 @@ ghost use Rattle.std.specs.Prelude.{◌≡◌};
 ghost use Rattle.outside.specs.Cause.{HasCause};
 ghost use Rattle.outside.specs.Told.{IfTold};
 ghost use Rattle.conf_rules.specs.Rules.{KeepsRules};
-ghost use Rattle.poad_cmd.specs.Filing.{HoldsStill};
+ghost use Rattle.poad_cmd.specs.Taking.{HoldsStill};
 ghost use Rattle.poad_cmd.specs.Playing.{EndsPlay, PlaysFiles, PlaysScript};
 
 use crate::delivery::deliver;

@@ -6,7 +6,8 @@ ghost use Rattle.conf_commands.specs.declared.Asked.{Asked};
 ghost use Rattle.poad_cmd.specs.Answering.{AnswersBy};
 ghost use Rattle.poad_cmd.specs.Playing.{PlaysFiles};
 ghost use Rattle.poad_cmd.specs.Showing.{Tells};
-ghost use Rattle.poad_cmd.specs.Filing.{Filed, HoldsStill};
+ghost use Rattle.poad_cmd.specs.Filing.{Filed};
+ghost use Rattle.poad_cmd.specs.Taking.{HoldsStill};
 ghost use Rattle.poad_cmd.specs.Words as spec;
 ghost use Rattle.poad_cmd.specs.Words.{command_in};
 

@@ -3,8 +3,7 @@ ghost use Rattle.std.specs.Prelude.{◌≡◌, Err, IfOk};
 ghost use Rattle.outside.specs.Cause.{HasCause};
 ghost use Rattle.outside.specs.Told.{IfTold};
 ghost use Rattle.conf_rules.specs.Rules.{KeepsRules};
-ghost use Rattle.poad_cmd.specs.Filing.{HoldsStill, Refuses};
-ghost use Rattle.poad_cmd.specs.Taking.{ReadsConfig, ReadsScript, TakesConfig, TakesFile, TakesScript};
+ghost use Rattle.poad_cmd.specs.Taking.{HoldsStill, Refuses, ReadsConfig, ReadsScript, TakesConfig, TakesFile, TakesScript};
 
 use crate::status::Status;
 use conf_toml::{ConfFault, read_config};
@@ -56,8 +55,8 @@ pub(crate) fn take_script<F: Files>(
     }
 }
 
-// The content of a file of at most so many bytes.
-fn take<F: Files>(name: &str, limit: u64, files: &mut F) -> Result<Bytes, Status>
+/// The content of a file of at most so many bytes, or the status with which the command ends.
+pub(crate) fn take<F: Files>(name: &str, limit: u64, files: &mut F) -> Result<Bytes, Status>
     ensures taken { TakesFile name.now limit result (F.contents files.old) (F.contents files.new) }
     ensures contents { IfTold (F.contents files.old) (F.contents files.new) HoldsStill }
     ensures file_fault { HasCause (F.take_faults files.old) (F.take_faults files.new) (result ≡ Err Status.FileFault) }
