@@ -6,4 +6,3 @@ pub mod Pieces
 pub mod Worked
 pub mod Running
 pub mod Files
-pub mod Named

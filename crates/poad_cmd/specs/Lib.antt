@@ -1,4 +1,3 @@
-pub mod Words
 pub mod Serving
 pub mod Stop
 pub mod Run

@@ -43,6 +43,7 @@ pub(crate) fn answer<S: Source, K: Sink>(
     let Ok(mut service) = Service::new(alloc, config) else {
         return Status::WantMemory;
     };
+    // For its clauses: the history so far is legal.
     let _ = service.core.entries();
     let mut taken = 0;
     while taken < INPUT_LIMIT {
@@ -92,6 +93,7 @@ fn take_piece<K: Sink>(
     ensures written { HasCause (K.write_faults sink.old) (K.write_faults sink.new) (result ≡ Some Status.WriteFault) }
     ensures open_ { IsOpen service.new.core.history 0 }
 {
+    // For its clauses: the history so far is legal.
     let _ = service.core.entries();
     let Ok(()) = service.framer.feed(piece) else {
         return Some(Status::WantMemory);

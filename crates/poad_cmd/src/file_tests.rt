@@ -143,6 +143,21 @@ fn tells_how_many_calls_are_held(rt: HostRuntime) -> Result<(), Fail> {
 }
 
 #[test]
+fn the_least_call_that_is_not_held_is_admitted(rt: HostRuntime) -> Result<(), Fail> {
+    let alloc = rt.alloc();
+    let played = replayed(
+        alloc,
+        HOLDING,
+        b"ask a 1 /h t:x get\nadmin m manager root activate\nstep 0\nstep 0\n",
+    )?;
+    let want =
+        b"admit 0 1 answer ok\nadmit 0 0 serve 0\nrun 0\ndone 0\nreply a 47494f5001020101140000000100000000000000000000000000000000000000\nanswer m 1 ok\n";
+    assert_eq!(rt; played.status, Status::Ok);
+    assert_eq!(rt; played.written.as_slice(), want.as_slice());
+    Ok(())
+}
+
+#[test]
 fn refuses_the_first_line_that_is_none(rt: HostRuntime) -> Result<(), Fail> {
     let alloc = rt.alloc();
     let played = replayed(alloc, HOLDING, b"step x")?;

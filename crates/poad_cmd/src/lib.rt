@@ -22,7 +22,6 @@ mod taking;
 #[cfg(test)]
 mod tests;
 mod turns;
-mod words;
 
 pub use host::Host;
 pub use run::run_words;

@@ -1,15 +1,15 @@
 //! A command over a source, a sink and files.
-ghost use Rattle.std.specs.Prelude.{◌≡◌, ◌↔◌, ℕ, List, Option, Some, None, false};
+ghost use Rattle.std.specs.Prelude.{◌≡◌, ◌⊎◌, ℕ, List, Option, Some, None, false};
 ghost use Rattle.outside.specs.Cause.{HasCause};
 ghost use Rattle.outside.specs.Told.{IfTold};
-ghost use Rattle.conf_commands.specs.declared.Asked.{Asked};
+ghost use Rattle.command_words.specs.Words as spec;
+ghost use Rattle.command_words.specs.Words.{command_in};
+ghost use Rattle.conf_commands.specs.declared.Asked.TheVariants.{Counts, References};
 ghost use Rattle.poad_cmd.specs.Answering.{AnswersBy};
 ghost use Rattle.poad_cmd.specs.Playing.{PlaysFiles};
 ghost use Rattle.poad_cmd.specs.Showing.{Tells};
 ghost use Rattle.poad_cmd.specs.Filing.{Filed};
 ghost use Rattle.poad_cmd.specs.Taking.{HoldsStill};
-ghost use Rattle.poad_cmd.specs.Words as spec;
-ghost use Rattle.poad_cmd.specs.Words.{command_in};
 
 use crate::filing::print_file;
 use crate::host::Host;
@@ -17,7 +17,8 @@ use crate::naming::answer_by;
 use crate::playing::play_files;
 use crate::showing::show_text;
 use crate::status::Status;
-use crate::words::{Command, command_of};
+use command_words::{Command, WordsFault, command_of};
+use conf_commands::Asked;
 use outside::{Files, Sink, Source};
 use std::alloc::Global;
 
@@ -64,8 +65,9 @@ pub fn run_words<S: Source, K: Sink, F: Files>(
 ) -> Status
     requires patient { S.is_waiting host.old.source ≡ false }
 
-    ensures bad_words { result ≡ Status.BadWords ↔ (command_in words.now ≡ None) }
-    ensures untouched { result ≡ Status.BadWords → host.new ≡ host.old }
+    ensures bad_words { result ≡ Status.BadWords → command_in words.now ≡ None }
+    ensures no_command { command_in words.now ≡ None → (result ≡ Status.BadWords) ⊎ (result ≡ Status.WantMemory) }
+    ensures untouched { command_in words.now ≡ None → host.new ≡ host.old }
 
     ensures answers { (name : Option (List ℕ)) → command_in words.now ≡ Some (spec.answer name)
         → AnswersBy name result (F.contents host.old.files) (F.contents host.new.files) (S.left host.old.source) (S.left host.new.source) (K.held host.old.sink) (K.held host.new.sink) }
@@ -73,8 +75,10 @@ pub fn run_words<S: Source, K: Sink, F: Files>(
         → PlaysFiles file script result (F.contents host.old.files) (F.contents host.new.files) (K.held host.old.sink) (K.held host.new.sink) × (host.new.source ≡ host.old.source) }
     ensures shows { (text : List ℕ) → command_in words.now ≡ Some (spec.show text)
         → Tells result text (K.held host.old.sink) (K.held host.new.sink) × (host.new.source ≡ host.old.source) × (host.new.files ≡ host.old.files) }
-    ensures configs { (asked : Asked) (name : List ℕ) → command_in words.now ≡ Some (spec.config asked name)
-        → Filed asked name result (F.contents host.old.files) (F.contents host.new.files) (K.held host.old.sink) (K.held host.new.sink) × (host.new.source ≡ host.old.source) }
+    ensures checks { (name : List ℕ) → command_in words.now ≡ Some (spec.check name)
+        → Filed Counts name result (F.contents host.old.files) (F.contents host.new.files) (K.held host.old.sink) (K.held host.new.sink) × (host.new.source ≡ host.old.source) }
+    ensures iors { (name : List ℕ) → command_in words.now ≡ Some (spec.iors name)
+        → Filed References name result (F.contents host.old.files) (F.contents host.new.files) (K.held host.old.sink) (K.held host.new.sink) × (host.new.source ≡ host.old.source) }
     ensures contents { IfTold (F.contents host.old.files) (F.contents host.new.files) HoldsStill }
     ensures read_fault { HasCause (S.read_faults host.old.source) (S.read_faults host.new.source) (result ≡ Status.ReadFault) }
     ensures write_fault { HasCause (K.write_faults host.old.sink) (K.write_faults host.new.sink) (result ≡ Status.WriteFault) }
@@ -82,8 +86,13 @@ pub fn run_words<S: Source, K: Sink, F: Files>(
     ensures no_file { HasCause (F.absents host.old.files) (F.absents host.new.files) (result ≡ Status.NoFile) }
     ensures too_long { HasCause (F.long_ones host.old.files) (F.long_ones host.new.files) (result ≡ Status.FileTooLong) }
 {
-    match command_of(words) {
-        Some(Command::Answer(name)) => {
+    let command = match command_of(alloc, words) {
+        Ok(command) => command,
+        Err(WordsFault::BadWords) => return Status::BadWords,
+        Err(WordsFault::WantMemory) => return Status::WantMemory,
+    };
+    match command {
+        Command::Answer(name) => {
             answer_by(
                 alloc,
                 name,
@@ -92,13 +101,21 @@ pub fn run_words<S: Source, K: Sink, F: Files>(
                 &mut host.sink,
             )
         }
-        Some(Command::Replay(file, script)) => {
-            play_files(alloc, file, script, &mut host.files, &mut host.sink)
+        Command::Replay { config, script } => {
+            play_files(alloc, config, script, &mut host.files, &mut host.sink)
         }
-        Some(Command::Show(text)) => show_text(alloc, text.as_bytes(), &mut host.sink),
-        Some(Command::Config(asked, name)) => {
-            print_file(alloc, asked, name, &mut host.files, &mut host.sink)
+        Command::Show(text) => show_text(alloc, text.as_bytes(), &mut host.sink),
+        Command::Check(name) => {
+            print_file(alloc, Asked::Counts, name, &mut host.files, &mut host.sink)
         }
-        None => Status::BadWords,
+        Command::Iors(name) => {
+            print_file(
+                alloc,
+                Asked::References,
+                name,
+                &mut host.files,
+                &mut host.sink,
+            )
+        }
     }
 }

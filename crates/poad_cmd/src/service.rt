@@ -67,6 +67,7 @@ impl Service {
         ensures served { ServesUpTo result self.old self.new }
         ensures open_ { IsOpen self.new.core.history 0 }
     {
+        // For its clauses: the history so far is legal.
         let _ = self.core.entries();
         loop {
             if let Some(why) = self.serve_next(alloc) {
@@ -87,6 +88,7 @@ impl Service {
         match next {
             Next::Message(message) => {
                 let stop = self.serve_message(alloc, &message);
+                // For its clauses: the history so far is legal.
                 let _ = self.core.entries();
                 stop
             }
