@@ -114,20 +114,19 @@ pub fn is_at(arrival: u64, at: Option<u64>) -> bool
     }
 }
 
-/// The verdict by which an arrival stands admitted.
+/// The verdict by which an arrival stands admitted. Looks from the last entry back.
 pub fn admitted<'a>(history: &'a [Entry], arrival: u64) -> Option<&'a Verdict>
     ensures { option_copied result ≡ begun.admitted (reverse history.now) arrival }
 {
-    let mut found = None;
-    for (i, entry) in history.iter().enumerate() {
-        match entry {
+    for i in (0..history.len()).rev() {
+        match &history[i] {
             Entry::Admit {
                 arrival: of,
                 verdict,
                 ..
             } => {
                 if *of == arrival {
-                    found = Some(verdict);
+                    return Some(verdict);
                 }
             }
             Entry::Tried {
@@ -135,13 +134,13 @@ pub fn admitted<'a>(history: &'a [Entry], arrival: u64) -> Option<&'a Verdict>
                 answer: Attempt::Yes { .. },
             } => {
                 if is_at(arrival, arrival_in(stage(&history[..i], *worker))) {
-                    found = None;
+                    return None;
                 }
             }
             _ => {}
         }
     }
-    found
+    None
 }
 
 /// Whether an Abandon of the worker stands.
