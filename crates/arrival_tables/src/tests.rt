@@ -1,75 +1,33 @@
 //! What no clause says: that with ample memory each call succeeds, and what the tables hold after a short journal.
 use crate::calls::{Calls, call, call_admitted, call_tried, conn};
-use crate::known::Known;
 use crate::queue::{Queue, count, is_crowded};
 use crate::workers::{Workers, all_free, is_abandoned, stage, stage_at};
 use crate::{calls, queue, workers};
-use adapter_settings::Settings;
-use poa_base::{
-    Answer, Attempt, Bytes, Call, Command, Config, Entry, Head, Items, ManagerState, Verdict,
-};
+use poa_base::{Attempt, Call, Command, Entry, Head, Verdict};
 use poa_history::Stage;
-use standing_queries::Standing;
 use std::alloc::Global;
 use std::test::Fail;
 
-/// A run that has the root alone.
+/// A journal with its tables.
 #[derive(Drop)]
-struct Small {
-    config: Config,
+struct Run {
     entries: Vec<Entry>,
     calls: Calls,
     queue: Queue,
     workers: Workers,
-    standing: Standing,
-    settings: Settings,
 }
 
-fn known(run: &Small) -> Known<'_> {
-    Known {
-        config: &run.config,
-        run: 1,
-        entries: &run.entries,
-        calls: &run.calls,
-        queue: &run.queue,
-        standing: &run.standing,
-        settings: &run.settings,
-    }
-}
-
-fn config(alloc: Global) -> Result<Config, Fail> {
-    Ok(Config {
-        run: 1,
-        host: Bytes::from_vec(b"localhost".to_vec(alloc)?),
-        port: 2809,
-        admin_port: 2810,
-        gate_ms: 0,
-        root: ManagerState::Active,
-        managers: Items::new(alloc),
-        servants: Items::new(alloc),
-        adapters: Items::new(alloc),
-        objects: Items::new(alloc),
-        forwards: Items::new(alloc),
-    })
-}
-
-fn opened(alloc: Global) -> Result<Small, Fail> {
-    let config = config(alloc)?;
-    let standing = standing_of::opening(alloc, &config, 1)?;
-    let settings = adapter_settings::opening(alloc, &config)?;
-    Ok(Small {
-        config,
+fn opened(alloc: Global) -> Result<Run, Fail> {
+    Ok(Run {
         entries: Vec::new(alloc),
         calls: calls::none(alloc),
         queue: queue::empty(alloc),
         workers: all_free(alloc)?,
-        standing,
-        settings,
     })
 }
 
 /// The tables take in an entry, and the journal gets it.
-fn note(run: &mut Small, entry: Entry) -> Result<(), Fail> {
+fn note(run: &mut Run, entry: Entry) -> Result<(), Fail> {
     let begun = stage_at(&run.workers, &entry);
     let again = call_tried(&run.entries, &run.calls, &entry, begun);
     calls::reserve(&mut run.calls)?;
@@ -88,7 +46,7 @@ fn note(run: &mut Small, entry: Entry) -> Result<(), Fail> {
 }
 
 /// A line, a locate and a line arrive on the connection 3.
-fn arrived(alloc: Global) -> Result<Small, Fail> {
+fn arrived(alloc: Global) -> Result<Run, Fail> {
     let mut run = opened(alloc)?;
     note(&mut run, Entry::Entered { conn: 3 })?;
     note(
@@ -178,35 +136,5 @@ fn a_call_that_was_tried_goes_back_to_its_place(rt: HostRuntime) -> Result<(), F
     note(&mut run, Entry::Abandon { worker: 7 })?;
     assert!(rt; is_abandoned(&run.workers, 7));
     assert!(rt; !is_abandoned(&run.workers, 2));
-    Ok(())
-}
-
-#[test]
-fn the_least_arrival_that_is_not_held_is_admitted(rt: HostRuntime) -> Result<(), Fail> {
-    let mut run = arrived(rt.alloc())?;
-    note(&mut run, admit(0, Verdict::Answer(Answer::Good)))?;
-    let entry = known(&run).admission(rt.alloc(), 4)?;
-    assert!(rt;
-        matches!(
-            &entry,
-            Some(Entry::Admit {
-                worker: 4,
-                arrival: 1,
-                verdict: Verdict::Addressing
-            })
-        )
-    );
-    note(&mut run, admit(1, Verdict::Addressing))?;
-    let entry = known(&run).next(rt.alloc(), &run.workers, 4)?;
-    assert!(rt;
-        matches!(
-            &entry,
-            Some(Entry::Admit {
-                worker: 4,
-                arrival: 2,
-                ..
-            })
-        )
-    );
     Ok(())
 }
