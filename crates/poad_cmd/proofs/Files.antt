@@ -85,12 +85,15 @@ filed_untaken asked name status.WantMemory a b h r = same_held h
 filed_untaken asked name _ a b h r = absurd r
 
 -- and of one that is
-pub filed_taken : (asked : Asked) (name content : List ℕ) (s : Status) (a b : Option Contents) (h k : Option (List ℕ)) → IsHeld name config_limit content a b → Printed asked content s h k → Filed asked name s a b h k
+filed_taken : (asked : Asked) (name content : List ℕ) (s : Status) (a b : Option Contents) (h k : Option (List ℕ)) → IsHeld name config_limit content a b → Printed asked content s h k → Filed asked name s a b h k
 filed_taken asked name content status.NoFile a b h k held p = absurd p
 filed_taken asked name content status.FileTooLong a b h k held p = absurd p
 filed_taken asked name content status.FileFault a b h k held p = absurd p
 filed_taken asked name content status.WantMemory a b h k held p = p
 filed_taken asked name content _ a b h k held p = record { content = content; held = held; printed = p }
+
+pub filed_read : (asked : Asked) (name content bytes : List ℕ) (s : Status) (a b : Option Contents) (h k : Option (List ℕ)) → bytes ≡ content → IsHeld name config_limit content a b → Printed asked bytes s h k → Filed asked name s a b h k
+filed_read asked name content bytes s a b h k same held p = filed_taken asked name content s a b h k held (subst (λ (x : List ℕ). Printed asked x s h k) same p)
 
 -- the configuration isn't taken
 pub plays_no_config : (file script : List ℕ) (s : Status) (a b : Option Contents) (h : Option (List ℕ)) → TakesConfig file (Err s) a b → PlaysFiles file script s a b h h

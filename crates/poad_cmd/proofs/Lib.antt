@@ -6,3 +6,4 @@ pub mod Pieces
 pub mod Worked
 pub mod Running
 pub mod Files
+pub mod Named

@@ -165,3 +165,24 @@ fn refuses_the_first_line_that_is_none(rt: HostRuntime) -> Result<(), Fail> {
     assert_eq!(rt; played.written.len(), 0);
     Ok(())
 }
+
+#[test]
+fn takes_files_up_to_their_limits(rt: HostRuntime) -> Result<(), Fail> {
+    let alloc = rt.alloc();
+    let full = Vec::from_elem(alloc, b'\n', 1_048_576)?;
+    assert_eq!(rt;
+        run(alloc, &["check", "f"], full.as_slice(), &[])?.status,
+        Status::Ok
+    );
+    let script = Vec::from_elem(alloc, b'#', 67_108_864)?;
+    assert_eq!(rt;
+        replayed(alloc, HOLDING, script.as_slice())?.status,
+        Status::Ok
+    );
+    let longer = Vec::from_elem(alloc, b'#', 67_108_865)?;
+    assert_eq!(rt;
+        replayed(alloc, HOLDING, longer.as_slice())?.status,
+        Status::FileTooLong
+    );
+    Ok(())
+}

@@ -86,13 +86,8 @@ pub fn run_words<S: Source, K: Sink, F: Files>(
     ensures no_file { HasCause (F.absents host.old.files) (F.absents host.new.files) (result ≡ Status.NoFile) }
     ensures too_long { HasCause (F.long_ones host.old.files) (F.long_ones host.new.files) (result ≡ Status.FileTooLong) }
 {
-    let command = match command_of(alloc, words) {
-        Ok(command) => command,
-        Err(WordsFault::BadWords) => return Status::BadWords,
-        Err(WordsFault::WantMemory) => return Status::WantMemory,
-    };
-    match command {
-        Command::Answer(name) => {
+    match command_of(alloc, words) {
+        Ok(Command::Answer(name)) => {
             answer_by(
                 alloc,
                 name,
@@ -101,14 +96,14 @@ pub fn run_words<S: Source, K: Sink, F: Files>(
                 &mut host.sink,
             )
         }
-        Command::Replay { config, script } => {
+        Ok(Command::Replay { config, script }) => {
             play_files(alloc, config, script, &mut host.files, &mut host.sink)
         }
-        Command::Show(text) => show_text(alloc, text.as_bytes(), &mut host.sink),
-        Command::Check(name) => {
+        Ok(Command::Show(text)) => show_text(alloc, text.as_bytes(), &mut host.sink),
+        Ok(Command::Check(name)) => {
             print_file(alloc, Asked::Counts, name, &mut host.files, &mut host.sink)
         }
-        Command::Iors(name) => {
+        Ok(Command::Iors(name)) => {
             print_file(
                 alloc,
                 Asked::References,
@@ -117,5 +112,7 @@ pub fn run_words<S: Source, K: Sink, F: Files>(
                 &mut host.sink,
             )
         }
+        Err(WordsFault::BadWords) => Status::BadWords,
+        Err(WordsFault::WantMemory) => Status::WantMemory,
     }
 }
