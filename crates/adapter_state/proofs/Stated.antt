@@ -13,8 +13,8 @@ use Rattle.poa_history.specs.Changes.{standing}
 use Rattle.poa_history.specs.Logs.{is_accepted, command_in, command_done}
 use Rattle.poa_history.specs.Stages.{stage}
 use Rattle.poa_history.specs.States.{Stored, call_run}
-use Rattle.poa_opening.specs.Runs.{IsRun}
-use Rattle.poa_opening.proofs.Opened.{given, alone, within}
+use Rattle.history_openings.specs.Runs.{IsRun}
+use Rattle.history_openings.proofs.Opened.{given, alone, within}
 use Rattle.standing_queries.specs.declared.standing.Standing.{Standing}
 use Rattle.standing_queries.specs.Seen.{seen}
 use Rattle.standing_of.specs.Entries.{stage_at, call_admitted}
@@ -33,7 +33,7 @@ pub ok_then : {T E : Type 0} {P Q : Type 0} (r : Result T E) → (P → Q) → O
 ok_then (Ok x) f p = f p
 ok_then (Err x) f p = tt
 
--- no servant acts, comes or leaves
+-- no servant activations, comes or leaves
 pub quiet_state : (c : Config) (run limit : ℕ) (opened : Stored) (past : List Entry) (e : Entry) (s : State) (stands : Standing) (set : Settings) → IsRun c run limit (e ∷ past) → is_quiet e ≡ true
     → Holds c run opened past (kept_in s.servants) → seen stands ≡ standing c run (e ∷ past) → Tells c (e ∷ past) set → IsState c run opened (e ∷ past) (record { standing = stands; settings = set; servants = s.servants })
 quiet_state c run limit opened past e s stands set follows quiet held stands_is tells =

@@ -8,7 +8,7 @@ use Rattle.poa_base.specs.declared.Entry.TheVariants.{Admit, Tried, Incarnated, 
 use Rattle.poa_history.specs.Arrivals.{call_of}
 use Rattle.poa_history.specs.Changes.{standing}
 use Rattle.poa_history.specs.States.{Stored, call_run, servant_run}
-use Rattle.poa_opening.specs.Runs.{IsRun}
+use Rattle.history_openings.specs.Runs.{IsRun}
 use Rattle.standing_queries.specs.Seen.{seen}
 use Rattle.standing_of.specs.Entries.{stage_at}
 use Rattle.adapter_settings.specs.Told.{Tells}

@@ -1,5 +1,5 @@
 ghost use Rattle.std.specs.Prelude.{◌≡◌, ◌∷◌, ◌++◌, [], IfOk, OnOk, map};
-ghost use Rattle.text_words.specs.Gives.{Gives};
+ghost use Rattle.text_words.specs.WordGives.{WordGives};
 ghost use Rattle.text_words.specs.Identity.{printed_id_of};
 ghost use Rattle.text_words.specs.Token.{tails, texts};
 ghost use Rattle.admin_answer.specs.Answer.{answer_behind, answer_of, answer_tokens, behind_ok, id_or_reference as id_or_reference_of, objection_in, objection_of, reason_behind, reason_of, reason_tokens, success_in, value_tokens};
@@ -77,7 +77,7 @@ fn objection(reason: Reason) -> Objection
 
 /// The answer of its words, as `put_answer` adds them.
 pub fn read_answer(alloc: Global, words: &[&[u8]]) -> Result<Answer, WordFault>
-    ensures value { Gives result (answer_of (map (λ w. w.now) words.now)) }
+    ensures value { WordGives result (answer_of (map (λ w. w.now) words.now)) }
     ensures text { IfOk result (λ answer. map (λ w. w.now) words.now ≡ texts (answer_tokens answer)) }
 {
     let [word, rest @ ..] = words else {
@@ -90,7 +90,7 @@ pub fn read_answer(alloc: Global, words: &[&[u8]]) -> Result<Answer, WordFault>
 }
 
 fn behind(alloc: Global, success: Success, words: &[&[u8]]) -> Result<Answer, WordFault>
-    ensures value { Gives result (answer_behind success (map (λ w. w.now) words.now)) }
+    ensures value { WordGives result (answer_behind success (map (λ w. w.now) words.now)) }
     ensures text { IfOk result (λ answer. success_word success ∷ map (λ w. w.now) words.now ≡ texts (answer_tokens answer)) }
 {
     match success {
@@ -103,7 +103,7 @@ fn behind(alloc: Global, success: Success, words: &[&[u8]]) -> Result<Answer, Wo
 }
 
 fn value(alloc: Global, words: &[&[u8]]) -> Result<Answer, WordFault>
-    ensures value { Gives result (behind_ok (map (λ w. w.now) words.now)) }
+    ensures value { WordGives result (behind_ok (map (λ w. w.now) words.now)) }
     ensures text { IfOk result (λ answer. success_word Success.Ok ∷ map (λ w. w.now) words.now ≡ texts (answer_tokens answer)) }
 {
     match words {
@@ -114,7 +114,7 @@ fn value(alloc: Global, words: &[&[u8]]) -> Result<Answer, WordFault>
 }
 
 fn id_or_reference(alloc: Global, word: &[u8]) -> Result<Answer, WordFault>
-    ensures value { Gives result (id_or_reference_of word.now (printed_id_of word.now)) }
+    ensures value { WordGives result (id_or_reference_of word.now (printed_id_of word.now)) }
     ensures text { IfOk result (λ answer. success_word Success.Ok ∷ word.now ∷ [] ≡ texts (answer_tokens answer)) }
 {
     match identity(alloc, word) {
@@ -128,7 +128,7 @@ fn id_or_reference(alloc: Global, word: &[u8]) -> Result<Answer, WordFault>
 }
 
 fn read_reason(words: &[&[u8]]) -> Result<Reason, WordFault>
-    ensures value { Gives result (reason_of (map (λ w. w.now) words.now)) }
+    ensures value { WordGives result (reason_of (map (λ w. w.now) words.now)) }
     ensures text { IfOk result (λ reason. map (λ w. w.now) words.now ≡ texts (reason_tokens reason)) }
 {
     let [word, rest @ ..] = words else {
@@ -139,7 +139,7 @@ fn read_reason(words: &[&[u8]]) -> Result<Reason, WordFault>
 }
 
 fn read_objection(word: &[u8]) -> Result<Objection, WordFault>
-    ensures value { Gives result (objection_of word.now) }
+    ensures value { WordGives result (objection_of word.now) }
     ensures text { IfOk result (λ o. word.now ≡ objection_word o) }
 {
     let all = [
@@ -163,7 +163,7 @@ fn read_objection(word: &[u8]) -> Result<Objection, WordFault>
 }
 
 fn reason(objection: Objection, words: &[&[u8]]) -> Result<Reason, WordFault>
-    ensures value { Gives result (reason_behind objection (map (λ w. w.now) words.now)) }
+    ensures value { WordGives result (reason_behind objection (map (λ w. w.now) words.now)) }
     ensures text { IfOk result (λ reason. objection_word objection ∷ map (λ w. w.now) words.now ≡ texts (reason_tokens reason)) }
 {
     match objection {

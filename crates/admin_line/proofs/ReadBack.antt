@@ -11,7 +11,7 @@ use Rattle.admin_line.specs.declared.reading.Source.{Source}
 use Rattle.admin_line.specs.declared.reading.Source.TheVariants.{Link, Journal}
 use Rattle.admin_line.specs.Fixed.{verb_word, shift_word, pace_word, pace, end_word, ending}
 use Rattle.admin_line.specs.Command.{IsCommand, command_tokens}
-use Rattle.admin_line.specs.Reading.{command_of, command_of_line, settled, spelled_id_of, pace_of, end_of}
+use Rattle.admin_line.specs.Reading.{command_of, command_of_line, command_or_bad, spelled_id_of, pace_of, end_of}
 
 pace_back : (wait : Bool) → pace_of (pace_word (pace wait)) ≡ Some (pace wait)
 unfolding pace_word
@@ -62,4 +62,4 @@ command_back Journal (Bad k) ok h = rw (number_back (2 ^ 32) k h.1.0.0 (omega ar
 
 -- the line of a command gives the command
 pub line_back : (c : Command) → IsCommand c → AllFit (command_tokens c) → command_of_line (spelled (command_tokens c)) ≡ c
-line_back c ok h = ap (λ ws. settled (command_of Link ws)) (loose_spelled (command_tokens c) h) ∙ ap settled (command_back Link c ok h)
+line_back c ok h = ap (λ ws. command_or_bad (command_of Link ws)) (loose_spelled (command_tokens c) h) ∙ ap command_or_bad (command_back Link c ok h)

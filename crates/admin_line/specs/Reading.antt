@@ -141,10 +141,10 @@ command_of source ws = do
   v ← at 1 verb_of ws
   behind_verb source v.0 v.1
 
-abbrev pub settled : Result Command ℕ → Command
-settled (Ok command) = command
-settled (Err k) = Bad k
+abbrev pub command_or_bad : Result Command ℕ → Command
+command_or_bad (Ok command) = command
+command_or_bad (Err k) = Bad k
 
 -- the command of a line, a bad one with its first wrong word
 abbrev pub command_of_line : List ℕ → Command
-command_of_line line = settled (command_of Link (loose_words_of line))
+command_of_line line = command_or_bad (command_of Link (loose_words_of line))

@@ -1,6 +1,6 @@
 //! Words read one after another.
 ghost use Rattle.std.specs.Prelude.{◌≡◌, ◌∷◌, ◌^◌, [], IfOk, map};
-ghost use Rattle.text_words.specs.Gives.{Gives};
+ghost use Rattle.text_words.specs.WordGives.{WordGives};
 ghost use Rattle.text_words.specs.Keyword.{named_in};
 ghost use Rattle.text_words.specs.Name.{host_of, name_of};
 ghost use Rattle.text_words.specs.Number.{number_of, port_of};
@@ -144,7 +144,7 @@ pub(crate) fn identity_at<'a>(
 }
 
 fn spelled_identity(alloc: Global, source: Source, word: &[u8]) -> Result<Oid, WordFault>
-    ensures value { Gives result (spelled_id_of source word.now) }
+    ensures value { WordGives result (spelled_id_of source word.now) }
     ensures text { IfOk result (λ id. source ≡ Source.Journal → word.now ≡ spell (Token.identity id)) }
 {
     match source {

@@ -28,8 +28,8 @@ use Rattle.poa_history.specs.Standings.{Standing}
 use Rattle.poa_history.specs.States.{Stored, acted, call_run, servant_run, state_of}
 use Rattle.poa_history.specs.declared.stage.Stage.{Stage}
 use Rattle.poa_history.specs.declared.stage.Stage.TheVariants.{Free, Trying, Incarnating, Serving, Ran, Removing}
-use Rattle.poa_verdict.specs.Laws.{runs}
-use Rattle.poa_verdict.specs.declared.Choice.TheVariants.{Go}
+use Rattle.poa_choose.specs.Laws.{runs}
+use Rattle.poa_choose.specs.declared.Choice.TheVariants.{Go}
 use Rattle.call_tables.specs.Decided.{Decides}
 use Rattle.call_replies.specs.Comes.{Comes, arrival_at}
 use Rattle.call_replies.specs.Fixed.{may_decide, reply_in, target_in}

@@ -27,7 +27,7 @@ abbrev pub wait_for : ℕ → Standing → Order → Wait
 wait_for m s Activate = Nothing
 wait_for m s (Hold wait) = Quiet m
 wait_for m s (Discard wait) = Quiet m
-wait_for m s (Deactivate etherealize wait) = Off m etherealize (length s.acts)
+wait_for m s (Deactivate etherealize wait) = Off m etherealize (length s.activations)
 
 -- what the command waits for, admitted where this stands
 abbrev pub wait_of : Config → Standing → Option Command → Option Wait

@@ -54,7 +54,7 @@ fn wait_for(manager: u32, standing: &Standing, order: Order) -> Wait
         Order::Deactivate { etherealize, .. } => Wait::Off {
             manager,
             etherealize,
-            begun: standing.acts.len(),
+            begun: standing.activations.len(),
         },
     }
 }

@@ -1,5 +1,5 @@
 pub mod Chain
-pub mod Gives
+pub mod FieldGives
 pub mod Place
 pub mod Words
 pub mod Look

@@ -1,7 +1,7 @@
 //! The faults at a key.
 ghost use Rattle.std.specs.Prelude.{◌≡◌, length, nat_le, ℕ, List, Err};
 ghost use Rattle.conf_fields.specs.declared.fault.ConfFault.TheVariants as fault;
-ghost use Rattle.conf_fields.specs.Gives.{Gives};
+ghost use Rattle.conf_fields.specs.FieldGives.{FieldGives};
 ghost use Rattle.conf_fields.specs.Place.{key_path as the_key_path, table_path as the_table_path};
 
 use crate::fault::ConfFault;
@@ -10,7 +10,7 @@ use std::alloc::Global;
 
 /// Field at a key.
 pub fn wrong<T>(alloc: Global, at: Place, key: &str) -> Result<T, ConfFault>
-    ensures { Gives result (Err (fault.Field (the_key_path at key.now))) }
+    ensures { FieldGives result (Err (fault.Field (the_key_path at key.now))) }
 {
     let path = key_path(alloc, at, key)?;
     Err(ConfFault::Field { path })
@@ -18,7 +18,7 @@ pub fn wrong<T>(alloc: Global, at: Place, key: &str) -> Result<T, ConfFault>
 
 /// Field at a table of the wrong type.
 pub(crate) fn wrong_table<T>(alloc: Global, at: Place) -> Result<T, ConfFault>
-    ensures { Gives result (Err (fault.Field (the_table_path at))) }
+    ensures { FieldGives result (Err (fault.Field (the_table_path at))) }
 {
     let path = table_path(alloc, at)?;
     Err(ConfFault::Field { path })
@@ -26,7 +26,7 @@ pub(crate) fn wrong_table<T>(alloc: Global, at: Place) -> Result<T, ConfFault>
 
 /// Twice at a key.
 pub fn twice<T>(alloc: Global, at: Place, key: &str) -> Result<T, ConfFault>
-    ensures { Gives result (Err (fault.Twice (the_key_path at key.now))) }
+    ensures { FieldGives result (Err (fault.Twice (the_key_path at key.now))) }
 {
     let path = key_path(alloc, at, key)?;
     Err(ConfFault::Twice { path })
@@ -34,7 +34,7 @@ pub fn twice<T>(alloc: Global, at: Place, key: &str) -> Result<T, ConfFault>
 
 /// NoSuch at a key.
 pub fn no_such<T>(alloc: Global, at: Place, key: &str) -> Result<T, ConfFault>
-    ensures { Gives result (Err (fault.NoSuch (the_key_path at key.now))) }
+    ensures { FieldGives result (Err (fault.NoSuch (the_key_path at key.now))) }
 {
     let path = key_path(alloc, at, key)?;
     Err(ConfFault::NoSuch { path })
@@ -42,7 +42,7 @@ pub fn no_such<T>(alloc: Global, at: Place, key: &str) -> Result<T, ConfFault>
 
 /// Limit at a key.
 pub fn limited<T>(alloc: Global, at: Place, key: &str) -> Result<T, ConfFault>
-    ensures { Gives result (Err (fault.Limit (the_key_path at key.now))) }
+    ensures { FieldGives result (Err (fault.Limit (the_key_path at key.now))) }
 {
     let what = key_path(alloc, at, key)?;
     Err(ConfFault::Limit { what })

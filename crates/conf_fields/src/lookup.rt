@@ -2,7 +2,7 @@
 ghost use Rattle.std.specs.Prelude.{◌≡◌, ◌≤◌, option_map, true, Some, IfOk, IfSome, OnOk};
 ghost use Rattle.toml.specs.Data.{get_member, as_bool as bool_of, as_integer as integer_of};
 ghost use Rattle.toml.specs.View.{view, table_view};
-ghost use Rattle.conf_fields.specs.Gives.{Gives};
+ghost use Rattle.conf_fields.specs.FieldGives.{FieldGives};
 ghost use Rattle.conf_fields.specs.Look.{or_field, wanted, with_default, maybe, only_if as the_only_if, number_within, number_in as the_number_in, text_in};
 
 use crate::fault::ConfFault;
@@ -21,7 +21,7 @@ pub fn member_at<'a>(table: &'a Table, key: &str) -> Option<&'a Value>
 
 /// The value, or Field at the key.
 pub fn or_wrong<T>(alloc: Global, at: Place, key: &str, value: Option<T>) -> Result<T, ConfFault>
-    ensures value { Gives result (or_field at key.now value) }
+    ensures value { FieldGives result (or_field at key.now value) }
     ensures same { IfOk result (λ x. value ≡ Some x) }
 {
     match value {
@@ -32,7 +32,7 @@ pub fn or_wrong<T>(alloc: Global, at: Place, key: &str, value: Option<T>) -> Res
 
 /// Field at the key where the condition doesn't hold.
 pub fn only_if(alloc: Global, at: Place, key: &str, holds: bool) -> Result<(), ConfFault>
-    ensures value { Gives result (the_only_if holds at key.now) }
+    ensures value { FieldGives result (the_only_if holds at key.now) }
     ensures held { OnOk result (holds ≡ true) }
 {
     if holds { Ok(()) } else { wrong(alloc, at, key) }
@@ -68,7 +68,7 @@ pub fn number_at(
     least: u32,
     most: u32,
 ) -> Result<u32, ConfFault>
-    ensures value { Gives result (wanted (the_number_in least most) at key.now (table_view table.now)) }
+    ensures value { FieldGives result (wanted (the_number_in least most) at key.now (table_view table.now)) }
     ensures bound { IfOk result (λ k. (least ≤ k) × (k ≤ most)) }
 {
     match member_at(table, key) {
@@ -88,7 +88,7 @@ pub fn number_or(
     default: u32,
 ) -> Result<u32, ConfFault>
     requires { (least ≤ default) × (default ≤ most) }
-    ensures value { Gives result (with_default (the_number_in least most) default at key.now (table_view table.now)) }
+    ensures value { FieldGives result (with_default (the_number_in least most) default at key.now (table_view table.now)) }
     ensures bound { IfOk result (λ k. (least ≤ k) × (k ≤ most)) }
 {
     match member_at(table, key) {
@@ -99,7 +99,7 @@ pub fn number_or(
 
 /// A port that has to be there.
 pub fn port_at(alloc: Global, at: Place, table: &Table, key: &str) -> Result<u16, ConfFault>
-    ensures value { Gives result (wanted (the_number_in 1 65535) at key.now (table_view table.now)) }
+    ensures value { FieldGives result (wanted (the_number_in 1 65535) at key.now (table_view table.now)) }
     ensures bound { IfOk result (λ k. 1 ≤ k) }
 {
     let port = number_at(alloc, at, table, key, 1, 65535)?;
@@ -115,7 +115,7 @@ pub fn port_or(
     default: u16,
 ) -> Result<u16, ConfFault>
     requires { 1 ≤ default }
-    ensures value { Gives result (with_default (the_number_in 1 65535) default at key.now (table_view table.now)) }
+    ensures value { FieldGives result (with_default (the_number_in 1 65535) default at key.now (table_view table.now)) }
     ensures bound { IfOk result (λ k. 1 ≤ k) }
 {
     let port = number_or(alloc, at, table, key, 1, 65535, u32::from(default))?;
@@ -130,7 +130,7 @@ pub fn integer_or(
     key: &str,
     default: i64,
 ) -> Result<i64, ConfFault>
-    ensures { Gives result (with_default integer_of default at key.now (table_view table.now)) }
+    ensures { FieldGives result (with_default integer_of default at key.now (table_view table.now)) }
 {
     match member_at(table, key) {
         Some(value) => or_wrong(alloc, at, key, value.as_integer()),
@@ -146,7 +146,7 @@ pub fn flag_or(
     key: &str,
     default: bool,
 ) -> Result<bool, ConfFault>
-    ensures { Gives result (with_default bool_of default at key.now (table_view table.now)) }
+    ensures { FieldGives result (with_default bool_of default at key.now (table_view table.now)) }
 {
     match member_at(table, key) {
         Some(value) => or_wrong(alloc, at, key, value.as_bool()),
@@ -166,7 +166,7 @@ pub fn word_in<W: Word>(value: &Value) -> Option<W>
 
 /// The meaning of a word that has to be there.
 pub fn word_at<W: Word>(alloc: Global, at: Place, table: &Table, key: &str) -> Result<W, ConfFault>
-    ensures { Gives result (wanted (text_in W.meaning) at key.now (table_view table.now)) }
+    ensures { FieldGives result (wanted (text_in W.meaning) at key.now (table_view table.now)) }
 {
     match member_at(table, key) {
         Some(value) => or_wrong(alloc, at, key, word_in(value)),
@@ -182,7 +182,7 @@ pub fn word_or<W: Word>(
     key: &str,
     default: W,
 ) -> Result<W, ConfFault>
-    ensures { Gives result (with_default (text_in W.meaning) default at key.now (table_view table.now)) }
+    ensures { FieldGives result (with_default (text_in W.meaning) default at key.now (table_view table.now)) }
 {
     match member_at(table, key) {
         Some(value) => or_wrong(alloc, at, key, word_in(value)),
@@ -197,7 +197,7 @@ pub fn word_maybe<W: Word>(
     table: &Table,
     key: &str,
 ) -> Result<Option<W>, ConfFault>
-    ensures { Gives result (maybe (text_in W.meaning) at key.now (table_view table.now)) }
+    ensures { FieldGives result (maybe (text_in W.meaning) at key.now (table_view table.now)) }
 {
     match member_at(table, key) {
         Some(value) => Ok(Some(or_wrong(alloc, at, key, word_in(value))?)),

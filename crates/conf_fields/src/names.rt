@@ -5,9 +5,9 @@ ghost use Rattle.text_words.specs.Identity.{id_of};
 ghost use Rattle.text_words.specs.Name.{name_of, host_of, is_name, is_host};
 ghost use Rattle.std.specs.List.{list_all};
 ghost use Rattle.text_words.specs.Path.{path_names_of, path_text};
-ghost use Rattle.text_words.specs.Gives.{Gives as Reads};
+ghost use Rattle.text_words.specs.WordGives.{FieldGives as Reads};
 ghost use Rattle.conf_fields.specs.declared.fault.ConfFault.TheVariants as fault;
-ghost use Rattle.conf_fields.specs.Gives.{Gives, GivesView};
+ghost use Rattle.conf_fields.specs.FieldGives.{FieldGives, GivesView};
 ghost use Rattle.conf_fields.specs.Look.{wanted, with_default, text_in};
 ghost use Rattle.conf_fields.specs.Paths.{path_at as the_path_at, shallow as the_shallow};
 
@@ -88,7 +88,7 @@ pub fn name_at<'a>(
 
 /// A host that has to be there.
 pub fn host_at(alloc: Global, at: Place, table: &Table, key: &str) -> Result<Bytes, ConfFault>
-    ensures value { Gives result (wanted (text_in host_of) at key.now (table_view table.now)) }
+    ensures value { FieldGives result (wanted (text_in host_of) at key.now (table_view table.now)) }
     ensures host { IfOk result (λ h. is_host h ≡ true) }
 {
     let Some(value) = member_at(table, key) else {
@@ -112,7 +112,7 @@ pub fn host_or(
     default: &str,
 ) -> Result<Bytes, ConfFault>
     requires { is_host default.now ≡ true }
-    ensures value { Gives result (with_default (text_in host_of) default.now at key.now (table_view table.now)) }
+    ensures value { FieldGives result (with_default (text_in host_of) default.now at key.now (table_view table.now)) }
     ensures host { IfOk result (λ h. is_host h ≡ true) }
 {
     let Some(value) = member_at(table, key) else {
@@ -151,7 +151,7 @@ fn names_at<'a>(
 }
 
 fn shallow(alloc: Global, at: Place, key: &str, names: Items<Name>) -> Result<Path, ConfFault>
-    ensures value { Gives result (the_shallow at key.now names) }
+    ensures value { FieldGives result (the_shallow at key.now names) }
     ensures same { IfOk result (λ path. (path ≡ names) × (length path ≤ 16)) }
 {
     match Path::from_vec(names.into_vec()) {
@@ -188,7 +188,7 @@ pub fn id_of_text(alloc: Global, text: &str) -> Result<Option<Oid>, ConfFault>
 
 /// An object id that has to be there.
 pub fn id_at(alloc: Global, at: Place, table: &Table, key: &str) -> Result<Oid, ConfFault>
-    ensures { Gives result (wanted (text_in id_of) at key.now (table_view table.now)) }
+    ensures { FieldGives result (wanted (text_in id_of) at key.now (table_view table.now)) }
 {
     let Some(value) = member_at(table, key) else {
         return wrong(alloc, at, key);

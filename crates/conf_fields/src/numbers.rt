@@ -2,7 +2,7 @@
 ghost use Rattle.std.specs.Prelude.{◌≡◌, [], Some, None, Err, OnOk, IfErr, IfOk};
 ghost use Rattle.toml.specs.View.{table_view};
 ghost use Rattle.conf_fields.specs.declared.fault.ConfFault.TheVariants as fault;
-ghost use Rattle.conf_fields.specs.Gives.{Gives};
+ghost use Rattle.conf_fields.specs.FieldGives.{FieldGives};
 ghost use Rattle.conf_fields.specs.Numbers.{find_in, noted, place_of, seen_of, not_twice as the_not_twice, number_named as the_number_named, or_no_such, IsNumber};
 
 use crate::fault::ConfFault;
@@ -53,7 +53,7 @@ pub fn not_twice(
     key: &str,
     name: &str,
 ) -> Result<(), ConfFault>
-    ensures value { Gives result (the_not_twice (find_in numbers.now) at key.now name.now) }
+    ensures value { FieldGives result (the_not_twice (find_in numbers.now) at key.now name.now) }
     ensures fresh { OnOk result (find_in numbers.now name.now ≡ None) }
 {
     match find(numbers, name) {
@@ -64,7 +64,7 @@ pub fn not_twice(
 
 /// The number, or NoSuch at the key.
 pub fn or_missing(alloc: Global, at: Place, key: &str, found: Option<u32>) -> Result<u32, ConfFault>
-    ensures value { Gives result (or_no_such at key.now found) }
+    ensures value { FieldGives result (or_no_such at key.now found) }
     ensures found { IfOk result (λ n. found ≡ Some n) }
 {
     match found {
@@ -82,7 +82,7 @@ pub fn number_named(
     table: &Table,
     key: &str,
 ) -> Result<u32, ConfFault>
-    ensures value { Gives result (the_number_named (find_in numbers.now) at key.now (table_view table.now)) }
+    ensures value { FieldGives result (the_number_named (find_in numbers.now) at key.now (table_view table.now)) }
     ensures found { IfOk result (λ n. IsNumber (find_in numbers.now) n) }
 {
     let (_, name) = name_at(alloc, at, table, key)?;

@@ -2,7 +2,7 @@
 ghost use Rattle.std.specs.Prelude.{◌≡◌, ◌≤◌, map, length, Option, Some, None, IfOk, option_map, is_some};
 ghost use Rattle.toml.specs.Data.{get_member};
 ghost use Rattle.toml.specs.View.{view, table_view, items_view, array_view};
-ghost use Rattle.conf_fields.specs.Gives.{Gives, GivesView};
+ghost use Rattle.conf_fields.specs.FieldGives.{FieldGives, GivesView};
 ghost use Rattle.conf_fields.specs.Look.{is_among, unknown_key, only_known, none_of as the_none_of, table_in as the_table_in, items_at as the_items_at, at_most as the_at_most, entries_at as the_entries_at};
 
 use crate::fault::ConfFault;
@@ -34,7 +34,7 @@ fn unknown_in<'a>(table: &'a Table, known: &[&str]) -> Option<&'a str>
 
 /// Field at the least key, in byte order, that is none of the known ones.
 pub fn known_keys(alloc: Global, at: Place, table: &Table, known: &[&str]) -> Result<(), ConfFault>
-    ensures { Gives result (only_known (map (λ k. k.now) known.now) at (table_view table.now)) }
+    ensures { FieldGives result (only_known (map (λ k. k.now) known.now) at (table_view table.now)) }
 {
     match unknown_in(table, known) {
         None => Ok(()),
@@ -51,7 +51,7 @@ pub fn has(table: &Table, key: &str) -> bool
 
 /// Field at the first of these keys that is there.
 pub fn none_of(alloc: Global, at: Place, table: &Table, keys: &[&str]) -> Result<(), ConfFault>
-    ensures { Gives result (the_none_of (map (λ k. k.now) keys.now) at (table_view table.now)) }
+    ensures { FieldGives result (the_none_of (map (λ k. k.now) keys.now) at (table_view table.now)) }
 {
     for key in keys {
         if has(table, key) {

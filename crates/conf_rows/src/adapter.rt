@@ -3,7 +3,7 @@ ghost use Rattle.std.specs.Prelude.{◌≡◌, ◌≤◌, ◌<◌, true, false, 
 ghost use Rattle.std.specs.List.{slice_get};
 ghost use Rattle.toml.specs.View.{view, table_view, items_view};
 ghost use Rattle.conf_fields.specs.Entries.{entries_of};
-ghost use Rattle.conf_fields.specs.Gives.{Gives, GivesView};
+ghost use Rattle.conf_fields.specs.FieldGives.{FieldGives, GivesView};
 ghost use Rattle.conf_fields.specs.Look.{only_known};
 ghost use Rattle.conf_fields.specs.Numbers.{Find, IsNumber, find_in, noted, place_of};
 ghost use Rattle.conf_rules.specs.Adapters.{IsPreset};
@@ -35,7 +35,7 @@ struct Earlier<'a> {
 
 #[tactic(auto, unfolding(crate::specs::Adapters::adapter_keys))]
 fn adapter_keys(alloc: Global, at: Place, table: &Table) -> Result<(), ConfFault>
-    ensures { Gives result (only_known the_adapter_keys at (table_view table.now)) }
+    ensures { FieldGives result (only_known the_adapter_keys at (table_view table.now)) }
 {
     let keys = [
         "path", "policies", "manager", "boot", "children", "default", "rule",
@@ -84,7 +84,7 @@ fn boot_at(
     text: &str,
     table: &Table,
 ) -> Result<bool, ConfFault>
-    ensures value { Gives result (the_boot_at at (find_in paths.now) adapters.now text.now (table_view table.now)) }
+    ensures value { FieldGives result (the_boot_at at (find_in paths.now) adapters.now text.now (table_view table.now)) }
     ensures parent { IfOk result (λ boot. boot ≡ true → the_parent_boots (find_in paths.now) adapters.now (the_parent_text text.now) ≡ true) }
 {
     let boot = flag_or(alloc, at, table, "boot", false)?;
@@ -100,7 +100,7 @@ fn manager_number(
     managers: &Numbers,
     table: &Table,
 ) -> Result<u32, ConfFault>
-    ensures value { Gives result (the_manager_number at (find_in managers.now) (table_view table.now)) }
+    ensures value { FieldGives result (the_manager_number at (find_in managers.now) (table_view table.now)) }
     ensures found { IfOk result (λ n. IsManagerNumber (find_in managers.now) n) }
 {
     if has(table, "manager") {
@@ -117,7 +117,7 @@ fn preset_given(
     policies: &PolicySet,
     table: &Table,
 ) -> Result<Option<u32>, ConfFault>
-    ensures value { Gives result (the_preset_given at (find_in servants.now) policies.now (table_view table.now)) }
+    ensures value { FieldGives result (the_preset_given at (find_in servants.now) policies.now (table_view table.now)) }
     ensures found { IfOk result (λ preset. IfSome preset (IsPreset (IsNumber (find_in servants.now)) policies.now)) }
 {
     only_if(
@@ -138,7 +138,7 @@ fn preset_at(
     policies: &PolicySet,
     table: &Table,
 ) -> Result<Option<u32>, ConfFault>
-    ensures value { Gives result (the_preset_at at (find_in servants.now) policies.now (table_view table.now)) }
+    ensures value { FieldGives result (the_preset_at at (find_in servants.now) policies.now (table_view table.now)) }
     ensures found { IfOk result (λ preset. IfSome preset (IsPreset (IsNumber (find_in servants.now)) policies.now)) }
 {
     if has(table, "default") {
@@ -151,7 +151,7 @@ fn preset_at(
 /// The entry for the root.
 #[tactic(auto, unfolding(crate::specs::Adapters::root_at))]
 fn root_at(alloc: Global, at: Place, table: &Table) -> Result<AdapterConf, ConfFault>
-    ensures value { Gives result (the_root_at at (table_view table.now)) }
+    ensures value { FieldGives result (the_root_at at (table_view table.now)) }
     ensures path { IfOk result (λ a. a.path ≡ []) }
     ensures boot { IfOk result (λ a. a.boot ≡ false) }
     ensures found { (managers servants : Find) → IfOk result (λ a. IsFound managers servants a) }
@@ -182,7 +182,7 @@ fn template_at(
     table: &Table,
 ) -> Result<AdapterConf, ConfFault>
     requires { text.now ≡ path_text path }
-    ensures value { Gives result (the_template_at i path (find_in earlier.now.managers.now) (find_in earlier.now.servants.now) (find_in earlier.now.paths.now) earlier.now.adapters.now (table_view table.now)) }
+    ensures value { FieldGives result (the_template_at i path (find_in earlier.now.managers.now) (find_in earlier.now.servants.now) (find_in earlier.now.paths.now) earlier.now.adapters.now (table_view table.now)) }
     ensures path { IfOk result (λ a. a.path ≡ path) }
     ensures boot { IfOk result (λ a. a.boot ≡ true → the_parent_boots (find_in earlier.now.paths.now) earlier.now.adapters.now (the_parent_text text.now) ≡ true) }
     ensures found { IfOk result (λ a. IsFound (find_in earlier.now.managers.now) (find_in earlier.now.servants.now) a) }
@@ -215,7 +215,7 @@ fn entry_at(
     table: &Table,
 ) -> Result<AdapterConf, ConfFault>
     requires { text.now ≡ path_text path }
-    ensures value { Gives result (the_entry_at path i (find_in earlier.now.managers.now) (find_in earlier.now.servants.now) (find_in earlier.now.paths.now) earlier.now.adapters.now (table_view table.now)) }
+    ensures value { FieldGives result (the_entry_at path i (find_in earlier.now.managers.now) (find_in earlier.now.servants.now) (find_in earlier.now.paths.now) earlier.now.adapters.now (table_view table.now)) }
     ensures path { IfOk result (λ a. a.path ≡ path) }
     ensures boot { IfOk result (λ a. a.boot ≡ true → HasParent (find_in earlier.now.paths.now) earlier.now.adapters.now path) }
     ensures found { IfOk result (λ a. IsFound (find_in earlier.now.managers.now) (find_in earlier.now.servants.now) a) }
@@ -256,7 +256,7 @@ fn next_adapter(
     paths: &mut Numbers,
     adapters: &[AdapterConf],
 ) -> Result<AdapterConf, ConfFault>
-    ensures entry { Gives result (adapter_in i (find_in managers.now) (find_in servants.now) (find_in paths.old) adapters.now (view value.now)) }
+    ensures entry { FieldGives result (adapter_in i (find_in managers.now) (find_in servants.now) (find_in paths.old) adapters.now (view value.now)) }
     ensures read { IfOk result (λ a. IsRead (find_in managers.now) (find_in servants.now) (find_in paths.old) adapters.now a) }
     ensures noted { IfOk result (λ a. find_in paths.new ≡ noted (path_text a.path) i (find_in paths.old)) }
 {
@@ -283,7 +283,7 @@ fn entries(
 ) -> Result<Items<AdapterConf>, ConfFault>
     requires few { length values.now ≤ 1024 }
     requires start { find_in paths.old ≡ place_of (adapter_paths []) }
-    ensures value { Gives result (entries_of (adapter_after (find_in managers.now) (find_in servants.now)) [] (items_view values.now)) }
+    ensures value { FieldGives result (entries_of (adapter_after (find_in managers.now) (find_in servants.now)) [] (items_view values.now)) }
     ensures paths { IfOk result (λ adapters. find_in paths.new ≡ place_of (adapter_paths adapters)) }
     ensures read { IfOk result (λ adapters. EachAfter (IsReadAfter (find_in managers.now) (find_in servants.now)) [] adapters) }
     ensures few { IfOk result (λ adapters. length adapters ≤ 1024) }

@@ -2,7 +2,7 @@
 ghost use Rattle.std.specs.Prelude.{◌≡◌, ◌≤◌, ◌<◌, ◌+◌, true, [], length, None, IfOk, IfErr};
 ghost use Rattle.toml.specs.View.{view, table_view, items_view};
 ghost use Rattle.conf_fields.specs.Entries.{entries_of};
-ghost use Rattle.conf_fields.specs.Gives.{Gives, GivesView};
+ghost use Rattle.conf_fields.specs.FieldGives.{FieldGives, GivesView};
 ghost use Rattle.text_words.specs.Name.{is_name};
 ghost use Rattle.conf_rules.specs.Entries.{EachAfter};
 ghost use Rattle.conf_rules.specs.Rules.{IsManager};
@@ -47,7 +47,7 @@ fn next_manager(
     numbers: &mut Numbers,
 ) -> Result<ManagerConf, ConfFault>
     requires { i < 1024 }
-    ensures entry { Gives result (manager_in (place.Manager i) (find_in numbers.old) (view value.now)) }
+    ensures entry { FieldGives result (manager_in (place.Manager i) (find_in numbers.old) (view value.now)) }
     ensures fresh { IfOk result (λ m. find_in numbers.old m.name ≡ None) }
     ensures named { IfOk result (λ m. is_name m.name ≡ true) }
     ensures noted { IfOk result (λ m. find_in numbers.new ≡ noted m.name (i + 1) (find_in numbers.old)) }
@@ -66,7 +66,7 @@ fn entries(
 ) -> Result<Items<ManagerConf>, ConfFault>
     requires few { length values.now ≤ 1024 }
     requires start { find_in numbers.old ≡ place_of (manager_names []) }
-    ensures value { Gives result (entries_of manager_after [] (items_view values.now)) }
+    ensures value { FieldGives result (entries_of manager_after [] (items_view values.now)) }
     ensures numbers { IfOk result (λ managers. find_in numbers.new ≡ place_of (manager_names managers)) }
     ensures kept { IfOk result (λ managers. EachAfter IsManager [] managers) }
     ensures few { IfOk result (λ managers. length managers ≤ 1024) }

@@ -3,7 +3,7 @@ ghost use Rattle.std.specs.Prelude.{◌≡◌, [], IfOk};
 ghost use Rattle.toml.specs.View.{table_view, items_view};
 ghost use Rattle.poa_policy.specs.Settled.{settled as the_settled};
 ghost use Rattle.conf_fields.specs.Entries.{entries_of};
-ghost use Rattle.conf_fields.specs.Gives.{Gives};
+ghost use Rattle.conf_fields.specs.FieldGives.{FieldGives};
 ghost use Rattle.conf_rules.specs.Adapters.{AreTogether};
 ghost use Rattle.conf_rows.specs.Policies.{policy_after, or_policy as the_or_policy, policies_at as the_policies_at};
 
@@ -14,7 +14,7 @@ use std::alloc::Global;
 use toml::{Table, Value};
 
 fn entries(alloc: Global, at: Place, values: &[Value]) -> Result<Items<Policy>, ConfFault>
-    ensures { Gives result (entries_of (policy_after at) [] (items_view values.now)) }
+    ensures { FieldGives result (entries_of (policy_after at) [] (items_view values.now)) }
 {
     let mut list = Vec::new(alloc);
     for value in values {
@@ -27,7 +27,7 @@ fn entries(alloc: Global, at: Place, values: &[Value]) -> Result<Items<Policy>, 
 }
 
 fn settled_at(path: &Path, list: &[Policy]) -> Result<PolicySet, ConfFault>
-    ensures value { Gives result (the_or_policy path.now (the_settled list.now)) }
+    ensures value { FieldGives result (the_or_policy path.now (the_settled list.now)) }
     ensures together { IfOk result AreTogether }
 {
     match settle(list) {
@@ -47,7 +47,7 @@ pub(crate) fn policies_at(
     path: &Path,
     table: &Table,
 ) -> Result<PolicySet, ConfFault>
-    ensures value { Gives result (the_policies_at at path.now (table_view table.now)) }
+    ensures value { FieldGives result (the_policies_at at path.now (table_view table.now)) }
     ensures together { IfOk result AreTogether }
 {
     let values = items_at(alloc, at, table, "policies")?;

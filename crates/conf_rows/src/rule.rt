@@ -2,7 +2,7 @@
 ghost use Rattle.std.specs.Prelude.{◌≡◌, ◌≤◌, ◌||◌, ℕ, [], length, codes, IfOk, IfErr};
 ghost use Rattle.toml.specs.View.{view, table_view, items_view};
 ghost use Rattle.conf_fields.specs.Entries.{entries_of};
-ghost use Rattle.conf_fields.specs.Gives.{Gives as Answers};
+ghost use Rattle.conf_fields.specs.FieldGives.{FieldGives as Answers};
 ghost use Rattle.conf_fields.specs.Look.{wanted, text_in, only_known};
 ghost use Rattle.conf_fields.specs.Numbers.{Find, IsNumber, find_in};
 ghost use Rattle.conf_rules.specs.Adapters.{AreRules, GivesWithin};

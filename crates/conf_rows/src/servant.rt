@@ -2,7 +2,7 @@
 ghost use Rattle.std.specs.Prelude.{◌≡◌, ◌≤◌, ◌<◌, ◌+◌, true, [], length, None, IfOk};
 ghost use Rattle.toml.specs.View.{view, table_view, items_view};
 ghost use Rattle.conf_fields.specs.Entries.{entries_of};
-ghost use Rattle.conf_fields.specs.Gives.{Gives, GivesView};
+ghost use Rattle.conf_fields.specs.FieldGives.{FieldGives, GivesView};
 ghost use Rattle.text_words.specs.Name.{is_name};
 ghost use Rattle.conf_rules.specs.Entries.{EachAfter};
 ghost use Rattle.conf_rules.specs.Rules.{IsServant};
@@ -19,14 +19,14 @@ use std::alloc::Global;
 use toml::{Table, Value};
 
 fn without_value(alloc: Global, state: State, at: Place, table: &Table) -> Result<State, ConfFault>
-    ensures { Gives result (the_without_value state at (table_view table.now)) }
+    ensures { FieldGives result (the_without_value state at (table_view table.now)) }
 {
     none_of(alloc, at, table, &["value"])?;
     Ok(state)
 }
 
 fn register(alloc: Global, at: Place, table: &Table) -> Result<State, ConfFault>
-    ensures { Gives result (register_opening at (table_view table.now)) }
+    ensures { FieldGives result (register_opening at (table_view table.now)) }
 {
     let value = integer_or(alloc, at, table, "value", 0)?;
     Ok(State::Register(value))
@@ -35,7 +35,7 @@ fn register(alloc: Global, at: Place, table: &Table) -> Result<State, ConfFault>
 /// The state in which a servant of this kind starts.
 #[tactic(auto, unfolding(crate::specs::Servants::opening))]
 fn opening(alloc: Global, kind: Kind, at: Place, table: &Table) -> Result<State, ConfFault>
-    ensures { Gives result (the_opening kind at (table_view table.now)) }
+    ensures { FieldGives result (the_opening kind at (table_view table.now)) }
 {
     match kind {
         Kind::Register => register(alloc, at, table),
@@ -73,7 +73,7 @@ fn next_servant(
     value: &Value,
     numbers: &mut Numbers,
 ) -> Result<ServantConf, ConfFault>
-    ensures entry { Gives result (servant_in (place.Servant i) (find_in numbers.old) (view value.now)) }
+    ensures entry { FieldGives result (servant_in (place.Servant i) (find_in numbers.old) (view value.now)) }
     ensures fresh { IfOk result (λ s. find_in numbers.old s.name ≡ None) }
     ensures named { IfOk result (λ s. is_name s.name ≡ true) }
     ensures noted { IfOk result (λ s. find_in numbers.new ≡ noted s.name i (find_in numbers.old)) }
@@ -92,7 +92,7 @@ fn entries(
 ) -> Result<Items<ServantConf>, ConfFault>
     requires few { length values.now ≤ 1024 }
     requires start { find_in numbers.old ≡ place_of (servant_names []) }
-    ensures value { Gives result (entries_of servant_after [] (items_view values.now)) }
+    ensures value { FieldGives result (entries_of servant_after [] (items_view values.now)) }
     ensures numbers { IfOk result (λ servants. find_in numbers.new ≡ place_of (servant_names servants)) }
     ensures kept { IfOk result (λ servants. EachAfter IsServant [] servants) }
     ensures few { IfOk result (λ servants. length servants ≤ 1024) }

@@ -4,7 +4,7 @@ use Rattle.poa_base.specs.declared.Config.{Config}
 use Rattle.toml.specs.Data.{Members}
 use Rattle.toml.specs.Parse.{parse_document}
 use Rattle.conf_fields.specs.Chain.{◌>>=◌}
-use Rattle.conf_fields.specs.Gives.{Gives}
+use Rattle.conf_fields.specs.FieldGives.{FieldGives}
 use Rattle.conf_fields.specs.Numbers.{place_of}
 use Rattle.conf_fields.specs.declared.ConfFault.{ConfFault}
 use Rattle.conf_fields.specs.declared.ConfFault.TheVariants.{NotToml, WantMemory}
@@ -50,7 +50,7 @@ IsNoDocument bytes = IsUtf8 bytes → parse_document bytes ≡ None
 pub record ReadAsDocument (bytes : List ℕ) (r : Result Config ConfFault) : Type 0 where
   pub table : Members
   pub document : IsDocument bytes table
-  pub gives : Gives r (config_of table)
+  pub gives : FieldGives r (config_of table)
 
 -- what bytes are read as: the configuration of their table or its first fault, and NotToml exactly where they are no document
 abbrev pub ReadAs : List ℕ → Result Config ConfFault → Type 0

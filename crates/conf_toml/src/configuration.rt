@@ -1,7 +1,7 @@
 //! Reading a configuration.
 ghost use Rattle.std.specs.Prelude.{◌≡◌, IfOk};
 ghost use Rattle.toml.specs.View.{table_view};
-ghost use Rattle.conf_fields.specs.Gives.{Gives};
+ghost use Rattle.conf_fields.specs.FieldGives.{FieldGives};
 ghost use Rattle.conf_rules.specs.Rules.{KeepsRules};
 ghost use Rattle.conf_toml.specs.Configuration.{config_of, ReadAs};
 
@@ -17,7 +17,7 @@ use toml::Table;
 /// The configuration of a document's table.
 #[tactic(auto, unfolding(crate::specs::Configuration::config_of))]
 fn config(alloc: Global, top: &Table) -> Result<Config, ConfFault>
-    ensures value { Gives result (config_of (table_view top.now)) }
+    ensures value { FieldGives result (config_of (table_view top.now)) }
     ensures rules { IfOk result KeepsRules }
 {
     let settings = top_settings(alloc, top)?;

@@ -8,7 +8,7 @@ ghost use Rattle.conf_rules.specs.Adapters.{IsEndpoint};
 ghost use Rattle.conf_rules.specs.Entries.{EachAfter};
 ghost use Rattle.conf_rules.specs.Rules.{IsForward};
 ghost use Rattle.conf_fields.specs.Entries.{entries_of};
-ghost use Rattle.conf_fields.specs.Gives.{Gives, GivesView};
+ghost use Rattle.conf_fields.specs.FieldGives.{FieldGives, GivesView};
 ghost use Rattle.conf_fields.specs.Numbers.{find_in, noted, place_of};
 ghost use Rattle.conf_fields.specs.declared.Place.TheVariants as place;
 ghost use Rattle.conf_toml.specs.Forwards.{forward_at as the_forward_at, forward_in, forward_after, forward_paths, forwards_of};
@@ -51,7 +51,7 @@ fn next_forward(
     value: &Value,
     paths: &mut Numbers,
 ) -> Result<ForwardConf, ConfFault>
-    ensures entry { Gives result (forward_in (place.Forward i) (find_in paths.old) (view value.now)) }
+    ensures entry { FieldGives result (forward_in (place.Forward i) (find_in paths.old) (view value.now)) }
     ensures fresh { IfOk result (λ f. find_in paths.old (path_text f.path) ≡ None) }
     ensures written { IfOk result (λ f. (length f.path ≤ 16) × (list_all is_name f.path ≡ true)) }
     ensures endpoint { IfOk result (λ f. IsEndpoint f.endpoint) }
@@ -71,7 +71,7 @@ fn entries(
 ) -> Result<Items<ForwardConf>, ConfFault>
     requires few { length values.now ≤ 1024 }
     requires start { find_in paths.old ≡ place_of (forward_paths []) }
-    ensures value { Gives result (entries_of forward_after [] (items_view values.now)) }
+    ensures value { FieldGives result (entries_of forward_after [] (items_view values.now)) }
     ensures kept { IfOk result (λ forwards. EachAfter IsForward [] forwards) }
     ensures few { IfOk result (λ forwards. length forwards ≤ 1024) }
 {
@@ -88,7 +88,7 @@ fn entries(
 /// The endpoint table of the document.
 #[tactic(auto, unfolding(crate::specs::Forwards::forwards_of))]
 pub(crate) fn forwards(alloc: Global, top: &Table) -> Result<Items<ForwardConf>, ConfFault>
-    ensures value { Gives result (forwards_of (table_view top.now)) }
+    ensures value { FieldGives result (forwards_of (table_view top.now)) }
     ensures kept { IfOk result (λ forwards. EachAfter IsForward [] forwards) }
     ensures few { IfOk result (λ forwards. length forwards ≤ 1024) }
 {

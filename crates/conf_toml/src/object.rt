@@ -4,7 +4,7 @@ ghost use Rattle.std.specs.Option.{option_copied};
 ghost use Rattle.toml.specs.View.{view, table_view, items_view};
 ghost use Rattle.text_words.specs.Path.{path_text};
 ghost use Rattle.conf_fields.specs.Entries.{entries_of};
-ghost use Rattle.conf_fields.specs.Gives.{Gives, GivesView};
+ghost use Rattle.conf_fields.specs.FieldGives.{FieldGives, GivesView};
 ghost use Rattle.conf_fields.specs.Numbers.{find_in, noted, seen_of};
 ghost use Rattle.poa_base.specs.Policies.{is_system_id as the_system_id, is_multiple_id as the_multiple_id};
 ghost use Rattle.conf_rules.specs.Entries.{EachAfter};
@@ -32,7 +32,7 @@ pub(crate) struct Homes<'a> {
 }
 
 fn home_in(alloc: Global, at: Place, adapter: Option<&AdapterConf>) -> Result<PolicySet, ConfFault>
-    ensures value { Gives result (the_home_in at (option_copied adapter.entry)) }
+    ensures value { FieldGives result (the_home_in at (option_copied adapter.entry)) }
     ensures fit { IfOk result (IsFit (option_copied adapter.entry)) }
 {
     let Some(adapter) = adapter else {
@@ -45,7 +45,7 @@ fn home_in(alloc: Global, at: Place, adapter: Option<&AdapterConf>) -> Result<Po
 
 #[tactic(auto, unfolding(crate::specs::Objects::home_below))]
 fn home_below(alloc: Global, at: Place, homes: &Homes, text: &str) -> Result<PolicySet, ConfFault>
-    ensures value { Gives result (the_home_below at (find_in homes.now.paths.now) homes.now.adapters.now text.now) }
+    ensures value { FieldGives result (the_home_below at (find_in homes.now.paths.now) homes.now.adapters.now text.now) }
     ensures found { IfOk result (IsFoundHome (find_in homes.now.paths.now) homes.now.adapters.now text.now) }
 {
     let k = or_missing(alloc, at, "adapter", find(homes.paths, text))?;
@@ -61,7 +61,7 @@ fn home_of(
     text: &str,
 ) -> Result<PolicySet, ConfFault>
     requires { text.now ≡ path_text path.now }
-    ensures value { Gives result (the_home_of at (find_in homes.now.paths.now) homes.now.adapters.now path.now) }
+    ensures value { FieldGives result (the_home_of at (find_in homes.now.paths.now) homes.now.adapters.now path.now) }
     ensures found { IfOk result (HomeFound (find_in homes.now.paths.now) homes.now.adapters.now path.now) }
 {
     if path.as_slice().is_empty() {
@@ -72,7 +72,7 @@ fn home_of(
 }
 
 fn no_id(alloc: Global, at: Place, table: &Table) -> Result<Option<Oid>, ConfFault>
-    ensures value { Gives result (the_no_id at (table_view table.now)) }
+    ensures value { FieldGives result (the_no_id at (table_view table.now)) }
     ensures none { IfOk result (λ oid. is_none oid ≡ true) }
 {
     none_of(alloc, at, table, &["id"])?;
@@ -80,7 +80,7 @@ fn no_id(alloc: Global, at: Place, table: &Table) -> Result<Option<Oid>, ConfFau
 }
 
 fn some_id(alloc: Global, at: Place, table: &Table) -> Result<Option<Oid>, ConfFault>
-    ensures value { Gives result (the_some_id at (table_view table.now)) }
+    ensures value { FieldGives result (the_some_id at (table_view table.now)) }
     ensures some { IfOk result (λ oid. is_none oid ≡ false) }
 {
     let id = id_at(alloc, at, table, "id")?;
@@ -95,7 +95,7 @@ fn own_id(
     policies: &PolicySet,
     table: &Table,
 ) -> Result<Option<Oid>, ConfFault>
-    ensures value { Gives result (the_id_at at policies.now (table_view table.now)) }
+    ensures value { FieldGives result (the_id_at at policies.now (table_view table.now)) }
     ensures exact { IfOk result (λ oid. is_none oid ≡ the_system_id policies.now.assignment) }
 {
     if is_system_id(policies.assignment) {
@@ -127,7 +127,7 @@ fn new_id(
     path: &str,
     oid: &Option<Oid>,
 ) -> Result<(), ConfFault>
-    ensures value { Gives result (the_new_id at (find_in ids.now) path.now oid.now) }
+    ensures value { FieldGives result (the_new_id at (find_in ids.now) path.now oid.now) }
     ensures new { OnOk result (IfSome oid.now (λ id. find_in ids.now (the_id_text path.now id) ≡ None)) }
 {
     let Some(id) = oid else {
@@ -145,7 +145,7 @@ fn new_servant(
     path: &str,
     servant: u32,
 ) -> Result<(), ConfFault>
-    ensures value { Gives result (the_new_servant at (find_in taken.now) policies.now path.now servant) }
+    ensures value { FieldGives result (the_new_servant at (find_in taken.now) policies.now path.now servant) }
     ensures alone { OnOk result ((the_multiple_id policies.now.uniqueness ≡ true) ⊎ (find_in taken.now (the_servant_text path.now servant) ≡ None)) }
 {
     if is_multiple_id(policies.uniqueness) {
@@ -219,7 +219,7 @@ fn next_object(
     ids: &mut Numbers,
     taken: &mut Numbers,
 ) -> Result<ObjectConf, ConfFault>
-    ensures entry { Gives result (object_in (place.Object i) (find_in homes.now.paths.now) homes.now.adapters.now (find_in homes.now.servants.now) (find_in ids.old) (find_in taken.old) (view value.now)) }
+    ensures entry { FieldGives result (object_in (place.Object i) (find_in homes.now.paths.now) homes.now.adapters.now (find_in homes.now.servants.now) (find_in ids.old) (find_in taken.old) (view value.now)) }
     ensures read { IfOk result (IsRead (find_in homes.now.paths.now) homes.now.adapters.now (find_in homes.now.servants.now) (find_in ids.old) (find_in taken.old)) }
     ensures ids { IfOk result (λ o. find_in ids.new ≡ noted_id (path_text o.adapter) o.oid (find_in ids.old)) }
     ensures taken { IfOk result (λ o. find_in taken.new ≡ noted (the_servant_text (path_text o.adapter) o.servant) 0 (find_in taken.old)) }
@@ -242,7 +242,7 @@ fn entries(
     requires few { length values.now ≤ 65536 }
     requires ids { find_in ids.old ≡ seen_of (ids_of []) }
     requires taken { find_in taken.old ≡ seen_of (taken_of []) }
-    ensures value { Gives result (entries_of (object_after (find_in homes.now.paths.now) homes.now.adapters.now (find_in homes.now.servants.now)) [] (items_view values.now)) }
+    ensures value { FieldGives result (entries_of (object_after (find_in homes.now.paths.now) homes.now.adapters.now (find_in homes.now.servants.now)) [] (items_view values.now)) }
     ensures read { IfOk result (λ objects. EachAfter (IsReadAfter (find_in homes.now.paths.now) homes.now.adapters.now (find_in homes.now.servants.now)) [] objects) }
     ensures few { IfOk result (λ objects. length objects ≤ 65536) }
 {
@@ -263,7 +263,7 @@ pub(crate) fn objects(
     top: &Table,
     homes: &Homes,
 ) -> Result<Items<ObjectConf>, ConfFault>
-    ensures value { Gives result (objects_of (find_in homes.now.paths.now) homes.now.adapters.now (find_in homes.now.servants.now) (table_view top.now)) }
+    ensures value { FieldGives result (objects_of (find_in homes.now.paths.now) homes.now.adapters.now (find_in homes.now.servants.now) (table_view top.now)) }
     ensures read { IfOk result (λ objects. EachAfter (IsReadAfter (find_in homes.now.paths.now) homes.now.adapters.now (find_in homes.now.servants.now)) [] objects) }
     ensures few { IfOk result (λ objects. length objects ≤ 65536) }
 {

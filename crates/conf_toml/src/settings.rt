@@ -1,7 +1,7 @@
 //! The keys of the top table that aren't arrays of tables.
 ghost use Rattle.std.specs.Prelude.{◌≡◌, ◌≤◌, true, IfOk};
 ghost use Rattle.toml.specs.View.{table_view};
-ghost use Rattle.conf_fields.specs.Gives.{Gives};
+ghost use Rattle.conf_fields.specs.FieldGives.{FieldGives};
 ghost use Rattle.conf_fields.specs.Look.{only_known};
 ghost use Rattle.conf_fields.specs.declared.Place.TheVariants as place;
 ghost use Rattle.text_words.specs.Name.{is_host};
@@ -25,7 +25,7 @@ pub struct Settings {
 
 #[tactic(auto, unfolding(crate::specs::Settings::top_keys))]
 fn top_keys(alloc: Global, top: &Table) -> Result<(), ConfFault>
-    ensures { Gives result (only_known the_top_keys place.Top (table_view top.now)) }
+    ensures { FieldGives result (only_known the_top_keys place.Top (table_view top.now)) }
 {
     let keys = [
         "run",
@@ -46,7 +46,7 @@ fn top_keys(alloc: Global, top: &Table) -> Result<(), ConfFault>
 /// The settings of the document.
 #[tactic(auto, unfolding(crate::specs::Settings::settings_of))]
 pub(crate) fn top_settings(alloc: Global, top: &Table) -> Result<Settings, ConfFault>
-    ensures value { Gives result (settings_of (table_view top.now)) }
+    ensures value { FieldGives result (settings_of (table_view top.now)) }
     ensures host { IfOk result (λ s. is_host s.host ≡ true) }
     ensures ports { IfOk result (λ s. (1 ≤ s.port) × (1 ≤ s.admin_port)) }
     ensures gate { IfOk result (λ s. s.gate_ms ≤ 10000) }

@@ -8,18 +8,18 @@ use Rattle.giop_frame.specs.declared.next.Next.TheVariants as answer
 use Rattle.giop_frame.specs.Rules.{look_at}
 use Rattle.giop_frame.specs.Stream.{Framed, End, bad_place, after, completed, StreamFrom}
 use Rattle.giop_frame.specs.Framing.{Framing}
-use Rattle.giop_frame.specs.Framer.{Gives, GiveTheSame, Answers, TakesPart, JoinsPart, reach}
+use Rattle.giop_frame.specs.Framer.{FramerGives, GiveTheSame, FramerAnswers, TakesPart, JoinsPart, reach}
 use Rattle.giop_frame.proofs.Looking.{whole_from_look, look_from_whole, whole_front}
 use Rattle.giop_frame.proofs.Streams.{stream_put, stream_behind, one_stream, bad_stream}
 
 -- what a framer gives that hasn't met a bad place
 pub stream_given : (f : Framing) (text : List ℕ) (messages : List Framed) (end : End) → f.closed ≡ None
-    → Gives f text messages end → StreamFrom f.limit f.reading (f.unread ++ text) messages end
+    → FramerGives f text messages end → StreamFrom f.limit f.reading (f.unread ++ text) messages end
 stream_given f text messages end none g =
     subst (λ (o : Option Why). MatchOption o (StreamFrom f.limit f.reading (f.unread ++ text) messages end) (λ why. (messages ≡ []) × (end ≡ bad_place f.reading.place why))) none g
 
 pub gives_stream : (f : Framing) (text : List ℕ) (messages : List Framed) (end : End) → f.closed ≡ None
-    → StreamFrom f.limit f.reading (f.unread ++ text) messages end → Gives f text messages end
+    → StreamFrom f.limit f.reading (f.unread ++ text) messages end → FramerGives f text messages end
 gives_stream f text messages end none s =
     subst (λ (o : Option Why). MatchOption o (StreamFrom f.limit f.reading (f.unread ++ text) messages end) (λ why. (messages ≡ []) × (end ≡ bad_place f.reading.place why))) (sym none) s
 
@@ -42,7 +42,7 @@ pieces : (n : ℕ) (text more : List ℕ) → take n text ++ (drop n text ++ mor
 pieces n text more = sym (append_assoc (take n text) (drop n text) more) ∙ ap (λ (t : List ℕ). t ++ more) (take-append-drop n text)
 
 behind_gives : (f : Framing) (n : ℕ) (text : List ℕ) (messages : List Framed) (end : End) → f.closed ≡ None → look_at f.limit f.reading.pending f.unread ≡ Whole n
-    → Gives (behind f n) text messages end ↔ Gives f text (completed f.reading (take n f.unread) ++ messages) end
+    → FramerGives (behind f n) text messages end ↔ FramerGives f text (completed f.reading (take n f.unread) ++ messages) end
 unfolding behind
 behind_gives f n text messages end none seen =
     let p = take n f.unread in
@@ -62,11 +62,11 @@ behind_gives f n text messages end none seen =
 
 -- a part that was read, with the messages that it completed
 pub taken_gives : (f g : Framing) (n : ℕ) (done : List Framed) → f.closed ≡ None → look_at f.limit f.reading.pending f.unread ≡ Whole n → TakesPart f n done g
-    → (text : List ℕ) (messages : List Framed) (end : End) → Gives g text messages end ↔ Gives f text (done ++ messages) end
+    → (text : List ℕ) (messages : List Framed) (end : End) → FramerGives g text messages end ↔ FramerGives f text (done ++ messages) end
 unfolding behind
 taken_gives f g n done none seen t text messages end =
-    subst (λ (k : Framing). Gives k text messages end ↔ Gives f text (done ++ messages) end) (sym t.goes_on)
-    (subst (λ (ms : List Framed). Gives (behind f n) text messages end ↔ Gives f text (ms ++ messages) end) (sym t.completes) (behind_gives f n text messages end none seen))
+    subst (λ (k : Framing). FramerGives k text messages end ↔ FramerGives f text (done ++ messages) end) (sym t.goes_on)
+    (subst (λ (ms : List Framed). FramerGives (behind f n) text messages end ↔ FramerGives f text (ms ++ messages) end) (sym t.completes) (behind_gives f n text messages end none seen))
 
 pub taken_reach : (f g : Framing) (n : ℕ) (done : List Framed) → look_at f.limit f.reading.pending f.unread ≡ Whole n → TakesPart f n done g → reach g ≡ reach f
 taken_reach f g n done seen t =
@@ -90,7 +90,7 @@ joins_part f g n none seen t =
 
 -- a bad place in front
 pub bad_given : (f : Framing) (why : Why) → f.closed ≡ None → look_at f.limit f.reading.pending f.unread ≡ Bad why → (text : List ℕ)
-    → Gives f text [] (bad_place f.reading.place why)
+    → FramerGives f text [] (bad_place f.reading.place why)
 bad_given f why none seen text =
     gives_stream f text [] (bad_place f.reading.place why) none (bad_stream f.limit f.reading f.unread text why seen)
 
@@ -99,7 +99,7 @@ pub closed_gives : (f : Framing) (why : Why) → f.closed ≡ None → look_at f
 closed_gives f why none seen text messages end =
     let place = bad_place f.reading.place why in (
       (λ (g : (messages ≡ []) × (end ≡ place)).
-          subst (λ (e : End). Gives f text messages e) (sym g.1) (subst (λ (ms : List Framed). Gives f text ms place) (sym g.0) (bad_given f why none seen text))),
+          subst (λ (e : End). FramerGives f text messages e) (sym g.1) (subst (λ (ms : List Framed). FramerGives f text ms place) (sym g.0) (bad_given f why none seen text))),
       (λ g.
           let same = one_stream f.limit f.reading (f.unread ++ text) messages [] end place (stream_given f text messages end none g)
           (bad_stream f.limit f.reading f.unread text why seen) in
@@ -108,8 +108,8 @@ closed_gives f why none seen text messages end =
 
 -- a framer that met a bad place, where its value is also f
 pub closed_answers : (f g : Framing) (why : Why) (n : Next) → n ≡ answer.Bad f.reading.place why → f ≡ g → g.closed ≡ None
-    → look_at g.limit g.reading.pending g.unread ≡ Bad why → Answers g n (record f { closed = Some why })
+    → look_at g.limit g.reading.pending g.unread ≡ Bad why → FramerAnswers g n (record f { closed = Some why })
 closed_answers f g why n says same none seen =
-    subst (λ (m : Next). Answers g m (record f { closed = Some why })) (sym says)
-    (subst (λ (k : Framing). Answers g (answer.Bad k.reading.place why) (record k { closed = Some why })) (sym same)
+    subst (λ (m : Next). FramerAnswers g m (record f { closed = Some why })) (sym says)
+    (subst (λ (k : Framing). FramerAnswers g (answer.Bad k.reading.place why) (record k { closed = Some why })) (sym same)
     (bad_given g why none seen, closed_gives g why none seen))

@@ -8,7 +8,7 @@ use Rattle.giop_frame.specs.declared.rules.Look.TheVariants.{Unfinished, Whole, 
 use Rattle.giop_frame.specs.declared.why.Why.{Why}
 use Rattle.giop_frame.specs.Open.{taken_bytes}
 use Rattle.giop_frame.specs.Rules.{look_at}
-use Rattle.giop_frame.specs.Stream.{Framed, Reading, End, left_over, bad_place, after, after_all, completed, messages_of, AreGood, Ends, StreamFrom, OneStream, start}
+use Rattle.giop_frame.specs.Stream.{Framed, Reading, End, left_over, bad_place, after, after_all, completed, messages_of, AreGood, StreamEnds, StreamFrom, OneStream, start}
 use Rattle.giop_frame.proofs.Looking.{whole_from_look, look_from_whole, whole_more, whole_front, bad_more, whole_size, whole≢unfinished, whole≢bad}
 
 -- a text that begins with a good part p
@@ -29,7 +29,7 @@ stream_put limit r p rest messages end good s = record {
 }
 
 -- no text begins with a good part and has another end
-no_end : (limit : ℕ) (r : Reading) (text : List ℕ) (n : ℕ) (end : End) → look_at limit r.pending text ≡ Whole n → Ends limit r text end → ⊥
+no_end : (limit : ℕ) (r : Reading) (text : List ℕ) (n : ℕ) (end : End) → look_at limit r.pending text ≡ Whole n → StreamEnds limit r text end → ⊥
 no_end limit r text n (left_over have) e h = whole≢unfinished n (sym e ∙ h.0)
 no_end limit r text n (bad_place at why) e h = whole≢bad n why (sym e ∙ h.0)
 
@@ -41,7 +41,7 @@ pub record Behind (limit : ℕ) (r : Reading) (p rest : List ℕ) (messages : Li
 
 behind_parts : (limit : ℕ) (r : Reading) (p rest : List ℕ) (messages : List Framed) (end : End) (parts : List (List ℕ)) (left : List ℕ)
     → look_at limit r.pending p ≡ Whole (length p) → p ++ rest ≡ concat parts ++ left → AreGood limit r parts → messages ≡ messages_of r parts
-    → Ends limit (after_all r parts) left end → Behind limit r p rest messages end
+    → StreamEnds limit (after_all r parts) left end → Behind limit r p rest messages end
 behind_parts limit r p rest messages end [] left good cut all given ends =
     absurd (no_end limit r left (length p) end (ap (look_at limit r.pending) (sym cut) ∙ good_front limit r p rest good) ends)
 behind_parts limit r p rest messages end (q ∷ qs) left good cut all given ends =
@@ -68,7 +68,7 @@ bad_why : (why other : Why) → Bad why ≡ Bad other → why ≡ other
 bad_why why other e = cc
 
 -- a text whose first part isn't whole, or is bad, has one end
-one_end : (limit : ℕ) (r : Reading) (text : List ℕ) (end other : End) → Ends limit r text end → Ends limit r text other → end ≡ other
+one_end : (limit : ℕ) (r : Reading) (text : List ℕ) (end other : End) → StreamEnds limit r text end → StreamEnds limit r text other → end ≡ other
 one_end limit r text (left_over m) (left_over n) d e = ap left_over (d.1 ∙ sym e.1)
 one_end limit r text (left_over m) (bad_place at why) d e = absurd (unfinished≢bad why (sym d.0 ∙ e.0))
 one_end limit r text (bad_place at why) (left_over m) d e = absurd (unfinished≢bad why (sym e.0 ∙ d.0))
@@ -81,20 +81,20 @@ pub record AreSame (messages others : List Framed) (end other : End) : Type 0 wh
   pub end_same : end ≡ other
 
 at_end : (limit : ℕ) (r : Reading) (text : List ℕ) (end : End) (others : List Framed) (other : End) (parts : List (List ℕ)) (left : List ℕ)
-    → Ends limit r text end → text ≡ concat parts ++ left → AreGood limit r parts → others ≡ messages_of r parts → Ends limit (after_all r parts) left other
+    → StreamEnds limit r text end → text ≡ concat parts ++ left → AreGood limit r parts → others ≡ messages_of r parts → StreamEnds limit (after_all r parts) left other
     → AreSame [] others end other
 at_end limit r text end others other [] left here cut all given ends =
-    record { messages_same = sym given; end_same = one_end limit r text end other here (subst (λ (t : List ℕ). Ends limit r t other) (sym cut) ends) }
+    record { messages_same = sym given; end_same = one_end limit r text end other here (subst (λ (t : List ℕ). StreamEnds limit r t other) (sym cut) ends) }
 at_end limit r text end others other (q ∷ qs) left here cut all given ends =
     absurd (no_end limit r text (length q) end
     (ap (look_at limit r.pending) (cut ∙ append_assoc q (concat qs) left) ∙ good_front limit r q (concat qs ++ left) all.0) here)
 
 same_parts : (limit : ℕ) (r : Reading) (text : List ℕ) (messages others : List Framed) (end other : End) (parts : List (List ℕ)) (left : List ℕ)
-    → text ≡ concat parts ++ left → AreGood limit r parts → messages ≡ messages_of r parts → Ends limit (after_all r parts) left end
+    → text ≡ concat parts ++ left → AreGood limit r parts → messages ≡ messages_of r parts → StreamEnds limit (after_all r parts) left end
     → StreamFrom limit r text others other → AreSame messages others end other
 same_parts limit r text messages others end other [] left cut all given ends s =
     subst (λ (ms : List Framed). AreSame ms others end other) (sym given)
-    (at_end limit r text end others other s.parts s.left (subst (λ (t : List ℕ). Ends limit r t end) (sym cut) ends) s.cut s.good s.given s.ends)
+    (at_end limit r text end others other s.parts s.left (subst (λ (t : List ℕ). StreamEnds limit r t end) (sym cut) ends) s.cut s.good s.given s.ends)
 same_parts limit r text messages others end other (p ∷ ps) left cut all given ends s =
     let whole : text ≡ p ++ (concat ps ++ left) = cut ∙ append_assoc p (concat ps) left in
     let b = stream_behind limit r p (concat ps ++ left) others other all.0 (subst (λ (t : List ℕ). StreamFrom limit r t others other) whole s) in
@@ -115,7 +115,7 @@ pub record SomeStream (limit : ℕ) (r : Reading) (text : List ℕ) : Type 0 whe
   pub end : End
   pub stream : StreamFrom limit r text messages end
 
-ended : (limit : ℕ) (r : Reading) (text : List ℕ) (end : End) → Ends limit r text end → StreamFrom limit r text [] end
+ended : (limit : ℕ) (r : Reading) (text : List ℕ) (end : End) → StreamEnds limit r text end → StreamFrom limit r text [] end
 ended limit r text end e = record { parts = []; left = text; cut = refl; good = tt; given = refl; ends = e }
 
 pub unfinished_stream : (limit : ℕ) (r : Reading) (text : List ℕ) → look_at limit r.pending text ≡ Unfinished

@@ -68,9 +68,9 @@ messages_of r [] = []
 messages_of r (part ∷ parts) = completed r part ++ messages_of (after r part) parts
 
 -- the text behind the parts has no whole part, or its first part is bad
-abbrev pub Ends : ℕ → Reading → List ℕ → End → Type 0
-Ends limit r text (left_over have) = (look_at limit r.pending text ≡ Unfinished) × (have ≡ taken_bytes r.pending + length text)
-Ends limit r text (bad_place at why) = (look_at limit r.pending text ≡ Bad why) × (at ≡ r.place)
+abbrev pub StreamEnds : ℕ → Reading → List ℕ → End → Type 0
+StreamEnds limit r text (left_over have) = (look_at limit r.pending text ≡ Unfinished) × (have ≡ taken_bytes r.pending + length text)
+StreamEnds limit r text (bad_place at why) = (look_at limit r.pending text ≡ Bad why) × (at ≡ r.place)
 
 -- the stream of a text that goes on after such parts
 pub record StreamFrom (limit : ℕ) (r : Reading) (text : List ℕ) (messages : List Framed) (end : End) : Type 0 where
@@ -79,7 +79,7 @@ pub record StreamFrom (limit : ℕ) (r : Reading) (text : List ℕ) (messages : 
   pub cut : text ≡ concat parts ++ left
   pub good : AreGood limit r parts
   pub given : messages ≡ messages_of r parts
-  pub ends : Ends limit (after_all r parts) left end
+  pub ends : StreamEnds limit (after_all r parts) left end
 
 -- no part yet
 abbrev pub start : Reading

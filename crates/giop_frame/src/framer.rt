@@ -3,7 +3,7 @@ ghost use Rattle.std.specs.Prelude.{◌≡◌, ◌+◌, ◌<◌, ◌≤◌, ◌^
 ghost use Rattle.giop_frame.specs.Open.{taken_bytes};
 ghost use Rattle.giop_frame.specs.Rules.{look_at, IsGood};
 ghost use Rattle.giop_frame.specs.Stream.{Framed, End, Stream, after, open_after, completed};
-ghost use Rattle.giop_frame.specs.Framer.{Gives, HasGiven, GiveTheSame, Answers, TakesBytes, IsWithin, JoinsPart, TakesPart, reach};
+ghost use Rattle.giop_frame.specs.Framer.{FramerGives, HasGiven, GiveTheSame, FramerAnswers, TakesBytes, IsWithin, JoinsPart, TakesPart, reach};
 
 use crate::header::{Header, id_of};
 use crate::message::Message;
@@ -71,7 +71,7 @@ impl Framer {
     pub fn feed(&mut self, piece: &[u8]) -> Result<(), WantMemory>
         requires { reach self.old + length piece.now < 2 ^ 62 }
         ensures fed { OnOk result ((text : List ℕ) (messages : List Framed) (end : End)
-            → Gives self.new text messages end ↔ Gives self.old (piece.now ++ text) messages end) }
+            → FramerGives self.new text messages end ↔ FramerGives self.old (piece.now ++ text) messages end) }
         ensures reached { reach self.new ≤ reach self.old + length piece.now }
         ensures closed { IsSome self.old.closed → self.new ≡ self.old }
         ensures limited { self.new.limit ≡ self.old.limit }
@@ -87,7 +87,7 @@ impl Framer {
     /// which is the answer from then on. Where no memory is left, the framer gives what it would have
     /// given.
     pub fn next(&mut self) -> Result<Next, WantMemory>
-        ensures answer { IfOk result (λ n. Answers self.old n self.new) }
+        ensures answer { IfOk result (λ n. FramerAnswers self.old n self.new) }
         ensures shorter { IfOk result (λ n. TakesBytes self.old n self.new) }
         ensures sized { IfOk result (IsWithin self.old.limit) }
         ensures reached { reach self.new ≡ reach self.old }
@@ -107,7 +107,7 @@ impl Framer {
     /// Reads the part in front, where there is one. None where it completed no message.
     fn step(&mut self) -> Result<Option<Next>, WantMemory>
         requires { self.old.closed ≡ None }
-        ensures answer { IfOk result (λ n. MatchOption n (JoinsPart self.old self.new) (λ a. Answers self.old a self.new)) }
+        ensures answer { IfOk result (λ n. MatchOption n (JoinsPart self.old self.new) (λ a. FramerAnswers self.old a self.new)) }
         ensures shorter { IfOk result (λ n. MatchOption n ⊤ (λ a. TakesBytes self.old a self.new)) }
         ensures sized { IfOk result (λ n. MatchOption n ⊤ (IsWithin self.old.limit)) }
         ensures reached { reach self.new ≡ reach self.old }

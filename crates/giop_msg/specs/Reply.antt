@@ -11,7 +11,7 @@ use Rattle.poa_base.specs.declared.Profile.{Profile}
 use Rattle.poa_base.specs.declared.Reply.{Reply}
 use Rattle.poa_base.specs.declared.Reply.TheVariants as reply
 use Rattle.cdr_core.specs.Fields.{with_fields}
-use Rattle.iiop_profile.specs.Profile.{profile_of}
+use Rattle.ior_profile.specs.Profile.{profile_of}
 use Rattle.giop_msg.specs.declared.kind.TheConstants as kind
 use Rattle.giop_msg.specs.declared.status.TheConstants as status
 use Rattle.giop_msg.specs.Exception.{exception_fields}
@@ -89,10 +89,10 @@ reply_bytes head answer =
 
 -- a reply that answers such a message: a locate isn't answered by an outcome, a request isn't answered by where
 -- the object is, and neither by the answer to an administrator's line
-abbrev pub Answers : Head → Reply → Type 0
-Answers head (reply.Outcome outcome) = IsFalse head.locate
-Answers head (reply.Forward endpoint key) = Unit {0}
-Answers head reply.Addressing = Unit {0}
-Answers head reply.Here = IsTrue head.locate
-Answers head reply.UnknownObject = IsTrue head.locate
-Answers head (reply.Answer number answer) = ⊥
+abbrev pub AnswersHead : Head → Reply → Type 0
+AnswersHead head (reply.Outcome outcome) = IsFalse head.locate
+AnswersHead head (reply.Forward endpoint key) = Unit {0}
+AnswersHead head reply.Addressing = Unit {0}
+AnswersHead head reply.Here = IsTrue head.locate
+AnswersHead head reply.UnknownObject = IsTrue head.locate
+AnswersHead head (reply.Answer number answer) = ⊥

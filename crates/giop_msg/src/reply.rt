@@ -1,9 +1,9 @@
 //! The bytes of a reply: CORBA 3.3 Part 2, 9.4.3 and 9.4.6.
 ghost use Rattle.std.specs.Prelude.{◌≡◌, ◌≤◌, IfOk, OnOk};
 ghost use Rattle.cdr_core.specs.Fields.{with_fields};
-ghost use Rattle.iiop_profile.specs.Profile.{profile_of};
+ghost use Rattle.ior_profile.specs.Profile.{profile_of};
 ghost use Rattle.giop_msg.specs.Outgoing.{fields_draft};
-ghost use Rattle.giop_msg.specs.Reply.{reply_bytes, reply_draft, locate_draft, reply_fields, outcome_fields, reference_fields, value_fields, reply_opening as opening_fields, reply_status as status_of, outcome_status as status_of_outcome, locate_status as status_of_locate, hides_results as hides, Answers};
+ghost use Rattle.giop_msg.specs.Reply.{reply_bytes, reply_draft, locate_draft, reply_fields, outcome_fields, reference_fields, value_fields, reply_opening as opening_fields, reply_status as status_of, outcome_status as status_of_outcome, locate_status as status_of_locate, hides_results as hides, AnswersHead};
 
 use crate::exception::put_exception;
 use crate::field::put_datum;
@@ -14,7 +14,7 @@ use crate::status::{
     OBJECT_FORWARD, OBJECT_HERE, SYSTEM_EXCEPTION, UNKNOWN_OBJECT, USER_EXCEPTION,
 };
 use cdr_core::Writer;
-use iiop_profile::write_profile;
+use ior_profile::write_profile;
 use poa_base::{Bytes, Datum, Endpoint, Head, Outcome, Reply, WantMemory};
 use std::alloc::Global;
 
@@ -26,7 +26,7 @@ use std::alloc::Global;
 /// 2^31 bytes or more, which no CDR writer takes.
 pub fn write_reply(alloc: Global, head: &Head, reply: &Reply) -> Result<Bytes, WantMemory>
     requires minor { head.now.minor ≤ MINOR }
-    requires answers { Answers head.now reply.now }
+    requires answers { AnswersHead head.now reply.now }
     ensures { IfOk result (λ bytes. bytes ≡ reply_bytes head.now reply.now) }
 {
     if head.locate {

@@ -1,5 +1,5 @@
 ghost use Rattle.std.specs.Prelude.{◌≡◌, ◌∷◌, ◌++◌, [], IfOk, OnOk, map};
-ghost use Rattle.text_words.specs.Gives.{Gives};
+ghost use Rattle.text_words.specs.WordGives.{WordGives};
 ghost use Rattle.text_words.specs.Token.{spelled, tails, texts};
 ghost use Rattle.journal_lines.specs.Fixed.{flag_word, kind_word, removal_word};
 ghost use Rattle.journal_lines.specs.Entry.{body_tokens, entry_tokens, kind_in, n32, n64};
@@ -19,7 +19,7 @@ use text_words::{
 };
 
 fn kind(word: &[u8]) -> Result<Kind, WordFault>
-    ensures value { Gives result (kind_of word.now) }
+    ensures value { WordGives result (kind_of word.now) }
     ensures text { IfOk result (λ k. word.now ≡ kind_word k) }
 {
     find_word(
@@ -44,7 +44,7 @@ fn kind(word: &[u8]) -> Result<Kind, WordFault>
 }
 
 fn flag(word: &[u8]) -> Result<Flag, WordFault>
-    ensures value { Gives result (flag_of word.now) }
+    ensures value { WordGives result (flag_of word.now) }
     ensures text { IfOk result (λ k. word.now ≡ flag_word k) }
 {
     find_word(&[Flag::Yes, Flag::No], word).ok_or(WordFault::OutOfForm)
@@ -52,7 +52,7 @@ fn flag(word: &[u8]) -> Result<Flag, WordFault>
 
 /// The entry of its words.
 pub fn read_entry(alloc: Global, words: &[&[u8]]) -> Result<Entry, WordFault>
-    ensures value { Gives result (entry_of (map (λ w. w.now) words.now)) }
+    ensures value { WordGives result (entry_of (map (λ w. w.now) words.now)) }
     ensures text { IfOk result (λ entry. (map (λ w. w.now) words.now) ≡ texts (entry_tokens entry)) }
 {
     let [word, rest @ ..] = words else {
@@ -63,7 +63,7 @@ pub fn read_entry(alloc: Global, words: &[&[u8]]) -> Result<Entry, WordFault>
 }
 
 fn body(alloc: Global, kind: Kind, words: &[&[u8]]) -> Result<Entry, WordFault>
-    ensures value { Gives result (body_of kind (map (λ w. w.now) words.now)) }
+    ensures value { WordGives result (body_of kind (map (λ w. w.now) words.now)) }
     ensures text { IfOk result (λ entry. kind_word kind ∷ (map (λ w. w.now) words.now) ≡ texts (entry_tokens entry)) }
 {
     match kind {
@@ -105,7 +105,7 @@ fn body(alloc: Global, kind: Kind, words: &[&[u8]]) -> Result<Entry, WordFault>
 }
 
 fn last_pair(words: &[&[u8]]) -> Result<(u32, u64), WordFault>
-    ensures value { Gives result (last_pair_of (map (λ w. w.now) words.now)) }
+    ensures value { WordGives result (last_pair_of (map (λ w. w.now) words.now)) }
     ensures text { IfOk result (λ p. (map (λ w. w.now) words.now) ≡ texts (n32 p.0 ∷ n64 p.1 ∷ [])) }
 {
     let [first, rest @ ..] = words else {
@@ -117,7 +117,7 @@ fn last_pair(words: &[&[u8]]) -> Result<(u32, u64), WordFault>
 }
 
 fn arrive(alloc: Global, words: &[&[u8]]) -> Result<Entry, WordFault>
-    ensures value { Gives result (arrive_of (map (λ w. w.now) words.now)) }
+    ensures value { WordGives result (arrive_of (map (λ w. w.now) words.now)) }
     ensures text { IfOk result (λ entry. kind_word Kind.Arrive ∷ (map (λ w. w.now) words.now) ≡ texts (entry_tokens entry)) }
 {
     let [conn, size, rest @ ..] = words else {
@@ -130,7 +130,7 @@ fn arrive(alloc: Global, words: &[&[u8]]) -> Result<Entry, WordFault>
 }
 
 fn admit(alloc: Global, words: &[&[u8]]) -> Result<Entry, WordFault>
-    ensures value { Gives result (admit_of (map (λ w. w.now) words.now)) }
+    ensures value { WordGives result (admit_of (map (λ w. w.now) words.now)) }
     ensures text { IfOk result (λ entry. kind_word Kind.Admit ∷ (map (λ w. w.now) words.now) ≡ texts (entry_tokens entry)) }
 {
     let [worker, arrival, rest @ ..] = words else {
@@ -147,7 +147,7 @@ fn admit(alloc: Global, words: &[&[u8]]) -> Result<Entry, WordFault>
 }
 
 fn tried(words: &[&[u8]]) -> Result<Entry, WordFault>
-    ensures value { Gives result (tried_of (map (λ w. w.now) words.now)) }
+    ensures value { WordGives result (tried_of (map (λ w. w.now) words.now)) }
     ensures text { IfOk result (λ entry. kind_word Kind.Tried ∷ (map (λ w. w.now) words.now) ≡ texts (entry_tokens entry)) }
 {
     let [worker, rest @ ..] = words else {
@@ -159,7 +159,7 @@ fn tried(words: &[&[u8]]) -> Result<Entry, WordFault>
 }
 
 fn incarnated(alloc: Global, words: &[&[u8]]) -> Result<Entry, WordFault>
-    ensures value { Gives result (incarnated_of (map (λ w. w.now) words.now)) }
+    ensures value { WordGives result (incarnated_of (map (λ w. w.now) words.now)) }
     ensures text { IfOk result (λ entry. kind_word Kind.Incarnated ∷ (map (λ w. w.now) words.now) ≡ texts (entry_tokens entry)) }
 {
     let [worker, rest @ ..] = words else {
@@ -171,7 +171,7 @@ fn incarnated(alloc: Global, words: &[&[u8]]) -> Result<Entry, WordFault>
 }
 
 fn take_out(words: &[&[u8]]) -> Result<Entry, WordFault>
-    ensures value { Gives result (take_out_of (map (λ w. w.now) words.now)) }
+    ensures value { WordGives result (take_out_of (map (λ w. w.now) words.now)) }
     ensures text { IfOk result (λ entry. kind_word Kind.TakeOut ∷ (map (λ w. w.now) words.now) ≡ texts (entry_tokens entry)) }
 {
     let [worker, activation, rest @ ..] = words else {
@@ -188,7 +188,7 @@ fn take_out(words: &[&[u8]]) -> Result<Entry, WordFault>
 }
 
 fn last_removal(words: &[&[u8]]) -> Result<Removal, WordFault>
-    ensures value { Gives result (only removal_of (map (λ w. w.now) words.now)) }
+    ensures value { WordGives result (only removal_of (map (λ w. w.now) words.now)) }
     ensures text { IfOk result (λ removal. (map (λ w. w.now) words.now) ≡ removal_word removal ∷ []) }
 {
     let [word, rest @ ..] = words else {
@@ -202,7 +202,7 @@ fn last_removal(words: &[&[u8]]) -> Result<Removal, WordFault>
 }
 
 fn etherealized(words: &[&[u8]]) -> Result<Entry, WordFault>
-    ensures value { Gives result (etherealized_of (map (λ w. w.now) words.now)) }
+    ensures value { WordGives result (etherealized_of (map (λ w. w.now) words.now)) }
     ensures text { IfOk result (λ entry. kind_word Kind.Etherealized ∷ (map (λ w. w.now) words.now) ≡ texts (entry_tokens entry)) }
 {
     let [worker, cleanup, rest @ ..] = words else {
@@ -219,7 +219,7 @@ fn etherealized(words: &[&[u8]]) -> Result<Entry, WordFault>
 }
 
 fn last_flag(words: &[&[u8]]) -> Result<Flag, WordFault>
-    ensures value { Gives result (only flag_of (map (λ w. w.now) words.now)) }
+    ensures value { WordGives result (only flag_of (map (λ w. w.now) words.now)) }
     ensures text { IfOk result (λ f. (map (λ w. w.now) words.now) ≡ flag_word f ∷ []) }
 {
     let [word, rest @ ..] = words else {

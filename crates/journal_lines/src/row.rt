@@ -1,6 +1,6 @@
 ghost use Rattle.std.specs.Prelude.{◌≡◌, ◌∷◌, ◌++◌, [], IfOk, IfSome, OnOk, map};
 ghost use Rattle.std.specs.Option.{option_map};
-ghost use Rattle.text_words.specs.Gives.{Gives};
+ghost use Rattle.text_words.specs.WordGives.{WordGives};
 ghost use Rattle.text_words.specs.Token.{Token, spelled, tails, texts};
 ghost use Rattle.text_words.specs.Number.{signed_of};
 ghost use Rattle.poa_base.specs.Rows.{row_seen};
@@ -19,7 +19,7 @@ use text_words::{
 };
 
 fn holding(word: &[u8]) -> Result<Holding, WordFault>
-    ensures value { Gives result (holding_of word.now) }
+    ensures value { WordGives result (holding_of word.now) }
     ensures text { IfOk result (λ k. word.now ≡ holding_word k) }
 {
     find_word(
@@ -53,7 +53,7 @@ pub fn row_words<'a>(words: &'a [&'a [u8]]) -> Option<&'a [&'a [u8]]>
 
 /// The row of the words behind `store`.
 pub fn read_row(alloc: Global, words: &[&[u8]]) -> Result<((Path, Oid), State), WordFault>
-    ensures value { Gives result (row_behind (map (λ w. w.now) words.now)) }
+    ensures value { WordGives result (row_behind (map (λ w. w.now) words.now)) }
     ensures text { IfOk result (λ row. mark_word Mark.Store ∷ (map (λ w. w.now) words.now) ≡ texts (row_tokens row)) }
 {
     let [adapter, id, kind, rest @ ..] = words else {
@@ -67,7 +67,7 @@ pub fn read_row(alloc: Global, words: &[&[u8]]) -> Result<((Path, Oid), State), 
 }
 
 fn read_state(alloc: Global, holding: Holding, words: &[&[u8]]) -> Result<State, WordFault>
-    ensures value { Gives result (state_behind holding (map (λ w. w.now) words.now)) }
+    ensures value { WordGives result (state_behind holding (map (λ w. w.now) words.now)) }
     ensures text { IfOk result (λ state. holding_word holding ∷ (map (λ w. w.now) words.now) ≡ texts (state_tokens state)) }
 {
     match holding {
@@ -79,7 +79,7 @@ fn read_state(alloc: Global, holding: Holding, words: &[&[u8]]) -> Result<State,
 }
 
 fn last_signed(words: &[&[u8]]) -> Result<i64, WordFault>
-    ensures value { Gives result (only signed_of (map (λ w. w.now) words.now)) }
+    ensures value { WordGives result (only signed_of (map (λ w. w.now) words.now)) }
     ensures text { IfOk result (λ n. (map (λ w. w.now) words.now) ≡ texts (Token.signed n ∷ [])) }
 {
     let [word, rest @ ..] = words else {
@@ -92,7 +92,7 @@ fn last_signed(words: &[&[u8]]) -> Result<i64, WordFault>
 
 // The entries of a log.
 fn read_pages(alloc: Global, words: &[&[u8]]) -> Result<Items<Bytes>, WordFault>
-    ensures value { Gives result (pages_of (map (λ w. w.now) words.now)) }
+    ensures value { WordGives result (pages_of (map (λ w. w.now) words.now)) }
     ensures text { IfOk result (λ pages. (map (λ w. w.now) words.now) ≡ texts (map page_token pages)) }
 {
     let mut pages = Vec::new(alloc);

@@ -1,5 +1,5 @@
 ghost use Rattle.std.specs.Prelude.{◌≡◌, ◌∷◌, ◌++◌, ◌^◌, [], IfOk, OnOk, codes, map};
-ghost use Rattle.text_words.specs.Gives.{Gives};
+ghost use Rattle.text_words.specs.WordGives.{WordGives};
 ghost use Rattle.text_words.specs.Token.{Token, spell, tails, texts};
 ghost use Rattle.admin_line.specs.Command.{command_tokens};
 ghost use Rattle.admin_line.specs.Reading.{command_of};
@@ -17,7 +17,7 @@ use text_words::{
 };
 
 fn call_kind(word: &[u8]) -> Result<CallKind, WordFault>
-    ensures value { Gives result (call_kind_of word.now) }
+    ensures value { WordGives result (call_kind_of word.now) }
     ensures text { IfOk result (λ k. word.now ≡ call_word k) }
 {
     find_word(&[CallKind::Request, CallKind::Locate, CallKind::Line], word).ok_or(
@@ -26,7 +26,7 @@ fn call_kind(word: &[u8]) -> Result<CallKind, WordFault>
 }
 
 fn byte_order(word: &[u8]) -> Result<ByteOrder, WordFault>
-    ensures value { Gives result (order_of word.now) }
+    ensures value { WordGives result (order_of word.now) }
     ensures text { IfOk result (λ k. word.now ≡ order_word k) }
 {
     find_word(&[ByteOrder::Big, ByteOrder::Little], word).ok_or(WordFault::OutOfForm)
@@ -34,7 +34,7 @@ fn byte_order(word: &[u8]) -> Result<ByteOrder, WordFault>
 
 /// The call of its words.
 pub fn read_call(alloc: Global, words: &[&[u8]]) -> Result<Call, WordFault>
-    ensures value { Gives result (call_of (map (λ w. w.now) words.now)) }
+    ensures value { WordGives result (call_of (map (λ w. w.now) words.now)) }
     ensures text { IfOk result (λ call. (map (λ w. w.now) words.now) ≡ texts (call_tokens call)) }
 {
     let [word, rest @ ..] = words else {
@@ -45,7 +45,7 @@ pub fn read_call(alloc: Global, words: &[&[u8]]) -> Result<Call, WordFault>
 }
 
 fn behind(alloc: Global, kind: CallKind, words: &[&[u8]]) -> Result<Call, WordFault>
-    ensures value { Gives result (call_behind kind (map (λ w. w.now) words.now)) }
+    ensures value { WordGives result (call_behind kind (map (λ w. w.now) words.now)) }
     ensures text { IfOk result (λ call. call_word kind ∷ (map (λ w. w.now) words.now) ≡ texts (call_tokens call)) }
 {
     match kind {
@@ -56,7 +56,7 @@ fn behind(alloc: Global, kind: CallKind, words: &[&[u8]]) -> Result<Call, WordFa
 }
 
 fn request(alloc: Global, words: &[&[u8]]) -> Result<Call, WordFault>
-    ensures value { Gives result (request_of (map (λ w. w.now) words.now)) }
+    ensures value { WordGives result (request_of (map (λ w. w.now) words.now)) }
     ensures text { IfOk result (λ call. call_word CallKind.Request ∷ (map (λ w. w.now) words.now) ≡ texts (call_tokens call)) }
 {
     let [id, minor, order, flags, rest @ ..] = words else {
@@ -80,7 +80,7 @@ fn request(alloc: Global, words: &[&[u8]]) -> Result<Call, WordFault>
 }
 
 fn locate(alloc: Global, words: &[&[u8]]) -> Result<Call, WordFault>
-    ensures value { Gives result (locate_of (map (λ w. w.now) words.now)) }
+    ensures value { WordGives result (locate_of (map (λ w. w.now) words.now)) }
     ensures text { IfOk result (λ call. call_word CallKind.Locate ∷ (map (λ w. w.now) words.now) ≡ texts (call_tokens call)) }
 {
     let [id, minor, order, key] = words else {
@@ -102,7 +102,7 @@ fn locate(alloc: Global, words: &[&[u8]]) -> Result<Call, WordFault>
 
 // The id, the minor version and the byte order of a message.
 fn start(id: &[u8], minor: &[u8], order: &[u8]) -> Result<(u32, u8, bool), WordFault>
-    ensures value { Gives result (start_of id.now minor.now order.now) }
+    ensures value { WordGives result (start_of id.now minor.now order.now) }
     ensures id_text { IfOk result (λ s. id.now ≡ spell (Token.number (2 ^ 32) s.0)) }
     ensures minor_text { IfOk result (λ s. minor.now ≡ spell (Token.number 256 s.1)) }
     ensures order_text { IfOk result (λ s. order.now ≡ order_word (order_for s.2)) }
@@ -119,7 +119,7 @@ fn arguments(
     little: bool,
     words: &[&[u8]],
 ) -> Result<(Option<Bytes>, Bytes, Body), WordFault>
-    ensures value { Gives result (arguments_of little (map (λ w. w.now) words.now)) }
+    ensures value { WordGives result (arguments_of little (map (λ w. w.now) words.now)) }
     ensures text { IfOk result (λ x. map (λ w. w.now) words.now ≡ texts (target_token x.0 ∷ Token.octets (codes "h:") x.1 ∷ Token.number (2 ^ 64) x.2.base ∷ Token.octets (codes "h:") x.2.bytes ∷ [])) }
 {
     let [key, name, base, bytes] = words else {
@@ -132,7 +132,7 @@ fn arguments(
 }
 
 fn body(alloc: Global, little: bool, base: &[u8], bytes: &[u8]) -> Result<Body, WordFault>
-    ensures value { Gives result (body_of little base.now bytes.now) }
+    ensures value { WordGives result (body_of little base.now bytes.now) }
     ensures base_text { IfOk result (λ body. base.now ≡ spell (Token.number (2 ^ 64) body.base)) }
     ensures bytes_text { IfOk result (λ body. bytes.now ≡ spell (Token.octets (codes "h:") body.bytes)) }
 {
@@ -147,7 +147,7 @@ fn body(alloc: Global, little: bool, base: &[u8], bytes: &[u8]) -> Result<Body, 
 
 // The key of a target, none where the message gave none.
 fn target(alloc: Global, word: &[u8]) -> Result<Option<Bytes>, WordFault>
-    ensures value { Gives result (target_of word.now) }
+    ensures value { WordGives result (target_of word.now) }
     ensures text { IfOk result (λ target. word.now ≡ spell (target_token target)) }
 {
     if Mark::Nothing.word() == word {
@@ -158,7 +158,7 @@ fn target(alloc: Global, word: &[u8]) -> Result<Option<Bytes>, WordFault>
 }
 
 fn line(alloc: Global, words: &[&[u8]]) -> Result<Call, WordFault>
-    ensures value { Gives result (line_of (map (λ w. w.now) words.now)) }
+    ensures value { WordGives result (line_of (map (λ w. w.now) words.now)) }
     ensures text { IfOk result (λ call. call_word CallKind.Line ∷ (map (λ w. w.now) words.now) ≡ texts (call_tokens call)) }
 {
     let [word, rest @ ..] = words else {
@@ -170,7 +170,7 @@ fn line(alloc: Global, words: &[&[u8]]) -> Result<Call, WordFault>
 }
 
 fn command(alloc: Global, words: &[&[u8]]) -> Result<Command, WordFault>
-    ensures value { Gives result (accepted (command_of Journal (map (λ w. w.now) words.now))) }
+    ensures value { WordGives result (accepted (command_of Journal (map (λ w. w.now) words.now))) }
     ensures text { IfOk result (λ command. (map (λ w. w.now) words.now) ≡ texts (command_tokens command)) }
 {
     match read_words(alloc, Source::Journal, words) {

@@ -1,5 +1,5 @@
 ghost use Rattle.std.specs.Prelude.{◌≡◌, ◌++◌, IfOk, OnOk, map};
-ghost use Rattle.text_words.specs.Gives.{Gives};
+ghost use Rattle.text_words.specs.WordGives.{WordGives};
 ghost use Rattle.text_words.specs.Token.{tails, texts};
 ghost use Rattle.journal_words.specs.Fixed.{exception_word};
 ghost use Rattle.journal_words.specs.Exception.{completion_of, exception_name_of, exception_of, exception_tokens};
@@ -22,7 +22,7 @@ fn completion(minor: u32) -> Completion
 }
 
 fn exception_name(word: &[u8]) -> Result<ExcName, WordFault>
-    ensures value { Gives result (exception_name_of word.now) }
+    ensures value { WordGives result (exception_name_of word.now) }
     ensures text { IfOk result (λ name. word.now ≡ exception_word name) }
 {
     let all = [
@@ -53,7 +53,7 @@ fn exception_name(word: &[u8]) -> Result<ExcName, WordFault>
 
 /// The exception of its name and minor.
 pub(crate) fn read_exception(words: &[&[u8]]) -> Result<SysExc, WordFault>
-    ensures value { Gives result (exception_of (map (λ w. w.now) words.now)) }
+    ensures value { WordGives result (exception_of (map (λ w. w.now) words.now)) }
     ensures text { IfOk result (λ exc. map (λ w. w.now) words.now ≡ texts (exception_tokens exc)) }
 {
     let [first, second, rest @ ..] = words else {

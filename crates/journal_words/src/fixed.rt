@@ -1,7 +1,7 @@
 //! The fixed words of calls, verdicts and outcomes, and those that stand alone at their place.
 ghost use Rattle.std.specs.Prelude.{◌≡◌, IfOk, true};
 ghost use Rattle.std.specs.Str.{bytes_eq};
-ghost use Rattle.text_words.specs.Gives.{Gives};
+ghost use Rattle.text_words.specs.WordGives.{WordGives};
 ghost use Rattle.journal_words.specs.Fixed.{expected, is_little, mark_word, order_for};
 
 use poa_base::ExcName;
@@ -230,7 +230,7 @@ pub fn is_mark(mark: Mark, word: &[u8]) -> bool
 
 /// That a word is the one of `mark`.
 pub fn expect(mark: Mark, word: &[u8]) -> Result<(), WordFault>
-    ensures value { Gives result (expected mark word.now) }
+    ensures value { WordGives result (expected mark word.now) }
     ensures text { IfOk result (λ x. word.now ≡ mark_word mark) }
 {
     if is_mark(mark, word) {

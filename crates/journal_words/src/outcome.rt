@@ -1,5 +1,5 @@
 ghost use Rattle.std.specs.Prelude.{◌≡◌, ◌∷◌, ◌++◌, IfOk, OnOk, map};
-ghost use Rattle.text_words.specs.Gives.{Gives};
+ghost use Rattle.text_words.specs.WordGives.{WordGives};
 ghost use Rattle.text_words.specs.Token.{tails, texts};
 ghost use Rattle.journal_words.specs.Fixed.{bringing_word, trial_word};
 ghost use Rattle.journal_words.specs.Outcome.{attempt_behind as attempt_behind_of, attempt_of, attempt_tokens, bringing_of, incarnation_behind as incarnation_behind_of, incarnation_of, incarnation_tokens, trial_of};
@@ -14,7 +14,7 @@ use text_words::{
 };
 
 fn trial(word: &[u8]) -> Result<Trial, WordFault>
-    ensures value { Gives result (trial_of word.now) }
+    ensures value { WordGives result (trial_of word.now) }
     ensures text { IfOk result (λ k. word.now ≡ trial_word k) }
 {
     find_word(&[Trial::Yes, Trial::No, Trial::Raised, Trial::Dying], word).ok_or(
@@ -23,7 +23,7 @@ fn trial(word: &[u8]) -> Result<Trial, WordFault>
 }
 
 fn bringing(word: &[u8]) -> Result<Bringing, WordFault>
-    ensures value { Gives result (bringing_of word.now) }
+    ensures value { WordGives result (bringing_of word.now) }
     ensures text { IfOk result (λ k. word.now ≡ bringing_word k) }
 {
     find_word(
@@ -41,7 +41,7 @@ fn bringing(word: &[u8]) -> Result<Bringing, WordFault>
 
 /// What an adapter activator answered.
 pub fn read_attempt(words: &[&[u8]]) -> Result<Attempt, WordFault>
-    ensures value { Gives result (attempt_of (map (λ w. w.now) words.now)) }
+    ensures value { WordGives result (attempt_of (map (λ w. w.now) words.now)) }
     ensures text { IfOk result (λ answer. (map (λ w. w.now) words.now) ≡ texts (attempt_tokens answer)) }
 {
     let [word, rest @ ..] = words else {
@@ -52,7 +52,7 @@ pub fn read_attempt(words: &[&[u8]]) -> Result<Attempt, WordFault>
 }
 
 fn attempt_behind(trial: Trial, words: &[&[u8]]) -> Result<Attempt, WordFault>
-    ensures value { Gives result (attempt_behind_of trial (map (λ w. w.now) words.now)) }
+    ensures value { WordGives result (attempt_behind_of trial (map (λ w. w.now) words.now)) }
     ensures text { IfOk result (λ answer. trial_word trial ∷ (map (λ w. w.now) words.now) ≡ texts (attempt_tokens answer)) }
 {
     match trial {
@@ -68,7 +68,7 @@ fn attempt_behind(trial: Trial, words: &[&[u8]]) -> Result<Attempt, WordFault>
 
 /// What a servant activator brought.
 pub fn read_incarnation(alloc: Global, words: &[&[u8]]) -> Result<Incarnation, WordFault>
-    ensures value { Gives result (incarnation_of (map (λ w. w.now) words.now)) }
+    ensures value { WordGives result (incarnation_of (map (λ w. w.now) words.now)) }
     ensures text { IfOk result (λ answer. (map (λ w. w.now) words.now) ≡ texts (incarnation_tokens answer)) }
 {
     let [word, rest @ ..] = words else {
@@ -83,7 +83,7 @@ fn incarnation_behind(
     bringing: Bringing,
     words: &[&[u8]],
 ) -> Result<Incarnation, WordFault>
-    ensures value { Gives result (incarnation_behind_of bringing (map (λ w. w.now) words.now)) }
+    ensures value { WordGives result (incarnation_behind_of bringing (map (λ w. w.now) words.now)) }
     ensures text { IfOk result (λ answer. bringing_word bringing ∷ (map (λ w. w.now) words.now) ≡ texts (incarnation_tokens answer)) }
 {
     match bringing {

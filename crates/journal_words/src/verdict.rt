@@ -1,5 +1,5 @@
 ghost use Rattle.std.specs.Prelude.{◌≡◌, ◌∷◌, ◌++◌, IfOk, OnOk, map};
-ghost use Rattle.text_words.specs.Gives.{Gives};
+ghost use Rattle.text_words.specs.WordGives.{WordGives};
 ghost use Rattle.text_words.specs.Token.{tails, texts};
 ghost use Rattle.journal_words.specs.Fixed.{ruling_word};
 ghost use Rattle.journal_words.specs.Verdict.{ruling_of, verdict_behind, verdict_of, verdict_tokens};
@@ -15,7 +15,7 @@ use text_words::{
 };
 
 fn ruling(word: &[u8]) -> Result<Ruling, WordFault>
-    ensures value { Gives result (ruling_of word.now) }
+    ensures value { WordGives result (ruling_of word.now) }
     ensures text { IfOk result (λ k. word.now ≡ ruling_word k) }
 {
     find_word(
@@ -40,7 +40,7 @@ fn ruling(word: &[u8]) -> Result<Ruling, WordFault>
 
 /// The verdict of its words.
 pub fn read_verdict(alloc: Global, words: &[&[u8]]) -> Result<Verdict, WordFault>
-    ensures value { Gives result (verdict_of (map (λ w. w.now) words.now)) }
+    ensures value { WordGives result (verdict_of (map (λ w. w.now) words.now)) }
     ensures text { IfOk result (λ verdict. (map (λ w. w.now) words.now) ≡ texts (verdict_tokens verdict)) }
 {
     let [word, rest @ ..] = words else {
@@ -51,7 +51,7 @@ pub fn read_verdict(alloc: Global, words: &[&[u8]]) -> Result<Verdict, WordFault
 }
 
 fn behind(alloc: Global, ruling: Ruling, words: &[&[u8]]) -> Result<Verdict, WordFault>
-    ensures value { Gives result (verdict_behind ruling (map (λ w. w.now) words.now)) }
+    ensures value { WordGives result (verdict_behind ruling (map (λ w. w.now) words.now)) }
     ensures text { IfOk result (λ verdict. ruling_word ruling ∷ (map (λ w. w.now) words.now) ≡ texts (verdict_tokens verdict)) }
 {
     match ruling {

@@ -8,7 +8,7 @@ use Rattle.poa_base.specs.Limits.{IsOid}
 use Rattle.object_key.specs.declared.fault.KeyFault.{KeyFault}
 use Rattle.object_key.specs.declared.fault.KeyFault.TheVariants.{BadKey, WantMemory}
 use Rattle.object_key.specs.Spelling.{key_mark, stamp_bytes, path_bytes, oid_bytes, key_spelling, IsStamp, ArePathNames, IsKey}
-use Rattle.object_key.specs.Reading.{OnBadKey, Reads}
+use Rattle.object_key.specs.Reading.{OnBadKey, KeyReads}
 use Rattle.object_key.proofs.OneReading.{one_stamp, one_path, one_oid}
 
 abbrev key_with : Option Stamp → List (List ℕ) → List ℕ → Key
@@ -29,7 +29,7 @@ one_key a b fits_a fits_b e =
     same_key a b stamp.0 path.0 oid.0
 
 -- what is left of a key behind its mark, stamp and path is its object id
-pub oid_is_left : (bytes unmarked unstamped left : List ℕ) (stamp : Option Stamp) (path : List (List ℕ)) → bytes ≡ key_mark ++ unmarked → Reads stamp_bytes IsStamp stamp unmarked unstamped → Reads path_bytes ArePathNames path unstamped left → (key : Key) → IsKey key → key_spelling key ≡ bytes → Reads oid_bytes IsOid key.oid left []
+pub oid_is_left : (bytes unmarked unstamped left : List ℕ) (stamp : Option Stamp) (path : List (List ℕ)) → bytes ≡ key_mark ++ unmarked → KeyReads stamp_bytes IsStamp stamp unmarked unstamped → KeyReads path_bytes ArePathNames path unstamped left → (key : Key) → IsKey key → key_spelling key ≡ bytes → KeyReads oid_bytes IsOid key.oid left []
 oid_is_left bytes unmarked unstamped left stamp path mark stamp_read path_read key fits spelled =
     let marked : key_mark ++ (stamp_bytes key.stamp ++ (path_bytes key.path ++ oid_bytes key.oid)) ≡ key_mark ++ unmarked = spelled ∙ mark in
     let behind_mark : stamp_bytes key.stamp ++ (path_bytes key.path ++ oid_bytes key.oid) ≡ unmarked = append_cancel_left key_mark _ _ marked in
@@ -38,7 +38,7 @@ oid_is_left bytes unmarked unstamped left stamp path mark stamp_read path_read k
     record { begins = sym behind_path.1 ∙ sym (append-nil (oid_bytes key.oid)); fits = fits.oid }
 
 -- behind a key's object id nothing is left
-pub nothing_left : (oid found text left : List ℕ) → Reads oid_bytes IsOid oid text [] → Reads oid_bytes IsOid found text left → left ≡ []
+pub nothing_left : (oid found text left : List ℕ) → KeyReads oid_bytes IsOid oid text [] → KeyReads oid_bytes IsOid found text left → left ≡ []
 nothing_left oid found text left whole read =
     let short_whole : length oid < 2 ^ 16 = omega (arith, whole.fits) in
     let short_read : length found < 2 ^ 16 = omega (arith, read.fits) in

@@ -6,7 +6,7 @@ use Rattle.std.proofs.lemmas.List.Elements.{All-more, All-head, All-tail}
 use Rattle.std.proofs.lemmas.Grind.{flat_map-append}
 use Rattle.poa_base.specs.Limits.{IsName}
 use Rattle.object_key.specs.Spelling.{name_bytes}
-use Rattle.object_key.specs.Reading.{Reads, ReadsNone, AreNames, names_bytes}
+use Rattle.object_key.specs.Reading.{KeyReads, ReadsNone, AreNames, names_bytes}
 use Rattle.object_key.proofs.OneReading.{one_name}
 
 -- the bytes of names and of one more
@@ -29,7 +29,7 @@ pub names_more : (names : List (List ℕ)) (i : ℕ) (name : List ℕ) → i < l
 names_more names i name below is so_far one = All-more IsName names i name below so_far (subst IsName is one)
 
 -- where the first names are read and no further name stands behind them, no more names than these are read
-pub no_names : (found names : List (List ℕ)) (i count : ℕ) (text behind rest : List ℕ) → i < count → Reads names_bytes (AreNames i) found text behind → ReadsNone name_bytes IsName behind → Reads names_bytes (AreNames count) names text rest → ⊥
+pub no_names : (found names : List (List ℕ)) (i count : ℕ) (text behind rest : List ℕ) → i < count → KeyReads names_bytes (AreNames i) found text behind → ReadsNone name_bytes IsName behind → KeyReads names_bytes (AreNames count) names text rest → ⊥
 no_names found [] i count text behind rest fewer so_far none all = absurd (omega (arith, all.fits.0))
 no_names [] (name ∷ names) i count text behind rest fewer so_far none all =
     none name (names_bytes names ++ rest) (record {

@@ -11,13 +11,13 @@ abbrev pub OnBadKey : {T : Type 0} → Result T KeyFault → Type 0 → Type 0
 OnBadKey result P = IfErr result (λ fault. fault ≡ BadKey → P)
 
 -- the text begins with the bytes of a value within its limits, and the rest stands behind them
-pub record Reads {A : Type 0} (bytes_of : A → List ℕ) (Fits : A → Type 0) (value : A) (text rest : List ℕ) : Type 0 where
+pub record KeyReads {A : Type 0} (bytes_of : A → List ℕ) (Fits : A → Type 0) (value : A) (text rest : List ℕ) : Type 0 where
   pub begins : text ≡ bytes_of value ++ rest
   pub fits : Fits value
 
 -- the text begins with the bytes of no value within its limits
 abbrev pub ReadsNone : {A : Type 0} → (A → List ℕ) → (A → Type 0) → List ℕ → Type 0
-ReadsNone {A} bytes_of Fits text = (value : A) (rest : List ℕ) → Reads bytes_of Fits value text rest → ⊥
+ReadsNone {A} bytes_of Fits text = (value : A) (rest : List ℕ) → KeyReads bytes_of Fits value text rest → ⊥
 
 -- so many names, each within its limits
 abbrev pub AreNames : ℕ → List (List ℕ) → Type 0

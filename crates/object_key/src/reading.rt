@@ -3,14 +3,14 @@ ghost use Rattle.std.specs.Prelude.{◌≡◌, ◌≢◌, ◌++◌, ℕ, List, I
 ghost use Rattle.poa_base.specs.declared.Key.{Key};
 ghost use Rattle.poa_base.specs.Limits.{IsName, IsOid};
 ghost use Rattle.object_key.specs.Spelling.{key_mark, stamp_bytes, name_bytes, path_bytes, oid_bytes, key_spelling, IsStamp, ArePathNames, IsKey};
-ghost use Rattle.object_key.specs.Reading.{OnBadKey, Reads, ReadsNone, AreNames, names_bytes};
+ghost use Rattle.object_key.specs.Reading.{OnBadKey, KeyReads, ReadsNone, AreNames, names_bytes};
 
 use crate::fault::KeyFault;
 use crate::unread::Unread;
 use poa_base::{Key, Name, Oid, Path, Stamp};
 use std::alloc::Global;
 
-/// Reads a key. `BadKey`: no key is spelled so. `WantMemory`: no memory was left for the key.
+/// KeyReads a key. `BadKey`: no key is spelled so. `WantMemory`: no memory was left for the key.
 pub fn read_key(alloc: Global, bytes: &[u8]) -> Result<Key, KeyFault>
     // What is read is a key, and the bytes are its spelling, to the last one.
     ensures spelled { IfOk result (λ key. IsKey key × (key_spelling key ≡ bytes.now)) }
@@ -51,7 +51,7 @@ fn read_mark(unread: &mut Unread) -> Result<(), KeyFault>
 
 /// The lifespan, and a transient key's stamp.
 fn read_stamp(unread: &mut Unread) -> Result<Option<Stamp>, KeyFault>
-    ensures ok { IfOk result (λ stamp. Reads stamp_bytes IsStamp stamp unread.old unread.new) }
+    ensures ok { IfOk result (λ stamp. KeyReads stamp_bytes IsStamp stamp unread.old unread.new) }
     ensures bad { OnBadKey result (ReadsNone stamp_bytes IsStamp unread.old) }
 {
     let Some(lifespan) = unread.octet() else {
@@ -74,7 +74,7 @@ fn read_stamp(unread: &mut Unread) -> Result<Option<Stamp>, KeyFault>
 
 /// The path of the adapter.
 fn read_path(alloc: Global, unread: &mut Unread) -> Result<Path, KeyFault>
-    ensures ok { IfOk result (λ path. Reads path_bytes ArePathNames path unread.old unread.new) }
+    ensures ok { IfOk result (λ path. KeyReads path_bytes ArePathNames path unread.old unread.new) }
     ensures bad { OnBadKey result (ReadsNone path_bytes ArePathNames unread.old) }
 {
     let Some(count) = unread.octet() else {
@@ -86,7 +86,7 @@ fn read_path(alloc: Global, unread: &mut Unread) -> Result<Path, KeyFault>
 
 /// So many names.
 fn read_names(alloc: Global, unread: &mut Unread, count: u8) -> Result<Vec<Name>, KeyFault>
-    ensures ok { IfOk result (λ names. Reads names_bytes (AreNames count) names.items unread.old unread.new) }
+    ensures ok { IfOk result (λ names. KeyReads names_bytes (AreNames count) names.items unread.old unread.new) }
     ensures bad { OnBadKey result (ReadsNone names_bytes (AreNames count) unread.old) }
 {
     let mut names = Vec::new(alloc);
@@ -98,7 +98,7 @@ fn read_names(alloc: Global, unread: &mut Unread, count: u8) -> Result<Vec<Name>
 
 /// One name.
 fn read_name(alloc: Global, unread: &mut Unread) -> Result<Name, KeyFault>
-    ensures ok { IfOk result (λ name. Reads name_bytes IsName name unread.old unread.new) }
+    ensures ok { IfOk result (λ name. KeyReads name_bytes IsName name unread.old unread.new) }
     ensures bad { OnBadKey result (ReadsNone name_bytes IsName unread.old) }
 {
     let Some(len) = unread.octet() else {
@@ -112,7 +112,7 @@ fn read_name(alloc: Global, unread: &mut Unread) -> Result<Name, KeyFault>
 
 /// The object id.
 fn read_oid(alloc: Global, unread: &mut Unread) -> Result<Oid, KeyFault>
-    ensures ok { IfOk result (λ oid. Reads oid_bytes IsOid oid unread.old unread.new) }
+    ensures ok { IfOk result (λ oid. KeyReads oid_bytes IsOid oid unread.old unread.new) }
     ensures bad { OnBadKey result (ReadsNone oid_bytes IsOid unread.old) }
 {
     let Some(len) = unread.ushort() else {

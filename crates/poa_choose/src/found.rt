@@ -1,11 +1,11 @@
 //! The rows of an adapter that was found.
 ghost use Rattle.std.specs.Prelude.{◌≡◌};
-ghost use Rattle.poa_verdict.specs.Table.{found_rows, thread_rows, object_rows, processing_rows, default_rows, manager_rows, activator_rows, locator_rows, awaits_turn as the_awaits_turn, awaits_main as the_awaits_main, unmade as the_unmade};
+ghost use Rattle.poa_choose.specs.Table.{found_rows, thread_rows, object_rows, processing_rows, default_rows, manager_rows, activator_rows, locator_rows, awaits_turn as the_awaits_turn, awaits_main as the_awaits_main, unmade as the_unmade};
 
 use crate::policies::{is_main_thread, is_retain, is_single_thread, is_system_id};
 use crate::refusals::{OMG, OWN, inactive, refuse, serve};
+use crate::{Choice, Facts, Located, MapFact};
 use poa_base::{Cause, ExcName, ManagerState, Policy, Verdict};
-use poa_verdict::{Choice, Facts, Located, MapFact};
 
 /// The adapter is there.
 pub fn found(facts: Facts, worker: u32) -> Choice

@@ -1,7 +1,10 @@
-//! The verdict on a request or a locate: the table of `poa_verdict`, computed from its facts.
+//! The verdict on a request or a locate: the facts that it asks, the table that gives it, in `specs/` as the
+//! one definition that every other crate cites, and the verdict computed from its facts.
 #![tactic(auto)]
 
+mod facts;
 mod found;
+mod laws;
 mod missing;
 mod policies;
 mod refusals;
@@ -9,4 +12,6 @@ mod table;
 #[cfg(test)]
 mod tests;
 
+pub use facts::{Choice, Facts, KeyFact, Located, MapFact, WaitFacts, WalkFact};
+pub use laws::{locates_run_nothing, servants_run_where_active};
 pub use table::choose;

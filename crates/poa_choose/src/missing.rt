@@ -1,10 +1,10 @@
 //! The rows of a missing child.
 ghost use Rattle.std.specs.Prelude.{◌≡◌};
-ghost use Rattle.poa_verdict.specs.Table.{missing_rows, trial_rows};
+ghost use Rattle.poa_choose.specs.Table.{missing_rows, trial_rows};
 
 use crate::refusals::{OMG, OWN, forward_or, inactive, refuse};
+use crate::{Choice, Facts, KeyFact};
 use poa_base::{Cause, ExcName, ManagerState, Verdict};
-use poa_verdict::{Choice, Facts, KeyFact};
 
 /// A child is missing: CORBA 3.3 Part 1, chapter 15, "AdapterActivator Interface".
 pub fn missing(facts: Facts) -> Choice

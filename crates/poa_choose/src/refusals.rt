@@ -1,9 +1,9 @@
 //! What ends a row: a refusal, a servant, the endpoint table.
 ghost use Rattle.std.specs.Prelude.{◌≡◌};
-ghost use Rattle.poa_verdict.specs.Table.{refuse as the_refuse, serve as the_serve, forward_or as the_forward_or, inactive_rule};
+ghost use Rattle.poa_choose.specs.Table.{refuse as the_refuse, serve as the_serve, forward_or as the_forward_or, inactive_rule};
 
+use crate::{Choice, Facts, KeyFact};
 use poa_base::{Completion, Endpoint, ExcName, SysExc, Verdict};
-use poa_verdict::{Choice, Facts, KeyFact};
 
 /// The minor codes of the OMG begin here (OMGVMCID).
 pub const OMG: u32 = 0x4F4D_0000;

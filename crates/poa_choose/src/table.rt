@@ -1,16 +1,16 @@
 //! The rows of the key and of the walk.
 ghost use Rattle.std.specs.Prelude.{◌≡◌};
-ghost use Rattle.poa_verdict.specs.Table.{first_row, walk_rows};
+ghost use Rattle.poa_choose.specs.Table.{first_row, walk_rows};
 
 use crate::found::found;
 use crate::missing::missing;
 use crate::refusals::{OMG, OWN, refuse};
+use crate::{Choice, Facts, KeyFact, WalkFact};
 use poa_base::{ExcName, Verdict};
-use poa_verdict::{Choice, Facts, KeyFact, WalkFact};
 
 /// The verdict on a request or a locate for a worker: the first row of the table that applies. What the
 /// verdict carries is moved out of the facts. Takes no memory.
-#[tactic(auto, unfolding(poa_verdict::specs::Table::first_row))]
+#[tactic(auto, unfolding(crate::specs::Table::first_row))]
 pub fn choose(facts: Facts, worker: u32) -> Choice
     ensures { result ≡ first_row facts worker }
 {

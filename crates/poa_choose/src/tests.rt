@@ -1,10 +1,9 @@
 //! What no clause says: the rows of the table against what each is to answer, in the order in which a
 //! script meets them.
-use crate::choose;
+use crate::{Choice, Facts, KeyFact, Located, MapFact, WalkFact, choose};
 use poa_base::{
     Bytes, Cause, Completion, Endpoint, ExcName, ManagerState, Policy, PolicySet, SysExc, Verdict,
 };
-use poa_verdict::{Choice, Facts, KeyFact, Located, MapFact, WalkFact};
 use std::alloc::Global;
 use std::test::Fail;
 

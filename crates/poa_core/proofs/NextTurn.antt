@@ -3,17 +3,17 @@ use Rattle.std.proofs.Common.{◌≡◌, ℕ, ◌<◌, true, false, List, ◌∷
 use Rattle.poa_base.specs.declared.Config.{Config}
 use Rattle.poa_base.specs.declared.Entry.{Entry}
 use Rattle.poa_base.specs.declared.Entry.TheVariants.{Entered, Arrive, Filled, Left, Collect, Admit, Tried, Incarnated, Run, Done, TakeOut, Etherealized, Abandon}
-use Rattle.poa_history.specs.declared.act.Act.{Act}
+use Rattle.poa_history.specs.declared.activation.Activation.{Activation}
 use Rattle.poa_history.specs.declared.stage.Stage.{Stage}
 use Rattle.poa_history.specs.declared.stage.Stage.TheVariants.{Free, Trying, Incarnating, Serving, Ran, Removing}
 use Rattle.poa_history.specs.Standings.{Standing}
 use Rattle.poa_history.specs.Changes.{standing}
 use Rattle.poa_history.specs.Rules.{brought}
 use Rattle.poa_history.specs.Stages.{stage, is_abandoned}
-use Rattle.poa_history.specs.Turns.{attempt, going_on, act_numbered, turn}
+use Rattle.poa_history.specs.Turns.{attempt, going_on, activation_numbered, turn}
 use Rattle.poa_history.specs.Legal.{IsTurn, MayFollow}
 use Rattle.poa_history.proofs.TurnIs.{mapped_by, goes_on, takes, admits, turned}
-use Rattle.poa_opening.specs.Runs.{IsRun}
+use Rattle.history_openings.specs.Runs.{IsRun}
 use Rattle.standing_of.specs.Entries.{stage_at}
 use Rattle.arrival_tables.specs.Begun.{worker_of}
 use Rattle.arrival_tables.proofs.Staging.{worker_stage}
@@ -26,10 +26,10 @@ pub record IsMade (w : ℕ) (e : Entry) : Type 0 where
 going_made : (c : Config) (s : Standing) (w : ℕ) (begun : Stage) (e : Entry) → going_on c s w begun ≡ Some e → IsMade w e
 going_made c s w Free e is = absurd (let f : None ≡ Some e = is in cc)
 going_made c s w (Trying r) e is = subst (IsMade w) (let f : Some (Tried w (attempt c s r)) ≡ Some e = is in let g : Tried w (attempt c s r) ≡ e = cc in g) (record { turn_is = refl; by = refl })
-going_made c s w (Incarnating r n) e is = subst (IsMade w) (mapped_by (λ a. Incarnated w (brought c s a)) (act_numbered s n) e is).2 (record { turn_is = refl; by = refl })
+going_made c s w (Incarnating r n) e is = subst (IsMade w) (mapped_by (λ a. Incarnated w (brought c s a)) (activation_numbered s n) e is).2 (record { turn_is = refl; by = refl })
 going_made c s w (Serving r) e is = subst (IsMade w) (let f : Some (Run w) ≡ Some e = is in let g : Run w ≡ e = cc in g) (record { turn_is = refl; by = refl })
 going_made c s w (Ran r) e is = subst (IsMade w) (let f : Some (Done w) ≡ Some e = is in let g : Done w ≡ e = cc in g) (record { turn_is = refl; by = refl })
-going_made c s w (Removing n) e is = subst (IsMade w) (mapped_by (λ (a : Act). Etherealized w a.cleanup a.remaining) (act_numbered s n) e is).2 (record { turn_is = refl; by = refl })
+going_made c s w (Removing n) e is = subst (IsMade w) (mapped_by (λ (a : Activation). Etherealized w a.cleanup a.remaining) (activation_numbered s n) e is).2 (record { turn_is = refl; by = refl })
 
 module _ (c : Config) (run limit : ℕ) (past : List Entry) (w : ℕ) (e : Entry) (next : turn c run past w ≡ Some e) where
   pub made : IsMade w e

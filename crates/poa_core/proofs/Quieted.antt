@@ -7,8 +7,8 @@ use Rattle.poa_base.specs.declared.Entry.{Entry}
 use Rattle.poa_base.specs.declared.Entry.TheVariants.{Entered, Arrive, Filled, Left, Collect, Admit, Tried, Incarnated, Run, Done, TakeOut, Etherealized, Abandon}
 use Rattle.poa_history.specs.declared.stage.Stage.TheVariants.{Free}
 use Rattle.poa_history.specs.States.{Stored}
-use Rattle.poa_opening.specs.Runs.{IsRun}
-use Rattle.poa_opening.proofs.Opened.{given, within}
+use Rattle.history_openings.specs.Runs.{IsRun}
+use Rattle.history_openings.proofs.Opened.{given, within}
 use Rattle.standing_of.specs.Entries.{stage_at, changes_nothing}
 use Rattle.standing_of.proofs.Settled.{nothing_changed}
 use Rattle.adapter_settings.specs.declared.settings.Settings.{Settings}

@@ -14,8 +14,8 @@ use Rattle.poa_history.specs.Stages.{stage}
 use Rattle.poa_history.specs.States.{Stored, acted, call_run, servant_run, state_of}
 use Rattle.poa_history.proofs.MannedKept.{all_manned}
 use Rattle.poa_history.proofs.TurnTells.{trial_is, incarnation_is, run_is, done_is, takeout_is, removal_is}
-use Rattle.poa_opening.specs.Runs.{IsRun}
-use Rattle.poa_opening.proofs.Opened.{given, alone, within}
+use Rattle.history_openings.specs.Runs.{IsRun}
+use Rattle.history_openings.proofs.Opened.{given, alone, within}
 use Rattle.standing_of.specs.Entries.{stage_at}
 use Rattle.adapter_settings.specs.declared.settings.Settings.{Settings}
 use Rattle.adapter_settings.specs.Told.{Tells as SettingsTell}

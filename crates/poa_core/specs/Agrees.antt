@@ -3,7 +3,7 @@ use Rattle.std.specs.Prelude.{List, reverse}
 use Rattle.poa_base.specs.Store.{stored as stored_in}
 use Rattle.poa_base.specs.declared.Entry.{Entry}
 use Rattle.poa_history.specs.States.{Stored}
-use Rattle.poa_opening.specs.Runs.{IsRun}
+use Rattle.history_openings.specs.Runs.{IsRun}
 use Rattle.arrival_tables.specs.Placed.{KnowsCalls}
 use Rattle.arrival_tables.specs.Queued.{IsQueue}
 use Rattle.arrival_tables.specs.Begun.{KnowsWorkers}

@@ -60,14 +60,14 @@ abbrev pub unadmitted : List Entry → ℕ
 unadmitted h = count_below (is_unadmitted h) (arrivals h)
 
 -- nothing more can come: a `shutdown` was admitted, every connection but the first has left, and every call is admitted
-abbrev pub is_over : List Entry → Bool
-is_over h = is_shut h && (are_gone h (connections h) && (unadmitted h == 0))
+abbrev pub is_run_over : List Entry → Bool
+is_run_over h = is_shut h && (are_gone h (connections h) && (unadmitted h == 0))
 
 -- a worker makes its next entry
 abbrev pub Steps : ℕ → Life → Result StepOut AllocError → Life → Type 0
 Steps w old (Ok step_out.Stopped) new = (is_abandoned old.history w ≡ true) × (new ≡ old)
 Steps w old (Ok (step_out.Idle over)) new =
-    (is_abandoned old.history w ≡ false) × (turn old.config old.run old.history w ≡ None) × (over ≡ is_over old.history) × (new ≡ old)
+    (is_abandoned old.history w ≡ false) × (turn old.config old.run old.history w ≡ None) × (over ≡ is_run_over old.history) × (new ≡ old)
 Steps w old (Ok (step_out.Did point)) new =
     (is_abandoned old.history w ≡ false) × (point ≡ point_of (stage new.history w))
     × ((e : Entry) × (turn old.config old.run old.history w ≡ Some e) × (new ≡ with_entry e old))

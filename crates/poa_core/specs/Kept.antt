@@ -2,7 +2,7 @@
 use Rattle.std.specs.Prelude.{◌≡◌, ℕ, ◌+◌, ◌≤◌, Bool, true, false, if◌then◌else◌, List, ◌∷◌, length, is_some, vec_len, vec_capacity}
 use Rattle.poa_base.specs.declared.Entry.{Entry}
 use Rattle.poa_base.specs.declared.Entry.TheVariants.{Entered, Arrive, Filled, Left, Collect}
-use Rattle.poa_opening.specs.Runs.{IsRun}
+use Rattle.history_openings.specs.Runs.{IsRun}
 use Rattle.run_tally.specs.declared.Tally.{Tally}
 use Rattle.run_tally.specs.Tallies.{flag_of, HasRoomForOne as HasRoomForConnection}
 use Rattle.call_tables.specs.Desk.{AreLeft, HasRoomForOne}

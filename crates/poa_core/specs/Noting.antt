@@ -2,7 +2,7 @@
 use Rattle.std.specs.Prelude.{◌≡◌, ◌+◌, ◌<◌, true, List, ◌∷◌, length, vec_len, vec_capacity}
 use Rattle.poa_base.specs.declared.Entry.{Entry}
 use Rattle.poa_history.specs.declared.stage.Stage.{Stage}
-use Rattle.poa_opening.specs.Runs.{IsRun}
+use Rattle.history_openings.specs.Runs.{IsRun}
 use Rattle.standing_of.specs.Entries.{stage_at}
 use Rattle.call_tables.specs.Owed.{AreOwed}
 use Rattle.poa_history.specs.Arrivals.{arrivals}

@@ -2,7 +2,7 @@
 ghost use Rattle.std.specs.Prelude.{◌≡◌, ◌<◌, ◌∷◌, ℕ, true, [], List, reverse, vec_len, vec_capacity, IfOk, OnOk};
 ghost use Rattle.poa_base.specs.declared.Config.{Config};
 ghost use Rattle.poa_base.specs.declared.Entry.{Entry as EntryOf};
-ghost use Rattle.poa_opening.specs.Runs.{IsRun};
+ghost use Rattle.history_openings.specs.Runs.{IsRun};
 ghost use Rattle.standing_of.specs.Entries.{stage_at};
 ghost use Rattle.arrival_tables.specs.Placed.{arrives};
 ghost use Rattle.arrival_tables.specs.Queued.{HasPlace, may_queue};

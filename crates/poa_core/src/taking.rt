@@ -1,6 +1,6 @@
 //! A worker's entry is taken.
 ghost use Rattle.std.specs.Prelude.{◌≡◌, ◌∷◌, true, OnOk, OnErr};
-ghost use Rattle.poa_opening.specs.Runs.{IsRun};
+ghost use Rattle.history_openings.specs.Runs.{IsRun};
 ghost use Rattle.standing_of.specs.Entries.{stage_at};
 ghost use Rattle.adapter_state.specs.State.{is_turn};
 ghost use Rattle.poa_core.specs.Life.{with_entry};

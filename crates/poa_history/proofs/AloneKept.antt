@@ -22,9 +22,9 @@ use Rattle.poa_base.specs.declared.Incarnation.{Incarnation}
 use Rattle.poa_base.specs.declared.Incarnation.TheVariants.{Fresh, Named, Double, Forward as ForwardTo, Raise}
 use Rattle.poa_tree.specs.declared.node.Node.{Node}
 use Rattle.poa_history.specs.declared.flight.Flight.{Flight}
-use Rattle.poa_history.specs.declared.act.Act.{Act}
-use Rattle.poa_history.specs.declared.act.Phase.{Phase}
-use Rattle.poa_history.specs.declared.act.Phase.TheVariants.{Begun, Complete, Void}
+use Rattle.poa_history.specs.declared.activation.Activation.{Activation}
+use Rattle.poa_history.specs.declared.activation.Phase.{Phase}
+use Rattle.poa_history.specs.declared.activation.Phase.TheVariants.{Begun, Complete, Void}
 use Rattle.poa_history.specs.declared.stage.Stage.TheVariants.{Incarnating}
 use Rattle.poa_history.specs.Templates.{has_activator, policies_at, rules_at, is_unique, servant_number, servant_name}
 use Rattle.poa_history.specs.Arrivals.{call_of}
@@ -36,7 +36,7 @@ use Rattle.poa_tree.specs.Paths.{is_root}
 use Rattle.poa_history.specs.Ends.{is_finished}
 use Rattle.poa_history.specs.Keys.{key_in}
 use Rattle.poa_history.specs.Logs.{command_done}
-use Rattle.poa_history.specs.Opening.{number_at, with_node, with_act, with_made, made_id, with_boots, with_object, with_objects, root_alone}
+use Rattle.poa_history.specs.Opening.{number_at, with_node, with_activation, with_made, made_id, with_boots, with_object, with_objects, root_alone}
 use Rattle.poa_history.specs.Changes.{standing, servant_of}
 use Rattle.poa_history.specs.Rules.{rule_for, named_or_double, brought_by, brought, not_active}
 use Rattle.poa_history.specs.Situations.{is_unfinished, is_changing}
@@ -53,7 +53,7 @@ use Rattle.poa_history.proofs.TableRuns.{is_run}
 use Rattle.poa_history.proofs.Served.{served_by, active, preset, located, incarnated}
 use Rattle.poa_history.proofs.FlightsFrom.{flight_for, flew, begins, flight_from}
 use Rattle.poa_history.proofs.NodesFrom.{stood, new, node_before}
-use Rattle.poa_history.proofs.ActsFrom.{phase_by, TakesOut, IsStep, Brings, IsBegun, incarnating, activating, activating_id, referring, stood as act_stood, begun as act_begun, act_from}
+use Rattle.poa_history.proofs.ActivationsFrom.{phase_by, TakesOut, IsStep, Brings, IsBegun, incarnating, activating, activating_id, referring, stood as activation_stood, begun as activation_begun, activation_from}
 use Rattle.poa_history.proofs.CommandTells.{IsUntaken, untaken_activate, untaken_activate_id, in_map_by, untaken_reference}
 use Rattle.poa_history.proofs.IdsFew.{messages}
 use Rattle.poa_history.proofs.LegalSound.{legal_sound}
@@ -77,13 +77,13 @@ same_servant_self : (t : Sid) → same_servant t t ≡ true
 same_servant_self (NamedServant k) = eq-eqb k k refl
 same_servant_self (FreshServant n) = eq-eqb n n refl
 
-has_by : (a : Act) (t : Sid) → a.phase ≡ Complete t → has_servant t a ≡ true
+has_by : (a : Activation) (t : Sid) → a.phase ≡ Complete t → has_servant t a ≡ true
 has_by a t at = ap (λ p. elim p [ Complete u ↦ same_servant u t | Begun ↦ false | Void ↦ false ]) at ∙ same_servant_self t
 
-mapped_by : (a : Act) (t : Sid) → a.phase ≡ Complete t → a.out ≡ false → is_mapped a ≡ true
+mapped_by : (a : Activation) (t : Sid) → a.phase ≡ Complete t → a.out ≡ false → is_mapped a ≡ true
 mapped_by a t at stays = ap₂ (λ p o. (elim p [ Complete u ↦ true | Begun ↦ false | Void ↦ false ]) && not o) at stays
 
-in_map : (a : Act) → is_mapped a ≡ true → a.out ≡ false
+in_map : (a : Activation) → is_mapped a ≡ true → a.out ≡ false
 in_map a mapped = false_from_ne_true a.out (λ out. let parts = and_parts (is_complete a) (not a.out) mapped in let e : false ≡ true = ap not (sym out) ∙ parts.1 in cc)
 
 -- a servant that a command activates is a configured one
@@ -98,24 +98,24 @@ not_begun c name is =
     [ Some k ↦ λ e. (let f : Complete (NamedServant k) ≡ Begun = e in cc) | None ↦ λ e. (let f : Void ≡ Begun = e in cc) ] is
 
 -- a named servant is brought where it isn't in the map already
-pub brought_named : (c : Config) (s : Standing) (a : Act) (name : List ℕ) → brought c s a ≡ Named name → (k : ℕ) × ((is_unique (policies_at c a.path) && is_in_map s.acts a.adapter (NamedServant k)) ≡ false) × (servant_name c k ≡ Some name)
+pub brought_named : (c : Config) (s : Standing) (a : Activation) (name : List ℕ) → brought c s a ≡ Named name → (k : ℕ) × ((is_unique (policies_at c a.path) && is_in_map s.activations a.adapter (NamedServant k)) ≡ false) × (servant_name c k ≡ Some name)
 brought_named c s a name is = by_rule (rule_for (rules_at c a.path) a.oid) is
   where
-    by_name : (k : ℕ) → (is_unique (policies_at c a.path) && is_in_map s.acts a.adapter (NamedServant k)) ≡ false → (o : Option (List ℕ)) → servant_name c k ≡ o → (elim o [ Some x ↦ Named x | None ↦ Raise not_active ]) ≡ Named name → (j : ℕ) × ((is_unique (policies_at c a.path) && is_in_map s.acts a.adapter (NamedServant j)) ≡ false) × (servant_name c j ≡ Some name)
+    by_name : (k : ℕ) → (is_unique (policies_at c a.path) && is_in_map s.activations a.adapter (NamedServant k)) ≡ false → (o : Option (List ℕ)) → servant_name c k ≡ o → (elim o [ Some x ↦ Named x | None ↦ Raise not_active ]) ≡ Named name → (j : ℕ) × ((is_unique (policies_at c a.path) && is_in_map s.activations a.adapter (NamedServant j)) ≡ false) × (servant_name c j ≡ Some name)
     by_name k single (Some x) at same = (k, single, at ∙ (let e : Named x ≡ Named name = same in ap (λ y. Some y) cc))
     by_name k single None at same = absurd (let e : Raise not_active ≡ Named name = same in cc)
 
-    by_double : (k : ℕ) (b : Bool) → (is_unique (policies_at c a.path) && is_in_map s.acts a.adapter (NamedServant k)) ≡ b → (elim b [ true ↦ Double | false ↦ elim (servant_name c k) [ Some x ↦ Named x | None ↦ Raise not_active ] ]) ≡ Named name → (j : ℕ) × ((is_unique (policies_at c a.path) && is_in_map s.acts a.adapter (NamedServant j)) ≡ false) × (servant_name c j ≡ Some name)
+    by_double : (k : ℕ) (b : Bool) → (is_unique (policies_at c a.path) && is_in_map s.activations a.adapter (NamedServant k)) ≡ b → (elim b [ true ↦ Double | false ↦ elim (servant_name c k) [ Some x ↦ Named x | None ↦ Raise not_active ] ]) ≡ Named name → (j : ℕ) × ((is_unique (policies_at c a.path) && is_in_map s.activations a.adapter (NamedServant j)) ≡ false) × (servant_name c j ≡ Some name)
     by_double k true at same = absurd (let e : Double ≡ Named name = same in cc)
     by_double k false at same = by_name k at (servant_name c k) refl same
 
-    by_gives : (g : Gives) → (elim g [ FreshKind kind ↦ Fresh a.number | Servant k ↦ named_or_double c s a k | ForwardRule endpoint ↦ ForwardTo endpoint | RaiseRule exception ↦ Raise exception ]) ≡ Named name → (j : ℕ) × ((is_unique (policies_at c a.path) && is_in_map s.acts a.adapter (NamedServant j)) ≡ false) × (servant_name c j ≡ Some name)
+    by_gives : (g : Gives) → (elim g [ FreshKind kind ↦ Fresh a.number | Servant k ↦ named_or_double c s a k | ForwardRule endpoint ↦ ForwardTo endpoint | RaiseRule exception ↦ Raise exception ]) ≡ Named name → (j : ℕ) × ((is_unique (policies_at c a.path) && is_in_map s.activations a.adapter (NamedServant j)) ≡ false) × (servant_name c j ≡ Some name)
     by_gives (FreshKind kind) same = absurd (let e : Fresh a.number ≡ Named name = same in cc)
-    by_gives (Servant k) same = by_double k (is_unique (policies_at c a.path) && is_in_map s.acts a.adapter (NamedServant k)) refl same
+    by_gives (Servant k) same = by_double k (is_unique (policies_at c a.path) && is_in_map s.activations a.adapter (NamedServant k)) refl same
     by_gives (ForwardRule endpoint) same = absurd (let e : ForwardTo endpoint ≡ Named name = same in cc)
     by_gives (RaiseRule exception) same = absurd (let e : Raise exception ≡ Named name = same in cc)
 
-    by_rule : (rule : Option RuleConf) → brought_by c s a rule ≡ Named name → (j : ℕ) × ((is_unique (policies_at c a.path) && is_in_map s.acts a.adapter (NamedServant j)) ≡ false) × (servant_name c j ≡ Some name)
+    by_rule : (rule : Option RuleConf) → brought_by c s a rule ≡ Named name → (j : ℕ) × ((is_unique (policies_at c a.path) && is_in_map s.activations a.adapter (NamedServant j)) ≡ false) × (servant_name c j ≡ Some name)
     by_rule None same = absurd (let e : Raise not_active ≡ Named name = same in cc)
     by_rule (Some rule) same = by_gives rule.gives same
 
@@ -165,7 +165,7 @@ module _ (c : Config) (run limit : ℕ) (past : List Entry) (e : Entry) (may : M
       ]
 
   -- an activation that is changing was so, or is taken out
-  unfinished_before : (a b : Act) → IsStep c run past s e a b → is_unfinished c b ≡ true → (is_unfinished c a ≡ true) ⊎ TakesOut c run past s e a.number
+  unfinished_before : (a b : Activation) → IsStep c run past s e a b → is_unfinished c b ≡ true → (is_unfinished c a ≡ true) ⊎ TakesOut c run past s e a.number
   unfinished_before a b step changing =
       elim (or_cases (is_begun b) (b.out && not (is_finished c b)) changing) [
         | inl beginning ↦ inl (or_first (is_begun a) (a.out && not (is_finished c a)) (by_phase a.phase refl (begun_of b.phase beginning)))
@@ -190,24 +190,24 @@ module _ (c : Config) (run limit : ℕ) (past : List Entry) (e : Entry) (may : M
       by_phase (Complete u) at is = absurd (let f : Complete u ≡ Begun = sym (step.later.served u at) ∙ is in cc)
       by_phase Void at is = absurd (let f : Void ≡ Begun = sym (step.later.void at) ∙ is in cc)
 
-      unfinished : (x y : Act) → IsStep c run past s e x y → not (is_finished c y) ≡ true → not (is_finished c x) ≡ true
+      unfinished : (x y : Activation) → IsStep c run past s e x y → not (is_finished c y) ≡ true → not (is_finished c x) ≡ true
       unfinished x y st is = ap not (false_from_ne_true (is_finished c x) (λ fin. let g : false ≡ true = ap not (sym (st.later.finished fin)) ∙ is in cc))
 
   -- what is taken out is so where nothing else is changing in the adapter
-  taken_alone : (a b : Act) → In a s.acts → In b s.acts → a.adapter ≡ b.adapter → TakesOut c run past s e a.number → is_unfinished c b ≡ true → ⊥
+  taken_alone : (a b : Activation) → In a s.activations → In b s.activations → a.adapter ≡ b.adapter → TakesOut c run past s e a.number → is_unfinished c b ≡ true → ⊥
   taken_alone a b is is' at takes changing =
       let (w, etherealize, same) = takes in
       let it = takeout_is c run past w a.number etherealize (subst (λ x. MayFollow c run limit past x) same may) in
-      let whose : it.it ≡ a = sound.act_alone it.it a it.there is it.numbered in
-      let still : is_changing c s.acts it.it.adapter ≡ false =
-      not_true (is_changing c s.acts it.it.adapter) (and_parts (not (is_used s.flights it.it.number)) (not (is_changing c s.acts it.it.adapter)) (and_parts (is_complete it.it && (is_ending it.it && (has_activator c it.it.path && not it.it.out))) (not (is_used s.flights it.it.number) && not (is_changing c s.acts it.it.adapter)) it.due).1).1 in
+      let whose : it.it ≡ a = sound.activation_alone it.it a it.there is it.numbered in
+      let still : is_changing c s.activations it.it.adapter ≡ false =
+      not_true (is_changing c s.activations it.it.adapter) (and_parts (not (is_used s.flights it.it.number)) (not (is_changing c s.activations it.it.adapter)) (and_parts (is_complete it.it && (is_ending it.it && (has_activator c it.it.path && not it.it.out))) (not (is_used s.flights it.it.number) && not (is_changing c s.activations it.it.adapter)) it.due).1).1 in
       true≢false (sym (changing_by b it.it.adapter is' (sym at ∙ ap (λ x. x.adapter) (sym whose)) changing) ∙ still)
     where
-      changing_by : (x : Act) (k : ℕ) → In x s.acts → x.adapter ≡ k → is_unfinished c x ≡ true → is_changing c s.acts k ≡ true
-      changing_by x k there same changing' = any_by (λ y. (y.adapter == k) && is_unfinished c y) x s.acts there (ap₂ (λ y z. y && z) (eq-eqb x.adapter k same) changing')
+      changing_by : (x : Activation) (k : ℕ) → In x s.activations → x.adapter ≡ k → is_unfinished c x ≡ true → is_changing c s.activations k ≡ true
+      changing_by x k there same changing' = any_by (λ y. (y.adapter == k) && is_unfinished c y) x s.activations there (ap₂ (λ y z. y && z) (eq-eqb x.adapter k same) changing')
 
   -- what is begun and changing is being incarnated, and nothing else was changing in the adapter
-  begun_alone : (b d : Act) → IsBegun c run past s e b → is_unfinished c b ≡ true → In d s.acts → d.adapter ≡ b.adapter → (is_unfinished c d ≡ true) ⊎ TakesOut c run past s e d.number → ⊥
+  begun_alone : (b d : Activation) → IsBegun c run past s e b → is_unfinished c b ≡ true → In d s.activations → d.adapter ≡ b.adapter → (is_unfinished c d ≡ true) ⊎ TakesOut c run past s e d.number → ⊥
   begun_alone b d fresh changing there at other =
       elim fresh.how [
         | incarnating w r n key same has adapter path oid phase ↦
@@ -217,7 +217,7 @@ module _ (c : Config) (run limit : ℕ) (past : List Entry) (e : Entry) (may : M
               | preset name names ↦ (let f : Preset name ≡ Incarnate n = names in cc)
               | located name names ↦ (let f : Locator name ≡ Incarnate n = names in cc)
               | incarnated activator idle names ↦ elim other [
-                | inl changing' ↦ true≢false (sym (any_by (λ y. (y.adapter == adapter_met (walk s.nodes key.path)) && is_unfinished c y) d s.acts there (ap₂ (λ y z. y && z) (eq-eqb d.adapter (adapter_met (walk s.nodes key.path)) (at ∙ adapter)) changing')) ∙ idle)
+                | inl changing' ↦ true≢false (sym (any_by (λ y. (y.adapter == adapter_met (walk s.nodes key.path)) && is_unfinished c y) d s.activations there (ap₂ (λ y z. y && z) (eq-eqb d.adapter (adapter_met (walk s.nodes key.path)) (at ∙ adapter)) changing')) ∙ idle)
                 | inr takes ↦ (let (w', etherealize, same') = takes in let f : Admit w r (Incarnate n) ≡ TakeOut w' d.number etherealize = sym same ∙ same' in cc)
               ]
             ])
@@ -239,19 +239,19 @@ module _ (c : Config) (run limit : ℕ) (past : List Entry) (e : Entry) (may : M
 
   changes_alone : ChangesAlone c s → ChangesAlone c t
   changes_alone alone a b a_in b_in at a_changes b_changes =
-      elim (act_from c run past e a a_in) [
-        | act_stood a0 is step ↦ elim (act_from c run past e b b_in) [
-          | act_stood b0 is' step' ↦ after.act_alone a b a_in b_in
+      elim (activation_from c run past e a a_in) [
+        | activation_stood a0 is step ↦ elim (activation_from c run past e b b_in) [
+          | activation_stood b0 is' step' ↦ after.activation_alone a b a_in b_in
               (step.later.number ∙ (same_before a0 b0 is is' (sym step.later.adapter ∙ (at ∙ step'.later.adapter)) (unfinished_before a0 a step a_changes) (unfinished_before b0 b step' b_changes) ∙ sym step'.later.number))
-          | act_begun fresh ↦ absurd (begun_alone b a0 fresh b_changes is (sym step.later.adapter ∙ at) (unfinished_before a0 a step a_changes))
+          | activation_begun fresh ↦ absurd (begun_alone b a0 fresh b_changes is (sym step.later.adapter ∙ at) (unfinished_before a0 a step a_changes))
         ]
-        | act_begun fresh ↦ elim (act_from c run past e b b_in) [
-          | act_stood b0 is' step' ↦ absurd (begun_alone a b0 fresh a_changes is' (sym step'.later.adapter ∙ sym at) (unfinished_before b0 b step' b_changes))
-          | act_begun fresh' ↦ after.act_alone a b a_in b_in (fresh.number ∙ sym fresh'.number)
+        | activation_begun fresh ↦ elim (activation_from c run past e b b_in) [
+          | activation_stood b0 is' step' ↦ absurd (begun_alone a b0 fresh a_changes is' (sym step'.later.adapter ∙ sym at) (unfinished_before b0 b step' b_changes))
+          | activation_begun fresh' ↦ after.activation_alone a b a_in b_in (fresh.number ∙ sym fresh'.number)
         ]
       ]
     where
-      same_before : (x y : Act) → In x s.acts → In y s.acts → x.adapter ≡ y.adapter → (is_unfinished c x ≡ true) ⊎ TakesOut c run past s e x.number → (is_unfinished c y ≡ true) ⊎ TakesOut c run past s e y.number → x.number ≡ y.number
+      same_before : (x y : Activation) → In x s.activations → In y s.activations → x.adapter ≡ y.adapter → (is_unfinished c x ≡ true) ⊎ TakesOut c run past s e x.number → (is_unfinished c y ≡ true) ⊎ TakesOut c run past s e y.number → x.number ≡ y.number
       same_before x y is is' same (inl one) (inl two) = ap (λ z. z.number) (alone x y is is' same one two)
       same_before x y is is' same (inl one) (inr two) = absurd (taken_alone y x is' is (sym same) two one)
       same_before x y is is' same (inr one) (inl two) = absurd (taken_alone x y is is' same one two)
@@ -270,12 +270,12 @@ module _ (c : Config) (run limit : ℕ) (past : List Entry) (e : Entry) (may : M
 
   owns_fresh : OwnsFresh s → OwnsFresh t
   owns_fresh own a m a_in at =
-      elim (act_from c run past e a a_in) [
-        | act_stood a0 is step ↦ elim step.came [
+      elim (activation_from c run past e a a_in) [
+        | activation_stood a0 is step ↦ elim step.came [
           | inl same ↦ own a0 m is (sym same ∙ at) ∙ sym step.later.number
           | inr came ↦ fresh_by a0.number m came.1.answer (came.1.phase_is ∙ at) ∙ sym step.later.number
         ]
-        | act_begun fresh ↦ absurd (elim fresh.how [
+        | activation_begun fresh ↦ absurd (elim fresh.how [
           | incarnating w r n key same has adapter path oid phase ↦ (let f : Begun ≡ Complete (FreshServant m) = sym phase ∙ at in cc)
           | activating p servant done adapter path oid phase ↦ no_fresh servant m a.phase phase at
           | activating_id p oid' servant done adapter path oid phase ↦ no_fresh servant m a.phase phase at
@@ -284,15 +284,15 @@ module _ (c : Config) (run limit : ℕ) (past : List Entry) (e : Entry) (may : M
       ]
 
   -- a servant that an activation has after the entry it had, or the entry brings it
-  has_before : (a0 a : Act) (u : Sid) → IsStep c run past s e a0 a → a.phase ≡ Complete u → (a0.phase ≡ Complete u) ⊎ ((a0.phase ≡ Begun) × Brings c run past s e a0.number (Complete u))
+  has_before : (a0 a : Activation) (u : Sid) → IsStep c run past s e a0 a → a.phase ≡ Complete u → (a0.phase ≡ Complete u) ⊎ ((a0.phase ≡ Begun) × Brings c run past s e a0.number (Complete u))
   has_before a0 a u step at = elim step.came [ inl same ↦ inl (sym same ∙ at) | inr came ↦ inr (came.0, subst (λ p. Brings c run past s e a0.number p) at came.1) ]
 
-  stays_in : (a0 a : Act) → IsStep c run past s e a0 a → is_mapped a ≡ true → a0.out ≡ false
+  stays_in : (a0 a : Activation) → IsStep c run past s e a0 a → is_mapped a ≡ true → a0.out ≡ false
   stays_in a0 a step mapped = false_from_ne_true a0.out (λ out. true≢false (sym (step.later.out out) ∙ in_map a mapped))
 
   module _ (given : IsGivenAlone c run) (own : OwnsFresh s) where
     -- it isn't brought where another has it
-    brought_alone : (a b : Act) (u : Sid) → In a s.acts → In b s.acts → a.adapter ≡ b.adapter → is_unique (policies_at c a.path) ≡ true → Brings c run past s e a.number (Complete u) → b.phase ≡ Complete u → b.out ≡ false → a.number ≡ b.number
+    brought_alone : (a b : Activation) (u : Sid) → In a s.activations → In b s.activations → a.adapter ≡ b.adapter → is_unique (policies_at c a.path) ≡ true → Brings c run past s e a.number (Complete u) → b.phase ≡ Complete u → b.out ≡ false → a.number ≡ b.number
     brought_alone a b u is is' at unique brings has stays = by_answer brings.answer refl brings.phase_is
       where
         by_answer : (answer : Incarnation) → brings.answer ≡ answer → phase_by c a.number answer ≡ Complete u → a.number ≡ b.number
@@ -301,8 +301,8 @@ module _ (c : Config) (run limit : ℕ) (past : List Entry) (e : Entry) (may : M
             absurd (let turn' = incarnation_is c run past brings.worker brings.answer (subst (λ x. MayFollow c run limit past x) brings.same may) in
             let stages : Incarnating turn'.arrival turn'.number ≡ Incarnating brings.arrival a.number = sym turn'.begun ∙ brings.begun in
             let numbers : turn'.number ≡ a.number = cc in
-            let there = find_in (λ x. x.number == turn'.number) turn'.it s.acts turn'.found in
-            let it : turn'.it ≡ a = sound.act_alone turn'.it a there.0 is (eqb-true turn'.it.number turn'.number there.1 ∙ numbers) in
+            let there = find_in (λ x. x.number == turn'.number) turn'.it s.activations turn'.found in
+            let it : turn'.it ≡ a = sound.activation_alone turn'.it a there.0 is (eqb-true turn'.it.number turn'.number there.1 ∙ numbers) in
             let (k, single, called) = brought_named c s turn'.it name (turn'.told ∙ which) in
             let (j, number, same) = of_servant c name u comes in
             let ks : Some j ≡ Some k = sym number ∙ given.named k name called in
@@ -314,7 +314,7 @@ module _ (c : Config) (run limit : ℕ) (past : List Entry) (e : Entry) (may : M
         by_answer (Raise exception) which comes = absurd (let f : Void ≡ Complete u = comes in cc)
 
     -- it isn't activated by a command where another has it
-    untaken_alone : (p : List (List ℕ)) (servant : List ℕ) (b d : Act) (u : Sid) → IsUntaken c s p servant → b.adapter ≡ number_at s p → b.path ≡ p → b.phase ≡ servant_of c servant → b.phase ≡ Complete u → is_unique (policies_at c b.path) ≡ true → In d s.acts → d.adapter ≡ b.adapter → d.phase ≡ Complete u → d.out ≡ false → ⊥
+    untaken_alone : (p : List (List ℕ)) (servant : List ℕ) (b d : Activation) (u : Sid) → IsUntaken c s p servant → b.adapter ≡ number_at s p → b.path ≡ p → b.phase ≡ servant_of c servant → b.phase ≡ Complete u → is_unique (policies_at c b.path) ≡ true → In d s.activations → d.adapter ≡ b.adapter → d.phase ≡ Complete u → d.out ≡ false → ⊥
     untaken_alone p servant b d u free adapter path phase at unique there same has stays =
         let (stands, placed, living, found) = live_tells s p free.node free.lives in
         let (k, number, sid) = of_servant c servant u (sym phase ∙ at) in
@@ -323,7 +323,7 @@ module _ (c : Config) (run limit : ℕ) (past : List Entry) (e : Entry) (may : M
         true≢false (sym (ap₂ (λ x y. x && y) (subst (λ q. is_unique (policies_at c q) ≡ true) (path ∙ sym placed) unique)
         (in_map_by s d free.node.number (NamedServant free.number) there (same ∙ (adapter ∙ sym (number_live s p free.node found))) (mapped_by d u has stays) (has_by d (NamedServant free.number) (has ∙ ap (λ x. Complete x) (sid ∙ ap (λ x. NamedServant x) (sym kk)))))) ∙ free.untaken)
 
-    begun_mapped : (b d0 d : Act) (u : Sid) → IsBegun c run past s e b → b.phase ≡ Complete u → is_unique (policies_at c b.path) ≡ true → In d0 s.acts → IsStep c run past s e d0 d → d0.adapter ≡ b.adapter → d.phase ≡ Complete u → is_mapped d ≡ true → ⊥
+    begun_mapped : (b d0 d : Activation) (u : Sid) → IsBegun c run past s e b → b.phase ≡ Complete u → is_unique (policies_at c b.path) ≡ true → In d0 s.activations → IsStep c run past s e d0 d → d0.adapter ≡ b.adapter → d.phase ≡ Complete u → is_mapped d ≡ true → ⊥
     begun_mapped b d0 d u fresh at unique there step same has mapped =
         elim (has_before d0 d u step has) [
           | inl was ↦ elim fresh.how [
@@ -345,7 +345,7 @@ module _ (c : Config) (run limit : ℕ) (past : List Entry) (e : Entry) (may : M
         no_done w answer command is done = (let f : None ≡ Some command = ap (command_done past) (sym is) ∙ done in cc)
 
     -- what is in the map isn't over, so its adapter stands at its path
-    home_of : (a : Act) → In a t.acts → is_mapped a ≡ true → IsHome t.nodes a
+    home_of : (a : Activation) → In a t.activations → is_mapped a ≡ true → IsHome t.nodes a
     home_of a there mapped =
         let parts = and_parts (is_complete a) (not a.out) mapped in
         after.owners a there (ap₂ (λ x y. x || y) (unvoid a.phase parts.0) (ap (λ o. o && (a.quiet || (not (has_activator c a.path) || a.etherealized))) (in_map a mapped)))
@@ -355,7 +355,7 @@ module _ (c : Config) (run limit : ℕ) (past : List Entry) (e : Entry) (may : M
         unvoid Begun is = refl
         unvoid Void is = absurd (let f : false ≡ true = is in cc)
 
-    paths_same : (a b : Act) → In a t.acts → In b t.acts → a.adapter ≡ b.adapter → is_mapped a ≡ true → is_mapped b ≡ true → a.path ≡ b.path
+    paths_same : (a b : Activation) → In a t.activations → In b t.activations → a.adapter ≡ b.adapter → is_mapped a ≡ true → is_mapped b ≡ true → a.path ≡ b.path
     paths_same a b is is' at a_mapped b_mapped =
         let one = home_of a is a_mapped in
         let two = home_of b is' b_mapped in
@@ -363,25 +363,25 @@ module _ (c : Config) (run limit : ℕ) (past : List Entry) (e : Entry) (may : M
 
     mapped_alone : IsMappedAlone c s → IsMappedAlone c t
     mapped_alone alone a b u a_in b_in at unique a_mapped b_mapped a_has b_has =
-        elim (act_from c run past e a a_in) [
-          | act_stood a0 is step ↦ elim (act_from c run past e b b_in) [
-            | act_stood b0 is' step' ↦
-                after.act_alone a b a_in b_in
+        elim (activation_from c run past e a a_in) [
+          | activation_stood a0 is step ↦ elim (activation_from c run past e b b_in) [
+            | activation_stood b0 is' step' ↦
+                after.activation_alone a b a_in b_in
                 (step.later.number
                 ∙ (numbers a0 b0 is is' (sym step.later.adapter ∙ (at ∙ step'.later.adapter)) (subst (λ q. is_unique (policies_at c q) ≡ true) step.later.path unique) (subst (λ q. is_unique (policies_at c q) ≡ true) step'.later.path unique') (stays_in a0 a step a_mapped) (stays_in b0 b step' b_mapped) (has_before a0 a u step a_has) (has_before b0 b u step' b_has)
                 ∙ sym step'.later.number))
-            | act_begun fresh ↦ absurd (begun_mapped b a0 a u fresh b_has unique' is step (sym step.later.adapter ∙ at) a_has a_mapped)
+            | activation_begun fresh ↦ absurd (begun_mapped b a0 a u fresh b_has unique' is step (sym step.later.adapter ∙ at) a_has a_mapped)
           ]
-          | act_begun fresh ↦ elim (act_from c run past e b b_in) [
-            | act_stood b0 is' step' ↦ absurd (begun_mapped a b0 b u fresh a_has unique is' step' (sym step'.later.adapter ∙ sym at) b_has b_mapped)
-            | act_begun fresh' ↦ after.act_alone a b a_in b_in (fresh.number ∙ sym fresh'.number)
+          | activation_begun fresh ↦ elim (activation_from c run past e b b_in) [
+            | activation_stood b0 is' step' ↦ absurd (begun_mapped a b0 b u fresh a_has unique is' step' (sym step'.later.adapter ∙ sym at) b_has b_mapped)
+            | activation_begun fresh' ↦ after.activation_alone a b a_in b_in (fresh.number ∙ sym fresh'.number)
           ]
         ]
       where
         unique' : is_unique (policies_at c b.path) ≡ true
         unique' = subst (λ q. is_unique (policies_at c q) ≡ true) (paths_same a b a_in b_in at a_mapped b_mapped) unique
 
-        numbers : (x y : Act) → In x s.acts → In y s.acts → x.adapter ≡ y.adapter → is_unique (policies_at c x.path) ≡ true → is_unique (policies_at c y.path) ≡ true → x.out ≡ false → y.out ≡ false → (x.phase ≡ Complete u) ⊎ ((x.phase ≡ Begun) × Brings c run past s e x.number (Complete u)) → (y.phase ≡ Complete u) ⊎ ((y.phase ≡ Begun) × Brings c run past s e y.number (Complete u)) → x.number ≡ y.number
+        numbers : (x y : Activation) → In x s.activations → In y s.activations → x.adapter ≡ y.adapter → is_unique (policies_at c x.path) ≡ true → is_unique (policies_at c y.path) ≡ true → x.out ≡ false → y.out ≡ false → (x.phase ≡ Complete u) ⊎ ((x.phase ≡ Begun) × Brings c run past s e x.number (Complete u)) → (y.phase ≡ Complete u) ⊎ ((y.phase ≡ Begun) × Brings c run past s e y.number (Complete u)) → x.number ≡ y.number
         numbers x y is is' same one_way other_way x_stays y_stays (inl one) (inl two) = ap (λ z. z.number) (alone x y u is is' same one_way (mapped_by x u one x_stays) (mapped_by y u two y_stays) one two)
         numbers x y is is' same one_way other_way x_stays y_stays (inl one) (inr two) = sym (brought_alone y x u is' is (sym same) other_way two.1 one x_stays)
         numbers x y is is' same one_way other_way x_stays y_stays (inr one) (inl two) = brought_alone x y u is is' same one_way one.1 two y_stays
@@ -392,38 +392,38 @@ module _ (c : Config) (run limit : ℕ) (past : List Entry) (e : Entry) (may : M
 
 -- at opening
 module _ (c : Config) (run : ℕ) where
-  abbrev Opens : Act → Type 0
+  abbrev Opens : Activation → Type 0
   Opens a = (a.out ≡ false) × ((k : ℕ) × (a.phase ≡ Complete (NamedServant k))) × (a.etherealized ≡ false) × (a.ending ≡ false) × (a.quiet ≡ false)
 
   abbrev AllOpen : Standing → Type 0
-  AllOpen s = (a : Act) → In a s.acts → Opens a
+  AllOpen s = (a : Activation) → In a s.activations → Opens a
 
-  act_opens : (k : ℕ) (p : List (List ℕ)) (oid : List ℕ) (j : ℕ) (s : Standing) → AllOpen s → AllOpen (with_act k p oid (Complete (NamedServant j)) s)
-  act_opens k p oid j s all a there =
-      elim (in_either a (record { number = length s.acts; adapter = k; path = p; oid = oid; phase = Complete (NamedServant j); ending = false; quiet = false; out = false; cleanup = false; remaining = false; etherealized = false }) s.acts there)
+  activation_opens : (k : ℕ) (p : List (List ℕ)) (oid : List ℕ) (j : ℕ) (s : Standing) → AllOpen s → AllOpen (with_activation k p oid (Complete (NamedServant j)) s)
+  activation_opens k p oid j s all a there =
+      elim (in_either a (record { number = length s.activations; adapter = k; path = p; oid = oid; phase = Complete (NamedServant j); ending = false; quiet = false; out = false; cleanup = false; remaining = false; etherealized = false }) s.activations there)
       [ inl was ↦ all a was | inr made ↦ (ap (λ x. x.out) made, (j, ap (λ x. x.phase) made), ap (λ x. x.etherealized) made, ap (λ x. x.ending) made, ap (λ x. x.quiet) made) ]
 
   object_opens : (o : ObjectConf) (s : Standing) → AllOpen s → AllOpen (with_object run o s)
   object_opens o s all =
-      elim o.oid as (λ oid. AllOpen (elim oid [ Some i ↦ with_act (number_at s o.adapter) o.adapter i (Complete (NamedServant o.servant)) s | None ↦ with_act (number_at s o.adapter) o.adapter (made_id run (suc s.made)) (Complete (NamedServant o.servant)) (with_made s) ])) [
-        | Some i ↦ act_opens (number_at s o.adapter) o.adapter i o.servant s all
-        | None ↦ act_opens (number_at s o.adapter) o.adapter (made_id run (suc s.made)) o.servant (with_made s) all
+      elim o.oid as (λ oid. AllOpen (elim oid [ Some i ↦ with_activation (number_at s o.adapter) o.adapter i (Complete (NamedServant o.servant)) s | None ↦ with_activation (number_at s o.adapter) o.adapter (made_id run (suc s.made)) (Complete (NamedServant o.servant)) (with_made s) ])) [
+        | Some i ↦ activation_opens (number_at s o.adapter) o.adapter i o.servant s all
+        | None ↦ activation_opens (number_at s o.adapter) o.adapter (made_id run (suc s.made)) o.servant (with_made s) all
       ]
 
   objects_open : (os : List ObjectConf) (s : Standing) → AllOpen s → AllOpen (with_objects run os s)
   objects_open [] s all = all
   objects_open (o ∷ os) s all = objects_open os (with_object run o s) (object_opens o s all)
 
-  boots_acts : (as' : List AdapterConf) (s : Standing) → (with_boots as' s).acts ≡ s.acts
-  boots_acts [] s = refl
-  boots_acts (a ∷ as') s =
-      boots_acts as' (if a.boot && not (is_root a.path) then with_node a.path s else s)
-      ∙ cond_both (a.boot && not (is_root a.path)) (with_node a.path s) s (λ t. t.acts ≡ s.acts) (λ _. refl) (λ _. refl)
+  boots_activations : (as' : List AdapterConf) (s : Standing) → (with_boots as' s).activations ≡ s.activations
+  boots_activations [] s = refl
+  boots_activations (a ∷ as') s =
+      boots_activations as' (if a.boot && not (is_root a.path) then with_node a.path s else s)
+      ∙ cond_both (a.boot && not (is_root a.path)) (with_node a.path s) s (λ t. t.activations ≡ s.activations) (λ _. refl) (λ _. refl)
 
   pub all_open : AllOpen (standing c run [])
-  all_open = objects_open c.objects (with_boots c.adapters root_alone) (λ a there. absurd (subst (λ as'. In a as') (boots_acts c.adapters root_alone) there))
+  all_open = objects_open c.objects (with_boots c.adapters root_alone) (λ a there. absurd (subst (λ as'. In a as') (boots_activations c.adapters root_alone) there))
 
-  finished_no : (a : Act) → Opens a → is_unfinished c a ≡ false
+  finished_no : (a : Activation) → Opens a → is_unfinished c a ≡ false
   finished_no a opens =
       ap₂ (λ p o. (elim p [ Begun ↦ true | Complete u ↦ false | Void ↦ false ]) || (o && not (is_finished c a))) opens.1.1 opens.0
 

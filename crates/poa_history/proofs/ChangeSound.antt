@@ -12,8 +12,8 @@ use Rattle.poa_base.specs.declared.Verdict.{Verdict}
 use Rattle.poa_base.specs.declared.Verdict.TheVariants.{Serve, Preset, Locator, Incarnate, Try, Refuse, Forward, Addressing, Here, Unknown, Answer, Wait}
 use Rattle.poa_tree.specs.declared.node.Node.{Node}
 use Rattle.poa_history.specs.declared.flight.Flight.{Flight}
-use Rattle.poa_history.specs.declared.act.Act.{Act}
-use Rattle.poa_history.specs.declared.act.Phase.TheVariants.{Begun, Complete, Void}
+use Rattle.poa_history.specs.declared.activation.Activation.{Activation}
+use Rattle.poa_history.specs.declared.activation.Phase.TheVariants.{Begun, Complete, Void}
 use Rattle.poa_history.specs.Templates.{policies_at, makes_ids, has_activator, manager_at, manager_number, servant_number}
 use Rattle.poa_history.specs.Standings.{Standing, is_begun, is_of, is_void}
 use Rattle.poa_tree.specs.Nodes.{stands_under}
@@ -23,15 +23,15 @@ use Rattle.poa_history.specs.Opening.{with_made, made_id, number_at}
 use Rattle.poa_history.specs.Commands.{is_bad_id, is_implicit, live_at}
 use Rattle.poa_history.specs.declared.stage.Stage.{Stage}
 use Rattle.poa_history.specs.declared.stage.Stage.TheVariants.{Free, Trying, Incarnating, Serving, Ran, Removing}
-use Rattle.poa_history.specs.declared.act.Phase.{Phase}
+use Rattle.poa_history.specs.declared.activation.Phase.{Phase}
 use Rattle.poa_history.specs.Arrivals.{call_of}
 use Rattle.poa_history.specs.Stages.{stage, arrival_in}
 use Rattle.poa_history.specs.Keys.{key_in}
 use Rattle.poa_history.specs.Logs.{is_accepted, command_in, command_done}
-use Rattle.poa_history.specs.Changes.{without_flight, child_tried, with_child, with_tried, at_number, come_to, with_incarnated, is_elsewhere, with_takeout, with_etherealized, changed, with_flight, with_acts, with_request, with_incarnation, with_admitted, ended_by_destroy, with_destroyed, with_manager_off, with_deactivated, servant_of, with_made_act, with_reference, with_command}
+use Rattle.poa_history.specs.Changes.{without_flight, child_tried, with_child, with_tried, at_number, come_to, with_incarnated, is_elsewhere, with_takeout, with_etherealized, changed, with_flight, with_activations, with_request, with_incarnation, with_admitted, ended_by_destroy, with_destroyed, with_manager_off, with_deactivated, servant_of, with_made_activation, with_reference, with_command}
 use Rattle.poa_tree.specs.Trees.{MayCreate}
 use Rattle.poa_history.specs.Sound.{IsSound}
-use Rattle.poa_history.proofs.SoundKept.{IsUntried, MayFly, MayLive, Follows, fewer_flights_sound, with_node_sound, with_dying_sound, with_flight_sound, with_act_sound, with_acts_sound}
+use Rattle.poa_history.proofs.SoundKept.{IsUntried, MayFly, MayLive, Follows, fewer_flights_sound, with_node_sound, with_dying_sound, with_flight_sound, with_activation_sound, with_activations_sound}
 use Rattle.poa_history.proofs.SettledKept.{or_first, or_second}
 use Rattle.poa_tree.proofs.Members.{in_kept}
 use Rattle.poa_tree.proofs.Finding.{find_in}
@@ -64,9 +64,9 @@ module _ (c : Config) (run : ℕ) (s : Standing) (sound : IsSound c run s) where
 
   with_incarnation_sound : (r : ℕ) (key : Key) → MayLive c run s sound (adapter_met (walk s.nodes key.path)) key.path key.oid → IsSound c run (with_incarnation r key s)
   with_incarnation_sound r key may =
-      let flying = with_request_sound r key (Some (length s.acts)) in
-      with_act_sound c run (with_request r key (Some (length s.acts)) s) flying (adapter_met (walk s.nodes key.path)) key.path key.oid Begun
-      (live_beside (adapter_met (walk s.nodes key.path)) key.path key.oid (record { arrival = r; adapter = adapter_met (walk s.nodes key.path); activation = Some (length s.acts); child = None }) flying may)
+      let flying = with_request_sound r key (Some (length s.activations)) in
+      with_activation_sound c run (with_request r key (Some (length s.activations)) s) flying (adapter_met (walk s.nodes key.path)) key.path key.oid Begun
+      (live_beside (adapter_met (walk s.nodes key.path)) key.path key.oid (record { arrival = r; adapter = adapter_met (walk s.nodes key.path); activation = Some (length s.activations); child = None }) flying may)
 
   pub with_admitted_sound : (r : ℕ) (key : Option Key) (verdict : Verdict) → ((k : Key) → key ≡ Some k → MayAdmit r k verdict) → IsSound c run (with_admitted r key verdict s)
   with_admitted_sound r (Some key) (Serve n) may = with_request_sound r key (Some n)
@@ -85,7 +85,7 @@ module _ (c : Config) (run : ℕ) (s : Standing) (sound : IsSound c run s) where
   with_admitted_sound r None verdict may = sound
 
   -- what changes only flags that no end depends on
-  changes_flags : (f : Act → Act) → ((a : Act) → ((f a).number ≡ a.number) × ((f a).adapter ≡ a.adapter) × ((f a).path ≡ a.path) × ((f a).oid ≡ a.oid) × (is_over c a ≡ true → is_over c (f a) ≡ true)) → Follows c run s sound f
+  changes_flags : (f : Activation → Activation) → ((a : Activation) → ((f a).number ≡ a.number) × ((f a).adapter ≡ a.adapter) × ((f a).path ≡ a.path) × ((f a).oid ≡ a.oid) × (is_over c a ≡ true → is_over c (f a) ≡ true)) → Follows c run s sound f
   changes_flags f kept = record {
     number_kept = λ a. (kept a).0;
     adapter_kept = λ a. (kept a).1;
@@ -95,7 +95,7 @@ module _ (c : Config) (run : ℕ) (s : Standing) (sound : IsSound c run s) where
   }
 
   -- where an activation is over it stays over when it is ended once more
-  over_ended : (etherealize : Bool) (a : Act) → is_over c a ≡ true → is_over c (ended_by_destroy etherealize a) ≡ true
+  over_ended : (etherealize : Bool) (a : Activation) → is_over c a ≡ true → is_over c (ended_by_destroy etherealize a) ≡ true
   over_ended etherealize a over =
       elim (or_cases (is_void a) (is_finished c a) over) [
         | inl void ↦ or_first (is_void a) (is_finished c (ended_by_destroy etherealize a)) void
@@ -109,7 +109,7 @@ module _ (c : Config) (run : ℕ) (s : Standing) (sound : IsSound c run s) where
       ]
 
   -- what ends activations where a test passes
-  ends_where : (etherealize : Bool) (test : Act → Bool) → Follows c run s sound (λ a. if test a then ended_by_destroy etherealize a else a)
+  ends_where : (etherealize : Bool) (test : Activation → Bool) → Follows c run s sound (λ a. if test a then ended_by_destroy etherealize a else a)
   ends_where etherealize test =
       changes_flags (λ a. if test a then ended_by_destroy etherealize a else a)
       (λ a. cond_both (test a) (ended_by_destroy etherealize a) a (λ b. (b.number ≡ a.number) × (b.adapter ≡ a.adapter) × (b.path ≡ a.path) × (b.oid ≡ a.oid) × (is_over c a ≡ true → is_over c b ≡ true))
@@ -118,16 +118,16 @@ module _ (c : Config) (run : ℕ) (s : Standing) (sound : IsSound c run s) where
 
   with_destroyed_sound : (p : List (List ℕ)) (etherealize : Bool) → IsSound c run (with_destroyed p etherealize s)
   with_destroyed_sound p etherealize =
-      with_dying_sound c run (with_acts (λ a. if stands_under s.nodes p a.adapter then ended_by_destroy etherealize a else a) s)
-      (with_acts_sound c run s sound (λ a. if stands_under s.nodes p a.adapter then ended_by_destroy etherealize a else a) (ends_where etherealize (λ a. stands_under s.nodes p a.adapter))) p
+      with_dying_sound c run (with_activations (λ a. if stands_under s.nodes p a.adapter then ended_by_destroy etherealize a else a) s)
+      (with_activations_sound c run s sound (λ a. if stands_under s.nodes p a.adapter then ended_by_destroy etherealize a else a) (ends_where etherealize (λ a. stands_under s.nodes p a.adapter))) p
 
   with_manager_off_sound : (m : ℕ) → IsSound c run (with_manager_off c m s)
   with_manager_off_sound m =
-      with_acts_sound c run s sound (λ a. if has_activator c a.path && (manager_at c a.path == m) then ended_by_destroy true a else a) (ends_where true (λ a. has_activator c a.path && (manager_at c a.path == m)))
+      with_activations_sound c run s sound (λ a. if has_activator c a.path && (manager_at c a.path == m) then ended_by_destroy true a else a) (ends_where true (λ a. has_activator c a.path && (manager_at c a.path == m)))
 
   with_deactivated_sound : (k : ℕ) (oid : List ℕ) → IsSound c run (with_deactivated k oid s)
   with_deactivated_sound k oid =
-      with_acts_sound c run s sound (λ a. if is_of k oid a then record a { ending = true } else a)
+      with_activations_sound c run s sound (λ a. if is_of k oid a then record a { ending = true } else a)
       (changes_flags (λ a. if is_of k oid a then record a { ending = true } else a)
       (λ a. cond_both (is_of k oid a) (record a { ending = true }) a (λ b. (b.number ≡ a.number) × (b.adapter ≡ a.adapter) × (b.path ≡ a.path) × (b.oid ≡ a.oid) × (is_over c a ≡ true → is_over c b ≡ true))
       (λ _. (refl, refl, refl, refl, λ over. over))
@@ -164,7 +164,7 @@ with_made_sound c run s sound = record {
   trial_alone = sound.trial_alone;
   owners = sound.owners;
   counted = sound.counted;
-  act_alone = sound.act_alone;
+  activation_alone = sound.activation_alone;
   life_alone = sound.life_alone;
   ids = λ a is. good_later c run s.made a.path a.oid (sound.ids a is);
 }
@@ -179,14 +179,14 @@ module _ (c : Config) (run : ℕ) (s : Standing) (sound : IsSound c run s) where
       (n : Node) (k : ℕ) → live_at s p ≡ Some n → servant_number c servant ≡ Some k → is_implicit c s n k ≡ true → MayLive c run (with_made s) (with_made_sound c run s sound) (number_at s p) p (made_id run (suc s.made))
   MayDo command = Unit {0}
 
-  with_made_act_sound : (p : List (List ℕ)) (servant : List ℕ) → MayLive c run (with_made s) (with_made_sound c run s sound) (number_at s p) p (made_id run (suc s.made)) → IsSound c run (with_made_act c run p servant s)
-  with_made_act_sound p servant may = with_act_sound c run (with_made s) (with_made_sound c run s sound) (number_at s p) p (made_id run (suc s.made)) (servant_of c servant) may
+  with_made_activation_sound : (p : List (List ℕ)) (servant : List ℕ) → MayLive c run (with_made s) (with_made_sound c run s sound) (number_at s p) p (made_id run (suc s.made)) → IsSound c run (with_made_activation c run p servant s)
+  with_made_activation_sound p servant may = with_activation_sound c run (with_made s) (with_made_sound c run s sound) (number_at s p) p (made_id run (suc s.made)) (servant_of c servant) may
 
   with_reference_sound : (p : List (List ℕ)) (servant : List ℕ) → MayDo (Reference p servant) → IsSound c run (with_reference c run p servant s)
   with_reference_sound p servant may =
-      elim (live_at s p) as (λ found. live_at s p ≡ found → IsSound c run (elim found [ Some n ↦ (elim (servant_number c servant) [ Some k ↦ (if is_implicit c s n k then with_made_act c run p servant s else s) | None ↦ s ]) | None ↦ s ])) [
-        | Some n ↦ λ lives. elim (servant_number c servant) as (λ number. servant_number c servant ≡ number → IsSound c run (elim number [ Some k ↦ (if is_implicit c s n k then with_made_act c run p servant s else s) | None ↦ s ])) [
-          | Some k ↦ λ known. cond_both (is_implicit c s n k) (with_made_act c run p servant s) s (λ t. IsSound c run t) (λ implicit. with_made_act_sound p servant (may n k lives known implicit)) (λ _. sound)
+      elim (live_at s p) as (λ found. live_at s p ≡ found → IsSound c run (elim found [ Some n ↦ (elim (servant_number c servant) [ Some k ↦ (if is_implicit c s n k then with_made_activation c run p servant s else s) | None ↦ s ]) | None ↦ s ])) [
+        | Some n ↦ λ lives. elim (servant_number c servant) as (λ number. servant_number c servant ≡ number → IsSound c run (elim number [ Some k ↦ (if is_implicit c s n k then with_made_activation c run p servant s else s) | None ↦ s ])) [
+          | Some k ↦ λ known. cond_both (is_implicit c s n k) (with_made_activation c run p servant s) s (λ t. IsSound c run t) (λ implicit. with_made_activation_sound p servant (may n k lives known implicit)) (λ _. sound)
           | None ↦ λ _. sound
         ] refl
         | None ↦ λ _. sound
@@ -204,8 +204,8 @@ module _ (c : Config) (run : ℕ) (s : Standing) (sound : IsSound c run s) where
   with_command_sound (Some (Manager name (DeactivateAll false wait))) may = sound
   with_command_sound (Some (Create p)) may = (let needs = may (Create p) refl in with_node_sound c run s sound p needs.0 needs.1)
   with_command_sound (Some (Destroy p etherealize wait)) may = with_destroyed_sound c run s sound p etherealize
-  with_command_sound (Some (Activate p servant)) may = with_made_act_sound p servant (may (Activate p servant) refl)
-  with_command_sound (Some (ActivateId p oid servant)) may = with_act_sound c run s sound (number_at s p) p oid (servant_of c servant) (may (ActivateId p oid servant) refl)
+  with_command_sound (Some (Activate p servant)) may = with_made_activation_sound p servant (may (Activate p servant) refl)
+  with_command_sound (Some (ActivateId p oid servant)) may = with_activation_sound c run s sound (number_at s p) p oid (servant_of c servant) (may (ActivateId p oid servant) refl)
   with_command_sound (Some (Deactivate p oid)) may = with_deactivated_sound c run s sound (number_at s p) oid
   with_command_sound (Some (Reference p servant)) may = with_reference_sound p servant (may (Reference p servant) refl)
   with_command_sound (Some (PresetLine p servant)) may = sound
@@ -215,20 +215,20 @@ module _ (c : Config) (run : ℕ) (s : Standing) (sound : IsSound c run s) where
   with_command_sound (Some (Bad word)) may = sound
 
 module _ (c : Config) (run : ℕ) (s : Standing) (sound : IsSound c run s) where
-  abbrev Kept : Act → Act → Type 0
+  abbrev Kept : Activation → Activation → Type 0
   Kept a b = (b.number ≡ a.number) × (b.adapter ≡ a.adapter) × (b.path ≡ a.path) × (b.oid ≡ a.oid) × (is_over c a ≡ true → is_over c b ≡ true)
 
-  same_kept : (a : Act) → Kept a a
+  same_kept : (a : Activation) → Kept a a
   same_kept a = (refl, refl, refl, refl, λ over. over)
 
   -- a change of the activation of one number
-  at_number_sound : (n : ℕ) (f : Act → Act) → ((a : Act) → Kept a (f a)) → IsSound c run (with_acts (at_number n f) s)
+  at_number_sound : (n : ℕ) (f : Activation → Activation) → ((a : Activation) → Kept a (f a)) → IsSound c run (with_activations (at_number n f) s)
   at_number_sound n f kept =
-      with_acts_sound c run s sound (at_number n f)
+      with_activations_sound c run s sound (at_number n f)
       (changes_flags c run s sound (at_number n f) (λ a. cond_both (a.number == n) (f a) a (Kept a) (λ _. kept a) (λ _. same_kept a)))
 
   -- being incarnated it isn't void, so what is over then is finished, whatever it comes to
-  come_kept : (phase : Phase) (a : Act) → Kept a (come_to phase a)
+  come_kept : (phase : Phase) (a : Activation) → Kept a (come_to phase a)
   come_kept phase a =
       cond_both (is_begun a) (record a { phase = phase }) a (Kept a)
       (λ begun. (
@@ -248,7 +248,7 @@ module _ (c : Config) (run : ℕ) (s : Standing) (sound : IsSound c run s) where
       begun_void (Complete t) one two = (let e : false ≡ true = one in cc)
       begun_void Void one two = (let e : false ≡ true = one in cc)
 
-  out_kept : (other : Bool) (a : Act) → Kept a (record a { out = true; remaining = other })
+  out_kept : (other : Bool) (a : Activation) → Kept a (record a { out = true; remaining = other })
   out_kept other a = (
     refl,
     refl,
@@ -260,7 +260,7 @@ module _ (c : Config) (run : ℕ) (s : Standing) (sound : IsSound c run s) where
     ],
   )
 
-  told_kept : (a : Act) → Kept a (record a { etherealized = true })
+  told_kept : (a : Activation) → Kept a (record a { etherealized = true })
   told_kept a = (
     refl,
     refl,
@@ -275,7 +275,7 @@ module _ (c : Config) (run : ℕ) (s : Standing) (sound : IsSound c run s) where
   )
 
   with_takeout_sound : (n : ℕ) → IsSound c run (with_takeout n s)
-  with_takeout_sound n = at_number_sound n (λ a. record a { out = true; remaining = is_elsewhere s.acts a }) (λ a. out_kept (is_elsewhere s.acts a) a)
+  with_takeout_sound n = at_number_sound n (λ a. record a { out = true; remaining = is_elsewhere s.activations a }) (λ a. out_kept (is_elsewhere s.activations a) a)
 
   without_flight_sound : (r : Option ℕ) → IsSound c run (without_flight r s)
   without_flight_sound None = sound
@@ -290,11 +290,11 @@ module _ (c : Config) (run : ℕ) (s : Standing) (sound : IsSound c run s) where
   with_etherealized_sound (Removing n) = at_number_sound n (λ a. record a { etherealized = true }) told_kept
 
 module _ (c : Config) (run : ℕ) (s : Standing) (sound : IsSound c run s) where
-  come_sound : (n : ℕ) (phase : Phase) → IsSound c run (with_acts (at_number n (come_to phase)) s)
+  come_sound : (n : ℕ) (phase : Phase) → IsSound c run (with_activations (at_number n (come_to phase)) s)
   come_sound n phase = at_number_sound c run s sound n (come_to phase) (come_kept c run s sound phase)
 
-  void_sound : (r n : ℕ) → IsSound c run (without_flight (Some r) (with_acts (at_number n (come_to Void)) s))
-  void_sound r n = without_flight_sound c run (with_acts (at_number n (come_to Void)) s) (come_sound n Void) (Some r)
+  void_sound : (r n : ℕ) → IsSound c run (without_flight (Some r) (with_activations (at_number n (come_to Void)) s))
+  void_sound r n = without_flight_sound c run (with_activations (at_number n (come_to Void)) s) (come_sound n Void) (Some r)
 
   with_incarnated_sound : (begun : Stage) (answer : Incarnation) → IsSound c run (with_incarnated c begun answer s)
   with_incarnated_sound (Incarnating r n) (Fresh m) = come_sound n (Complete (FreshServant n))

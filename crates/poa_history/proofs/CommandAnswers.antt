@@ -16,12 +16,12 @@ use Rattle.poa_base.specs.declared.Reason.TheVariants.{NoManager, AdapterInactiv
 use Rattle.poa_base.specs.declared.Verdict.{Verdict}
 use Rattle.poa_base.specs.declared.Verdict.TheVariants.{Serve, Preset, Locator, Incarnate, Try, Refuse, Addressing, Unknown, Answer, Wait}
 use Rattle.poa_base.specs.declared.Entry.{Entry}
-use Rattle.poa_verdict.specs.declared.Choice.{Choice}
-use Rattle.poa_verdict.specs.declared.Choice.TheVariants.{Go}
-use Rattle.poa_verdict.specs.declared.Facts.{Facts}
-use Rattle.poa_verdict.specs.declared.KeyFact.{KeyFact}
-use Rattle.poa_verdict.specs.declared.KeyFact.TheVariants.{Absent, Bad as BadKey, OtherRun, Transient, Persistent}
-use Rattle.poa_verdict.specs.Table.{key_rows, first_row}
+use Rattle.poa_choose.specs.declared.Choice.{Choice}
+use Rattle.poa_choose.specs.declared.Choice.TheVariants.{Go}
+use Rattle.poa_choose.specs.declared.Facts.{Facts}
+use Rattle.poa_choose.specs.declared.KeyFact.{KeyFact}
+use Rattle.poa_choose.specs.declared.KeyFact.TheVariants.{Absent, Bad as BadKey, OtherRun, Transient, Persistent}
+use Rattle.poa_choose.specs.Table.{key_rows, first_row}
 use Rattle.poa_tree.specs.declared.node.Node.{Node}
 use Rattle.poa_tree.specs.Paths.{parent_path}
 use Rattle.poa_tree.specs.Nodes.{node_at}
@@ -103,14 +103,14 @@ module _ (c : Config) (run : ℕ) (past : List Entry) (s : Standing) where
   activate_id_none p oid servant =
       where_live s p _ (λ n. if_test (not (retains (policies_at c p))) _ _ (refuses WrongPolicy)
       (where_servant c servant _ (λ k. if_test (is_bad_id c run s.made p oid) _ _ (refuses BadId)
-      (if_test (list_any (λ a. is_of n.number oid a && is_active a) s.acts) _ _ (refuses ObjectAlreadyActive)
-      (if_test (list_any (λ a. is_of n.number oid a && not (is_over c a)) s.acts) _ _ holds
+      (if_test (list_any (λ a. is_of n.number oid a && is_active a) s.activations) _ _ (refuses ObjectAlreadyActive)
+      (if_test (list_any (λ a. is_of n.number oid a && not (is_over c a)) s.activations) _ _ holds
       (if_test (is_taken c s n k) _ _ (refuses ServantAlreadyActive) does))))))
 
   deactivate_none : (p : List (List ℕ)) (oid : List ℕ) → BeginsNone (deactivate_row c s p oid)
   deactivate_none p oid =
       where_live s p _ (λ n. if_test (not (retains (policies_at c p))) _ _ (refuses WrongPolicy)
-      (if_test (list_any (λ a. is_of n.number oid a && is_active a) s.acts) _ _ does (refuses ObjectNotActive)))
+      (if_test (list_any (λ a. is_of n.number oid a && is_active a) s.activations) _ _ does (refuses ObjectNotActive)))
 
   reference_none : (p : List (List ℕ)) (servant : List ℕ) → BeginsNone (reference_row c run s p servant)
   reference_none p servant =

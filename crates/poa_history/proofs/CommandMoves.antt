@@ -10,7 +10,7 @@ use Rattle.poa_base.specs.declared.Answer.TheVariants.{Good, GoodId, No}
 use Rattle.poa_base.specs.declared.Verdict.{Verdict}
 use Rattle.poa_base.specs.declared.Verdict.TheVariants.{Answer}
 use Rattle.poa_tree.specs.declared.node.Node.{Node}
-use Rattle.poa_history.specs.declared.act.Act.{Act}
+use Rattle.poa_history.specs.declared.activation.Activation.{Activation}
 use Rattle.poa_tree.specs.Paths.{same_bytes, parent_path}
 use Rattle.poa_history.specs.Templates.{template, policies_at, retains, makes_ids, servant_number}
 use Rattle.poa_history.specs.Standings.{Standing, is_active, is_of, is_tried}
@@ -73,7 +73,7 @@ number_live s p n found = ap (λ o. elim o [ Some m ↦ m.number | None ↦ 0 ])
 module _ (c : Config) (run : ℕ) (s : Standing) (sound : IsSound c run s) where
   -- the next system-made id is that of no activation that holds it, in any adapter that makes ids
   abbrev pub FreshIds : Type 0
-  FreshIds = (n : Node) → In n s.nodes → makes_ids (policies_at c n.path) ≡ true → (a : Act) → In a s.acts → a.adapter ≡ n.number → a.oid ≡ made_id run (suc s.made) → is_over c a ≡ true
+  FreshIds = (n : Node) → In n s.nodes → makes_ids (policies_at c n.path) ≡ true → (a : Activation) → In a s.activations → a.adapter ≡ n.number → a.oid ≡ made_id run (suc s.made) → is_over c a ≡ true
 
   -- the next system-made id is one that an adapter has once it is made
   abbrev pub NextFits : Type 0
@@ -137,29 +137,29 @@ module _ (c : Config) (run : ℕ) (s : Standing) (sound : IsSound c run s) where
       after : Node → ℕ → Option Verdict
       after n k =
           if is_bad_id c run s.made p oid then refusal BadId
-          else if list_any (λ a. is_of n.number oid a && is_active a) s.acts then refusal ObjectAlreadyActive
-          else if list_any (λ a. is_of n.number oid a && not (is_over c a)) s.acts then None
+          else if list_any (λ a. is_of n.number oid a && is_active a) s.activations then refusal ObjectAlreadyActive
+          else if list_any (λ a. is_of n.number oid a && not (is_over c a)) s.activations then None
           else if is_taken c s n k then refusal ServantAlreadyActive
           else Some (Answer Good)
 
       good_by_row : (n : Node) (k : ℕ) → after n k ≡ Some v → is_bad_id c run s.made p oid ≡ false
       good_by_row n k row =
           elim (cases_Bool (is_bad_id c run s.made p oid)) [
-            | inl bad ↦ refused BadId v (ap (λ b. if b then refusal BadId else if list_any (λ a. is_of n.number oid a && is_active a) s.acts then refusal ObjectAlreadyActive else if list_any (λ a. is_of n.number oid a && not (is_over c a)) s.acts then None else if is_taken c s n k then refusal ServantAlreadyActive else Some (Answer Good)) (sym bad) ∙ row) accepted
+            | inl bad ↦ refused BadId v (ap (λ b. if b then refusal BadId else if list_any (λ a. is_of n.number oid a && is_active a) s.activations then refusal ObjectAlreadyActive else if list_any (λ a. is_of n.number oid a && not (is_over c a)) s.activations then None else if is_taken c s n k then refusal ServantAlreadyActive else Some (Answer Good)) (sym bad) ∙ row) accepted
             | inr good ↦ good
           ]
 
-      over_by_row : (n : Node) (k : ℕ) → after n k ≡ Some v → (a : Act) → In a s.acts → a.adapter ≡ n.number → a.oid ≡ oid → is_over c a ≡ true
+      over_by_row : (n : Node) (k : ℕ) → after n k ≡ Some v → (a : Activation) → In a s.activations → a.adapter ≡ n.number → a.oid ≡ oid → is_over c a ≡ true
       over_by_row n k row a is' at_k of_id =
           elim (cases_Bool (is_over c a)) [
             | inl over ↦ over
             | inr alive ↦ cond_both (is_bad_id c run s.made p oid) _ _ (λ o. o ≡ Some v → is_over c a ≡ true)
                 (λ _ no_. refused BadId v no_ accepted)
-                (λ _. cond_both (list_any (λ b. is_of n.number oid b && is_active b) s.acts) _ _ (λ o. o ≡ Some v → is_over c a ≡ true)
+                (λ _. cond_both (list_any (λ b. is_of n.number oid b && is_active b) s.activations) _ _ (λ o. o ≡ Some v → is_over c a ≡ true)
                 (λ _ no_. refused ObjectAlreadyActive v no_ accepted)
-                (λ _. cond_both (list_any (λ b. is_of n.number oid b && not (is_over c b)) s.acts) _ _ (λ o. o ≡ Some v → is_over c a ≡ true)
+                (λ _. cond_both (list_any (λ b. is_of n.number oid b && not (is_over c b)) s.activations) _ _ (λ o. o ≡ Some v → is_over c a ≡ true)
                 (λ _ none. held v none)
-                (λ none _. absurd (true≢false (sym (ap₂ (λ x y. x && y) (ap₂ (λ x y. x && y) (eq-eqb _ _ at_k) (ap (λ i. same_bytes i oid) of_id ∙ same_self oid)) (ap not alive)) ∙ none_by (λ b. is_of n.number oid b && not (is_over c b)) a s.acts is' none))))) row
+                (λ none _. absurd (true≢false (sym (ap₂ (λ x y. x && y) (ap₂ (λ x y. x && y) (eq-eqb _ _ at_k) (ap (λ i. same_bytes i oid) of_id ∙ same_self oid)) (ap not alive)) ∙ none_by (λ b. is_of n.number oid b && not (is_over c b)) a s.activations is' none))))) row
           ]
 
   pub may_reference : FreshIds → NextFits → (p : List (List ℕ)) (servant : List ℕ) (n : Node) (k : ℕ) → live_at s p ≡ Some n → (is_implicit c s n k ≡ true → makes_ids (policies_at c p) ≡ true) → is_implicit c s n k ≡ true → MayLive c run (with_made s) (with_made_sound c run s sound) (number_at s p) p (made_id run (suc s.made))

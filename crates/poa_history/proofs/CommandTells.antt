@@ -17,7 +17,7 @@ use Rattle.poa_base.specs.declared.Verdict.TheVariants.{Answer}
 use Rattle.poa_base.specs.declared.Entry.{Entry}
 use Rattle.poa_base.specs.declared.Entry.TheVariants.{Entered, Arrive, Filled, Left, Collect, Admit, Tried, Incarnated, Run, Done, TakeOut, Etherealized, Abandon}
 use Rattle.poa_tree.specs.declared.node.Node.{Node}
-use Rattle.poa_history.specs.declared.act.Act.{Act}
+use Rattle.poa_history.specs.declared.activation.Activation.{Activation}
 use Rattle.poa_history.specs.Templates.{policies_at, retains, is_unique, makes_ids, activates_implicitly, servant_number}
 use Rattle.poa_history.specs.Arrivals.{call_of}
 use Rattle.poa_history.specs.Standings.{Standing, is_active, is_mapped, has_servant, is_of, is_in_map}
@@ -94,9 +94,9 @@ module _ (c : Config) (run : ℕ) (past : List Entry) where
       (λ _ more. (let (k, number, row) = known c servant (after n) v more accepted in
       cond_both (is_bad_id c run s.made p oid) _ _ (λ o. o ≡ Some v → IsUntaken c s p servant)
       (λ _ no_. refused BadId v no_ accepted)
-      (λ _. cond_both (list_any (λ a. is_of n.number oid a && is_active a) s.acts) _ _ (λ o. o ≡ Some v → IsUntaken c s p servant)
+      (λ _. cond_both (list_any (λ a. is_of n.number oid a && is_active a) s.activations) _ _ (λ o. o ≡ Some v → IsUntaken c s p servant)
       (λ _ no_. refused ObjectAlreadyActive v no_ accepted)
-      (λ _. cond_both (list_any (λ a. is_of n.number oid a && not (is_over c a)) s.acts) _ _ (λ o. o ≡ Some v → IsUntaken c s p servant)
+      (λ _. cond_both (list_any (λ a. is_of n.number oid a && not (is_over c a)) s.activations) _ _ (λ o. o ≡ Some v → IsUntaken c s p servant)
       (λ _ none. held v none)
       (λ _. cond_both (is_taken c s n k) _ _ (λ o. o ≡ Some v → IsUntaken c s p servant)
       (λ _ no_. refused ServantAlreadyActive v no_ accepted)
@@ -105,8 +105,8 @@ module _ (c : Config) (run : ℕ) (past : List Entry) where
       after : Node → ℕ → Option Verdict
       after n k =
           if is_bad_id c run s.made p oid then refusal BadId
-          else if list_any (λ a. is_of n.number oid a && is_active a) s.acts then refusal ObjectAlreadyActive
-          else if list_any (λ a. is_of n.number oid a && not (is_over c a)) s.acts then None
+          else if list_any (λ a. is_of n.number oid a && is_active a) s.activations then refusal ObjectAlreadyActive
+          else if list_any (λ a. is_of n.number oid a && not (is_over c a)) s.activations then None
           else if is_taken c s n k then refusal ServantAlreadyActive
           else Some (Answer Good)
 
@@ -119,9 +119,9 @@ module _ (c : Config) (run : ℕ) (past : List Entry) where
   untaken_activate_id limit e p oid servant may done = (let (v, row, accepted) = done_verdict limit e (ActivateId p oid servant) may done in by_activate_id p oid servant v row accepted)
 
 -- an activation by which a servant is in the map takes it
-pub in_map_by : (s : Standing) (a : Act) (k : ℕ) (t : Sid) → In a s.acts → a.adapter ≡ k → is_mapped a ≡ true → has_servant t a ≡ true → is_in_map s.acts k t ≡ true
+pub in_map_by : (s : Standing) (a : Activation) (k : ℕ) (t : Sid) → In a s.activations → a.adapter ≡ k → is_mapped a ≡ true → has_servant t a ≡ true → is_in_map s.activations k t ≡ true
 in_map_by s a k t there at mapped has =
-    any_by (λ b. (b.adapter == k) && (is_mapped b && has_servant t b)) a s.acts there (ap₂ (λ x y. x && y) (eq-eqb a.adapter k at) (ap₂ (λ x y. x && y) mapped has))
+    any_by (λ b. (b.adapter == k) && (is_mapped b && has_servant t b)) a s.activations there (ap₂ (λ x y. x && y) (eq-eqb a.adapter k at) (ap₂ (λ x y. x && y) mapped has))
 
 -- where it is referred to implicitly it isn't in the map
 pub untaken_reference : (c : Config) (s : Standing) (n : Node) (k : ℕ) → is_implicit c s n k ≡ true → is_taken c s n k ≡ false
@@ -129,13 +129,13 @@ untaken_reference c s n k implicit =
     false_from_ne_true (is_taken c s n k) (λ taken.
     let outer = and_parts (is_none (referred c s n k)) (retains (policies_at c n.path) && activates_implicitly (policies_at c n.path)) implicit in
     let policies = and_parts (retains (policies_at c n.path)) (activates_implicitly (policies_at c n.path)) outer.1 in
-    let both = and_parts (is_unique (policies_at c n.path)) (is_in_map s.acts n.number (NamedServant k)) taken in
-    let found = any_in (λ a. (a.adapter == n.number) && (is_mapped a && has_servant (NamedServant k) a)) s.acts both.1 in
-    none_here found.0 found.1 found.2 (ap (λ b. is_none (if b then find (λ a. (a.adapter == n.number) && (is_mapped a && has_servant (NamedServant k) a)) s.acts else None)) (sym (ap₂ (λ x y. x && y) policies.0 both.0)) ∙ outer.0))
+    let both = and_parts (is_unique (policies_at c n.path)) (is_in_map s.activations n.number (NamedServant k)) taken in
+    let found = any_in (λ a. (a.adapter == n.number) && (is_mapped a && has_servant (NamedServant k) a)) s.activations both.1 in
+    none_here found.0 found.1 found.2 (ap (λ b. is_none (if b then find (λ a. (a.adapter == n.number) && (is_mapped a && has_servant (NamedServant k) a)) s.activations else None)) (sym (ap₂ (λ x y. x && y) policies.0 both.0)) ∙ outer.0))
   where
-    none_here : (a : Act) → In a s.acts → ((a.adapter == n.number) && (is_mapped a && has_servant (NamedServant k) a)) ≡ true → is_none (find (λ b. (b.adapter == n.number) && (is_mapped b && has_servant (NamedServant k) b)) s.acts) ≡ true → ⊥
+    none_here : (a : Activation) → In a s.activations → ((a.adapter == n.number) && (is_mapped a && has_servant (NamedServant k) a)) ≡ true → is_none (find (λ b. (b.adapter == n.number) && (is_mapped b && has_servant (NamedServant k) b)) s.activations) ≡ true → ⊥
     none_here a there passes none =
-        elim (find (λ b. (b.adapter == n.number) && (is_mapped b && has_servant (NamedServant k) b)) s.acts) as (λ o. find (λ b. (b.adapter == n.number) && (is_mapped b && has_servant (NamedServant k) b)) s.acts ≡ o → is_none o ≡ true → ⊥) [
-          | None ↦ λ is _. find_none (λ b. (b.adapter == n.number) && (is_mapped b && has_servant (NamedServant k) b)) a s.acts is there passes
+        elim (find (λ b. (b.adapter == n.number) && (is_mapped b && has_servant (NamedServant k) b)) s.activations) as (λ o. find (λ b. (b.adapter == n.number) && (is_mapped b && has_servant (NamedServant k) b)) s.activations ≡ o → is_none o ≡ true → ⊥) [
+          | None ↦ λ is _. find_none (λ b. (b.adapter == n.number) && (is_mapped b && has_servant (NamedServant k) b)) a s.activations is there passes
           | Some x ↦ λ _ no_. (let e : false ≡ true = no_ in cc)
         ] refl none

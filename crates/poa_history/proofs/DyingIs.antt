@@ -7,12 +7,12 @@ use Rattle.poa_base.specs.declared.AdapterConf.{AdapterConf}
 use Rattle.poa_base.specs.declared.ObjectConf.{ObjectConf}
 use Rattle.poa_base.specs.declared.Entry.{Entry}
 use Rattle.poa_base.specs.declared.Sid.TheVariants.{Named as NamedServant}
-use Rattle.poa_history.specs.declared.act.Phase.TheVariants.{Complete}
+use Rattle.poa_history.specs.declared.activation.Phase.TheVariants.{Complete}
 use Rattle.poa_tree.specs.declared.node.Node.{Node}
 use Rattle.poa_tree.specs.Paths.{is_root}
 use Rattle.poa_tree.specs.Trees.{In}
 use Rattle.poa_history.specs.Standings.{Standing}
-use Rattle.poa_history.specs.Opening.{with_node, with_act, with_made, made_id, number_at, with_boots, with_object, with_objects, root_alone}
+use Rattle.poa_history.specs.Opening.{with_node, with_activation, with_made, made_id, number_at, with_boots, with_object, with_objects, root_alone}
 use Rattle.poa_history.specs.Changes.{standing}
 use Rattle.poa_history.specs.Logs.{command_done}
 use Rattle.poa_history.specs.Legal.{IsLegal}
@@ -38,7 +38,7 @@ module _ (c : Config) (run : ℕ) where
 
   object_nodes : (o : ObjectConf) (s : Standing) → (with_object run o s).nodes ≡ s.nodes
   object_nodes o s =
-      elim o.oid as (λ oid. nodes_in (elim oid [ Some i ↦ with_act (number_at s o.adapter) o.adapter i (Complete (NamedServant o.servant)) s | None ↦ with_act (number_at s o.adapter) o.adapter (made_id run (suc s.made)) (Complete (NamedServant o.servant)) (with_made s) ]) ≡ s.nodes)
+      elim o.oid as (λ oid. nodes_in (elim oid [ Some i ↦ with_activation (number_at s o.adapter) o.adapter i (Complete (NamedServant o.servant)) s | None ↦ with_activation (number_at s o.adapter) o.adapter (made_id run (suc s.made)) (Complete (NamedServant o.servant)) (with_made s) ]) ≡ s.nodes)
       [ Some i ↦ refl | None ↦ refl ]
 
   objects_nodes : (os : List ObjectConf) (s : Standing) → (with_objects run os s).nodes ≡ s.nodes

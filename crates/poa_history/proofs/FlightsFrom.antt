@@ -27,7 +27,7 @@ use Rattle.poa_tree.specs.Trees.{In}
 use Rattle.poa_history.specs.Keys.{key_in}
 use Rattle.poa_history.specs.Logs.{command_done}
 use Rattle.poa_history.specs.Commands.{is_implicit, live_at}
-use Rattle.poa_history.specs.Changes.{changed, with_admitted, with_made_act, with_manager_off, with_command, child_tried, without_flight, with_tried, with_incarnated, with_etherealized}
+use Rattle.poa_history.specs.Changes.{changed, with_admitted, with_made_activation, with_manager_off, with_command, child_tried, without_flight, with_tried, with_incarnated, with_etherealized}
 use Rattle.poa_tree.proofs.Members.{in_either, in_kept}
 use Rattle.poa_history.proofs.Untouched.{flights_in, flights_child}
 
@@ -36,7 +36,7 @@ abbrev pub flight_for : Standing → ℕ → Key → Verdict → Option Flight
 flight_for s r key (Serve n) = Some (record { arrival = r; adapter = adapter_met (walk s.nodes key.path); activation = Some n; child = None })
 flight_for s r key (Preset name) = Some (record { arrival = r; adapter = adapter_met (walk s.nodes key.path); activation = None; child = None })
 flight_for s r key (Locator name) = Some (record { arrival = r; adapter = adapter_met (walk s.nodes key.path); activation = None; child = None })
-flight_for s r key (Incarnate n) = Some (record { arrival = r; adapter = adapter_met (walk s.nodes key.path); activation = Some (length s.acts); child = None })
+flight_for s r key (Incarnate n) = Some (record { arrival = r; adapter = adapter_met (walk s.nodes key.path); activation = Some (length s.activations); child = None })
 flight_for s r key Try = Some (record { arrival = r; adapter = adapter_met (walk s.nodes key.path); activation = None; child = Some (child_met (walk s.nodes key.path) key.path) })
 flight_for s r key verdict = None
 
@@ -59,9 +59,9 @@ flights_command c run (Some (Activate p servant)) s = refl
 flights_command c run (Some (ActivateId p oid servant)) s = refl
 flights_command c run (Some (Deactivate p oid)) s = refl
 flights_command c run (Some (Reference p servant)) s =
-    elim (live_at s p) as (λ o. flights_in (elim o [ Some n ↦ (elim (servant_number c servant) [ Some k ↦ (if is_implicit c s n k then with_made_act c run p servant s else s) | None ↦ s ]) | None ↦ s ]) ≡ s.flights) [
-      | Some n ↦ elim (servant_number c servant) as (λ o. flights_in (elim o [ Some k ↦ (if is_implicit c s n k then with_made_act c run p servant s else s) | None ↦ s ]) ≡ s.flights) [
-        | Some k ↦ cond_both (is_implicit c s n k) (with_made_act c run p servant s) s (λ t. t.flights ≡ s.flights) (λ _. refl) (λ _. refl)
+    elim (live_at s p) as (λ o. flights_in (elim o [ Some n ↦ (elim (servant_number c servant) [ Some k ↦ (if is_implicit c s n k then with_made_activation c run p servant s else s) | None ↦ s ]) | None ↦ s ]) ≡ s.flights) [
+      | Some n ↦ elim (servant_number c servant) as (λ o. flights_in (elim o [ Some k ↦ (if is_implicit c s n k then with_made_activation c run p servant s else s) | None ↦ s ]) ≡ s.flights) [
+        | Some k ↦ cond_both (is_implicit c s n k) (with_made_activation c run p servant s) s (λ t. t.flights ≡ s.flights) (λ _. refl) (λ _. refl)
         | None ↦ refl
       ]
       | None ↦ refl

@@ -8,7 +8,7 @@ use Rattle.std.proofs.Math.Seq.{append_snoc}
 use Rattle.poa_base.specs.declared.Config.{Config}
 use Rattle.poa_base.specs.declared.Entry.{Entry}
 use Rattle.poa_tree.specs.declared.node.Node.{Node}
-use Rattle.poa_history.specs.declared.act.Act.{Act}
+use Rattle.poa_history.specs.declared.activation.Activation.{Activation}
 use Rattle.poa_tree.specs.Paths.{same_bytes, leads_to, is_root}
 use Rattle.poa_tree.specs.Nodes.{stands_under}
 use Rattle.poa_tree.specs.Trees.{In}
@@ -22,7 +22,7 @@ use Rattle.poa_history.specs.Destroyed.{IsChildOf, IsEnded, IsEmptied}
 use Rattle.poa_tree.proofs.Members.{in_kept, kept_in}
 use Rattle.poa_tree.proofs.Finding.{find_in, find_none}
 use Rattle.poa_tree.proofs.Leading.{bytes_same, leads_on}
-use Rattle.poa_history.proofs.SettledKept.{any_by, none_by, not_true, not_false, is_under_itself, clear_longer, stays, flight_stays, act_stays, let_out_sound}
+use Rattle.poa_history.proofs.SettledKept.{any_by, none_by, not_true, not_false, is_under_itself, clear_longer, stays, flight_stays, activation_stays, let_out_sound}
 use Rattle.poa_history.proofs.StepMoves.{may_move}
 use Rattle.poa_history.proofs.ChangeSound.{changed_sound}
 use Rattle.poa_history.proofs.IdsFew.{has_ordinal}
@@ -77,11 +77,11 @@ module _ (c : Config) (run : ℕ) (s : Standing) (sound : IsSound c run s) where
   gone_done n is =
       ap₂ (λ a o. a && (elim o [ Some m ↦ is_done_with c s m | None ↦ true ])) (lt-ltb _ _ (sound.tree.numbered n is)) (number_found n is)
 
-  clear_parts : (p : List (List ℕ)) → is_clear c s p ≡ true → (list_any (λ f. stands_under s.nodes p f.adapter) s.flights ≡ false) × (list_any (λ a. not (is_over c a) && stands_under s.nodes p a.adapter) s.acts ≡ false)
+  clear_parts : (p : List (List ℕ)) → is_clear c s p ≡ true → (list_any (λ f. stands_under s.nodes p f.adapter) s.flights ≡ false) × (list_any (λ a. not (is_over c a) && stands_under s.nodes p a.adapter) s.activations ≡ false)
   clear_parts p clear =
-      let parts = and_parts (not (list_any (λ f. stands_under s.nodes p f.adapter) s.flights)) (not (list_any (λ a. not (is_over c a) && stands_under s.nodes p a.adapter) s.acts)) clear in (not_true _ parts.0, not_true _ parts.1)
+      let parts = and_parts (not (list_any (λ f. stands_under s.nodes p f.adapter) s.flights)) (not (list_any (λ a. not (is_over c a) && stands_under s.nodes p a.adapter) s.activations)) clear in (not_true _ parts.0, not_true _ parts.1)
 
-  over_by : (a : Act) (under : Bool) → (not (is_over c a) && under) ≡ false → under ≡ true → is_over c a ≡ true
+  over_by : (a : Activation) (under : Bool) → (not (is_over c a) && under) ≡ false → under ≡ true → is_over c a ≡ true
   over_by a under none is =
       elim (cases_Bool (is_over c a)) [ inl over ↦ over | inr lives ↦ absurd (true≢false (sym (ap₂ (λ x y. x && y) (not_false (is_over c a) lives) is) ∙ none)) ]
 
@@ -92,7 +92,7 @@ module _ (c : Config) (run : ℕ) (s : Standing) (sound : IsSound c run s) where
       record {
         dying = parts.0;
         idle = none_in (λ f. stands_under s.nodes n.path f.adapter) (λ f. f.adapter == n.number) s.flights (λ f _ at. is_under_itself c run s sound n f.adapter is (sym (eqb-true f.adapter n.number at))) clear.0;
-        over = λ a there at. over_by a (stands_under s.nodes n.path a.adapter) (none_by (λ b. not (is_over c b) && stands_under s.nodes n.path b.adapter) a s.acts there clear.1) (is_under_itself c run s sound n a.adapter is (sym at));
+        over = λ a there at. over_by a (stands_under s.nodes n.path a.adapter) (none_by (λ b. not (is_over c b) && stands_under s.nodes n.path b.adapter) a s.activations there clear.1) (is_under_itself c run s sound n a.adapter is (sym at));
         children = λ m there child.
             (let leads : leads_to n.path m.path ≡ true = subst (λ q. leads_to n.path q ≡ true) (sym child.1) (leads_on n.path (child.0 ∷ [])) in
             gone_done m there ∙ ap₂ (λ x y. x && y) (sound.tree.below n m is there leads parts.0) (clear_longer c run s sound n.path m.path leads parts.1));
@@ -127,13 +127,13 @@ module _ (c : Config) (run : ℕ) (s : Standing) (sound : IsSound c run s) where
       own_or_below n is ended f.0.adapter f.2
       (λ at. true≢false (sym (any_by (λ g. g.adapter == n.number) f.0 s.flights f.1 (eq-eqb f.0.adapter n.number at)) ∙ ended.idle))
       (λ d there clear under. true≢false (sym (any_by (λ g. stands_under s.nodes d.path g.adapter) f.0 s.flights f.1 under) ∙ (clear_parts d.path clear).0)))))
-      (not_false _ (false_from_ne_true (list_any (λ a. not (is_over c a) && stands_under s.nodes n.path a.adapter) s.acts)
-      (λ some_. let a = any_in (λ b. not (is_over c b) && stands_under s.nodes n.path b.adapter) s.acts some_ in
+      (not_false _ (false_from_ne_true (list_any (λ a. not (is_over c a) && stands_under s.nodes n.path a.adapter) s.activations)
+      (λ some_. let a = any_in (λ b. not (is_over c b) && stands_under s.nodes n.path b.adapter) s.activations some_ in
       let both = and_parts (not (is_over c a.0)) (stands_under s.nodes n.path a.0.adapter) a.2 in
       let lives : is_over c a.0 ≡ false = not_true (is_over c a.0) both.0 in
       own_or_below n is ended a.0.adapter both.1
       (λ at. true≢false (sym (ended.over a.0 a.1 at) ∙ lives))
-      (λ d there clear under. true≢false (sym (over_by a.0 (stands_under s.nodes d.path a.0.adapter) (none_by (λ b. not (is_over c b) && stands_under s.nodes d.path b.adapter) a.0 s.acts a.1 (clear_parts d.path clear).1) under) ∙ lives))))))
+      (λ d there clear under. true≢false (sym (over_by a.0 (stands_under s.nodes d.path a.0.adapter) (none_by (λ b. not (is_over c b) && stands_under s.nodes d.path b.adapter) a.0 s.activations a.1 (clear_parts d.path clear).1) under) ∙ lives))))))
 
   -- nothing is left of an adapter that is gone
   pub emptied : (k : ℕ) → is_gone c s k ≡ true → IsEmptied c s k
@@ -159,7 +159,7 @@ module _ (c : Config) (run : ℕ) (s : Standing) (sound : IsSound c run s) where
 -- after what has ended went, only the root may be done with
 module _ (c : Config) (run : ℕ) (s : Standing) (sound : IsSound c run s) where
   abbrev let_ : Standing
-  let_ = record s { acts = map (let_out c s) s.acts }
+  let_ = record s { activations = map (let_out c s) s.activations }
 
   let_sound : IsSound c run let_
   let_sound = let_out_sound c run s sound
@@ -170,14 +170,14 @@ module _ (c : Config) (run : ℕ) (s : Standing) (sound : IsSound c run s) where
       let undone : is_done_with c let_ n ≡ false = not_true' (is_done_with c let_ n) (or_false (is_root n.path) (not (is_done_with c let_ n)) below kept.1) in
       false_from_ne_true (is_done_with c (settled c s) n) (λ done.
       let parts = and_parts n.dying (is_clear c (settled c s) n.path) done in
-      let clear = and_parts (not (list_any (λ f. stands_under (settled c s).nodes n.path f.adapter) s.flights)) (not (list_any (λ a. not (is_over c a) && stands_under (settled c s).nodes n.path a.adapter) let_.acts)) parts.1 in
+      let clear = and_parts (not (list_any (λ f. stands_under (settled c s).nodes n.path f.adapter) s.flights)) (not (list_any (λ a. not (is_over c a) && stands_under (settled c s).nodes n.path a.adapter) let_.activations)) parts.1 in
       true≢false (sym (ap₂ (λ x y. x && y) parts.0
       (ap₂ (λ x y. x && y)
       (not_false _ (none_in (λ f. stands_under (settled c s).nodes n.path f.adapter) (λ f. stands_under s.nodes n.path f.adapter) s.flights
       (λ f is under. still_under n.path f.adapter under (λ m at same. flight_stays c run let_ let_sound f m is at same)) (not_true _ clear.0)))
-      (not_false _ (none_in (λ a. not (is_over c a) && stands_under (settled c s).nodes n.path a.adapter) (λ a. not (is_over c a) && stands_under s.nodes n.path a.adapter) let_.acts
+      (not_false _ (none_in (λ a. not (is_over c a) && stands_under (settled c s).nodes n.path a.adapter) (λ a. not (is_over c a) && stands_under s.nodes n.path a.adapter) let_.activations
       (λ a is both. let two = and_parts (not (is_over c a)) (stands_under s.nodes n.path a.adapter) both in
-      ap₂ (λ x y. x && y) two.0 (still_under n.path a.adapter two.1 (λ m at same. act_stays c run let_ let_sound a m is (not_true (is_over c a) two.0) at same))) (not_true _ clear.1))))) ∙ undone))
+      ap₂ (λ x y. x && y) two.0 (still_under n.path a.adapter two.1 (λ m at same. activation_stays c run let_ let_sound a m is (not_true (is_over c a) two.0) at same))) (not_true _ clear.1))))) ∙ undone))
     where
       or_false : (x y : Bool) → x ≡ false → (x || y) ≡ true → y ≡ true
       or_false true y no_ is = absurd (let e : true ≡ false = no_ in cc)

@@ -10,24 +10,24 @@ use Rattle.poa_base.specs.declared.Verdict.{Verdict}
 use Rattle.poa_base.specs.declared.Verdict.TheVariants.{Incarnate, Refuse}
 use Rattle.poa_base.specs.declared.Entry.{Entry}
 use Rattle.poa_base.specs.declared.Entry.TheVariants.{Admit}
-use Rattle.poa_verdict.specs.declared.Choice.TheVariants.{Go}
-use Rattle.poa_verdict.specs.declared.Facts.{Facts}
-use Rattle.poa_verdict.specs.declared.KeyFact.{KeyFact}
-use Rattle.poa_verdict.specs.declared.KeyFact.TheVariants.{Absent, Bad as BadKey, OtherRun, Transient, Persistent}
-use Rattle.poa_verdict.specs.declared.WalkFact.TheVariants.{Dying as MeetsDying}
-use Rattle.poa_verdict.specs.Table.{walk_rows, key_rows, first_row}
+use Rattle.poa_choose.specs.declared.Choice.TheVariants.{Go}
+use Rattle.poa_choose.specs.declared.Facts.{Facts}
+use Rattle.poa_choose.specs.declared.KeyFact.{KeyFact}
+use Rattle.poa_choose.specs.declared.KeyFact.TheVariants.{Absent, Bad as BadKey, OtherRun, Transient, Persistent}
+use Rattle.poa_choose.specs.declared.WalkFact.TheVariants.{Dying as MeetsDying}
+use Rattle.poa_choose.specs.Table.{walk_rows, key_rows, first_row}
 use Rattle.poa_tree.specs.declared.node.Node.{Node}
 use Rattle.poa_history.specs.declared.flight.Flight.{Flight}
-use Rattle.poa_history.specs.declared.act.Act.{Act}
-use Rattle.poa_history.specs.declared.act.Phase.{Phase}
-use Rattle.poa_history.specs.declared.act.Phase.TheVariants.{Begun, Complete, Void}
+use Rattle.poa_history.specs.declared.activation.Activation.{Activation}
+use Rattle.poa_history.specs.declared.activation.Phase.{Phase}
+use Rattle.poa_history.specs.declared.activation.Phase.TheVariants.{Begun, Complete, Void}
 use Rattle.poa_history.specs.Arrivals.{call_of}
 use Rattle.poa_tree.specs.Paths.{leads_to, is_root}
 use Rattle.poa_tree.specs.Nodes.{node_at}
 use Rattle.poa_tree.specs.Trees.{In}
 use Rattle.poa_tree.specs.declared.found.Found.TheVariants.{Missing, Dying, Live}
 use Rattle.poa_tree.specs.Walks.{walk, walk_from}
-use Rattle.poa_history.specs.Standings.{Standing, is_void, is_busy}
+use Rattle.poa_history.specs.Standings.{Standing, is_void, has_flights}
 use Rattle.poa_history.specs.Ends.{is_finished, is_over, is_done_with, is_gone}
 use Rattle.poa_history.specs.Keys.{key_in}
 use Rattle.poa_history.specs.Logs.{command_done}
@@ -48,7 +48,7 @@ use Rattle.poa_history.proofs.StepMoves.{chosen_go}
 use Rattle.poa_history.proofs.TurnTells.{admission_is}
 use Rattle.poa_history.proofs.FlightsFrom.{flew, begins, flight_from}
 use Rattle.poa_history.proofs.NodesFrom.{stood, new, node_before, count_from}
-use Rattle.poa_history.proofs.ActsFrom.{incarnating, activating, activating_id, referring, stood as act_stood, begun as act_begun, act_from}
+use Rattle.poa_history.proofs.ActivationsFrom.{incarnating, activating, activating_id, referring, stood as activation_stood, begun as activation_begun, activation_from}
 use Rattle.poa_history.proofs.CommandTells.{untaken_activate, untaken_activate_id}
 use Rattle.poa_history.proofs.CommandAnswers.{is_begin, by_choice, refused_none}
 use Rattle.poa_history.proofs.StagesFrom.{flight_says}
@@ -56,7 +56,7 @@ use Rattle.poa_history.proofs.GoneIs.{ends_where, stands_ungone, emptied_where, 
 use Rattle.poa_history.proofs.LegalSound.{legal_sound}
 
 -- what is over stays so
-over_later : (c : Config) (a b : Act) → IsLater c a b → is_over c a ≡ true → is_over c b ≡ true
+over_later : (c : Config) (a b : Activation) → IsLater c a b → is_over c a ≡ true → is_over c b ≡ true
 over_later c a b later over =
     elim (or_cases (is_void a) (is_finished c a) over) [
       | inl void ↦ or_first (is_void b) (is_finished c b) (ap (λ p. elim p [ Void ↦ true | Begun ↦ false | Complete s ↦ false ]) (later.void (void_phase a.phase void)))
@@ -124,10 +124,10 @@ module _ (c : Config) (run limit : ℕ) (past : List Entry) (e : Entry) (may : M
     no_live p n lives = (let told = live_tells s p n lives in true≢false (sym (all_dying n told.0) ∙ told.2))
 
     -- the root has ended after the entry too
-    root_ended : ((m : Node) → In m s.nodes → IsChildOf root m → ⊥) → ((f : Flight) → In f s.flights → f.adapter ≡ root.number → ⊥) → ((a : Act) → In a s.acts → a.adapter ≡ root.number → is_over c a ≡ true) → (n : Node) → In n t.nodes → n.number ≡ root.number → IsEnded c t n
+    root_ended : ((m : Node) → In m s.nodes → IsChildOf root m → ⊥) → ((f : Flight) → In f s.flights → f.adapter ≡ root.number → ⊥) → ((a : Activation) → In a s.activations → a.adapter ≡ root.number → is_over c a ≡ true) → (n : Node) → In n t.nodes → n.number ≡ root.number → IsEnded c t n
     root_ended childless idle over n there at = record {
       dying = dying_now;
-      idle = false_from_ne_true (is_busy t.flights n.number) (λ busy. let f = any_in (λ g. g.adapter == n.number) t.flights busy in no_flight f.0 f.1 (eqb-true f.0.adapter n.number f.2 ∙ at));
+      idle = false_from_ne_true (has_flights t.flights n.number) (λ busy. let f = any_in (λ g. g.adapter == n.number) t.flights busy in no_flight f.0 f.1 (eqb-true f.0.adapter n.number f.2 ∙ at));
       over = λ b is same. no_life b is (same ∙ at);
       children = λ m is child. absurd (no_child m is child);
     }
@@ -156,11 +156,11 @@ module _ (c : Config) (run limit : ℕ) (past : List Entry) (e : Entry) (may : M
               | begins w r v key is' has for_ ↦ no_begin w r v key is' has (flight_says s r key v f for_).1
             ]
 
-        no_life : (b : Act) → In b t.acts → b.adapter ≡ root.number → is_over c b ≡ true
+        no_life : (b : Activation) → In b t.activations → b.adapter ≡ root.number → is_over c b ≡ true
         no_life b is same =
-            elim (act_from c run past e b is) [
-              | act_stood a was step ↦ over_later c a b step.later (over a was (sym step.later.adapter ∙ same))
-              | act_begun fresh ↦ absurd (elim fresh.how [
+            elim (activation_from c run past e b is) [
+              | activation_stood a was step ↦ over_later c a b step.later (over a was (sym step.later.adapter ∙ same))
+              | activation_begun fresh ↦ absurd (elim fresh.how [
                 | incarnating w r n' key is' has adapter path oid phase ↦ no_begin w r (Incarnate n') key is' has refl
                 | activating p servant done adapter path oid phase ↦ (let free = untaken_activate c run past limit e p servant may done in no_live p free.node free.lives)
                 | activating_id p oid' servant done adapter path oid phase ↦ (let free = untaken_activate_id c run past limit e p oid' servant may done in no_live p free.node free.lives)
@@ -185,7 +185,7 @@ module _ (c : Config) (run limit : ℕ) (past : List Entry) (e : Entry) (may : M
       counted : nat_lt k t.count ≡ true
       counted = lt-ltb _ _ (let more = count_from c run past e s in omega (arith, low, more))
 
-  gone_step : ((n : Node) → In n s.nodes → is_root n.path ≡ false → is_gone c s n.number ≡ false) → ((k : ℕ) → is_gone c s k ≡ true → ((f : Flight) → In f s.flights → f.adapter ≡ k → ⊥) × ((a : Act) → In a s.acts → a.adapter ≡ k → is_over c a ≡ true)) → (k : ℕ) → is_gone c s k ≡ true → is_gone c t k ≡ true
+  gone_step : ((n : Node) → In n s.nodes → is_root n.path ≡ false → is_gone c s n.number ≡ false) → ((k : ℕ) → is_gone c s k ≡ true → ((f : Flight) → In f s.flights → f.adapter ≡ k → ⊥) × ((a : Activation) → In a s.activations → a.adapter ≡ k → is_over c a ≡ true)) → (k : ℕ) → is_gone c s k ≡ true → is_gone c t k ≡ true
   gone_step ungone empty k gone =
       elim (find (λ n. n.number == k) s.nodes) as (λ o. find (λ n. n.number == k) s.nodes ≡ o → is_gone c t k ≡ true) [
         | None ↦ λ none. gone_by_number k low (λ n there at. absurd (elim (node_before c run past e n there) [

@@ -21,7 +21,7 @@ use Rattle.poa_base.specs.declared.Incarnation.{Incarnation}
 use Rattle.poa_base.specs.declared.Incarnation.TheVariants.{Fresh, Named, Double, Forward as ForwardTo, Raise}
 use Rattle.poa_history.specs.declared.flight.Flight.{Flight}
 use Rattle.poa_base.specs.declared.Sid.TheVariants.{Named as NamedServant}
-use Rattle.poa_history.specs.declared.act.Phase.TheVariants.{Complete}
+use Rattle.poa_history.specs.declared.activation.Phase.TheVariants.{Complete}
 use Rattle.poa_history.specs.declared.stage.Stage.{Stage}
 use Rattle.poa_history.specs.declared.stage.Stage.TheVariants.{Free, Trying, Incarnating, Serving, Ran, Removing}
 use Rattle.poa_history.specs.Searches.{count_below}
@@ -33,9 +33,9 @@ use Rattle.poa_tree.specs.Paths.{is_root}
 use Rattle.poa_tree.specs.Trees.{In}
 use Rattle.poa_history.specs.Keys.{key_in}
 use Rattle.poa_history.specs.Logs.{is_accepted, command_in, command_done}
-use Rattle.poa_history.specs.Opening.{with_node, with_act, with_made, made_id, number_at, with_boots, with_object, with_objects, root_alone, opening}
+use Rattle.poa_history.specs.Opening.{with_node, with_activation, with_made, made_id, number_at, with_boots, with_object, with_objects, root_alone, opening}
 use Rattle.poa_history.specs.Commands.{is_implicit, live_at}
-use Rattle.poa_history.specs.Changes.{standing, changed, with_admitted, with_made_act, with_manager_off, with_reference, with_command, child_tried, with_child, without_flight, with_tried, with_incarnated, with_etherealized}
+use Rattle.poa_history.specs.Changes.{standing, changed, with_admitted, with_made_activation, with_manager_off, with_reference, with_command, child_tried, with_child, without_flight, with_tried, with_incarnated, with_etherealized}
 use Rattle.poa_history.specs.Turns.{flight_of, node_of, attempt_at, attempt}
 use Rattle.poa_history.specs.Legal.{MayFollow, IsLegal, MayArrive, is_shutdown, had_shutdown}
 use Rattle.poa_history.specs.Bounds.{IsWithinLimits, HasFewIds}
@@ -263,9 +263,9 @@ module _ (c : Config) (run : ℕ) where
 
   made_reference : (p : List (List ℕ)) (servant : List ℕ) (s : Standing) → (with_reference c run p servant s).made ≤ s.made + 1
   made_reference p servant s =
-      elim (live_at s p) as (λ o. made_in (elim o [ Some n ↦ (elim (servant_number c servant) [ Some k ↦ (if is_implicit c s n k then with_made_act c run p servant s else s) | None ↦ s ]) | None ↦ s ]) ≤ s.made + 1) [
-        | Some n ↦ elim (servant_number c servant) as (λ o. made_in (elim o [ Some k ↦ (if is_implicit c s n k then with_made_act c run p servant s else s) | None ↦ s ]) ≤ s.made + 1) [
-          | Some k ↦ cond_both (is_implicit c s n k) (with_made_act c run p servant s) s (λ t. t.made ≤ s.made + 1) (λ _. omega arith) (λ _. no_more s.made)
+      elim (live_at s p) as (λ o. made_in (elim o [ Some n ↦ (elim (servant_number c servant) [ Some k ↦ (if is_implicit c s n k then with_made_activation c run p servant s else s) | None ↦ s ]) | None ↦ s ]) ≤ s.made + 1) [
+        | Some n ↦ elim (servant_number c servant) as (λ o. made_in (elim o [ Some k ↦ (if is_implicit c s n k then with_made_activation c run p servant s else s) | None ↦ s ]) ≤ s.made + 1) [
+          | Some k ↦ cond_both (is_implicit c s n k) (with_made_activation c run p servant s) s (λ t. t.made ≤ s.made + 1) (λ _. omega arith) (λ _. no_more s.made)
           | None ↦ no_more s.made
         ]
         | None ↦ no_more s.made
@@ -281,7 +281,7 @@ module _ (c : Config) (run : ℕ) where
   made_command (Some (Manager name (DeactivateAll false wait))) s = no_more s.made
   made_command (Some (Create p)) s = no_more s.made
   made_command (Some (Destroy p etherealize wait)) s = no_more s.made
-  made_command (Some (Activate p servant)) s = (let e : (with_made_act c run p servant s).made ≡ suc s.made = refl in omega (arith, e))
+  made_command (Some (Activate p servant)) s = (let e : (with_made_activation c run p servant s).made ≡ suc s.made = refl in omega (arith, e))
   made_command (Some (ActivateId p oid servant)) s = no_more s.made
   made_command (Some (Deactivate p oid)) s = no_more s.made
   made_command (Some (Reference p servant)) s = made_reference p servant s
@@ -368,7 +368,7 @@ module _ (c : Config) (run : ℕ) where
 
   made_object : (o : ObjectConf) (s : Standing) → (with_object run o s).made ≤ s.made + 1
   made_object o s =
-      elim o.oid as (λ oid. made_in (elim oid [ Some i ↦ with_act (number_at s o.adapter) o.adapter i (Complete (NamedServant o.servant)) s | None ↦ with_act (number_at s o.adapter) o.adapter (made_id run (suc s.made)) (Complete (NamedServant o.servant)) (with_made s) ]) ≤ s.made + 1)
+      elim o.oid as (λ oid. made_in (elim oid [ Some i ↦ with_activation (number_at s o.adapter) o.adapter i (Complete (NamedServant o.servant)) s | None ↦ with_activation (number_at s o.adapter) o.adapter (made_id run (suc s.made)) (Complete (NamedServant o.servant)) (with_made s) ]) ≤ s.made + 1)
       [ Some i ↦ no_more s.made | None ↦ omega arith ]
 
   made_objects : (os : List ObjectConf) (s : Standing) → (with_objects run os s).made ≤ s.made + length os
@@ -390,7 +390,7 @@ module _ (c : Config) (run limit : ℕ) where
 
       flights_object : (o : ObjectConf) (s : Standing) → (with_object run o s).flights ≡ s.flights
       flights_object o s =
-          elim o.oid as (λ oid. flights_in (elim oid [ Some i ↦ with_act (number_at s o.adapter) o.adapter i (Complete (NamedServant o.servant)) s | None ↦ with_act (number_at s o.adapter) o.adapter (made_id run (suc s.made)) (Complete (NamedServant o.servant)) (with_made s) ]) ≡ s.flights)
+          elim o.oid as (λ oid. flights_in (elim oid [ Some i ↦ with_activation (number_at s o.adapter) o.adapter i (Complete (NamedServant o.servant)) s | None ↦ with_activation (number_at s o.adapter) o.adapter (made_id run (suc s.made)) (Complete (NamedServant o.servant)) (with_made s) ]) ≡ s.flights)
           [ Some i ↦ refl | None ↦ refl ]
 
       flights_objects : (os : List ObjectConf) (s : Standing) → (with_objects run os s).flights ≡ s.flights

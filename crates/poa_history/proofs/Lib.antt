@@ -9,7 +9,7 @@ pub mod TrialMoves
 pub mod IdsMade
 pub mod StepMoves
 pub mod Untouched
-pub mod ActsLater
+pub mod ActivationsLater
 pub mod KeysSpelled
 pub mod TurnTells
 pub mod FlightsFrom
@@ -20,7 +20,7 @@ pub mod DyingIs
 pub mod GoneIs
 pub mod TableRuns
 pub mod Served
-pub mod ActsFrom
+pub mod ActivationsFrom
 pub mod CommandTells
 pub mod AloneKept
 pub mod CommandAnswers

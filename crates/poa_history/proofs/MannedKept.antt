@@ -13,9 +13,9 @@ use Rattle.poa_base.specs.declared.Entry.TheVariants.{Entered, Arrive, Filled, L
 use Rattle.poa_base.specs.declared.Incarnation.{Incarnation}
 use Rattle.poa_base.specs.declared.Incarnation.TheVariants.{Fresh, Named, Double, Forward as ForwardTo, Raise}
 use Rattle.poa_history.specs.declared.flight.Flight.{Flight}
-use Rattle.poa_history.specs.declared.act.Act.{Act}
-use Rattle.poa_history.specs.declared.act.Phase.{Phase}
-use Rattle.poa_history.specs.declared.act.Phase.TheVariants.{Begun, Complete, Void}
+use Rattle.poa_history.specs.declared.activation.Activation.{Activation}
+use Rattle.poa_history.specs.declared.activation.Phase.{Phase}
+use Rattle.poa_history.specs.declared.activation.Phase.TheVariants.{Begun, Complete, Void}
 use Rattle.poa_history.specs.declared.stage.Stage.{Stage}
 use Rattle.poa_history.specs.declared.stage.Stage.TheVariants.{Free, Trying, Incarnating, Serving, Ran, Removing}
 use Rattle.poa_history.specs.Templates.{has_activator}
@@ -37,20 +37,20 @@ use Rattle.poa_history.specs.Later.{IsLater}
 use Rattle.poa_history.specs.InFlight.{named, IsFlying, IsRunning, Holds, IsManned}
 use Rattle.poa_tree.proofs.Members.{in_back, image_in}
 use Rattle.poa_history.proofs.SettledKept.{any_by, not_true}
-use Rattle.poa_history.proofs.ActsLater.{step_later, later_let_out}
+use Rattle.poa_history.proofs.ActivationsLater.{step_later, later_let_out}
 use Rattle.poa_history.proofs.TurnTells.{IsIncarnation, admission_is, incarnation_is, run_is, takeout_is}
 use Rattle.poa_history.proofs.Served.{served_by, active, preset, located, incarnated as begun_served}
 use Rattle.poa_history.proofs.FlightsFrom.{flight_for, flew, begins, flight_from}
-use Rattle.poa_history.proofs.ActsFrom.{phase_by, TakesOut, stood as act_stood, begun as act_begun, act_from}
+use Rattle.poa_history.proofs.ActivationsFrom.{phase_by, TakesOut, stood as activation_stood, begun as activation_begun, activation_from}
 use Rattle.poa_history.proofs.GoneIs.{any_in}
 use Rattle.poa_history.proofs.IdsFew.{messages}
 use Rattle.poa_history.proofs.AloneKept.{brought_named, all_open}
 use Rattle.poa_history.proofs.CommandAnswers.{is_begin, begin_keyed}
 use Rattle.poa_history.proofs.LegalSound.{legal_sound}
-use Rattle.poa_history.proofs.StagesFrom.{maker, stage_other, own, held_admitted, begun_flight, flight_says, brings_flights, brings_acts, arrival_before, removal_before, begun_before, flight_kept, arrival_after, admitted_other}
+use Rattle.poa_history.proofs.StagesFrom.{maker, stage_other, own, held_admitted, begun_flight, flight_says, brings_flights, brings_activations, arrival_before, removal_before, begun_before, flight_kept, arrival_after, admitted_other}
 
 -- what runs goes on, where its arrival stays admitted and in flight, and activations go on
-running_kept : (c : Config) (h g : List Entry) (s t : Standing) (r : ℕ) → admitted g r ≡ admitted h r → ((activation : Option ℕ) → IsFlying s r activation → IsFlying t r activation) → ((a : Act) → In a s.acts → (b : Act) × In b t.acts × IsLater c a b) → IsRunning h s r → IsRunning g t r
+running_kept : (c : Config) (h g : List Entry) (s t : Standing) (r : ℕ) → admitted g r ≡ admitted h r → ((activation : Option ℕ) → IsFlying s r activation → IsFlying t r activation) → ((a : Activation) → In a s.activations → (b : Activation) × In b t.activations × IsLater c a b) → IsRunning h s r → IsRunning g t r
 running_kept c h g s t r same flies later it = record {
   verdict = it.verdict;
   by = same ∙ it.by;
@@ -75,15 +75,15 @@ module _ (c : Config) (run limit : ℕ) (past : List Entry) (e : Entry) (may : M
   as_this : (x : Entry) → e ≡ x → May x
   as_this x is = subst (λ y. May y) is may
 
-  later : (a : Act) → In a s.acts → (b : Act) × In b t.acts × IsLater c a b
+  later : (a : Activation) → In a s.activations → (b : Activation) × In b t.activations × IsLater c a b
   later = step_later c run past e
 
   -- what an activation is when what has ended went
-  settle_in : (a : Act) → In a s1.acts → (b : Act) × In b t.acts × (b.number ≡ a.number) × (b.adapter ≡ a.adapter) × (b.phase ≡ a.phase) × (b.quiet ≡ a.quiet) × (b.etherealized ≡ a.etherealized) × (a.out ≡ true → b.out ≡ true)
+  settle_in : (a : Activation) → In a s1.activations → (b : Activation) × In b t.activations × (b.number ≡ a.number) × (b.adapter ≡ a.adapter) × (b.phase ≡ a.phase) × (b.quiet ≡ a.quiet) × (b.etherealized ≡ a.etherealized) × (a.out ≡ true → b.out ≡ true)
   settle_in a there =
-      (let_out c s1 a, image_in (let_out c s1) a s1.acts there, kept (λ x. x.number) refl, kept (λ x. x.adapter) refl, kept (λ x. x.phase) refl, kept (λ x. x.quiet) refl, kept (λ x. x.etherealized) refl, (later_let_out c s1 a).out)
+      (let_out c s1 a, image_in (let_out c s1) a s1.activations there, kept (λ x. x.number) refl, kept (λ x. x.adapter) refl, kept (λ x. x.phase) refl, kept (λ x. x.quiet) refl, kept (λ x. x.etherealized) refl, (later_let_out c s1 a).out)
     where
-      kept : {B : Type 0} (f : Act → B) → f (record a { out = true }) ≡ f a → f (let_out c s1 a) ≡ f a
+      kept : {B : Type 0} (f : Activation → B) → f (record a { out = true }) ≡ f a → f (let_out c s1 a) ≡ f a
       kept f same = cond_both (is_left c s1 a) (record a { out = true }) a (λ b. f b ≡ f a) (λ _. same) (λ _. refl)
 
   at_alone : (w v r : ℕ) → arrival_in (stage past w) ≡ Some r → arrival_in (stage past v) ≡ Some r → v ≡ w
@@ -110,15 +110,15 @@ module _ (c : Config) (run limit : ℕ) (past : List Entry) (e : Entry) (may : M
     other_holds (Trying r) is holds = (same_admitted r (ap arrival_in is) ∙ holds.0, still_flying r (ap arrival_in is) None holds.1)
     other_holds (Incarnating r n) is holds = (same_admitted r (ap arrival_in is) ∙ holds.0, still_flying r (ap arrival_in is) (Some n) holds.1, still_begun holds.2)
       where
-        still_begun : ((a : Act) × In a s.acts × (a.number ≡ n) × (a.phase ≡ Begun)) → (b : Act) × In b t.acts × (b.number ≡ n) × (b.phase ≡ Begun)
+        still_begun : ((a : Activation) × In a s.activations × (a.number ≡ n) × (a.phase ≡ Begun)) → (b : Activation) × In b t.activations × (b.number ≡ n) × (b.phase ≡ Begun)
         still_begun (a, there, at_n, begins_) =
             let (b, there', goes) = later a there in (
               b,
               there',
               goes.number ∙ at_n,
-              elim (act_from c run past e b there') [
-                | act_begun fresh ↦ absurd (let low = sound.counted a there in let f : b.number ≡ a.number = goes.number in let g : b.number ≡ length s.acts = fresh.number in omega (arith, low, f, g))
-                | act_stood a' was step ↦ (let same : a' ≡ a = sound.act_alone a' a was there (sym step.later.number ∙ goes.number) in
+              elim (activation_from c run past e b there') [
+                | activation_begun fresh ↦ absurd (let low = sound.counted a there in let f : b.number ≡ a.number = goes.number in let g : b.number ≡ length s.activations = fresh.number in omega (arith, low, f, g))
+                | activation_stood a' was step ↦ (let same : a' ≡ a = sound.activation_alone a' a was there (sym step.later.number ∙ goes.number) in
                     elim step.came [
                       | inl kept ↦ kept ∙ (ap (λ x. x.phase) same ∙ begins_)
                       | inr came ↦ absurd (other (ap maker came.1.same ∙ ap (λ x. Some x) (held_.begun_alone came.1.worker w came.1.arrival r n (came.1.begun ∙ ap (λ m. Incarnating came.1.arrival m) (ap (λ x. x.number) same ∙ at_n)) is)))
@@ -129,12 +129,12 @@ module _ (c : Config) (run limit : ℕ) (past : List Entry) (e : Entry) (may : M
     other_holds (Ran r) is holds = still_running r (ap arrival_in is) holds
     other_holds (Removing n) is holds = still_removed holds
       where
-        still_removed : ((a : Act) × In a s.acts × (a.number ≡ n) × (a.out ≡ true) × (a.quiet ≡ false) × (a.etherealized ≡ false)) → (b : Act) × In b t.acts × (b.number ≡ n) × (b.out ≡ true) × (b.quiet ≡ false) × (b.etherealized ≡ false)
+        still_removed : ((a : Activation) × In a s.activations × (a.number ≡ n) × (a.out ≡ true) × (a.quiet ≡ false) × (a.etherealized ≡ false)) → (b : Activation) × In b t.activations × (b.number ≡ n) × (b.out ≡ true) × (b.quiet ≡ false) × (b.etherealized ≡ false)
         still_removed (a, there, at_n, out, loud, untold) =
             let (b, there', goes) = later a there in
-            elim (act_from c run past e b there') [
-              | act_begun fresh ↦ absurd (let low = sound.counted a there in let f : b.number ≡ a.number = goes.number in let g : b.number ≡ length s.acts = fresh.number in omega (arith, low, f, g))
-              | act_stood a' was step ↦ (let same : a' ≡ a = sound.act_alone a' a was there (sym step.later.number ∙ goes.number) in (
+            elim (activation_from c run past e b there') [
+              | activation_begun fresh ↦ absurd (let low = sound.counted a there in let f : b.number ≡ a.number = goes.number in let g : b.number ≡ length s.activations = fresh.number in omega (arith, low, f, g))
+              | activation_stood a' was step ↦ (let same : a' ≡ a = sound.activation_alone a' a was there (sym step.later.number ∙ goes.number) in (
                 b,
                 there',
                 goes.number ∙ at_n,
@@ -165,7 +165,7 @@ module _ (c : Config) (run limit : ℕ) (past : List Entry) (e : Entry) (may : M
     keyed : (r : ℕ) (u : Verdict) → e ≡ Admit w r u → is_begin u ≡ true → (key : Key) × (key_in (call_of past r) ≡ Some key)
     keyed r u is begins_ = begin_keyed c run past w r u begins_ (admission_is c run past w r u (as_this (Admit w r u) is)).told
 
-    complete_phase : (a : Act) → is_active a ≡ true → (v : Sid) × (a.phase ≡ Complete v)
+    complete_phase : (a : Activation) → is_active a ≡ true → (v : Sid) × (a.phase ≡ Complete v)
     complete_phase a is = by_phase a.phase refl (and_parts (is_complete a) (not a.ending) is).0
       where
         by_phase : (p : Phase) → a.phase ≡ p → (elim p [ Complete v ↦ true | Begun ↦ false | Void ↦ false ]) ≡ true → (v : Sid) × (a.phase ≡ Complete v)
@@ -188,7 +188,7 @@ module _ (c : Config) (run limit : ℕ) (past : List Entry) (e : Entry) (may : M
                 let (b, there', goes) = later a there in let phase = complete_phase a is_active' in (b, there', goes.number ∙ (g ∙ nm'), (phase.0, goes.served phase.0 phase.1)))
             | preset name same ↦ absurd (let f : Preset name ≡ Serve n = same in cc)
             | located name same ↦ absurd (let f : Locator name ≡ Serve n = same in cc)
-            | begun_served activator idle same ↦ absurd (let f : Incarnate (length s.acts) ≡ Serve n = same in cc)
+            | begun_served activator idle same ↦ absurd (let f : Incarnate (length s.activations) ≡ Serve n = same in cc)
           ];
         }
 
@@ -202,7 +202,7 @@ module _ (c : Config) (run limit : ℕ) (past : List Entry) (e : Entry) (may : M
         let key = keyed r (Locator name) is' refl in
         record { verdict = Locator name; by = admitted_now r (Locator name) is'; run = refl; flying = (record { arrival = r; adapter = adapter_met (walk s.nodes key.0.path); activation = None; child = None }, begun_flying r (Locator name) key.0 _ is' refl key.1 refl, refl, refl); served = λ m names. absurd (let f : None ≡ Some m = names in cc) }
 
-    next_begun : (r n : ℕ) → e ≡ Admit w r (Incarnate n) → n ≡ length s.acts
+    next_begun : (r n : ℕ) → e ≡ Admit w r (Incarnate n) → n ≡ length s.activations
     next_begun r n is =
         let key = keyed r (Incarnate n) is refl in
         let told = served_by c run past sound w r (Incarnate n) key.0 refl (admission_is c run past w r (Incarnate n) (as_this (Admit w r (Incarnate n)) is)).told key.1 in
@@ -210,14 +210,14 @@ module _ (c : Config) (run limit : ℕ) (past : List Entry) (e : Entry) (may : M
           | active a there at of_id is_active' same ↦ absurd (let f : Serve a.number ≡ Incarnate n = same in cc)
           | preset name same ↦ absurd (let f : Preset name ≡ Incarnate n = same in cc)
           | located name same ↦ absurd (let f : Locator name ≡ Incarnate n = same in cc)
-          | begun_served activator idle same ↦ (let f : Incarnate (length s.acts) ≡ Incarnate n = same in cc)
+          | begun_served activator idle same ↦ (let f : Incarnate (length s.activations) ≡ Incarnate n = same in cc)
         ]
 
     -- the activation that the Admit begins
-    begun_act : (r n : ℕ) (key : Key) → e ≡ Admit w r (Incarnate n) → key_in (call_of past r) ≡ Some key → (b : Act) × In b t.acts × (b.number ≡ length s.acts) × (b.phase ≡ Begun) × (b.adapter ≡ adapter_met (walk s.nodes key.path))
-    begun_act r n key is has =
-        let a : Act = record { number = length s.acts; adapter = adapter_met (walk s.nodes key.path); path = key.path; oid = key.oid; phase = Begun; ending = false; quiet = false; out = false; cleanup = false; remaining = false; etherealized = false } in
-        let there : In a s1.acts = subst (λ y. In a (changed c run past y s).acts) (sym is) (subst (λ k. In a (with_admitted r k (Incarnate n) s).acts) (sym has) (in_back a s.acts)) in
+    begun_activation : (r n : ℕ) (key : Key) → e ≡ Admit w r (Incarnate n) → key_in (call_of past r) ≡ Some key → (b : Activation) × In b t.activations × (b.number ≡ length s.activations) × (b.phase ≡ Begun) × (b.adapter ≡ adapter_met (walk s.nodes key.path))
+    begun_activation r n key is has =
+        let a : Activation = record { number = length s.activations; adapter = adapter_met (walk s.nodes key.path); path = key.path; oid = key.oid; phase = Begun; ending = false; quiet = false; out = false; cleanup = false; remaining = false; etherealized = false } in
+        let there : In a s1.activations = subst (λ y. In a (changed c run past y s).activations) (sym is) (subst (λ k. In a (with_admitted r k (Incarnate n) s).activations) (sym has) (in_back a s.activations)) in
         let b = settle_in a there in
         (b.0, b.1, b.2, b.4, b.3)
 
@@ -225,9 +225,9 @@ module _ (c : Config) (run limit : ℕ) (past : List Entry) (e : Entry) (may : M
     holds_incarnate r n is =
         let key = keyed r (Incarnate n) is refl in
         let next = next_begun r n is in
-        let b = begun_act r n key.0 is key.1 in (
+        let b = begun_activation r n key.0 is key.1 in (
           admitted_now r (Incarnate n) is,
-          (record { arrival = r; adapter = adapter_met (walk s.nodes key.0.path); activation = Some (length s.acts); child = None }, begun_flying r (Incarnate n) key.0 _ is refl key.1 refl, refl, ap (λ x. Some x) (sym next)),
+          (record { arrival = r; adapter = adapter_met (walk s.nodes key.0.path); activation = Some (length s.activations); child = None }, begun_flying r (Incarnate n) key.0 _ is refl key.1 refl, refl, ap (λ x. Some x) (sym next)),
           (b.0, b.1, b.2 ∙ sym next, b.3),
         )
 
@@ -269,10 +269,10 @@ module _ (c : Config) (run limit : ℕ) (past : List Entry) (e : Entry) (may : M
         running : (it : IsIncarnation c run past w a) → Holds past s (Incarnating it.arrival it.number) → brings a ≡ true → IsRunning (e ∷ past) t it.arrival
         running it (by, (f, flying, at, of_it), (x, there, numbered, begins_)) yes_ =
             let phase = comes_complete a it yes_ in
-            let y : Act = at_number it.number (come_to (phase_by c it.number a)) x in
-            let acts : s1.acts ≡ map (at_number it.number (come_to (phase_by c it.number a))) s.acts =
-            ap (λ z. (changed c run past z s).acts) is ∙ (ap (λ b. (with_incarnated c b a s).acts) it.begun ∙ brings_acts c s it.arrival it.number a yes_) in
-            let in_y : In y s1.acts = subst (λ as'. In y as') (sym acts) (image_in (at_number it.number (come_to (phase_by c it.number a))) x s.acts there) in
+            let y : Activation = at_number it.number (come_to (phase_by c it.number a)) x in
+            let activations : s1.activations ≡ map (at_number it.number (come_to (phase_by c it.number a))) s.activations =
+            ap (λ z. (changed c run past z s).activations) is ∙ (ap (λ b. (with_incarnated c b a s).activations) it.begun ∙ brings_activations c s it.arrival it.number a yes_) in
+            let in_y : In y s1.activations = subst (λ as'. In y as') (sym activations) (image_in (at_number it.number (come_to (phase_by c it.number a))) x s.activations there) in
             let y_is : y ≡ record x { phase = phase_by c it.number a } =
             ap (λ b. if b then come_to (phase_by c it.number a) x else x) (eq-eqb x.number it.number numbered)
             ∙ ap (λ p. if (elim p as (λ _. Bool) [ Begun ↦ true | Complete u ↦ false | Void ↦ false ]) then record x { phase = phase_by c it.number a } else x) begins_ in
@@ -297,11 +297,11 @@ module _ (c : Config) (run limit : ℕ) (past : List Entry) (e : Entry) (may : M
     holds_takeout : (n : ℕ) → e ≡ TakeOut w n true → Holds (e ∷ past) t (Removing n)
     holds_takeout n is =
         let it = takeout_is c run past w n true (as_this (TakeOut w n true) is) in
-        let due = and_parts (is_complete it.it && (is_ending it.it && (has_activator c it.it.path && not it.it.out))) (not (is_used s.flights it.it.number) && not (is_changing c s.acts it.it.adapter)) it.due in
+        let due = and_parts (is_complete it.it && (is_ending it.it && (has_activator c it.it.path && not it.it.out))) (not (is_used s.flights it.it.number) && not (is_changing c s.activations it.it.adapter)) it.due in
         let in_ : it.it.out ≡ false = not_true it.it.out (and_parts (has_activator c it.it.path) (not it.it.out) (and_parts (is_ending it.it) (has_activator c it.it.path && not it.it.out) (and_parts (is_complete it.it) (is_ending it.it && (has_activator c it.it.path && not it.it.out)) due.0).1).1).1 in
-        let y : Act = at_number n (λ a. record a { out = true; remaining = is_elsewhere s.acts a }) it.it in
-        let in_y : In y s1.acts = subst (λ z. In y (changed c run past z s).acts) (sym is) (image_in (at_number n (λ a. record a { out = true; remaining = is_elsewhere s.acts a })) it.it s.acts it.there) in
-        let y_is : y ≡ record it.it { out = true; remaining = is_elsewhere s.acts it.it } = ap (λ b. if b then record it.it { out = true; remaining = is_elsewhere s.acts it.it } else it.it) (eq-eqb it.it.number n it.numbered) in
+        let y : Activation = at_number n (λ a. record a { out = true; remaining = is_elsewhere s.activations a }) it.it in
+        let in_y : In y s1.activations = subst (λ z. In y (changed c run past z s).activations) (sym is) (image_in (at_number n (λ a. record a { out = true; remaining = is_elsewhere s.activations a })) it.it s.activations it.there) in
+        let y_is : y ≡ record it.it { out = true; remaining = is_elsewhere s.activations it.it } = ap (λ b. if b then record it.it { out = true; remaining = is_elsewhere s.activations it.it } else it.it) (eq-eqb it.it.number n it.numbered) in
         let b = settle_in y in_y in (
           b.0,
           b.1,
@@ -377,15 +377,15 @@ module _ (c : Config) (run limit : ℕ) (past : List Entry) (e : Entry) (may : M
       ]
 
   -- what is taken out was in the map
-  taken_in : (w n : ℕ) (etherealize : Bool) → e ≡ TakeOut w n etherealize → (a : Act) → In a s.acts → a.number ≡ n → (a.out ≡ false) × (a.ending ≡ true) × (is_used s.flights n ≡ false)
+  taken_in : (w n : ℕ) (etherealize : Bool) → e ≡ TakeOut w n etherealize → (a : Activation) → In a s.activations → a.number ≡ n → (a.out ≡ false) × (a.ending ≡ true) × (is_used s.flights n ≡ false)
   taken_in w n etherealize is a there at =
       let it = takeout_is c run past w n etherealize (as_this (TakeOut w n etherealize) is) in
-      let same : it.it ≡ a = sound.act_alone it.it a it.there there (it.numbered ∙ sym at) in
-      let due = and_parts (is_complete it.it && (is_ending it.it && (has_activator c it.it.path && not it.it.out))) (not (is_used s.flights it.it.number) && not (is_changing c s.acts it.it.adapter)) it.due in
+      let same : it.it ≡ a = sound.activation_alone it.it a it.there there (it.numbered ∙ sym at) in
+      let due = and_parts (is_complete it.it && (is_ending it.it && (has_activator c it.it.path && not it.it.out))) (not (is_used s.flights it.it.number) && not (is_changing c s.activations it.it.adapter)) it.due in
       let ends = and_parts (is_ending it.it) (has_activator c it.it.path && not it.it.out) (and_parts (is_complete it.it) (is_ending it.it && (has_activator c it.it.path && not it.it.out)) due.0).1 in (
         ap (λ x. x.out) (sym same) ∙ not_true it.it.out (and_parts (has_activator c it.it.path) (not it.it.out) ends.1).1,
         ap (λ x. x.ending) (sym same) ∙ (and_parts it.it.ending (not (is_void it.it)) ends.0).0,
-        ap (is_used s.flights) (sym it.numbered) ∙ not_true (is_used s.flights it.it.number) (and_parts (not (is_used s.flights it.it.number)) (not (is_changing c s.acts it.it.adapter)) due.1).0,
+        ap (is_used s.flights) (sym it.numbered) ∙ not_true (is_used s.flights it.it.number) (and_parts (not (is_used s.flights it.it.number)) (not (is_changing c s.activations it.it.adapter)) due.1).0,
       )
 
   removals_alone : (w v n : ℕ) → stage (e ∷ past) w ≡ Removing n → stage (e ∷ past) v ≡ Removing n → w ≡ v
@@ -459,16 +459,16 @@ module _ (c : Config) (run limit : ℕ) (past : List Entry) (e : Entry) (may : M
   used_by fs f n there at = any_by (λ g. elim g.activation [ Some m ↦ m == n | None ↦ false ]) f fs there (ap (λ o. elim o [ Some m ↦ m == n | None ↦ false ]) at ∙ eq-eqb n n refl)
 
   -- an activation in which something is in flight stays in the map
-  still_mapped : (f : Flight) (n : ℕ) (a : Act) → In f t.flights → f.activation ≡ Some n → In a s.acts → a.number ≡ n → a.out ≡ false → (TakesOut c run past s e n → ⊥) → (b : Act) × In b t.acts × (b.number ≡ n) × (b.adapter ≡ a.adapter) × (b.out ≡ false)
+  still_mapped : (f : Flight) (n : ℕ) (a : Activation) → In f t.flights → f.activation ≡ Some n → In a s.activations → a.number ≡ n → a.out ≡ false → (TakesOut c run past s e n → ⊥) → (b : Activation) × In b t.activations × (b.number ≡ n) × (b.adapter ≡ a.adapter) × (b.out ≡ false)
   still_mapped f n a flying of_it there at mapped untaken =
       let (b, there', goes) = later a there in (
         b,
         there',
         goes.number ∙ at,
         goes.adapter,
-        false_from_ne_true b.out (λ out. elim (act_from c run past e b there') [
-          | act_begun fresh ↦ true≢false (sym out ∙ fresh.out)
-          | act_stood a' was step ↦ (let same : a' ≡ a = sound.act_alone a' a was there (sym step.later.number ∙ goes.number) in
+        false_from_ne_true b.out (λ out. elim (activation_from c run past e b there') [
+          | activation_begun fresh ↦ true≢false (sym out ∙ fresh.out)
+          | activation_stood a' was step ↦ (let same : a' ≡ a = sound.activation_alone a' a was there (sym step.later.number ∙ goes.number) in
               elim (step.out_back out) [
                 | inl before ↦ true≢false (sym before ∙ (ap (λ x. x.out) same ∙ mapped))
                 | inr other ↦ elim other [
@@ -479,7 +479,7 @@ module _ (c : Config) (run limit : ℕ) (past : List Entry) (e : Entry) (may : M
         ]),
       )
 
-  activations_after : (f : Flight) (n : ℕ) → In f t.flights → f.activation ≡ Some n → (b : Act) × In b t.acts × (b.number ≡ n) × (b.adapter ≡ f.adapter) × (b.out ≡ false)
+  activations_after : (f : Flight) (n : ℕ) → In f t.flights → f.activation ≡ Some n → (b : Activation) × In b t.activations × (b.number ≡ n) × (b.adapter ≡ f.adapter) × (b.out ≡ false)
   activations_after f n flying of_it =
       elim (flight_from past s c run e f flying) [
         | flew was ↦ (let (a, there, at, adapter, mapped) = held_.activations f n was of_it in
@@ -488,7 +488,7 @@ module _ (c : Config) (run limit : ℕ) (past : List Entry) (e : Entry) (may : M
         | begins w r v key is has for_ ↦ by_verdict w r v key is has for_
       ]
     where
-      by_verdict : (w r : ℕ) (v : Verdict) (key : Key) → e ≡ Admit w r v → key_in (call_of past r) ≡ Some key → flight_for s r key v ≡ Some f → (b : Act) × In b t.acts × (b.number ≡ n) × (b.adapter ≡ f.adapter) × (b.out ≡ false)
+      by_verdict : (w r : ℕ) (v : Verdict) (key : Key) → e ≡ Admit w r v → key_in (call_of past r) ≡ Some key → flight_for s r key v ≡ Some f → (b : Activation) × In b t.activations × (b.number ≡ n) × (b.adapter ≡ f.adapter) × (b.out ≡ false)
       by_verdict w r (Serve m) key is has for_ =
           (let told = served_by c run past sound w r (Serve m) key refl (admission_is c run past w r (Serve m) (as_this (Admit w r (Serve m)) is)).told has in
           let mn : Some m ≡ Some n = ap (λ o. elim o [ Some g ↦ g.activation | None ↦ None ]) for_ ∙ of_it in
@@ -500,20 +500,20 @@ module _ (c : Config) (run limit : ℕ) (past : List Entry) (e : Entry) (may : M
                 (b.0, b.1, b.2, b.3 ∙ (at ∙ met), b.4))
             | preset name same ↦ absurd (let g : Preset name ≡ Serve m = same in cc)
             | located name same ↦ absurd (let g : Locator name ≡ Serve m = same in cc)
-            | begun_served activator idle same ↦ absurd (let g : Incarnate (length s.acts) ≡ Serve m = same in cc)
+            | begun_served activator idle same ↦ absurd (let g : Incarnate (length s.activations) ≡ Serve m = same in cc)
           ])
       by_verdict w r (Incarnate m) key is has for_ =
-          (let b = begun_act w r m key is has in
-          let ln : Some (length s.acts) ≡ Some n = ap (λ o. elim o [ Some g ↦ g.activation | None ↦ None ]) for_ ∙ of_it in
-          let number : length s.acts ≡ n = cc in
+          (let b = begun_activation w r m key is has in
+          let ln : Some (length s.activations) ≡ Some n = ap (λ o. elim o [ Some g ↦ g.activation | None ↦ None ]) for_ ∙ of_it in
+          let number : length s.activations ≡ n = cc in
           let met : adapter_met (walk s.nodes key.path) ≡ f.adapter = ap (λ o. elim o [ Some g ↦ g.adapter | None ↦ f.adapter ]) for_ in (
             b.0,
             b.1,
             b.2 ∙ number,
             b.4 ∙ met,
-            elim (act_from c run past e b.0 b.1) [
-              | act_begun fresh ↦ fresh.out
-              | act_stood a was step ↦ absurd (let low = sound.counted a was in let x : b.0.number ≡ a.number = step.later.number in let y : b.0.number ≡ length s.acts = b.2 in omega (arith, low, x, y))
+            elim (activation_from c run past e b.0 b.1) [
+              | activation_begun fresh ↦ fresh.out
+              | activation_stood a was step ↦ absurd (let low = sound.counted a was in let x : b.0.number ≡ a.number = step.later.number in let y : b.0.number ≡ length s.activations = b.2 in omega (arith, low, x, y))
             ],
           ))
       by_verdict w r (Preset m) key is has for_ = absurd (let g : None ≡ Some n = ap (λ o. elim o [ Some g ↦ g.activation | None ↦ None ]) for_ ∙ of_it in cc)
@@ -527,24 +527,24 @@ module _ (c : Config) (run limit : ℕ) (past : List Entry) (e : Entry) (may : M
       by_verdict w r (Answer x) key is has for_ = absurd (let g : None ≡ Some f = for_ in cc)
       by_verdict w r Wait key is has for_ = absurd (let g : None ≡ Some f = for_ in cc)
 
-  out_ending_after : (b : Act) → In b t.acts → b.out ≡ true → b.ending ≡ true
+  out_ending_after : (b : Activation) → In b t.activations → b.out ≡ true → b.ending ≡ true
   out_ending_after b there out =
-      elim (act_from c run past e b there) [
-        | act_begun fresh ↦ absurd (true≢false (sym out ∙ fresh.out))
-        | act_stood a was step ↦ elim (step.out_back out) [
+      elim (activation_from c run past e b there) [
+        | activation_begun fresh ↦ absurd (true≢false (sym out ∙ fresh.out))
+        | activation_stood a was step ↦ elim (step.out_back out) [
           | inl before ↦ step.later.ending (held_.out_ending a was before)
           | inr other ↦ elim other [ inl leaves ↦ leaves.1 | inr takes ↦ step.later.ending (taken_in takes.0 a.number takes.1 takes.2 a was refl).1 ]
         ]
       ]
 
-  told_out_after : (b : Act) → In b t.acts → b.etherealized ≡ true → b.out ≡ true
+  told_out_after : (b : Activation) → In b t.activations → b.etherealized ≡ true → b.out ≡ true
   told_out_after b there told =
-      elim (act_from c run past e b there) [
-        | act_begun fresh ↦ absurd (true≢false (sym told ∙ fresh.etherealized))
-        | act_stood a was step ↦ step.later.out (elim (step.told_back told) [
+      elim (activation_from c run past e b there) [
+        | activation_begun fresh ↦ absurd (true≢false (sym told ∙ fresh.etherealized))
+        | activation_stood a was step ↦ step.later.out (elim (step.told_back told) [
           | inl before ↦ held_.told_out a was before
           | inr tells ↦ (let holds : Holds past s (Removing a.number) = subst (λ x. Holds past s x) tells.4 (held_.stages tells.0) in
-              ap (λ x. x.out) (sound.act_alone a holds.0 was holds.1 (sym holds.2)) ∙ holds.3)
+              ap (λ x. x.out) (sound.activation_alone a holds.0 was holds.1 (sym holds.2)) ∙ holds.3)
         ])
       ]
 
@@ -584,12 +584,12 @@ module _ (c : Config) (run limit : ℕ) where
       manned_step c run limit past e legal.0 (legal_sound c run limit past given within legal.1) (legal_sound c run limit (e ∷ past) given within legal) alone (all_manned past given alone within legal.1)
 
 -- in what is out nothing is in flight
-pub out_unused : (c : Config) (run : ℕ) (h : List Entry) → IsManned c run h → IsSound c run (standing c run h) → (a : Act) → In a (standing c run h).acts → a.out ≡ true → is_used (standing c run h).flights a.number ≡ false
+pub out_unused : (c : Config) (run : ℕ) (h : List Entry) → IsManned c run h → IsSound c run (standing c run h) → (a : Activation) → In a (standing c run h).activations → a.out ≡ true → is_used (standing c run h).flights a.number ≡ false
 out_unused c run h held_ sound a there out =
     false_from_ne_true (is_used (standing c run h).flights a.number) (λ used.
     let f = any_in (λ g. elim g.activation [ Some m ↦ m == a.number | None ↦ false ]) (standing c run h).flights used in
     let b = held_.activations f.0 a.number f.1 (activation_is f.0.activation f.2) in
-    true≢false (sym out ∙ (ap (λ x. x.out) (sound.act_alone a b.0 there b.1 (sym b.2)) ∙ b.4)))
+    true≢false (sym out ∙ (ap (λ x. x.out) (sound.activation_alone a b.0 there b.1 (sym b.2)) ∙ b.4)))
   where
     activation_is : (o : Option ℕ) → (elim o [ Some m ↦ m == a.number | None ↦ false ]) ≡ true → o ≡ Some a.number
     activation_is (Some m) is = ap (λ x. Some x) (eqb-true m a.number is)

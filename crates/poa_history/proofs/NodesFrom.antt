@@ -29,7 +29,7 @@ use Rattle.poa_history.specs.Ends.{is_done_with, let_out}
 use Rattle.poa_history.specs.Keys.{key_in}
 use Rattle.poa_history.specs.Logs.{command_done}
 use Rattle.poa_history.specs.Commands.{is_implicit, live_at}
-use Rattle.poa_history.specs.Changes.{standing, changed, with_admitted, with_made_act, with_manager_off, with_reference, with_command, child_tried, with_child, without_flight, with_tried, with_incarnated, with_etherealized}
+use Rattle.poa_history.specs.Changes.{standing, changed, with_admitted, with_made_activation, with_manager_off, with_reference, with_command, child_tried, with_child, without_flight, with_tried, with_incarnated, with_etherealized}
 use Rattle.poa_history.specs.Destroyed.{destroys}
 use Rattle.poa_tree.proofs.Members.{in_either, in_image, in_kept}
 use Rattle.poa_tree.proofs.TreeKept.{marked_number, marked_path}
@@ -67,9 +67,9 @@ module _ (s : Standing) (n : Node) where
 module _ (c : Config) (run : ℕ) where
   nodes_reference : (p : List (List ℕ)) (servant : List ℕ) (s : Standing) → (with_reference c run p servant s).nodes ≡ s.nodes
   nodes_reference p servant s =
-      elim (live_at s p) as (λ o. nodes_in (elim o [ Some n ↦ (elim (servant_number c servant) [ Some k ↦ (if is_implicit c s n k then with_made_act c run p servant s else s) | None ↦ s ]) | None ↦ s ]) ≡ s.nodes) [
-        | Some n ↦ elim (servant_number c servant) as (λ o. nodes_in (elim o [ Some k ↦ (if is_implicit c s n k then with_made_act c run p servant s else s) | None ↦ s ]) ≡ s.nodes) [
-          | Some k ↦ cond_both (is_implicit c s n k) (with_made_act c run p servant s) s (λ t. t.nodes ≡ s.nodes) (λ _. refl) (λ _. refl)
+      elim (live_at s p) as (λ o. nodes_in (elim o [ Some n ↦ (elim (servant_number c servant) [ Some k ↦ (if is_implicit c s n k then with_made_activation c run p servant s else s) | None ↦ s ]) | None ↦ s ]) ≡ s.nodes) [
+        | Some n ↦ elim (servant_number c servant) as (λ o. nodes_in (elim o [ Some k ↦ (if is_implicit c s n k then with_made_activation c run p servant s else s) | None ↦ s ]) ≡ s.nodes) [
+          | Some k ↦ cond_both (is_implicit c s n k) (with_made_activation c run p servant s) s (λ t. t.nodes ≡ s.nodes) (λ _. refl) (λ _. refl)
           | None ↦ refl
         ]
         | None ↦ refl
@@ -77,9 +77,9 @@ module _ (c : Config) (run : ℕ) where
 
   count_reference : (p : List (List ℕ)) (servant : List ℕ) (s : Standing) → (with_reference c run p servant s).count ≡ s.count
   count_reference p servant s =
-      elim (live_at s p) as (λ o. count_in (elim o [ Some n ↦ (elim (servant_number c servant) [ Some k ↦ (if is_implicit c s n k then with_made_act c run p servant s else s) | None ↦ s ]) | None ↦ s ]) ≡ s.count) [
-        | Some n ↦ elim (servant_number c servant) as (λ o. count_in (elim o [ Some k ↦ (if is_implicit c s n k then with_made_act c run p servant s else s) | None ↦ s ]) ≡ s.count) [
-          | Some k ↦ cond_both (is_implicit c s n k) (with_made_act c run p servant s) s (λ t. t.count ≡ s.count) (λ _. refl) (λ _. refl)
+      elim (live_at s p) as (λ o. count_in (elim o [ Some n ↦ (elim (servant_number c servant) [ Some k ↦ (if is_implicit c s n k then with_made_activation c run p servant s else s) | None ↦ s ]) | None ↦ s ]) ≡ s.count) [
+        | Some n ↦ elim (servant_number c servant) as (λ o. count_in (elim o [ Some k ↦ (if is_implicit c s n k then with_made_activation c run p servant s else s) | None ↦ s ]) ≡ s.count) [
+          | Some k ↦ cond_both (is_implicit c s n k) (with_made_activation c run p servant s) s (λ t. t.count ≡ s.count) (λ _. refl) (λ _. refl)
           | None ↦ refl
         ]
         | None ↦ refl
@@ -277,5 +277,5 @@ module _ (c : Config) (run : ℕ) where
   -- the same of what stands after the entry
   pub node_before : (past : List Entry) (e : Entry) (n : Node) → In n (standing c run (e ∷ past)).nodes → NodeFrom (standing c run past) (command_done past e) n
   node_before past e n there =
-      let after : Standing = record (changed c run past e (standing c run past)) { acts = map (let_out c (changed c run past e (standing c run past))) (changed c run past e (standing c run past)).acts } in
+      let after : Standing = record (changed c run past e (standing c run past)) { activations = map (let_out c (changed c run past e (standing c run past))) (changed c run past e (standing c run past)).activations } in
       node_from past e (standing c run past) n (in_kept (λ m. is_root m.path || not (is_done_with c after m)) n (changed c run past e (standing c run past)).nodes there).0

@@ -6,9 +6,9 @@ use Rattle.poa_base.specs.declared.Config.{Config}
 use Rattle.poa_base.specs.declared.Sid.{Sid}
 use Rattle.poa_base.specs.declared.Entry.{Entry}
 use Rattle.poa_base.specs.declared.Entry.TheVariants.{Entered, Arrive, Filled, Left, Collect, Admit, Tried, Incarnated, Run, Done, TakeOut, Etherealized, Abandon}
-use Rattle.poa_history.specs.declared.act.Act.{Act}
-use Rattle.poa_history.specs.declared.act.Phase.{Phase}
-use Rattle.poa_history.specs.declared.act.Phase.TheVariants.{Begun, Complete, Void}
+use Rattle.poa_history.specs.declared.activation.Activation.{Activation}
+use Rattle.poa_history.specs.declared.activation.Phase.{Phase}
+use Rattle.poa_history.specs.declared.activation.Phase.TheVariants.{Begun, Complete, Void}
 use Rattle.poa_tree.specs.Trees.{In}
 use Rattle.poa_history.specs.Templates.{has_activator}
 use Rattle.poa_history.specs.Standings.{is_complete, is_ending, is_void, is_used}
@@ -22,11 +22,11 @@ use Rattle.poa_history.specs.Alone.{IsGivenAlone}
 use Rattle.poa_history.specs.Out.{was_taken, has_run_out}
 use Rattle.poa_tree.proofs.Members.{in_image, image_in}
 use Rattle.poa_history.proofs.SettledKept.{not_false}
-use Rattle.poa_history.proofs.ActsLater.{later_let_out}
+use Rattle.poa_history.proofs.ActivationsLater.{later_let_out}
 use Rattle.poa_history.proofs.TurnTells.{takeout_is}
-use Rattle.poa_history.proofs.ActsFrom.{stood, begun, act_from}
+use Rattle.poa_history.proofs.ActivationsFrom.{stood, begun, activation_from}
 use Rattle.poa_history.proofs.AloneKept.{all_open}
-use Rattle.poa_history.proofs.EndingsAre.{more_acts}
+use Rattle.poa_history.proofs.EndingsAre.{more_activations}
 use Rattle.poa_history.proofs.LegalSound.{legal_sound}
 use Rattle.poa_history.proofs.MannedKept.{out_unused, all_manned}
 
@@ -72,20 +72,20 @@ phase_of (Complete t) is = (t, refl)
 phase_of Begun is = absurd (let e : false ≡ true = is in cc)
 phase_of Void is = absurd (let e : false ≡ true = is in cc)
 
-complete_by : (a : Act) (t : Sid) → a.phase ≡ Complete t → is_complete a ≡ true
+complete_by : (a : Activation) (t : Sid) → a.phase ≡ Complete t → is_complete a ≡ true
 complete_by a t at = ap (λ p. elim p [ Complete s ↦ true | Begun ↦ false | Void ↦ false ]) at
 
-ending_by : (a : Act) → is_complete a ≡ true → a.ending ≡ true → is_ending a ≡ true
+ending_by : (a : Activation) → is_complete a ≡ true → a.ending ≡ true → is_ending a ≡ true
 ending_by a complete ending =
     let phase = phase_of a.phase complete in
     ap₂ (λ x p. x && not (elim p as (λ _. Bool) [ Void ↦ true | Begun ↦ false | Complete s ↦ false ])) ending phase.1
 
 module _ (c : Config) (run limit : ℕ) (given : IsGiven c run) (alone : IsGivenAlone c run) (within : IsWithinLimits c limit) where
   -- what was taken out was begun
-  taken_begun : (h : List Entry) → IsLegal c run limit h → (n : ℕ) → was_taken h n ≡ true → n < length (standing c run h).acts
+  taken_begun : (h : List Entry) → IsLegal c run limit h → (n : ℕ) → was_taken h n ≡ true → n < length (standing c run h).activations
   taken_begun [] legal n is = absurd (let e : false ≡ true = is in cc)
   taken_begun (e ∷ past) legal n is =
-      let more = more_acts c run past e in
+      let more = more_activations c run past e in
       elim (taken_before e past n is) [
         | inl was ↦ (let low = taken_begun past legal.1 n was in omega (arith, low, more))
         | inr now ↦ (let it = takeout_is c run past now.0 n now.1 (subst (λ x. MayFollow c run limit past x) now.2 legal.0) in
@@ -94,25 +94,25 @@ module _ (c : Config) (run limit : ℕ) (given : IsGiven c run) (alone : IsGiven
       ]
 
   -- an activation that is taken out is out
-  taken_now : (past : List Entry) (e : Entry) → IsLegal c run limit (e ∷ past) → (w n : ℕ) (x : Bool) → e ≡ TakeOut w n x → (b : Act) → In b (standing c run (e ∷ past)).acts → b.number ≡ n → b.out ≡ true
+  taken_now : (past : List Entry) (e : Entry) → IsLegal c run limit (e ∷ past) → (w n : ℕ) (x : Bool) → e ≡ TakeOut w n x → (b : Activation) → In b (standing c run (e ∷ past)).activations → b.number ≡ n → b.out ≡ true
   taken_now past e legal w n x is b there at =
       let s = standing c run past in
       let s1 = changed c run past e s in
       let it = takeout_is c run past w n x (subst (λ y. MayFollow c run limit past y) is legal.0) in
-      let y : Act = at_number n (λ a. record a { out = true; remaining = is_elsewhere s.acts a }) it.it in
-      let y_is : y ≡ record it.it { out = true; remaining = is_elsewhere s.acts it.it } = ap (λ z. if z then record it.it { out = true; remaining = is_elsewhere s.acts it.it } else it.it) (eq-eqb it.it.number n it.numbered) in
-      let in_y : In y s1.acts = subst (λ z. In y (changed c run past z s).acts) (sym is) (image_in (at_number n (λ a. record a { out = true; remaining = is_elsewhere s.acts a })) it.it s.acts it.there) in
+      let y : Activation = at_number n (λ a. record a { out = true; remaining = is_elsewhere s.activations a }) it.it in
+      let y_is : y ≡ record it.it { out = true; remaining = is_elsewhere s.activations it.it } = ap (λ z. if z then record it.it { out = true; remaining = is_elsewhere s.activations it.it } else it.it) (eq-eqb it.it.number n it.numbered) in
+      let in_y : In y s1.activations = subst (λ z. In y (changed c run past z s).activations) (sym is) (image_in (at_number n (λ a. record a { out = true; remaining = is_elsewhere s.activations a })) it.it s.activations it.there) in
       let later = later_let_out c s1 y in
       let same : let_out c s1 y ≡ b =
-      (legal_sound c run limit (e ∷ past) given within legal).act_alone (let_out c s1 y) b (image_in (let_out c s1) y s1.acts in_y) there (later.number ∙ (ap (λ z. z.number) y_is ∙ (it.numbered ∙ sym at))) in
+      (legal_sound c run limit (e ∷ past) given within legal).activation_alone (let_out c s1 y) b (image_in (let_out c s1) y s1.activations in_y) there (later.number ∙ (ap (λ z. z.number) y_is ∙ (it.numbered ∙ sym at))) in
       ap (λ z. z.out) (sym same) ∙ later.out (ap (λ z. z.out) y_is)
 
-  taken_step : (past : List Entry) (e : Entry) → IsLegal c run limit (e ∷ past) → ((a : Act) → In a (standing c run past).acts → has_activator c a.path ≡ true → a.out ≡ was_taken past a.number) → (b : Act) → In b (standing c run (e ∷ past)).acts → has_activator c b.path ≡ true → b.out ≡ was_taken (e ∷ past) b.number
+  taken_step : (past : List Entry) (e : Entry) → IsLegal c run limit (e ∷ past) → ((a : Activation) → In a (standing c run past).activations → has_activator c a.path ≡ true → a.out ≡ was_taken past a.number) → (b : Activation) → In b (standing c run (e ∷ past)).activations → has_activator c b.path ≡ true → b.out ≡ was_taken (e ∷ past) b.number
   taken_step past e legal before_ b there activator = same_test b.out (was_taken (e ∷ past) b.number) forth back
     where
       forth : b.out ≡ true → was_taken (e ∷ past) b.number ≡ true
       forth out =
-          elim (act_from c run past e b there) [
+          elim (activation_from c run past e b there) [
             | begun fresh ↦ absurd (true≢false (sym out ∙ fresh.out))
             | stood a is step ↦ elim (step.out_back out) [
               | inl before ↦ taken_later e past b.number (ap (was_taken past) step.later.number ∙ (sym (before_ a is (ap (has_activator c) (sym step.later.path) ∙ activator)) ∙ before))
@@ -128,52 +128,52 @@ module _ (c : Config) (run limit : ℕ) (given : IsGiven c run) (alone : IsGiven
       back taken =
           elim (taken_before e past b.number taken) [
             | inr now ↦ taken_now past e legal now.0 b.number now.1 now.2 b there refl
-            | inl was ↦ elim (act_from c run past e b there) [
+            | inl was ↦ elim (activation_from c run past e b there) [
               | begun fresh ↦ absurd (let low = taken_begun past legal.1 b.number was in let at = fresh.number in omega (arith, low, at))
               | stood a is step ↦ step.later.out (before_ a is (ap (has_activator c) (sym step.later.path) ∙ activator) ∙ (ap (was_taken past) (sym step.later.number) ∙ was))
             ]
           ]
 
-  pub out_taken : (h : List Entry) → IsLegal c run limit h → (a : Act) → In a (standing c run h).acts → has_activator c a.path ≡ true → a.out ≡ was_taken h a.number
+  pub out_taken : (h : List Entry) → IsLegal c run limit h → (a : Activation) → In a (standing c run h).activations → has_activator c a.path ≡ true → a.out ≡ was_taken h a.number
   out_taken [] legal a there activator = (all_open c run a there).0
   out_taken (e ∷ past) legal b there activator = taken_step past e legal (out_taken past legal.1) b there activator
 
   -- what is out has a servant
-  pub out_complete : (h : List Entry) → IsLegal c run limit h → (a : Act) → In a (standing c run h).acts → a.out ≡ true → is_complete a ≡ true
+  pub out_complete : (h : List Entry) → IsLegal c run limit h → (a : Activation) → In a (standing c run h).activations → a.out ≡ true → is_complete a ≡ true
   out_complete [] legal a there out = absurd (true≢false (sym out ∙ (all_open c run a there).0))
   out_complete (e ∷ past) legal b there out =
-      elim (act_from c run past e b there) [
+      elim (activation_from c run past e b there) [
         | begun fresh ↦ absurd (true≢false (sym out ∙ fresh.out))
         | stood a is step ↦ elim (step.out_back out) [
           | inl before ↦ (let phase = phase_of a.phase (out_complete past legal.1 a is before) in complete_by b phase.0 (step.later.served phase.0 phase.1))
           | inr other ↦ elim other [
             | inl leaves ↦ leaves.3
             | inr takes ↦ (let it = takeout_is c run past takes.0 a.number takes.1 (subst (λ x. MayFollow c run limit past x) takes.2 legal.0) in
-                let same : it.it ≡ a = (legal_sound c run limit past given within legal.1).act_alone it.it a it.there is it.numbered in
-                let due = and_parts (is_complete it.it && (is_ending it.it && (has_activator c it.it.path && not it.it.out))) (not (is_used (standing c run past).flights it.it.number) && not (is_changing c (standing c run past).acts it.it.adapter)) it.due in
+                let same : it.it ≡ a = (legal_sound c run limit past given within legal.1).activation_alone it.it a it.there is it.numbered in
+                let due = and_parts (is_complete it.it && (is_ending it.it && (has_activator c it.it.path && not it.it.out))) (not (is_used (standing c run past).flights it.it.number) && not (is_changing c (standing c run past).activations it.it.adapter)) it.due in
                 let phase = phase_of a.phase (ap is_complete (sym same) ∙ (and_parts (is_complete it.it) (is_ending it.it && (has_activator c it.it.path && not it.it.out)) due.0).0) in
                 complete_by b phase.0 (step.later.served phase.0 phase.1))
           ]
         ]
       ]
 
-  pub out_run_out : (h : List Entry) → IsLegal c run limit h → (a : Act) → In a (standing c run h).acts → has_activator c a.path ≡ false → a.out ≡ has_run_out (standing c run h) a
+  pub out_run_out : (h : List Entry) → IsLegal c run limit h → (a : Activation) → In a (standing c run h).activations → has_activator c a.path ≡ false → a.out ≡ has_run_out (standing c run h) a
   out_run_out h legal a there none = same_test a.out (has_run_out (standing c run h) a) (forth h legal a there) (back h legal a there none)
     where
-      forth : (h : List Entry) → IsLegal c run limit h → (a : Act) → In a (standing c run h).acts → a.out ≡ true → has_run_out (standing c run h) a ≡ true
+      forth : (h : List Entry) → IsLegal c run limit h → (a : Activation) → In a (standing c run h).activations → a.out ≡ true → has_run_out (standing c run h) a ≡ true
       forth h legal a there out =
           let complete = out_complete h legal a there out in
           ap₂ (λ x y. x && y) complete
           (ap₂ (λ x y. x && y) (ending_by a complete ((all_manned c run limit h given alone within legal).out_ending a there out)) (not_false (is_used (standing c run h).flights a.number) (out_unused c run h (all_manned c run limit h given alone within legal) (legal_sound c run limit h given within legal) a there out)))
 
-      back : (h : List Entry) → IsLegal c run limit h → (a : Act) → In a (standing c run h).acts → has_activator c a.path ≡ false → has_run_out (standing c run h) a ≡ true → a.out ≡ true
+      back : (h : List Entry) → IsLegal c run limit h → (a : Activation) → In a (standing c run h).activations → has_activator c a.path ≡ false → has_run_out (standing c run h) a ≡ true → a.out ≡ true
       back [] legal a there none over =
           absurd (let ends = and_parts (is_complete a) (is_ending a && not (is_used (standing c run []).flights a.number)) over in
           let ending = and_parts (is_ending a) (not (is_used (standing c run []).flights a.number)) ends.1 in
           true≢false (sym (and_parts a.ending (not (is_void a)) ending.0).0 ∙ (all_open c run a there).3))
       back (e ∷ past) legal b there none over =
           let s1 = changed c run past e (standing c run past) in
-          let found = in_image (let_out c s1) b s1.acts there in
+          let found = in_image (let_out c s1) b s1.activations there in
           subst (λ x. x.out ≡ true) (sym found.2)
           (cond_both (is_left c s1 found.0) (record found.0 { out = true }) found.0 (λ x. b ≡ x → x.out ≡ true) (λ _ _. refl)
           (λ stays same. absurd (true≢false (sym (ap₂ (λ x y. x && y) (not_false (has_activator c found.0.path) (ap (λ x. has_activator c x.path) (sym same) ∙ none)) (ap (has_run_out s1) (sym same) ∙ over)) ∙ stays))) found.2)

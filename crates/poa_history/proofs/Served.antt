@@ -10,13 +10,13 @@ use Rattle.poa_base.specs.declared.Call.TheVariants.{Request, Locate, Line}
 use Rattle.poa_base.specs.declared.Entry.{Entry}
 use Rattle.poa_base.specs.declared.Verdict.{Verdict}
 use Rattle.poa_base.specs.declared.Verdict.TheVariants.{Serve, Preset, Locator, Incarnate}
-use Rattle.poa_verdict.specs.declared.Choice.TheVariants.{Go}
-use Rattle.poa_verdict.specs.declared.Facts.{Facts}
-use Rattle.poa_verdict.specs.declared.MapFact.TheVariants.{Active as ActiveAs, Busy, Free}
-use Rattle.poa_verdict.specs.declared.WalkFact.TheVariants.{Dying as MeetsDying, Missing as MeetsMissing, Found as MeetsAdapter}
-use Rattle.poa_verdict.specs.Table.{first_row}
+use Rattle.poa_choose.specs.declared.Choice.TheVariants.{Go}
+use Rattle.poa_choose.specs.declared.Facts.{Facts}
+use Rattle.poa_choose.specs.declared.MapFact.TheVariants.{Active as ActiveAs, Busy, Free}
+use Rattle.poa_choose.specs.declared.WalkFact.TheVariants.{Dying as MeetsDying, Missing as MeetsMissing, Found as MeetsAdapter}
+use Rattle.poa_choose.specs.Table.{first_row}
 use Rattle.poa_tree.specs.declared.node.Node.{Node}
-use Rattle.poa_history.specs.declared.act.Act.{Act}
+use Rattle.poa_history.specs.declared.activation.Activation.{Activation}
 use Rattle.poa_history.specs.Templates.{policies_at, has_activator}
 use Rattle.poa_history.specs.Arrivals.{call_of, is_locate, target_of}
 use Rattle.poa_tree.specs.Paths.{same_bytes}
@@ -46,10 +46,10 @@ module _ (c : Config) (run : ℕ) (past : List Entry) (sound : IsSound c run (st
 
   -- by which activation it is served, if by one
   pub data ServedBy : Type 0 where
-    active : (a : Act) → In a s.acts → a.adapter ≡ met → a.oid ≡ key.oid → is_active a ≡ true → Serve a.number ≡ v → ServedBy
+    active : (a : Activation) → In a s.activations → a.adapter ≡ met → a.oid ≡ key.oid → is_active a ≡ true → Serve a.number ≡ v → ServedBy
     preset : (name : List ℕ) → Preset name ≡ v → ServedBy
     located : (name : List ℕ) → Locator name ≡ v → ServedBy
-    incarnated : has_activator c key.path ≡ true → is_changing c s.acts met ≡ false → Incarnate (length s.acts) ≡ v → ServedBy
+    incarnated : has_activator c key.path ≡ true → is_changing c s.activations met ≡ false → Incarnate (length s.activations) ≡ v → ServedBy
 
   pub record IsServed : Type 0 where
     -- the adapter lives
@@ -66,14 +66,14 @@ module _ (c : Config) (run : ℕ) (past : List Entry) (sound : IsSound c run (st
     abbrev facts : Facts
     facts = facts_met c run past s locate (is_crowded past r) (key_fact run (target_of call)) key (walk s.nodes key.path)
 
-    active_by : (n : ℕ) → slot_of c s.acts met key.oid ≡ ActiveAs n → (a : Act) × In a s.acts × (is_of met key.oid a ≡ true) × (is_active a ≡ true) × (a.number ≡ n)
+    active_by : (n : ℕ) → slot_of c s.activations met key.oid ≡ ActiveAs n → (a : Activation) × In a s.activations × (is_of met key.oid a ≡ true) × (is_active a ≡ true) × (a.number ≡ n)
     active_by n slot =
-        elim (find (λ a. is_of met key.oid a && is_active a) s.acts) as (λ o. find (λ a. is_of met key.oid a && is_active a) s.acts ≡ o → (elim o [ Some a ↦ ActiveAs a.number | None ↦ elim (find (λ a. is_of met key.oid a && not (is_over c a)) s.acts) [ Some a ↦ Busy a.number | None ↦ Free ] ]) ≡ ActiveAs n → (a : Act) × In a s.acts × (is_of met key.oid a ≡ true) × (is_active a ≡ true) × (a.number ≡ n)) [
+        elim (find (λ a. is_of met key.oid a && is_active a) s.activations) as (λ o. find (λ a. is_of met key.oid a && is_active a) s.activations ≡ o → (elim o [ Some a ↦ ActiveAs a.number | None ↦ elim (find (λ a. is_of met key.oid a && not (is_over c a)) s.activations) [ Some a ↦ Busy a.number | None ↦ Free ] ]) ≡ ActiveAs n → (a : Activation) × In a s.activations × (is_of met key.oid a ≡ true) × (is_active a ≡ true) × (a.number ≡ n)) [
           | Some a ↦ λ found same.
-              (let there = find_in (λ b. is_of met key.oid b && is_active b) a s.acts found in
+              (let there = find_in (λ b. is_of met key.oid b && is_active b) a s.activations found in
               let parts = and_parts (is_of met key.oid a) (is_active a) there.1 in
               (a, there.0, parts.0, parts.1, (let e : ActiveAs a.number ≡ ActiveAs n = same in cc)))
-          | None ↦ λ _ same. absurd (elim (find (λ a. is_of met key.oid a && not (is_over c a)) s.acts) as (λ o. (elim o [ Some a ↦ Busy a.number | None ↦ Free ]) ≡ ActiveAs n → ⊥)
+          | None ↦ λ _ same. absurd (elim (find (λ a. is_of met key.oid a && not (is_over c a)) s.activations) as (λ o. (elim o [ Some a ↦ Busy a.number | None ↦ Free ]) ≡ ActiveAs n → ⊥)
               [ Some a ↦ λ e. (let f : Busy a.number ≡ ActiveAs n = e in cc) | None ↦ λ e. (let f : Free ≡ ActiveAs n = e in cc) ] same)
         ] refl slot
 

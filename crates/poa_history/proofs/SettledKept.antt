@@ -6,7 +6,7 @@ use Rattle.std.proofs.lemmas.Bool.{cases_Bool, cond_both, and_parts, or_cases, f
 use Rattle.poa_base.specs.declared.Config.{Config}
 use Rattle.poa_tree.specs.declared.node.Node.{Node}
 use Rattle.poa_history.specs.declared.flight.Flight.{Flight}
-use Rattle.poa_history.specs.declared.act.Act.{Act}
+use Rattle.poa_history.specs.declared.activation.Activation.{Activation}
 use Rattle.poa_tree.specs.Paths.{leads_to, is_root}
 use Rattle.poa_history.specs.Templates.{has_activator}
 use Rattle.poa_history.specs.Standings.{Standing, is_void}
@@ -17,7 +17,7 @@ use Rattle.poa_history.specs.Sound.{IsSound}
 use Rattle.poa_tree.proofs.Members.{in_kept, kept_in}
 use Rattle.poa_tree.proofs.Leading.{leads_through, leads_self}
 use Rattle.poa_tree.proofs.TreeKept.{dropped_kept}
-use Rattle.poa_history.proofs.SoundKept.{Follows, with_acts_sound}
+use Rattle.poa_history.proofs.SoundKept.{Follows, with_activations_sound}
 
 -- some element passes
 pub any_by : {A : Type 0} (test : A → Bool) (x : A) (xs : List A) → In x xs → test x ≡ true → list_any test xs ≡ true
@@ -54,7 +54,7 @@ not_false b e = ap not e
 
 -- letting activations out keeps what they are, and what is over stays so
 module _ (c : Config) (run : ℕ) (s : Standing) (sound : IsSound c run s) where
-  over_let_out : (a : Act) → is_over c a ≡ true → is_over c (let_out c s a) ≡ true
+  over_let_out : (a : Activation) → is_over c a ≡ true → is_over c (let_out c s a) ≡ true
   over_let_out a over =
       cond_both (is_left c s a) (record a { out = true }) a (λ b. is_over c b ≡ true)
       (λ _. elim (or_cases (is_void a) (is_finished c a) over) [
@@ -72,8 +72,8 @@ module _ (c : Config) (run : ℕ) (s : Standing) (sound : IsSound c run s) where
     over_kept = λ a is over. over_let_out a over;
   }
 
-  pub let_out_sound : IsSound c run (record s { acts = map (let_out c s) s.acts })
-  let_out_sound = with_acts_sound c run s sound (let_out c s) follows_let_out
+  pub let_out_sound : IsSound c run (record s { activations = map (let_out c s) s.activations })
+  let_out_sound = with_activations_sound c run s sound (let_out c s) follows_let_out
 
 -- what has ended may go: the root stays, and with an adapter goes all below it
 module _ (c : Config) (run : ℕ) (s : Standing) (sound : IsSound c run s) where
@@ -93,14 +93,14 @@ module _ (c : Config) (run : ℕ) (s : Standing) (sound : IsSound c run s) where
 
   pub clear_longer : (p q : List (List ℕ)) → leads_to p q ≡ true → is_clear c s p ≡ true → is_clear c s q ≡ true
   clear_longer p q leads clear =
-      let parts = and_parts (not (list_any (λ f. stands_under s.nodes p f.adapter) s.flights)) (not (list_any (λ a. not (is_over c a) && stands_under s.nodes p a.adapter) s.acts)) clear in
+      let parts = and_parts (not (list_any (λ f. stands_under s.nodes p f.adapter) s.flights)) (not (list_any (λ a. not (is_over c a) && stands_under s.nodes p a.adapter) s.activations)) clear in
       ap₂ (λ a b. a && b)
       (not_false (list_any (λ f. stands_under s.nodes q f.adapter) s.flights)
       (none_of_fewer (λ f. stands_under s.nodes p f.adapter) (λ f. stands_under s.nodes q f.adapter) (λ f. under_longer p q f.adapter leads) s.flights (not_true _ parts.0)))
-      (not_false (list_any (λ a. not (is_over c a) && stands_under s.nodes q a.adapter) s.acts)
+      (not_false (list_any (λ a. not (is_over c a) && stands_under s.nodes q a.adapter) s.activations)
       (none_of_fewer (λ a. not (is_over c a) && stands_under s.nodes p a.adapter) (λ a. not (is_over c a) && stands_under s.nodes q a.adapter)
       (λ a both. (let two = and_parts (not (is_over c a)) (stands_under s.nodes q a.adapter) both in ap₂ (λ x y. x && y) two.0 (under_longer p q a.adapter leads two.1)))
-      s.acts (not_true _ parts.1)))
+      s.activations (not_true _ parts.1)))
 
   goes_parts : (n : Node) → stays n ≡ false → (is_root n.path ≡ false) × (n.dying ≡ true) × (is_clear c s n.path ≡ true)
   goes_parts n goes =
@@ -135,17 +135,17 @@ module _ (c : Config) (run : ℕ) (s : Standing) (sound : IsSound c run s) where
       elim (cases_Bool (stays n)) [
         | inl stands ↦ stands
         | inr goes ↦ (let parts = goes_parts n goes in
-            let none = not_true _ (and_parts (not (list_any (λ g. stands_under s.nodes n.path g.adapter) s.flights)) (not (list_any (λ a. not (is_over c a) && stands_under s.nodes n.path a.adapter) s.acts)) parts.2).0 in
+            let none = not_true _ (and_parts (not (list_any (λ g. stands_under s.nodes n.path g.adapter) s.flights)) (not (list_any (λ a. not (is_over c a) && stands_under s.nodes n.path a.adapter) s.activations)) parts.2).0 in
             absurd (let e : false ≡ true = sym none ∙ any_by (λ g. stands_under s.nodes n.path g.adapter) f s.flights is (is_under_itself n f.adapter is' same) in cc))
       ]
 
-  pub act_stays : (a : Act) (n : Node) → In a s.acts → is_over c a ≡ false → In n s.nodes → n.number ≡ a.adapter → stays n ≡ true
-  act_stays a n is lives is' same =
+  pub activation_stays : (a : Activation) (n : Node) → In a s.activations → is_over c a ≡ false → In n s.nodes → n.number ≡ a.adapter → stays n ≡ true
+  activation_stays a n is lives is' same =
       elim (cases_Bool (stays n)) [
         | inl stands ↦ stands
         | inr goes ↦ (let parts = goes_parts n goes in
-            let none = not_true _ (and_parts (not (list_any (λ g. stands_under s.nodes n.path g.adapter) s.flights)) (not (list_any (λ b. not (is_over c b) && stands_under s.nodes n.path b.adapter) s.acts)) parts.2).1 in
-            absurd (let e : false ≡ true = sym none ∙ any_by (λ b. not (is_over c b) && stands_under s.nodes n.path b.adapter) a s.acts is (ap₂ (λ x y. x && y) (not_false (is_over c a) lives) (is_under_itself n a.adapter is' same)) in cc))
+            let none = not_true _ (and_parts (not (list_any (λ g. stands_under s.nodes n.path g.adapter) s.flights)) (not (list_any (λ b. not (is_over c b) && stands_under s.nodes n.path b.adapter) s.activations)) parts.2).1 in
+            absurd (let e : false ≡ true = sym none ∙ any_by (λ b. not (is_over c b) && stands_under s.nodes n.path b.adapter) a s.activations is (ap₂ (λ x y. x && y) (not_false (is_over c a) lives) (is_under_itself n a.adapter is' same)) in cc))
       ]
 
   trials_left : (f : Flight) (p : List (List ℕ)) → In f s.flights → f.child ≡ Some p → IsMissingChild (filter stays s.nodes) f.adapter p
@@ -166,12 +166,12 @@ module _ (c : Config) (run : ℕ) (s : Standing) (sound : IsSound c run s) where
     homes = λ f is. (let was = sound.homes f is in (was.0, kept_in stays was.0 s.nodes was.1 (flight_stays f was.0 is was.1 was.2), was.2));
     trials = trials_left;
     trial_alone = sound.trial_alone;
-    owners = λ a is lives. (let was = sound.owners a is lives in record { node = was.node; stands = kept_in stays was.node s.nodes was.stands (act_stays a was.node is lives was.stands was.numbered); numbered = was.numbered; placed = was.placed });
+    owners = λ a is lives. (let was = sound.owners a is lives in record { node = was.node; stands = kept_in stays was.node s.nodes was.stands (activation_stays a was.node is lives was.stands was.numbered); numbered = was.numbered; placed = was.placed });
     counted = sound.counted;
-    act_alone = sound.act_alone;
+    activation_alone = sound.activation_alone;
     life_alone = sound.life_alone;
     ids = sound.ids;
   }
 
 pub settled_sound : (c : Config) (run : ℕ) (s : Standing) → IsSound c run s → IsSound c run (settled c s)
-settled_sound c run s sound = without_ended_sound c run (record s { acts = map (let_out c s) s.acts }) (let_out_sound c run s sound)
+settled_sound c run s sound = without_ended_sound c run (record s { activations = map (let_out c s) s.activations }) (let_out_sound c run s sound)

@@ -6,13 +6,13 @@ use Rattle.std.proofs.lemmas.Bool.{cases_Bool}
 use Rattle.poa_base.specs.declared.Config.{Config}
 use Rattle.poa_tree.specs.declared.node.Node.{Node}
 use Rattle.poa_history.specs.declared.flight.Flight.{Flight}
-use Rattle.poa_history.specs.declared.act.Act.{Act}
-use Rattle.poa_history.specs.declared.act.Phase.{Phase}
+use Rattle.poa_history.specs.declared.activation.Activation.{Activation}
+use Rattle.poa_history.specs.declared.activation.Phase.{Phase}
 use Rattle.poa_history.specs.Standings.{Standing}
 use Rattle.poa_history.specs.Ends.{is_over}
 use Rattle.poa_history.specs.Commands.{is_bad_id}
-use Rattle.poa_history.specs.Opening.{with_node, with_act}
-use Rattle.poa_history.specs.Changes.{with_flight, with_acts, with_dying}
+use Rattle.poa_history.specs.Opening.{with_node, with_activation}
+use Rattle.poa_history.specs.Changes.{with_flight, with_activations, with_dying}
 use Rattle.poa_tree.specs.Nodes.{marked, created}
 use Rattle.poa_tree.specs.Trees.{In, Stands, IsMissingChild, MayCreate}
 use Rattle.poa_history.specs.Sound.{IsHome, IsSound}
@@ -54,7 +54,7 @@ module _ (c : Config) (run : ℕ) (s : Standing) (sound : IsSound c run s) where
       trial_alone = sound.trial_alone;
       owners = λ a is lives. (let was = sound.owners a is lives in record { node = was.node; stands = in_created was.node was.stands; numbered = was.numbered; placed = was.placed });
       counted = sound.counted;
-      act_alone = sound.act_alone;
+      activation_alone = sound.activation_alone;
       life_alone = sound.life_alone;
       ids = sound.ids;
     }
@@ -83,7 +83,7 @@ module _ (c : Config) (run : ℕ) (s : Standing) (sound : IsSound c run s) where
       trial_alone = sound.trial_alone;
       owners = λ a is lives. (let was = sound.owners a is lives in record { node = marked p was.node; stands = image_in (marked p) was.node s.nodes was.stands; numbered = marked_number p was.node ∙ was.numbered; placed = marked_path p was.node ∙ was.placed });
       counted = sound.counted;
-      act_alone = sound.act_alone;
+      activation_alone = sound.activation_alone;
       life_alone = sound.life_alone;
       ids = sound.ids;
     }
@@ -116,7 +116,7 @@ module _ (c : Config) (run : ℕ) (s : Standing) (sound : IsSound c run s) where
       ];
       owners = sound.owners;
       counted = sound.counted;
-      act_alone = sound.act_alone;
+      activation_alone = sound.activation_alone;
       life_alone = sound.life_alone;
       ids = sound.ids;
     }
@@ -134,7 +134,7 @@ module _ (c : Config) (run : ℕ) (s : Standing) (sound : IsSound c run s) where
       trial_alone = λ f g p is is'. sound.trial_alone f g p (was_flying f is) (was_flying g is');
       owners = sound.owners;
       counted = sound.counted;
-      act_alone = sound.act_alone;
+      activation_alone = sound.activation_alone;
       life_alone = sound.life_alone;
       ids = sound.ids;
     }
@@ -145,48 +145,48 @@ module _ (c : Config) (run : ℕ) (s : Standing) (sound : IsSound c run s) where
     pub stands : In node s.nodes
     pub numbered : node.number ≡ k
     pub placed : node.path ≡ p
-    pub over : (a : Act) → In a s.acts → a.adapter ≡ k → a.oid ≡ oid → is_over c a ≡ true
+    pub over : (a : Activation) → In a s.activations → a.adapter ≡ k → a.oid ≡ oid → is_over c a ≡ true
     pub made : is_bad_id c run s.made p oid ≡ false
 
   module _ (k : ℕ) (p : List (List ℕ)) (oid : List ℕ) (phase : Phase) (may : MayLive k p oid) where
-    abbrev begun : Act
-    begun = record { number = length s.acts; adapter = k; path = p; oid = oid; phase = phase; ending = false; quiet = false; out = false; cleanup = false; remaining = false; etherealized = false }
+    abbrev begun : Activation
+    begun = record { number = length s.activations; adapter = k; path = p; oid = oid; phase = phase; ending = false; quiet = false; out = false; cleanup = false; remaining = false; etherealized = false }
 
-    one_longer : length (s.acts ++ begun ∷ []) ≡ suc (length s.acts)
-    one_longer = (let e = length-append s.acts (begun ∷ []) in omega arith)
+    one_longer : length (s.activations ++ begun ∷ []) ≡ suc (length s.activations)
+    one_longer = (let e = length-append s.activations (begun ∷ []) in omega arith)
 
-    counted_begun : (a : Act) → In a (s.acts ++ begun ∷ []) → a.number < length (s.acts ++ begun ∷ [])
+    counted_begun : (a : Activation) → In a (s.activations ++ begun ∷ []) → a.number < length (s.activations ++ begun ∷ [])
     counted_begun a is =
-        elim (in_either a begun s.acts is) [
+        elim (in_either a begun s.activations is) [
           | inl was ↦ (let low = sound.counted a was in let e = one_longer in omega arith)
-          | inr same ↦ (let e : a.number ≡ length s.acts = ap (λ x. x.number) same in let f = one_longer in omega arith)
+          | inr same ↦ (let e : a.number ≡ length s.activations = ap (λ x. x.number) same in let f = one_longer in omega arith)
         ]
 
-    act_alone_begun : (a b : Act) → In a (s.acts ++ begun ∷ []) → In b (s.acts ++ begun ∷ []) → a.number ≡ b.number → a ≡ b
-    act_alone_begun a b is is' same =
-        elim (in_either a begun s.acts is) [
-          | inl was ↦ elim (in_either b begun s.acts is') [
-            | inl was' ↦ sound.act_alone a b was was' same
-            | inr new ↦ absurd (let low = sound.counted a was in let e : b.number ≡ length s.acts = ap (λ x. x.number) new in omega arith)
+    activation_alone_begun : (a b : Activation) → In a (s.activations ++ begun ∷ []) → In b (s.activations ++ begun ∷ []) → a.number ≡ b.number → a ≡ b
+    activation_alone_begun a b is is' same =
+        elim (in_either a begun s.activations is) [
+          | inl was ↦ elim (in_either b begun s.activations is') [
+            | inl was' ↦ sound.activation_alone a b was was' same
+            | inr new ↦ absurd (let low = sound.counted a was in let e : b.number ≡ length s.activations = ap (λ x. x.number) new in omega arith)
           ]
-          | inr new ↦ elim (in_either b begun s.acts is') [
-            | inl was' ↦ absurd (let low = sound.counted b was' in let e : a.number ≡ length s.acts = ap (λ x. x.number) new in omega arith)
+          | inr new ↦ elim (in_either b begun s.activations is') [
+            | inl was' ↦ absurd (let low = sound.counted b was' in let e : a.number ≡ length s.activations = ap (λ x. x.number) new in omega arith)
             | inr new' ↦ new ∙ sym new'
           ]
         ]
 
-    ended_before : (a b : Act) → In a s.acts → b ≡ begun → a.adapter ≡ b.adapter → a.oid ≡ b.oid → is_over c a ≡ false → ⊥
+    ended_before : (a b : Activation) → In a s.activations → b ≡ begun → a.adapter ≡ b.adapter → a.oid ≡ b.oid → is_over c a ≡ false → ⊥
     ended_before a b was new same_adapter same_oid lives =
         let e : true ≡ false = sym (may.over a was (same_adapter ∙ ap (λ x. x.adapter) new) (same_oid ∙ ap (λ x. x.oid) new)) ∙ lives in cc
 
-    life_alone_begun : (a b : Act) → In a (s.acts ++ begun ∷ []) → In b (s.acts ++ begun ∷ []) → a.adapter ≡ b.adapter → a.oid ≡ b.oid → is_over c a ≡ false → is_over c b ≡ false → a ≡ b
+    life_alone_begun : (a b : Activation) → In a (s.activations ++ begun ∷ []) → In b (s.activations ++ begun ∷ []) → a.adapter ≡ b.adapter → a.oid ≡ b.oid → is_over c a ≡ false → is_over c b ≡ false → a ≡ b
     life_alone_begun a b is is' same_adapter same_oid lives lives' =
-        elim (in_either a begun s.acts is) [
-          | inl was ↦ elim (in_either b begun s.acts is') [
+        elim (in_either a begun s.activations is) [
+          | inl was ↦ elim (in_either b begun s.activations is') [
             | inl was' ↦ sound.life_alone a b was was' same_adapter same_oid lives lives'
             | inr new ↦ absurd (ended_before a b was new same_adapter same_oid lives)
           ]
-          | inr new ↦ elim (in_either b begun s.acts is') [
+          | inr new ↦ elim (in_either b begun s.activations is') [
             | inl was' ↦ absurd (ended_before b a was' new (sym same_adapter) (sym same_oid) lives')
             | inr new' ↦ new ∙ sym new'
           ]
@@ -195,52 +195,52 @@ module _ (c : Config) (run : ℕ) (s : Standing) (sound : IsSound c run s) where
     home_begun : IsHome s.nodes begun
     home_begun = record { node = may.node; stands = may.stands; numbered = may.numbered; placed = may.placed }
 
-    pub with_act_sound : IsSound c run (with_act k p oid phase s)
-    with_act_sound = record {
+    pub with_activation_sound : IsSound c run (with_activation k p oid phase s)
+    with_activation_sound = record {
       tree = sound.tree;
       homes = sound.homes;
       trials = sound.trials;
       trial_alone = sound.trial_alone;
-      owners = λ a is lives. elim (in_either a begun s.acts is)
+      owners = λ a is lives. elim (in_either a begun s.activations is)
           [ inl was ↦ sound.owners a was lives | inr new ↦ subst (λ x. IsHome s.nodes x) (sym new) home_begun ];
       counted = counted_begun;
-      act_alone = act_alone_begun;
+      activation_alone = activation_alone_begun;
       life_alone = life_alone_begun;
-      ids = λ a is. elim (in_either a begun s.acts is) [ inl was ↦ sound.ids a was | inr new ↦ subst (λ x. is_bad_id c run s.made x.path x.oid ≡ false) (sym new) may.made ];
+      ids = λ a is. elim (in_either a begun s.activations is) [ inl was ↦ sound.ids a was | inr new ↦ subst (λ x. is_bad_id c run s.made x.path x.oid ≡ false) (sym new) may.made ];
     }
 
   -- what changes an activation leaves its number, adapter, path and id, and what is over stays so
-  pub record Follows (f : Act → Act) : Type 0 where
-    pub number_kept : (a : Act) → (f a).number ≡ a.number
-    pub adapter_kept : (a : Act) → (f a).adapter ≡ a.adapter
-    pub path_kept : (a : Act) → (f a).path ≡ a.path
-    pub oid_kept : (a : Act) → (f a).oid ≡ a.oid
-    pub over_kept : (a : Act) → In a s.acts → is_over c a ≡ true → is_over c (f a) ≡ true
+  pub record Follows (f : Activation → Activation) : Type 0 where
+    pub number_kept : (a : Activation) → (f a).number ≡ a.number
+    pub adapter_kept : (a : Activation) → (f a).adapter ≡ a.adapter
+    pub path_kept : (a : Activation) → (f a).path ≡ a.path
+    pub oid_kept : (a : Activation) → (f a).oid ≡ a.oid
+    pub over_kept : (a : Activation) → In a s.activations → is_over c a ≡ true → is_over c (f a) ≡ true
 
-  module _ (f : Act → Act) (follows : Follows f) where
-    not_over_before : (a : Act) → In a s.acts → is_over c (f a) ≡ false → is_over c a ≡ false
+  module _ (f : Activation → Activation) (follows : Follows f) where
+    not_over_before : (a : Activation) → In a s.activations → is_over c (f a) ≡ false → is_over c a ≡ false
     not_over_before a is lives =
         elim (cases_Bool (is_over c a))
         [ inl over ↦ absurd (let e : true ≡ false = sym (follows.over_kept a is over) ∙ lives in cc) | inr still ↦ still ]
 
-    number_of_image : (a : Act) (b : Act) → b ≡ f a → b.number ≡ a.number
+    number_of_image : (a : Activation) (b : Activation) → b ≡ f a → b.number ≡ a.number
     number_of_image a b same = ap (λ x. x.number) same ∙ follows.number_kept a
 
-    counted_after : (a : Act) → In a (map f s.acts) → a.number < length (map f s.acts)
+    counted_after : (a : Activation) → In a (map f s.activations) → a.number < length (map f s.activations)
     counted_after a is =
-        let was = in_image f a s.acts is in
-        subst (λ n. a.number < n) (sym (length-map s.acts f)) (subst (λ n. n < length s.acts) (sym (number_of_image was.0 a was.2)) (sound.counted was.0 was.1))
+        let was = in_image f a s.activations is in
+        subst (λ n. a.number < n) (sym (length-map s.activations f)) (subst (λ n. n < length s.activations) (sym (number_of_image was.0 a was.2)) (sound.counted was.0 was.1))
 
-    act_alone_after : (a b : Act) → In a (map f s.acts) → In b (map f s.acts) → a.number ≡ b.number → a ≡ b
-    act_alone_after a b is is' same =
-        let was = in_image f a s.acts is in
-        let was' = in_image f b s.acts is' in
-        was.2 ∙ (ap f (sound.act_alone was.0 was'.0 was.1 was'.1 (sym (number_of_image was.0 a was.2) ∙ (same ∙ number_of_image was'.0 b was'.2))) ∙ sym was'.2)
+    activation_alone_after : (a b : Activation) → In a (map f s.activations) → In b (map f s.activations) → a.number ≡ b.number → a ≡ b
+    activation_alone_after a b is is' same =
+        let was = in_image f a s.activations is in
+        let was' = in_image f b s.activations is' in
+        was.2 ∙ (ap f (sound.activation_alone was.0 was'.0 was.1 was'.1 (sym (number_of_image was.0 a was.2) ∙ (same ∙ number_of_image was'.0 b was'.2))) ∙ sym was'.2)
 
-    life_alone_after : (a b : Act) → In a (map f s.acts) → In b (map f s.acts) → a.adapter ≡ b.adapter → a.oid ≡ b.oid → is_over c a ≡ false → is_over c b ≡ false → a ≡ b
+    life_alone_after : (a b : Activation) → In a (map f s.activations) → In b (map f s.activations) → a.adapter ≡ b.adapter → a.oid ≡ b.oid → is_over c a ≡ false → is_over c b ≡ false → a ≡ b
     life_alone_after a b is is' same_adapter same_oid lives lives' =
-        let was = in_image f a s.acts is in
-        let was' = in_image f b s.acts is' in
+        let was = in_image f a s.activations is in
+        let was' = in_image f b s.activations is' in
         was.2
         ∙ (ap f (sound.life_alone was.0 was'.0 was.1 was'.1
         (sym (ap (λ x. x.adapter) was.2 ∙ follows.adapter_kept was.0) ∙ (same_adapter ∙ (ap (λ x. x.adapter) was'.2 ∙ follows.adapter_kept was'.0)))
@@ -249,9 +249,9 @@ module _ (c : Config) (run : ℕ) (s : Standing) (sound : IsSound c run s) where
         (not_over_before was'.0 was'.1 (ap (λ x. is_over c x) (sym was'.2) ∙ lives')))
         ∙ sym was'.2)
 
-    owners_after : (a : Act) → In a (map f s.acts) → is_over c a ≡ false → IsHome s.nodes a
+    owners_after : (a : Activation) → In a (map f s.activations) → is_over c a ≡ false → IsHome s.nodes a
     owners_after a is lives =
-        let was = in_image f a s.acts is in
+        let was = in_image f a s.activations is in
         let home = sound.owners was.0 was.1 (not_over_before was.0 was.1 (ap (λ x. is_over c x) (sym was.2) ∙ lives)) in
         record {
           node = home.node;
@@ -260,15 +260,15 @@ module _ (c : Config) (run : ℕ) (s : Standing) (sound : IsSound c run s) where
           placed = home.placed ∙ sym (ap (λ x. x.path) was.2 ∙ follows.path_kept was.0);
         }
 
-    pub with_acts_sound : IsSound c run (with_acts f s)
-    with_acts_sound = record {
+    pub with_activations_sound : IsSound c run (with_activations f s)
+    with_activations_sound = record {
       tree = sound.tree;
       homes = sound.homes;
       trials = sound.trials;
       trial_alone = sound.trial_alone;
       owners = owners_after;
       counted = counted_after;
-      act_alone = act_alone_after;
+      activation_alone = activation_alone_after;
       life_alone = life_alone_after;
-      ids = λ a is. (let was = in_image f a s.acts is in ap₂ (λ q i. is_bad_id c run s.made q i) (ap (λ x. x.path) was.2 ∙ follows.path_kept was.0) (ap (λ x. x.oid) was.2 ∙ follows.oid_kept was.0) ∙ sound.ids was.0 was.1);
+      ids = λ a is. (let was = in_image f a s.activations is in ap₂ (λ q i. is_bad_id c run s.made q i) (ap (λ x. x.path) was.2 ∙ follows.path_kept was.0) (ap (λ x. x.oid) was.2 ∙ follows.oid_kept was.0) ∙ sound.ids was.0 was.1);
     }

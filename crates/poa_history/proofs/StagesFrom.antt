@@ -28,7 +28,7 @@ use Rattle.poa_history.specs.InFlight.{Holds}
 use Rattle.poa_tree.proofs.Members.{in_front, in_back, in_kept, kept_in}
 use Rattle.poa_history.proofs.TurnTells.{admission_is, trial_is, incarnation_is, run_is, takeout_is, removal_is}
 use Rattle.poa_history.proofs.FlightsFrom.{flight_for, flights_command}
-use Rattle.poa_history.proofs.ActsFrom.{phase_by}
+use Rattle.poa_history.proofs.ActivationsFrom.{phase_by}
 use Rattle.poa_history.proofs.CommandAnswers.{is_begin}
 use Rattle.poa_history.proofs.Untouched.{flights_child}
 
@@ -128,7 +128,7 @@ pub begun_flight : (s : Standing) (r : ℕ) (key : Key) (v : Verdict) (f : Fligh
 begun_flight s r key (Serve n) f is = (let e : Some (record { arrival = r; adapter = adapter_met (walk s.nodes key.path); activation = Some n; child = None }) ≡ Some f = is in let same : record { arrival = r; adapter = adapter_met (walk s.nodes key.path); activation = Some n; child = None } ≡ f = cc in subst (λ g. In g (with_admitted r (Some key) (Serve n) s).flights) same (in_back _ s.flights))
 begun_flight s r key (Preset n) f is = (let e : Some (record { arrival = r; adapter = adapter_met (walk s.nodes key.path); activation = None; child = None }) ≡ Some f = is in let same : record { arrival = r; adapter = adapter_met (walk s.nodes key.path); activation = None; child = None } ≡ f = cc in subst (λ g. In g (with_admitted r (Some key) (Preset n) s).flights) same (in_back _ s.flights))
 begun_flight s r key (Locator n) f is = (let e : Some (record { arrival = r; adapter = adapter_met (walk s.nodes key.path); activation = None; child = None }) ≡ Some f = is in let same : record { arrival = r; adapter = adapter_met (walk s.nodes key.path); activation = None; child = None } ≡ f = cc in subst (λ g. In g (with_admitted r (Some key) (Locator n) s).flights) same (in_back _ s.flights))
-begun_flight s r key (Incarnate n) f is = (let e : Some (record { arrival = r; adapter = adapter_met (walk s.nodes key.path); activation = Some (length s.acts); child = None }) ≡ Some f = is in let same : record { arrival = r; adapter = adapter_met (walk s.nodes key.path); activation = Some (length s.acts); child = None } ≡ f = cc in subst (λ g. In g (with_admitted r (Some key) (Incarnate n) s).flights) same (in_back _ s.flights))
+begun_flight s r key (Incarnate n) f is = (let e : Some (record { arrival = r; adapter = adapter_met (walk s.nodes key.path); activation = Some (length s.activations); child = None }) ≡ Some f = is in let same : record { arrival = r; adapter = adapter_met (walk s.nodes key.path); activation = Some (length s.activations); child = None } ≡ f = cc in subst (λ g. In g (with_admitted r (Some key) (Incarnate n) s).flights) same (in_back _ s.flights))
 begun_flight s r key Try f is = (let e : Some (record { arrival = r; adapter = adapter_met (walk s.nodes key.path); activation = None; child = Some (child_met (walk s.nodes key.path) key.path) }) ≡ Some f = is in let same : record { arrival = r; adapter = adapter_met (walk s.nodes key.path); activation = None; child = Some (child_met (walk s.nodes key.path) key.path) } ≡ f = cc in subst (λ g. In g (with_admitted r (Some key) Try s).flights) same (in_back _ s.flights))
 begun_flight s r key (Refuse x) f is = absurd (let e : None ≡ Some f = is in cc)
 begun_flight s r key (Forward x) f is = absurd (let e : None ≡ Some f = is in cc)
@@ -293,12 +293,12 @@ brings_flights c s (Serving r) a brings_ = refl
 brings_flights c s (Ran r) a brings_ = refl
 brings_flights c s (Removing n) a brings_ = refl
 
-pub brings_acts : (c : Config) (s : Standing) (q n : ℕ) (a : Incarnation) → brings a ≡ true → (with_incarnated c (Incarnating q n) a s).acts ≡ map (at_number n (come_to (phase_by c n a))) s.acts
-brings_acts c s q n (Fresh m) brings_ = refl
-brings_acts c s q n (Named name) brings_ = refl
-brings_acts c s q n Double brings_ = absurd (let f : false ≡ true = brings_ in cc)
-brings_acts c s q n (ForwardTo x) brings_ = absurd (let f : false ≡ true = brings_ in cc)
-brings_acts c s q n (Raise x) brings_ = absurd (let f : false ≡ true = brings_ in cc)
+pub brings_activations : (c : Config) (s : Standing) (q n : ℕ) (a : Incarnation) → brings a ≡ true → (with_incarnated c (Incarnating q n) a s).activations ≡ map (at_number n (come_to (phase_by c n a))) s.activations
+brings_activations c s q n (Fresh m) brings_ = refl
+brings_activations c s q n (Named name) brings_ = refl
+brings_activations c s q n Double brings_ = absurd (let f : false ≡ true = brings_ in cc)
+brings_activations c s q n (ForwardTo x) brings_ = absurd (let f : false ≡ true = brings_ in cc)
+brings_activations c s q n (Raise x) brings_ = absurd (let f : false ≡ true = brings_ in cc)
 
 pub gone_incarnated : (c : Config) (s : Standing) (q n : ℕ) (a : Incarnation) (f : Flight) → brings a ≡ false → In f (with_incarnated c (Incarnating q n) a s).flights → f.arrival ≡ q → ⊥
 gone_incarnated c s q n (Fresh m) f none there at = absurd (let x : true ≡ false = none in cc)

@@ -12,11 +12,11 @@ use Rattle.poa_base.specs.declared.Attempt.TheVariants.{Yes}
 use Rattle.poa_base.specs.declared.Entry.{Entry}
 use Rattle.poa_base.specs.declared.Entry.TheVariants.{Entered, Arrive, Filled, Left, Collect, Admit, Tried, Incarnated, Run, Done, TakeOut, Etherealized, Abandon}
 use Rattle.poa_base.specs.declared.Verdict.{Verdict}
-use Rattle.poa_verdict.specs.declared.Choice.{Choice}
-use Rattle.poa_verdict.specs.declared.Choice.TheVariants.{Go, Held}
-use Rattle.poa_verdict.specs.Table.{first_row}
+use Rattle.poa_choose.specs.declared.Choice.{Choice}
+use Rattle.poa_choose.specs.declared.Choice.TheVariants.{Go, Held}
+use Rattle.poa_choose.specs.Table.{first_row}
 use Rattle.poa_tree.specs.declared.node.Node.{Node}
-use Rattle.poa_history.specs.declared.act.Act.{Act}
+use Rattle.poa_history.specs.declared.activation.Activation.{Activation}
 use Rattle.poa_history.specs.declared.stage.Stage.{Stage}
 use Rattle.poa_history.specs.declared.stage.Stage.TheVariants.{Free, Trying, Incarnating, Serving, Ran, Removing}
 use Rattle.poa_history.specs.Templates.{policies_at, retains, activates_implicitly}
@@ -31,7 +31,7 @@ use Rattle.poa_history.specs.Changes.{changed, standing, child_tried}
 use Rattle.poa_history.specs.Situations.{key_fact, key_or_none, is_crowded, facts_met, facts_of}
 use Rattle.poa_history.specs.Verdicts.{chosen, verdict_on, verdict}
 use Rattle.poa_history.specs.Rules.{brought}
-use Rattle.poa_history.specs.Turns.{attempt, going_on, act_numbered}
+use Rattle.poa_history.specs.Turns.{attempt, going_on, activation_numbered}
 use Rattle.poa_history.specs.Legal.{IsTurn, MayFollow}
 use Rattle.poa_history.specs.Sound.{IsSound, ImplicitMakes}
 use Rattle.poa_history.proofs.TurnIs.{goes_on, takes, admits, turned}
@@ -46,35 +46,35 @@ use Rattle.poa_history.proofs.SettledKept.{settled_sound}
 no_admit : (c : Config) (s : Standing) (w r : ℕ) (v : Verdict) (begun : Stage) → going_on c s w begun ≡ Some (Admit w r v) → ⊥
 no_admit c s w r v Free is = (let e : None ≡ Some (Admit w r v) = is in cc)
 no_admit c s w r v (Trying q) is = (let e : Some (Tried w (attempt c s q)) ≡ Some (Admit w r v) = is in cc)
-no_admit c s w r v (Incarnating q n) is = by_act (act_numbered s n) is
+no_admit c s w r v (Incarnating q n) is = by_activation (activation_numbered s n) is
   where
-    by_act : (o : Option Act) → option_map (λ a. Incarnated w (brought c s a)) o ≡ Some (Admit w r v) → ⊥
-    by_act None none = (let e : None ≡ Some (Admit w r v) = none in cc)
-    by_act (Some a) some_ = (let e : Some (Incarnated w (brought c s a)) ≡ Some (Admit w r v) = some_ in cc)
+    by_activation : (o : Option Activation) → option_map (λ a. Incarnated w (brought c s a)) o ≡ Some (Admit w r v) → ⊥
+    by_activation None none = (let e : None ≡ Some (Admit w r v) = none in cc)
+    by_activation (Some a) some_ = (let e : Some (Incarnated w (brought c s a)) ≡ Some (Admit w r v) = some_ in cc)
 no_admit c s w r v (Serving q) is = (let e : Some (Run w) ≡ Some (Admit w r v) = is in cc)
 no_admit c s w r v (Ran q) is = (let e : Some (Done w) ≡ Some (Admit w r v) = is in cc)
-no_admit c s w r v (Removing n) is = by_act (act_numbered s n) is
+no_admit c s w r v (Removing n) is = by_activation (activation_numbered s n) is
   where
-    by_act : (o : Option Act) → option_map (λ a. Etherealized w a.cleanup a.remaining) o ≡ Some (Admit w r v) → ⊥
-    by_act None none = (let e : None ≡ Some (Admit w r v) = none in cc)
-    by_act (Some a) some_ = (let e : Some (Etherealized w a.cleanup a.remaining) ≡ Some (Admit w r v) = some_ in cc)
+    by_activation : (o : Option Activation) → option_map (λ a. Etherealized w a.cleanup a.remaining) o ≡ Some (Admit w r v) → ⊥
+    by_activation None none = (let e : None ≡ Some (Admit w r v) = none in cc)
+    by_activation (Some a) some_ = (let e : Some (Etherealized w a.cleanup a.remaining) ≡ Some (Admit w r v) = some_ in cc)
 
 -- an answer of an adapter activator goes on with a trial
 only_trial : (c : Config) (s : Standing) (w k : ℕ) (begun : Stage) → going_on c s w begun ≡ Some (Tried w (Yes k)) → (r : ℕ) × (begun ≡ Trying r) × (attempt c s r ≡ Yes k)
 only_trial c s w k Free is = absurd (let e : None ≡ Some (Tried w (Yes k)) = is in cc)
 only_trial c s w k (Trying q) is = (q, refl, (let e : Some (Tried w (attempt c s q)) ≡ Some (Tried w (Yes k)) = is in cc))
-only_trial c s w k (Incarnating q n) is = absurd (by_act (act_numbered s n) is)
+only_trial c s w k (Incarnating q n) is = absurd (by_activation (activation_numbered s n) is)
   where
-    by_act : (o : Option Act) → option_map (λ a. Incarnated w (brought c s a)) o ≡ Some (Tried w (Yes k)) → ⊥
-    by_act None none = (let e : None ≡ Some (Tried w (Yes k)) = none in cc)
-    by_act (Some a) some_ = (let e : Some (Incarnated w (brought c s a)) ≡ Some (Tried w (Yes k)) = some_ in cc)
+    by_activation : (o : Option Activation) → option_map (λ a. Incarnated w (brought c s a)) o ≡ Some (Tried w (Yes k)) → ⊥
+    by_activation None none = (let e : None ≡ Some (Tried w (Yes k)) = none in cc)
+    by_activation (Some a) some_ = (let e : Some (Incarnated w (brought c s a)) ≡ Some (Tried w (Yes k)) = some_ in cc)
 only_trial c s w k (Serving q) is = absurd (let e : Some (Run w) ≡ Some (Tried w (Yes k)) = is in cc)
 only_trial c s w k (Ran q) is = absurd (let e : Some (Done w) ≡ Some (Tried w (Yes k)) = is in cc)
-only_trial c s w k (Removing n) is = absurd (by_act (act_numbered s n) is)
+only_trial c s w k (Removing n) is = absurd (by_activation (activation_numbered s n) is)
   where
-    by_act : (o : Option Act) → option_map (λ a. Etherealized w a.cleanup a.remaining) o ≡ Some (Tried w (Yes k)) → ⊥
-    by_act None none = (let e : None ≡ Some (Tried w (Yes k)) = none in cc)
-    by_act (Some a) some_ = (let e : Some (Etherealized w a.cleanup a.remaining) ≡ Some (Tried w (Yes k)) = some_ in cc)
+    by_activation : (o : Option Activation) → option_map (λ a. Etherealized w a.cleanup a.remaining) o ≡ Some (Tried w (Yes k)) → ⊥
+    by_activation None none = (let e : None ≡ Some (Tried w (Yes k)) = none in cc)
+    by_activation (Some a) some_ = (let e : Some (Etherealized w a.cleanup a.remaining) ≡ Some (Tried w (Yes k)) = some_ in cc)
 
 pub chosen_go : (choice : Choice) (v : Verdict) → chosen choice ≡ Some v → choice ≡ Go v
 chosen_go (Go u) v is = (let e : Some u ≡ Some v = is in ap (λ x. Go x) cc)

@@ -13,18 +13,18 @@ use Rattle.poa_base.specs.declared.Policy.TheVariants.{DefaultServant, ServantMa
 use Rattle.poa_base.specs.declared.Cause.{Cause}
 use Rattle.poa_base.specs.declared.Verdict.{Verdict}
 use Rattle.poa_base.specs.declared.Verdict.TheVariants.{Serve, Preset, Locator, Incarnate, Try, Refuse, Forward, Addressing, Here, Unknown}
-use Rattle.poa_verdict.specs.declared.Choice.{Choice}
-use Rattle.poa_verdict.specs.declared.Choice.TheVariants.{Go, Held}
-use Rattle.poa_verdict.specs.declared.Facts.{Facts}
-use Rattle.poa_verdict.specs.declared.KeyFact.{KeyFact}
-use Rattle.poa_verdict.specs.declared.KeyFact.TheVariants.{Absent, Bad, OtherRun}
-use Rattle.poa_verdict.specs.declared.Located.{Located}
-use Rattle.poa_verdict.specs.declared.Located.TheVariants.{Servant, Forward as Elsewhere, Raise, NoRule}
-use Rattle.poa_verdict.specs.declared.MapFact.{MapFact}
-use Rattle.poa_verdict.specs.declared.MapFact.TheVariants.{Active as ActiveAs, Busy, Free}
-use Rattle.poa_verdict.specs.declared.WalkFact.{WalkFact}
-use Rattle.poa_verdict.specs.declared.WalkFact.TheVariants.{Dying, Missing, Found}
-use Rattle.poa_verdict.specs.Table.{refuse, serve, is_transient, forward_or, inactive_rule, state_rule, located_rows, locator_rows, manager_rows, default_rows, unmade, processing_rows, map_rows, object_rows, awaits_turn, awaits_main, thread_rows, trial_rows, walk_rows, key_rows, first_row, own, omg}
+use Rattle.poa_choose.specs.declared.Choice.{Choice}
+use Rattle.poa_choose.specs.declared.Choice.TheVariants.{Go, Held}
+use Rattle.poa_choose.specs.declared.Facts.{Facts}
+use Rattle.poa_choose.specs.declared.KeyFact.{KeyFact}
+use Rattle.poa_choose.specs.declared.KeyFact.TheVariants.{Absent, Bad, OtherRun}
+use Rattle.poa_choose.specs.declared.Located.{Located}
+use Rattle.poa_choose.specs.declared.Located.TheVariants.{Servant, Forward as Elsewhere, Raise, NoRule}
+use Rattle.poa_choose.specs.declared.MapFact.{MapFact}
+use Rattle.poa_choose.specs.declared.MapFact.TheVariants.{Active as ActiveAs, Busy, Free}
+use Rattle.poa_choose.specs.declared.WalkFact.{WalkFact}
+use Rattle.poa_choose.specs.declared.WalkFact.TheVariants.{Dying, Missing, Found}
+use Rattle.poa_choose.specs.Table.{refuse, serve, is_transient, forward_or, inactive_rule, state_rule, located_rows, locator_rows, manager_rows, default_rows, unmade, processing_rows, map_rows, object_rows, awaits_turn, awaits_main, thread_rows, trial_rows, walk_rows, key_rows, first_row, own, omg}
 
 -- a servant runs by it, or is brought to run
 abbrev pub is_run : Verdict → Bool

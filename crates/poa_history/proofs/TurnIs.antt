@@ -6,7 +6,7 @@ use Rattle.poa_base.specs.declared.Config.{Config}
 use Rattle.poa_base.specs.declared.Entry.{Entry}
 use Rattle.poa_base.specs.declared.Entry.TheVariants.{Admit, TakeOut}
 use Rattle.poa_base.specs.declared.Verdict.{Verdict}
-use Rattle.poa_history.specs.declared.act.Act.{Act}
+use Rattle.poa_history.specs.declared.activation.Activation.{Activation}
 use Rattle.poa_history.specs.declared.stage.Stage.{Stage}
 use Rattle.poa_history.specs.declared.stage.Stage.TheVariants.{Free, Trying, Incarnating, Serving, Ran, Removing}
 use Rattle.poa_history.specs.Searches.{first_given}
@@ -36,7 +36,7 @@ pub data Turned (c : Config) (run : ℕ) (past : List Entry) (w : ℕ) (e : Entr
   -- what was begun goes on
   goes_on : going_on c (standing c run past) w (stage past w) ≡ Some e → Turned c run past w e
   -- an activation that is due is taken out
-  takes : (a : Act) → stage past w ≡ Free → In a (standing c run past).acts → is_due c (standing c run past) a ≡ true → TakeOut w a.number (not a.quiet) ≡ e → Turned c run past w e
+  takes : (a : Activation) → stage past w ≡ Free → In a (standing c run past).activations → is_due c (standing c run past) a ≡ true → TakeOut w a.number (not a.quiet) ≡ e → Turned c run past w e
   -- an arrival that is unadmitted and isn't held is admitted
   admits : (r : ℕ) (v : Verdict) → stage past w ≡ Free → r < arrivals past → is_unadmitted past r ≡ true → verdict c run past r w ≡ Some v → Admit w r v ≡ e → Turned c run past w e
 
@@ -52,8 +52,8 @@ module _ (c : Config) (run : ℕ) (past : List Entry) (w : ℕ) (e : Entry) wher
   free_turn free given =
       elim (removal c (standing c run past) w) as (λ o. removal c (standing c run past) w ≡ o → option_or o (admission c run past w) ≡ Some e → Turned c run past w e) [
         | Some taken ↦ λ is same.
-            (let found = mapped_by (λ a. TakeOut w a.number (not a.quiet)) (find (is_due c (standing c run past)) (standing c run past).acts) e (is ∙ same) in
-            let there = find_in (is_due c (standing c run past)) found.0 (standing c run past).acts found.1 in takes found.0 free there.0 there.1 found.2)
+            (let found = mapped_by (λ a. TakeOut w a.number (not a.quiet)) (find (is_due c (standing c run past)) (standing c run past).activations) e (is ∙ same) in
+            let there = find_in (is_due c (standing c run past)) found.0 (standing c run past).activations found.1 in takes found.0 free there.0 there.1 found.2)
         | None ↦ λ _ same. (let found = given_by (admission_of c run past w) (arrivals past) e same in admitted_by found.0 free found.1 found.2)
       ] refl given
 

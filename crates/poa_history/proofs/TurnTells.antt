@@ -7,7 +7,7 @@ use Rattle.poa_base.specs.declared.Incarnation.{Incarnation}
 use Rattle.poa_base.specs.declared.Verdict.{Verdict}
 use Rattle.poa_base.specs.declared.Entry.{Entry}
 use Rattle.poa_base.specs.declared.Entry.TheVariants.{Admit, Tried, Incarnated, Run, Done, TakeOut, Etherealized}
-use Rattle.poa_history.specs.declared.act.Act.{Act}
+use Rattle.poa_history.specs.declared.activation.Activation.{Activation}
 use Rattle.poa_history.specs.declared.stage.Stage.{Stage}
 use Rattle.poa_history.specs.declared.stage.Stage.TheVariants.{Free, Trying, Incarnating, Serving, Ran, Removing}
 use Rattle.poa_history.specs.Arrivals.{arrivals, call_of}
@@ -16,7 +16,7 @@ use Rattle.poa_history.specs.Standings.{Standing}
 use Rattle.poa_history.specs.Changes.{standing}
 use Rattle.poa_history.specs.Rules.{brought}
 use Rattle.poa_history.specs.Verdicts.{verdict, verdict_on}
-use Rattle.poa_history.specs.Turns.{attempt, going_on, act_numbered, is_due}
+use Rattle.poa_history.specs.Turns.{attempt, going_on, activation_numbered, is_due}
 use Rattle.poa_history.specs.Legal.{IsTurn}
 use Rattle.poa_tree.specs.Trees.{In}
 use Rattle.poa_history.proofs.TurnIs.{mapped_by, goes_on, takes, admits, turned}
@@ -24,18 +24,18 @@ use Rattle.poa_history.proofs.TurnIs.{mapped_by, goes_on, takes, admits, turned}
 -- how what was begun goes on
 pub data GoesOn (c : Config) (s : Standing) (w : ℕ) (begun : Stage) (e : Entry) : Type 0 where
   tries : (r : ℕ) → begun ≡ Trying r → Tried w (attempt c s r) ≡ e → GoesOn c s w begun e
-  incarnates : (r n : ℕ) (a : Act) → begun ≡ Incarnating r n → act_numbered s n ≡ Some a → Incarnated w (brought c s a) ≡ e → GoesOn c s w begun e
+  incarnates : (r n : ℕ) (a : Activation) → begun ≡ Incarnating r n → activation_numbered s n ≡ Some a → Incarnated w (brought c s a) ≡ e → GoesOn c s w begun e
   runs : (r : ℕ) → begun ≡ Serving r → Run w ≡ e → GoesOn c s w begun e
   ends : (r : ℕ) → begun ≡ Ran r → Done w ≡ e → GoesOn c s w begun e
-  removes : (n : ℕ) (a : Act) → begun ≡ Removing n → act_numbered s n ≡ Some a → Etherealized w a.cleanup a.remaining ≡ e → GoesOn c s w begun e
+  removes : (n : ℕ) (a : Activation) → begun ≡ Removing n → activation_numbered s n ≡ Some a → Etherealized w a.cleanup a.remaining ≡ e → GoesOn c s w begun e
 
 going : (c : Config) (s : Standing) (w : ℕ) (begun : Stage) (e : Entry) → going_on c s w begun ≡ Some e → GoesOn c s w begun e
 going c s w Free e is = absurd (let f : None ≡ Some e = is in cc)
 going c s w (Trying r) e is = tries r refl (let f : Some (Tried w (attempt c s r)) ≡ Some e = is in cc)
-going c s w (Incarnating r n) e is = (let found = mapped_by (λ a. Incarnated w (brought c s a)) (act_numbered s n) e is in incarnates r n found.0 refl found.1 found.2)
+going c s w (Incarnating r n) e is = (let found = mapped_by (λ a. Incarnated w (brought c s a)) (activation_numbered s n) e is in incarnates r n found.0 refl found.1 found.2)
 going c s w (Serving r) e is = runs r refl (let f : Some (Run w) ≡ Some e = is in cc)
 going c s w (Ran r) e is = ends r refl (let f : Some (Done w) ≡ Some e = is in cc)
-going c s w (Removing n) e is = (let found = mapped_by (λ a. Etherealized w a.cleanup a.remaining) (act_numbered s n) e is in removes n found.0 refl found.1 found.2)
+going c s w (Removing n) e is = (let found = mapped_by (λ a. Etherealized w a.cleanup a.remaining) (activation_numbered s n) e is in removes n found.0 refl found.1 found.2)
 
 module _ (c : Config) (run : ℕ) (past : List Entry) (w : ℕ) where
   abbrev s : Standing
@@ -56,24 +56,24 @@ module _ (c : Config) (run : ℕ) (past : List Entry) (w : ℕ) where
   pub record IsIncarnation (answer : Incarnation) : Type 0 where
     pub arrival : ℕ
     pub number : ℕ
-    pub it : Act
+    pub it : Activation
     pub begun : stage past w ≡ Incarnating arrival number
-    pub found : act_numbered s number ≡ Some it
+    pub found : activation_numbered s number ≡ Some it
     pub told : brought c s it ≡ answer
 
   pub record IsTakeOut (n : ℕ) (etherealize : Bool) : Type 0 where
-    pub it : Act
+    pub it : Activation
     pub free : stage past w ≡ Free
-    pub there : In it s.acts
+    pub there : In it s.activations
     pub due : is_due c s it ≡ true
     pub numbered : it.number ≡ n
     pub told : not it.quiet ≡ etherealize
 
   pub record IsRemoval (cleanup remaining : Bool) : Type 0 where
     pub number : ℕ
-    pub it : Act
+    pub it : Activation
     pub begun : stage past w ≡ Removing number
-    pub found : act_numbered s number ≡ Some it
+    pub found : activation_numbered s number ≡ Some it
     pub cleanup_is : it.cleanup ≡ cleanup
     pub remaining_is : it.remaining ≡ remaining
 

@@ -5,7 +5,7 @@ use Rattle.poa_base.specs.declared.Attempt.{Attempt}
 use Rattle.poa_base.specs.declared.Attempt.TheVariants.{Yes, No, Raised, Dying}
 use Rattle.poa_tree.specs.declared.node.Node.{Node}
 use Rattle.poa_history.specs.declared.flight.Flight.{Flight}
-use Rattle.poa_history.specs.declared.act.Act.{Act}
+use Rattle.poa_history.specs.declared.activation.Activation.{Activation}
 use Rattle.poa_history.specs.Standings.{Standing}
 use Rattle.poa_history.specs.Changes.{child_tried, with_child, without_flight, with_tried}
 
@@ -21,25 +21,25 @@ made_in s = s.made
 abbrev pub flights_in : Standing → List Flight
 flights_in s = s.flights
 
-abbrev pub acts_in : Standing → List Act
-acts_in s = s.acts
+abbrev pub activations_in : Standing → List Activation
+activations_in s = s.activations
 
 -- a child that is created
 pub flights_child : (p : Option (List (List ℕ))) (s : Standing) → (with_child p s).flights ≡ s.flights
 flights_child None s = refl
 flights_child (Some p) s = refl
 
-pub acts_child : (p : Option (List (List ℕ))) (s : Standing) → (with_child p s).acts ≡ s.acts
-acts_child None s = refl
-acts_child (Some p) s = refl
+pub activations_child : (p : Option (List (List ℕ))) (s : Standing) → (with_child p s).activations ≡ s.activations
+activations_child None s = refl
+activations_child (Some p) s = refl
 
 -- a flight that ends, a trial that ends
-pub acts_fewer : (s : Standing) (r : Option ℕ) → (without_flight r s).acts ≡ s.acts
-acts_fewer s None = refl
-acts_fewer s (Some r) = refl
+pub activations_fewer : (s : Standing) (r : Option ℕ) → (without_flight r s).activations ≡ s.activations
+activations_fewer s None = refl
+activations_fewer s (Some r) = refl
 
-pub acts_tried : (s : Standing) (r : Option ℕ) (answer : Attempt) → (with_tried r answer s).acts ≡ s.acts
-acts_tried s r (Yes n) = acts_child (child_tried s.flights r) (without_flight r s) ∙ acts_fewer s r
-acts_tried s r No = acts_fewer s r
-acts_tried s r Raised = acts_fewer s r
-acts_tried s r Dying = acts_fewer s r
+pub activations_tried : (s : Standing) (r : Option ℕ) (answer : Attempt) → (with_tried r answer s).activations ≡ s.activations
+activations_tried s r (Yes n) = activations_child (child_tried s.flights r) (without_flight r s) ∙ activations_fewer s r
+activations_tried s r No = activations_fewer s r
+activations_tried s r Raised = activations_fewer s r
+activations_tried s r Dying = activations_fewer s r

@@ -8,17 +8,17 @@ use Rattle.poa_base.specs.declared.Call.{Call}
 use Rattle.poa_base.specs.declared.Entry.{Entry}
 use Rattle.poa_base.specs.declared.Verdict.{Verdict}
 use Rattle.poa_base.specs.declared.Verdict.TheVariants.{Incarnate, Try}
-use Rattle.poa_verdict.specs.declared.Choice.{Choice}
-use Rattle.poa_verdict.specs.declared.Choice.TheVariants.{Go}
-use Rattle.poa_verdict.specs.declared.Facts.{Facts}
-use Rattle.poa_verdict.specs.declared.MapFact.TheVariants.{Active, Busy, Free}
-use Rattle.poa_verdict.specs.declared.WalkFact.TheVariants.{Dying as MeetsDying, Missing as MeetsMissing, Found as MeetsAdapter}
-use Rattle.poa_verdict.specs.Table.{unmade, first_row}
+use Rattle.poa_choose.specs.declared.Choice.{Choice}
+use Rattle.poa_choose.specs.declared.Choice.TheVariants.{Go}
+use Rattle.poa_choose.specs.declared.Facts.{Facts}
+use Rattle.poa_choose.specs.declared.MapFact.TheVariants.{Active, Busy, Free}
+use Rattle.poa_choose.specs.declared.WalkFact.TheVariants.{Dying as MeetsDying, Missing as MeetsMissing, Found as MeetsAdapter}
+use Rattle.poa_choose.specs.Table.{unmade, first_row}
 use Rattle.std.specs.Int.{w32, from_be_bytes}
 use Rattle.poa_base.specs.Policies.{is_retain}
 use Rattle.poa_history.specs.Templates.{policies_at, makes_ids}
 use Rattle.poa_history.specs.Commands.{is_bad_id}
-use Rattle.poa_history.specs.declared.act.Act.{Act}
+use Rattle.poa_history.specs.declared.activation.Activation.{Activation}
 use Rattle.poa_tree.specs.Paths.{same_bytes, same_path}
 use Rattle.poa_history.specs.Arrivals.{target_of}
 use Rattle.poa_history.specs.Standings.{Standing, is_active, is_of, is_tried}
@@ -79,21 +79,21 @@ module _ (c : Config) (run : ℕ) (s : Standing) (sound : IsSound c run s) (r : 
       }
 
   -- no activation of the id holds it
-  over_by : (k : ℕ) → slot_of c s.acts k key.oid ≡ Free → (a : Act) → In a s.acts → a.adapter ≡ k → a.oid ≡ key.oid → is_over c a ≡ true
+  over_by : (k : ℕ) → slot_of c s.activations k key.oid ≡ Free → (a : Activation) → In a s.activations → a.adapter ≡ k → a.oid ≡ key.oid → is_over c a ≡ true
   over_by k free a is at_k of_id =
       elim (cases_Bool (is_over c a)) [
         | inl over ↦ over
-        | inr lives ↦ absurd (elim (find (λ b. is_of k key.oid b && is_active b) s.acts) as (λ o. (elim o [ Some b ↦ Active b.number | None ↦ elim (find (λ b. is_of k key.oid b && not (is_over c b)) s.acts) [ Some b ↦ Busy b.number | None ↦ Free ] ]) ≡ Free → ⊥) [
+        | inr lives ↦ absurd (elim (find (λ b. is_of k key.oid b && is_active b) s.activations) as (λ o. (elim o [ Some b ↦ Active b.number | None ↦ elim (find (λ b. is_of k key.oid b && not (is_over c b)) s.activations) [ Some b ↦ Busy b.number | None ↦ Free ] ]) ≡ Free → ⊥) [
           | Some b ↦ λ not_free. (let e : Active b.number ≡ Free = not_free in cc)
-          | None ↦ λ not_busy. (elim (find (λ b. is_of k key.oid b && not (is_over c b)) s.acts) as (λ o. find (λ b. is_of k key.oid b && not (is_over c b)) s.acts ≡ o → (elim o [ Some b ↦ Busy b.number | None ↦ Free ]) ≡ Free → ⊥) [
+          | None ↦ λ not_busy. (elim (find (λ b. is_of k key.oid b && not (is_over c b)) s.activations) as (λ o. find (λ b. is_of k key.oid b && not (is_over c b)) s.activations ≡ o → (elim o [ Some b ↦ Busy b.number | None ↦ Free ]) ≡ Free → ⊥) [
             | Some b ↦ λ _ not_free. (let e : Busy b.number ≡ Free = not_free in cc)
-            | None ↦ λ none _. find_none (λ b. is_of k key.oid b && not (is_over c b)) a s.acts none is
+            | None ↦ λ none _. find_none (λ b. is_of k key.oid b && not (is_over c b)) a s.activations none is
                 (ap₂ (λ x y. x && y) (ap₂ (λ x y. x && y) (eq-eqb _ _ at_k) (ap (λ i. same_bytes i key.oid) of_id ∙ same_self key.oid)) (ap not lives))
           ] refl not_busy)
         ] free)
       ]
 
-  may_live : (found : Found) → Tells s.nodes key.path found → walk_fact found ≡ MeetsAdapter → slot_of c s.acts (adapter_met found) key.oid ≡ Free → is_bad_id c run s.made key.path key.oid ≡ false → MayLive c run s sound (adapter_met found) key.path key.oid
+  may_live : (found : Found) → Tells s.nodes key.path found → walk_fact found ≡ MeetsAdapter → slot_of c s.activations (adapter_met found) key.oid ≡ Free → is_bad_id c run s.made key.path key.oid ≡ false → MayLive c run s sound (adapter_met found) key.path key.oid
   may_live (Live k) tells is free made = (let (n, stands, numbered, placed, living) = tells in record { node = n; stands = stands; numbered = numbered; placed = placed; over = over_by k free; made = made })
   may_live (Dying k) tells is free made = absurd (let e : MeetsDying ≡ MeetsAdapter = is in cc)
   may_live (Missing k depth) tells is free made = absurd (let e : MeetsMissing ≡ MeetsAdapter = is in cc)

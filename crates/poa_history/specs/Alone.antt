@@ -6,8 +6,8 @@ use Rattle.poa_base.specs.declared.Sid.TheVariants.{Fresh as FreshServant}
 use Rattle.poa_base.specs.Policies.{is_single_thread}
 use Rattle.poa_tree.specs.declared.node.Node.{Node}
 use Rattle.poa_history.specs.declared.flight.Flight.{Flight}
-use Rattle.poa_history.specs.declared.act.Act.{Act}
-use Rattle.poa_history.specs.declared.act.Phase.TheVariants.{Complete}
+use Rattle.poa_history.specs.declared.activation.Activation.{Activation}
+use Rattle.poa_history.specs.declared.activation.Phase.TheVariants.{Complete}
 use Rattle.poa_tree.specs.Trees.{In}
 use Rattle.poa_history.specs.Templates.{policies_at, is_unique, servant_number, servant_name}
 use Rattle.poa_history.specs.Standings.{Standing, is_mapped}
@@ -22,17 +22,17 @@ RunsAlone c s =
 
 -- at most one incarnation or etherealization is unfinished in an adapter
 abbrev pub ChangesAlone : Config → Standing → Type 0
-ChangesAlone c s = (a b : Act) → In a s.acts → In b s.acts → a.adapter ≡ b.adapter → is_unfinished c a ≡ true → is_unfinished c b ≡ true → a ≡ b
+ChangesAlone c s = (a b : Activation) → In a s.activations → In b s.activations → a.adapter ≡ b.adapter → is_unfinished c a ≡ true → is_unfinished c b ≡ true → a ≡ b
 
 -- under UNIQUE_ID a servant is in the map of an adapter by at most one activation
 abbrev pub IsMappedAlone : Config → Standing → Type 0
 IsMappedAlone c s =
-    (a b : Act) (t : Sid) → In a s.acts → In b s.acts → a.adapter ≡ b.adapter → is_unique (policies_at c a.path) ≡ true
+    (a b : Activation) (t : Sid) → In a s.activations → In b s.activations → a.adapter ≡ b.adapter → is_unique (policies_at c a.path) ≡ true
     → is_mapped a ≡ true → is_mapped b ≡ true → a.phase ≡ Complete t → b.phase ≡ Complete t → a ≡ b
 
 -- a fresh servant is that of its activation
 abbrev pub OwnsFresh : Standing → Type 0
-OwnsFresh s = (a : Act) (m : ℕ) → In a s.acts → a.phase ≡ Complete (FreshServant m) → m ≡ a.number
+OwnsFresh s = (a : Activation) (m : ℕ) → In a s.activations → a.phase ≡ Complete (FreshServant m) → m ≡ a.number
 
 pub record StandsAlone (c : Config) (s : Standing) : Type 0 where
   pub running : RunsAlone c s

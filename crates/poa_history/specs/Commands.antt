@@ -17,7 +17,7 @@ use Rattle.poa_base.specs.declared.Reason.{Reason}
 use Rattle.poa_base.specs.declared.Reason.TheVariants.{NoManager, AdapterInactive, AdapterNonExistent, NoTemplate, AdapterAlreadyExists, TooMany, WrongPolicy, NoServant, ServantAlreadyActive, BadId, ObjectAlreadyActive, ObjectNotActive, ServantNotActive, NoForward, BadWord}
 use Rattle.poa_base.specs.declared.Sid.TheVariants.{Named}
 use Rattle.poa_tree.specs.declared.node.Node.{Node}
-use Rattle.poa_history.specs.declared.act.Act.{Act}
+use Rattle.poa_history.specs.declared.activation.Activation.{Activation}
 use Rattle.poa_tree.specs.Paths.{parent_path}
 use Rattle.poa_history.specs.Templates.{template, policies_at, retains, is_unique, makes_ids, activates_implicitly, uses_default_servant, manager_number, servant_number}
 use Rattle.poa_history.specs.Standings.{Standing, is_active, is_mapped, has_servant, is_of, is_in_map, is_tried}
@@ -49,7 +49,7 @@ with_servant c name then_ = elim (servant_number c name) [ Some k ↦ then_ k | 
 
 -- under UNIQUE_ID a servant has one activation at a time
 abbrev pub is_taken : Config → Standing → Node → ℕ → Bool
-is_taken c s n k = is_unique (policies_at c n.path) && is_in_map s.acts n.number (Named k)
+is_taken c s n k = is_unique (policies_at c n.path) && is_in_map s.activations n.number (Named k)
 
 -- under SYSTEM_ID an id is eight bytes; one of this run has an ordinal that was made
 abbrev pub is_bad_id : Config → ℕ → ℕ → List (List ℕ) → List ℕ → Bool
@@ -103,8 +103,8 @@ activate_id_row c run s p oid servant =
     if not (retains (policies_at c p)) then refusal WrongPolicy
     else with_servant c servant (λ k.
     if is_bad_id c run s.made p oid then refusal BadId
-    else if list_any (λ a. is_of n.number oid a && is_active a) s.acts then refusal ObjectAlreadyActive
-    else if list_any (λ a. is_of n.number oid a && not (is_over c a)) s.acts then None
+    else if list_any (λ a. is_of n.number oid a && is_active a) s.activations then refusal ObjectAlreadyActive
+    else if list_any (λ a. is_of n.number oid a && not (is_over c a)) s.activations then None
     else if is_taken c s n k then refusal ServantAlreadyActive
     else good))
 
@@ -112,13 +112,13 @@ abbrev pub deactivate_row : Config → Standing → List (List ℕ) → List ℕ
 deactivate_row c s p oid =
     with_live s p (λ n.
     if not (retains (policies_at c p)) then refusal WrongPolicy
-    else if list_any (λ a. is_of n.number oid a && is_active a) s.acts then good
+    else if list_any (λ a. is_of n.number oid a && is_active a) s.activations then good
     else refusal ObjectNotActive)
 
 -- the activation by which a servant has its one reference
-abbrev pub referred : Config → Standing → Node → ℕ → Option Act
+abbrev pub referred : Config → Standing → Node → ℕ → Option Activation
 referred c s n k =
-    if retains (policies_at c n.path) && is_unique (policies_at c n.path) then find (λ a. (a.adapter == n.number) && (is_mapped a && has_servant (Named k) a)) s.acts else None
+    if retains (policies_at c n.path) && is_unique (policies_at c n.path) then find (λ a. (a.adapter == n.number) && (is_mapped a && has_servant (Named k) a)) s.activations else None
 
 -- the servant is activated under a system-made id
 abbrev pub is_implicit : Config → Standing → Node → ℕ → Bool

@@ -6,10 +6,10 @@ use Rattle.poa_base.specs.declared.Command.TheVariants.{Destroy, Shutdown}
 use Rattle.poa_base.specs.declared.Entry.{Entry}
 use Rattle.poa_tree.specs.declared.node.Node.{Node}
 use Rattle.poa_history.specs.declared.flight.Flight.{Flight}
-use Rattle.poa_history.specs.declared.act.Act.{Act}
+use Rattle.poa_history.specs.declared.activation.Activation.{Activation}
 use Rattle.poa_tree.specs.Paths.{leads_to}
 use Rattle.poa_tree.specs.Trees.{In}
-use Rattle.poa_history.specs.Standings.{Standing, is_busy}
+use Rattle.poa_history.specs.Standings.{Standing, has_flights}
 use Rattle.poa_history.specs.Ends.{is_over, is_gone}
 use Rattle.poa_history.specs.Logs.{command_done}
 use Rattle.poa_history.specs.Changes.{standing}
@@ -32,11 +32,11 @@ IsChildOf n m = (x : List ℕ) × (m.path ≡ n.path ++ x ∷ [])
 -- the adapter is being destroyed, nothing is in flight in it, its activations are over, and its children are gone
 pub record IsEnded (c : Config) (s : Standing) (n : Node) : Type 0 where
   pub dying : n.dying ≡ true
-  pub idle : is_busy s.flights n.number ≡ false
-  pub over : (a : Act) → In a s.acts → a.adapter ≡ n.number → is_over c a ≡ true
+  pub idle : has_flights s.flights n.number ≡ false
+  pub over : (a : Activation) → In a s.activations → a.adapter ≡ n.number → is_over c a ≡ true
   pub children : (m : Node) → In m s.nodes → IsChildOf n m → is_gone c s m.number ≡ true
 
 -- nothing is left of an adapter: nothing is in flight in it, and its activations are over
 pub record IsEmptied (c : Config) (s : Standing) (k : ℕ) : Type 0 where
   pub idle : (f : Flight) → In f s.flights → f.adapter ≡ k → ⊥
-  pub over : (a : Act) → In a s.acts → a.adapter ≡ k → is_over c a ≡ true
+  pub over : (a : Activation) → In a s.activations → a.adapter ≡ k → is_over c a ≡ true

@@ -3,31 +3,31 @@ use Rattle.std.specs.Prelude.{ℕ, Bool, true, not, ◌&&◌, ◌||◌, ◌==◌
 use Rattle.std.specs.List.{list_any}
 use Rattle.poa_base.specs.declared.Config.{Config}
 use Rattle.poa_tree.specs.declared.node.Node.{Node}
-use Rattle.poa_history.specs.declared.act.Act.{Act}
+use Rattle.poa_history.specs.declared.activation.Activation.{Activation}
 use Rattle.poa_history.specs.Templates.{has_activator}
 use Rattle.poa_history.specs.Standings.{Standing, is_complete, is_void, is_ending, is_used}
 use Rattle.poa_tree.specs.Nodes.{stands_under}
 use Rattle.poa_tree.specs.Paths.{is_root}
 
 -- out of the map, and etherealized where that is due
-abbrev pub is_finished : Config → Act → Bool
+abbrev pub is_finished : Config → Activation → Bool
 is_finished c a = a.out && (a.quiet || (not (has_activator c a.path) || a.etherealized))
 
 -- it holds its id no longer
-abbrev pub is_over : Config → Act → Bool
+abbrev pub is_over : Config → Activation → Bool
 is_over c a = is_void a || is_finished c a
 
 -- without a servant activator an activation is out as soon as it is complete and ending and nothing is in flight in it
-abbrev pub is_left : Config → Standing → Act → Bool
+abbrev pub is_left : Config → Standing → Activation → Bool
 is_left c s a = not (has_activator c a.path) && (is_complete a && (is_ending a && not (is_used s.flights a.number)))
 
-abbrev pub let_out : Config → Standing → Act → Act
+abbrev pub let_out : Config → Standing → Activation → Activation
 let_out c s a = if is_left c s a then record a { out = true } else a
 
 -- nothing is in flight at the path or below it, and its activations are over
 abbrev pub is_clear : Config → Standing → List (List ℕ) → Bool
 is_clear c s p =
-    not (list_any (λ f. stands_under s.nodes p f.adapter) s.flights) && not (list_any (λ a. not (is_over c a) && stands_under s.nodes p a.adapter) s.acts)
+    not (list_any (λ f. stands_under s.nodes p f.adapter) s.flights) && not (list_any (λ a. not (is_over c a) && stands_under s.nodes p a.adapter) s.activations)
 
 -- being destroyed, with nothing left to end in it or below it
 abbrev pub is_done_with : Config → Standing → Node → Bool
@@ -38,7 +38,7 @@ abbrev pub without_ended : Config → Standing → Standing
 without_ended c s = record s { nodes = filter (λ n. is_root n.path || not (is_done_with c s n)) s.nodes }
 
 abbrev pub settled : Config → Standing → Standing
-settled c s = without_ended c (record s { acts = map (let_out c s) s.acts })
+settled c s = without_ended c (record s { activations = map (let_out c s) s.activations })
 
 -- the adapter of this number was created and is gone
 abbrev pub is_gone : Config → Standing → ℕ → Bool

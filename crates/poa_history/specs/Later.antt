@@ -2,14 +2,14 @@
 use Rattle.std.specs.Prelude.{◌≡◌, true}
 use Rattle.poa_base.specs.declared.Config.{Config}
 use Rattle.poa_base.specs.declared.Sid.{Sid}
-use Rattle.poa_history.specs.declared.act.Act.{Act}
-use Rattle.poa_history.specs.declared.act.Phase.TheVariants.{Complete, Void}
+use Rattle.poa_history.specs.declared.activation.Activation.{Activation}
+use Rattle.poa_history.specs.declared.activation.Phase.TheVariants.{Complete, Void}
 use Rattle.poa_history.specs.Standings.{Standing}
 use Rattle.poa_history.specs.Ends.{is_finished}
 use Rattle.poa_tree.specs.Trees.{In}
 
 -- the second is what the first has become: the same activation, and it has lost nothing of how far it came
-pub record IsLater (c : Config) (a b : Act) : Type 0 where
+pub record IsLater (c : Config) (a b : Activation) : Type 0 where
   pub number : b.number ≡ a.number
   pub adapter : b.adapter ≡ a.adapter
   pub path : b.path ≡ a.path
@@ -25,4 +25,4 @@ pub record IsLater (c : Config) (a b : Act) : Type 0 where
 
 -- each activation of the one standing stands in the other, as what it has become
 abbrev pub AllLater : Config → Standing → Standing → Type 0
-AllLater c s t = (a : Act) → In a s.acts → (b : Act) × In b t.acts × IsLater c a b
+AllLater c s t = (a : Activation) → In a s.activations → (b : Activation) × In b t.activations × IsLater c a b

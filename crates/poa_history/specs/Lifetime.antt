@@ -5,28 +5,28 @@ use Rattle.poa_base.specs.declared.Config.{Config}
 use Rattle.poa_base.specs.declared.Entry.{Entry}
 use Rattle.poa_base.specs.declared.Entry.TheVariants.{Admit, Run, TakeOut, Etherealized}
 use Rattle.poa_base.specs.declared.Verdict.TheVariants.{Serve, Incarnate}
-use Rattle.poa_history.specs.declared.act.Act.{Act}
+use Rattle.poa_history.specs.declared.activation.Activation.{Activation}
 use Rattle.poa_history.specs.declared.stage.Stage.{Stage}
 use Rattle.poa_history.specs.declared.stage.Stage.TheVariants.{Serving, Removing}
 use Rattle.poa_history.specs.Stages.{stage, admitted}
 use Rattle.poa_history.specs.Standings.{Standing, is_complete, is_ending, is_of, is_used}
 use Rattle.poa_history.specs.Ends.{is_over}
 use Rattle.poa_history.specs.Changes.{standing}
-use Rattle.poa_history.specs.Turns.{act_numbered}
+use Rattle.poa_history.specs.Turns.{activation_numbered}
 use Rattle.poa_history.specs.InFlight.{named}
 use Rattle.poa_history.specs.Legal.{EachEntry}
 
 -- it has a servant, and isn't out of the map
 pub record IsServable (s : Standing) (n : ℕ) : Type 0 where
-  pub it : Act
-  pub begun : act_numbered s n ≡ Some it
+  pub it : Activation
+  pub begun : activation_numbered s n ≡ Some it
   pub complete : is_complete it ≡ true
   pub mapped : it.out ≡ false
 
 -- it is ending, not out yet, and nothing is in flight in it
 pub record IsRemovable (s : Standing) (n : ℕ) (etherealize : Bool) : Type 0 where
-  pub it : Act
-  pub begun : act_numbered s n ≡ Some it
+  pub it : Activation
+  pub begun : activation_numbered s n ≡ Some it
   pub complete : is_complete it ≡ true
   pub ending : is_ending it ≡ true
   pub mapped : it.out ≡ false
@@ -36,9 +36,9 @@ pub record IsRemovable (s : Standing) (n : ℕ) (etherealize : Bool) : Type 0 wh
 -- it was taken out by this worker, and is etherealized for the first time, with the flags that stood at its removal
 pub record IsEtherealizable (s : Standing) (begun_ : Stage) (cleanup remaining : Bool) : Type 0 where
   pub number : ℕ
-  pub it : Act
+  pub it : Activation
   pub begun : begun_ ≡ Removing number
-  pub found : act_numbered s number ≡ Some it
+  pub found : activation_numbered s number ≡ Some it
   pub out : it.out ≡ true
   pub loud : it.quiet ≡ false
   pub first : it.etherealized ≡ false
@@ -47,7 +47,7 @@ pub record IsEtherealizable (s : Standing) (begun_ : Stage) (cleanup remaining :
   pub remaining_is : remaining ≡ it.remaining
 
 -- an activation that begins gets the next number, and every earlier one of its adapter and id is over
-pub record BeginsFree (c : Config) (before : List Act) (a : Act) : Type 0 where
+pub record BeginsFree (c : Config) (before : List Activation) (a : Activation) : Type 0 where
   pub number : a.number ≡ length before
   pub free : All (λ b. is_of a.adapter a.oid b ≡ true → is_over c b ≡ true) before
 
@@ -56,7 +56,7 @@ abbrev pub KeepsLives : Config → ℕ → List Entry → Entry → Type 0
 KeepsLives c run past (Run w) =
     (r n : ℕ) → stage past w ≡ Serving r → named (admitted past r) ≡ Some n → IsServable (standing c run past) n
 KeepsLives c run past (Admit w r verdict) =
-    ((n : ℕ) → verdict ≡ Serve n → IsServable (standing c run past) n) × ((n : ℕ) → verdict ≡ Incarnate n → n ≡ length (standing c run past).acts)
+    ((n : ℕ) → verdict ≡ Serve n → IsServable (standing c run past) n) × ((n : ℕ) → verdict ≡ Incarnate n → n ≡ length (standing c run past).activations)
 KeepsLives c run past (TakeOut w n etherealize) = IsRemovable (standing c run past) n etherealize
 KeepsLives c run past (Etherealized w cleanup remaining) = IsEtherealizable (standing c run past) (stage past w) cleanup remaining
 KeepsLives c run past e = Unit {0}
@@ -64,8 +64,8 @@ KeepsLives c run past e = Unit {0}
 -- each activation that an entry begins, begins with its id free
 abbrev pub BeginsFreely : Config → ℕ → List Entry → Entry → Type 0
 BeginsFreely c run past e =
-    (a : Act) → slice_get (standing c run (e ∷ past)).acts (length (standing c run past).acts) ≡ Some a
-    → BeginsFree c (standing c run past).acts a
+    (a : Activation) → slice_get (standing c run (e ∷ past)).activations (length (standing c run past).activations) ≡ Some a
+    → BeginsFree c (standing c run past).activations a
 
 pub record HasLifetime (c : Config) (run : ℕ) (h : List Entry) : Type 0 where
   pub kept : EachEntry (KeepsLives c run) h

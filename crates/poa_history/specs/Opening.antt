@@ -5,8 +5,8 @@ use Rattle.poa_base.specs.declared.Config.{Config}
 use Rattle.poa_base.specs.declared.AdapterConf.{AdapterConf}
 use Rattle.poa_base.specs.declared.ObjectConf.{ObjectConf}
 use Rattle.poa_base.specs.declared.Sid.TheVariants.{Named}
-use Rattle.poa_history.specs.declared.act.Phase.{Phase}
-use Rattle.poa_history.specs.declared.act.Phase.TheVariants.{Complete}
+use Rattle.poa_history.specs.declared.activation.Phase.{Phase}
+use Rattle.poa_history.specs.declared.activation.Phase.TheVariants.{Complete}
 use Rattle.poa_history.specs.Standings.{Standing}
 use Rattle.poa_tree.specs.Nodes.{node_at, created}
 use Rattle.poa_tree.specs.Paths.{is_root}
@@ -16,9 +16,9 @@ abbrev pub with_node : List (List ℕ) → Standing → Standing
 with_node p s = record s { nodes = created s.count p s.nodes; count = suc s.count }
 
 -- an activation is begun, and gets the next number
-abbrev pub with_act : ℕ → List (List ℕ) → List ℕ → Phase → Standing → Standing
-with_act k p oid phase s =
-    record s { acts = s.acts ++ record { number = length s.acts; adapter = k; path = p; oid = oid; phase = phase; ending = false; quiet = false; out = false; cleanup = false; remaining = false; etherealized = false } ∷ [] }
+abbrev pub with_activation : ℕ → List (List ℕ) → List ℕ → Phase → Standing → Standing
+with_activation k p oid phase s =
+    record s { activations = s.activations ++ record { number = length s.activations; adapter = k; path = p; oid = oid; phase = phase; ending = false; quiet = false; out = false; cleanup = false; remaining = false; etherealized = false } ∷ [] }
 
 -- a system-made object id: the run and the next ordinal, from 1 on (CORBA 3.3 Part 1, section 15.2.1)
 abbrev pub made_id : ℕ → ℕ → List ℕ
@@ -29,7 +29,7 @@ with_made s = record s { made = suc s.made }
 
 -- the root alone
 abbrev pub root_alone : Standing
-root_alone = with_node [] (record { nodes = []; count = 0; made = 0; flights = []; acts = [] })
+root_alone = with_node [] (record { nodes = []; count = 0; made = 0; flights = []; activations = [] })
 
 -- the adapters that are created at opening, in their configured order; the root's entry is none of them
 abbrev pub with_boots : List AdapterConf → Standing → Standing
@@ -43,8 +43,8 @@ number_at s p = elim (node_at s.nodes p) [ Some n ↦ n.number | None ↦ 0 ]
 abbrev pub with_object : ℕ → ObjectConf → Standing → Standing
 with_object run o s =
     elim o.oid [
-      | Some oid ↦ with_act (number_at s o.adapter) o.adapter oid (Complete (Named o.servant)) s
-      | None ↦ with_act (number_at s o.adapter) o.adapter (made_id run (suc s.made)) (Complete (Named o.servant)) (with_made s)
+      | Some oid ↦ with_activation (number_at s o.adapter) o.adapter oid (Complete (Named o.servant)) s
+      | None ↦ with_activation (number_at s o.adapter) o.adapter (made_id run (suc s.made)) (Complete (Named o.servant)) (with_made s)
     ]
 
 abbrev pub with_objects : ℕ → List ObjectConf → Standing → Standing

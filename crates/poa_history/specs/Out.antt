@@ -2,7 +2,7 @@
 use Rattle.std.specs.Prelude.{ℕ, Bool, false, not, ◌&&◌, ◌||◌, ◌==◌, List, [], ◌∷◌}
 use Rattle.poa_base.specs.declared.Entry.{Entry}
 use Rattle.poa_base.specs.declared.Entry.TheVariants.{TakeOut}
-use Rattle.poa_history.specs.declared.act.Act.{Act}
+use Rattle.poa_history.specs.declared.activation.Activation.{Activation}
 use Rattle.poa_history.specs.Standings.{Standing, is_complete, is_ending, is_used}
 
 -- an entry took out the activation of this number
@@ -12,5 +12,5 @@ was_taken (TakeOut w m etherealize ∷ past) n = (m == n) || was_taken past n
 was_taken (e ∷ past) n = was_taken past n
 
 -- it has a servant, is ending, and nothing is in flight in it
-abbrev pub has_run_out : Standing → Act → Bool
+abbrev pub has_run_out : Standing → Activation → Bool
 has_run_out s a = is_complete a && (is_ending a && not (is_used s.flights a.number))

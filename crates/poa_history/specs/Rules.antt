@@ -9,9 +9,9 @@ use Rattle.poa_base.specs.declared.Completion.TheVariants.{No as NotCompleted}
 use Rattle.poa_base.specs.declared.Sid.TheVariants.{Named as NamedServant}
 use Rattle.poa_base.specs.declared.Incarnation.{Incarnation}
 use Rattle.poa_base.specs.declared.Incarnation.TheVariants.{Fresh, Named, Double, Forward, Raise}
-use Rattle.poa_verdict.specs.declared.Located.{Located}
-use Rattle.poa_verdict.specs.declared.Located.TheVariants.{Servant as ByServant, Forward as ByForward, Raise as ByRaise, NoRule}
-use Rattle.poa_history.specs.declared.act.Act.{Act}
+use Rattle.poa_choose.specs.declared.Located.{Located}
+use Rattle.poa_choose.specs.declared.Located.TheVariants.{Servant as ByServant, Forward as ByForward, Raise as ByRaise, NoRule}
+use Rattle.poa_history.specs.declared.activation.Activation.{Activation}
 use Rattle.poa_tree.specs.Paths.{same_bytes}
 use Rattle.poa_history.specs.Templates.{rules_at, policies_at, is_unique, servant_name}
 use Rattle.poa_history.specs.Standings.{Standing, is_in_map}
@@ -29,15 +29,15 @@ abbrev pub not_active : SysExc
 not_active = record { name = ObjectNotExist; minor = 4294963203; done = NotCompleted }
 
 -- a configured servant is brought, unless ids are unique and it is in the map of the adapter already
-abbrev pub named_or_double : Config → Standing → Act → ℕ → Incarnation
+abbrev pub named_or_double : Config → Standing → Activation → ℕ → Incarnation
 named_or_double c s a k =
-    elim (is_unique (policies_at c a.path) && is_in_map s.acts a.adapter (NamedServant k)) [
+    elim (is_unique (policies_at c a.path) && is_in_map s.activations a.adapter (NamedServant k)) [
       | true ↦ Double
       | false ↦ elim (servant_name c k) [ Some name ↦ Named name | None ↦ Raise not_active ]
     ]
 
 -- what the servant activator brings for an activation that was begun
-abbrev pub brought_by : Config → Standing → Act → Option RuleConf → Incarnation
+abbrev pub brought_by : Config → Standing → Activation → Option RuleConf → Incarnation
 brought_by c s a None = Raise not_active
 brought_by c s a (Some rule) =
     elim rule.gives [
@@ -47,7 +47,7 @@ brought_by c s a (Some rule) =
       | RaiseThis exception ↦ Raise exception
     ]
 
-abbrev pub brought : Config → Standing → Act → Incarnation
+abbrev pub brought : Config → Standing → Activation → Incarnation
 brought c s a = brought_by c s a (rule_for (rules_at c a.path) a.oid)
 
 -- what the servant locator gives for an id

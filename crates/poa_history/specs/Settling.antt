@@ -40,14 +40,14 @@ is_overtaken c m (e ∷ past) r = is_overtaken c m past r
 -- the activations begun by then, in the manager's adapters that have a servant activator, are void or finished
 abbrev pub are_ended : Config → Standing → ℕ → ℕ → Bool
 are_ended c s m begun =
-    list_all (λ a. is_over c a || (not (nat_lt a.number begun) || not (has_activator c a.path && (manager_at c a.path == m)))) s.acts
+    list_all (λ a. is_over c a || (not (nat_lt a.number begun) || not (has_activator c a.path && (manager_at c a.path == m)))) s.activations
 
 abbrev pub order_holds : Config → ℕ → List Entry → ℕ → ℕ → Order → Bool
 order_holds c run h r m (Hold wait) = is_quiet c (standing c run h) m || is_overtaken c m h r
 order_holds c run h r m (Discard wait) = is_quiet c (standing c run h) m || is_overtaken c m h r
 order_holds c run h r m (Deactivate etherealize wait) =
     is_quiet c (standing c run h) m
-    && (not etherealize || are_ended c (standing c run h) m (length (standing c run (before_admit h r)).acts))
+    && (not etherealize || are_ended c (standing c run h) m (length (standing c run (before_admit h r)).activations))
 order_holds c run h r m Activate = true
 
 -- the condition of the command that waits holds after the history

@@ -5,14 +5,14 @@ use Rattle.poa_base.specs.declared.Config.{Config}
 use Rattle.poa_base.specs.declared.Key.{Key}
 use Rattle.poa_base.specs.declared.Entry.{Entry}
 use Rattle.poa_base.specs.declared.Entry.TheVariants.{Arrive}
-use Rattle.poa_verdict.specs.declared.Facts.{Facts}
-use Rattle.poa_verdict.specs.declared.KeyFact.{KeyFact}
-use Rattle.poa_verdict.specs.declared.KeyFact.TheVariants.{Absent, Bad, OtherRun, Transient, Persistent}
-use Rattle.poa_verdict.specs.declared.WalkFact.{WalkFact}
-use Rattle.poa_verdict.specs.declared.WalkFact.TheVariants.{Dying as MeetsDying, Missing as MeetsMissing, Found as MeetsAdapter}
-use Rattle.poa_verdict.specs.declared.MapFact.{MapFact}
-use Rattle.poa_verdict.specs.declared.MapFact.TheVariants.{Active, Busy, Free}
-use Rattle.poa_history.specs.declared.act.Act.{Act}
+use Rattle.poa_choose.specs.declared.Facts.{Facts}
+use Rattle.poa_choose.specs.declared.KeyFact.{KeyFact}
+use Rattle.poa_choose.specs.declared.KeyFact.TheVariants.{Absent, Bad, OtherRun, Transient, Persistent}
+use Rattle.poa_choose.specs.declared.WalkFact.{WalkFact}
+use Rattle.poa_choose.specs.declared.WalkFact.TheVariants.{Dying as MeetsDying, Missing as MeetsMissing, Found as MeetsAdapter}
+use Rattle.poa_choose.specs.declared.MapFact.{MapFact}
+use Rattle.poa_choose.specs.declared.MapFact.TheVariants.{Active, Busy, Free}
+use Rattle.poa_history.specs.declared.activation.Activation.{Activation}
 use Rattle.poa_history.specs.Searches.{count_below}
 use Rattle.poa_history.specs.Templates.{template_or_root, policies_at, manager_at, rules_at, lasts}
 use Rattle.poa_history.specs.Arrivals.{arrivals, call_of, is_message, is_locate, target_of}
@@ -63,19 +63,19 @@ differs c key k =
     ]
 
 -- the activation of the id that is active, or the one that is on its way in or out
-abbrev pub slot_of : Config → List Act → ℕ → List ℕ → MapFact
-slot_of c acts k oid =
-    elim (find (λ a. is_of k oid a && is_active a) acts) [
+abbrev pub slot_of : Config → List Activation → ℕ → List ℕ → MapFact
+slot_of c activations k oid =
+    elim (find (λ a. is_of k oid a && is_active a) activations) [
       | Some a ↦ Active a.number
-      | None ↦ elim (find (λ a. is_of k oid a && not (is_over c a)) acts) [ Some a ↦ Busy a.number | None ↦ Free ]
+      | None ↦ elim (find (λ a. is_of k oid a && not (is_over c a)) activations) [ Some a ↦ Busy a.number | None ↦ Free ]
     ]
 
 -- its incarnation or etherealization hasn't ended
-abbrev pub is_unfinished : Config → Act → Bool
+abbrev pub is_unfinished : Config → Activation → Bool
 is_unfinished c a = is_begun a || (a.out && not (is_finished c a))
 
-abbrev pub is_changing : Config → List Act → ℕ → Bool
-is_changing c acts k = list_any (λ a. (a.adapter == k) && is_unfinished c a) acts
+abbrev pub is_changing : Config → List Activation → ℕ → Bool
+is_changing c activations k = list_any (λ a. (a.adapter == k) && is_unfinished c a) activations
 
 -- what stands about a key, given what the walk meets
 abbrev pub facts_met : Config → ℕ → List Entry → Standing → Bool → Bool → KeyFact → Key → Found → Facts
@@ -94,12 +94,12 @@ facts_met c run past s locate crowded fact key found =
       differs = differs c key (adapter_met found);
       policies = policies_at c key.path;
       running = is_running s.flights (adapter_met found);
-      slot = slot_of c s.acts (adapter_met found) key.oid;
+      slot = slot_of c s.activations (adapter_met found) key.oid;
       bad_id = is_bad_id c run s.made key.path key.oid;
       preset = preset_of c past key.path;
       rules = elim (rules_at c key.path) [ [] ↦ false | _ ∷ _ ↦ true ];
-      busy = is_changing c s.acts (adapter_met found);
-      next = length s.acts;
+      busy = is_changing c s.activations (adapter_met found);
+      next = length s.activations;
       located = located c key.path key.oid;
     }
 

@@ -3,7 +3,7 @@ use Rattle.std.specs.Prelude.{◌≡◌, ℕ, ◌^◌, ◌<◌, true, false, Lis
 use Rattle.poa_base.specs.declared.Config.{Config}
 use Rattle.poa_tree.specs.declared.node.Node.{Node}
 use Rattle.poa_history.specs.declared.flight.Flight.{Flight}
-use Rattle.poa_history.specs.declared.act.Act.{Act}
+use Rattle.poa_history.specs.declared.activation.Activation.{Activation}
 use Rattle.poa_history.specs.Templates.{policies_at, makes_ids, activates_implicitly}
 use Rattle.poa_history.specs.Standings.{Standing}
 use Rattle.poa_history.specs.Opening.{opening}
@@ -12,7 +12,7 @@ use Rattle.poa_history.specs.Commands.{is_bad_id}
 use Rattle.poa_tree.specs.Trees.{In, IsTree, Stands, IsMissingChild}
 
 -- the adapter of the activation stands, at its path
-pub record IsHome (ns : List Node) (a : Act) : Type 0 where
+pub record IsHome (ns : List Node) (a : Activation) : Type 0 where
   pub node : Node
   pub stands : In node ns
   pub numbered : node.number ≡ a.adapter
@@ -27,14 +27,14 @@ pub record IsSound (c : Config) (run : ℕ) (s : Standing) : Type 0 where
   pub trials : (f : Flight) (p : List (List ℕ)) → In f s.flights → f.child ≡ Some p → IsMissingChild s.nodes f.adapter p
   pub trial_alone : (f g : Flight) (p : List (List ℕ)) → In f s.flights → In g s.flights → f.child ≡ Some p → g.child ≡ Some p → f ≡ g
   -- an activation that isn't over is one of an adapter that stands
-  pub owners : (a : Act) → In a s.acts → is_over c a ≡ false → IsHome s.nodes a
+  pub owners : (a : Activation) → In a s.activations → is_over c a ≡ false → IsHome s.nodes a
   -- activations are numbered in the order of their begin
-  pub counted : (a : Act) → In a s.acts → a.number < length s.acts
-  pub act_alone : (a b : Act) → In a s.acts → In b s.acts → a.number ≡ b.number → a ≡ b
+  pub counted : (a : Activation) → In a s.activations → a.number < length s.activations
+  pub activation_alone : (a b : Activation) → In a s.activations → In b s.activations → a.number ≡ b.number → a ≡ b
   -- of one id of one adapter at most one activation isn't over
-  pub life_alone : (a b : Act) → In a s.acts → In b s.acts → a.adapter ≡ b.adapter → a.oid ≡ b.oid → is_over c a ≡ false → is_over c b ≡ false → a ≡ b
+  pub life_alone : (a b : Activation) → In a s.activations → In b s.activations → a.adapter ≡ b.adapter → a.oid ≡ b.oid → is_over c a ≡ false → is_over c b ≡ false → a ≡ b
   -- where an adapter makes its ids, each that it has is eight bytes, and one of this run was made
-  pub ids : (a : Act) → In a s.acts → is_bad_id c run s.made a.path a.oid ≡ false
+  pub ids : (a : Activation) → In a s.activations → is_bad_id c run s.made a.path a.oid ≡ false
 
 -- IMPLICIT_ACTIVATION needs SYSTEM_ID, as in every policy set that settles (CORBA 3.3 Part 1, section 15.3.8)
 abbrev pub ImplicitMakes : Config → Type 0

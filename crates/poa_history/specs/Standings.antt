@@ -5,8 +5,8 @@ use Rattle.poa_base.specs.declared.Sid.{Sid}
 use Rattle.poa_base.specs.declared.Sid.TheVariants.{Named, Fresh}
 use Rattle.poa_tree.specs.declared.node.Node.{Node}
 use Rattle.poa_history.specs.declared.flight.Flight.{Flight}
-use Rattle.poa_history.specs.declared.act.Act.{Act}
-use Rattle.poa_history.specs.declared.act.Phase.TheVariants.{Begun, Complete, Void}
+use Rattle.poa_history.specs.declared.activation.Activation.{Activation}
+use Rattle.poa_history.specs.declared.activation.Phase.TheVariants.{Begun, Complete, Void}
 use Rattle.poa_tree.specs.Paths.{same_bytes, same_path}
 
 pub record Standing : Type 0 where
@@ -19,27 +19,27 @@ pub record Standing : Type 0 where
   -- the requests and trials in flight
   pub flights : List Flight
   -- the activations, in the order in which they were begun
-  pub acts : List Act
+  pub activations : List Activation
 
-abbrev pub is_complete : Act → Bool
+abbrev pub is_complete : Activation → Bool
 is_complete a = elim a.phase [ Complete s ↦ true | Begun ↦ false | Void ↦ false ]
 
-abbrev pub is_void : Act → Bool
+abbrev pub is_void : Activation → Bool
 is_void a = elim a.phase [ Void ↦ true | Begun ↦ false | Complete s ↦ false ]
 
-abbrev pub is_begun : Act → Bool
+abbrev pub is_begun : Activation → Bool
 is_begun a = elim a.phase [ Begun ↦ true | Complete s ↦ false | Void ↦ false ]
 
 -- an activation that isn't void is ending once it was deactivated, or its adapter destroyed, or its manager so deactivated
-abbrev pub is_ending : Act → Bool
+abbrev pub is_ending : Activation → Bool
 is_ending a = a.ending && not (is_void a)
 
 -- the id can be served by this activation
-abbrev pub is_active : Act → Bool
+abbrev pub is_active : Activation → Bool
 is_active a = is_complete a && not a.ending
 
 -- the servant is in the active object map by this activation
-abbrev pub is_mapped : Act → Bool
+abbrev pub is_mapped : Activation → Bool
 is_mapped a = is_complete a && not a.out
 
 abbrev pub same_servant : Sid → Sid → Bool
@@ -48,16 +48,16 @@ same_servant (Fresh m) (Fresh n) = m == n
 same_servant s t = false
 
 -- the activation has this servant
-abbrev pub has_servant : Sid → Act → Bool
+abbrev pub has_servant : Sid → Activation → Bool
 has_servant s a = elim a.phase [ Complete t ↦ same_servant t s | Begun ↦ false | Void ↦ false ]
 
 -- the activation is of this id of this adapter
-abbrev pub is_of : ℕ → List ℕ → Act → Bool
+abbrev pub is_of : ℕ → List ℕ → Activation → Bool
 is_of k oid a = (a.adapter == k) && same_bytes a.oid oid
 
 -- the servant is in the map of the adapter
-abbrev pub is_in_map : List Act → ℕ → Sid → Bool
-is_in_map acts k s = list_any (λ a. (a.adapter == k) && (is_mapped a && has_servant s a)) acts
+abbrev pub is_in_map : List Activation → ℕ → Sid → Bool
+is_in_map activations k s = list_any (λ a. (a.adapter == k) && (is_mapped a && has_servant s a)) activations
 
 -- a request is in flight in the activation
 abbrev pub is_used : List Flight → ℕ → Bool
@@ -68,8 +68,8 @@ abbrev pub is_running : List Flight → ℕ → Bool
 is_running fs k = list_any (λ f. (f.adapter == k) && (elim f.child [ None ↦ true | Some p ↦ false ])) fs
 
 -- a request or a trial is in flight in the adapter
-abbrev pub is_busy : List Flight → ℕ → Bool
-is_busy fs k = list_any (λ f. f.adapter == k) fs
+abbrev pub has_flights : List Flight → ℕ → Bool
+has_flights fs k = list_any (λ f. f.adapter == k) fs
 
 -- a trial of the missing child is in flight
 abbrev pub is_tried : List Flight → List (List ℕ) → Bool

@@ -18,8 +18,8 @@ use Rattle.poa_base.specs.declared.Incarnation.TheVariants.{Fresh}
 use Rattle.poa_base.specs.declared.Verdict.{Verdict}
 use Rattle.poa_base.specs.declared.Verdict.TheVariants.{Serve, Preset, Locator, Incarnate}
 use Rattle.servant_kinds.specs.Act.{act_of}
-use Rattle.poa_history.specs.declared.act.Act.{Act}
-use Rattle.poa_history.specs.declared.act.Phase.TheVariants.{Begun, Complete, Void}
+use Rattle.poa_history.specs.declared.activation.Activation.{Activation}
+use Rattle.poa_history.specs.declared.activation.Phase.TheVariants.{Begun, Complete, Void}
 use Rattle.poa_history.specs.declared.stage.Stage.{Stage}
 use Rattle.poa_history.specs.declared.stage.Stage.TheVariants.{Serving, Removing}
 use Rattle.poa_tree.specs.Paths.{same_bytes, same_path}
@@ -29,7 +29,7 @@ use Rattle.poa_history.specs.Stages.{stage, admitted}
 use Rattle.poa_history.specs.Standings.{Standing, same_servant}
 use Rattle.poa_history.specs.Rules.{rule_for}
 use Rattle.poa_history.specs.Changes.{standing}
-use Rattle.poa_history.specs.Turns.{act_numbered}
+use Rattle.poa_history.specs.Turns.{activation_numbered}
 
 -- the state stored for an id of a path, if any
 abbrev pub Stored : Type 0
@@ -55,24 +55,24 @@ restored kind None = opening_state kind
 restored kind (Some state) = if is_of_kind kind state then state else opening_state kind
 
 -- the kind of the fresh servants that an activation's rule brings
-abbrev pub kind_brought : Config → Act → Kind
+abbrev pub kind_brought : Config → Activation → Kind
 kind_brought c a =
     elim (rule_for (rules_at c a.path) a.oid) [
       | None ↦ FaultKind
       | Some rule ↦ elim rule.gives [ FreshKind kind ↦ kind | Servant k ↦ FaultKind | ForwardTo e ↦ FaultKind | RaiseThis e ↦ FaultKind ]
     ]
 
-abbrev pub servant_of_act : Option Act → Option Sid
-servant_of_act None = None
-servant_of_act (Some a) = elim a.phase [ Complete s ↦ Some s | Begun ↦ None | Void ↦ None ]
+abbrev pub servant_of_activation : Option Activation → Option Sid
+servant_of_activation None = None
+servant_of_activation (Some a) = elim a.phase [ Complete s ↦ Some s | Begun ↦ None | Void ↦ None ]
 
 abbrev pub servant_named : Config → List ℕ → Option Sid
 servant_named c name = elim (servant_number c name) [ Some k ↦ Some (NamedServant k) | None ↦ None ]
 
 -- the servant of an arrival that was admitted to one
 abbrev pub servant_by : Config → Standing → Option Verdict → Option Sid
-servant_by c s (Some (Serve n)) = servant_of_act (act_numbered s n)
-servant_by c s (Some (Incarnate n)) = servant_of_act (act_numbered s n)
+servant_by c s (Some (Serve n)) = servant_of_activation (activation_numbered s n)
+servant_by c s (Some (Incarnate n)) = servant_of_activation (activation_numbered s n)
 servant_by c s (Some (Preset name)) = servant_named c name
 servant_by c s (Some (Locator name)) = servant_named c name
 servant_by c s verdict = None
@@ -106,7 +106,7 @@ fresh_only (NamedServant k) = None
 -- the fresh servant of an activation of this path and id that is removed
 abbrev pub is_stored_by : Standing → Stage → List (List ℕ) → List ℕ → Option Sid
 is_stored_by s (Removing n) p oid =
-    elim (act_numbered s n) [
+    elim (activation_numbered s n) [
       | None ↦ None
       | Some a ↦ (if same_path a.path p && same_bytes a.oid oid then (elim a.phase [ Complete t ↦ fresh_only t | Begun ↦ None | Void ↦ None ]) else None)
     ]
@@ -120,7 +120,7 @@ abbrev mutual
       if is_servant s (servant_run c run past (stage past w)) then (acted (state_of c run opened past s) (call_run past (stage past w))).0 else state_of c run opened past s
   state_of c run opened (Incarnated w (Fresh n) ∷ past) s =
       if same_servant s (FreshServant n)
-      then elim (act_numbered (standing c run past) n) [ Some a ↦ restored (kind_brought c a) (stored c run opened past a.path a.oid) | None ↦ Fault ]
+      then elim (activation_numbered (standing c run past) n) [ Some a ↦ restored (kind_brought c a) (stored c run opened past a.path a.oid) | None ↦ Fault ]
       else state_of c run opened past s
   state_of c run opened (e ∷ past) s = state_of c run opened past s
 

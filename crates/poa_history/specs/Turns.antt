@@ -10,7 +10,7 @@ use Rattle.poa_base.specs.declared.Attempt.{Attempt}
 use Rattle.poa_base.specs.declared.Attempt.TheVariants.{Yes, No, Raised, Dying}
 use Rattle.poa_tree.specs.declared.node.Node.{Node}
 use Rattle.poa_history.specs.declared.flight.Flight.{Flight}
-use Rattle.poa_history.specs.declared.act.Act.{Act}
+use Rattle.poa_history.specs.declared.activation.Activation.{Activation}
 use Rattle.poa_history.specs.declared.stage.Stage.{Stage}
 use Rattle.poa_history.specs.declared.stage.Stage.TheVariants.{Free, Trying, Incarnating, Serving, Ran, Removing}
 use Rattle.poa_history.specs.Searches.{first_given}
@@ -29,8 +29,8 @@ flight_of s r = find (λ f. f.arrival == r) s.flights
 abbrev pub node_of : Standing → ℕ → Option Node
 node_of s k = find (λ n. n.number == k) s.nodes
 
-abbrev pub act_numbered : Standing → ℕ → Option Act
-act_numbered s n = find (λ a. a.number == n) s.acts
+abbrev pub activation_numbered : Standing → ℕ → Option Activation
+activation_numbered s n = find (λ a. a.number == n) s.activations
 
 -- what an adapter activator answers for a child, where its parent lives
 abbrev pub attempt_by : Config → Standing → Option Children → List (List ℕ) → Attempt
@@ -53,10 +53,10 @@ attempt c s r =
 
 -- the servant activator's answer for an activation that was begun
 abbrev pub incarnation_entry : Config → Standing → ℕ → ℕ → Option Entry
-incarnation_entry c s w n = option_map (λ a. Incarnated w (brought c s a)) (act_numbered s n)
+incarnation_entry c s w n = option_map (λ a. Incarnated w (brought c s a)) (activation_numbered s n)
 
 abbrev pub removal_entry : Standing → ℕ → ℕ → Option Entry
-removal_entry s w n = option_map (λ a. Etherealized w a.cleanup a.remaining) (act_numbered s n)
+removal_entry s w n = option_map (λ a. Etherealized w a.cleanup a.remaining) (activation_numbered s n)
 
 -- what a worker has begun goes on
 abbrev pub going_on : Config → Standing → ℕ → Stage → Option Entry
@@ -68,14 +68,14 @@ going_on c s w (Removing n) = removal_entry s w n
 going_on c s w Free = None
 
 -- ending, with nothing in flight in it and nothing changing in its adapter, where a servant activator is to be told
-abbrev pub is_due : Config → Standing → Act → Bool
+abbrev pub is_due : Config → Standing → Activation → Bool
 is_due c s a =
     (is_complete a && (is_ending a && (has_activator c a.path && not a.out)))
-    && (not (is_used s.flights a.number) && not (is_changing c s.acts a.adapter))
+    && (not (is_used s.flights a.number) && not (is_changing c s.activations a.adapter))
 
 -- the least activation that is due is taken out
 abbrev pub removal : Config → Standing → ℕ → Option Entry
-removal c s w = option_map (λ a. TakeOut w a.number (not a.quiet)) (find (is_due c s) s.acts)
+removal c s w = option_map (λ a. TakeOut w a.number (not a.quiet)) (find (is_due c s) s.activations)
 
 -- an arrival that is ready for the worker
 abbrev pub admission_of : Config → ℕ → List Entry → ℕ → ℕ → Option Entry

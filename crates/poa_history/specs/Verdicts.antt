@@ -5,9 +5,9 @@ use Rattle.poa_base.specs.declared.Call.{Call}
 use Rattle.poa_base.specs.declared.Call.TheVariants.{Line}
 use Rattle.poa_base.specs.declared.Entry.{Entry}
 use Rattle.poa_base.specs.declared.Verdict.{Verdict}
-use Rattle.poa_verdict.specs.declared.Choice.{Choice}
-use Rattle.poa_verdict.specs.declared.Choice.TheVariants.{Go, Held}
-use Rattle.poa_verdict.specs.Table.{first_row}
+use Rattle.poa_choose.specs.declared.Choice.{Choice}
+use Rattle.poa_choose.specs.declared.Choice.TheVariants.{Go, Held}
+use Rattle.poa_choose.specs.Table.{first_row}
 use Rattle.poa_history.specs.Arrivals.{call_of}
 use Rattle.poa_history.specs.Commands.{command_verdict}
 use Rattle.poa_history.specs.Changes.{standing}

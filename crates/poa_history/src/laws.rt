@@ -12,7 +12,7 @@ ghost use Rattle.poa_history.specs.Changes.{standing};
 ghost use Rattle.poa_history.specs.Legal.{IsLegal};
 ghost use Rattle.poa_history.specs.Endings.{was_ended, was_quieted};
 ghost use Rattle.poa_history.specs.Ends.{is_gone};
-ghost use Rattle.poa_history.specs.declared.act.Act.{Act};
+ghost use Rattle.poa_history.specs.declared.activation.Activation.{Activation};
 ghost use Rattle.poa_history.specs.Standings.{Standing};
 ghost use Rattle.poa_tree.specs.Paths.{is_root};
 ghost use Rattle.poa_history.specs.Destroyed.{was_destroyed, IsEnded, IsEmptied};
@@ -35,7 +35,7 @@ pub fn what_stands_is_sound()
 /// What an activation has come to never goes back, whatever follows: its servant, that it is void, ending,
 /// quiet, out, etherealized or finished. In a legal history an adapter that is gone stays gone.
 pub fn nothing_goes_back()
-    ensures acts { (c : Config) (run : ℕ) (past more : List Entry) → AllLater c (standing c run past) (standing c run (more ++ past)) }
+    ensures activations { (c : Config) (run : ℕ) (past more : List Entry) → AllLater c (standing c run past) (standing c run (more ++ past)) }
     ensures gone { (c : Config) (run limit : ℕ) → IsGiven c run → IsWithinLimits c limit → (past more : List Entry) → IsLegal c run limit (more ++ past) → (k : ℕ) → is_gone c (standing c run past) k ≡ true → is_gone c (standing c run (more ++ past)) k ≡ true }
 {}
 
@@ -93,13 +93,13 @@ pub fn lifetimes_are_kept()
 /// destroys its adapter or one above it, or that deactivates its manager so that a servant activator etherealizes.
 /// It is quiet exactly where the first of these was a destroy that etherealizes nothing.
 pub fn ended_are_ending()
-    ensures ending { (c : Config) (run limit : ℕ) → IsGiven c run → IsWithinLimits c limit → (h : List Entry) → IsLegal c run limit h → (a : Act) → In a (standing c run h).acts → a.ending ≡ was_ended c run h a }
-    ensures quiet { (c : Config) (run limit : ℕ) → IsGiven c run → IsWithinLimits c limit → (h : List Entry) → IsLegal c run limit h → (a : Act) → In a (standing c run h).acts → a.quiet ≡ was_quieted c run h a }
+    ensures ending { (c : Config) (run limit : ℕ) → IsGiven c run → IsWithinLimits c limit → (h : List Entry) → IsLegal c run limit h → (a : Activation) → In a (standing c run h).activations → a.ending ≡ was_ended c run h a }
+    ensures quiet { (c : Config) (run limit : ℕ) → IsGiven c run → IsWithinLimits c limit → (h : List Entry) → IsLegal c run limit h → (a : Activation) → In a (standing c run h).activations → a.quiet ≡ was_quieted c run h a }
 {}
 
 /// Where its adapter has a servant activator, an activation is out exactly where an entry took it out. Where
 /// it has none, it is out exactly where it has a servant, is ending, and nothing is in flight in it.
 pub fn out_when_removed()
-    ensures taken { (c : Config) (run limit : ℕ) → IsGiven c run → IsGivenAlone c run → IsWithinLimits c limit → (h : List Entry) → IsLegal c run limit h → (a : Act) → In a (standing c run h).acts → has_activator c a.path ≡ true → a.out ≡ was_taken h a.number }
-    ensures left { (c : Config) (run limit : ℕ) → IsGiven c run → IsGivenAlone c run → IsWithinLimits c limit → (h : List Entry) → IsLegal c run limit h → (a : Act) → In a (standing c run h).acts → has_activator c a.path ≡ false → a.out ≡ has_run_out (standing c run h) a }
+    ensures taken { (c : Config) (run limit : ℕ) → IsGiven c run → IsGivenAlone c run → IsWithinLimits c limit → (h : List Entry) → IsLegal c run limit h → (a : Activation) → In a (standing c run h).activations → has_activator c a.path ≡ true → a.out ≡ was_taken h a.number }
+    ensures left { (c : Config) (run limit : ℕ) → IsGiven c run → IsGivenAlone c run → IsWithinLimits c limit → (h : List Entry) → IsLegal c run limit h → (a : Activation) → In a (standing c run h).activations → has_activator c a.path ≡ false → a.out ≡ has_run_out (standing c run h) a }
 {}

@@ -3,11 +3,11 @@
 //! The definitions are in `specs/`; the code here has the data that they speak of.
 #![tactic(auto)]
 
-mod act;
+mod activation;
 mod flight;
 pub mod laws;
 mod stage;
 
-pub use act::{Act, Phase};
+pub use activation::{Activation, Phase};
 pub use flight::Flight;
 pub use stage::Stage;

@@ -130,7 +130,7 @@ contents journal = record { run = journal.run; rows = states journal.opening; en
 
 -- what a reader's answer says: the value, or the number of the first line outside the grammar; `view` is what a clause
 -- sees of the value
-abbrev pub Reads : {X Y : Type 0} → (X → Y) → Result X JournalFault → Result Y ℕ → Type 0
-Reads view (Ok x) meant = meant ≡ Ok (view x)
-Reads view (Err (BadLine k)) meant = meant ≡ Err k
-Reads view (Err WantMemory) meant = ⊤
+abbrev pub JournalReads : {X Y : Type 0} → (X → Y) → Result X JournalFault → Result Y ℕ → Type 0
+JournalReads view (Ok x) meant = meant ≡ Ok (view x)
+JournalReads view (Err (BadLine k)) meant = meant ≡ Err k
+JournalReads view (Err WantMemory) meant = ⊤

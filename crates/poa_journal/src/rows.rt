@@ -6,7 +6,7 @@ ghost use Rattle.text_words.specs.Token.{spelled, texts};
 ghost use Rattle.journal_words.specs.declared.fixed.Mark.TheVariants as mark;
 ghost use Rattle.journal_words.specs.Fixed.{mark_word};
 ghost use Rattle.journal_lines.specs.Row.{row_behind, row_tokens};
-ghost use Rattle.poa_journal.specs.Whole.{Reads, front_seen, is_above as is_above_of, row_above, rows_front};
+ghost use Rattle.poa_journal.specs.Whole.{JournalReads, front_seen, is_above as is_above_of, row_above, rows_front};
 
 use crate::fault::JournalFault;
 use journal_lines::{read_row, row_words};
@@ -25,7 +25,7 @@ pub(crate) struct Opening<'a> {
 /// The rows at the front of a text, whose first line has the number `first`.
 pub(crate) fn read_rows(alloc: Global, text: &[u8], first: u64) -> Result<Opening<'_>, JournalFault>
     requires { first + length text.now < 2 ^ 64 }
-    ensures value { Reads front_seen result (rows_front first None (lines_of text.now)) }
+    ensures value { JournalReads front_seen result (rows_front first None (lines_of text.now)) }
     ensures text { IfOk result (λ front. lines_of text.now ≡ map spelled (map row_tokens (states front.store)) ++ lines_of front.rest.now) }
     ensures bound { IfOk result (λ front. front.line + length front.rest.now ≤ first + length text.now) }
 {
@@ -54,7 +54,7 @@ fn row_at(
     last: &Option<(Path, Oid)>,
     words: &[&[u8]],
 ) -> Result<((Path, Oid), State), JournalFault>
-    ensures value { Reads (λ row. row) result (row_above line last.now (row_behind (map (λ w. w.now) words.now))) }
+    ensures value { JournalReads (λ row. row) result (row_above line last.now (row_behind (map (λ w. w.now) words.now))) }
     ensures text { IfOk result (λ row. mark_word mark.Store ∷ map (λ w. w.now) words.now ≡ texts (row_tokens row)) }
 {
     match read_row(alloc, words) {

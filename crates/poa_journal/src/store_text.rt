@@ -4,7 +4,7 @@ ghost use Rattle.poa_base.specs.Store.{Slots, states};
 ghost use Rattle.text_words.specs.Cuts.{lines_of};
 ghost use Rattle.text_words.specs.Token.{spelled};
 ghost use Rattle.poa_journal.specs.Journal.{IsStore, store_lines, store_text};
-ghost use Rattle.poa_journal.specs.Whole.{Reads, rows_of};
+ghost use Rattle.poa_journal.specs.Whole.{JournalReads, rows_of};
 
 use crate::fault::JournalFault;
 use crate::rows::read_rows;
@@ -25,17 +25,17 @@ pub fn print_store(alloc: Global, store: &Store) -> Result<Bytes, WantMemory>
 
 /// The store of a text, the empty one of an empty text. The last LF may be missing.
 pub fn read_store(alloc: Global, bytes: &[u8]) -> Result<Store, JournalFault>
-    ensures value { Reads states result (rows_of bytes.now) }
+    ensures value { JournalReads states result (rows_of bytes.now) }
     ensures text { IfOk result (λ store. lines_of bytes.now ≡ map spelled (store_lines store)) }
     ensures bad { (line : ℕ) → result ≡ Err (JournalFault.BadLine line) → (store : Slots) → IsStore store
         → take line (lines_of bytes.now) ≡ take line (map spelled (store_lines store)) → ⊥ }
-    ensures back { (store : Slots) → IsStore store → bytes.now ≡ store_text store → Reads states result (Ok (states store)) }
+    ensures back { (store : Slots) → IsStore store → bytes.now ≡ store_text store → JournalReads states result (Ok (states store)) }
 {
     read_all(alloc, bytes)
 }
 
 fn read_all(alloc: Global, bytes: &[u8]) -> Result<Store, JournalFault>
-    ensures value { Reads states result (rows_of bytes.now) }
+    ensures value { JournalReads states result (rows_of bytes.now) }
     ensures text { IfOk result (λ store. lines_of bytes.now ≡ map spelled (store_lines store)) }
 {
     let front = read_rows(alloc, bytes, 1)?;

@@ -74,7 +74,8 @@ fn order_holds(
             let before = standing_of(alloc, config, run, before_admit(history, arrival))?;
             Ok(
                 is_quiet(config, &standing, manager)
-                    && (!etherealize || are_ended(config, &standing, manager, before.acts.len())),
+                    && (!etherealize
+                        || are_ended(config, &standing, manager, before.activations.len())),
             )
         }
     }

@@ -5,7 +5,7 @@ use Rattle.poa_base.specs.declared.Config.{Config}
 use Rattle.poa_base.specs.declared.Call.{Call}
 use Rattle.poa_base.specs.declared.Entry.{Entry}
 use Rattle.poa_base.specs.declared.Key.{Key}
-use Rattle.poa_verdict.specs.declared.KeyFact.{KeyFact}
+use Rattle.poa_choose.specs.declared.KeyFact.{KeyFact}
 use Rattle.poa_tree.specs.declared.found.Found.{Found}
 use Rattle.poa_tree.specs.Walks.{walk}
 use Rattle.poa_history.specs.Arrivals.{call_of, is_locate, target_of}

@@ -22,10 +22,10 @@ use adapter_settings::{Settings, endpoint_of, manager_state};
 use poa_base::{
     Answer, Command, Config, ManagerState, Name, Oid, Order, Path, Reason, Sid, Verdict, WantMemory,
 };
-use poa_history::Act;
+use poa_history::Activation;
 use poa_tree::Node;
 use standing_queries::Standing;
-use standing_queries::acts::{is_active, is_in_map, is_of};
+use standing_queries::activations::{is_active, is_in_map, is_of};
 use standing_queries::commands::{is_implicit, live_at, referred};
 use standing_queries::ends::is_over;
 use standing_queries::flights::is_tried;
@@ -146,7 +146,7 @@ fn is_taken(config: &Config, standing: &Standing, node: &Node, servant: u32) -> 
     ensures { result ≡ rows.is_taken config.now (seen standing.now) node.now servant }
 {
     is_unique(policies_at(config, node.path.as_slice()))
-        && is_in_map(&standing.acts, node.number, Sid::Named(servant))
+        && is_in_map(&standing.activations, node.number, Sid::Named(servant))
 }
 
 /// The answer with a new system-made id.
@@ -209,37 +209,37 @@ pub fn is_bad_id(config: &Config, run: u32, made: u32, path: &[Name], oid: &[u8]
 }
 
 /// Whether the activation is of the id, and active.
-fn is_active_of(adapter: u32, oid: &Oid, act: &Act) -> bool
-    ensures { result ≡ stands.is_of adapter oid.now act.now && stands.is_active act.now }
+fn is_active_of(adapter: u32, oid: &Oid, activation: &Activation) -> bool
+    ensures { result ≡ stands.is_of adapter oid.now activation.now && stands.is_active activation.now }
 {
-    is_of(adapter, oid, act) && is_active(act)
+    is_of(adapter, oid, activation) && is_active(activation)
 }
 
 /// Whether the id has an activation that is active.
 fn has_active(standing: &Standing, adapter: u32, oid: &Oid) -> bool
-    ensures { result ≡ list_any (λ a. stands.is_of adapter oid.now a && stands.is_active a) standing.now.acts.items }
+    ensures { result ≡ list_any (λ a. stands.is_of adapter oid.now a && stands.is_active a) standing.now.activations.items }
 {
     standing
-        .acts
+        .activations
         .iter()
-        .any(|act| is_active_of(adapter, oid, act))
+        .any(|activation| is_active_of(adapter, oid, activation))
 }
 
 /// Whether the activation is of the id, and not over.
-fn is_kept_of(config: &Config, adapter: u32, oid: &Oid, act: &Act) -> bool
-    ensures { result ≡ stands.is_of adapter oid.now act.now && not (ends.is_over config.now act.now) }
+fn is_kept_of(config: &Config, adapter: u32, oid: &Oid, activation: &Activation) -> bool
+    ensures { result ≡ stands.is_of adapter oid.now activation.now && not (ends.is_over config.now activation.now) }
 {
-    is_of(adapter, oid, act) && !is_over(config, act)
+    is_of(adapter, oid, activation) && !is_over(config, activation)
 }
 
 /// Whether the id has an activation that isn't over.
 fn has_kept(config: &Config, standing: &Standing, adapter: u32, oid: &Oid) -> bool
-    ensures { result ≡ list_any (λ a. stands.is_of adapter oid.now a && not (ends.is_over config.now a)) standing.now.acts.items }
+    ensures { result ≡ list_any (λ a. stands.is_of adapter oid.now a && not (ends.is_over config.now a)) standing.now.activations.items }
 {
     standing
-        .acts
+        .activations
         .iter()
-        .any(|act| is_kept_of(config, adapter, oid, act))
+        .any(|activation| is_kept_of(config, adapter, oid, activation))
 }
 
 /// What is answered where the id isn't a bad one. One that is on its way in or out holds.
@@ -250,8 +250,8 @@ fn id_row(
     oid: &Oid,
     servant: u32,
 ) -> Option<Verdict>
-    ensures { result ≡ (if list_any (λ a. stands.is_of node.now.number oid.now a && stands.is_active a) standing.now.acts.items then rows.refusal Reason.ObjectAlreadyActive
-        else if list_any (λ a. stands.is_of node.now.number oid.now a && not (ends.is_over config.now a)) standing.now.acts.items then None
+    ensures { result ≡ (if list_any (λ a. stands.is_of node.now.number oid.now a && stands.is_active a) standing.now.activations.items then rows.refusal Reason.ObjectAlreadyActive
+        else if list_any (λ a. stands.is_of node.now.number oid.now a && not (ends.is_over config.now a)) standing.now.activations.items then None
         else if rows.is_taken config.now (seen standing.now) node.now servant then rows.refusal Reason.ServantAlreadyActive
         else rows.good) }
 {
@@ -379,7 +379,7 @@ fn servant_row(
     ]) }
 {
     match referred(config, standing, node, servant) {
-        Some(act) => ior_row(alloc, config, run, node, path, &act.oid, servant),
+        Some(activation) => ior_row(alloc, config, run, node, path, &activation.oid, servant),
         None => implicit_row(alloc, config, run, standing, node, path, servant),
     }
 }

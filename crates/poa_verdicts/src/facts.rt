@@ -1,7 +1,7 @@
 //! What stands about a request or a locate: the facts that the table of verdicts asks.
 ghost use Rattle.std.specs.Prelude.{◌≡◌, ◌==◌, ◌&&◌, ℕ, List, Some, None, if◌then◌else◌, find, not, option_copied, IfOk};
 ghost use Rattle.poa_base.specs.declared.Entry.{Entry};
-ghost use Rattle.poa_verdict.specs.declared.KeyFact.TheVariants.{OtherRun, Persistent, Transient};
+ghost use Rattle.poa_choose.specs.declared.KeyFact.TheVariants.{OtherRun, Persistent, Transient};
 ghost use Rattle.poa_history.specs.Arrivals as calls;
 ghost use Rattle.poa_history.specs.Changes.{standing as stands_after};
 ghost use Rattle.poa_history.specs.Situations as situations;
@@ -16,11 +16,11 @@ use crate::commands::is_bad_id;
 use crate::rules::located;
 use adapter_settings::{Settings, forward_of, manager_state, preset_of};
 use poa_base::{Bytes, Call, Config, Endpoint, Key, ManagerState, Name, Oid, Path, WantMemory};
-use poa_history::Act;
+use poa_choose::{Facts, KeyFact, MapFact, WalkFact};
+use poa_history::Activation;
 use poa_tree::Found;
-use poa_verdict::{Facts, KeyFact, MapFact, WalkFact};
 use standing_queries::Standing;
-use standing_queries::acts::{is_active, is_begun, is_of};
+use standing_queries::activations::{is_active, is_begun, is_of};
 use standing_queries::calls::{is_locate, target_of};
 use standing_queries::ends::{is_finished, is_over};
 use standing_queries::flights::{is_running, is_tried};
@@ -80,66 +80,76 @@ fn differs(config: &Config, key: &Key, adapter: u32) -> bool
 }
 
 /// Whether the activation is of the id, and active.
-fn is_active_of(adapter: u32, oid: &Oid, act: &Act) -> bool
-    ensures { result ≡ stands.is_of adapter oid.now act.now && stands.is_active act.now }
+fn is_active_of(adapter: u32, oid: &Oid, activation: &Activation) -> bool
+    ensures { result ≡ stands.is_of adapter oid.now activation.now && stands.is_active activation.now }
 {
-    is_of(adapter, oid, act) && is_active(act)
+    is_of(adapter, oid, activation) && is_active(activation)
 }
 
 /// The activation of the id that is active.
-fn active_of<'a>(acts: &'a [Act], adapter: u32, oid: &Oid) -> Option<&'a Act>
-    ensures { option_copied result ≡ find (λ a. stands.is_of adapter oid.now a && stands.is_active a) acts.now }
+fn active_of<'a>(activations: &'a [Activation], adapter: u32, oid: &Oid) -> Option<&'a Activation>
+    ensures { option_copied result ≡ find (λ a. stands.is_of adapter oid.now a && stands.is_active a) activations.now }
 {
-    acts.iter().find(|act| is_active_of(adapter, oid, act))
+    activations
+        .iter()
+        .find(|activation| is_active_of(adapter, oid, activation))
 }
 
 /// Whether the activation is of the id, and not over.
-fn is_kept_of(config: &Config, adapter: u32, oid: &Oid, act: &Act) -> bool
-    ensures { result ≡ stands.is_of adapter oid.now act.now && not (ends.is_over config.now act.now) }
+fn is_kept_of(config: &Config, adapter: u32, oid: &Oid, activation: &Activation) -> bool
+    ensures { result ≡ stands.is_of adapter oid.now activation.now && not (ends.is_over config.now activation.now) }
 {
-    is_of(adapter, oid, act) && !is_over(config, act)
+    is_of(adapter, oid, activation) && !is_over(config, activation)
 }
 
 /// The activation of the id that isn't over.
-fn kept_of<'a>(config: &Config, acts: &'a [Act], adapter: u32, oid: &Oid) -> Option<&'a Act>
-    ensures { option_copied result ≡ find (λ a. stands.is_of adapter oid.now a && not (ends.is_over config.now a)) acts.now }
+fn kept_of<'a>(
+    config: &Config,
+    activations: &'a [Activation],
+    adapter: u32,
+    oid: &Oid,
+) -> Option<&'a Activation>
+    ensures { option_copied result ≡ find (λ a. stands.is_of adapter oid.now a && not (ends.is_over config.now a)) activations.now }
 {
-    acts.iter()
-        .find(|act| is_kept_of(config, adapter, oid, act))
+    activations
+        .iter()
+        .find(|activation| is_kept_of(config, adapter, oid, activation))
 }
 
 /// What the active object map has for an id.
-fn slot_of(config: &Config, acts: &[Act], adapter: u32, oid: &Oid) -> MapFact
-    ensures { result ≡ situations.slot_of config.now acts.now adapter oid.now }
+fn slot_of(config: &Config, activations: &[Activation], adapter: u32, oid: &Oid) -> MapFact
+    ensures { result ≡ situations.slot_of config.now activations.now adapter oid.now }
 {
-    match active_of(acts, adapter, oid) {
-        Some(act) => MapFact::Active(act.number),
-        None => match kept_of(config, acts, adapter, oid) {
-            Some(act) => MapFact::Busy(act.number),
+    match active_of(activations, adapter, oid) {
+        Some(activation) => MapFact::Active(activation.number),
+        None => match kept_of(config, activations, adapter, oid) {
+            Some(activation) => MapFact::Busy(activation.number),
             None => MapFact::Free,
         },
     }
 }
 
 /// Whether its incarnation or etherealization hasn't ended.
-fn is_unfinished(config: &Config, act: &Act) -> bool
-    ensures { result ≡ situations.is_unfinished config.now act.now }
+fn is_unfinished(config: &Config, activation: &Activation) -> bool
+    ensures { result ≡ situations.is_unfinished config.now activation.now }
 {
-    is_begun(act) || (act.out && !is_finished(config, act))
+    is_begun(activation) || (activation.out && !is_finished(config, activation))
 }
 
 /// Whether it is of the adapter and hasn't ended.
-fn is_changing_in(config: &Config, adapter: u32, act: &Act) -> bool
-    ensures { result ≡ (act.now.adapter == adapter) && situations.is_unfinished config.now act.now }
+fn is_changing_in(config: &Config, adapter: u32, activation: &Activation) -> bool
+    ensures { result ≡ (activation.now.adapter == adapter) && situations.is_unfinished config.now activation.now }
 {
-    act.adapter == adapter && is_unfinished(config, act)
+    activation.adapter == adapter && is_unfinished(config, activation)
 }
 
 /// Whether an incarnation or etherealization is unfinished in the adapter.
-pub fn is_changing(config: &Config, acts: &[Act], adapter: u32) -> bool
-    ensures { result ≡ situations.is_changing config.now acts.now adapter }
+pub fn is_changing(config: &Config, activations: &[Activation], adapter: u32) -> bool
+    ensures { result ≡ situations.is_changing config.now activations.now adapter }
 {
-    acts.iter().any(|act| is_changing_in(config, adapter, act))
+    activations
+        .iter()
+        .any(|activation| is_changing_in(config, adapter, activation))
 }
 
 /// What is set, as the facts about a key ask it.
@@ -213,12 +223,12 @@ fn facts_met(
         differs: differs(config, key, adapter),
         policies: policies_at(config, path),
         running: is_running(&standing.flights, adapter),
-        slot: slot_of(config, &standing.acts, adapter, &key.oid),
+        slot: slot_of(config, &standing.activations, adapter, &key.oid),
         bad_id: is_bad_id(config, run, standing.made, path, key.oid.as_slice()),
         preset: set.preset,
         rules: !rules_at(config, path).is_empty(),
-        busy: is_changing(config, &standing.acts, adapter),
-        next: u32::try_from(standing.acts.len()).map_err(|_| WantMemory)?,
+        busy: is_changing(config, &standing.activations, adapter),
+        next: u32::try_from(standing.activations.len()).map_err(|_| WantMemory)?,
         located: located(config, path, &key.oid)?,
     })
 }

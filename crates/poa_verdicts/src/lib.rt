@@ -10,5 +10,5 @@ mod turns;
 mod verdicts;
 
 pub use rules::{brought, rule_for};
-pub use turns::{act_numbered, attempt, going_on, removal};
+pub use turns::{activation_numbered, attempt, going_on, removal};
 pub use verdicts::verdict_on;

@@ -3,7 +3,7 @@ ghost use Rattle.std.specs.Prelude.{◌≡◌, IfOk};
 ghost use Rattle.servant_kinds.specs.Object.{type_id_of};
 ghost use Rattle.poa_history.specs.References as references;
 
-use object_reference::write_reference;
+use ior_object::write_reference;
 use poa_base::{Bytes, Config, Endpoint, Key, Oid, Path, Stamp, State, WantMemory};
 use standing_queries::templates::{lasts, policies_at};
 use std::alloc::Global;

@@ -1,7 +1,7 @@
 //! What the rules of a servant manager give.
 ghost use Rattle.std.specs.Prelude.{◌≡◌, IfOk, Some, None, option_copied};
 ghost use Rattle.poa_base.specs.declared.Incarnation.TheVariants.{Named, Raise};
-ghost use Rattle.poa_verdict.specs.declared.Located.{Located};
+ghost use Rattle.poa_choose.specs.declared.Located.{Located};
 ghost use Rattle.poa_history.specs.Rules as rules;
 ghost use Rattle.poa_history.specs.Templates.{servant_name};
 ghost use Rattle.standing_queries.specs.Seen.{seen};
@@ -9,10 +9,10 @@ ghost use Rattle.standing_queries.specs.Seen.{seen};
 use poa_base::{
     Completion, Config, ExcName, Gives, Incarnation, Name, Oid, RuleConf, Sid, SysExc, WantMemory,
 };
-use poa_history::Act;
-use poa_verdict::Located;
+use poa_choose::Located;
+use poa_history::Activation;
 use standing_queries::Standing;
-use standing_queries::acts::is_in_map;
+use standing_queries::activations::is_in_map;
 use standing_queries::templates::{is_unique, policies_at, rules_at, servant_name};
 
 /// The id isn't active: minor 3 of this server's own.
@@ -53,13 +53,17 @@ fn named(config: &Config, servant: u32) -> Result<Incarnation, WantMemory>
 fn named_or_double(
     config: &Config,
     standing: &Standing,
-    act: &Act,
+    activation: &Activation,
     servant: u32,
 ) -> Result<Incarnation, WantMemory>
-    ensures { IfOk result (λ answer. answer ≡ rules.named_or_double config.now (seen standing.now) act.now servant) }
+    ensures { IfOk result (λ answer. answer ≡ rules.named_or_double config.now (seen standing.now) activation.now servant) }
 {
-    if is_unique(policies_at(config, act.path.as_slice()))
-        && is_in_map(&standing.acts, act.adapter, Sid::Named(servant))
+    if is_unique(policies_at(config, activation.path.as_slice()))
+        && is_in_map(
+            &standing.activations,
+            activation.adapter,
+            Sid::Named(servant),
+        )
     {
         Ok(Incarnation::Double)
     } else {
@@ -68,15 +72,22 @@ fn named_or_double(
 }
 
 /// What the servant activator brings for an activation that was begun.
-pub fn brought(config: &Config, standing: &Standing, act: &Act) -> Result<Incarnation, WantMemory>
-    ensures { IfOk result (λ answer. answer ≡ rules.brought config.now (seen standing.now) act.now) }
+pub fn brought(
+    config: &Config,
+    standing: &Standing,
+    activation: &Activation,
+) -> Result<Incarnation, WantMemory>
+    ensures { IfOk result (λ answer. answer ≡ rules.brought config.now (seen standing.now) activation.now) }
 {
-    let Some(rule) = rule_for(rules_at(config, act.path.as_slice()), &act.oid) else {
+    let Some(rule) = rule_for(
+        rules_at(config, activation.path.as_slice()),
+        &activation.oid,
+    ) else {
         return Ok(Incarnation::Raise(NOT_ACTIVE));
     };
     match &rule.gives {
-        Gives::Fresh(_) => Ok(Incarnation::Fresh(act.number)),
-        Gives::Servant(servant) => named_or_double(config, standing, act, *servant),
+        Gives::Fresh(_) => Ok(Incarnation::Fresh(activation.number)),
+        Gives::Servant(servant) => named_or_double(config, standing, activation, *servant),
         Gives::Forward(endpoint) => Ok(Incarnation::Forward(endpoint.clone()?)),
         Gives::Raise(exception) => Ok(Incarnation::Raise(*exception)),
     }

@@ -10,10 +10,10 @@ ghost use Rattle.poa_verdicts.specs.Needs.{needs_memory};
 use crate::facts::is_changing;
 use crate::rules::brought;
 use poa_base::{Attempt, Children, Config, Entry, Name, WantMemory};
-use poa_history::{Act, Flight, Stage};
+use poa_history::{Activation, Flight, Stage};
 use poa_tree::Node;
 use standing_queries::Standing;
-use standing_queries::acts::{is_complete, is_ending};
+use standing_queries::activations::{is_complete, is_ending};
 use standing_queries::flights::is_used;
 use standing_queries::nodes::node_numbered;
 use standing_queries::templates::{children_at, has_activator, has_template};
@@ -29,10 +29,13 @@ fn flight_of(standing: &Standing, arrival: u64) -> Option<&Flight>
 }
 
 /// The activation of a number.
-pub fn act_numbered(standing: &Standing, number: u32) -> Option<&Act>
-    ensures { option_copied result ≡ turns.act_numbered (seen standing.now) number }
+pub fn activation_numbered(standing: &Standing, number: u32) -> Option<&Activation>
+    ensures { option_copied result ≡ turns.activation_numbered (seen standing.now) number }
 {
-    standing.acts.iter().find(|act| act.number == number)
+    standing
+        .activations
+        .iter()
+        .find(|activation| activation.number == number)
 }
 
 /// What an adapter activator answers for a child, where its parent lives.
@@ -126,10 +129,10 @@ fn incarnation_entry(
 ) -> Result<Option<Entry>, WantMemory>
     ensures { IfOk result (λ entry. entry ≡ turns.incarnation_entry config.now (seen standing.now) worker number) }
 {
-    match act_numbered(standing, number) {
-        Some(act) => Ok(Some(Entry::Incarnated {
+    match activation_numbered(standing, number) {
+        Some(activation) => Ok(Some(Entry::Incarnated {
             worker,
-            answer: brought(config, standing, act)?,
+            answer: brought(config, standing, activation)?,
         })),
         None => Ok(None),
     }
@@ -138,11 +141,11 @@ fn incarnation_entry(
 fn removal_entry(standing: &Standing, worker: u32, number: u32) -> Option<Entry>
     ensures { result ≡ turns.removal_entry (seen standing.now) worker number }
 {
-    match act_numbered(standing, number) {
-        Some(act) => Some(Entry::Etherealized {
+    match activation_numbered(standing, number) {
+        Some(activation) => Some(Entry::Etherealized {
             worker,
-            cleanup: act.cleanup,
-            remaining: act.remaining,
+            cleanup: activation.cleanup,
+            remaining: activation.remaining,
         }),
         None => None,
     }
@@ -172,19 +175,21 @@ pub fn going_on(
 }
 
 /// Whether the servant activator is to be told of an activation that is ending.
-fn is_told(config: &Config, act: &Act) -> bool
-    ensures { result ≡ stands.is_complete act.now && (stands.is_ending act.now && (configured.has_activator config.now act.now.path && not act.now.out)) }
+fn is_told(config: &Config, activation: &Activation) -> bool
+    ensures { result ≡ stands.is_complete activation.now && (stands.is_ending activation.now && (configured.has_activator config.now activation.now.path && not activation.now.out)) }
 {
-    is_complete(act) && (is_ending(act) && (has_activator(config, act.path.as_slice()) && !act.out))
+    is_complete(activation)
+        && (is_ending(activation)
+            && (has_activator(config, activation.path.as_slice()) && !activation.out))
 }
 
 /// Whether an activation is to be taken out.
-fn is_due(config: &Config, standing: &Standing, act: &Act) -> bool
-    ensures { result ≡ turns.is_due config.now (seen standing.now) act.now }
+fn is_due(config: &Config, standing: &Standing, activation: &Activation) -> bool
+    ensures { result ≡ turns.is_due config.now (seen standing.now) activation.now }
 {
-    is_told(config, act)
-        && (!is_used(&standing.flights, act.number)
-            && !is_changing(config, &standing.acts, act.adapter))
+    is_told(config, activation)
+        && (!is_used(&standing.flights, activation.number)
+            && !is_changing(config, &standing.activations, activation.adapter))
 }
 
 /// The least activation that is due is taken out. Takes no memory.
@@ -192,21 +197,21 @@ pub fn removal(config: &Config, standing: &Standing, worker: u32) -> Option<Entr
     ensures { result ≡ turns.removal config.now (seen standing.now) worker }
 {
     match first_due(config, standing) {
-        Some(act) => Some(Entry::TakeOut {
+        Some(activation) => Some(Entry::TakeOut {
             worker,
-            activation: act.number,
-            etherealize: !act.quiet,
+            activation: activation.number,
+            etherealize: !activation.quiet,
         }),
         None => None,
     }
 }
 
 /// The least activation that is due.
-fn first_due<'a>(config: &Config, standing: &'a Standing) -> Option<&'a Act>
-    ensures { option_copied result ≡ find (turns.is_due config.now (seen standing.now)) standing.now.acts.items }
+fn first_due<'a>(config: &Config, standing: &'a Standing) -> Option<&'a Activation>
+    ensures { option_copied result ≡ find (turns.is_due config.now (seen standing.now)) standing.now.activations.items }
 {
     standing
-        .acts
+        .activations
         .iter()
-        .find(|act| is_due(config, standing, act))
+        .find(|activation| is_due(config, standing, activation))
 }

@@ -12,8 +12,7 @@ use crate::commands::command_verdict;
 use crate::facts::facts_of;
 use adapter_settings::Settings;
 use poa_base::{Call, Config, Verdict, WantMemory};
-use poa_choose::choose;
-use poa_verdict::Choice;
+use poa_choose::{Choice, choose};
 use standing_queries::Standing;
 use std::alloc::Global;
 

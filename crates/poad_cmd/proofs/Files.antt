@@ -8,7 +8,7 @@ use Rattle.poa_base.specs.declared.Config.{Config}
 use Rattle.replay_script.specs.declared.Script.{Script}
 use Rattle.poad_cmd.specs.declared.status.Status.{Status}
 use Rattle.poad_cmd.specs.declared.status.Status.TheVariants as status
-use Rattle.conf_commands.specs.declared.Asked.{Asked}
+use Rattle.conf_print.specs.declared.Asked.{Asked}
 use Rattle.poad_cmd.specs.Filing.{Filed, Printed}
 use Rattle.poad_cmd.specs.Taking.{HoldsStill, config_limit, script_limit, IsHeld, OfContent, ReadsConfig, ReadsScript, Refused, TakesConfig, TakesFile, TakesScript}
 use Rattle.poad_cmd.specs.Showing.{GainsNothing}

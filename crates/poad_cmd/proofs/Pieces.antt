@@ -8,7 +8,7 @@ use Rattle.poa_core.specs.Life.{Life}
 use Rattle.poa_core.specs.Answers.{unadmitted}
 use Rattle.giop_frame.specs.Stream.{Framed, End}
 use Rattle.giop_frame.specs.Framing.{Framing}
-use Rattle.giop_frame.specs.Framer.{Gives as FramerGives, HasGiven, reach}
+use Rattle.giop_frame.specs.Framer.{FramerGives as FramerGives, HasGiven, reach}
 use Rattle.giop_frame.proofs.Cutting.{given_fed}
 use Rattle.poad_cmd.specs.declared.service.Service.{Service}
 use Rattle.poad_cmd.specs.declared.status.Status.{Status}
@@ -16,11 +16,11 @@ use Rattle.poad_cmd.specs.declared.status.Status.TheVariants.{Ok, Malformed, Hel
 use Rattle.poad_cmd.specs.declared.stop.Stop.{Stop}
 use Rattle.poad_cmd.specs.declared.stop.Stop.TheVariants as stop
 use Rattle.poad_cmd.specs.Delivery.{Hands}
-use Rattle.poad_cmd.specs.Serving.{Gives, IsLegalRun, Serves}
+use Rattle.poad_cmd.specs.Serving.{MessageGives, IsLegalRun, Serves}
 use Rattle.poad_cmd.specs.Stop.{message_limit, Begins, last_words}
 use Rattle.poad_cmd.specs.Run.{Gains}
 use Rattle.poad_cmd.specs.Service.{HasServed, ServesUpTo, Keeps}
-use Rattle.poad_cmd.specs.Piece.{EndsPiece, GoesOn, Settles, TakesPiece}
+use Rattle.poad_cmd.specs.Piece.{EndsPiece, GoesOn, ServiceEnds, TakesPiece}
 use Rattle.poad_cmd.proofs.Told.{told_then, told_here, told_so}
 use Rattle.poad_cmd.proofs.Serving.{begins_with}
 
@@ -82,7 +82,7 @@ piece_served ending why piece old mid served new h k more servant u gave ends = 
   messages = u.messages;
   replies = u.replies;
   life = u.life;
-  served = subst (λ (s : Life). Serves Gives s u.messages u.replies u.life) servant u.served;
+  served = subst (λ (s : Life). Serves MessageGives s u.messages u.replies u.life) servant u.served;
   why = why;
   stops = λ fed given has. u.stops (fed ++ piece) given (fed_on piece fed given old mid more has);
   gave = gave;
@@ -124,7 +124,7 @@ ends_kept WantMemory why mid served life u same e = tt
 ends_kept _ why mid served life u same e = absurd e
 
 -- all was written, and the run goes on or ends
-pub piece_settled : (ending : Option Status) (why : Stop) (piece : List ℕ) (old mid served new : Service) (h k : Option (List ℕ)) → Fed piece old.framer mid.framer → mid.core ≡ old.core → mid.replies.items ≡ [] → ServesUpTo why mid served → IfTold h k (Hands true (served.replies.items ++ last_words why)) → new.framer ≡ served.framer → new.core ≡ served.core → new.replies.items ≡ [] → Settles ending why new → TakesPiece ending piece old new h k
+pub piece_settled : (ending : Option Status) (why : Stop) (piece : List ℕ) (old mid served new : Service) (h k : Option (List ℕ)) → Fed piece old.framer mid.framer → mid.core ≡ old.core → mid.replies.items ≡ [] → ServesUpTo why mid served → IfTold h k (Hands true (served.replies.items ++ last_words why)) → new.framer ≡ served.framer → new.core ≡ served.core → new.replies.items ≡ [] → ServiceEnds ending why new → TakesPiece ending piece old new h k
 piece_settled None why piece old mid served new h k more servant none u p framer state clear waits =
     piece_served None why piece old mid served new h k more servant u
     (told_so h k _ _ (λ x y e. e ∙ ap (λ (bytes : List ℕ). x ++ bytes) (ap (λ (w : Stop). u.replies ++ last_words w) waits ∙ append-nil u.replies)) (handed why mid served h k true u none p))

@@ -14,9 +14,9 @@ use Rattle.poad_cmd.specs.declared.status.Status.{Status}
 use Rattle.poad_cmd.specs.declared.status.Status.TheVariants.{Ok, Malformed, Truncated, Held, Limit, ReadFault, InputLimit, WriteFault, WantMemory, Unbuilt}
 use Rattle.poad_cmd.specs.declared.stop.Stop.{Stop}
 use Rattle.poad_cmd.specs.declared.stop.Stop.TheVariants as stop
-use Rattle.poad_cmd.specs.Serving.{Gives, IsLegalRun, Serves}
+use Rattle.poad_cmd.specs.Serving.{MessageGives, IsLegalRun, Serves}
 use Rattle.poad_cmd.specs.Stop.{message_limit, StopsAt, Begins, last_words}
-use Rattle.poad_cmd.specs.Run.{Answers, Ends, Gains, IsDrained, IsKeptBy, life_at_answer}
+use Rattle.poad_cmd.specs.Run.{RunAnswers, RunEnds, Gains, IsDrained, IsKeptBy, life_at_answer}
 use Rattle.poad_cmd.specs.Service.{HasServed}
 use Rattle.poad_cmd.specs.Piece.{TakesPiece, EndsPiece, EndsAt}
 use Rattle.poad_cmd.proofs.Told.{told_then, told_here, told_so, told_last}
@@ -34,7 +34,7 @@ pub record Runs (c : Config) (left_old left_new held_old held_new : Option (List
   pub took : IfTold left_old left_new (λ old new. old ≡ got ++ new)
   pub messages : List Framed
   pub replies : List ℕ
-  pub served : Serves Gives (life_at_answer c) messages replies service.core
+  pub served : Serves MessageGives (life_at_answer c) messages replies service.core
   pub given : HasServed got messages service
   pub waits : Stream message_limit got messages (left_over service.waiting)
   pub gave : IfTold held_old held_new (λ old new. new ≡ old ++ replies)
@@ -88,7 +88,7 @@ run_goes_on c l m n h k j taken count piece old new r took long t =
       took = told_then l m n _ _ _ (λ x y z p q. p ∙ (ap (λ (back : List ℕ). r.got ++ back) q ∙ sym (append_assoc r.got piece z))) r.took took;
       messages = r.messages ++ t.messages;
       replies = r.replies ++ t.replies;
-      served = serves_then Gives (life_at_answer c) old.core new.core r.messages t.messages r.replies t.replies r.served (subst (Serves Gives old.core t.messages t.replies) (sym t.ends.is_life) t.served);
+      served = serves_then MessageGives (life_at_answer c) old.core new.core r.messages t.messages r.replies t.replies r.served (subst (Serves MessageGives old.core t.messages t.replies) (sym t.ends.is_life) t.served);
       given = t.ends.given r.got r.messages r.given;
       waits = stops;
       gave = told_then h k j _ _ _ (λ x y z p q. q ∙ (ap (λ (before : List ℕ). before ++ t.replies) p ∙ append_assoc x r.replies t.replies)) r.gave t.gave;
@@ -109,7 +109,7 @@ gains_on WriteFault why held x y z first last ends p q = (length first + q.0, q.
 gains_on WantMemory why held x y z first last ends p q = (length first + q.0, q.1 ∙ (ap (λ (before : List ℕ). before ++ take q.0 last) p ∙ (append_assoc x first (take q.0 last) ∙ ap (λ (bytes : List ℕ). x ++ bytes) (sym (take-append-add first last q.0)))))
 gains_on _ why held x y z first last ends p q = absurd ends
 
-ends_on : (status : Status) (why : Stop) (held : ℕ) (got : List ℕ) (left : Option (List ℕ)) → EndsPiece status why held → Ends status why held got left
+ends_on : (status : Status) (why : Stop) (held : ℕ) (got : List ℕ) (left : Option (List ℕ)) → EndsPiece status why held → RunEnds status why held got left
 ends_on Ok why held got left ends = (inl ends.0, ends.1)
 ends_on (Held count) why held got left ends = (inl ends.0, ends.1, ends.2)
 ends_on (Malformed at) why held got left ends = ends
@@ -120,10 +120,10 @@ ends_on WantMemory why held got left ends = tt
 ends_on _ why held got left ends = absurd ends
 
 -- the givens of the run stay
-gives_givens : (a : Life) (m : Framed) (bytes : List ℕ) (b : Life) → Gives a m bytes b → Givens a b
+gives_givens : (a : Life) (m : Framed) (bytes : List ℕ) (b : Life) → MessageGives a m bytes b → Givens a b
 gives_givens a m bytes b g = asked_givens a g.asked (length m.bytes) bytes b g.gives
 
-serves_givens : (messages : List Framed) (a : Life) (replies : List ℕ) (b : Life) → Serves Gives a messages replies b → Givens a b
+serves_givens : (messages : List Framed) (a : Life) (replies : List ℕ) (b : Life) → Serves MessageGives a messages replies b → Givens a b
 serves_givens [] a replies b s = subst (λ (l : Life). Givens a l) (sym s.1) (givens_life a)
 serves_givens (m ∷ ms) a replies b s = givens_then a s.1.0 b (gives_givens a m s.0 s.1.0 s.1.1.1.0) (serves_givens ms s.1.0 s.1.1.0 b s.1.1.1.1)
 
@@ -132,20 +132,20 @@ kept_so c life g legal =
     let first : Givens (life_at_first c) life = record { config = g.config; run = g.run; limit = g.limit; opening = g.opening } in
     (legal_for c life first legal.legal, lifetime_for c life first legal.lifetime)
 
-kept_by : (status : Status) (c : Config) (life : Life) (messages : List Framed) (replies : List ℕ) → Serves Gives (life_at_answer c) messages replies life → IsLegalRun life → IsKeptBy status c life
+kept_by : (status : Status) (c : Config) (life : Life) (messages : List Framed) (replies : List ℕ) → Serves MessageGives (life_at_answer c) messages replies life → IsLegalRun life → IsKeptBy status c life
 kept_by WantMemory c life messages replies s legal = tt
 kept_by _ c life messages replies s legal = kept_so c life (serves_givens messages (life_at_answer c) replies life s) legal
 
 -- a piece ends the run
-pub run_ends : (c : Config) (status : Status) (l m n h k j : Option (List ℕ)) (taken : ℕ) (piece : List ℕ) (old new : Service) → Runs c l m h k taken old → IfTold m n (λ before after. before ≡ piece ++ after) → TakesPiece (Some status) piece old new k j → Answers c status l n h j
+pub run_ends : (c : Config) (status : Status) (l m n h k j : Option (List ℕ)) (taken : ℕ) (piece : List ℕ) (old new : Service) → Runs c l m h k taken old → IfTold m n (λ before after. before ≡ piece ++ after) → TakesPiece (Some status) piece old new k j → RunAnswers c status l n h j
 run_ends c status l m n h k j taken piece old new r took t = record {
-  kept = kept_by status c t.life (r.messages ++ t.messages) (r.replies ++ t.replies) (serves_then Gives (life_at_answer c) old.core t.life r.messages t.messages r.replies t.replies r.served t.served) t.legal;
+  kept = kept_by status c t.life (r.messages ++ t.messages) (r.replies ++ t.replies) (serves_then MessageGives (life_at_answer c) old.core t.life r.messages t.messages r.replies t.replies r.served t.served) t.legal;
   got = r.got ++ piece;
   took = told_then l m n _ _ _ (λ x y z p q. p ∙ (ap (λ (back : List ℕ). r.got ++ back) q ∙ sym (append_assoc r.got piece z))) r.took took;
   messages = r.messages ++ t.messages;
   replies = r.replies ++ t.replies;
   life = t.life;
-  served = serves_then Gives (life_at_answer c) old.core t.life r.messages t.messages r.replies t.replies r.served t.served;
+  served = serves_then MessageGives (life_at_answer c) old.core t.life r.messages t.messages r.replies t.replies r.served t.served;
   why = t.why;
   stops = t.stops r.got r.messages r.given;
   gave = told_then h k j _ _ _ (λ x y z p q. subst (λ (bytes : List ℕ). Gains status bytes x z) (sym (append_assoc r.replies t.replies (last_words t.why))) (gains_on status t.why _ x y z r.replies (t.replies ++ last_words t.why) t.ends p q)) r.gave t.gave;
@@ -153,7 +153,7 @@ run_ends c status l m n h k j taken piece old new r took t = record {
 }
 
 -- the run ends between two pieces
-run_stops : (c : Config) (status : Status) (l m h k : Option (List ℕ)) (taken : ℕ) (service : Service) → (r : Runs c l m h k taken service) → ((x y bytes : List ℕ) → y ≡ x ++ bytes → Gains status bytes x y) → Ends status (stop.Waits service.waiting) (unadmitted service.core.history) r.got m → Answers c status l m h k
+run_stops : (c : Config) (status : Status) (l m h k : Option (List ℕ)) (taken : ℕ) (service : Service) → (r : Runs c l m h k taken service) → ((x y bytes : List ℕ) → y ≡ x ++ bytes → Gains status bytes x y) → RunEnds status (stop.Waits service.waiting) (unadmitted service.core.history) r.got m → RunAnswers c status l m h k
 run_stops c status l m h k taken service r gains ends = record {
   kept = kept_by status c service.core r.messages r.replies r.served r.legal;
   got = r.got;
@@ -169,22 +169,22 @@ run_stops c status l m h k taken service r gains ends = record {
 }
 
 -- the run stops at a read that failed
-pub run_fails : (c : Config) (l m h k : Option (List ℕ)) (taken : ℕ) (service : Service) → Runs c l m h k taken service → Answers c ReadFault l m h k
+pub run_fails : (c : Config) (l m h k : Option (List ℕ)) (taken : ℕ) (service : Service) → Runs c l m h k taken service → RunAnswers c ReadFault l m h k
 run_fails c l m h k taken service r = run_stops c ReadFault l m h k taken service r (λ x y bytes e. e) (service.waiting, refl)
 
 -- the run stops at its limit
-pub run_limited : (c : Config) (l m h k : Option (List ℕ)) (taken : ℕ) (service : Service) → Runs c l m h k taken service → taken ≡ 2 ^ 32 → Answers c (InputLimit taken) l m h k
+pub run_limited : (c : Config) (l m h k : Option (List ℕ)) (taken : ℕ) (service : Service) → Runs c l m h k taken service → taken ≡ 2 ^ 32 → RunAnswers c (InputLimit taken) l m h k
 run_limited c l m h k taken service r full = run_stops c (InputLimit taken) l m h k taken service r (λ x y bytes e. e) ((service.waiting, refl), r.count, full)
 
 -- the run stops at the end of its source
-pub run_finished : (c : Config) (status : Status) (l m h k : Option (List ℕ)) (taken : ℕ) (service : Service) → Runs c l m h k taken service → IsDrained m → EndsAt status service.waiting (unadmitted service.core.history) → Answers c status l m h k
+pub run_finished : (c : Config) (status : Status) (l m h k : Option (List ℕ)) (taken : ℕ) (service : Service) → Runs c l m h k taken service → IsDrained m → EndsAt status service.waiting (unadmitted service.core.history) → RunAnswers c status l m h k
 run_finished c Ok l m h k taken service r none at = run_stops c Ok l m h k taken service r (λ x y bytes e. e) (inr (ap (λ (n : ℕ). stop.Waits n) at.0, none), at.1)
 run_finished c (Held count) l m h k taken service r none at = run_stops c (Held count) l m h k taken service r (λ x y bytes e. e) (inr (ap (λ (n : ℕ). stop.Waits n) at.0, none), at.1, at.2)
 run_finished c (Truncated have) l m h k taken service r none at = run_stops c (Truncated have) l m h k taken service r (λ x y bytes e. e) (ap (λ (n : ℕ). stop.Waits n) (sym at.0), at.1, none)
 run_finished c _ l m h k taken service r none at = absurd at
 
 -- nothing was read or written for want of memory
-pub run_refused : (c : Config) (l h : Option (List ℕ)) → Answers c WantMemory l l h h
+pub run_refused : (c : Config) (l h : Option (List ℕ)) → RunAnswers c WantMemory l l h h
 run_refused c l h = record {
   kept = tt;
   got = [];

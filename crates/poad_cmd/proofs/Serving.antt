@@ -5,13 +5,13 @@ use Rattle.giop_frame.specs.declared.Why.{Why}
 use Rattle.giop_frame.specs.declared.Next.TheVariants as next
 use Rattle.giop_frame.specs.Stream.{Framed, Reading, End, Stream, bad_place}
 use Rattle.giop_frame.specs.Framing.{Framing}
-use Rattle.giop_frame.specs.Framer.{Gives as FramerGives, HasGiven, Answers, reach}
+use Rattle.giop_frame.specs.Framer.{FramerGives as FramerGives, HasGiven, FramerAnswers, reach}
 use Rattle.giop_frame.proofs.Streams.{SomeStream, some_stream}
 use Rattle.giop_frame.proofs.Cutting.{given_message, stream_fails_here}
 use Rattle.poad_cmd.specs.declared.service.Service.{Service}
 use Rattle.poad_cmd.specs.declared.stop.Stop.{Stop}
 use Rattle.poad_cmd.specs.declared.stop.Stop.TheVariants.{Waits, Closed, Refused, Unbuilt, Full, NoMemory}
-use Rattle.poad_cmd.specs.Serving.{Gives, IsLegalRun, Serves}
+use Rattle.poad_cmd.specs.Serving.{MessageGives, IsLegalRun, Serves}
 use Rattle.poad_cmd.specs.Stop.{message_limit, Begins, StopsAt}
 use Rattle.poad_cmd.specs.Service.{HasServed, ServedMore, Keeps, IsKept, ServesUpTo, ServesOne, StopsHere, Turns, StopsBy, Handles, GivesBytes}
 
@@ -49,7 +49,7 @@ stops_for_memory old new waiting reached = record {
 }
 
 -- a place is bad
-pub stops_at_place : (old new : Service) (at : ℕ) (why : Why) → Answers old.framer (next.Bad at why) new.framer → new.replies.items ≡ old.replies.items → reach new.framer ≡ reach old.framer → StopsHere (Refused at) old new
+pub stops_at_place : (old new : Service) (at : ℕ) (why : Why) → FramerAnswers old.framer (next.Bad at why) new.framer → new.replies.items ≡ old.replies.items → reach new.framer ≡ reach old.framer → StopsHere (Refused at) old new
 stops_at_place old new at why bad waiting reached = record {
   waiting = waiting;
   reached = reached;
@@ -58,10 +58,10 @@ stops_at_place old new at why bad waiting reached = record {
 }
 
 -- a message came, which stops the service
-came : (old mid : Service) (message : Framed) → Answers old.framer (next.Message message) mid.framer → (fed : List ℕ) (given : List Framed) → HasServed fed given old → HasServed fed (given ++ message ∷ []) mid
+came : (old mid : Service) (message : Framed) → FramerAnswers old.framer (next.Message message) mid.framer → (fed : List ℕ) (given : List Framed) → HasServed fed given old → HasServed fed (given ++ message ∷ []) mid
 came old mid message took fed given h = given_message message_limit fed given message old.framer mid.framer h took
 
-stops_by : (old mid : Service) (message : Framed) → Answers old.framer (next.Message message) mid.framer → (why : Stop) → StopsBy why old.core message → (fed : List ℕ) (given : List Framed) → HasServed fed given old → StopsAt why old.core fed given
+stops_by : (old mid : Service) (message : Framed) → FramerAnswers old.framer (next.Message message) mid.framer → (why : Stop) → StopsBy why old.core message → (fed : List ℕ) (given : List Framed) → HasServed fed given old → StopsAt why old.core fed given
 stops_by old mid message took (Waits have) by fed given h = absurd by
 stops_by old mid message took Closed by fed given h = record { message = message; begins = begins fed (given ++ message ∷ []) mid.framer (came old mid message took fed given h); is = by }
 stops_by old mid message took (Refused at) by fed given h = inr (record { message = message; begins = begins fed (given ++ message ∷ []) mid.framer (came old mid message took fed given h); is = by })
@@ -76,11 +76,11 @@ nothing_kept old new message Closed by kept = kept
 nothing_kept old new message _ by kept = tt
 
 -- a message came, and was served or stops the service
-pub turn : (result : Option Stop) (old mid new : Service) (message : Framed) → Answers old.framer (next.Message message) mid.framer → length mid.framer.unread < length old.framer.unread → reach mid.framer ≡ reach old.framer → mid.core ≡ old.core → mid.replies.items ≡ old.replies.items → new.framer ≡ mid.framer → Handles result message mid new → IsLegalRun new.core → Turns result old new
+pub turn : (result : Option Stop) (old mid new : Service) (message : Framed) → FramerAnswers old.framer (next.Message message) mid.framer → length mid.framer.unread < length old.framer.unread → reach mid.framer ≡ reach old.framer → mid.core ≡ old.core → mid.replies.items ≡ old.replies.items → new.framer ≡ mid.framer → Handles result message mid new → IsLegalRun new.core → Turns result old new
 turn None old mid new message took fewer reached servant replies same done legal = record {
   message = message;
   reply = done.reply;
-  gives = subst (λ (s : Life). Gives s message done.reply new.core) servant done.gives;
+  gives = subst (λ (s : Life). MessageGives s message done.reply new.core) servant done.gives;
   waiting = done.waiting ∙ ap (λ (front : List ℕ). front ++ done.reply) replies;
   reached = ap reach same ∙ reached;
   given = λ fed given h. subst (λ (f : Framing). HasGiven message_limit fed (given ++ message ∷ []) f) (sym same) (came old mid message took fed given h);
@@ -106,7 +106,7 @@ serves_then {S} Each a b c (m ∷ ms) ns xs ys p q =
 pub record ServesSome (old new : Service) : Type 0 where
   pub messages : List Framed
   pub replies : List ℕ
-  pub served : Serves Gives old.core messages replies new.core
+  pub served : Serves MessageGives old.core messages replies new.core
   pub waiting : new.replies.items ≡ old.replies.items ++ replies
   pub reached : reach new.framer ≡ reach old.framer
   pub given : ServedMore old messages new
@@ -129,7 +129,7 @@ serves_more a b c p q = record {
   legal = q.legal;
   messages = p.messages ++ q.message ∷ [];
   replies = p.replies ++ q.reply;
-  served = serves_then Gives a.core b.core c.core p.messages (q.message ∷ []) p.replies q.reply p.served (q.reply, (c.core, ([], (q.gives, (refl, refl), sym (append-nil q.reply)))));
+  served = serves_then MessageGives a.core b.core c.core p.messages (q.message ∷ []) p.replies q.reply p.served (q.reply, (c.core, ([], (q.gives, (refl, refl), sym (append-nil q.reply)))));
   waiting = q.waiting ∙ (ap (λ (front : List ℕ). front ++ q.reply) p.waiting ∙ append_assoc a.replies.items p.replies q.reply);
   reached = q.reached ∙ p.reached;
   given = λ fed given h. subst (λ (ms : List Framed). HasServed fed ms c) (append_assoc given p.messages (q.message ∷ [])) (q.given fed (given ++ p.messages) (p.given fed given h));

@@ -6,7 +6,7 @@ use Rattle.poa_base.specs.declared.Config.{Config}
 use Rattle.poad_cmd.specs.declared.status.Status.{Status}
 use Rattle.poad_cmd.specs.declared.naming.TheConstants.{BUILT_IN}
 use Rattle.poad_cmd.specs.Taking.{ReadsConfig, TakesConfig}
-use Rattle.poad_cmd.specs.Run.{Answers}
+use Rattle.poad_cmd.specs.Run.{RunAnswers}
 
 -- the configuration in the file of this name, or the built-in one
 abbrev pub NamesConfig : Option (List ℕ) → Result Config Status → Option Contents → Option Contents → Type 0
@@ -17,5 +17,5 @@ NamesConfig (Some name) result old new = TakesConfig name result old new
 pub data AnswersBy (name : Option (List ℕ)) (status : Status) (files_old files_new : Option Contents) (left_old left_new held_old held_new : Option (List ℕ)) : Type 0 where
   unnamed : NamesConfig name (Err status) files_old files_new → left_new ≡ left_old → held_new ≡ held_old
       → AnswersBy name status files_old files_new left_old left_new held_old held_new
-  served : (config : Config) → NamesConfig name (Ok config) files_old files_new → Answers config status left_old left_new held_old held_new
+  served : (config : Config) → NamesConfig name (Ok config) files_old files_new → RunAnswers config status left_old left_new held_old held_new
       → AnswersBy name status files_old files_new left_old left_new held_old held_new

@@ -3,24 +3,24 @@ use Rattle.std.specs.Prelude.{◌≡◌, ◌≢◌, ℕ, List, ◌++◌, Option,
 use Rattle.outside.specs.Keeping.{Contents}
 use Rattle.outside.specs.Told.{IfTold}
 use Rattle.conf_fields.specs.declared.ConfFault.TheVariants as conf
-use Rattle.conf_commands.specs.declared.Asked.{Asked}
-use Rattle.conf_commands.specs.Printing.{Prints}
+use Rattle.conf_print.specs.declared.Asked.{Asked}
+use Rattle.conf_print.specs.Printing.{ConfPrints}
 use Rattle.poad_cmd.specs.Showing.{GainsNothing}
 use Rattle.poad_cmd.specs.Taking.{config_limit, IsHeld, Refused}
 use Rattle.poad_cmd.specs.declared.status.Status.{Status}
 use Rattle.poad_cmd.specs.declared.status.Status.TheVariants.{Ok, ConfigRefused, WriteFault, FileFault, WantMemory, NoFile, FileTooLong}
 
 -- the content is read as a configuration, and the sink gained so what is printed of it
-pub record Gives (asked : Asked) (content : List ℕ) (held_old held_new : Option (List ℕ)) (Gains : List ℕ → List ℕ → List ℕ → Type 0) : Type 0 where
+pub record FileGives (asked : Asked) (content : List ℕ) (held_old held_new : Option (List ℕ)) (Gains : List ℕ → List ℕ → List ℕ → Type 0) : Type 0 where
   pub text : List ℕ
-  pub prints : Prints asked content (OkResult text)
+  pub prints : ConfPrints asked content (OkResult text)
   pub gave : IfTold held_old held_new (Gains text)
 
 -- what is printed of a content, with the status; a fault of writing leaves a front of it
 abbrev pub Printed : Asked → List ℕ → Status → Option (List ℕ) → Option (List ℕ) → Type 0
-Printed asked content Ok held_old held_new = Gives asked content held_old held_new (λ bytes old new. new ≡ old ++ bytes)
-Printed asked content WriteFault held_old held_new = Gives asked content held_old held_new (λ bytes old new. (n : ℕ) × (new ≡ old ++ take n bytes))
-Printed asked content (ConfigRefused fault) held_old held_new = Prints asked content (Err fault) × (fault ≢ conf.WantMemory) × GainsNothing held_old held_new
+Printed asked content Ok held_old held_new = FileGives asked content held_old held_new (λ bytes old new. new ≡ old ++ bytes)
+Printed asked content WriteFault held_old held_new = FileGives asked content held_old held_new (λ bytes old new. (n : ℕ) × (new ≡ old ++ take n bytes))
+Printed asked content (ConfigRefused fault) held_old held_new = ConfPrints asked content (Err fault) × (fault ≢ conf.WantMemory) × GainsNothing held_old held_new
 Printed asked content WantMemory held_old held_new = GainsNothing held_old held_new
 Printed asked content _ held_old held_new = ⊥
 

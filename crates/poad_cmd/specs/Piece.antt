@@ -10,7 +10,7 @@ use Rattle.poad_cmd.specs.declared.status.Status.{Status}
 use Rattle.poad_cmd.specs.declared.status.Status.TheVariants.{Ok, Malformed, Truncated, Held, Limit, WriteFault, WantMemory, Unbuilt}
 use Rattle.poad_cmd.specs.declared.stop.Stop.{Stop}
 use Rattle.poad_cmd.specs.declared.stop.Stop.TheVariants as stop
-use Rattle.poad_cmd.specs.Serving.{Gives, IsLegalRun, Serves}
+use Rattle.poad_cmd.specs.Serving.{MessageGives, IsLegalRun, Serves}
 use Rattle.poad_cmd.specs.Stop.{StopsAt, last_words}
 use Rattle.poad_cmd.specs.Run.{Gains}
 use Rattle.poad_cmd.specs.Service.{HasServed}
@@ -27,9 +27,9 @@ EndsPiece WantMemory why held = ⊤
 EndsPiece _ why held = ⊥
 
 -- a stop ends the run with a status, or this many bytes wait
-abbrev pub Settles : Option Status → Stop → Service → Type 0
-Settles None why service = why ≡ stop.Waits service.waiting
-Settles (Some status) why service = EndsPiece status why (unadmitted service.core.history)
+abbrev pub ServiceEnds : Option Status → Stop → Service → Type 0
+ServiceEnds None why service = why ≡ stop.Waits service.waiting
+ServiceEnds (Some status) why service = EndsPiece status why (unadmitted service.core.history)
 
 -- where the service goes on, no whole message is left, all replies are written, and it has this run
 pub record GoesOn (why : Stop) (piece : List ℕ) (messages : List Framed) (life : Life) (old new : Service) : Type 0 where
@@ -44,7 +44,7 @@ pub record TakesPiece (ending : Option Status) (piece : List ℕ) (old new : Ser
   pub messages : List Framed
   pub replies : List ℕ
   pub life : Life
-  pub served : Serves Gives old.core messages replies life
+  pub served : Serves MessageGives old.core messages replies life
   pub legal : IsLegalRun life
   pub why : Stop
   pub stops : (fed : List ℕ) (given : List Framed) → HasServed fed given old → StopsAt why life (fed ++ piece) (given ++ messages)

@@ -13,7 +13,7 @@ use Rattle.poad_cmd.specs.declared.status.Status.{Status}
 use Rattle.poad_cmd.specs.declared.status.Status.TheVariants.{Ok, Malformed, ReadFault, WriteFault, Truncated, Held, Limit, WantMemory, InputLimit, Unbuilt}
 use Rattle.poad_cmd.specs.declared.stop.Stop.{Stop}
 use Rattle.poad_cmd.specs.declared.stop.Stop.TheVariants as stop
-use Rattle.poad_cmd.specs.Serving.{Gives, Serves}
+use Rattle.poad_cmd.specs.Serving.{MessageGives, Serves}
 use Rattle.poad_cmd.specs.Stop.{StopsAt, last_words}
 
 -- nothing is left of the source
@@ -30,18 +30,18 @@ IsRead why left = (why ≡ stop.Closed) ⊎ ((why ≡ stop.Waits 0) × IsDrained
 
 -- why a run ends with a status: `got` was taken of the source, serving it stopped for this reason, and so many calls
 -- are unadmitted
-abbrev pub Ends : Status → Stop → ℕ → List ℕ → Option (List ℕ) → Type 0
-Ends Ok why held got left = IsRead why left × (held ≡ 0)
-Ends (Held count) why held got left = IsRead why left × (count ≡ held) × (0 < held)
-Ends (Truncated have) why held got left = (why ≡ stop.Waits have) × (0 < have) × IsDrained left
-Ends (Malformed at) why held got left = why ≡ stop.Refused at
-Ends (Unbuilt at) why held got left = why ≡ stop.Unbuilt at
-Ends (Limit calls bytes) why held got left = why ≡ stop.Full calls bytes
-Ends (InputLimit taken) why held got left = IsWaiting why × (taken ≡ length got) × (taken ≡ 2 ^ 32)
-Ends ReadFault why held got left = IsWaiting why
-Ends WriteFault why held got left = ⊤
-Ends WantMemory why held got left = ⊤
-Ends _ why held got left = ⊥
+abbrev pub RunEnds : Status → Stop → ℕ → List ℕ → Option (List ℕ) → Type 0
+RunEnds Ok why held got left = IsRead why left × (held ≡ 0)
+RunEnds (Held count) why held got left = IsRead why left × (count ≡ held) × (0 < held)
+RunEnds (Truncated have) why held got left = (why ≡ stop.Waits have) × (0 < have) × IsDrained left
+RunEnds (Malformed at) why held got left = why ≡ stop.Refused at
+RunEnds (Unbuilt at) why held got left = why ≡ stop.Unbuilt at
+RunEnds (Limit calls bytes) why held got left = why ≡ stop.Full calls bytes
+RunEnds (InputLimit taken) why held got left = IsWaiting why × (taken ≡ length got) × (taken ≡ 2 ^ 32)
+RunEnds ReadFault why held got left = IsWaiting why
+RunEnds WriteFault why held got left = ⊤
+RunEnds WantMemory why held got left = ⊤
+RunEnds _ why held got left = ⊥
 
 -- the sink gained these bytes, or after a fault of writing or want of memory a front of them
 abbrev pub Gains : Status → List ℕ → List ℕ → List ℕ → Type 0
@@ -61,15 +61,15 @@ IsKeptBy status c life = IsLegal c c.run 4000000 life.history × HasLifetime c c
 -- `answer` took bytes of the source, served the messages of their stream in order, up to one that it doesn't serve, and
 -- gave the sink their replies, and behind them MessageError where the next message is bad, or CloseConnection where the
 -- run refuses its call
-pub record Answers (c : Config) (status : Status) (left_old left_new held_old held_new : Option (List ℕ)) : Type 0 where
+pub record RunAnswers (c : Config) (status : Status) (left_old left_new held_old held_new : Option (List ℕ)) : Type 0 where
   pub got : List ℕ
   pub took : IfTold left_old left_new (λ old new. old ≡ got ++ new)
   pub messages : List Framed
   pub replies : List ℕ
   pub life : Life
-  pub served : Serves Gives (life_at_answer c) messages replies life
+  pub served : Serves MessageGives (life_at_answer c) messages replies life
   pub why : Stop
   pub stops : StopsAt why life got messages
   pub gave : IfTold held_old held_new (Gains status (replies ++ last_words why))
-  pub ends : Ends status why (unadmitted life.history) got left_new
+  pub ends : RunEnds status why (unadmitted life.history) got left_new
   pub kept : IsKeptBy status c life

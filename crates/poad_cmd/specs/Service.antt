@@ -16,7 +16,7 @@ use Rattle.poad_cmd.specs.declared.stop.Stop.TheVariants.{Waits, Closed, Refused
 use Rattle.poa_base.specs.declared.Config.{Config}
 use Rattle.giop_msg.specs.Reply.{reply_bytes}
 use Rattle.replay_run.specs.Talking.{CollectsAll}
-use Rattle.poad_cmd.specs.Serving.{Gives, GivesAsked, IsLegalRun, Serves, Works}
+use Rattle.poad_cmd.specs.Serving.{MessageGives, GivesAsked, IsLegalRun, Serves, Works}
 use Rattle.poad_cmd.specs.Run.{life_at_answer}
 use Rattle.poad_cmd.specs.Stop.{message_limit, StopsAt, IsBadMessage, IsUnbuilt, IsClosing, IsRefused}
 
@@ -39,7 +39,7 @@ pub record ServesUpTo (why : Stop) (old new : Service) : Type 0 where
   pub messages : List Framed
   pub replies : List ℕ
   pub life : Life
-  pub served : Serves Gives old.core messages replies life
+  pub served : Serves MessageGives old.core messages replies life
   pub waiting : new.replies.items ≡ old.replies.items ++ replies
   pub reached : reach new.framer ≡ reach old.framer
   pub stops : (fed : List ℕ) (given : List Framed) → HasServed fed given old → StopsAt why life fed (given ++ messages)
@@ -47,16 +47,16 @@ pub record ServesUpTo (why : Stop) (old new : Service) : Type 0 where
   pub legal : IsLegalRun life
 
 -- these bytes wait behind those that waited, and with them this run came
-pub record GivesBytes (Gives : List ℕ → Life → Type 0) (old new : Service) : Type 0 where
+pub record GivesBytes (MessageGives : List ℕ → Life → Type 0) (old new : Service) : Type 0 where
   pub reply : List ℕ
-  pub gives : Gives reply new.core
+  pub gives : MessageGives reply new.core
   pub waiting : new.replies.items ≡ old.replies.items ++ reply
 
 -- the message in front was served, and its reply waits behind those that waited
 pub record ServesOne (old new : Service) : Type 0 where
   pub message : Framed
   pub reply : List ℕ
-  pub gives : Gives old.core message reply new.core
+  pub gives : MessageGives old.core message reply new.core
   pub waiting : new.replies.items ≡ old.replies.items ++ reply
   pub reached : reach new.framer ≡ reach old.framer
   pub given : ServedMore old (message ∷ []) new
@@ -91,7 +91,7 @@ IsKept _ old new = ⊤
 
 -- a message was served, or stops the service
 abbrev pub Handles : Option Stop → Framed → Service → Service → Type 0
-Handles None message old new = GivesBytes (Gives old.core message) old new
+Handles None message old new = GivesBytes (MessageGives old.core message) old new
 Handles (Some why) message old new = StopsBy why old.core message × (new.replies.items ≡ old.replies.items) × IsKept why old.core new.core
 
 -- some message asks this

@@ -34,7 +34,7 @@ GivesAsked life (incoming.Cancel id) size bytes after = (bytes ≡ []) × (after
 GivesAsked life incoming.Closing size bytes after = ⊥
 
 -- a message gives these bytes
-pub record Gives (life : Life) (message : Framed) (bytes : List ℕ) (after : Life) : Type 0 where
+pub record MessageGives (life : Life) (message : Framed) (bytes : List ℕ) (after : Life) : Type 0 where
   pub asked : Incoming
   pub asks : CallOf message.bytes (Ok asked)
   pub gives : GivesAsked life asked (length message.bytes) bytes after

@@ -10,7 +10,7 @@ use Rattle.poad_cmd.specs.declared.status.Status.{Status}
 use Rattle.poad_cmd.specs.declared.status.Status.TheVariants.{Ok, TextRefused, WriteFault, WantMemory}
 
 -- the text is that of a reference, whose printed form the sink gained so
-pub record Prints (text : List ℕ) (held_old held_new : Option (List ℕ)) (Gains : List ℕ → List ℕ → List ℕ → Type 0) : Type 0 where
+pub record ShowPrints (text : List ℕ) (held_old held_new : Option (List ℕ)) (Gains : List ℕ → List ℕ → List ℕ → Type 0) : Type 0 where
   pub ior : Ior
   pub reads : TextGives text (OkResult ior)
   pub printed : List ℕ
@@ -23,9 +23,9 @@ GainsNothing held_old held_new = IfTold held_old held_new (λ old new. new ≡ o
 
 -- `show` prints the reference, or tells why the text is none; a fault of writing leaves a front of the printed form
 abbrev pub Tells : Status → List ℕ → Option (List ℕ) → Option (List ℕ) → Type 0
-Tells Ok text held_old held_new = Prints text held_old held_new (λ bytes old new. new ≡ old ++ bytes)
+Tells Ok text held_old held_new = ShowPrints text held_old held_new (λ bytes old new. new ≡ old ++ bytes)
 Tells (TextRefused fault) text held_old held_new = TextGives text (Err fault) × GainsNothing held_old held_new
-Tells WriteFault text held_old held_new = Prints text held_old held_new (λ bytes old new. (n : ℕ) × (new ≡ old ++ take n bytes))
+Tells WriteFault text held_old held_new = ShowPrints text held_old held_new (λ bytes old new. (n : ℕ) × (new ≡ old ++ take n bytes))
 Tells WantMemory text held_old held_new = GainsNothing held_old held_new
 Tells _ text held_old held_new = ⊥
 

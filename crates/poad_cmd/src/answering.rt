@@ -3,7 +3,7 @@ ghost use Rattle.std.specs.Prelude.{◌≡◌, ◌+◌, ◌^◌, ◌<◌, ◌≤
 ghost use Rattle.outside.specs.Cause.{HasCause};
 ghost use Rattle.outside.specs.Reading.{IsWithin, Delivers};
 ghost use Rattle.outside.specs.Told.{IfTold};
-ghost use Rattle.poad_cmd.specs.Run.{Answers};
+ghost use Rattle.poad_cmd.specs.Run.{RunAnswers};
 ghost use Rattle.giop_frame.specs.Framer.{reach};
 ghost use Rattle.conf_rules.specs.Rules.{KeepsRules};
 ghost use Rattle.poa_core.specs.Answers.{unadmitted};
@@ -33,7 +33,7 @@ pub(crate) fn answer<S: Source, K: Sink>(
 ) -> Status
     requires patient { S.is_waiting source.old ≡ false }
     requires rules { KeepsRules config }
-    ensures answers { Answers config result (S.left source.old) (S.left source.new) (K.held sink.old) (K.held sink.new) }
+    ensures answers { RunAnswers config result (S.left source.old) (S.left source.new) (K.held sink.old) (K.held sink.new) }
     ensures read { HasCause (S.read_faults source.old) (S.read_faults source.new) (result ≡ Status.ReadFault) }
     ensures written { HasCause (K.write_faults sink.old) (K.write_faults sink.new) (result ≡ Status.WriteFault) }
 {

@@ -9,7 +9,7 @@ ghost use Rattle.poad_cmd.specs.Taking.{HoldsStill};
 use crate::delivery::deliver;
 use crate::status::Status;
 use crate::taking::{CONFIG_LIMIT, refusal, take};
-use conf_commands::{Asked, print_config};
+use conf_print::{Asked, print_config};
 use outside::{Files, Sink};
 use std::alloc::Global;
 

@@ -4,7 +4,7 @@ ghost use Rattle.outside.specs.Cause.{HasCause};
 ghost use Rattle.outside.specs.Told.{IfTold};
 ghost use Rattle.command_words.specs.Words as spec;
 ghost use Rattle.command_words.specs.Words.{command_in};
-ghost use Rattle.conf_commands.specs.declared.Asked.TheVariants.{Counts, References};
+ghost use Rattle.conf_print.specs.declared.Asked.TheVariants.{Counts, References};
 ghost use Rattle.poad_cmd.specs.Answering.{AnswersBy};
 ghost use Rattle.poad_cmd.specs.Playing.{PlaysFiles};
 ghost use Rattle.poad_cmd.specs.Showing.{Tells};
@@ -18,7 +18,7 @@ use crate::playing::play_files;
 use crate::showing::show_text;
 use crate::status::Status;
 use command_words::{Command, WordsFault, command_of};
-use conf_commands::Asked;
+use conf_print::Asked;
 use outside::{Files, Sink, Source};
 use std::alloc::Global;
 

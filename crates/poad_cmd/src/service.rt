@@ -7,7 +7,7 @@ ghost use Rattle.giop_frame.specs.Framer.{reach};
 ghost use Rattle.poa_history.specs.Legal.{IsOpen, IsSize};
 ghost use Rattle.poad_cmd.specs.Delivery.{Hands};
 ghost use Rattle.poa_core.specs.Answers.{unadmitted};
-ghost use Rattle.poad_cmd.specs.Piece.{Settles, TellsHeld};
+ghost use Rattle.poad_cmd.specs.Piece.{ServiceEnds, TellsHeld};
 ghost use Rattle.poad_cmd.specs.Stop.{last_words};
 ghost use Rattle.poad_cmd.specs.Service.{IsNew, ServesUpTo, Turns, Handles, IsAsked, Does, GivesBytes, GivesReplies, StopsByFault};
 
@@ -180,7 +180,7 @@ impl Service {
 
     /// The status where the run ends after this stop. Else keeps how many bytes wait.
     pub(crate) fn settle(&mut self, why: Stop) -> Option<Status>
-        ensures settled { Settles result why self.new }
+        ensures settled { ServiceEnds result why self.new }
         ensures no_fault { result ≢ Some Status.WriteFault }
         ensures framer { self.new.framer ≡ self.old.framer }
         ensures core { self.new.core ≡ self.old.core }

@@ -1,6 +1,6 @@
 //! The turns of worker 0, and the replies that are decided then.
 ghost use Rattle.std.specs.Prelude.{◌≡◌, ◌≤◌, ◌<◌, ◌++◌, IfOk, OnOk, IsTrue};
-ghost use Rattle.giop_msg.specs.Reply.{Answers, reply_bytes};
+ghost use Rattle.giop_msg.specs.Reply.{AnswersHead, reply_bytes};
 ghost use Rattle.poa_history.specs.Arrivals.{connections};
 ghost use Rattle.poa_history.specs.Legal.{IsOpen};
 ghost use Rattle.replay_run.specs.Talking.{CollectsAll};
@@ -58,7 +58,7 @@ fn put_reply(alloc: Global, out: &mut Vec<u8>, head: &Head, reply: &Reply) -> Re
 
 // Whether a reply answers a message with this head.
 fn answers(head: &Head, reply: &Reply) -> bool
-    ensures { IsTrue result → (head.now.minor ≤ 2) × Answers head.now reply.now }
+    ensures { IsTrue result → (head.now.minor ≤ 2) × AnswersHead head.now reply.now }
 {
     head.minor <= 2
         && match reply {

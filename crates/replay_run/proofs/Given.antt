@@ -15,8 +15,8 @@ use Rattle.replay_run.specs.World.{World, Talk}
 use Rattle.replay_run.specs.Working.{Turns, Runs, ByWorker}
 use Rattle.replay_run.specs.Reading.{Feeds}
 use Rattle.replay_run.specs.Asking.{asked}
-use Rattle.replay_run.specs.Talking.{Carries, Enters, OnChannel, OnPlace, OnLine, Commands, Ends, Collects, entered, numbered, has_room}
-use Rattle.replay_run.specs.Playing.{OnLife, IsStoreText, Prints, Plays, PlaysAll, history_text, life_at_first}
+use Rattle.replay_run.specs.Talking.{Carries, Enters, OnChannel, OnPlace, OnLine, Commands, TalkEnds, Collects, entered, numbered, has_room}
+use Rattle.replay_run.specs.Playing.{OnLife, IsStoreText, WorldPrints, Plays, PlaysAll, history_text, life_at_first}
 use Rattle.replay_run.proofs.Same.{Givens, givens_life, givens_then, same_givens, still_worker_turns, still_worker_runs}
 use Rattle.replay_run.proofs.Seats.{feeds_givens, commands_givens, ends_givens, collects_givens}
 
@@ -54,7 +54,7 @@ play_givens : (s : Step) (w : World) (text : List ℕ) (v : World) → Plays s w
 play_givens (step.Ask place id path oid operation argument) w text v p =
     (let bytes : List ℕ = asked w.life id path oid operation argument in line_givens (Feeds bytes) (feeds_givens bytes) place w text v p)
 play_givens (step.Feed place bytes) w text v p = line_givens (Feeds bytes) (feeds_givens bytes) place w text v p
-play_givens (step.End place) w text v p = line_givens Ends ends_givens place w text v p
+play_givens (step.End place) w text v p = line_givens TalkEnds ends_givens place w text v p
 play_givens (step.Admin place words) w text v p = line_givens (Commands words) (commands_givens words) place w text v p
 play_givens (step.Step worker) w text v p = life_givens (ByWorker Turns worker) (λ a t b q. same_givens a b (still_worker_turns worker a t b q).same) w text v p
 play_givens (step.Run worker) w text v p = life_givens (ByWorker Runs worker) (λ a t b q. same_givens a b (still_worker_runs worker a t b q).same) w text v p

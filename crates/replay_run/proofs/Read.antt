@@ -11,7 +11,7 @@ use Rattle.replay_run.specs.World.{Talk}
 use Rattle.replay_run.specs.Working.{Either, Stays}
 use Rattle.giop_frame.specs.declared.Next.TheVariants as next
 use Rattle.giop_frame.specs.declared.Why.{Why}
-use Rattle.giop_frame.specs.Framer.{Answers}
+use Rattle.giop_frame.specs.Framer.{FramerAnswers}
 use Rattle.giop_frame.specs.Framing.{Framing}
 use Rattle.giop_frame.specs.Stream.{Framed}
 use Rattle.poa_core.specs.Answers.{filled_at}
@@ -77,13 +77,13 @@ commands_told words conn number command a b x open_ sized numbered read life pri
     }
 
 module _ (conn : ℕ) (a b : Player) (x y : Channel) (stream : Framing) where
-  message_so : (m : Framed) → Answers x.stream (next.Message m) stream → (p : Tells (Handles conn m) a b (record x { stream = stream }) y) → (d : Bool) → y.dropped ≡ d
+  message_so : (m : Framed) → FramerAnswers x.stream (next.Message m) stream → (p : Tells (Handles conn m) a b (record x { stream = stream }) y) → (d : Bool) → y.dropped ≡ d
       → ReadsNext (not d) conn (talk a x) p.text (talk b y)
   message_so m comes p true is = stops (talk a x) (talk b y) m stream p.text comes p.does is
   message_so m comes p false is = record { message = m; stream = stream; comes = comes; handles = p.does; goes_on = is }
 
   -- a message was read
-  pub message_next : (m : Framed) → Answers x.stream (next.Message m) stream → Tells (Handles conn m) a b (record x { stream = stream }) y → Tells (ReadsNext (not y.dropped) conn) a b x y
+  pub message_next : (m : Framed) → FramerAnswers x.stream (next.Message m) stream → Tells (Handles conn m) a b (record x { stream = stream }) y → Tells (ReadsNext (not y.dropped) conn) a b x y
   message_next m comes p = record {
     text = p.text;
     printed = p.printed;
@@ -93,7 +93,7 @@ module _ (conn : ℕ) (a b : Player) (x y : Channel) (stream : Framing) where
   }
 
 -- no message stands whole
-pub nothing_next : (conn : ℕ) (a : Player) (x : Channel) (have : ℕ) (stream : Framing) → Answers x.stream (next.NeedMore have) stream → Tells (ReadsOn conn) a a x (record x { stream = stream })
+pub nothing_next : (conn : ℕ) (a : Player) (x : Channel) (have : ℕ) (stream : Framing) → FramerAnswers x.stream (next.NeedMore have) stream → Tells (ReadsOn conn) a a x (record x { stream = stream })
 nothing_next conn a x have stream comes = record {
   text = [];
   printed = sym (append-nil a.printed.items);
@@ -103,7 +103,7 @@ nothing_next conn a x have stream comes = record {
 }
 
 -- a place is bad
-pub bad_next : (conn : ℕ) (a b : Player) (x : Channel) (name : List ℕ) (at : ℕ) (why : Why) (stream : Framing) → Answers x.stream (next.Bad at why) stream → name ≡ x.name
+pub bad_next : (conn : ℕ) (a b : Player) (x : Channel) (name : List ℕ) (at : ℕ) (why : Why) (stream : Framing) → FramerAnswers x.stream (next.Bad at why) stream → name ≡ x.name
     → b.core ≡ a.core → b.printed.items ≡ a.printed.items ++ bad_line name at → b.filled ≡ a.filled → b.turned_away ≡ a.turned_away
     → Tells (ReadsOn conn) a b x (record x { stream = stream; dropped = true })
 bad_next conn a b x name at why stream comes named core printed filled away = record {

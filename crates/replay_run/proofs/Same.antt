@@ -15,7 +15,7 @@ use Rattle.giop_msg.specs.declared.Incoming.{Incoming}
 use Rattle.giop_msg.specs.declared.Incoming.TheVariants as incoming
 use Rattle.giop_msg.specs.declared.MsgFault.{MsgFault}
 use Rattle.replay_run.specs.World.{Talk}
-use Rattle.replay_run.specs.Working.{Makes, Turns, makes, idles, Runs, runs_out, runs_on, Then, Stays, RunsBelow, Settles, settled, settles_on, ByWorker, Either, is_worker}
+use Rattle.replay_run.specs.Working.{Makes, Turns, makes, idles, Runs, runs_out, runs_on, Then, Stays, RunsBelow, Rests, rested, settles_on, ByWorker, Either, is_worker}
 use Rattle.replay_run.specs.Reading.{after_call, did, Handles, ReadsOn, waits, fails, stops, reads_on, Feeds, ReadsBytes}
 use Rattle.replay_run.specs.Talking.{CollectsAll, none_left, collects_on}
 use Rattle.replay_run.proofs.Turning.{IsApart, turn_apart}
@@ -93,8 +93,8 @@ still_below : (n : ℕ) (life : Life) (text : List ℕ) (last : Life) → RunsBe
 still_below zero life text last s = still_stays life text last s
 still_below (suc n) life text last t = still_then life t.between last (still_below n life t.front t.between t.first) (still_runs n t.between t.rest last t.second)
 
-pub still_settles : (life : Life) (text : List ℕ) (last : Life) → Settles life text last → Still life last
-still_settles life text last (settled a idle) = still_life a
+pub still_settles : (life : Life) (text : List ℕ) (last : Life) → Rests life text last → Still life last
+still_settles life text last (rested a idle) = still_life a
 still_settles life text last (settles_on a between b front rest round more) =
     still_then a between b (still_below 16 a front between round) (still_settles between rest b more)
 

@@ -24,7 +24,7 @@ use Rattle.replay_run.specs.World.{Talk}
 use Rattle.replay_run.specs.Lines.{reply_line}
 use Rattle.replay_run.specs.Working.{Either, Stays}
 use Rattle.replay_run.specs.Reading.{after_call, did, dropped, with_stream, with_fed, Handles, ReadsOn, waits, fails, stops, reads_on, Feeds, ReadsBytes}
-use Rattle.replay_run.specs.Talking.{Commands, TakesLine, is_sized, Ends, Leaves, left, Collects, Talks, numbered}
+use Rattle.replay_run.specs.Talking.{Commands, TakesLine, is_sized, TalkEnds, Leaves, left, Collects, Talks, numbered}
 use Rattle.replay_run.specs.Playing.{numbers}
 use Rattle.replay_run.specs.Keeping.{Keeps, IsSeated, IsCounted, KnowsFilled, Meets, knows, enters, refuses, talk}
 use Rattle.replay_run.proofs.Same.{Same, Still, Givens, same_givens, same_life, same_then, still_collects}
@@ -143,7 +143,7 @@ feeds_givens bytes conn before text after f = same_givens before.life after.life
 pub commands_givens : (words : List ℕ) (conn : ℕ) (before : Talk) (text : List ℕ) (after : Talk) → Commands words conn before text after → Givens before.life after.life
 commands_givens words conn before text after t = same_givens before.life after.life (rests_commanded (before.channel.ended || not (is_sized words)) words conn before text after t).same
 
-pub ends_givens : (conn : ℕ) (before : Talk) (text : List ℕ) (after : Talk) → Ends conn before text after → Givens before.life after.life
+pub ends_givens : (conn : ℕ) (before : Talk) (text : List ℕ) (after : Talk) → TalkEnds conn before text after → Givens before.life after.life
 ends_givens conn before text after e = (moves_ended before.channel.ended conn before text after e).givens
 
 pub collects_givens : (conn : ℕ) (before : Talk) (text : List ℕ) (after : Talk) → Collects conn before text after → Givens before.life after.life

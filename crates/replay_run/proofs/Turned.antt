@@ -4,7 +4,7 @@ use Rattle.std.proofs.lemmas.Bool.Decides.{nat_tests}
 use Rattle.poa_core.specs.Life.{Life, with_entry}
 use Rattle.replay_run.specs.declared.player.Player.{Player}
 use Rattle.replay_run.specs.Lines.{entry_line, idle_line}
-use Rattle.replay_run.specs.Working.{Turns, makes, idles, Runs, runs_out, runs_on, RunsBelow, Settles, settled, settles_on, IsIdle, AllIdle, ByWorker, Either, is_worker, Stays}
+use Rattle.replay_run.specs.Working.{Turns, makes, idles, Runs, runs_out, runs_on, RunsBelow, Rests, rested, settles_on, IsIdle, AllIdle, ByWorker, Either, is_worker, Stays}
 use Rattle.replay_run.specs.Keeping.{Works, MakesOne, Moved, Takes}
 use Rattle.replay_run.proofs.Onward.{Onward, works_join, works_end, works_still, works_onward}
 
@@ -90,7 +90,7 @@ moved_all true old new still idle = tt
 moved_all false old new still idle = (idle refl, still refl)
 
 -- a round in front of the others
-round_onward : (a b : Player) → Works (RunsBelow 16) a b → Works (Onward Settles) a b
+round_onward : (a b : Player) → Works (RunsBelow 16) a b → Works (Onward Rests) a b
 round_onward a b p = record {
   text = p.text;
   printed = p.printed;
@@ -99,14 +99,14 @@ round_onward a b p = record {
   turned_away = p.turned_away;
 }
 
-pub settles_more : (a b c : Player) → Works (Onward Settles) a b → Works (RunsBelow 16) b c → Works (Onward Settles) a c
-settles_more a b c p q = works_onward Settles a b c p (round_onward b c q)
+pub settles_more : (a b c : Player) → Works (Onward Rests) a b → Works (RunsBelow 16) b c → Works (Onward Rests) a c
+settles_more a b c p q = works_onward Rests a b c p (round_onward b c q)
 
 -- a round in which nothing was to be done
-pub settles_end : (a b c : Player) (moved : Bool) → Works (Onward Settles) a b → moved ≡ false → Moved moved AllIdle b c → Works Settles a c
+pub settles_end : (a b c : Player) (moved : Bool) → Works (Onward Rests) a b → moved ≡ false → Moved moved AllIdle b c → Works Rests a c
 settles_end a b c moved p none m =
     let over : AllIdle b.core × (c ≡ b) = moved_not moved AllIdle b c none m in
-    works_end Settles a b c p (works_still Settles b c over.1 (settled b.core over.0))
+    works_end Rests a b c p (works_still Rests b c over.1 (rested b.core over.0))
 
 pub takes_true : (b : Bool) (w : ℕ) (old new : Player) → b ≡ true → Takes b w old new → MakesOne w old new
 takes_true true w old new e t = t

@@ -3,7 +3,7 @@ use Rattle.std.proofs.Common.{◌≡◌, ℕ, not, List, ◌∷◌, Some, None, 
 use Rattle.poa_base.specs.declared.Config.{Config}
 use Rattle.poa_base.specs.declared.Entry.{Entry}
 use Rattle.poa_base.specs.declared.Entry.TheVariants.{Admit, Tried, Incarnated, Run, Done, TakeOut, Etherealized, Collect, Arrive}
-use Rattle.poa_history.specs.declared.act.Act.{Act}
+use Rattle.poa_history.specs.declared.activation.Activation.{Activation}
 use Rattle.poa_history.specs.declared.stage.Stage.{Stage}
 use Rattle.poa_history.specs.declared.stage.Stage.TheVariants.{Free, Trying, Incarnating, Serving, Ran, Removing}
 use Rattle.poa_history.specs.Arrivals.{connections}
@@ -12,7 +12,7 @@ use Rattle.poa_history.specs.Legal.{has_left}
 use Rattle.poa_history.specs.Rules.{brought}
 use Rattle.poa_history.specs.Stages.{stage}
 use Rattle.poa_history.specs.Standings.{Standing}
-use Rattle.poa_history.specs.Turns.{attempt, going_on, act_numbered, turn}
+use Rattle.poa_history.specs.Turns.{attempt, going_on, activation_numbered, turn}
 use Rattle.poa_history.proofs.TurnIs.{turned, mapped_by, goes_on, takes, admits}
 use Rattle.poa_core.specs.Answers.{filled_at}
 
@@ -25,13 +25,13 @@ by_going : (c : Config) (s : Standing) (w : ℕ) (begun : Stage) (e : Entry) →
 by_going c s w Free e is = absurd (let f : None ≡ Some e = is in cc)
 by_going c s w (Trying r) e is =
     (let same : Tried w (attempt c s r) ≡ e = (let f : Some (Tried w (attempt c s r)) ≡ Some e = is in cc) in subst (λ (x : Entry). IsApart x) same (record { entered = λ _. refl; left = λ _ _. refl; filled = λ _. refl }))
-by_going c s w (Incarnating r n) e is = (let found = mapped_by (λ a. Incarnated w (brought c s a)) (act_numbered s n) e is in
+by_going c s w (Incarnating r n) e is = (let found = mapped_by (λ a. Incarnated w (brought c s a)) (activation_numbered s n) e is in
     subst (λ (x : Entry). IsApart x) found.2 (record { entered = λ _. refl; left = λ _ _. refl; filled = λ _. refl }))
 by_going c s w (Serving r) e is =
     (let same : Run w ≡ e = (let f : Some (Run w) ≡ Some e = is in cc) in subst (λ (x : Entry). IsApart x) same (record { entered = λ _. refl; left = λ _ _. refl; filled = λ _. refl }))
 by_going c s w (Ran r) e is =
     (let same : Done w ≡ e = (let f : Some (Done w) ≡ Some e = is in cc) in subst (λ (x : Entry). IsApart x) same (record { entered = λ _. refl; left = λ _ _. refl; filled = λ _. refl }))
-by_going c s w (Removing n) e is = (let found = mapped_by (λ a. Etherealized w a.cleanup a.remaining) (act_numbered s n) e is in
+by_going c s w (Removing n) e is = (let found = mapped_by (λ a. Etherealized w a.cleanup a.remaining) (activation_numbered s n) e is in
     subst (λ (x : Entry). IsApart x) found.2 (record { entered = λ _. refl; left = λ _ _. refl; filled = λ _. refl }))
 
 pub turn_apart : (c : Config) (run : ℕ) (past : List Entry) (w : ℕ) (e : Entry) → turn c run past w ≡ Some e → IsApart e

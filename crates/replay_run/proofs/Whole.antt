@@ -17,10 +17,10 @@ use Rattle.replay_run.specs.declared.played.Played.{Played}
 use Rattle.replay_run.specs.declared.player.Player.{Player}
 use Rattle.replay_run.specs.Lines.{reply_line}
 use Rattle.replay_run.specs.World.{World, Talk}
-use Rattle.replay_run.specs.Working.{Then, Stays, Settles, Turns, Runs, ByWorker}
-use Rattle.replay_run.specs.Talking.{CollectsAll, Carries, Enters, OnChannel, OnLine, Commands, Ends, Collects, entered, turned_away, has_room}
+use Rattle.replay_run.specs.Working.{Then, Stays, Rests, Turns, Runs, ByWorker}
+use Rattle.replay_run.specs.Talking.{CollectsAll, Carries, Enters, OnChannel, OnLine, Commands, TalkEnds, Collects, entered, turned_away, has_room}
 use Rattle.replay_run.specs.Playing.{AreFresh, CollectsEach, CollectsOf, IsOpening, IsPlayed, Outputs, OnLife, Plays, PlaysAll, full_of, life_at_first, numbers}
-use Rattle.replay_run.specs.Keeping.{IsAtFirst, IsNew, IsSeated, Keeps, KnowsFilled, Prints, Shows, Works, world}
+use Rattle.replay_run.specs.Keeping.{IsAtFirst, IsNew, IsSeated, Keeps, KnowsFilled, PlayerPrints, Shows, Works, world}
 use Rattle.poa_base.specs.declared.Datum.{Datum}
 use Rattle.replay_run.specs.Asking.{asked}
 use Rattle.replay_run.specs.Reading.{Feeds}
@@ -50,7 +50,7 @@ ask_shows place id path oid operation bytes argument old new xs ys same p = reco
 }
 
 -- what is known of connections where something was printed
-pub keeps_printed : (P : List ℕ → Type 0) (old new : Player) (xs : List Channel) → Keeps old xs → Prints P old new → Keeps new xs
+pub keeps_printed : (P : List ℕ → Type 0) (old new : Player) (xs : List Channel) → Keeps old xs → PlayerPrints P old new → Keeps new xs
 keeps_printed P old new xs k p = keeps_still old new xs k (subst (λ (l : Life). Still old.core l) (sym p.core) (still_life old.core)) p.filled
 
 pub on_ok : {X Y : Type 0} (r : Result X Y) (P Q : Type 0) → (P → Q) → OnOk r P → OnOk r Q
@@ -77,7 +77,7 @@ pub still_each : (channels : List Channel) (a : Life) (text : List ℕ) (b : Lif
 still_each [] a text b s = still_stays a text b s
 still_each (c ∷ cs) a text b t = still_then a t.between b (still_of c.name c.number a t.front t.between t.first) (still_each cs t.between t.rest b t.second)
 
-still_finished : (channels : List Channel) (a : Life) (text : List ℕ) (b : Life) → Then Settles (CollectsEach channels) a text b → Still a b
+still_finished : (channels : List Channel) (a : Life) (text : List ℕ) (b : Life) → Then Rests (CollectsEach channels) a text b → Still a b
 still_finished channels a text b t = still_then a t.between b (still_settles a t.front t.between t.first) (still_each channels t.between t.rest b t.second)
 
 map_or : (a b : Option Full) → option_map numbers (option_or a b) ≡ option_or (option_map numbers a) (option_map numbers b)
@@ -89,7 +89,7 @@ full_is : (a b : Option Full) (at : Option (ℕ × ℕ)) → option_map numbers 
 full_is a b at is = map_or a b ∙ ap (λ o. option_or o (option_map numbers b)) is
 
 pub is_played : (c : Config) (script : Script) (answer : Played) (p q r : Player) (xs ys : List Channel)
-    → IsAtFirst c p → AreFresh script.connections xs → Keeps q ys → Shows (PlaysAll script.steps) p q xs ys → Works (Then Settles (CollectsEach ys)) q r
+    → IsAtFirst c p → AreFresh script.connections xs → Keeps q ys → Shows (PlaysAll script.steps) p q xs ys → Works (Then Rests (CollectsEach ys)) q r
     → answer.printed ≡ r.printed.items → answer.held ≡ unadmitted r.core.history → answer.full ≡ option_or r.filled r.turned_away
     → IsLegal r.core.config r.core.run r.core.limit r.core.history → HasLifetime r.core.config r.core.run r.core.history → IsPlayed c script answer
 is_played c script answer p q r xs ys first fresh keeps shows works printed held full legal lifetime =

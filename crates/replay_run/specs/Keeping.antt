@@ -2,7 +2,7 @@
 use Rattle.std.specs.Prelude.{◌≡◌, ℕ, ◌+◌, ◌≤◌, ◌<◌, ◌++◌, Bool, true, false, List, [], Option, Some, None, option_map, slice_get, length}
 use Rattle.std.specs.Option.{option_or}
 use Rattle.giop_frame.specs.declared.Next.TheVariants as next
-use Rattle.giop_frame.specs.Framer.{reach, Answers}
+use Rattle.giop_frame.specs.Framer.{reach, FramerAnswers}
 use Rattle.poa_base.specs.declared.Config.{Config}
 use Rattle.poa_base.specs.declared.Entry.{Entry}
 use Rattle.poa_base.specs.declared.Entry.TheVariants.{Entered, Collect}
@@ -95,7 +95,7 @@ Moved false Idle old new = Idle old.core × (new ≡ old)
 pub record ReadsOne (conn : ℕ) (before : Talk) (text : List ℕ) (after : Talk) : Type 0 where
   pub message : Framed
   pub stream : Framing
-  pub comes : Answers before.channel.stream (next.Message message) stream
+  pub comes : FramerAnswers before.channel.stream (next.Message message) stream
   pub handles : Handles conn message (with_stream stream before) text after
   pub goes_on : after.channel.dropped ≡ false
 
@@ -104,7 +104,7 @@ ReadsNext true = ReadsOne
 ReadsNext false = ReadsOn
 
 -- the player printed a text, and nothing else came
-pub record Prints (P : List ℕ → Type 0) (old new : Player) : Type 0 where
+pub record PlayerPrints (P : List ℕ → Type 0) (old new : Player) : Type 0 where
   pub text : List ℕ
   pub printed : new.printed.items ≡ old.printed.items ++ text
   pub is : P text

@@ -20,10 +20,10 @@ use Rattle.replay_run.specs.declared.played.Full.{Full}
 use Rattle.replay_run.specs.declared.played.Played.{Played}
 use Rattle.replay_run.specs.World.{World}
 use Rattle.replay_run.specs.Lines.{reply_line}
-use Rattle.replay_run.specs.Working.{Turns, Runs, ByWorker, Then, Stays, Settles}
+use Rattle.replay_run.specs.Working.{Turns, Runs, ByWorker, Then, Stays, Rests}
 use Rattle.replay_run.specs.Reading.{Feeds}
 use Rattle.replay_run.specs.Asking.{asked}
-use Rattle.replay_run.specs.Talking.{OnLine, Commands, Ends, Collects, CollectsAll}
+use Rattle.replay_run.specs.Talking.{OnLine, Commands, TalkEnds, Collects, CollectsAll}
 
 -- what the workers do is done
 pub record OnLife (P : Life → List ℕ → Life → Type 0) (before : World) (text : List ℕ) (after : World) : Type 0 where
@@ -45,20 +45,20 @@ abbrev pub history_text : Life → List ℕ
 history_text life = journal_text (record { run = life.run; opening = life.opening; entries = reverse life.history })
 
 -- something is printed, and nothing changes
-abbrev pub Prints : (Life → List ℕ → Type 0) → World → List ℕ → World → Type 0
-Prints P before text after = P before.life text × (after ≡ before)
+abbrev pub WorldPrints : (Life → List ℕ → Type 0) → World → List ℕ → World → Type 0
+WorldPrints P before text after = P before.life text × (after ≡ before)
 
 -- what a step prints and does
 abbrev pub Plays : StepData → World → List ℕ → World → Type 0
 Plays (step.Ask place id path oid operation argument) = λ w. OnLine (Feeds (asked w.life id path oid operation argument)) place w
 Plays (step.Feed place bytes) = OnLine (Feeds bytes) place
-Plays (step.End place) = OnLine Ends place
+Plays (step.End place) = OnLine TalkEnds place
 Plays (step.Admin place words) = OnLine (Commands words) place
 Plays (step.Step worker) = OnLife (ByWorker Turns worker)
 Plays (step.Run worker) = OnLife (ByWorker Runs worker)
 Plays (step.Collect place) = OnLine Collects place
-Plays step.Store = Prints IsStoreText
-Plays step.Journal = Prints (λ life text. text ≡ history_text life)
+Plays step.Store = WorldPrints IsStoreText
+Plays step.Journal = WorldPrints (λ life text. text ≡ history_text life)
 
 -- the steps one behind the other
 abbrev pub PlaysAll : List ScriptStep → World → List ℕ → World → Type 0
@@ -106,7 +106,7 @@ pub record Outputs (c : Config) (script : Script) (text : List ℕ) (played : Wo
   pub front : List ℕ
   pub rest : List ℕ
   pub plays : PlaysAll script.steps opening front played
-  pub finishes : Then Settles (CollectsEach played.channels) played.life rest last
+  pub finishes : Then Rests (CollectsEach played.channels) played.life rest last
   pub joined : text ≡ front ++ rest
 
 abbrev pub numbers : Full → ℕ × ℕ

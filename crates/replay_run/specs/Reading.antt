@@ -6,7 +6,7 @@ use Rattle.giop_frame.specs.declared.Next.TheVariants as next
 use Rattle.giop_frame.specs.declared.Why.{Why}
 use Rattle.giop_frame.specs.Stream.{Framed, End}
 use Rattle.giop_frame.specs.Framing.{Framing}
-use Rattle.giop_frame.specs.Framer.{Gives, Answers}
+use Rattle.giop_frame.specs.Framer.{FramerGives, FramerAnswers}
 use Rattle.giop_msg.specs.declared.Incoming.{Incoming}
 use Rattle.giop_msg.specs.declared.Incoming.TheVariants as incoming
 use Rattle.giop_msg.specs.declared.MsgFault.{MsgFault}
@@ -58,17 +58,17 @@ pub record Handles (conn : ℕ) (m : Framed) (before : Talk) (text : List ℕ) (
 
 -- the messages that stand whole are read in their order, up to one behind which no byte is read
 pub data ReadsOn (conn : ℕ) : Talk → List ℕ → Talk → Type 0 where
-  waits : (talk : Talk) (have : ℕ) (stream : Framing) → Answers talk.channel.stream (next.NeedMore have) stream → ReadsOn conn talk [] (with_stream stream talk)
-  fails : (talk : Talk) (at : ℕ) (why : Why) (stream : Framing) → Answers talk.channel.stream (next.Bad at why) stream
+  waits : (talk : Talk) (have : ℕ) (stream : Framing) → FramerAnswers talk.channel.stream (next.NeedMore have) stream → ReadsOn conn talk [] (with_stream stream talk)
+  fails : (talk : Talk) (at : ℕ) (why : Why) (stream : Framing) → FramerAnswers talk.channel.stream (next.Bad at why) stream
       → ReadsOn conn talk (bad_line talk.channel.name at) (dropped (with_stream stream talk))
-  stops : (talk after : Talk) (m : Framed) (stream : Framing) (text : List ℕ) → Answers talk.channel.stream (next.Message m) stream
+  stops : (talk after : Talk) (m : Framed) (stream : Framing) (text : List ℕ) → FramerAnswers talk.channel.stream (next.Message m) stream
       → Handles conn m (with_stream stream talk) text after → after.channel.dropped ≡ true → ReadsOn conn talk text after
-  reads_on : (talk between last : Talk) (m : Framed) (stream : Framing) (front rest : List ℕ) → Answers talk.channel.stream (next.Message m) stream
+  reads_on : (talk between last : Talk) (m : Framed) (stream : Framing) (front rest : List ℕ) → FramerAnswers talk.channel.stream (next.Message m) stream
       → Handles conn m (with_stream stream talk) front between → between.channel.dropped ≡ false → ReadsOn conn between rest last → ReadsOn conn talk (front ++ rest) last
 
 -- more bytes were fed
 abbrev pub Grows : Framing → List ℕ → Framing → Type 0
-Grows old bytes new = (text : List ℕ) (messages : List Framed) (end : End) → Gives new text messages end ↔ Gives old (bytes ++ text) messages end
+Grows old bytes new = (text : List ℕ) (messages : List Framed) (end : End) → FramerGives new text messages end ↔ FramerGives old (bytes ++ text) messages end
 
 abbrev pub with_fed : Framing → List ℕ → Talk → Talk
 with_fed stream bytes talk = record talk { channel = record talk.channel { stream = stream; fed = talk.channel.fed + length bytes } }

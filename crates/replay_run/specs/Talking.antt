@@ -42,8 +42,8 @@ left conn talk = record { life = with_entry (Left conn) talk.life; channel = rec
 abbrev pub Leaves : ℕ → Talk → List ℕ → Talk → Type 0
 Leaves conn before text after = (text ≡ []) × (after ≡ left conn before)
 
-abbrev pub Ends : ℕ → Talk → List ℕ → Talk → Type 0
-Ends conn before = Either before.channel.ended Stays (Leaves conn) before
+abbrev pub TalkEnds : ℕ → Talk → List ℕ → Talk → Type 0
+TalkEnds conn before = Either before.channel.ended Stays (Leaves conn) before
 
 -- the replies that the connection is owed are collected, and told so, until none is decided
 pub data CollectsAll (say : Head → Reply → List ℕ) (conn : ℕ) : Life → List ℕ → Life → Type 0 where
@@ -62,7 +62,7 @@ pub record Collects (conn : ℕ) (before : Talk) (text : List ℕ) (after : Talk
 abbrev pub Talks : LineData → ℕ → Talk → List ℕ → Talk → Type 0
 Talks (line.Bytes bytes) = Feeds bytes.now
 Talks (line.Words words) = Commands words.now
-Talks line.End = Ends
+Talks line.End = TalkEnds
 Talks line.Collect = Collects
 
 -- a run has 4,000,000 connections at most

@@ -61,6 +61,6 @@ abbrev pub AllIdle : Life → Type 0
 AllIdle life = (w : ℕ) → w < 16 → IsIdle life w
 
 -- the workers 0 to 15 run in their order, again and again until all of them are idle
-pub data Settles : Life → List ℕ → Life → Type 0 where
-  settled : (life : Life) → AllIdle life → Settles life [] life
-  settles_on : (life between last : Life) (front rest : List ℕ) → RunsBelow 16 life front between → Settles between rest last → Settles life (front ++ rest) last
+pub data Rests : Life → List ℕ → Life → Type 0 where
+  rested : (life : Life) → AllIdle life → Rests life [] life
+  settles_on : (life between last : Life) (front rest : List ℕ) → RunsBelow 16 life front between → Rests between rest last → Rests life (front ++ rest) last

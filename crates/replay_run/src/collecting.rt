@@ -1,6 +1,6 @@
 //! The replies that a connection is given.
 ghost use Rattle.std.specs.Prelude.{◌≡◌, ◌≤◌, ◌<◌, ◌++◌, IfOk, OnOk, IsTrue};
-ghost use Rattle.giop_msg.specs.Reply.{Answers};
+ghost use Rattle.giop_msg.specs.Reply.{AnswersHead};
 ghost use Rattle.poa_history.specs.Arrivals.{connections};
 ghost use Rattle.replay_run.specs.Lines.{reply_line};
 ghost use Rattle.replay_run.specs.Talking.{CollectsAll};
@@ -75,7 +75,7 @@ impl Player {
 
 // Whether a reply answers a message with this head.
 fn answers(head: &Head, reply: &Reply) -> bool
-    ensures { IsTrue result → (head.now.minor ≤ 2) × Answers head.now reply.now }
+    ensures { IsTrue result → (head.now.minor ≤ 2) × AnswersHead head.now reply.now }
 {
     head.minor <= 2
         && match reply {

@@ -1,7 +1,7 @@
 //! The end of a script.
 ghost use Rattle.std.specs.Prelude.{◌≡◌, ◌<◌, ℕ, OnOk};
 ghost use Rattle.poa_history.specs.Arrivals.{connections};
-ghost use Rattle.replay_run.specs.Working.{Settles, Then};
+ghost use Rattle.replay_run.specs.Working.{Rests, Then};
 ghost use Rattle.replay_run.specs.Playing.{CollectsEach, CollectsOf};
 ghost use Rattle.replay_run.specs.Keeping.{AllEntered, Keeps, Works};
 
@@ -14,7 +14,7 @@ impl Player {
     /// All workers run until none has anything to do, and then each connection's replies are collected.
     pub(crate) fn finish(&mut self, alloc: Global, channels: &[Channel]) -> Result<(), WantMemory>
         requires { Keeps self.old channels.now }
-        ensures { OnOk result (Works (Then Settles (CollectsEach channels.now)) self.old self.new) }
+        ensures { OnOk result (Works (Then Rests (CollectsEach channels.now)) self.old self.new) }
     {
         self.settle()?;
         self.collect_each(alloc, channels)?;

@@ -1,6 +1,6 @@
 //! The lines that are printed.
 ghost use Rattle.std.specs.Prelude.{◌≡◌, ◌++◌, OnOk};
-ghost use Rattle.giop_msg.specs.Reply.{Answers, reply_bytes};
+ghost use Rattle.giop_msg.specs.Reply.{AnswersHead, reply_bytes};
 ghost use Rattle.replay_run.specs.Lines.{entry_line, idle_line, limit_line, bad_line, answer_line, bytes_line};
 
 use crate::mark::Mark;

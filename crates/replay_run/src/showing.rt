@@ -1,7 +1,7 @@
 //! The store and the journal, printed.
 ghost use Rattle.std.specs.Prelude.{◌≡◌, OnOk};
 ghost use Rattle.replay_run.specs.Playing.{IsStoreText, history_text};
-ghost use Rattle.replay_run.specs.Keeping.{Prints};
+ghost use Rattle.replay_run.specs.Keeping.{PlayerPrints};
 
 use crate::player::Player;
 use poa_base::WantMemory;
@@ -9,18 +9,18 @@ use poa_journal::{print_parts, print_store};
 use std::alloc::Global;
 
 impl Player {
-    /// Prints what is stored.
+    /// PlayerPrints what is stored.
     pub(crate) fn show_store(&mut self, alloc: Global) -> Result<(), WantMemory>
-        ensures { OnOk result (Prints (IsStoreText self.old.core) self.old self.new) }
+        ensures { OnOk result (PlayerPrints (IsStoreText self.old.core) self.old self.new) }
     {
         let text = print_store(alloc, self.core.store())?;
         self.printed.extend_from_slice(text.as_slice())?;
         Ok(())
     }
 
-    /// Prints the journal.
+    /// PlayerPrints the journal.
     pub(crate) fn show_journal(&mut self, alloc: Global) -> Result<(), WantMemory>
-        ensures { OnOk result (Prints (λ text. text ≡ history_text self.old.core) self.old self.new) }
+        ensures { OnOk result (PlayerPrints (λ text. text ≡ history_text self.old.core) self.old self.new) }
     {
         let core = &self.core;
         let text = print_parts(alloc, core.run(), core.opening(), core.entries())?;

@@ -2,7 +2,7 @@
 ghost use Rattle.std.specs.Prelude.{◌≡◌, ◌<◌, ◌+◌, false, None, IfOk, OnOk};
 ghost use Rattle.poa_history.specs.Arrivals.{connections};
 ghost use Rattle.poa_history.specs.Legal.{IsOpen};
-ghost use Rattle.replay_run.specs.Talking.{Collects, Commands, Ends, OnLine, Talks, is_sized as is_sized_line};
+ghost use Rattle.replay_run.specs.Talking.{Collects, Commands, TalkEnds, OnLine, Talks, is_sized as is_sized_line};
 ghost use Rattle.replay_run.specs.Keeping.{IsCounted, Keeps, Meets, Shows, Tells};
 
 use crate::channel::Channel;
@@ -132,7 +132,7 @@ impl Player {
     // The connection leaves.
     fn end(&mut self, channel: &mut Channel, conn: u32)
         requires open_ { channel.old.ended ≡ false → IsOpen self.old.core.history conn }
-        ensures tells { Tells (Ends conn) self.old self.new channel.old channel.new }
+        ensures tells { Tells (TalkEnds conn) self.old self.new channel.old channel.new }
         ensures counted { IsCounted channel.old → IsCounted channel.new }
     {
         if channel.ended {

@@ -2,7 +2,7 @@
 ghost use Rattle.std.specs.Prelude.{◌≡◌, ◌<◌, ◌++◌, ◌∷◌, List, IfOk, OnOk};
 ghost use Rattle.poa_base.specs.declared.Entry.{Entry as EntryData};
 ghost use Rattle.replay_run.specs.Lines.{entry_line};
-ghost use Rattle.replay_run.specs.Working.{AllIdle, ByWorker, IsIdle, Runs, RunsBelow, Settles, Turns};
+ghost use Rattle.replay_run.specs.Working.{AllIdle, ByWorker, IsIdle, Runs, RunsBelow, Rests, Turns};
 ghost use Rattle.replay_run.specs.Keeping.{Moved, Takes, Works};
 
 use crate::player::Player;
@@ -41,7 +41,7 @@ impl Player {
 
     /// All workers run, again and again until none has anything to do.
     pub(crate) fn settle(&mut self) -> Result<(), WantMemory>
-        ensures { OnOk result (Works Settles self.old self.new) }
+        ensures { OnOk result (Works Rests self.old self.new) }
     {
         // No memory holds so many entries.
         for _ in 0..u64::MAX {

@@ -56,7 +56,7 @@ abbrev pub script_of : List ℕ → Result Script ℕ
 script_of text = script_from [] 1 (lines_of text)
 
 -- what a reader's answer says: the value, or the number of the first line outside the grammar
-abbrev pub Reads : {X : Type 0} → Result X ScriptFault → Result X ℕ → Type 0
-Reads (Ok x) meant = meant ≡ Ok x
-Reads (Err (BadLine k)) meant = meant ≡ Err k
-Reads (Err WantMemory) meant = ⊤
+abbrev pub ScriptReads : {X : Type 0} → Result X ScriptFault → Result X ℕ → Type 0
+ScriptReads (Ok x) meant = meant ≡ Ok x
+ScriptReads (Err (BadLine k)) meant = meant ≡ Err k
+ScriptReads (Err WantMemory) meant = ⊤

@@ -1,7 +1,7 @@
 //! The argument of a request.
 ghost use Rattle.std.specs.Prelude.{◌≡◌, map};
 ghost use Rattle.std.specs.List.{list_all};
-ghost use Rattle.text_words.specs.Gives.{Gives};
+ghost use Rattle.text_words.specs.WordGives.{WordGives};
 ghost use Rattle.replay_script.specs.Reading.{argument_of, datum_behind, datum_of, form_of, is_printable, printable_of};
 
 use crate::fixed::Form;
@@ -11,7 +11,7 @@ use text_words::{WordFault, any_hex, find_word, number32, signed};
 
 /// The argument of the words behind an operation, of which there is one or none.
 pub(crate) fn argument(alloc: Global, words: &[&[u8]]) -> Result<Option<Datum>, WordFault>
-    ensures { Gives result (argument_of (map (λ w. w.now) words.now)) }
+    ensures { WordGives result (argument_of (map (λ w. w.now) words.now)) }
 {
     match words {
         [] => Ok(None),
@@ -24,7 +24,7 @@ pub(crate) fn argument(alloc: Global, words: &[&[u8]]) -> Result<Option<Datum>, 
 }
 
 fn datum(alloc: Global, word: &[u8]) -> Result<Datum, WordFault>
-    ensures { Gives result (datum_of word.now) }
+    ensures { WordGives result (datum_of word.now) }
 {
     let [letter, colon, text @ ..] = word else {
         return Err(WordFault::OutOfForm);
@@ -37,7 +37,7 @@ fn datum(alloc: Global, word: &[u8]) -> Result<Datum, WordFault>
 }
 
 fn form(letter: u8) -> Result<Form, WordFault>
-    ensures { Gives result (form_of letter) }
+    ensures { WordGives result (form_of letter) }
 {
     find_word(
         &[Form::Long, Form::Ulong, Form::Octets, Form::Text],
@@ -47,7 +47,7 @@ fn form(letter: u8) -> Result<Form, WordFault>
 }
 
 fn value(alloc: Global, form: Form, text: &[u8]) -> Result<Datum, WordFault>
-    ensures { Gives result (datum_behind form text.now) }
+    ensures { WordGives result (datum_behind form text.now) }
 {
     match form {
         Form::Long => {
@@ -82,7 +82,7 @@ fn is_printable_text(text: &[u8]) -> bool
 }
 
 fn printable(alloc: Global, text: &[u8]) -> Result<Bytes, WordFault>
-    ensures { Gives result (printable_of text.now) }
+    ensures { WordGives result (printable_of text.now) }
 {
     if !is_printable_text(text) {
         return Err(WordFault::OutOfForm);

@@ -1,6 +1,6 @@
 //! One line.
 ghost use Rattle.std.specs.Prelude.{◌≡◌, map};
-ghost use Rattle.text_words.specs.Gives.{Gives};
+ghost use Rattle.text_words.specs.WordGives.{WordGives};
 ghost use Rattle.replay_script.specs.Reading.{admin_of, ask_of, behind_verb, command_of, feed_of, line_of, verb_of, worker_of, written_of};
 
 use crate::argument::argument;
@@ -18,7 +18,7 @@ const LONGEST_COMMAND: usize = 4096;
 
 /// The line of its bytes, which end before the LF.
 pub(crate) fn read_line(alloc: Global, line: &[u8]) -> Result<ScriptLine, WordFault>
-    ensures { Gives result (line_of line.now) }
+    ensures { WordGives result (line_of line.now) }
 {
     if is_skipped(line) {
         return Ok(ScriptLine::Skipped);
@@ -29,7 +29,7 @@ pub(crate) fn read_line(alloc: Global, line: &[u8]) -> Result<ScriptLine, WordFa
 }
 
 fn written(alloc: Global, text: &[u8], words: &[&[u8]]) -> Result<ScriptLine, WordFault>
-    ensures { Gives result (written_of text.now (map (λ w. w.now) words.now)) }
+    ensures { WordGives result (written_of text.now (map (λ w. w.now) words.now)) }
 {
     let [word, rest @ ..] = words else {
         return Err(WordFault::OutOfForm);
@@ -39,7 +39,7 @@ fn written(alloc: Global, text: &[u8], words: &[&[u8]]) -> Result<ScriptLine, Wo
 }
 
 fn verb(word: &[u8]) -> Result<Verb, WordFault>
-    ensures { Gives result (verb_of word.now) }
+    ensures { WordGives result (verb_of word.now) }
 {
     find_word(
         &[
@@ -60,7 +60,7 @@ fn verb(word: &[u8]) -> Result<Verb, WordFault>
 
 // The line of `verb`, of which `words` are the words behind it and `text` is the whole.
 fn behind(alloc: Global, verb: Verb, text: &[u8], words: &[&[u8]]) -> Result<ScriptLine, WordFault>
-    ensures { Gives result (behind_verb verb text.now (map (λ w. w.now) words.now)) }
+    ensures { WordGives result (behind_verb verb text.now (map (λ w. w.now) words.now)) }
 {
     match verb {
         Verb::Ask => ask(alloc, words),
@@ -88,7 +88,7 @@ fn behind(alloc: Global, verb: Verb, text: &[u8], words: &[&[u8]]) -> Result<Scr
 }
 
 fn ask(alloc: Global, words: &[&[u8]]) -> Result<ScriptLine, WordFault>
-    ensures { Gives result (ask_of (map (λ w. w.now) words.now)) }
+    ensures { WordGives result (ask_of (map (λ w. w.now) words.now)) }
 {
     let [conn, id, adapter, oid, operation, rest @ ..] = words else {
         return Err(WordFault::OutOfForm);
@@ -110,7 +110,7 @@ fn ask(alloc: Global, words: &[&[u8]]) -> Result<ScriptLine, WordFault>
 }
 
 fn feed(alloc: Global, words: &[&[u8]]) -> Result<ScriptLine, WordFault>
-    ensures { Gives result (feed_of (map (λ w. w.now) words.now)) }
+    ensures { WordGives result (feed_of (map (λ w. w.now) words.now)) }
 {
     let [conn, digits] = words else {
         return Err(WordFault::OutOfForm);
@@ -121,7 +121,7 @@ fn feed(alloc: Global, words: &[&[u8]]) -> Result<ScriptLine, WordFault>
 }
 
 fn admin(alloc: Global, text: &[u8], words: &[&[u8]]) -> Result<ScriptLine, WordFault>
-    ensures { Gives result (admin_of text.now (map (λ w. w.now) words.now)) }
+    ensures { WordGives result (admin_of text.now (map (λ w. w.now) words.now)) }
 {
     let [conn, ..] = words else {
         return Err(WordFault::OutOfForm);
@@ -132,7 +132,7 @@ fn admin(alloc: Global, text: &[u8], words: &[&[u8]]) -> Result<ScriptLine, Word
 }
 
 fn command(alloc: Global, text: &[u8]) -> Result<Bytes, WordFault>
-    ensures { Gives result (command_of text.now) }
+    ensures { WordGives result (command_of text.now) }
 {
     if is_skipped(text) || text.len() > LONGEST_COMMAND {
         return Err(WordFault::OutOfForm);
@@ -142,7 +142,7 @@ fn command(alloc: Global, text: &[u8]) -> Result<Bytes, WordFault>
 }
 
 fn worker(words: &[&[u8]]) -> Result<u32, WordFault>
-    ensures { Gives result (worker_of (map (λ w. w.now) words.now)) }
+    ensures { WordGives result (worker_of (map (λ w. w.now) words.now)) }
 {
     let worker = last_number(words)?;
     if worker < 16 {

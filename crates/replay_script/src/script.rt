@@ -2,7 +2,7 @@
 ghost use Rattle.std.specs.Prelude.{◌≡◌, ◌++◌, ◌<◌, ◌+◌, ◌^◌, IfOk, OnOk, length};
 ghost use Rattle.replay_script.specs.Reading.{line_of};
 ghost use Rattle.replay_script.specs.Traffic.{names as names_of};
-ghost use Rattle.replay_script.specs.Whole.{Reads, line_at as the_line_at, numbered, script_of, step_of as the_step_of};
+ghost use Rattle.replay_script.specs.Whole.{ScriptReads, line_at as the_line_at, numbered, script_of, step_of as the_step_of};
 
 use crate::connections::Connections;
 use crate::fault::ScriptFault;
@@ -24,14 +24,14 @@ pub struct Script {
 /// `BadLine` has the number of the first line that is outside the grammar, also by what the lines before it say: a
 /// connection with `admin` lines has no `ask` and no `feed`, and the other way; behind its `end` it has only `collect`.
 pub fn read_script(alloc: Global, bytes: &[u8]) -> Result<Script, ScriptFault>
-    ensures value { Reads result (script_of bytes.now) }
+    ensures value { ScriptReads result (script_of bytes.now) }
 {
     read_lines(alloc, bytes)
 }
 
 fn read_lines(alloc: Global, text: &[u8]) -> Result<Script, ScriptFault>
     requires { 1 + length text.now < 2 ^ 64 }
-    ensures { Reads result (script_of text.now) }
+    ensures { ScriptReads result (script_of text.now) }
 {
     let mut connections = Connections::new(alloc);
     let mut steps = Vec::new(alloc);
@@ -55,7 +55,7 @@ fn read_lines(alloc: Global, text: &[u8]) -> Result<Script, ScriptFault>
 }
 
 fn line_at(alloc: Global, number: u64, bytes: &[u8]) -> Result<ScriptLine, ScriptFault>
-    ensures { Reads result (the_line_at number (line_of bytes.now)) }
+    ensures { ScriptReads result (the_line_at number (line_of bytes.now)) }
 {
     match read_line(alloc, bytes) {
         Ok(line) => Ok(line),

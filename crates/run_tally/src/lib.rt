@@ -11,5 +11,5 @@ mod tests;
 
 pub use full::Full;
 pub use moves::{advance, is_shutdown};
-pub use queries::{connections, is_open, is_over, is_taken};
+pub use queries::{connections, is_open, is_run_over, is_taken};
 pub use tally::{Tally, none, reserve};

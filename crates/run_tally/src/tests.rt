@@ -1,5 +1,5 @@
 //! What no clause says: that a connection enters with ample memory, and what is counted of a short run.
-use crate::{Tally, advance, connections, is_open, is_over, is_taken, none, reserve};
+use crate::{Tally, advance, connections, is_open, is_run_over, is_taken, none, reserve};
 use poa_base::{Answer, Call, Command, Entry, Verdict};
 use std::test::Fail;
 
@@ -72,9 +72,9 @@ fn a_run_ends_after_its_shutdown(rt: HostRuntime) -> Result<(), Fail> {
         verdict: Verdict::Answer(Answer::Good),
     };
     advance(&entry, Some(&shutdown()), &mut tally);
-    assert!(rt; tally.shut && !is_over(&tally, 0));
+    assert!(rt; tally.shut && !is_run_over(&tally, 0));
     advance(&Entry::Left { conn: 1 }, None, &mut tally);
-    assert!(rt; !is_over(&tally, 1));
-    assert!(rt; is_over(&tally, 0));
+    assert!(rt; !is_run_over(&tally, 1));
+    assert!(rt; is_run_over(&tally, 0));
     Ok(())
 }

@@ -14,8 +14,8 @@ use Rattle.poa_base.specs.declared.Incarnation.TheVariants.{Fresh, Named, Double
 use Rattle.poa_base.specs.Store as slots
 use Rattle.poa_base.specs.Store.{IsReserved, with_room}
 use Rattle.poa_base.proofs.Stored.{stored-with_room, reserved-with_room, reserved-insert}
-use Rattle.poa_history.specs.declared.act.Act.{Act}
-use Rattle.poa_history.specs.declared.act.Phase.TheVariants.{Begun, Complete, Void}
+use Rattle.poa_history.specs.declared.activation.Activation.{Activation}
+use Rattle.poa_history.specs.declared.activation.Phase.TheVariants.{Begun, Complete, Void}
 use Rattle.poa_history.specs.declared.stage.Stage.TheVariants.{Incarnating}
 use Rattle.poa_tree.specs.Trees.{In}
 use Rattle.poa_history.specs.Alone.{IsGivenAlone}
@@ -30,7 +30,7 @@ use Rattle.poa_history.specs.Stages.{stage}
 use Rattle.poa_history.specs.Standings.{Standing, is_begun, is_in_map}
 use Rattle.poa_history.specs.States.{Stored, state_of, stored, restored, kind_brought}
 use Rattle.poa_history.specs.Templates.{rules_at, policies_at, is_unique, servant_name}
-use Rattle.poa_history.specs.Turns.{act_numbered}
+use Rattle.poa_history.specs.Turns.{activation_numbered}
 use Rattle.poa_tree.proofs.Members.{image_in}
 use Rattle.poa_history.proofs.LegalSound.{legal_sound}
 use Rattle.poa_history.proofs.MannedKept.{all_manned}
@@ -39,17 +39,17 @@ use Rattle.poa_history.proofs.TurnTells.{incarnation_is}
 use Rattle.servant_states.specs.Holds.{Holds, keeps_fresh, is_kept}
 use Rattle.servant_states.specs.Kept.{Kept, fresh_at, stored_in}
 use Rattle.servant_states.specs.Steps.{Brings, IsBrought}
-use Rattle.servant_states.proofs.FreshFrom.{kept, comes, fresh_from, found_act, kept_by}
+use Rattle.servant_states.proofs.FreshFrom.{kept, comes, fresh_from, found_activation, kept_by}
 use Rattle.servant_states.proofs.QuietHolds.{kept_where, room_later}
 
 -- what leaves the map keeps its fresh servant
-pub let_out_keeps : (c : Config) (s : Standing) (a : Act) → (keeps_fresh (let_out c s a) ≡ keeps_fresh a) × ((let_out c s a).number ≡ a.number) × ((let_out c s a).etherealized ≡ a.etherealized)
+pub let_out_keeps : (c : Config) (s : Standing) (a : Activation) → (keeps_fresh (let_out c s a) ≡ keeps_fresh a) × ((let_out c s a).number ≡ a.number) × ((let_out c s a).etherealized ≡ a.etherealized)
 let_out_keeps c s a = cond_both (is_left c s a) (record a { out = true }) a (λ x. (keeps_fresh x ≡ keeps_fresh a) × (x.number ≡ a.number) × (x.etherealized ≡ a.etherealized)) (λ _. (refl, refl, refl)) (λ _. (refl, refl, refl))
 
-module _ (c : Config) (s : Standing) (a : Act) (m : ℕ) where
+module _ (c : Config) (s : Standing) (a : Activation) (m : ℕ) where
   no_fresh : (k : ℕ) → named_or_double c s a k ≡ Fresh m → ⊥
   no_fresh k =
-      elim (is_unique (policies_at c a.path) && is_in_map s.acts a.adapter (NamedServant k)) as (λ b. (elim b [ true ↦ Double | false ↦ elim (servant_name c k) [ Some name ↦ Named name | None ↦ Raise not_active ] ]) ≡ Fresh m → ⊥) [
+      elim (is_unique (policies_at c a.path) && is_in_map s.activations a.adapter (NamedServant k)) as (λ b. (elim b [ true ↦ Double | false ↦ elim (servant_name c k) [ Some name ↦ Named name | None ↦ Raise not_active ] ]) ≡ Fresh m → ⊥) [
         | true ↦ λ is. (let e : Double ≡ Fresh m = is in cc)
         | false ↦ elim (servant_name c k) as (λ o. (elim o [ Some name ↦ Named name | None ↦ Raise not_active ]) ≡ Fresh m → ⊥) [
           | Some name ↦ λ is. (let e : Named name ≡ Fresh m = is in cc)
@@ -89,11 +89,11 @@ module _ (c : Config) (run limit : ℕ) (opened : Stored) (past : List Entry) (w
 
   -- the activation that is incarnated, which is that of the servant's number
   pub record IsOf : Type 0 where
-    pub it : Act
+    pub it : Activation
     pub arrival : ℕ
-    pub there : In it s.acts
+    pub there : In it s.activations
     pub number : it.number ≡ m
-    pub found : act_numbered s m ≡ Some it
+    pub found : activation_numbered s m ≡ Some it
     pub begun_ : stage past w ≡ Incarnating arrival m
     pub was : it.phase ≡ Begun
     pub untold : it.etherealized ≡ false
@@ -101,40 +101,40 @@ module _ (c : Config) (run limit : ℕ) (opened : Stored) (past : List Entry) (w
   pub is_of_it : IsOf
   is_of_it =
       let turn = incarnation_is c run past w (Fresh m) legal.0 in
-      let there = found_act s turn.number turn.it turn.found in
+      let there = found_activation s turn.number turn.it turn.found in
       let own : turn.it.number ≡ m = sym (brought_number c s turn.it m turn.told) in
       let same : turn.number ≡ m = sym there.1 ∙ own in
       let holds : flying.Holds past s (Incarnating turn.arrival turn.number) = subst (λ b. flying.Holds past s b) turn.begun ((all_manned c run limit past given alone within legal.1).stages w) in
-      let begun_act = holds.2 in
-      let is_it : begun_act.0 ≡ turn.it = sound.act_alone begun_act.0 turn.it begun_act.1 there.0 (begun_act.2 ∙ sym there.1) in
-      let phase : turn.it.phase ≡ Begun = ap (λ x. x.phase) (sym is_it) ∙ begun_act.3 in
+      let begun_activation = holds.2 in
+      let is_it : begun_activation.0 ≡ turn.it = sound.activation_alone begun_activation.0 turn.it begun_activation.1 there.0 (begun_activation.2 ∙ sym there.1) in
+      let phase : turn.it.phase ≡ Begun = ap (λ x. x.phase) (sym is_it) ∙ begun_activation.3 in
       record {
         it = turn.it;
         arrival = turn.arrival;
         there = there.0;
         number = own;
-        found = ap (act_numbered s) (sym same) ∙ turn.found;
+        found = ap (activation_numbered s) (sym same) ∙ turn.found;
         begun_ = turn.begun ∙ ap (λ n. Incarnating turn.arrival n) same;
         was = phase;
         untold = false_from_ne_true turn.it.etherealized (λ told. true≢false (sym (out_complete c run limit given alone within past legal.1 turn.it there.0 ((all_manned c run limit past given alone within legal.1).told_out turn.it there.0 told))
             ∙ ap (λ p. elim p [ Complete u ↦ true | Begun ↦ false | Void ↦ false ]) phase));
       }
 
-  abbrev comes_to : Act → Act
+  abbrev comes_to : Activation → Activation
   comes_to = at_number m (come_to (Complete (FreshServant m)))
 
   -- it is kept then
   comes_kept : IsOf → is_kept t m ≡ true
   comes_kept of_it =
       let s1 : Standing = changed c run past e s in
-      let y : Act = comes_to of_it.it in
+      let y : Activation = comes_to of_it.it in
       let begun_is : is_begun of_it.it ≡ true = ap (λ p. elim p [ Begun ↦ true | Complete u ↦ false | Void ↦ false ]) of_it.was in
       let y_is : y ≡ record of_it.it { phase = Complete (FreshServant m) } =
       ap (λ b. if b then come_to (Complete (FreshServant m)) of_it.it else of_it.it) (eq-eqb of_it.it.number m of_it.number)
       ∙ ap (λ b. if b then record of_it.it { phase = Complete (FreshServant m) } else of_it.it) begun_is in
-      let in_y : In y s1.acts = subst (λ b. In y (with_incarnated c b (Fresh m) s).acts) (sym of_it.begun_) (image_in comes_to of_it.it s.acts of_it.there) in
+      let in_y : In y s1.activations = subst (λ b. In y (with_incarnated c b (Fresh m) s).activations) (sym of_it.begun_) (image_in comes_to of_it.it s.activations of_it.there) in
       let out = let_out_keeps c s1 y in
-      kept_by c run t after m (let_out c s1 y) (image_in (let_out c s1) y s1.acts in_y) (out.1 ∙ (ap (λ x. x.number) y_is ∙ of_it.number))
+      kept_by c run t after m (let_out c s1 y) (image_in (let_out c s1) y s1.activations in_y) (out.1 ∙ (ap (λ x. x.number) y_is ∙ of_it.number))
       (out.0 ∙ (ap keeps_fresh y_is ∙ ap not of_it.untold))
 
   -- of another number the same holds as before
@@ -148,20 +148,20 @@ module _ (c : Config) (run limit : ℕ) (opened : Stored) (past : List Entry) (w
       (λ _ tells. (let f : Incarnated w (Fresh m) ≡ Etherealized tells.0 tells.1 tells.2 = tells.3 in cc))
 
   -- the state in which it is brought
-  abbrev brought_in : Option Act → State
+  abbrev brought_in : Option Activation → State
   brought_in o = elim o [ Some a ↦ restored (kind_brought c a) (stored c run opened past a.path a.oid) | None ↦ Fault ]
 
   module _ (old new : Kept) (holds : Holds c run opened past old) (of_it : IsOf) (brings : IsBrought m of_it.it.path of_it.it.oid (restored (kind_brought c of_it.it) (stored_in old of_it.it.path of_it.it.oid)) old new) where
-    fresh_after : (n : ℕ) → (if n == m then Some (restored (kind_brought c of_it.it) (stored_in old of_it.it.path of_it.it.oid)) else fresh_at old n) ≡ (if is_kept t n then Some (if n == m then brought_in (act_numbered s m) else state_of c run opened past (FreshServant n)) else None)
+    fresh_after : (n : ℕ) → (if n == m then Some (restored (kind_brought c of_it.it) (stored_in old of_it.it.path of_it.it.oid)) else fresh_at old n) ≡ (if is_kept t n then Some (if n == m then brought_in (activation_numbered s m) else state_of c run opened past (FreshServant n)) else None)
     fresh_after n =
-        elim (n == m) as (λ b. (n == m) ≡ b → (if b then Some (restored (kind_brought c of_it.it) (stored_in old of_it.it.path of_it.it.oid)) else fresh_at old n) ≡ (if is_kept t n then Some (if b then brought_in (act_numbered s m) else state_of c run opened past (FreshServant n)) else None)) [
+        elim (n == m) as (λ b. (n == m) ≡ b → (if b then Some (restored (kind_brought c of_it.it) (stored_in old of_it.it.path of_it.it.oid)) else fresh_at old n) ≡ (if is_kept t n then Some (if b then brought_in (activation_numbered s m) else state_of c run opened past (FreshServant n)) else None)) [
           | true ↦ λ same.
               (ap (λ x. Some x) (ap (restored (kind_brought c of_it.it)) (holds.stored of_it.it.path of_it.it.oid) ∙ ap brought_in (sym of_it.found))
-              ∙ ap (λ b. if b then Some (brought_in (act_numbered s m)) else None) (sym (ap (is_kept t) (eqb-true n m same) ∙ comes_kept of_it)))
+              ∙ ap (λ b. if b then Some (brought_in (activation_numbered s m)) else None) (sym (ap (is_kept t) (eqb-true n m same) ∙ comes_kept of_it)))
           | false ↦ λ other. (holds.fresh n ∙ ap (λ b. if b then Some (state_of c run opened past (FreshServant n)) else None) (sym (others_kept of_it n (eqb-false n m other))))
         ] refl
 
-    room_after : (b : Act) → In b t.acts → keeps_fresh b ≡ true → IsReserved new.store b.path b.oid
+    room_after : (b : Activation) → In b t.activations → keeps_fresh b ≡ true → IsReserved new.store b.path b.oid
     room_after b there keeps =
         subst (λ x. IsReserved x b.path b.oid) (sym brings.store)
         (elim (fresh_from c run past e b there keeps) [
@@ -171,7 +171,7 @@ module _ (c : Config) (run limit : ℕ) (opened : Stored) (past : List Entry) (w
               (let same_worker : w ≡ coming.worker = (let f : Incarnated w (Fresh m) ≡ Incarnated coming.worker (Fresh coming.servant) = coming.same in cc) in
               let stages : Incarnating of_it.arrival m ≡ Incarnating coming.arrival a.number = sym of_it.begun_ ∙ (ap (stage past) same_worker ∙ coming.begun_) in
               let at : m ≡ a.number = cc in
-              let same : a ≡ of_it.it = sound.act_alone a of_it.it was of_it.there (sym at ∙ sym of_it.number) in
+              let same : a ≡ of_it.it = sound.activation_alone a of_it.it was of_it.there (sym at ∙ sym of_it.number) in
               room_later c (with_room old.store of_it.it.path of_it.it.oid) a b later
               (subst (λ x. IsReserved (with_room old.store of_it.it.path of_it.it.oid) x.path x.oid) (sym same) (reserved-with_room old.store of_it.it.path of_it.it.oid)))
         ])
@@ -184,5 +184,5 @@ module _ (c : Config) (run limit : ℕ) (opened : Stored) (past : List Entry) (w
       stored = λ p oid. ap (λ x. slots.stored x p oid) brings.store ∙ (stored-with_room old.store of_it.it.path of_it.it.oid p oid ∙ holds.stored p oid);
     }
 
-  pub brought_holds : (old new : Kept) → Holds c run opened past old → Brings c m (act_numbered s m) old new → Holds c run opened (e ∷ past) new
+  pub brought_holds : (old new : Kept) → Holds c run opened past old → Brings c m (activation_numbered s m) old new → Holds c run opened (e ∷ past) new
   brought_holds old new holds brings = brought_then old new holds is_of_it (subst (λ o. Brings c m o old new) is_of_it.found brings)

@@ -52,10 +52,10 @@ module _ (c : Config) (e : Entry) (begun : Stage) (call : Option Call) (runs : O
   call_runs w is k = k.call_is ∙ ap (call_run k.past) (k.at_stage w (ap worker_of is))
 
   pub run_then : (w : ℕ) → e ≡ Run w → (new : Kept) → IsActed runs call old new → HoldsThen c e begun call runs s old new
-  run_then w is new acts k =
+  run_then w is new activations k =
       subst (λ x. Holds c k.run k.opened (x ∷ k.past) new) (sym is)
       (run_holds c k.run k.limit k.opened k.past w k.given k.alone k.within (subst (λ x. IsLegal c k.run k.limit (x ∷ k.past)) is k.legal) old new k.holds
-      (subst (λ x. IsActed (servant_run c k.run k.past (stage k.past w)) x old new) (call_runs w is k) (subst (λ x. IsActed x call old new) (runs_are w is k) acts)))
+      (subst (λ x. IsActed (servant_run c k.run k.past (stage k.past w)) x old new) (call_runs w is k) (subst (λ x. IsActed x call old new) (runs_are w is k) activations)))
 
   pub run_tells_then : (w : ℕ) → e ≡ Run w → (outcome : Option Outcome) → outcome ≡ outcome_in runs call old → TellsThen c e begun call runs s old outcome
   run_tells_then w is outcome told k =

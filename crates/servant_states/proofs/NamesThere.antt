@@ -16,10 +16,10 @@ use Rattle.poa_base.specs.declared.Reason.TheVariants.{AdapterNonExistent, NoSer
 use Rattle.poa_base.specs.declared.RuleConf.{RuleConf}
 use Rattle.poa_base.specs.declared.Verdict.{Verdict}
 use Rattle.poa_base.specs.declared.Verdict.TheVariants.{Serve, Preset, Locator, Incarnate, Try, Refuse, Forward, Addressing, Here, Unknown, Answer as AnswerWith, Wait}
-use Rattle.poa_verdict.specs.declared.Choice.TheVariants.{Go}
-use Rattle.poa_verdict.specs.declared.Located.{Located}
-use Rattle.poa_verdict.specs.declared.Located.TheVariants.{Servant, Forward as ByForward, Raise as ByRaise, NoRule}
-use Rattle.poa_verdict.specs.Table.{first_row}
+use Rattle.poa_choose.specs.declared.Choice.TheVariants.{Go}
+use Rattle.poa_choose.specs.declared.Located.{Located}
+use Rattle.poa_choose.specs.declared.Located.TheVariants.{Servant, Forward as ByForward, Raise as ByRaise, NoRule}
+use Rattle.poa_choose.specs.Table.{first_row}
 use Rattle.poa_tree.specs.Paths.{same_path}
 use Rattle.poa_tree.specs.declared.node.Node.{Node}
 use Rattle.poa_history.specs.Alone.{IsGivenAlone}

@@ -12,7 +12,7 @@ use Rattle.poa_base.specs.declared.State.TheVariants.{Fault}
 use Rattle.poa_base.specs.declared.Sid.TheVariants.{Fresh as FreshServant}
 use Rattle.poa_base.specs.Store as slots
 use Rattle.poa_base.specs.Store.{Slots}
-use Rattle.poa_history.specs.declared.act.Act.{Act}
+use Rattle.poa_history.specs.declared.activation.Activation.{Activation}
 use Rattle.poa_tree.specs.Trees.{In}
 use Rattle.poa_history.specs.Changes.{standing}
 use Rattle.poa_history.specs.States.{state_of}
@@ -21,7 +21,7 @@ use Rattle.servant_states.specs.Holds.{Holds, is_fresh, keeps_fresh, is_kept}
 use Rattle.servant_states.specs.Kept.{Kept}
 use Rattle.servant_states.proofs.FreshFrom.{kept_is, keeps_parts}
 
-no_fresh : (c : Config) (run : ℕ) (a : Act) → In a (standing c run []).acts → keeps_fresh a ≡ true → ⊥
+no_fresh : (c : Config) (run : ℕ) (a : Activation) → In a (standing c run []).activations → keeps_fresh a ≡ true → ⊥
 no_fresh c run a there keeps = true≢false (sym (keeps_parts a keeps).0 ∙ ap is_fresh (all_open c run a there).1.1)
 
 none_kept : (c : Config) (run n : ℕ) → is_kept (standing c run []) n ≡ false

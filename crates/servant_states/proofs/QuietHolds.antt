@@ -10,7 +10,7 @@ use Rattle.poa_base.specs.declared.Entry.{Entry}
 use Rattle.poa_base.specs.declared.Entry.TheVariants.{Entered, Arrive, Filled, Left, Collect, Admit, Tried, Incarnated, Run, Done, TakeOut, Etherealized, Abandon}
 use Rattle.poa_base.specs.declared.Incarnation.TheVariants.{Fresh, Named, Double, Forward as ForwardTo, Raise}
 use Rattle.poa_base.specs.Store.{Slots, IsReserved}
-use Rattle.poa_history.specs.declared.act.Act.{Act}
+use Rattle.poa_history.specs.declared.activation.Activation.{Activation}
 use Rattle.poa_tree.specs.Trees.{In}
 use Rattle.poa_history.specs.Bounds.{IsWithinLimits}
 use Rattle.poa_history.specs.Changes.{standing}
@@ -30,13 +30,13 @@ leaves_fresh (Incarnated w (Fresh n)) = false
 leaves_fresh (Etherealized w cleanup remaining) = false
 leaves_fresh e = true
 
--- no servant acts either
+-- no servant activations either
 abbrev pub is_quiet : Entry → Bool
 is_quiet (Run w) = false
 is_quiet e = leaves_fresh e
 
 -- where there was room for an activation there is room for what it became
-pub room_later : (c : Config) (store : Slots) (a b : Act) → IsLater c a b → IsReserved store a.path a.oid → IsReserved store b.path b.oid
+pub room_later : (c : Config) (store : Slots) (a b : Activation) → IsLater c a b → IsReserved store a.path a.oid → IsReserved store b.path b.oid
 room_later c store a b later room = subst (λ p. IsReserved store p b.oid) (sym later.path) (subst (λ o. IsReserved store a.path o) (sym later.oid) room)
 
 mapped_if : (b : Bool) (f : State → State) (x : State) → option_map f (if b then Some x else None) ≡ (if b then Some (f x) else None)
@@ -56,7 +56,7 @@ module _ (c : Config) (run limit : ℕ) (opened : Stored) (past : List Entry) (e
   after : IsSound c run t
   after = legal_sound c run limit (e ∷ past) given within legal
 
-  pub kept_before : (n : ℕ) → is_kept t n ≡ true → (is_kept s n ≡ true) ⊎ ((a : Act) × In a s.acts × (a.number ≡ n) × IsComing c run past e a)
+  pub kept_before : (n : ℕ) → is_kept t n ≡ true → (is_kept s n ≡ true) ⊎ ((a : Activation) × In a s.activations × (a.number ≡ n) × IsComing c run past e a)
   kept_before n is =
       let (b, there, at, keeps) = kept_is t n is in
       elim (fresh_from c run past e b there keeps) [
@@ -73,7 +73,7 @@ module _ (c : Config) (run limit : ℕ) (opened : Stored) (past : List Entry) (e
       ]
 
   -- of one number the same holds before and after
-  pub kept_where : (n : ℕ) → ((a : Act) → In a s.acts → a.number ≡ n → IsComing c run past e a → ⊥) → (is_kept s n ≡ true → Tells c run past e n → ⊥) → is_kept t n ≡ is_kept s n
+  pub kept_where : (n : ℕ) → ((a : Activation) → In a s.activations → a.number ≡ n → IsComing c run past e a → ⊥) → (is_kept s n ≡ true → Tells c run past e n → ⊥) → is_kept t n ≡ is_kept s n
   kept_where n uncoming untold =
       same_test (is_kept t n) (is_kept s n)
       (λ is. elim (kept_before n is) [ inl was ↦ was | inr come ↦ absurd (uncoming come.0 come.1 come.2 come.3) ])
@@ -83,7 +83,7 @@ module _ (c : Config) (run limit : ℕ) (opened : Stored) (past : List Entry) (e
     pub kept_same : (n : ℕ) → is_kept t n ≡ is_kept s n
     kept_same n = kept_where n (λ a there at coming. true≢false (sym leaves ∙ ap leaves_fresh coming.same)) (λ _ tells. true≢false (sym leaves ∙ ap leaves_fresh tells.3))
 
-    room_same : (store : Slots) → ((a : Act) → In a s.acts → keeps_fresh a ≡ true → IsReserved store a.path a.oid) → (b : Act) → In b t.acts → keeps_fresh b ≡ true → IsReserved store b.path b.oid
+    room_same : (store : Slots) → ((a : Activation) → In a s.activations → keeps_fresh a ≡ true → IsReserved store a.path a.oid) → (b : Activation) → In b t.activations → keeps_fresh b ≡ true → IsReserved store b.path b.oid
     room_same store room b there keeps =
         elim (fresh_from c run past e b there keeps) [
           | kept a was later kept_ ↦ room_later c store a b later (room a was kept_)
@@ -102,7 +102,7 @@ module _ (c : Config) (run limit : ℕ) (opened : Stored) (past : List Entry) (e
       stored = λ p oid. ap (λ x. stored_in (record old { store = x }) p oid) store ∙ holds.stored p oid ∙ sym (stored_ p oid);
     }
 
--- no servant acts, and nothing is stored
+-- no servant activations, and nothing is stored
 module _ (c : Config) (run : ℕ) (opened : Stored) (past : List Entry) where
   pub state_same : (e : Entry) → is_quiet e ≡ true → (u : Sid) → state_of c run opened (e ∷ past) u ≡ state_of c run opened past u
   state_same (Entered conn) quiet u = refl

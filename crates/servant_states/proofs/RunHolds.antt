@@ -1,4 +1,4 @@
--- A servant that runs acts, and then the states are those of the longer history.
+-- A servant that runs activations, and then the states are those of the longer history.
 use Rattle.std.specs.Prelude.{◌≡◌, ℕ, true, if◌then◌else◌, List, ◌∷◌, Option, Some, None, option_map, unwrap_or, refl}
 use Rattle.std.proofs.Common.{sym, ap, ◌∙◌}
 use Rattle.std.proofs.lemmas.Bool.{true≢false, false_from_ne_true}
@@ -11,8 +11,8 @@ use Rattle.poa_base.specs.declared.Entry.{Entry}
 use Rattle.poa_base.specs.declared.Entry.TheVariants.{Run}
 use Rattle.poa_base.specs.declared.Verdict.{Verdict}
 use Rattle.poa_base.specs.declared.Verdict.TheVariants.{Serve, Preset, Locator, Incarnate, Try, Refuse, Forward, Addressing, Here, Unknown, Answer, Wait}
-use Rattle.poa_history.specs.declared.act.Phase.{Phase}
-use Rattle.poa_history.specs.declared.act.Phase.TheVariants.{Begun, Complete, Void}
+use Rattle.poa_history.specs.declared.activation.Phase.{Phase}
+use Rattle.poa_history.specs.declared.activation.Phase.TheVariants.{Begun, Complete, Void}
 use Rattle.poa_history.specs.declared.stage.Stage.{Stage}
 use Rattle.poa_history.specs.declared.stage.Stage.TheVariants.{Free, Trying, Incarnating, Serving, Ran, Removing}
 use Rattle.poa_history.specs.Alone.{IsGivenAlone}
@@ -24,9 +24,9 @@ use Rattle.poa_history.specs.Lifetime.{IsServable}
 use Rattle.poa_history.specs.Sound.{IsGiven, IsSound}
 use Rattle.poa_history.specs.Stages.{stage, admitted}
 use Rattle.poa_history.specs.Standings.{Standing}
-use Rattle.poa_history.specs.States.{Stored, acted, call_run, servant_run, servant_by, servant_named, servant_of_act, state_of}
+use Rattle.poa_history.specs.States.{Stored, acted, call_run, servant_run, servant_by, servant_named, servant_of_activation, state_of}
 use Rattle.poa_history.specs.Templates.{servant_number}
-use Rattle.poa_history.specs.Turns.{act_numbered}
+use Rattle.poa_history.specs.Turns.{activation_numbered}
 use Rattle.poa_history.proofs.AloneKept.{stands_alone}
 use Rattle.poa_history.proofs.LegalSound.{legal_sound}
 use Rattle.poa_history.proofs.LivesKept.{has_lifetime}
@@ -34,7 +34,7 @@ use Rattle.poa_history.proofs.MannedKept.{all_manned}
 use Rattle.servant_states.specs.Holds.{Holds, is_fresh, is_kept}
 use Rattle.servant_states.specs.Kept.{Kept}
 use Rattle.servant_states.specs.Steps.{IsActed, after_run, outcome_in}
-use Rattle.servant_states.proofs.FreshFrom.{found_act, kept_by, keeps_from}
+use Rattle.servant_states.proofs.FreshFrom.{found_activation, kept_by, keeps_from}
 use Rattle.servant_states.proofs.QuietHolds.{changed_holds}
 
 not_named : (c : Config) (name : List ℕ) (n : ℕ) → servant_named c name ≡ Some (FreshServant n) → ⊥
@@ -57,10 +57,10 @@ module _ (c : Config) (run limit : ℕ) (opened : Stored) (past : List Entry) (w
   sound = legal_sound c run limit past given within legal.1
 
   -- a fresh servant that may be served is kept
-  serves_kept : (m n : ℕ) → IsServable s m → servant_of_act (act_numbered s m) ≡ Some (FreshServant n) → is_kept s n ≡ true
+  serves_kept : (m n : ℕ) → IsServable s m → servant_of_activation (activation_numbered s m) ≡ Some (FreshServant n) → is_kept s n ≡ true
   serves_kept m n may has =
-      let there = found_act s m may.it may.begun in
-      let phase : may.it.phase ≡ Complete (FreshServant n) = phase_from may.it.phase (FreshServant n) (ap servant_of_act (sym may.begun) ∙ has) in
+      let there = found_activation s m may.it may.begun in
+      let phase : may.it.phase ≡ Complete (FreshServant n) = phase_from may.it.phase (FreshServant n) (ap servant_of_activation (sym may.begun) ∙ has) in
       let own : n ≡ may.it.number = (stands_alone c run limit past given alone within legal.1).fresh may.it n there.0 phase in
       let untold = false_from_ne_true may.it.etherealized (λ told. true≢false (sym ((all_manned c run limit past given alone within legal.1).told_out may.it there.0 told) ∙ may.mapped)) in
       kept_by c run s sound n may.it there.0 (sym own) (keeps_from may.it (ap is_fresh phase) untold)
@@ -93,8 +93,8 @@ module _ (c : Config) (run limit : ℕ) (opened : Stored) (past : List Entry) (w
       by_stage (Removing m) at is = absurd (let e : None ≡ Some (FreshServant n) = is in cc)
 
   pub run_holds : (old new : Kept) → Holds c run opened past old → IsActed (servant_run c run past (stage past w)) (call_run past (stage past w)) old new → Holds c run opened (Run w ∷ past) new
-  run_holds old new holds acts =
-      changed_holds c run limit opened past (Run w) given within legal refl (λ u x. after_run u (servant_run c run past (stage past w)) (call_run past (stage past w)) x) (λ u. refl) (λ p oid. refl) old new holds acts.configured acts.fresh acts.store
+  run_holds old new holds activations =
+      changed_holds c run limit opened past (Run w) given within legal refl (λ u x. after_run u (servant_run c run past (stage past w)) (call_run past (stage past w)) x) (λ u. refl) (λ p oid. refl) old new holds activations.configured activations.fresh activations.store
 
   -- its outcome is that of its state
   pub run_tells : (old : Kept) → Holds c run opened past old → (call : Option Call) → outcome_in (servant_run c run past (stage past w)) call old ≡ option_map (λ u. (acted (state_of c run opened past u) call).1) (servant_run c run past (stage past w))

@@ -18,9 +18,9 @@ use Rattle.poa_base.specs.Store as slots
 use Rattle.poa_base.specs.Store.{IsReserved, place_cmp, with_state}
 use Rattle.poa_base.proofs.Shelves.{place_total, same_place}
 use Rattle.poa_base.proofs.Stored.{stored-with_state, reserved-insert}
-use Rattle.poa_history.specs.declared.act.Act.{Act}
-use Rattle.poa_history.specs.declared.act.Phase.{Phase}
-use Rattle.poa_history.specs.declared.act.Phase.TheVariants.{Begun, Complete, Void}
+use Rattle.poa_history.specs.declared.activation.Activation.{Activation}
+use Rattle.poa_history.specs.declared.activation.Phase.{Phase}
+use Rattle.poa_history.specs.declared.activation.Phase.TheVariants.{Begun, Complete, Void}
 use Rattle.poa_history.specs.declared.stage.Stage.TheVariants.{Removing}
 use Rattle.poa_tree.specs.Paths.{same_bytes, same_path}
 use Rattle.poa_tree.specs.Trees.{In}
@@ -34,7 +34,7 @@ use Rattle.poa_history.specs.Sound.{IsGiven, IsSound}
 use Rattle.poa_history.specs.Stages.{stage}
 use Rattle.poa_history.specs.Standings.{Standing}
 use Rattle.poa_history.specs.States.{Stored, state_of, stored, is_stored_by, fresh_only}
-use Rattle.poa_history.specs.Turns.{act_numbered}
+use Rattle.poa_history.specs.Turns.{activation_numbered}
 use Rattle.poa_tree.proofs.Finding.{path_same, same_path_self}
 use Rattle.poa_tree.proofs.Leading.{bytes_same, same_self}
 use Rattle.poa_tree.proofs.Members.{image_in}
@@ -46,7 +46,7 @@ use Rattle.poa_history.proofs.TurnTells.{removal_is}
 use Rattle.servant_states.specs.Holds.{Holds, is_fresh, keeps_fresh, is_kept}
 use Rattle.servant_states.specs.Kept.{Kept, fresh_at}
 use Rattle.servant_states.specs.Steps.{Etherealizes, HasRoom, IsStored, Stores, fresh_number, removed, removed_of}
-use Rattle.servant_states.proofs.FreshFrom.{kept, comes, fresh_from, found_act, kept_is, kept_by, keeps_from, keeps_parts}
+use Rattle.servant_states.proofs.FreshFrom.{kept, comes, fresh_from, found_activation, kept_is, kept_by, keeps_from, keeps_parts}
 use Rattle.servant_states.proofs.QuietHolds.{kept_where, room_later}
 use Rattle.servant_states.proofs.BroughtHolds.{let_out_keeps}
 
@@ -107,19 +107,19 @@ module _ (c : Config) (run limit : ℕ) (opened : Stored) (past : List Entry) (w
   -- the activation that is removed
   pub record IsOf : Type 0 where
     pub number : ℕ
-    pub it : Act
-    pub there : In it s.acts
+    pub it : Activation
+    pub there : In it s.activations
     pub numbered : it.number ≡ number
-    pub found : act_numbered s number ≡ Some it
+    pub found : activation_numbered s number ≡ Some it
     pub begun_ : stage past w ≡ Removing number
     pub untold : it.etherealized ≡ false
 
   pub is_of_it : IsOf
   is_of_it =
       let turn = removal_is c run past w cleanup remaining legal.0 in
-      let there = found_act s turn.number turn.it turn.found in
+      let there = found_activation s turn.number turn.it turn.found in
       let holds : flying.Holds past s (Removing turn.number) = subst (λ b. flying.Holds past s b) turn.begun ((all_manned c run limit past given alone within legal.1).stages w) in
-      let is_it : holds.0 ≡ turn.it = sound.act_alone holds.0 turn.it holds.1 there.0 (holds.2 ∙ sym there.1) in
+      let is_it : holds.0 ≡ turn.it = sound.activation_alone holds.0 turn.it holds.1 there.0 (holds.2 ∙ sym there.1) in
       record { number = turn.number; it = turn.it; there = there.0; numbered = there.1; found = turn.found; begun_ = turn.begun; untold = ap (λ x. x.etherealized) (sym is_it) ∙ holds.5 }
 
   removed_is : (of_it : IsOf) → removed s (stage past w) ≡ removed_of (Some of_it.it)
@@ -131,18 +131,18 @@ module _ (c : Config) (run limit : ℕ) (opened : Stored) (past : List Entry) (w
       ap (λ b. is_stored_by s b p oid) of_it.begun_
       ∙ ap (λ o. elim o [ None ↦ None | Some a ↦ (if same_path a.path p && same_bytes a.oid oid then (leaver a.phase) else None) ]) of_it.found
 
-  abbrev told : Act → Act
+  abbrev told : Activation → Activation
   told = λ a. record a { etherealized = true }
 
   -- the entry tells that it was etherealized
-  told_then : (of_it : IsOf) (b : Act) → In b t.acts → b.number ≡ of_it.number → b.etherealized ≡ true
+  told_then : (of_it : IsOf) (b : Activation) → In b t.activations → b.number ≡ of_it.number → b.etherealized ≡ true
   told_then of_it b there at =
       let s1 : Standing = changed c run past e s in
-      let y : Act = at_number of_it.number told of_it.it in
+      let y : Activation = at_number of_it.number told of_it.it in
       let y_is : y ≡ record of_it.it { etherealized = true } = ap (λ z. if z then record of_it.it { etherealized = true } else of_it.it) (eq-eqb of_it.it.number of_it.number of_it.numbered) in
-      let in_y : In y s1.acts = subst (λ z. In y (with_etherealized z s).acts) (sym of_it.begun_) (image_in (at_number of_it.number told) of_it.it s.acts of_it.there) in
+      let in_y : In y s1.activations = subst (λ z. In y (with_etherealized z s).activations) (sym of_it.begun_) (image_in (at_number of_it.number told) of_it.it s.activations of_it.there) in
       let out = let_out_keeps c s1 y in
-      let same : let_out c s1 y ≡ b = after.act_alone (let_out c s1 y) b (image_in (let_out c s1) y s1.acts in_y) there (out.1 ∙ (ap (λ x. x.number) y_is ∙ (of_it.numbered ∙ sym at))) in
+      let same : let_out c s1 y ≡ b = after.activation_alone (let_out c s1 y) b (image_in (let_out c s1) y s1.activations in_y) there (out.1 ∙ (ap (λ x. x.number) y_is ∙ (of_it.numbered ∙ sym at))) in
       ap (λ x. x.etherealized) (sym same) ∙ (out.2 ∙ ap (λ x. x.etherealized) y_is)
 
   -- so it is kept no longer
@@ -161,7 +161,7 @@ module _ (c : Config) (run limit : ℕ) (opened : Stored) (past : List Entry) (w
       let stages : Removing of_it.number ≡ Removing n = sym of_it.begun_ ∙ (ap (stage past) same_worker ∙ tells.4) in
       other keeps (let f : Removing of_it.number ≡ Removing n = stages in let g : of_it.number ≡ n = cc in sym g))
 
-  kept_room : (old : Kept) → Holds c run opened past old → (b : Act) → In b t.acts → keeps_fresh b ≡ true → IsReserved old.store b.path b.oid
+  kept_room : (old : Kept) → Holds c run opened past old → (b : Activation) → In b t.activations → keeps_fresh b ≡ true → IsReserved old.store b.path b.oid
   kept_room old holds b there keeps =
       elim (fresh_from c run past e b there keeps) [
         | kept a was later kept_ ↦ room_later c old.store a b later (holds.room a was kept_)
@@ -196,7 +196,7 @@ module _ (c : Config) (run limit : ℕ) (opened : Stored) (past : List Entry) (w
         unkept : (n : ℕ) → is_kept s n ≡ true → n ≡ of_it.number → ⊥
         unkept n keeps at =
             let (a, there, numbered, kept_) = kept_is s n keeps in
-            let same : a ≡ of_it.it = sound.act_alone a of_it.it there of_it.there (numbered ∙ (at ∙ sym of_it.numbered)) in
+            let same : a ≡ of_it.it = sound.activation_alone a of_it.it there of_it.there (numbered ∙ (at ∙ sym of_it.numbered)) in
             true≢false (sym (keeps_parts a kept_).0 ∙ (ap (λ x. is_fresh x.phase) same ∙ unfresh of_it.it.phase none))
 
         neither : (b : Bool) (o : Option Sid) → o ≡ None → (if b then o else None) ≡ None

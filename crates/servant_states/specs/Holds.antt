@@ -5,14 +5,14 @@ use Rattle.poa_base.specs.declared.State.{State}
 use Rattle.poa_base.specs.declared.Sid.TheVariants.{Named as NamedServant, Fresh as FreshServant}
 use Rattle.poa_base.specs.declared.Entry.{Entry}
 use Rattle.poa_base.specs.Store.{IsReserved}
-use Rattle.poa_history.specs.declared.act.Act.{Act}
-use Rattle.poa_history.specs.declared.act.Phase.{Phase}
-use Rattle.poa_history.specs.declared.act.Phase.TheVariants.{Begun, Complete, Void}
+use Rattle.poa_history.specs.declared.activation.Activation.{Activation}
+use Rattle.poa_history.specs.declared.activation.Phase.{Phase}
+use Rattle.poa_history.specs.declared.activation.Phase.TheVariants.{Begun, Complete, Void}
 use Rattle.poa_tree.specs.Trees.{In}
 use Rattle.poa_history.specs.Changes.{standing}
 use Rattle.poa_history.specs.Standings.{Standing}
 use Rattle.poa_history.specs.States.{Stored, state_of, stored}
-use Rattle.poa_history.specs.Turns.{act_numbered}
+use Rattle.poa_history.specs.Turns.{activation_numbered}
 use Rattle.servant_states.specs.Kept.{Kept, fresh_at, state_in, stored_in}
 
 abbrev pub is_fresh : Phase → Bool
@@ -22,16 +22,16 @@ is_fresh Begun = false
 is_fresh Void = false
 
 -- the activation has a fresh servant, which wasn't etherealized
-abbrev pub keeps_fresh : Act → Bool
+abbrev pub keeps_fresh : Activation → Bool
 keeps_fresh a = is_fresh a.phase && not a.etherealized
 
-abbrev pub is_kept_by : Option Act → Bool
+abbrev pub is_kept_by : Option Activation → Bool
 is_kept_by (Some a) = keeps_fresh a
 is_kept_by None = false
 
 -- the activation of this number has one
 abbrev pub is_kept : Standing → ℕ → Bool
-is_kept s n = is_kept_by (act_numbered s n)
+is_kept s n = is_kept_by (activation_numbered s n)
 
 -- a fresh servant is kept from its incarnation to its etherealization, in its state
 abbrev pub fresh_of : Config → ℕ → Stored → List Entry → ℕ → Option State
@@ -43,6 +43,6 @@ pub record Holds (c : Config) (run : ℕ) (opened : Stored) (past : List Entry) 
   -- of the fresh ones those are kept that were brought and weren't etherealized, each in its state
   pub fresh : (n : ℕ) → fresh_at s n ≡ fresh_of c run opened past n
   -- for each of them there is room in the store
-  pub room : (a : Act) → In a (standing c run past).acts → keeps_fresh a ≡ true → IsReserved s.store a.path a.oid
+  pub room : (a : Activation) → In a (standing c run past).activations → keeps_fresh a ≡ true → IsReserved s.store a.path a.oid
   -- the store has what is stored
   pub stored : (p : List (List ℕ)) (oid : List ℕ) → stored_in s p oid ≡ stored c run opened past p oid

@@ -1,4 +1,4 @@
--- How the servants change: one acts, a fresh one is brought, a fresh one is etherealized.
+-- How the servants change: one activations, a fresh one is brought, a fresh one is etherealized.
 use Rattle.std.specs.Prelude.{◌≡◌, ℕ, ◌==◌, Bool, true, false, if◌then◌else◌, List, Option, Some, None, option_map}
 use Rattle.poa_base.specs.declared.Config.{Config}
 use Rattle.poa_base.specs.declared.Call.{Call}
@@ -9,14 +9,14 @@ use Rattle.poa_base.specs.declared.Sid.TheVariants.{Named as NamedServant, Fresh
 use Rattle.poa_base.specs.declared.Incarnation.{Incarnation}
 use Rattle.poa_base.specs.declared.Incarnation.TheVariants.{Fresh}
 use Rattle.poa_base.specs.Store.{IsReserved, with_room, with_state}
-use Rattle.poa_history.specs.declared.act.Act.{Act}
-use Rattle.poa_history.specs.declared.act.Phase.{Phase}
-use Rattle.poa_history.specs.declared.act.Phase.TheVariants.{Begun, Complete, Void}
+use Rattle.poa_history.specs.declared.activation.Activation.{Activation}
+use Rattle.poa_history.specs.declared.activation.Phase.{Phase}
+use Rattle.poa_history.specs.declared.activation.Phase.TheVariants.{Begun, Complete, Void}
 use Rattle.poa_history.specs.declared.stage.Stage.{Stage}
 use Rattle.poa_history.specs.declared.stage.Stage.TheVariants.{Removing}
 use Rattle.poa_history.specs.Standings.{Standing}
 use Rattle.poa_history.specs.States.{acted, is_servant, kind_brought, restored}
-use Rattle.poa_history.specs.Turns.{act_numbered}
+use Rattle.poa_history.specs.Turns.{activation_numbered}
 use Rattle.servant_states.specs.Kept.{Kept, fresh_at, state_in, stored_in}
 
 -- the state of a servant after the one that runs has acted
@@ -40,7 +40,7 @@ pub record IsBrought (number : ℕ) (path : List (List ℕ)) (oid : List ℕ) (s
   pub store : new.store ≡ with_room old.store path oid
 
 -- the fresh servant of an activation was brought in the state stored for its id, or that in which its kind opens
-abbrev pub Brings : Config → ℕ → Option Act → Kept → Kept → Type 0
+abbrev pub Brings : Config → ℕ → Option Activation → Kept → Kept → Type 0
 Brings c number None old new = new ≡ old
 Brings c number (Some a) old new = IsBrought number a.path a.oid (restored (kind_brought c a) (stored_in old a.path a.oid)) old new
 
@@ -50,7 +50,7 @@ is_new (Fresh n) = true
 is_new answer = false
 
 abbrev pub Incarnates : Config → Incarnation → Standing → Kept → Kept → Type 0
-Incarnates c (Fresh n) s old new = Brings c n (act_numbered s n) old new
+Incarnates c (Fresh n) s old new = Brings c n (activation_numbered s n) old new
 Incarnates c answer s old new = new ≡ old
 
 -- the fresh servant is gone, and its state is stored
@@ -71,20 +71,20 @@ fresh_number Begun = None
 fresh_number Void = None
 
 -- the fresh servant of an activation that is removed, by its activation and its number
-abbrev pub removed_of : Option Act → Option (Act × ℕ)
+abbrev pub removed_of : Option Activation → Option (Activation × ℕ)
 removed_of None = None
 removed_of (Some a) = option_map (λ n. (a, n)) (fresh_number a.phase)
 
-abbrev pub removed : Standing → Stage → Option (Act × ℕ)
-removed s (Removing n) = removed_of (act_numbered s n)
+abbrev pub removed : Standing → Stage → Option (Activation × ℕ)
+removed s (Removing n) = removed_of (activation_numbered s n)
 removed s begun = None
 
-abbrev pub Etherealizes : Option (Act × ℕ) → Kept → Kept → Type 0
+abbrev pub Etherealizes : Option (Activation × ℕ) → Kept → Kept → Type 0
 Etherealizes (Some r) old new = Stores r.1 r.0.path r.0.oid (fresh_at old r.1) old new
 Etherealizes None old new = new ≡ old
 
 -- there is room for what is removed
-abbrev pub HasRoom : Option (Act × ℕ) → Kept → Type 0
+abbrev pub HasRoom : Option (Activation × ℕ) → Kept → Type 0
 HasRoom (Some r) s = IsReserved s.store r.0.path r.0.oid
 HasRoom None s = Unit {0}
 

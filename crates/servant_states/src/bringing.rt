@@ -8,16 +8,18 @@ ghost use Rattle.servant_states.specs.Steps.{Brings, Incarnates, IsUnchanged, is
 use crate::kinds::{kind_brought, restored};
 use crate::servants::Servants;
 use poa_base::{Config, Incarnation, WantMemory};
-use poa_history::Act;
+use poa_history::Activation;
 use servant_kinds::Servant;
 use standing_queries::Standing;
 use std::alloc::Global;
 
 /// The activation of a number.
-pub fn act_numbered(acts: &[Act], number: u32) -> Option<&Act>
-    ensures { option_copied result ≡ find (λ a. a.number == number) acts.now }
+pub fn activation_numbered(activations: &[Activation], number: u32) -> Option<&Activation>
+    ensures { option_copied result ≡ find (λ a. a.number == number) activations.now }
 {
-    acts.iter().find(|act| act.number == number)
+    activations
+        .iter()
+        .find(|activation| activation.number == number)
 }
 
 /// Brings a fresh servant of an activation.
@@ -25,15 +27,19 @@ fn bring_for(
     alloc: Global,
     config: &Config,
     number: u32,
-    act: &Act,
+    activation: &Activation,
     servants: &mut Servants,
 ) -> Result<(), WantMemory>
-    ensures ok { OnOk result (Brings config.now number (Some act.now) (kept_in servants.old) (kept_in servants.new)) }
+    ensures ok { OnOk result (Brings config.now number (Some activation.now) (kept_in servants.old) (kept_in servants.new)) }
     ensures err { OnErr result (IsUnchanged (kept_in servants.old) (kept_in servants.new)) }
 {
-    let kind = kind_brought(config, act);
-    let state = restored(alloc, kind, servants.store.get(&act.path, &act.oid))?;
-    servants.store.reserve(&act.path, &act.oid)?;
+    let kind = kind_brought(config, activation);
+    let state = restored(
+        alloc,
+        kind,
+        servants.store.get(&activation.path, &activation.oid),
+    )?;
+    servants.store.reserve(&activation.path, &activation.oid)?;
     servants.fresh.insert(number, Servant::new(alloc, state))?;
     Ok(())
 }
@@ -48,11 +54,11 @@ pub fn bring(
     standing: &Standing,
     servants: &mut Servants,
 ) -> Result<(), WantMemory>
-    ensures ok { OnOk result (Brings config.now number (turns.act_numbered (seen standing.now) number) (kept_in servants.old) (kept_in servants.new)) }
+    ensures ok { OnOk result (Brings config.now number (turns.activation_numbered (seen standing.now) number) (kept_in servants.old) (kept_in servants.new)) }
     ensures err { OnErr result (IsUnchanged (kept_in servants.old) (kept_in servants.new)) }
 {
-    match act_numbered(&standing.acts, number) {
-        Some(act) => bring_for(alloc, config, number, act, servants),
+    match activation_numbered(&standing.activations, number) {
+        Some(activation) => bring_for(alloc, config, number, activation, servants),
         None => Ok(()),
     }
 }

@@ -4,10 +4,10 @@ ghost use Rattle.standing_queries.specs.Seen.{seen};
 ghost use Rattle.servant_states.specs.Kept.{kept_in};
 ghost use Rattle.servant_states.specs.Steps as steps;
 
-use crate::bringing::act_numbered;
+use crate::bringing::activation_numbered;
 use crate::servants::Servants;
 use poa_base::Sid;
-use poa_history::{Act, Phase, Stage};
+use poa_history::{Activation, Phase, Stage};
 use standing_queries::Standing;
 
 /// The number of the fresh servant of an activation.
@@ -21,12 +21,12 @@ fn fresh_number(phase: Phase) -> Option<u32>
 }
 
 /// An activation and the number of its fresh servant.
-fn removed_of(act: Option<&Act>) -> Option<(&Act, u32)>
-    ensures { option_map (λ r. (r.0.now, r.1)) result ≡ steps.removed_of (option_copied act.entry) }
+fn removed_of(activation: Option<&Activation>) -> Option<(&Activation, u32)>
+    ensures { option_map (λ r. (r.0.now, r.1)) result ≡ steps.removed_of (option_copied activation.entry) }
 {
-    match act {
-        Some(act) => match fresh_number(act.phase) {
-            Some(number) => Some((act, number)),
+    match activation {
+        Some(activation) => match fresh_number(activation.phase) {
+            Some(number) => Some((activation, number)),
             None => None,
         },
         None => None,
@@ -34,11 +34,14 @@ fn removed_of(act: Option<&Act>) -> Option<(&Act, u32)>
 }
 
 /// The activation that is removed and the number of its fresh servant.
-fn removed(standing: &Standing, stage: Stage) -> Option<(&Act, u32)>
+fn removed(standing: &Standing, stage: Stage) -> Option<(&Activation, u32)>
     ensures { option_map (λ r. (r.0.now, r.1)) result ≡ steps.removed (seen standing.now) stage }
 {
     match stage {
-        Stage::Removing(activation) => removed_of(act_numbered(&standing.acts, activation)),
+        Stage::Removing(activation) => removed_of(activation_numbered(
+            &standing.activations,
+            activation,
+        )),
         Stage::Free
         | Stage::Trying(_)
         | Stage::Incarnating(_, _)
@@ -52,11 +55,11 @@ pub fn etherealize(stage: Stage, standing: &Standing, servants: &mut Servants)
     requires { steps.HasRoom (steps.removed (seen standing.now) stage) (kept_in servants.old) }
     ensures { steps.Etherealizes (steps.removed (seen standing.now) stage) (kept_in servants.old) (kept_in servants.new) }
 {
-    let Some((act, number)) = removed(standing, stage) else {
+    let Some((activation, number)) = removed(standing, stage) else {
         return;
     };
     if let Some(servant) = servants.fresh.remove(&number) {
         let state = servant.into_state();
-        servants.store.set(&act.path, &act.oid, state);
+        servants.store.set(&activation.path, &activation.oid, state);
     }
 }

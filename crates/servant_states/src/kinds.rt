@@ -4,7 +4,7 @@ ghost use Rattle.poa_history.specs.Rules as rules;
 ghost use Rattle.poa_history.specs.States as states;
 
 use poa_base::{Config, Gives, Items, Kind, Oid, RuleConf, State, TryClone, WantMemory};
-use poa_history::Act;
+use poa_history::Activation;
 use standing_queries::templates::rules_at;
 use std::alloc::Global;
 
@@ -26,10 +26,13 @@ fn rule_for<'a>(conf: &'a [RuleConf], oid: &Oid) -> Option<&'a RuleConf>
 }
 
 /// The kind of the fresh servants that an activation's rule brings.
-pub fn kind_brought(config: &Config, act: &Act) -> Kind
-    ensures { result ≡ states.kind_brought config.now act.now }
+pub fn kind_brought(config: &Config, activation: &Activation) -> Kind
+    ensures { result ≡ states.kind_brought config.now activation.now }
 {
-    match rule_for(rules_at(config, act.path.as_slice()), &act.oid) {
+    match rule_for(
+        rules_at(config, activation.path.as_slice()),
+        &activation.oid,
+    ) {
         Some(rule) => match rule.gives {
             Gives::Fresh(kind) => kind,
             Gives::Servant(_) | Gives::Forward(_) | Gives::Raise(_) => Kind::Fault,

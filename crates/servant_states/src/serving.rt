@@ -4,18 +4,18 @@ ghost use Rattle.poa_history.specs.States as states;
 ghost use Rattle.poa_history.specs.Turns as turns;
 ghost use Rattle.standing_queries.specs.Seen.{seen};
 
-use crate::bringing::act_numbered;
+use crate::bringing::activation_numbered;
 use poa_base::{Config, Name, Sid, Verdict, WantMemory};
-use poa_history::{Act, Phase};
+use poa_history::{Activation, Phase};
 use standing_queries::Standing;
 use standing_queries::templates::servant_number;
 
 /// The servant of an activation.
-fn servant_of(act: Option<&Act>) -> Option<Sid>
-    ensures { result ≡ states.servant_of_act (option_copied act.entry) }
+fn servant_of(activation: Option<&Activation>) -> Option<Sid>
+    ensures { result ≡ states.servant_of_activation (option_copied activation.entry) }
 {
-    match act {
-        Some(act) => match act.phase {
+    match activation {
+        Some(activation) => match activation.phase {
             Phase::Complete(servant) => Some(servant),
             Phase::Begun | Phase::Void => None,
         },
@@ -25,9 +25,9 @@ fn servant_of(act: Option<&Act>) -> Option<Sid>
 
 /// The servant of this activation's number.
 fn servant_at(standing: &Standing, number: u32) -> Option<Sid>
-    ensures { result ≡ states.servant_of_act (turns.act_numbered (seen standing.now) number) }
+    ensures { result ≡ states.servant_of_activation (turns.activation_numbered (seen standing.now) number) }
 {
-    servant_of(act_numbered(&standing.acts, number))
+    servant_of(activation_numbered(&standing.activations, number))
 }
 
 /// The configured servant of a name.

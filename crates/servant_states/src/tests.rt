@@ -5,7 +5,7 @@ use poa_base::{
     ManagerState, Name, Oid, Outcome, Path, Policy, PolicySet, RuleConf, ServantConf, Sid, State,
     Store, Verdict,
 };
-use poa_history::{Act, Phase, Stage};
+use poa_history::{Activation, Phase, Stage};
 use standing_queries::Standing;
 use std::alloc::Global;
 use std::test::Fail;
@@ -95,8 +95,8 @@ fn add(alloc: Global, number: i64) -> Result<Call, Fail> {
 }
 
 /// Activation 0, which is of the adapter's one id.
-fn activation(alloc: Global, phase: Phase) -> Result<Act, Fail> {
-    Ok(Act {
+fn activation(alloc: Global, phase: Phase) -> Result<Activation, Fail> {
+    Ok(Activation {
         number: 0,
         adapter: 1,
         path: path(alloc)?,
@@ -111,15 +111,15 @@ fn activation(alloc: Global, phase: Phase) -> Result<Act, Fail> {
     })
 }
 
-fn standing(alloc: Global, act: Act) -> Result<Standing, Fail> {
-    let mut acts = Vec::new(alloc);
-    acts.push(act)?;
+fn standing(alloc: Global, activation: Activation) -> Result<Standing, Fail> {
+    let mut activations = Vec::new(alloc);
+    activations.push(activation)?;
     Ok(Standing {
         nodes: Vec::new(alloc),
         count: 2,
         made: 0,
         flights: Vec::new(alloc),
-        acts,
+        activations,
     })
 }
 
@@ -130,16 +130,16 @@ fn begin(alloc: Global, config: &Config, servants: &mut Servants) -> Result<(), 
 }
 
 /// The servant of an activation is etherealized.
-fn end(alloc: Global, act: Act, servants: &mut Servants) -> Result<(), Fail> {
-    servants.store.reserve(&act.path, &act.oid)?;
-    let mut acts = Vec::new(alloc);
-    acts.push(act)?;
+fn end(alloc: Global, activation: Activation, servants: &mut Servants) -> Result<(), Fail> {
+    servants.store.reserve(&activation.path, &activation.oid)?;
+    let mut activations = Vec::new(alloc);
+    activations.push(activation)?;
     let standing = Standing {
         nodes: Vec::new(alloc),
         count: 2,
         made: 0,
         flights: Vec::new(alloc),
-        acts,
+        activations,
     };
     etherealize(Stage::Removing(0), &standing, servants);
     Ok(())
@@ -215,8 +215,8 @@ fn a_stored_log_makes_no_register(rt: HostRuntime) -> Result<(), Fail> {
 #[test]
 fn an_arrival_has_the_servant_of_its_verdict(rt: HostRuntime) -> Result<(), Fail> {
     let config = config(rt.alloc())?;
-    let act = activation(rt.alloc(), Phase::Complete(Sid::Fresh(0)))?;
-    let standing = standing(rt.alloc(), act)?;
+    let complete = activation(rt.alloc(), Phase::Complete(Sid::Fresh(0)))?;
+    let standing = standing(rt.alloc(), complete)?;
     let served = servant_by(&config, &standing, Some(&Verdict::Serve(0)))?;
     assert!(rt; served == Some(Sid::Fresh(0)));
     let five = Verdict::Preset(name(rt.alloc(), b"five")?);

@@ -9,7 +9,7 @@ use Rattle.poa_tree.specs.Nodes.{stands_under}
 use Rattle.poa_tree.specs.Paths.{leads_to, is_root}
 use Rattle.poa_tree.specs.Trees.{In}
 use Rattle.poa_tree.proofs.Leading.{leads_self}
-use Rattle.poa_history.specs.declared.act.Act.{Act}
+use Rattle.poa_history.specs.declared.activation.Activation.{Activation}
 use Rattle.poa_history.specs.declared.flight.Flight.{Flight}
 use Rattle.poa_history.specs.Ends.{is_over, is_clear, is_done_with}
 use Rattle.poa_history.specs.Standings.{Standing}
@@ -80,9 +80,9 @@ module _ (c : Config) (s : Standing) where
   goes_clear : (n : Node) → stays c s n ≡ false → is_clear c s n.path ≡ true
   goes_clear n goes = last_true (is_root n.path) n.dying (is_clear c s n.path) goes
 
-  clear_parts : (n : Node) → stays c s n ≡ false → (list_any (λ f. stands_under s.nodes n.path f.adapter) s.flights ≡ false) × (list_any (λ a. not (is_over c a) && stands_under s.nodes n.path a.adapter) s.acts ≡ false)
+  clear_parts : (n : Node) → stays c s n ≡ false → (list_any (λ f. stands_under s.nodes n.path f.adapter) s.flights ≡ false) × (list_any (λ a. not (is_over c a) && stands_under s.nodes n.path a.adapter) s.activations ≡ false)
   clear_parts n goes =
-      let parts = and_parts (not (list_any (λ f. stands_under s.nodes n.path f.adapter) s.flights)) (not (list_any (λ a. not (is_over c a) && stands_under s.nodes n.path a.adapter) s.acts)) (goes_clear n goes) in
+      let parts = and_parts (not (list_any (λ f. stands_under s.nodes n.path f.adapter) s.flights)) (not (list_any (λ a. not (is_over c a) && stands_under s.nodes n.path a.adapter) s.activations)) (goes_clear n goes) in
       (not_true _ parts.0, not_true _ parts.1)
 
   -- where no adapter of the number stands at an adapter's path or below it, the adapter has another number
@@ -97,18 +97,18 @@ module _ (c : Config) (s : Standing) where
       any_from (stays c s) (λ m. (m.number == f.adapter) && leads_to p m.path) k s.nodes
       (λ m is goes. is_other m f.adapter p is (none_by (λ g. stands_under s.nodes m.path g.adapter) f s.flights flies (clear_parts m goes).0))
 
-  act_under : (k : ℕ) (p : List (List ℕ)) (a : Act) → In a s.acts → not (is_over c a) ≡ true → stands_under (left k) p a.adapter ≡ stands_under s.nodes p a.adapter
-  act_under k p a lives more =
+  activation_under : (k : ℕ) (p : List (List ℕ)) (a : Activation) → In a s.activations → not (is_over c a) ≡ true → stands_under (left k) p a.adapter ≡ stands_under s.nodes p a.adapter
+  activation_under k p a lives more =
       any_from (stays c s) (λ m. (m.number == a.adapter) && leads_to p m.path) k s.nodes
       (λ m is goes. is_other m a.adapter p is
-      (second_false (not (is_over c a)) (stands_under s.nodes m.path a.adapter) (none_by (λ b. not (is_over c b) && stands_under s.nodes m.path b.adapter) a s.acts lives (clear_parts m goes).1) more))
+      (second_false (not (is_over c a)) (stands_under s.nodes m.path a.adapter) (none_by (λ b. not (is_over c b) && stands_under s.nodes m.path b.adapter) a s.activations lives (clear_parts m goes).1) more))
 
   clear_left : (k : ℕ) (p : List (List ℕ)) → is_clear c (record s { nodes = left k }) p ≡ is_clear c s p
   clear_left k p =
       ap₂ (λ x y. not x && not y)
       (any_alike (λ f. stands_under (left k) p f.adapter) (λ f. stands_under s.nodes p f.adapter) s.flights (flight_under k p))
-      (any_alike (λ a. not (is_over c a) && stands_under (left k) p a.adapter) (λ a. not (is_over c a) && stands_under s.nodes p a.adapter) s.acts
-      (λ a is. both_alike (not (is_over c a)) _ _ (act_under k p a is)))
+      (any_alike (λ a. not (is_over c a) && stands_under (left k) p a.adapter) (λ a. not (is_over c a) && stands_under s.nodes p a.adapter) s.activations
+      (λ a is. both_alike (not (is_over c a)) _ _ (activation_under k p a is)))
 
   -- so each that is left is asked as before
   pub stays_left : (k : ℕ) (n : Node) → stays c (record s { nodes = left k }) n ≡ stays c s n

@@ -14,16 +14,16 @@ use Rattle.poa_tree.specs.Nodes.{stands_under}
 use Rattle.poa_tree.specs.Paths.{is_root}
 use Rattle.poa_tree.specs.Trees.{In}
 use Rattle.poa_tree.proofs.Members.{in_kept, in_image, in_either}
-use Rattle.poa_history.specs.declared.act.Act.{Act}
-use Rattle.poa_history.specs.declared.act.Phase.{Phase}
-use Rattle.poa_history.specs.declared.act.Phase.TheVariants.{Begun}
+use Rattle.poa_history.specs.declared.activation.Activation.{Activation}
+use Rattle.poa_history.specs.declared.activation.Phase.{Phase}
+use Rattle.poa_history.specs.declared.activation.Phase.TheVariants.{Begun}
 use Rattle.poa_history.specs.declared.flight.Flight.{Flight}
 use Rattle.poa_history.specs.Arrivals.{call_of}
 use Rattle.poa_history.specs.Changes.{standing, changed, with_flight, with_admitted, with_command}
 use Rattle.poa_history.specs.Ends.{is_left, is_over, is_clear, let_out, settled}
 use Rattle.poa_history.specs.Keys.{key_in}
 use Rattle.poa_history.specs.Logs.{command_in}
-use Rattle.poa_history.specs.Opening.{with_act, opening}
+use Rattle.poa_history.specs.Opening.{with_activation, opening}
 use Rattle.poa_history.specs.Standings.{Standing, is_complete, is_void, is_used}
 use Rattle.poa_history.specs.Templates.{has_activator}
 use Rattle.poa_history.proofs.AloneKept.{all_open}
@@ -45,16 +45,16 @@ filter_still keeps (x ∷ xs) all =
 
 -- no activation is to leave the map, and no adapter is to go
 pub record IsSettled (c : Config) (s : Standing) : Type 0 where
-  pub acts_stay : (a : Act) → In a s.acts → let_out c s a ≡ a
+  pub activations_stay : (a : Activation) → In a s.activations → let_out c s a ≡ a
   pub nodes_stay : (n : Node) → In n s.nodes → stays c s n ≡ true
 
 pub settled_still : (c : Config) (s : Standing) → IsSettled c s → settled c s ≡ s
 settled_still c s is =
-    ap (λ acts. record s { acts = acts; nodes = filter (stays c (record s { acts = acts })) s.nodes }) (map_still (let_out c s) s.acts is.acts_stay)
+    ap (λ activations. record s { activations = activations; nodes = filter (stays c (record s { activations = activations })) s.nodes }) (map_still (let_out c s) s.activations is.activations_stay)
     ∙ ap (λ ns. record s { nodes = ns }) (filter_still (stays c s) s.nodes is.nodes_stay)
 
 -- an activation that left the map leaves it but once
-let_out_twice : (c : Config) (s : Standing) (a : Act) → let_out c s (let_out c s a) ≡ let_out c s a
+let_out_twice : (c : Config) (s : Standing) (a : Activation) → let_out c s (let_out c s a) ≡ let_out c s a
 let_out_twice c s a =
     cond_both (is_left c s a) (record a { out = true }) a (λ b. let_out c s b ≡ b)
     (λ is. ap (λ t. if t then record a { out = true } else record a { out = true }) is)
@@ -62,12 +62,12 @@ let_out_twice c s a =
 
 pub settling_settles : (c : Config) (s : Standing) → IsSettled c (settled c s)
 settling_settles c s = record {
-  acts_stay = λ a is. (let found = in_image (let_out c s) a s.acts is in ap (let_out c s) found.2 ∙ let_out_twice c s found.0 ∙ sym found.2);
-  nodes_stay = λ n is. stays_left c (record s { acts = map (let_out c s) s.acts }) 0 n ∙ (in_kept (stays c (record s { acts = map (let_out c s) s.acts })) n s.nodes is).1;
+  activations_stay = λ a is. (let found = in_image (let_out c s) a s.activations is in ap (let_out c s) found.2 ∙ let_out_twice c s found.0 ∙ sym found.2);
+  nodes_stay = λ n is. stays_left c (record s { activations = map (let_out c s) s.activations }) 0 n ∙ (in_kept (stays c (record s { activations = map (let_out c s) s.activations })) n s.nodes is).1;
 }
 
 -- what isn't ending doesn't leave, what isn't dying doesn't go
-not_ending : (c : Config) (s : Standing) (a : Act) → a.ending ≡ false → let_out c s a ≡ a
+not_ending : (c : Config) (s : Standing) (a : Activation) → a.ending ≡ false → let_out c s a ≡ a
 not_ending c s a quiet =
     ap (λ t. if not (has_activator c a.path) && (is_complete a && ((t && not (is_void a)) && not (is_used s.flights a.number))) then record a { out = true } else a) quiet
     ∙ none (not (has_activator c a.path)) (is_complete a)
@@ -79,7 +79,7 @@ not_ending c s a quiet =
 
 pub opening_settled : (c : Config) (run : ℕ) → IsSettled c (opening c run)
 opening_settled c run = record {
-  acts_stay = λ a is. not_ending c (opening c run) a (all_open c run a is).3;
+  activations_stay = λ a is. not_ending c (opening c run) a (all_open c run a is).3;
   nodes_stay = λ n is. or_second (is_root n.path) _ (ap (λ t. not (t && is_clear c (opening c run) n.path)) (opening_live c run n is));
 }
 
@@ -109,32 +109,32 @@ left_fewer false k e u x is = is
 module _ (c : Config) (s : Standing) (is : IsSettled c s) where
   pub more_flies : (f : Flight) → IsSettled c (with_flight f s)
   more_flies f = record {
-    acts_stay = λ a there. still_out a (is.acts_stay a there);
+    activations_stay = λ a there. still_out a (is.activations_stay a there);
     nodes_stay = λ n there. stays_more (is_root n.path) n.dying _ _ _ _ (λ some. list_any-append (λ g. stands_under s.nodes n.path g.adapter) s.flights (f ∷ []) ∙ or_first _ _ some) (λ some. some) (is.nodes_stay n there);
   }
     where
-      uses : Act → Flight → Bool
+      uses : Activation → Flight → Bool
       uses a g = elim g.activation [ Some m ↦ m == a.number | None ↦ false ]
 
-      was_left : (a : Act) → is_left c (with_flight f s) a ≡ true → is_left c s a ≡ true
+      was_left : (a : Activation) → is_left c (with_flight f s) a ≡ true → is_left c s a ≡ true
       was_left a left =
           left_fewer (not (has_activator c a.path)) (is_complete a) (a.ending && not (is_void a)) (is_used s.flights a.number) (uses a f || false)
           (ap (λ t. not (has_activator c a.path) && (is_complete a && ((a.ending && not (is_void a)) && not t))) (sym (list_any-append (uses a) s.flights (f ∷ []))) ∙ left)
 
-      still_out : (a : Act) → let_out c s a ≡ a → let_out c (with_flight f s) a ≡ a
+      still_out : (a : Activation) → let_out c s a ≡ a → let_out c (with_flight f s) a ≡ a
       still_out a out =
           cond_both (is_left c (with_flight f s) a) (record a { out = true }) a (λ b. b ≡ a)
           (λ left. sym (ap (λ t. if t then record a { out = true } else a) (was_left a left)) ∙ out)
           (λ _. refl)
 
-  pub more_lives : (k : ℕ) (p : List (List ℕ)) (oid : List ℕ) (phase : Phase) → IsSettled c (with_act k p oid phase s)
+  pub more_lives : (k : ℕ) (p : List (List ℕ)) (oid : List ℕ) (phase : Phase) → IsSettled c (with_activation k p oid phase s)
   more_lives k p oid phase = record {
-    acts_stay = λ a there. elim (in_either a fresh s.acts there) [ inl was ↦ is.acts_stay a was | inr made ↦ not_ending c (with_act k p oid phase s) a (ap (λ b. b.ending) made) ];
-    nodes_stay = λ n there. stays_more (is_root n.path) n.dying _ _ _ _ (λ some. some) (λ some. list_any-append (λ b. not (is_over c b) && stands_under s.nodes n.path b.adapter) s.acts (fresh ∷ []) ∙ or_first _ _ some) (is.nodes_stay n there);
+    activations_stay = λ a there. elim (in_either a fresh s.activations there) [ inl was ↦ is.activations_stay a was | inr made ↦ not_ending c (with_activation k p oid phase s) a (ap (λ b. b.ending) made) ];
+    nodes_stay = λ n there. stays_more (is_root n.path) n.dying _ _ _ _ (λ some. some) (λ some. list_any-append (λ b. not (is_over c b) && stands_under s.nodes n.path b.adapter) s.activations (fresh ∷ []) ∙ or_first _ _ some) (is.nodes_stay n there);
   }
     where
-      fresh : Act
-      fresh = record { number = length s.acts; adapter = k; path = p; oid = oid; phase = phase; ending = false; quiet = false; out = false; cleanup = false; remaining = false; etherealized = false }
+      fresh : Activation
+      fresh = record { number = length s.activations; adapter = k; path = p; oid = oid; phase = phase; ending = false; quiet = false; out = false; cleanup = false; remaining = false; etherealized = false }
 
 -- so what the Admit of a request begins lets nothing end
 admitted_settled : (c : Config) (s : Standing) → IsSettled c s → (r : ℕ) (key : Option Key) (v : Verdict) → IsSettled c (with_admitted r key v s)

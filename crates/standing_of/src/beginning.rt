@@ -5,7 +5,7 @@ ghost use Rattle.poa_history.specs.Opening as opens;
 ghost use Rattle.standing_queries.specs.Seen.{seen};
 
 use poa_base::{AdapterConf, Config, ObjectConf, Oid, Path, Sid, WantMemory};
-use poa_history::{Act, Phase};
+use poa_history::{Activation, Phase};
 use poa_tree::Node;
 use standing_queries::Standing;
 use standing_queries::commands::number_at;
@@ -36,10 +36,10 @@ pub fn begun(
     path: &Path,
     oid: &Oid,
     phase: Phase,
-) -> Result<Act, WantMemory>
-    ensures { IfOk result (λ act. act ≡ record { number = number; adapter = adapter; path = path.now; oid = oid.now; phase = phase; ending = false; quiet = false; out = false; cleanup = false; remaining = false; etherealized = false }) }
+) -> Result<Activation, WantMemory>
+    ensures { IfOk result (λ activation. activation ≡ record { number = number; adapter = adapter; path = path.now; oid = oid.now; phase = phase; ending = false; quiet = false; out = false; cleanup = false; remaining = false; etherealized = false }) }
 {
-    Ok(Act {
+    Ok(Activation {
         number: u32::try_from(number).map_err(|_| WantMemory)?,
         adapter,
         path: path.clone()?,
@@ -55,18 +55,18 @@ pub fn begun(
 }
 
 /// An activation is begun, and gets the next number.
-pub fn add_act(
+pub fn add_activation(
     standing: &mut Standing,
     adapter: u32,
     path: &Path,
     oid: &Oid,
     phase: Phase,
 ) -> Result<(), WantMemory>
-    ensures ok { OnOk result (seen standing.new ≡ opens.with_act adapter path.now oid.now phase (seen standing.old)) }
+    ensures ok { OnOk result (seen standing.new ≡ opens.with_activation adapter path.now oid.now phase (seen standing.old)) }
     ensures err { OnErr result (seen standing.new ≡ seen standing.old) }
 {
-    let act = begun(standing.acts.len(), adapter, path, oid, phase)?;
-    standing.acts.push(act)?;
+    let activation = begun(standing.activations.len(), adapter, path, oid, phase)?;
+    standing.activations.push(activation)?;
     Ok(())
 }
 
@@ -87,7 +87,7 @@ fn root_alone(alloc: Global) -> Result<Standing, WantMemory>
         count: 0,
         made: 0,
         flights: Vec::new(alloc),
-        acts: Vec::new(alloc),
+        activations: Vec::new(alloc),
     };
     add_node(&mut standing, &Path::root(alloc))?;
     Ok(standing)
@@ -127,11 +127,11 @@ fn add_object(
     let adapter = number_at(standing, object.adapter.as_slice());
     let phase = Phase::Complete(Sid::Named(object.servant));
     match &object.oid {
-        Some(oid) => add_act(standing, adapter, &object.adapter, oid, phase),
+        Some(oid) => add_activation(standing, adapter, &object.adapter, oid, phase),
         None => {
             add_made(standing)?;
             let oid = made_id(alloc, run, standing.made)?;
-            add_act(standing, adapter, &object.adapter, &oid, phase)
+            add_activation(standing, adapter, &object.adapter, &oid, phase)
         }
     }
 }

@@ -75,17 +75,17 @@ fn incarnated(
     match answer {
         Incarnation::Fresh(_) => {
             complete(
-                &mut standing.acts,
+                &mut standing.activations,
                 number,
                 Phase::Complete(Sid::Fresh(number)),
             );
         }
         Incarnation::Named(name) => {
             let phase = servant_of(config, name)?;
-            complete(&mut standing.acts, number, phase);
+            complete(&mut standing.activations, number, phase);
         }
         Incarnation::Double | Incarnation::Forward(_) | Incarnation::Raise(_) => {
-            complete(&mut standing.acts, number, Phase::Void);
+            complete(&mut standing.activations, number, Phase::Void);
             end_flight(standing, Some(arrival));
         }
     }
@@ -97,7 +97,7 @@ fn etherealized(stage: Stage, standing: &mut Standing)
     ensures { seen standing.new ≡ changes.with_etherealized stage (seen standing.old) }
 {
     if let Stage::Removing(number) = stage {
-        etherealize(&mut standing.acts, number);
+        etherealize(&mut standing.activations, number);
     }
 }
 
@@ -147,7 +147,7 @@ fn change(
         Entry::Tried { answer, .. } => tried(arrival_in(stage), *answer, standing)?,
         Entry::Incarnated { answer, .. } => incarnated(config, stage, answer, standing)?,
         Entry::Done { .. } => end_flight(standing, arrival_in(stage)),
-        Entry::TakeOut { activation, .. } => take_out(&mut standing.acts, *activation),
+        Entry::TakeOut { activation, .. } => take_out(&mut standing.activations, *activation),
         Entry::Etherealized { .. } => etherealized(stage, standing),
         _ => {}
     }

@@ -4,7 +4,7 @@ ghost use Rattle.poa_history.specs.Changes as changes;
 ghost use Rattle.poa_history.specs.Templates.{manager_number as number_of_manager};
 ghost use Rattle.standing_queries.specs.Seen.{seen};
 
-use crate::beginning::{add_act, add_node};
+use crate::beginning::{add_activation, add_node};
 use crate::ending::{deactivate, destroy, turn_off};
 use poa_base::{Command, Config, Name, Order, Path, Sid, WantMemory};
 use poa_history::Phase;
@@ -27,7 +27,7 @@ pub fn servant_of(config: &Config, name: &Name) -> Result<Phase, WantMemory>
 }
 
 /// The servant is active under a new system-made id.
-fn add_made_act(
+fn add_made_activation(
     alloc: Global,
     config: &Config,
     run: u32,
@@ -35,14 +35,14 @@ fn add_made_act(
     servant: &Name,
     standing: &mut Standing,
 ) -> Result<(), WantMemory>
-    ensures ok { OnOk result (seen standing.new ≡ changes.with_made_act config.now run path.now servant.now (seen standing.old)) }
+    ensures ok { OnOk result (seen standing.new ≡ changes.with_made_activation config.now run path.now servant.now (seen standing.old)) }
     ensures err { OnErr result (seen standing.new ≡ seen standing.old) }
 {
     let adapter = number_at(standing, path.as_slice());
     let ordinal = next(standing.made)?;
     let oid = made_id(alloc, run, ordinal)?;
     let phase = servant_of(config, servant)?;
-    add_act(standing, adapter, path, &oid, phase)?;
+    add_activation(standing, adapter, path, &oid, phase)?;
     standing.made = ordinal;
     Ok(())
 }
@@ -55,7 +55,7 @@ fn is_made_for(
     servant: &Name,
 ) -> Result<bool, WantMemory>
     ensures { IfOk result (λ made. (run : ℕ) → changes.with_reference config.now run path.now servant.now (seen standing.now)
-        ≡ (if made then changes.with_made_act config.now run path.now servant.now (seen standing.now) else seen standing.now)) }
+        ≡ (if made then changes.with_made_activation config.now run path.now servant.now (seen standing.now) else seen standing.now)) }
 {
     let Some(node) = live_at(standing, path.as_slice()) else {
         return Ok(false);
@@ -78,7 +78,7 @@ fn add_reference(
     ensures err { OnErr result (seen standing.new ≡ seen standing.old) }
 {
     if is_made_for(config, standing, path, servant)? {
-        add_made_act(alloc, config, run, path, servant, standing)?;
+        add_made_activation(alloc, config, run, path, servant, standing)?;
     }
     Ok(())
 }
@@ -88,7 +88,7 @@ fn off(config: &Config, manager: &Name, standing: &mut Standing)
     ensures { seen standing.new ≡ elim (number_of_manager config.now manager.now) [ Some m ↦ changes.with_manager_off config.now m (seen standing.old) | None ↦ seen standing.old ] }
 {
     if let Some(number) = manager_number(config, manager) {
-        turn_off(config, &mut standing.acts, number);
+        turn_off(config, &mut standing.activations, number);
     }
 }
 
@@ -121,16 +121,16 @@ pub fn command(
             ..
         } => destroy(standing, path.as_slice(), *etherealize),
         Command::Activate { path, servant } => {
-            add_made_act(alloc, config, run, path, servant, standing)?
+            add_made_activation(alloc, config, run, path, servant, standing)?
         }
         Command::ActivateId { path, oid, servant } => {
             let adapter = number_at(standing, path.as_slice());
             let phase = servant_of(config, servant)?;
-            add_act(standing, adapter, path, oid, phase)?;
+            add_activation(standing, adapter, path, oid, phase)?;
         }
         Command::Deactivate { path, oid } => {
             let adapter = number_at(standing, path.as_slice());
-            deactivate(&mut standing.acts, adapter, oid);
+            deactivate(&mut standing.activations, adapter, oid);
         }
         Command::Reference { path, servant } => {
             add_reference(alloc, config, run, path, servant, standing)?

@@ -8,20 +8,20 @@ ghost use Rattle.poa_history.specs.Templates as configured;
 ghost use Rattle.standing_queries.specs.Seen.{seen};
 
 use poa_base::{Config, Name, Oid};
-use poa_history::Act;
+use poa_history::Activation;
 use poa_tree::Node;
 use standing_queries::Standing;
-use standing_queries::acts::is_of;
+use standing_queries::activations::is_of;
 use standing_queries::nodes::{leads_to, stands_under};
 use standing_queries::templates::{has_activator, manager_at};
 
 /// The activation is ending, by a destroy or so that its servant is etherealized.
-fn end_by_destroy(act: &mut Act, etherealize: bool)
-    ensures { act.new ≡ changes.ended_by_destroy etherealize act.old }
+fn end_by_destroy(activation: &mut Activation, etherealize: bool)
+    ensures { activation.new ≡ changes.ended_by_destroy etherealize activation.old }
 {
-    act.quiet = act.quiet || (!act.ending && !etherealize);
-    act.cleanup = act.cleanup || (etherealize && !act.out);
-    act.ending = true;
+    activation.quiet = activation.quiet || (!activation.ending && !etherealize);
+    activation.cleanup = activation.cleanup || (etherealize && !activation.out);
+    activation.ending = true;
 }
 
 /// The adapter is being destroyed, if it is that of the path or below it.
@@ -44,21 +44,26 @@ fn mark(nodes: &mut Vec<Node>, path: &[Name])
 }
 
 /// An activation is ending where its adapter stands at the path or below it.
-fn end_under(nodes: &[Node], path: &[Name], etherealize: bool, act: &mut Act)
-    ensures { act.new ≡ (if tree.stands_under nodes.now path.now act.old.adapter then changes.ended_by_destroy etherealize act.old else act.old) }
+fn end_under(nodes: &[Node], path: &[Name], etherealize: bool, activation: &mut Activation)
+    ensures { activation.new ≡ (if tree.stands_under nodes.now path.now activation.old.adapter then changes.ended_by_destroy etherealize activation.old else activation.old) }
 {
-    if stands_under(nodes, path, act.adapter) {
-        end_by_destroy(act, etherealize);
+    if stands_under(nodes, path, activation.adapter) {
+        end_by_destroy(activation, etherealize);
     }
 }
 
 /// The activations of the adapters that stand at the path or below it are ending.
 #[tactic(auto, using(crate::proofs::InPlace::mapped_one))]
-fn end_all_under(nodes: &[Node], path: &[Name], etherealize: bool, acts: &mut Vec<Act>)
-    ensures { acts.new.items ≡ map (λ a. if tree.stands_under nodes.now path.now a.adapter then changes.ended_by_destroy etherealize a else a) acts.old.items }
+fn end_all_under(
+    nodes: &[Node],
+    path: &[Name],
+    etherealize: bool,
+    activations: &mut Vec<Activation>,
+)
+    ensures { activations.new.items ≡ map (λ a. if tree.stands_under nodes.now path.now a.adapter then changes.ended_by_destroy etherealize a else a) activations.old.items }
 {
-    for act in acts.iter_mut() {
-        end_under(nodes, path, etherealize, act);
+    for activation in activations.iter_mut() {
+        end_under(nodes, path, etherealize, activation);
     }
 }
 
@@ -66,52 +71,57 @@ fn end_all_under(nodes: &[Node], path: &[Name], etherealize: bool, acts: &mut Ve
 pub fn destroy(standing: &mut Standing, path: &[Name], etherealize: bool)
     ensures { seen standing.new ≡ changes.with_destroyed path.now etherealize (seen standing.old) }
 {
-    end_all_under(&standing.nodes, path, etherealize, &mut standing.acts);
+    end_all_under(
+        &standing.nodes,
+        path,
+        etherealize,
+        &mut standing.activations,
+    );
     mark(&mut standing.nodes, path);
 }
 
 /// Whether the activation is one of the manager's, with a servant activator.
-fn is_activators(config: &Config, manager: usize, act: &Act) -> bool
-    ensures { result ≡ configured.has_activator config.now act.now.path && (configured.manager_at config.now act.now.path == manager) }
+fn is_activators(config: &Config, manager: usize, activation: &Activation) -> bool
+    ensures { result ≡ configured.has_activator config.now activation.now.path && (configured.manager_at config.now activation.now.path == manager) }
 {
-    let path = act.path.as_slice();
+    let path = activation.path.as_slice();
     has_activator(config, path) && manager_at(config, path) as usize == manager
 }
 
 /// An activation is ending where it is one of the manager's, with a servant activator.
-fn end_activators(config: &Config, manager: usize, act: &mut Act)
-    ensures { act.new ≡ (if configured.has_activator config.now act.old.path && (configured.manager_at config.now act.old.path == manager) then changes.ended_by_destroy true act.old else act.old) }
+fn end_activators(config: &Config, manager: usize, activation: &mut Activation)
+    ensures { activation.new ≡ (if configured.has_activator config.now activation.old.path && (configured.manager_at config.now activation.old.path == manager) then changes.ended_by_destroy true activation.old else activation.old) }
 {
-    if is_activators(config, manager, act) {
-        end_by_destroy(act, true);
+    if is_activators(config, manager, activation) {
+        end_by_destroy(activation, true);
     }
 }
 
 /// The manager's activations that have a servant activator are ending.
 #[tactic(auto, using(crate::proofs::InPlace::mapped_one))]
-pub fn turn_off(config: &Config, acts: &mut Vec<Act>, manager: usize)
-    ensures { acts.new.items ≡ map (λ a. if configured.has_activator config.now a.path && (configured.manager_at config.now a.path == manager) then changes.ended_by_destroy true a else a) acts.old.items }
+pub fn turn_off(config: &Config, activations: &mut Vec<Activation>, manager: usize)
+    ensures { activations.new.items ≡ map (λ a. if configured.has_activator config.now a.path && (configured.manager_at config.now a.path == manager) then changes.ended_by_destroy true a else a) activations.old.items }
 {
-    for act in acts.iter_mut() {
-        end_activators(config, manager, act);
+    for activation in activations.iter_mut() {
+        end_activators(config, manager, activation);
     }
 }
 
 /// An activation is ending where it is of the id.
-fn end_of_id(adapter: u32, oid: &Oid, act: &mut Act)
-    ensures { act.new ≡ (if stands.is_of adapter oid.now act.old then record act.old { ending = true } else act.old) }
+fn end_of_id(adapter: u32, oid: &Oid, activation: &mut Activation)
+    ensures { activation.new ≡ (if stands.is_of adapter oid.now activation.old then record activation.old { ending = true } else activation.old) }
 {
-    if is_of(adapter, oid, act) {
-        act.ending = true;
+    if is_of(adapter, oid, activation) {
+        activation.ending = true;
     }
 }
 
 /// The activations of the id are ending.
 #[tactic(auto, using(crate::proofs::InPlace::mapped_one))]
-pub fn deactivate(acts: &mut Vec<Act>, adapter: u32, oid: &Oid)
-    ensures { acts.new.items ≡ map (λ a. if stands.is_of adapter oid.now a then record a { ending = true } else a) acts.old.items }
+pub fn deactivate(activations: &mut Vec<Activation>, adapter: u32, oid: &Oid)
+    ensures { activations.new.items ≡ map (λ a. if stands.is_of adapter oid.now a then record a { ending = true } else a) activations.old.items }
 {
-    for act in acts.iter_mut() {
-        end_of_id(adapter, oid, act);
+    for activation in activations.iter_mut() {
+        end_of_id(adapter, oid, activation);
     }
 }

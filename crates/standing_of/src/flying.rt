@@ -71,22 +71,22 @@ fn add_incarnation(
     ensures err { OnErr result (seen standing.new ≡ seen standing.old) }
 {
     let adapter = adapter_met(walk(alloc, &standing.nodes, key.path.as_slice())?);
-    let act = begun(
-        standing.acts.len(),
+    let activation = begun(
+        standing.activations.len(),
         adapter,
         &key.path,
         &key.oid,
         Phase::Begun,
     )?;
     standing.flights.reserve(1)?;
-    standing.acts.reserve(1)?;
+    standing.activations.reserve(1)?;
     standing.flights.push_reserved(Flight {
         arrival,
         adapter,
-        activation: Some(act.number),
+        activation: Some(activation.number),
         child: None,
     });
-    standing.acts.push_reserved(act);
+    standing.activations.push_reserved(activation);
     Ok(())
 }
 

@@ -5,41 +5,41 @@ ghost use Rattle.poa_history.specs.Standings.{Standing as Stood};
 ghost use Rattle.standing_queries.specs.Seen.{seen};
 
 use poa_base::Config;
-use poa_history::{Act, Flight};
+use poa_history::{Activation, Flight};
 use standing_queries::Standing;
-use standing_queries::acts::is_complete;
+use standing_queries::activations::is_complete;
 use standing_queries::ends::stays;
 use standing_queries::flights::is_used;
 use standing_queries::templates::has_activator;
 
 /// Whether an activation is still to leave the map: it is ending, has its servant and no servant activator, and
 /// nothing is in flight in it.
-fn is_to_leave(config: &Config, flights: &[Flight], act: &Act) -> bool
-    ensures { (s : Stood) → s.flights ≡ flights.now → ends.let_out config.now s act.now ≡ (if result then record act.now { out = true } else act.now) }
+fn is_to_leave(config: &Config, flights: &[Flight], activation: &Activation) -> bool
+    ensures { (s : Stood) → s.flights ≡ flights.now → ends.let_out config.now s activation.now ≡ (if result then record activation.now { out = true } else activation.now) }
 {
-    act.ending
-        && !act.out
-        && is_complete(act)
-        && !has_activator(config, act.path.as_slice())
-        && !is_used(flights, act.number)
+    activation.ending
+        && !activation.out
+        && is_complete(activation)
+        && !has_activator(config, activation.path.as_slice())
+        && !is_used(flights, activation.number)
 }
 
 /// The activation leaves the map where that is due.
-fn let_out(config: &Config, flights: &[Flight], act: &mut Act)
-    ensures { (s : Stood) → s.flights ≡ flights.now → act.new ≡ ends.let_out config.now s act.old }
+fn let_out(config: &Config, flights: &[Flight], activation: &mut Activation)
+    ensures { (s : Stood) → s.flights ≡ flights.now → activation.new ≡ ends.let_out config.now s activation.old }
 {
-    if is_to_leave(config, flights, act) {
-        act.out = true;
+    if is_to_leave(config, flights, activation) {
+        activation.out = true;
     }
 }
 
 /// The activations that are to leave the map do.
 #[tactic(auto, using(crate::proofs::InPlace::mapped_one))]
-fn let_all_out(config: &Config, flights: &[Flight], acts: &mut Vec<Act>)
-    ensures { (s : Stood) → s.flights ≡ flights.now → acts.new.items ≡ map (ends.let_out config.now s) acts.old.items }
+fn let_all_out(config: &Config, flights: &[Flight], activations: &mut Vec<Activation>)
+    ensures { (s : Stood) → s.flights ≡ flights.now → activations.new.items ≡ map (ends.let_out config.now s) activations.old.items }
 {
-    for act in acts.iter_mut() {
-        let_out(config, flights, act);
+    for activation in activations.iter_mut() {
+        let_out(config, flights, activation);
     }
 }
 
@@ -59,6 +59,6 @@ fn drop_gone(config: &Config, standing: &mut Standing)
 pub fn settle(config: &Config, standing: &mut Standing)
     ensures { seen standing.new ≡ ends.settled config.now (seen standing.old) }
 {
-    let_all_out(config, &standing.flights, &mut standing.acts);
+    let_all_out(config, &standing.flights, &mut standing.activations);
     drop_gone(config, standing);
 }

@@ -82,8 +82,8 @@ fn an_adapter_that_is_destroyed_goes_with_its_activations(rt: HostRuntime) -> Re
         &mut standing,
     )?;
     assert_eq!(rt; standing.made, 1);
-    assert_eq!(rt; standing.acts.len(), 1);
-    assert_eq!(rt; standing.acts[0].out, false);
+    assert_eq!(rt; standing.activations.len(), 1);
+    assert_eq!(rt; standing.activations[0].out, false);
     order(
         alloc,
         &config,
@@ -96,7 +96,7 @@ fn an_adapter_that_is_destroyed_goes_with_its_activations(rt: HostRuntime) -> Re
     )?;
     assert_eq!(rt; standing.nodes.len(), 1);
     assert_eq!(rt; standing.count, 2);
-    assert_eq!(rt; standing.acts.len(), 1);
-    assert_eq!(rt; standing.acts[0].out, true);
+    assert_eq!(rt; standing.activations.len(), 1);
+    assert_eq!(rt; standing.activations[0].out, true);
     Ok(())
 }

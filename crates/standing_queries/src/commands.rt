@@ -8,13 +8,13 @@ ghost use Rattle.poa_history.specs.Opening as opens;
 ghost use Rattle.poa_history.specs.Standings as stands;
 ghost use Rattle.standing_queries.specs.Seen.{seen};
 
-use crate::acts::{has_servant, is_mapped};
+use crate::activations::{has_servant, is_mapped};
 use crate::calls::call_of;
 use crate::nodes::node_at;
 use crate::standing::Standing;
 use crate::templates::{activates_implicitly, is_unique, policies_at, retains};
 use poa_base::{Answer, Call, Command, Config, Entry, Name, Sid, Verdict};
-use poa_history::Act;
+use poa_history::Activation;
 use poa_tree::Node;
 
 /// Whether the command was done.
@@ -84,17 +84,20 @@ pub fn number_at(standing: &Standing, path: &[Name]) -> u32
 }
 
 /// Whether the servant is in the map of the adapter by this activation.
-fn is_by(adapter: u32, servant: u32, act: &Act) -> bool
-    ensures { result ≡ (act.now.adapter == adapter) && (stands.is_mapped act.now && stands.has_servant (Named servant) act.now) }
+fn is_by(adapter: u32, servant: u32, activation: &Activation) -> bool
+    ensures { result ≡ (activation.now.adapter == adapter) && (stands.is_mapped activation.now && stands.has_servant (Named servant) activation.now) }
 {
-    act.adapter == adapter && (is_mapped(act) && has_servant(Sid::Named(servant), act))
+    activation.adapter == adapter
+        && (is_mapped(activation) && has_servant(Sid::Named(servant), activation))
 }
 
 /// The activation by which the servant is in the map of the adapter.
-fn mapped<'a>(acts: &'a [Act], adapter: u32, servant: u32) -> Option<&'a Act>
-    ensures { option_copied result ≡ find (λ a. (a.adapter == adapter) && (stands.is_mapped a && stands.has_servant (Named servant) a)) acts.now }
+fn mapped<'a>(activations: &'a [Activation], adapter: u32, servant: u32) -> Option<&'a Activation>
+    ensures { option_copied result ≡ find (λ a. (a.adapter == adapter) && (stands.is_mapped a && stands.has_servant (Named servant) a)) activations.now }
 {
-    acts.iter().find(|act| is_by(adapter, servant, act))
+    activations
+        .iter()
+        .find(|activation| is_by(adapter, servant, activation))
 }
 
 /// The activation by which a servant has its one reference.
@@ -103,12 +106,12 @@ pub fn referred<'a>(
     standing: &'a Standing,
     node: &Node,
     servant: u32,
-) -> Option<&'a Act>
+) -> Option<&'a Activation>
     ensures { option_copied result ≡ rows.referred config.now (seen standing.now) node.now servant }
 {
     let policies = policies_at(config, node.path.as_slice());
     if retains(policies) && is_unique(policies) {
-        mapped(&standing.acts, node.number, servant)
+        mapped(&standing.activations, node.number, servant)
     } else {
         None
     }

@@ -6,26 +6,29 @@ ghost use Rattle.poa_tree.specs.Paths.{is_root};
 ghost use Rattle.poa_history.specs.Ends as ends;
 ghost use Rattle.standing_queries.specs.Seen.{seen};
 
-use crate::acts::is_void;
+use crate::activations::is_void;
 use crate::nodes;
 use crate::standing::Standing;
 use crate::templates::has_activator;
 use poa_base::{Config, Name};
-use poa_history::Act;
+use poa_history::Activation;
 use poa_tree::Node;
 
 /// Whether it is out of the map, and etherealized where that is due.
-pub fn is_finished(config: &Config, act: &Act) -> bool
-    ensures { result ≡ ends.is_finished config.now act.now }
+pub fn is_finished(config: &Config, activation: &Activation) -> bool
+    ensures { result ≡ ends.is_finished config.now activation.now }
 {
-    act.out && (act.quiet || act.etherealized || !has_activator(config, act.path.as_slice()))
+    activation.out
+        && (activation.quiet
+            || activation.etherealized
+            || !has_activator(config, activation.path.as_slice()))
 }
 
 /// Whether it holds its id no longer.
-pub fn is_over(config: &Config, act: &Act) -> bool
-    ensures { result ≡ ends.is_over config.now act.now }
+pub fn is_over(config: &Config, activation: &Activation) -> bool
+    ensures { result ≡ ends.is_over config.now activation.now }
 {
-    is_void(act) || is_finished(config, act)
+    is_void(activation) || is_finished(config, activation)
 }
 
 /// Whether something is in flight at the path or below it.
@@ -36,20 +39,22 @@ fn is_flown_under(standing: &Standing, path: &[Name]) -> bool
 }
 
 /// Whether the activation isn't over and is of an adapter at the path or below it.
-fn lives_under(config: &Config, nodes: &[Node], path: &[Name], act: &Act) -> bool
-    ensures { result ≡ not (ends.is_over config.now act.now) && stands_under nodes.now path.now act.now.adapter }
+fn lives_under(config: &Config, nodes: &[Node], path: &[Name], activation: &Activation) -> bool
+    ensures { result ≡ not (ends.is_over config.now activation.now) && stands_under nodes.now path.now activation.now.adapter }
 {
-    !is_over(config, act) && nodes::stands_under(nodes, path, act.adapter)
+    !is_over(config, activation) && nodes::stands_under(nodes, path, activation.adapter)
 }
 
 /// Whether an activation at the path or below it isn't over.
 fn is_lived_under(config: &Config, standing: &Standing, path: &[Name]) -> bool
-    ensures { result ≡ list_any (λ a. not (ends.is_over config.now a) && stands_under standing.now.nodes.items path.now a.adapter) standing.now.acts.items }
+    ensures { result ≡ list_any (λ a. not (ends.is_over config.now a) && stands_under standing.now.nodes.items path.now a.adapter) standing.now.activations.items }
 {
-    standing
-        .acts
-        .iter()
-        .any(|act| lives_under(config, &standing.nodes, path, act))
+    standing.activations.iter().any(|activation| lives_under(
+        config,
+        &standing.nodes,
+        path,
+        activation,
+    ))
 }
 
 /// Whether an adapter is being destroyed, with nothing left to end in it or below it.

@@ -3,7 +3,7 @@
 //! Each function is plain: it asks the whole list again and keeps no table.
 #![tactic(auto)]
 
-pub mod acts;
+pub mod activations;
 pub mod calls;
 pub mod commands;
 pub mod ends;

@@ -10,7 +10,7 @@ use crate::ends::is_over;
 use crate::standing::Standing;
 use crate::templates::{has_activator, manager_at};
 use poa_base::Config;
-use poa_history::Act;
+use poa_history::Activation;
 use poa_tree::Node;
 
 /// Whether it is the adapter of this number, and one of the manager's.
@@ -51,12 +51,12 @@ pub fn is_quiet(config: &Config, standing: &Standing, manager: u32) -> bool
 }
 
 /// Whether an activation is over, or none that a deactivation of the manager ends.
-fn is_ended(config: &Config, manager: u32, begun: usize, act: &Act) -> bool
-    ensures { result ≡ ends.is_over config.now act.now || (not (nat_lt act.now.number begun) || not (configured.has_activator config.now act.now.path && (configured.manager_at config.now act.now.path == manager))) }
+fn is_ended(config: &Config, manager: u32, begun: usize, activation: &Activation) -> bool
+    ensures { result ≡ ends.is_over config.now activation.now || (not (nat_lt activation.now.number begun) || not (configured.has_activator config.now activation.now.path && (configured.manager_at config.now activation.now.path == manager))) }
 {
-    let path = act.path.as_slice();
-    is_over(config, act)
-        || (act.number as usize >= begun
+    let path = activation.path.as_slice();
+    is_over(config, activation)
+        || (activation.number as usize >= begun
             || !(has_activator(config, path) && manager_at(config, path) == manager))
 }
 
@@ -65,7 +65,7 @@ pub fn are_ended(config: &Config, standing: &Standing, manager: u32, begun: usiz
     ensures { result ≡ settling.are_ended config.now (seen standing.now) manager begun }
 {
     standing
-        .acts
+        .activations
         .iter()
-        .all(|act| is_ended(config, manager, begun, act))
+        .all(|activation| is_ended(config, manager, begun, activation))
 }

@@ -1,5 +1,5 @@
 //! What stands after a history.
-use poa_history::{Act, Flight};
+use poa_history::{Activation, Flight};
 use poa_tree::Node;
 
 /// What stands after a history.
@@ -14,5 +14,5 @@ pub struct Standing {
     /// The requests and trials in flight.
     pub flights: Vec<Flight>,
     /// The activations, in the order in which they were begun.
-    pub acts: Vec<Act>,
+    pub activations: Vec<Activation>,
 }

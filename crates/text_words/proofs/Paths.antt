@@ -7,7 +7,7 @@ use Rattle.text_words.specs.Cuts.{parts_of}
 use Rattle.text_words.specs.Chain.{◌>>=◌}
 use Rattle.text_words.specs.Path.{below_root, path_text, all_names_of, names_behind, path_names_of}
 use Rattle.text_words.specs.declared.fault.WordFault.{WordFault}
-use Rattle.text_words.specs.Gives.{Gives}
+use Rattle.text_words.specs.WordGives.{WordGives}
 use Rattle.text_words.proofs.Joining.{behind_each, together}
 use Rattle.text_words.proofs.ReadBack.{below_root_each}
 
@@ -44,6 +44,6 @@ names_path_spelled [] ns h = absurd (none-some ns h)
 names_path_spelled (c ∷ cs) ns h = path_spelled_by c cs ns (c == 47) (eqb-true c 47) h
 
 -- the same of what a reader of paths answers
-pub path_given : (w : List ℕ) (r : Result (List (List ℕ)) WordFault) → Gives r (path_names_of w) → IfOk r (λ ns. w ≡ path_text ns)
+pub path_given : (w : List ℕ) (r : Result (List (List ℕ)) WordFault) → WordGives r (path_names_of w) → IfOk r (λ ns. w ≡ path_text ns)
 path_given w (Ok ns) h = names_path_spelled w ns h
 path_given w (Err e) h = tt

@@ -8,4 +8,4 @@ pub mod Identity
 pub mod Keyword
 pub mod Token
 pub mod Parts
-pub mod Gives
+pub mod WordGives

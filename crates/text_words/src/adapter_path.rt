@@ -1,5 +1,5 @@
 ghost use Rattle.std.specs.Prelude.{◌≡◌, IfOk, map};
-ghost use Rattle.text_words.specs.Gives.{Gives};
+ghost use Rattle.text_words.specs.WordGives.{WordGives};
 ghost use Rattle.text_words.specs.Token.{Token, spell};
 ghost use Rattle.text_words.specs.Path.{all_names_of, below_root, few_enough, path_names_of, path_of};
 
@@ -11,7 +11,7 @@ use std::alloc::{AllocError, Global};
 
 /// The path that `word` writes: `/`, or at most 16 names each of which stands behind a `/`.
 pub fn path(alloc: Global, word: &[u8]) -> Result<Path, WordFault>
-    ensures value { Gives result (path_of word.now) }
+    ensures value { WordGives result (path_of word.now) }
     ensures text { IfOk result (λ path. word.now ≡ spell (Token.path path)) }
 {
     few(path_names(alloc, word)?)
@@ -19,14 +19,14 @@ pub fn path(alloc: Global, word: &[u8]) -> Result<Path, WordFault>
 
 /// The names of the path that `word` writes, of which there may be more than a path has.
 pub fn path_names(alloc: Global, word: &[u8]) -> Result<Items<Name>, WordFault>
-    ensures value { Gives result (path_names_of word.now) }
+    ensures value { WordGives result (path_names_of word.now) }
     ensures text { IfOk result (λ names. word.now ≡ spell (Token.path names)) }
 {
     read_names(alloc, word)
 }
 
 fn read_names(alloc: Global, word: &[u8]) -> Result<Items<Name>, WordFault>
-    ensures { Gives result (path_names_of word.now) }
+    ensures { WordGives result (path_names_of word.now) }
 {
     match word {
         [b'/'] => Ok(Items::new(alloc)),
@@ -39,7 +39,7 @@ fn read_names(alloc: Global, word: &[u8]) -> Result<Items<Name>, WordFault>
 }
 
 fn all_names(alloc: Global, parts: &[&[u8]]) -> Result<Items<Name>, WordFault>
-    ensures { Gives result (all_names_of (map (λ x. x.now) parts.now)) }
+    ensures { WordGives result (all_names_of (map (λ x. x.now) parts.now)) }
 {
     let mut names = Vec::new(alloc);
     for part in parts {
@@ -50,7 +50,7 @@ fn all_names(alloc: Global, parts: &[&[u8]]) -> Result<Items<Name>, WordFault>
 }
 
 fn few(names: Items<Name>) -> Result<Path, WordFault>
-    ensures value { Gives result (few_enough names) }
+    ensures value { WordGives result (few_enough names) }
     ensures same { IfOk result (λ path. path ≡ names) }
 {
     Path::from_vec(names.into_vec()).ok_or(WordFault::OutOfForm)

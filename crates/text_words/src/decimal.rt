@@ -1,6 +1,6 @@
 ghost use Rattle.std.specs.Prelude.{◌≡◌, ◌+◌, ◌*◌, ◌-◌, ◌<◌, ◌≤◌, ◌^◌, ◌∷◌, decimal, IfOk, IfSome};
 ghost use Rattle.std.specs.Option.{SomeIff};
-ghost use Rattle.text_words.specs.Gives.{Gives};
+ghost use Rattle.text_words.specs.WordGives.{WordGives};
 ghost use Rattle.text_words.specs.Number.{negated, number_of, port_of, signed_of};
 ghost use Rattle.text_words.specs.Token.{spell, number as number_token, port as port_token, signed as signed_token};
 
@@ -35,7 +35,7 @@ fn number_within(word: &[u8], most: u64) -> Option<u64>
 
 /// The number below 2^64 that `word` writes: decimal digits with no sign and no leading zero.
 pub fn number64(word: &[u8]) -> Result<u64, WordFault>
-    ensures value { Gives result (number_of (2 ^ 64) word.now) }
+    ensures value { WordGives result (number_of (2 ^ 64) word.now) }
     ensures text { IfOk result (λ n. word.now ≡ spell (number_token (2 ^ 64) n)) }
 {
     number_within(word, u64::MAX).ok_or(WordFault::OutOfForm)
@@ -43,7 +43,7 @@ pub fn number64(word: &[u8]) -> Result<u64, WordFault>
 
 /// The number below 2^32, written as for `number64`.
 pub fn number32(word: &[u8]) -> Result<u32, WordFault>
-    ensures value { Gives result (number_of (2 ^ 32) word.now) }
+    ensures value { WordGives result (number_of (2 ^ 32) word.now) }
     ensures text { IfOk result (λ n. word.now ≡ spell (number_token (2 ^ 32) n)) }
 {
     let n = number_within(word, u64::from(u32::MAX)).ok_or(WordFault::OutOfForm)?;
@@ -52,7 +52,7 @@ pub fn number32(word: &[u8]) -> Result<u32, WordFault>
 
 /// The number below 2^16, written as for `number64`.
 pub fn number16(word: &[u8]) -> Result<u16, WordFault>
-    ensures value { Gives result (number_of (2 ^ 16) word.now) }
+    ensures value { WordGives result (number_of (2 ^ 16) word.now) }
     ensures text { IfOk result (λ n. word.now ≡ spell (number_token (2 ^ 16) n)) }
 {
     let n = number_within(word, u64::from(u16::MAX)).ok_or(WordFault::OutOfForm)?;
@@ -61,7 +61,7 @@ pub fn number16(word: &[u8]) -> Result<u16, WordFault>
 
 /// The number below 256, written as for `number64`.
 pub fn number8(word: &[u8]) -> Result<u8, WordFault>
-    ensures value { Gives result (number_of 256 word.now) }
+    ensures value { WordGives result (number_of 256 word.now) }
     ensures text { IfOk result (λ n. word.now ≡ spell (number_token 256 n)) }
 {
     let n = number_within(word, u64::from(u8::MAX)).ok_or(WordFault::OutOfForm)?;
@@ -70,7 +70,7 @@ pub fn number8(word: &[u8]) -> Result<u8, WordFault>
 
 /// The port from 1 to 65535 that `word` writes, as for `number64`.
 pub fn port(word: &[u8]) -> Result<u16, WordFault>
-    ensures value { Gives result (port_of word.now) }
+    ensures value { WordGives result (port_of word.now) }
     ensures text { IfOk result (λ n. word.now ≡ spell (port_token n)) }
 {
     let n = number16(word)?;
@@ -83,7 +83,7 @@ pub fn port(word: &[u8]) -> Result<u16, WordFault>
 
 /// The 64-bit number with a sign that `word` writes: digits as for `number64`, behind a `-` where it is below 0.
 pub fn signed(word: &[u8]) -> Result<i64, WordFault>
-    ensures value { Gives result (signed_of word.now) }
+    ensures value { WordGives result (signed_of word.now) }
     ensures text { IfOk result (λ n. word.now ≡ spell (signed_token n)) }
 {
     match word {
@@ -98,7 +98,7 @@ pub fn signed(word: &[u8]) -> Result<i64, WordFault>
 
 // The number below 0 whose size the digits write.
 fn negative(digits: &[u8]) -> Result<i64, WordFault>
-    ensures value { Gives result (negated (number_of (2 ^ 63 + 1) digits.now)) }
+    ensures value { WordGives result (negated (number_of (2 ^ 63 + 1) digits.now)) }
     ensures text { IfOk result (λ n. 45 ∷ digits.now ≡ spell (signed_token n)) }
 {
     let size = number_within(digits, 1 << 63).ok_or(WordFault::OutOfForm)?;

@@ -1,7 +1,7 @@
 ghost use Rattle.std.specs.Prelude.{◌≡◌, ◌++◌, IfOk, IfSome};
 ghost use Rattle.std.specs.List.{list_all};
 ghost use Rattle.std.specs.Option.{option_copied};
-ghost use Rattle.text_words.specs.Gives.{Gives};
+ghost use Rattle.text_words.specs.WordGives.{WordGives};
 ghost use Rattle.hex.specs.Hex.{encode_lower};
 ghost use Rattle.text_words.specs.Token.{Token, spell};
 ghost use Rattle.text_words.specs.Hexadecimal.{any_hex_of, behind, hex_of, is_lower_digit, is_lower_hex, is_reference as is_reference_of, minor_of, prefixed_of, reference_of};
@@ -21,7 +21,7 @@ pub(crate) fn text_behind<'a>(word: &'a [u8], prefix: &[u8]) -> Option<&'a [u8]>
 
 /// The bytes of hexadecimal digits in either case.
 pub fn any_hex(alloc: Global, text: &[u8]) -> Result<Bytes, WordFault>
-    ensures { Gives result (any_hex_of text.now) }
+    ensures { WordGives result (any_hex_of text.now) }
 {
     match hex::decode(alloc, text) {
         Ok(bytes) => Ok(Bytes::from_vec(bytes)),
@@ -32,7 +32,7 @@ pub fn any_hex(alloc: Global, text: &[u8]) -> Result<Bytes, WordFault>
 
 // The bytes of lower-case hexadecimal digits.
 fn lower_hex(alloc: Global, text: &[u8]) -> Result<Bytes, WordFault>
-    ensures value { Gives result (hex_of text.now) }
+    ensures value { WordGives result (hex_of text.now) }
     ensures text { IfOk result (λ bytes. text.now ≡ encode_lower bytes) }
 {
     let bytes = any_hex(alloc, text)?;
@@ -46,7 +46,7 @@ fn lower_hex(alloc: Global, text: &[u8]) -> Result<Bytes, WordFault>
 
 /// The bytes of a word that is `prefix`, as `h:`, and two lower-case hexadecimal digits a byte.
 pub fn octets(alloc: Global, prefix: &[u8], word: &[u8]) -> Result<Bytes, WordFault>
-    ensures value { Gives result (prefixed_of prefix.now word.now) }
+    ensures value { WordGives result (prefixed_of prefix.now word.now) }
     ensures text { IfOk result (λ bytes. word.now ≡ spell (Token.octets prefix.now bytes)) }
 {
     let Some(text) = text_behind(word, prefix) else {
@@ -57,7 +57,7 @@ pub fn octets(alloc: Global, prefix: &[u8], word: &[u8]) -> Result<Bytes, WordFa
 
 /// The number of a word of eight lower-case hexadecimal digits.
 pub fn minor(word: &[u8]) -> Result<u32, WordFault>
-    ensures value { Gives result (minor_of word.now) }
+    ensures value { WordGives result (minor_of word.now) }
     ensures text { IfOk result (λ n. word.now ≡ spell (Token.minor n)) }
 {
     let Ok(bytes) = <[u8; 4] as FromHex>::from_hex(word) else {
@@ -103,7 +103,7 @@ pub fn is_reference(word: &[u8]) -> bool
 
 /// The text of a reference that `word` is.
 pub fn reference(alloc: Global, word: &[u8]) -> Result<Bytes, WordFault>
-    ensures value { Gives result (reference_of word.now) }
+    ensures value { WordGives result (reference_of word.now) }
     ensures text { IfOk result (λ text. word.now ≡ spell (Token.reference text)) }
 {
     if !is_reference(word) {

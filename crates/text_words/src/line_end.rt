@@ -1,5 +1,5 @@
 ghost use Rattle.std.specs.Prelude.{◌≡◌, ◌∷◌, ◌++◌, ◌^◌, [], IfOk, OnOk, map};
-ghost use Rattle.text_words.specs.Gives.{Gives};
+ghost use Rattle.text_words.specs.WordGives.{WordGives};
 ghost use Rattle.text_words.specs.Number.{number_of};
 ghost use Rattle.text_words.specs.Token.{Token, tails, texts};
 ghost use Rattle.text_words.specs.Parts.{alone as alone_of, endpoint_tokens, last_endpoint as last_endpoint_of, last_name as last_name_of, last_number as last_number_of, only};
@@ -13,7 +13,7 @@ use std::alloc::Global;
 
 /// That a line has no more words.
 pub fn nothing(words: &[&[u8]]) -> Result<(), WordFault>
-    ensures value { Gives result (alone_of tt (map (λ w. w.now) words.now)) }
+    ensures value { WordGives result (alone_of tt (map (λ w. w.now) words.now)) }
     ensures text { IfOk result (λ x. map (λ w. w.now) words.now ≡ []) }
 {
     match words {
@@ -24,7 +24,7 @@ pub fn nothing(words: &[&[u8]]) -> Result<(), WordFault>
 
 /// The value, where a line has no more words.
 pub fn alone<T: Drop>(value: T, words: &[&[u8]]) -> Result<T, WordFault>
-    ensures value { Gives result (alone_of value (map (λ w. w.now) words.now)) }
+    ensures value { WordGives result (alone_of value (map (λ w. w.now) words.now)) }
     ensures text { IfOk result (λ x. map (λ w. w.now) words.now ≡ []) }
     ensures same { IfOk result (λ x. x ≡ value) }
 {
@@ -34,7 +34,7 @@ pub fn alone<T: Drop>(value: T, words: &[&[u8]]) -> Result<T, WordFault>
 
 /// The number below 2^32 that is the last word of a line.
 pub fn last_number(words: &[&[u8]]) -> Result<u32, WordFault>
-    ensures value { Gives result (last_number_of (map (λ w. w.now) words.now)) }
+    ensures value { WordGives result (last_number_of (map (λ w. w.now) words.now)) }
     ensures text { IfOk result (λ n. map (λ w. w.now) words.now ≡ texts (Token.number (2 ^ 32) n ∷ [])) }
 {
     let [word, rest @ ..] = words else {
@@ -47,7 +47,7 @@ pub fn last_number(words: &[&[u8]]) -> Result<u32, WordFault>
 
 /// The number below 2^64 that is the last word of a line.
 pub fn last_long_number(words: &[&[u8]]) -> Result<u64, WordFault>
-    ensures value { Gives result (only (number_of (2 ^ 64)) (map (λ w. w.now) words.now)) }
+    ensures value { WordGives result (only (number_of (2 ^ 64)) (map (λ w. w.now) words.now)) }
     ensures text { IfOk result (λ n. map (λ w. w.now) words.now ≡ texts (Token.number (2 ^ 64) n ∷ [])) }
 {
     let [word, rest @ ..] = words else {
@@ -60,7 +60,7 @@ pub fn last_long_number(words: &[&[u8]]) -> Result<u64, WordFault>
 
 /// The name that is the last word of a line.
 pub fn last_name(alloc: Global, words: &[&[u8]]) -> Result<Name, WordFault>
-    ensures value { Gives result (last_name_of (map (λ w. w.now) words.now)) }
+    ensures value { WordGives result (last_name_of (map (λ w. w.now) words.now)) }
     ensures text { IfOk result (λ n. map (λ w. w.now) words.now ≡ texts (Token.named n ∷ [])) }
 {
     let [word, rest @ ..] = words else {
@@ -73,7 +73,7 @@ pub fn last_name(alloc: Global, words: &[&[u8]]) -> Result<Name, WordFault>
 
 /// The host and the port that are the last words of a line.
 pub fn last_endpoint(alloc: Global, words: &[&[u8]]) -> Result<Endpoint, WordFault>
-    ensures value { Gives result (last_endpoint_of (map (λ w. w.now) words.now)) }
+    ensures value { WordGives result (last_endpoint_of (map (λ w. w.now) words.now)) }
     ensures text { IfOk result (λ endpoint. map (λ w. w.now) words.now ≡ texts (endpoint_tokens endpoint)) }
 {
     let [first, second, rest @ ..] = words else {

@@ -1,6 +1,6 @@
 ghost use Rattle.std.specs.Prelude.{◌≡◌, IfOk};
 ghost use Rattle.std.specs.List.{list_all};
-ghost use Rattle.text_words.specs.Gives.{Gives};
+ghost use Rattle.text_words.specs.WordGives.{WordGives};
 ghost use Rattle.text_words.specs.Token.{Token, spell};
 ghost use Rattle.text_words.specs.Name.{host_of, is_alphanumeric, is_host as is_host_of, is_host_byte, is_name as is_name_of, is_name_byte, name_of};
 
@@ -55,7 +55,7 @@ pub fn is_host(word: &[u8]) -> bool
 
 /// The name that `word` is.
 pub fn name(alloc: Global, word: &[u8]) -> Result<Name, WordFault>
-    ensures value { Gives result (name_of word.now) }
+    ensures value { WordGives result (name_of word.now) }
     ensures text { IfOk result (λ n. word.now ≡ spell (Token.named n)) }
 {
     if !is_name(word) {
@@ -67,7 +67,7 @@ pub fn name(alloc: Global, word: &[u8]) -> Result<Name, WordFault>
 
 /// The host that `word` is.
 pub fn host(alloc: Global, word: &[u8]) -> Result<Bytes, WordFault>
-    ensures value { Gives result (host_of word.now) }
+    ensures value { WordGives result (host_of word.now) }
     ensures text { IfOk result (λ h. word.now ≡ spell (Token.host h)) }
 {
     if !is_host(word) {

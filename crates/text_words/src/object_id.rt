@@ -1,5 +1,5 @@
 ghost use Rattle.std.specs.Prelude.{◌≡◌, IfOk};
-ghost use Rattle.text_words.specs.Gives.{Gives};
+ghost use Rattle.text_words.specs.WordGives.{WordGives};
 ghost use Rattle.text_words.specs.Identity.{id_of, printed_id_of, short_enough};
 ghost use Rattle.text_words.specs.Token.{Token, spell};
 ghost use Rattle.text_words.specs.Name.{name_of};
@@ -11,7 +11,7 @@ use poa_base::{Bytes, Oid};
 use std::alloc::{AllocError, Global};
 
 fn short(bytes: Bytes) -> Result<Oid, WordFault>
-    ensures value { Gives result (short_enough bytes) }
+    ensures value { WordGives result (short_enough bytes) }
     ensures same { IfOk result (λ id. id ≡ bytes) }
 {
     Oid::from_vec(bytes.into_vec()).ok_or(WordFault::OutOfForm)
@@ -19,7 +19,7 @@ fn short(bytes: Bytes) -> Result<Oid, WordFault>
 
 /// The object id that is written as poad prints it: `h:` and lower-case hexadecimal of at most 256 bytes.
 pub fn identity(alloc: Global, word: &[u8]) -> Result<Oid, WordFault>
-    ensures value { Gives result (printed_id_of word.now) }
+    ensures value { WordGives result (printed_id_of word.now) }
     ensures text { IfOk result (λ id. word.now ≡ spell (Token.identity id)) }
 {
     short(octets(alloc, b"h:", word)?)
@@ -27,7 +27,7 @@ pub fn identity(alloc: Global, word: &[u8]) -> Result<Oid, WordFault>
 
 /// The object id of a word in any spelling: `t:` and a name, or `h:` and hexadecimal in either case.
 pub fn any_identity(alloc: Global, word: &[u8]) -> Result<Oid, WordFault>
-    ensures { Gives result (id_of word.now) }
+    ensures { WordGives result (id_of word.now) }
 {
     if let Some(text) = text_behind(word, b"t:") {
         return named(alloc, text);
@@ -39,7 +39,7 @@ pub fn any_identity(alloc: Global, word: &[u8]) -> Result<Oid, WordFault>
 }
 
 fn named(alloc: Global, text: &[u8]) -> Result<Oid, WordFault>
-    ensures { Gives result (name_of text.now) }
+    ensures { WordGives result (name_of text.now) }
 {
     let id = name(alloc, text)?;
     Oid::from_vec(id.into_vec()).ok_or(WordFault::OutOfForm)

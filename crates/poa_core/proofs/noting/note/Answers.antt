@@ -1,6 +1,6 @@
 use Rattle.std.proofs.Common.{◌≡◌, ◌∷◌, List, reverse, subst}
 use Rattle.poa_base.specs.declared.Entry.{Entry}
-use Rattle.poa_opening.specs.Runs.{IsRun}
+use Rattle.history_openings.specs.Runs.{IsRun}
 use Rattle.standing_of.specs.Entries.{stage_at}
 use Rattle.poa_core.specs.Agrees.{KnowsTables, history}
 use Rattle.poa_core.proofs.Noted.{desk_comes, life_longer}

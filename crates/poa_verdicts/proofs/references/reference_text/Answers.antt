@@ -1,6 +1,6 @@
 use Rattle.std.proofs.Common.{◌≡◌, subst}
 use Rattle.std.specs.Prelude.{IfOk}
-use Rattle.object_reference.specs.Reference.{reference_text as reference_at}
+use Rattle.ior_object.specs.Reference.{reference_text as reference_at}
 use Rattle.poa_history.specs.References as references
 use Rattle.poa_verdicts.proofs.references.reference_text.Goals as goal
 

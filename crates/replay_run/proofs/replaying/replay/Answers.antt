@@ -2,7 +2,7 @@ use Rattle.std.proofs.Common.{◌≡◌, List, ℕ, rules, subst, ap}
 use Rattle.poa_base.specs.declared.Config.{Config}
 use Rattle.replay_script.specs.declared.ScriptStep.{ScriptStep}
 use Rattle.replay_run.specs.declared.channel.Channel.{Channel}
-use Rattle.replay_run.specs.Working.{Settles, Then}
+use Rattle.replay_run.specs.Working.{Rests, Then}
 use Rattle.replay_run.specs.Playing.{AreFresh, CollectsEach, PlaysAll}
 use Rattle.replay_run.specs.Keeping.{Shows, Works}
 use Rattle.replay_run.proofs.Whole.{keeps_first, is_played}
@@ -21,6 +21,6 @@ returns c =
     let fresh = subst (λ (names : List (List ℕ)). AreFresh names xs) c.as_slice.ensures c.in_ok-channels.ensures.fresh in
     let shows = subst (λ (steps : List ScriptStep). Shows (PlaysAll steps) p q xs ys) c.as_slice-2.ensures c.in_ok-play_all.ensures.shows in
     let lent : c.deref.result.now ≡ ys = search rules in
-    let works = subst (λ (cs : List Channel). Works (Then Settles (CollectsEach cs)) q r) lent c.in_ok-finish.ensures in
+    let works = subst (λ (cs : List Channel). Works (Then Rests (CollectsEach cs)) q r) lent c.in_ok-finish.ensures in
     is_played c.args.config c.args.script.now c.result_of.result p q r xs ys c.in_ok-player.ensures fresh c.in_ok-play_all.ensures.keeps shows works
     c.result_of.ensures.printed c.result_of.ensures.held c.result_of.ensures.full c.result_of.ensures.legal c.result_of.ensures.lifetime

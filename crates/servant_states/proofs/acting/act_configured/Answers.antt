@@ -1,11 +1,11 @@
 use Rattle.std.proofs.Common.{arith, ◌<◌, ◌≤◌, length}
-use Rattle.servant_states.proofs.Writes.{write_acts, write_tells, past_acts, past_tells}
+use Rattle.servant_states.proofs.Writes.{write_activations, write_tells, past_acts, past_tells}
 use Rattle.servant_states.proofs.acting.act_configured.Goals as goal
 
 pub returns-then-place-len-clause-ok : goal.returns-then-place-len-clause-ok
 returns-then-place-len-clause-ok c =
     let low : c.args.number < length c.args.configured.now.items = omega (arith, c.if-place-len.true, c.len.ensures, c.args.configured.now.ok.0) in
-    write_acts c.act_on.result c.args.configured.now.items c.args.number _ _ _ low c.index_mut.ensures.value c.act_on.ensures.ok
+    write_activations c.act_on.result c.args.configured.now.items c.args.number _ _ _ low c.index_mut.ensures.value c.act_on.ensures.ok
 
 pub returns-then-place-len-clause-outcome : goal.returns-then-place-len-clause-outcome
 returns-then-place-len-clause-outcome c =

@@ -2,5 +2,5 @@ use Rattle.std.proofs.Common.{◌≡◌, ◌++◌, true, map, take, drop, if◌t
 use Rattle.poa_history.specs.Standings as stands
 use Rattle.standing_of.proofs.ending.deactivate.Given as goal
 
-abbrev pub invariant-loop-act : goal.invariant-loop-act
-invariant-loop-act l = l.act-items ≡ map (λ a. if stands.is_of l.adapter l.oid a then record a { ending = true } else a) (take l.act-index l.fn.acts.items) ++ drop l.act-index l.fn.acts.items
+abbrev pub invariant-loop-activation : goal.invariant-loop-activation
+invariant-loop-activation l = l.activation-items ≡ map (λ a. if stands.is_of l.adapter l.oid a then record a { ending = true } else a) (take l.activation-index l.fn.activations.items) ++ drop l.activation-index l.fn.activations.items

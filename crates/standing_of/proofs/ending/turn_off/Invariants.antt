@@ -3,6 +3,6 @@ use Rattle.poa_history.specs.Changes as changes
 use Rattle.poa_history.specs.Templates as configured
 use Rattle.standing_of.proofs.ending.turn_off.Given as goal
 
-abbrev pub invariant-loop-act : goal.invariant-loop-act
-invariant-loop-act l =
-    l.act-items ≡ map (λ a. if configured.has_activator l.config a.path && (configured.manager_at l.config a.path == l.manager) then changes.ended_by_destroy true a else a) (take l.act-index l.fn.acts.items) ++ drop l.act-index l.fn.acts.items
+abbrev pub invariant-loop-activation : goal.invariant-loop-activation
+invariant-loop-activation l =
+    l.activation-items ≡ map (λ a. if configured.has_activator l.config a.path && (configured.manager_at l.config a.path == l.manager) then changes.ended_by_destroy true a else a) (take l.activation-index l.fn.activations.items) ++ drop l.activation-index l.fn.activations.items

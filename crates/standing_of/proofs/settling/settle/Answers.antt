@@ -6,4 +6,4 @@ use Rattle.standing_of.proofs.settling.settle.Goals as goal
 pub returns : goal.returns
 returns c =
     c.drop_gone.ensures
-    ∙ ap (λ acts. without_ended c.args.config.now (record (seen c.args.standing.now) { acts = acts })) (c.let_all_out.ensures (seen c.args.standing.now) (sym c.deref.ensures.value))
+    ∙ ap (λ activations. without_ended c.args.config.now (record (seen c.args.standing.now) { activations = activations })) (c.let_all_out.ensures (seen c.args.standing.now) (sym c.deref.ensures.value))

@@ -1,5 +1,5 @@
 use Rattle.std.proofs.Common.{refl}
-use Rattle.replay_run.specs.Working.{Settles, Then}
+use Rattle.replay_run.specs.Working.{Rests, Then}
 use Rattle.replay_run.specs.Playing.{CollectsEach}
 use Rattle.replay_run.proofs.Onward.{works_join}
 use Rattle.replay_run.proofs.Same.{still_settles}
@@ -12,5 +12,5 @@ collect_each-requires c = entered_still c.args.channels.now c.args.self.now.core
     (λ i n a at is. (c.requires.seated i a at).entered n is)
 
 pub returns : goal.returns
-returns c = works_join Settles (CollectsEach c.args.channels.now) (Then Settles (CollectsEach c.args.channels.now)) c.args.self.now c.settle.new.self c.collect_each.new.self
+returns c = works_join Rests (CollectsEach c.args.channels.now) (Then Rests (CollectsEach c.args.channels.now)) c.args.self.now c.settle.new.self c.collect_each.new.self
     (λ s t p q. record { between = c.settle.new.self.core; front = s; rest = t; first = p; second = q; joined = refl }) c.in_ok-settle.ensures c.in_ok-collect_each.ensures

@@ -1,20 +1,20 @@
 use Rattle.std.proofs.Common.{refl, subst}
 use Rattle.giop_frame.specs.declared.Next.{Next}
-use Rattle.giop_frame.specs.Framer.{Answers}
+use Rattle.giop_frame.specs.Framer.{FramerAnswers}
 use Rattle.replay_run.proofs.Read.{message_next, nothing_next, bad_next}
 use Rattle.replay_run.proofs.player.Player.read_next.Goals as goal
 
 pub returns-in_ok-message-in-Message-clause-tells : goal.returns-in_ok-message-in-Message-clause-tells
 returns-in_ok-message-in-Message-clause-tells c =
-    let comes = subst (λ (n : Next). Answers c.args.channel.now.stream n c.next.new.self) c.in-Message.is c.in_ok-message.ensures.answer in
+    let comes = subst (λ (n : Next). FramerAnswers c.args.channel.now.stream n c.next.new.self) c.in-Message.is c.in_ok-message.ensures.answer in
     message_next c.args.conn c.args.self.now c.message-in-Message.new.self c.args.channel.now c.message-in-Message.new.channel c.next.new.self c.in-Message.message comes c.in_ok-message-in-Message.ensures.tells
 
 pub returns-in-NeedMore-clause-tells : goal.returns-in-NeedMore-clause-tells
 returns-in-NeedMore-clause-tells c =
-    let comes = subst (λ (n : Next). Answers c.args.channel.now.stream n c.next.new.self) c.in-NeedMore.is c.in_ok-message.ensures.answer in
+    let comes = subst (λ (n : Next). FramerAnswers c.args.channel.now.stream n c.next.new.self) c.in-NeedMore.is c.in_ok-message.ensures.answer in
     nothing_next c.args.conn c.args.self.now c.args.channel.now c.in-NeedMore.have c.next.new.self comes
 
 pub returns-in_ok-print_bad-in-Bad-clause-tells : goal.returns-in_ok-print_bad-in-Bad-clause-tells
 returns-in_ok-print_bad-in-Bad-clause-tells c =
-    let comes = subst (λ (n : Next). Answers c.args.channel.now.stream n c.next.new.self) c.in-Bad.is c.in_ok-message.ensures.answer in
+    let comes = subst (λ (n : Next). FramerAnswers c.args.channel.now.stream n c.next.new.self) c.in-Bad.is c.in_ok-message.ensures.answer in
     bad_next c.args.conn c.args.self.now _ c.args.channel.now c.as_slice.result.now c.in-Bad.at c.in-Bad.why c.next.new.self comes c.as_slice.ensures.value refl c.in_ok-print_bad-in-Bad.ensures refl refl

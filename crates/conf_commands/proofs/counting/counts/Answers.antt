@@ -1,5 +1,0 @@
-use Rattle.std.proofs.Common.{arith}
-use Rattle.conf_commands.proofs.counting.counts.Goals as goal
-
-pub overflow_add-len : goal.overflow_add-len
-overflow_add-len c = omega (arith, c.requires.few.managers)

@@ -1,0 +1,28 @@
+-- The lines of objects, one after another.
+use Rattle.std.proofs.Common.{◌≡◌, ℕ, suc, ◌+◌, ◌<◌, List, ◌∷◌, ◌++◌, length, drop, get_or, Option, slice_get, refl, ap, sym, ◌∙◌, add-one}
+use Rattle.std.proofs.lemmas.List.{append_assoc, drop_more}
+use Rattle.poa_base.specs.declared.Config.{Config}
+use Rattle.poa_base.specs.declared.Key.{Key}
+use Rattle.poa_base.specs.declared.ObjectConf.{ObjectConf}
+use Rattle.ior_object.specs.Reference.{reference_text}
+use Rattle.conf_print.specs.Numbers.{Numbers}
+use Rattle.conf_print.specs.Objects.{id_of, key_of, line, lines, made_with, object_line, type_in}
+
+-- the line of an object, by its parts
+pub line_of : (c : Config) (numbers : Numbers) (path : List (List ℕ)) (oid made : List ℕ) (n : ℕ) (number : Option ℕ) (key : Key) (type_id ref : List ℕ)
+    → oid ≡ made → number ≡ numbers path → key ≡ key_of c.run number path oid → type_id ≡ type_in (slice_get c.servants n) → ref ≡ reference_text (record { host = c.host; port = c.port }) type_id key
+    → line key.path key.oid ref ≡ object_line c numbers path made n
+line_of c numbers path oid made n number key type_id ref is_oid is_number is_key is_type is_ref = rw (is_ref, is_type, is_key, is_number, is_oid) refl
+
+-- one more line
+pub lines_more : (c : Config) (numbers : Numbers) (out longer whole : List ℕ) (items : List ObjectConf) (i made more : ℕ) (o : ObjectConf) → i < length items → o ≡ get_or items i o
+    → out ++ lines c numbers made (drop i items) ≡ whole → longer ≡ out ++ object_line c numbers o.adapter (id_of c.run (made + 1) o.oid) o.servant → more ≡ made_with o.oid made
+    → longer ++ lines c numbers more (drop (i + 1) items) ≡ whole
+lines_more c numbers out longer whole items i made more o lt is before new next =
+    let rest = drop (i + 1) items in
+    let this = λ (k : ℕ). object_line c numbers o.adapter (id_of c.run k o.oid) o.servant in
+    let front : drop i items ≡ o ∷ rest = drop_more items i o lt ∙ ap (λ (x : ObjectConf). x ∷ rest) (sym is) in
+    let same : this (made + 1) ++ lines c numbers more rest ≡ lines c numbers made (drop i items) =
+    ap (λ (k : ℕ). this k ++ lines c numbers more rest) (add-one made)
+    ∙ (ap (λ (m : ℕ). this (suc made) ++ lines c numbers m rest) next ∙ ap (lines c numbers made) (sym front)) in
+    ap (λ (t : List ℕ). t ++ lines c numbers more rest) new ∙ (append_assoc out (this (made + 1)) (lines c numbers more rest) ∙ (ap (λ (t : List ℕ). out ++ t) same ∙ before))

@@ -1,0 +1,50 @@
+-- What `iors` prints of a configuration: the references of its objects.
+use Rattle.std.specs.Prelude.{ℕ, suc, List, [], ◌∷◌, ◌++◌, codes, Option, Some, None, option_map, slice_get}
+use Rattle.std.specs.Int.{w32, to_be_bytes}
+use Rattle.hex.specs.Hex.{encode_lower}
+use Rattle.poa_base.specs.declared.Config.{Config}
+use Rattle.poa_base.specs.declared.Key.{Key}
+use Rattle.poa_base.specs.declared.ObjectConf.{ObjectConf}
+use Rattle.poa_base.specs.declared.ServantConf.{ServantConf}
+use Rattle.servant_kinds.specs.Object.{type_id_of}
+use Rattle.text_words.specs.Path.{path_text}
+use Rattle.ior_object.specs.Reference.{reference_text}
+use Rattle.conf_print.specs.Numbers.{Numbers, numbers_of}
+
+-- a system-made id: the run and the ordinal (CORBA 3.3 Part 1, chapter 15, "SYSTEM_ID")
+abbrev pub id_of : ℕ → ℕ → Option (List ℕ) → List ℕ
+id_of run ordinal (Some id) = id
+id_of run ordinal None = to_be_bytes w32 run ++ to_be_bytes w32 ordinal
+
+-- so many ids are made with that of one more object
+abbrev pub made_with : Option (List ℕ) → ℕ → ℕ
+made_with (Some id) made = made
+made_with None made = suc made
+
+-- the repository id of a configured servant's interface
+abbrev pub type_in : Option ServantConf → List ℕ
+type_in (Some s) = type_id_of s.state
+type_in None = []
+
+-- the key is transient where a number is given: the run and that number (CORBA 3.3 Part 1, chapter 15, "TRANSIENT")
+abbrev pub key_of : ℕ → Option ℕ → List (List ℕ) → List ℕ → Key
+key_of run number path oid = record { stamp = option_map (λ n. record { run = run; number = n }) number; path = path; oid = oid }
+
+abbrev pub reference_in : Config → Numbers → List (List ℕ) → List ℕ → ℕ → List ℕ
+reference_in c numbers path oid servant =
+    reference_text (record { host = c.host; port = c.port }) (type_in (slice_get c.servants servant)) (key_of c.run (numbers path) path oid)
+
+-- the path, the id and the reference
+abbrev pub line : List (List ℕ) → List ℕ → List ℕ → List ℕ
+line path oid reference = path_text path ++ (codes " h:" ++ (encode_lower oid ++ (codes " " ++ (reference ++ codes "\n"))))
+
+abbrev pub object_line : Config → Numbers → List (List ℕ) → List ℕ → ℕ → List ℕ
+object_line c numbers path oid servant = line path oid (reference_in c numbers path oid servant)
+
+-- the next id that is made has the next ordinal, from 1 on
+abbrev pub lines : Config → Numbers → ℕ → List ObjectConf → List ℕ
+lines c numbers made [] = []
+lines c numbers made (o ∷ os) = object_line c numbers o.adapter (id_of c.run (suc made) o.oid) o.servant ++ lines c numbers (made_with o.oid made) os
+
+abbrev pub references_text : Config → List ℕ
+references_text c = lines c (numbers_of c.adapters) 0 c.objects

@@ -1,6 +1,0 @@
-use Rattle.std.proofs.Common.{◌≡◌, ◌-◌, ◌^◌, min, take, reverse}
-use Rattle.poa_history.specs.Arrivals as calls
-use Rattle.history_check.proofs.arriving.arrived_bytes.Given as goal
-
-abbrev pub invariant-loop-entry : goal.invariant-loop-entry
-invariant-loop-entry l = l.bytes ≡ min (calls.arrived_bytes (reverse (take l.entry-index l.history))) (2 ^ 64 - 1)

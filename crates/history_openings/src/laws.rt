@@ -1,0 +1,79 @@
+//! What holds of every run of an accepted configuration.
+ghost use Rattle.std.specs.Prelude.{◌≡◌, ℕ, suc, true, false, ◌<◌, ◌^◌, List};
+ghost use Rattle.poa_base.specs.declared.Config.{Config};
+ghost use Rattle.poa_base.specs.declared.Entry.{Entry};
+ghost use Rattle.conf_rules.specs.Rules.{KeepsRules};
+ghost use Rattle.poa_tree.specs.declared.node.Node.{Node};
+ghost use Rattle.poa_tree.specs.Paths.{is_root};
+ghost use Rattle.poa_tree.specs.Trees.{In};
+ghost use Rattle.poa_history.specs.Alone.{IsGivenAlone, StandsAlone};
+ghost use Rattle.poa_history.specs.Changes.{standing};
+ghost use Rattle.poa_history.specs.Destroyed.{was_destroyed, IsEnded, IsEmptied};
+ghost use Rattle.poa_history.specs.Ends.{is_gone};
+ghost use Rattle.poa_history.specs.InFlight.{IsManned};
+ghost use Rattle.poa_history.specs.Lifetime.{HasLifetime};
+ghost use Rattle.poa_history.specs.Sound.{IsGiven, IsSound};
+ghost use Rattle.history_openings.specs.Runs.{IsRun};
+
+/// What stands at the start is sound: the adapters that are created then make a tree, and the configured
+/// objects are activations of adapters that stand, with ids of their own. A policy set with
+/// IMPLICIT_ACTIVATION has SYSTEM_ID.
+pub fn openings_are_sound()
+    ensures { (c : Config) (run : ℕ) → KeepsRules c → run < 2 ^ 32 → IsGiven c run }
+{}
+
+/// Of the configured objects of one adapter with UNIQUE_ID no two have one servant, and a name is that of
+/// one servant.
+pub fn openings_are_alone()
+    ensures { (c : Config) (run : ℕ) → KeepsRules c → run < 2 ^ 32 → IsGivenAlone c run }
+{}
+
+/// What stands after each entry of a run is sound. Of one path at most one adapter stands, its parent stands
+/// with it, and the children of one that is being destroyed are being destroyed. What is in flight is in
+/// flight in an adapter that stands; of one child at most one trial is in flight, and then no adapter of the
+/// child's path stands. Of one id of one adapter at most one activation isn't over.
+pub fn runs_are_sound()
+    ensures { (c : Config) (run limit : ℕ) (h : List Entry) → IsRun c run limit h → IsSound c run (standing c run h) }
+{}
+
+/// Each ordinal of a system-made object id fits 32 bits.
+pub fn ordinals_fit()
+    ensures { (c : Config) (run limit : ℕ) (h : List Entry) → IsRun c run limit h → suc (standing c run h).made < 2 ^ 32 }
+{}
+
+/// An adapter that stands is being destroyed exactly where a destroy of it, or of an adapter above it, was
+/// done since it was created.
+pub fn destroyed_are_dying()
+    ensures { (c : Config) (run limit : ℕ) (h : List Entry) → IsRun c run limit h → (n : Node) → In n (standing c run h).nodes → n.dying ≡ was_destroyed c run h n.number n.path }
+{}
+
+/// An adapter that stands is gone exactly where it is being destroyed, nothing is in flight in it, its
+/// activations are over and its children are gone. None that stands is gone but the root, which stays; and
+/// of one that is gone nothing is left.
+pub fn gone_have_ended()
+    ensures ends { (c : Config) (run limit : ℕ) (h : List Entry) → IsRun c run limit h → (n : Node) → In n (standing c run h).nodes → (is_gone c (standing c run h) n.number ≡ true → IsEnded c (standing c run h) n) × (IsEnded c (standing c run h) n → is_gone c (standing c run h) n.number ≡ true) }
+    ensures stays { (c : Config) (run limit : ℕ) (h : List Entry) → IsRun c run limit h → (n : Node) → In n (standing c run h).nodes → is_root n.path ≡ false → is_gone c (standing c run h) n.number ≡ false }
+    ensures emptied { (c : Config) (run limit : ℕ) (h : List Entry) → IsRun c run limit h → (k : ℕ) → is_gone c (standing c run h) k ≡ true → IsEmptied c (standing c run h) k }
+{}
+
+/// At most one incarnation or etherealization is unfinished in an adapter; under UNIQUE_ID a servant is in
+/// the map of an adapter by at most one activation; under SINGLE_THREAD_MODEL at most one request is in
+/// flight in an adapter; and a fresh servant is that of its activation.
+pub fn one_at_a_time()
+    ensures { (c : Config) (run limit : ℕ) (h : List Entry) → IsRun c run limit h → StandsAlone c (standing c run h) }
+{}
+
+/// What is in flight is what a worker has begun and not ended, once, and with one worker. What is in flight in
+/// an activation is so in that activation's adapter, and the activation isn't out. A request runs while its
+/// activation has its servant. What is being taken down is out, and wasn't etherealized yet.
+pub fn in_flight_has_its_worker()
+    ensures { (c : Config) (run limit : ℕ) (h : List Entry) → IsRun c run limit h → IsManned c run h }
+{}
+
+/// Every run keeps the lifetime of its activations: an activation begins once, when every earlier one of its id
+/// is over; requests run in it only between its completion and its removal; it is taken out at most once, with
+/// nothing in flight in it, and no later admission names it; it is etherealized at most once, after that, by the
+/// worker that took it out. CORBA 3.3 Part 1, sections 15.2.4 and 15.3.6.
+pub fn lifetimes_are_kept()
+    ensures { (c : Config) (run limit : ℕ) (h : List Entry) → IsRun c run limit h → HasLifetime c run h }
+{}

@@ -1,2 +1,0 @@
-pub mod Locates
-pub mod Runs

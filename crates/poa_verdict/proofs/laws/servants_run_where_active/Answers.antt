@@ -1,5 +1,0 @@
-use Rattle.poa_verdict.proofs.Runs.{runs_where_active}
-use Rattle.poa_verdict.proofs.laws.servants_run_where_active.Goals as goal
-
-pub returns : goal.returns
-returns c = record { active = λ f worker h. (runs_where_active f worker h).0; found = λ f worker h. (runs_where_active f worker h).1 }
