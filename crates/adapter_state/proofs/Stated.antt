@@ -33,7 +33,7 @@ pub ok_then : {T E : Type 0} {P Q : Type 0} (r : Result T E) → (P → Q) → O
 ok_then (Ok x) f p = f p
 ok_then (Err x) f p = tt
 
--- no servant activations, comes or leaves
+-- no servant acts, comes or leaves
 pub quiet_state : (c : Config) (run limit : ℕ) (opened : Stored) (past : List Entry) (e : Entry) (s : State) (stands : Standing) (set : Settings) → IsRun c run limit (e ∷ past) → is_quiet e ≡ true
     → Holds c run opened past (kept_in s.servants) → seen stands ≡ standing c run (e ∷ past) → Tells c (e ∷ past) set → IsState c run opened (e ∷ past) (record { standing = stands; settings = set; servants = s.servants })
 quiet_state c run limit opened past e s stands set follows quiet held stands_is tells =

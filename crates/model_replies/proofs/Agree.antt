@@ -33,7 +33,7 @@ pub record Agrees (c : Config) (run : ℕ) (opened : Stored) (h : List Entry) (k
   pub servants : (s : Sid) → state_in c k.servants s ≡ state_of c run opened h s
   pub places : (p : List (List ℕ)) (oid : List ℕ) → stored_in opened k.places p oid ≡ stored c run opened h p oid
 
--- where the servant activations, its state is the one after the activation
+-- where the servant acts, its state is the one after the act
 run_agrees : (c : Config) (k : Kept) (call : Option Call) (before : Sid → State) → ((s : Sid) → state_in c k.servants s ≡ before s) → (who : Option Sid) (s : Sid)
     → state_in c (with_run c who call k).servants s ≡ (if is_servant s who then (acted (before s) call).0 else before s)
 run_agrees c k call before agrees None s = agrees s
@@ -45,7 +45,7 @@ run_agrees c k call before agrees (Some t) s =
       | false ↦ (λ other. agrees s)
     ] refl
 
--- the activation leaves what is stored as it is
+-- the act leaves what is stored as it is
 run_leaves : (c : Config) (k : Kept) (call : Option Call) (who : Option Sid) → (with_run c who call k).places ≡ k.places
 run_leaves c k call None = refl
 run_leaves c k call (Some t) = refl

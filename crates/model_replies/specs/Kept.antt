@@ -40,7 +40,7 @@ abbrev pub stored_in : Stored → List StoredState → List (List ℕ) → List 
 stored_in opened [] p oid = opened p oid
 stored_in opened (left ∷ older) p oid = if same_path left.path p && same_bytes left.oid oid then Some left.state else stored_in opened older p oid
 
--- the servant activations on the call
+-- the servant acts on the call
 abbrev pub with_run : Config → Option Sid → Option Call → Kept → Kept
 with_run c None call k = k
 with_run c (Some s) call k = record k { servants = record { servant = s; state = (acted (state_in c k.servants s) call).0 } ∷ k.servants }

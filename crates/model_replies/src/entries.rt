@@ -6,7 +6,7 @@ ghost use Rattle.poa_history.specs.Turns as turns;
 ghost use Rattle.model_replies.specs.Kept as keeps;
 ghost use Rattle.standing_queries.specs.Seen.{seen};
 
-use crate::acting::activation;
+use crate::acting::act;
 use crate::kept::{Kept, state_in, stored_in};
 use crate::servant_state::ServantState;
 use crate::servants::{call_run, servant_run};
@@ -20,7 +20,7 @@ use standing_queries::Standing;
 use standing_queries::workers::stage;
 use std::alloc::Global;
 
-/// The servant activations on the call.
+/// The servant acts on the call.
 fn run_servant(
     alloc: Global,
     config: &Config,
@@ -34,7 +34,7 @@ fn run_servant(
         return Ok(());
     };
     let state = state_in(config, &kept.servants, servant)?;
-    let done = activation(alloc, state, call)?;
+    let done = act(alloc, state, call)?;
     let left = ServantState {
         servant,
         state: done.state,

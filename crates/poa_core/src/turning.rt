@@ -83,7 +83,7 @@ pub fn servant_in(
     }
 }
 
-/// A request runs: its servant activations, and the outcome decides it.
+/// A request runs: its servant acts, and the outcome decides it.
 fn ran(
     alloc: Global,
     config: &Config,

@@ -59,7 +59,7 @@ decided c run [] r = false
 decided c run (e ∷ past) r =
     is_decided_by past e r || (decided c run past r || (is_waiting (admitted (e ∷ past) r) && settles c run (e ∷ past) r))
 
--- a system exception before the operation could activation; OMG's minor codes begin at 0x4F4D0000
+-- a system exception before the operation could act; OMG's minor codes begin at 0x4F4D0000
 abbrev pub not_exist_omg : SysExc
 not_exist_omg = record { name = ObjectNotExist; minor = 1330446338; done = NotCompleted }
 

@@ -30,7 +30,7 @@ leaves_fresh (Incarnated w (Fresh n)) = false
 leaves_fresh (Etherealized w cleanup remaining) = false
 leaves_fresh e = true
 
--- no servant activations either
+-- no servant acts either
 abbrev pub is_quiet : Entry → Bool
 is_quiet (Run w) = false
 is_quiet e = leaves_fresh e
@@ -102,7 +102,7 @@ module _ (c : Config) (run limit : ℕ) (opened : Stored) (past : List Entry) (e
       stored = λ p oid. ap (λ x. stored_in (record old { store = x }) p oid) store ∙ holds.stored p oid ∙ sym (stored_ p oid);
     }
 
--- no servant activations, and nothing is stored
+-- no servant acts, and nothing is stored
 module _ (c : Config) (run : ℕ) (opened : Stored) (past : List Entry) where
   pub state_same : (e : Entry) → is_quiet e ≡ true → (u : Sid) → state_of c run opened (e ∷ past) u ≡ state_of c run opened past u
   state_same (Entered conn) quiet u = refl

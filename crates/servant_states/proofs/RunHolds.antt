@@ -1,4 +1,4 @@
--- A servant that runs activations, and then the states are those of the longer history.
+-- A servant that runs acts, and then the states are those of the longer history.
 use Rattle.std.specs.Prelude.{◌≡◌, ℕ, true, if◌then◌else◌, List, ◌∷◌, Option, Some, None, option_map, unwrap_or, refl}
 use Rattle.std.proofs.Common.{sym, ap, ◌∙◌}
 use Rattle.std.proofs.lemmas.Bool.{true≢false, false_from_ne_true}

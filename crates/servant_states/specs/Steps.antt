@@ -1,4 +1,4 @@
--- How the servants change: one activations, a fresh one is brought, a fresh one is etherealized.
+-- How the servants change: one acts, a fresh one is brought, a fresh one is etherealized.
 use Rattle.std.specs.Prelude.{◌≡◌, ℕ, ◌==◌, Bool, true, false, if◌then◌else◌, List, Option, Some, None, option_map}
 use Rattle.poa_base.specs.declared.Config.{Config}
 use Rattle.poa_base.specs.declared.Call.{Call}

@@ -1,4 +1,4 @@
-//! A servant activations.
+//! A servant acts.
 ghost use Rattle.std.specs.Prelude.{◌≡◌, ◌==◌, ℕ, Some, None, IfOk, OnOk, OnErr, if◌then◌else◌, option_copied, option_map, unwrap_or, slice_get};
 ghost use Rattle.std.specs.BTreeMap as tree;
 ghost use Rattle.std.specs.Ordering.{nat_cmp};
@@ -38,7 +38,7 @@ fn act_on_none(alloc: Global, call: Option<&Call>) -> Result<Outcome, WantMemory
     act_on(&mut servant, call)
 }
 
-/// A configured servant activations.
+/// A configured servant acts.
 fn act_configured(
     alloc: Global,
     configured: &mut Vec<Servant>,
@@ -58,7 +58,7 @@ fn act_configured(
     }
 }
 
-/// A fresh servant activations.
+/// A fresh servant acts.
 fn act_fresh(
     alloc: Global,
     fresh: &mut BTreeMap<u32, Servant>,

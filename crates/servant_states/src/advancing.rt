@@ -14,7 +14,7 @@ use poa_history::Stage;
 use standing_queries::Standing;
 use std::alloc::Global;
 
-/// The servants follow an entry: at a Run the servant that runs activations, and the answer is its outcome; at the
+/// The servants follow an entry: at a Run the servant that runs acts, and the answer is its outcome; at the
 /// incarnation of a fresh servant that is brought, in the state stored for its id or as its kind opens; at
 /// its etherealization its state is stored and it goes. Every other entry leaves them. `stage` is what the
 /// entry's worker had begun, `standing` what stood, and `call` and `runs` are the call and the servant of

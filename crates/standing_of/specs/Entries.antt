@@ -38,7 +38,7 @@ abbrev pub names_servant : Entry → Bool
 names_servant (Incarnated w (Named name)) = true
 names_servant e = false
 
--- a connection comes or leaves, a call comes, a reply is taken, a servant activations, a worker gives up
+-- a connection comes or leaves, a call comes, a reply is taken, a servant acts, a worker gives up
 abbrev pub changes_nothing : Entry → Bool
 changes_nothing (Entered conn) = true
 changes_nothing (Arrive conn size call) = true
