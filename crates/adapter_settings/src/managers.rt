@@ -1,9 +1,7 @@
 //! The states of the managers.
-ghost use Rattle.std.specs.Prelude.{◌≡◌, ◌<◌, ◌≢◌, IfOk, OnOk, OnErr, length, slice_set};
-ghost use Rattle.poa_base.specs.declared.ManagerState.TheVariants.{Inactive};
-ghost use Rattle.poa_manager.specs.States.{start_states, state_at};
+ghost use Rattle.std.specs.Prelude.{◌≡◌, ◌<◌, IfOk, length, slice_set};
+ghost use Rattle.adapter_settings.specs.States.{start_states, state_at};
 
-use crate::inactive::AdapterInactive;
 use poa_base::{Config, ManagerState, WantMemory};
 use std::alloc::Global;
 use std::marker::Model;
@@ -51,23 +49,8 @@ impl Managers {
         self.states[manager as usize]
     }
 
-    /// Gives a manager another state. INACTIVE is final: such a manager refuses every state. Takes no
-    /// memory.
-    pub fn set(&mut self, manager: u32, state: ManagerState) -> Result<(), AdapterInactive>
-        requires { manager < length self.old }
-        ensures ok { OnOk result (state_at self.old manager ≢ Inactive) }
-        ensures set { OnOk result (self.new ≡ slice_set self.old manager state) }
-        ensures err { OnErr result (state_at self.old manager ≡ Inactive) }
-        ensures same { OnErr result (self.new ≡ self.old) }
-    {
-        if let ManagerState::Inactive = self.states[manager as usize] {
-            return Err(AdapterInactive);
-        }
-        self.states[manager as usize] = state;
-        Ok(())
-    }
-    /// Gives a manager this state whatever it was, INACTIVE too, as a history is read that nothing is
-    /// asked of. Takes no memory.
+    /// Gives a manager this state whatever it was: an order to an INACTIVE one is refused before it is done.
+    /// Takes no memory.
     pub fn put(&mut self, manager: usize, state: ManagerState)
         requires { manager < length self.old }
         ensures { self.new ≡ slice_set self.old manager state }
