@@ -20,7 +20,7 @@ use conf_fields::{
     not_twice, note, number_named, only_if, path_at, table_in, word_maybe,
 };
 use poa_base::{AdapterConf, Items, Path, PolicySet};
-use poa_policy::{defaults, is_default_servant};
+use poa_policy::defaults;
 use std::alloc::Global;
 use toml::{Table, Value};
 
@@ -124,7 +124,7 @@ fn preset_given(
         alloc,
         at,
         "default",
-        is_default_servant(policies.processing),
+        policies.uses_default_servant(),
     )?;
     let servant = number_named(alloc, servants, at, table, "default")?;
     Ok(Some(servant))
