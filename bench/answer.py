@@ -12,7 +12,7 @@ import tempfile
 import time
 from pathlib import Path
 
-PROGRAM = Path(__file__).resolve().parent.parent / "crates/poad/out/poad"
+PROGRAM = Path(__file__).resolve().parent.parent / "out/poad"
 KEY = bytes.fromhex("504f41010000000001000000000000080000000100000001")
 
 
