@@ -1,0 +1,12 @@
+mod Workers
+mod Begun
+mod Dying
+mod Told
+mod Flown
+mod HeldRows
+mod Idle
+mod CommandsGo
+mod Undone
+mod RunRows
+mod Keyed
+mod KindKept

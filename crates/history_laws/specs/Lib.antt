@@ -1,0 +1,4 @@
+
+
+pub mod Undone
+pub mod OneLine

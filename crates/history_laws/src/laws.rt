@@ -1,0 +1,26 @@
+//! What holds of every legal history in the long run.
+ghost use Rattle.std.specs.Prelude.{◌≡◌, ℕ, List};
+ghost use Rattle.poa_base.specs.declared.Config.{Config};
+ghost use Rattle.poa_base.specs.declared.Entry.{Entry};
+ghost use Rattle.poa_tree.specs.Trees.{In};
+ghost use Rattle.poa_history.specs.declared.activation.Activation.{Activation};
+ghost use Rattle.poa_history.specs.Alone.{IsGivenAlone};
+ghost use Rattle.poa_history.specs.Bounds.{IsWithinLimits};
+ghost use Rattle.poa_history.specs.Changes.{standing};
+ghost use Rattle.poa_history.specs.Legal.{IsLegal};
+ghost use Rattle.poa_history.specs.Sound.{IsGiven};
+ghost use Rattle.history_laws.specs.Undone.{AreIdle, IsInHand, IsAllDone, was_told};
+
+/// Nothing stays undone. What was begun is in the hands of exactly one of the sixteen workers: each request in
+/// flight and each trial, each incarnation, and each etherealization. So where none of them has a next entry,
+/// nothing is in flight, every activation that is ending is finished, every adapter that was destroyed is gone,
+/// and each arrival that is unadmitted is held back by a manager in the state HOLDING.
+pub fn nothing_stays_undone()
+    ensures in_hand { (c : Config) (run limit : ℕ) (h : List Entry) → IsGiven c run → IsGivenAlone c run → IsWithinLimits c limit → IsLegal c run limit h → IsInHand c run h }
+    ensures done { (c : Config) (run limit : ℕ) (h : List Entry) → IsGiven c run → IsGivenAlone c run → IsWithinLimits c limit → IsLegal c run limit h → AreIdle c run h → IsAllDone c run h }
+{}
+
+/// An activation is etherealized exactly where a worker that had it in hand said so.
+pub fn etherealized_are_told()
+    ensures { (c : Config) (run limit : ℕ) (h : List Entry) → IsGiven c run → IsGivenAlone c run → IsWithinLimits c limit → IsLegal c run limit h → (a : Activation) → In a (standing c run h).activations → a.etherealized ≡ was_told h a.number }
+{}
