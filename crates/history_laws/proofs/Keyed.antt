@@ -147,7 +147,7 @@ module _ (c : Config) (run limit : ℕ) (given : IsGiven c run) (alone : IsGiven
             by_phase Void at' no_ = absurd (let f : false ≡ true = no_ in cc)
 
     -- the activation that an incarnation begins
-    begun_for : (n : ℕ) (key : Key) → e ≡ Admit w r (Incarnate n) → key_in (call_of past r) ≡ Some key → StandsFor (standing c run (e ∷ past)) n key
+    pub begun_for : (n : ℕ) (key : Key) → e ≡ Admit w r (Incarnate n) → key_in (call_of past r) ≡ Some key → StandsFor (standing c run (e ∷ past)) n key
     begun_for n key is has =
         let s1 = changed c run past e s in
         let a : Activation = record { number = length s.activations; adapter = adapter_met (walk s.nodes key.path); path = key.path; oid = key.oid; phase = Begun; ending = false; quiet = false; out = false; cleanup = false; remaining = false; etherealized = false } in

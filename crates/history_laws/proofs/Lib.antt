@@ -10,3 +10,9 @@ mod Undone
 mod RunRows
 mod Keyed
 mod KindKept
+mod Incarnations
+mod Line
+mod LineRuns
+mod LineIncarnated
+mod LineEtherealized
+mod OneServant

@@ -4,6 +4,7 @@ use Rattle.history_laws.proofs.CommandsGo.{commands_go}
 use Rattle.history_laws.proofs.Flown.{is_trying, trial_is_tried}
 use Rattle.history_laws.proofs.HeldRows.{IsFreed, held_rows, is_busy_slot, is_held}
 use Rattle.history_laws.proofs.Idle.{all_landed, dying_gone, ending_finished, living_active, mapped_none, none_admitted, none_changing}
+use Rattle.history_laws.proofs.Line.{still}
 use Rattle.history_laws.proofs.Workers.{below_sixteen}
 use Rattle.history_laws.specs.Undone.{AreIdle, IsAllDone, IsAtFlight, IsHeldBack, IsInHand}
 use Rattle.poa_base.specs.declared.Call.{Call}

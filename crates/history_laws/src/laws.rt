@@ -3,6 +3,9 @@ ghost use Rattle.std.specs.Prelude.{◌≡◌, ℕ, List};
 ghost use Rattle.poa_base.specs.declared.Config.{Config};
 ghost use Rattle.poa_base.specs.declared.Entry.{Entry};
 ghost use Rattle.poa_tree.specs.Trees.{In};
+ghost use Rattle.poa_base.specs.declared.Kind.{Kind};
+ghost use Rattle.poa_history.specs.States.{Stored};
+ghost use Rattle.history_laws.specs.OneLine.{BringsFresh, AreIncarnated, IsOneLine, HasLineState, KeepsLineState};
 ghost use Rattle.poa_history.specs.declared.activation.Activation.{Activation};
 ghost use Rattle.poa_history.specs.Alone.{IsGivenAlone};
 ghost use Rattle.poa_history.specs.Bounds.{IsWithinLimits};
@@ -23,4 +26,16 @@ pub fn nothing_stays_undone()
 /// An activation is etherealized exactly where a worker that had it in hand said so.
 pub fn etherealized_are_told()
     ensures { (c : Config) (run limit : ℕ) (h : List Entry) → IsGiven c run → IsGivenAlone c run → IsWithinLimits c limit → IsLegal c run limit h → (a : Activation) → In a (standing c run h).activations → a.etherealized ≡ was_told h a.number }
+{}
+
+/// The updates of an object are one line. Let a path have a servant activator whose first matching rule brings an id
+/// fresh servants of a kind, let each activation of the id be begun by a request that had it incarnated, and none
+/// be ended first by a destroy that etherealizes nothing. Then its requests are answered as by one servant that is
+/// never taken down, with any number of deactivations, destructions and re-creations between them; the servant that
+/// it has is in that one servant's state; and where one was etherealized and each activation of the id is over, that
+/// state is what is stored. CORBA 3.3 Part 1, section 15.3.6.
+pub fn servants_are_one_line()
+    ensures line { (c : Config) (run limit : ℕ) (h : List Entry) → IsGiven c run → IsGivenAlone c run → IsWithinLimits c limit → IsLegal c run limit h → (opened : Stored) (kind : Kind) (p : List (List ℕ)) (oid : List ℕ) → BringsFresh c p oid kind → AreIncarnated c run h p oid → IsOneLine c run opened kind h p oid }
+    ensures state { (c : Config) (run limit : ℕ) (h : List Entry) → IsGiven c run → IsGivenAlone c run → IsWithinLimits c limit → IsLegal c run limit h → (opened : Stored) (kind : Kind) (p : List (List ℕ)) (oid : List ℕ) → BringsFresh c p oid kind → AreIncarnated c run h p oid → HasLineState c run opened kind h p oid }
+    ensures kept { (c : Config) (run limit : ℕ) (h : List Entry) → IsGiven c run → IsGivenAlone c run → IsWithinLimits c limit → IsLegal c run limit h → (opened : Stored) (kind : Kind) (p : List (List ℕ)) (oid : List ℕ) → BringsFresh c p oid kind → AreIncarnated c run h p oid → KeepsLineState c run opened kind h p oid }
 {}
