@@ -44,7 +44,7 @@ pub record IsFreed (f : Facts) : Type 0 where
   pub settled_slot : is_busy_slot f.slot ≡ false
   pub idle : f.busy ≡ false
 
-third_false : (x y z : Bool) → z ≡ false → (x && (y && z)) ≡ false
+pub third_false : (x y z : Bool) → z ≡ false → (x && (y && z)) ≡ false
 third_false true true z is = is
 third_false true false z is = refl
 third_false false y z is = refl

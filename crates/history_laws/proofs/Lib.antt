@@ -6,7 +6,7 @@ mod Flown
 mod HeldRows
 mod Idle
 mod CommandsGo
-mod Undone
+pub mod Undone
 mod RunRows
 mod Keyed
 mod KindKept
@@ -15,4 +15,5 @@ mod Line
 mod LineRuns
 mod LineIncarnated
 mod LineEtherealized
-mod OneServant
+pub mod OneServant
+pub mod FirstWorker

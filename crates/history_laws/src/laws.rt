@@ -1,5 +1,5 @@
 //! What holds of every legal history in the long run.
-ghost use Rattle.std.specs.Prelude.{◌≡◌, ℕ, List};
+ghost use Rattle.std.specs.Prelude.{◌≡◌, ℕ, List, None};
 ghost use Rattle.poa_base.specs.declared.Config.{Config};
 ghost use Rattle.poa_base.specs.declared.Entry.{Entry};
 ghost use Rattle.poa_tree.specs.Trees.{In};
@@ -12,6 +12,9 @@ ghost use Rattle.poa_history.specs.Bounds.{IsWithinLimits};
 ghost use Rattle.poa_history.specs.Changes.{standing};
 ghost use Rattle.poa_history.specs.Legal.{IsLegal};
 ghost use Rattle.poa_history.specs.Sound.{IsGiven};
+ghost use Rattle.poa_history.specs.Stages.{stage};
+ghost use Rattle.poa_history.specs.Turns.{turn};
+ghost use Rattle.poa_history.specs.declared.stage.Stage.TheVariants.{Free};
 ghost use Rattle.history_laws.specs.Undone.{AreIdle, IsInHand, IsAllDone, was_told};
 
 /// Nothing stays undone. What was begun is in the hands of exactly one of the sixteen workers: each request in
@@ -21,6 +24,12 @@ ghost use Rattle.history_laws.specs.Undone.{AreIdle, IsInHand, IsAllDone, was_to
 pub fn nothing_stays_undone()
     ensures in_hand { (c : Config) (run limit : ℕ) (h : List Entry) → IsGiven c run → IsGivenAlone c run → IsWithinLimits c limit → IsLegal c run limit h → IsInHand c run h }
     ensures done { (c : Config) (run limit : ℕ) (h : List Entry) → IsGiven c run → IsGivenAlone c run → IsWithinLimits c limit → IsLegal c run limit h → AreIdle c run h → IsAllDone c run h }
+{}
+
+/// The first worker tells for all: where it has no next entry, and no worker has begun anything, none of the sixteen
+/// has a next entry. Another worker is held from more, since MAIN_THREAD_MODEL makes it wait for the first.
+pub fn first_worker_tells()
+    ensures { (c : Config) (run : ℕ) (h : List Entry) → turn c run h 0 ≡ None → ((w : ℕ) → stage h w ≡ Free) → AreIdle c run h }
 {}
 
 /// An activation is etherealized exactly where a worker that had it in hand said so.
