@@ -82,7 +82,7 @@ module _ (c : Config) (run : ℕ) (past : List Entry) where
       let t = changed c run past e s in
       let found = in_image (let_out c t) b t.activations there in
       let acts : t.activations ≡ map (at_number n (come_to (phase_by c n a))) s.activations =
-        ap (λ y. (changed c run past y s).activations) is ∙ (ap (λ g. (with_incarnated c g a s).activations) at ∙ incarnated_activations c s r n a) in
+      ap (λ y. (changed c run past y s).activations) is ∙ (ap (λ g. (with_incarnated c g a s).activations) at ∙ incarnated_activations c s r n a) in
       let d = changed_at n (come_to (phase_by c n a)) (come_number (phase_by c n a)) found.0 (subst (λ xs. In found.0 xs) acts found.1) (sym (let_same c t found.0 (λ y. y.number) refl) ∙ (ap (λ y. y.number) (sym found.2) ∙ number)) in
       let phase' : (come_to (phase_by c n a) d.0).phase ≡ Begun = ap (λ y. y.phase) (sym d.3) ∙ (sym (let_same c t found.0 (λ y. y.phase) refl) ∙ (ap (λ y. y.phase) (sym found.2) ∙ phase)) in
       cond_both (is_begun d.0) (record d.0 { phase = phase_by c n a }) d.0 (λ y. y.phase ≡ Begun → ⊥) (λ _. phase_ended c n a) (λ none at'. true≢false (sym (phase_begun d.0 at') ∙ none)) phase'
@@ -93,7 +93,7 @@ module _ (c : Config) (run : ℕ) (past : List Entry) where
       let t = changed c run past e s in
       let found = in_image (let_out c t) b t.activations there in
       let acts : t.activations ≡ map (at_number n (λ a. record a { etherealized = true })) s.activations =
-        ap (λ z. (changed c run past z s).activations) is ∙ ap (λ g. (with_etherealized g s).activations) at in
+      ap (λ z. (changed c run past z s).activations) is ∙ ap (λ g. (with_etherealized g s).activations) at in
       let d = changed_at n (λ a. record a { etherealized = true }) (λ _. refl) found.0 (subst (λ xs. In found.0 xs) acts found.1) (sym (let_same c t found.0 (λ z. z.number) refl) ∙ (ap (λ z. z.number) (sym found.2) ∙ number)) in
       ap (λ z. z.etherealized) found.2 ∙ (let_same c t found.0 (λ z. z.etherealized) refl ∙ ap (λ z. z.etherealized) d.3)
 

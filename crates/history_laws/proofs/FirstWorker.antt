@@ -1,5 +1,4 @@
 -- Where the first worker has no next entry, and no worker has begun anything, none has a next entry.
---use Rattle.poa_choose.specs.Table.{own}
 use Rattle.history_laws.proofs.HeldRows.{is_held, third_false}
 use Rattle.history_laws.proofs.Idle.{first_none, given_none, mapped_none}
 use Rattle.history_laws.specs.Undone.{AreIdle}
@@ -120,5 +119,5 @@ module _ (c : Config) (run : ℕ) (h : List Entry) where
       let both = first_none (removal c (standing c run h) 0) (admission c run h 0) (ap (next_of c run h 0) (sym (free 0)) ∙ none) in
       ap (next_of c run h w) (free w)
       ∙ ap₂ (λ x y. option_or x y)
-        (none_mapped (λ a. TakeOut w a.number (not a.quiet)) (find (is_due c (standing c run h)) (standing c run h).activations) (mapped_none (λ a. TakeOut 0 a.number (not a.quiet)) (find (is_due c (standing c run h)) (standing c run h).activations) both.0))
-        (none_given (admission_of c run h w) (arrivals h) (λ r less. admission_for_all w r (given_none (admission_of c run h 0) (arrivals h) both.1 r less)))
+      (none_mapped (λ a. TakeOut w a.number (not a.quiet)) (find (is_due c (standing c run h)) (standing c run h).activations) (mapped_none (λ a. TakeOut 0 a.number (not a.quiet)) (find (is_due c (standing c run h)) (standing c run h).activations) both.0))
+      (none_given (admission_of c run h w) (arrivals h) (λ r less. admission_for_all w r (given_none (admission_of c run h 0) (arrivals h) both.1 r less)))

@@ -1,5 +1,4 @@
 -- Where nothing is in flight or changing, the table of verdicts holds nothing but what a manager in the state HOLDING holds.
---use Rattle.poa_choose.specs.Table.{own}
 use Rattle.poa_base.specs.Policies.{is_main_thread, is_retain, is_single_thread}
 use Rattle.poa_base.specs.declared.Cause.TheVariants.{Adapter, Manager as ManagerCause, Trial}
 use Rattle.poa_base.specs.declared.Endpoint.{Endpoint}

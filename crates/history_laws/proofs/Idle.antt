@@ -217,7 +217,7 @@ module _ (c : Config) (run limit : ℕ) (given : IsGiven c run) (alone : IsGiven
       ]
 
   -- of an adapter that was destroyed nothing is left
-  dying_done : (n : Node) → In n s.nodes → n.dying ≡ true → is_done_with c s n ≡ true
+  pub dying_done : (n : Node) → In n s.nodes → n.dying ≡ true → is_done_with c s n ≡ true
   dying_done n there dying =
       ap₂ (λ x y. x && y) dying
       (ap₂ (λ x y. x && y)

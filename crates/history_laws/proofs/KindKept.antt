@@ -1,5 +1,4 @@
 -- A servant stays of its kind.
---use Rattle.poa_base.specs.declared.Body.{Body}
 use Rattle.history_laws.specs.OneLine.{calls_on, line_opening, line_state, state_after}
 use Rattle.poa_base.specs.declared.Call.{Call}
 use Rattle.poa_base.specs.declared.Call.TheVariants.{Line, Locate, Request}

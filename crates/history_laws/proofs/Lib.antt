@@ -17,3 +17,7 @@ mod LineIncarnated
 mod LineEtherealized
 pub mod OneServant
 pub mod FirstWorker
+mod Decided
+mod Waiting
+mod Since
+pub mod Answered

@@ -58,16 +58,21 @@ module _ (c : Config) (run limit : ℕ) (opened : Stored) (kind : Kind) (p : Lis
           | activating_id q i servant done adapter path of_id at ↦ never_named servant b.number (sym at ∙ carries.complete)
           | referring q servant n k done lives known implicit adapter path of_id at ↦ never_named servant b.number (sym at ∙ carries.complete)
         ])
-        | activation_stood a was step ↦ (a, was, step, elim step.came [
-          | inr came ↦ inr came
-          | inl kept ↦ inl (record {
-            there = was;
-            on_path = sym step.later.path ∙ carries.on_path;
-            on_oid = sym step.later.oid ∙ carries.on_oid;
-            complete = sym kept ∙ (carries.complete ∙ ap (λ n. Complete (FreshServant n)) step.later.number);
-            untold = false_from_ne_true a.etherealized (λ told. true≢false (sym (step.later.etherealized told) ∙ carries.untold));
-          })
-        ])
+        | activation_stood a was step ↦ (
+          a,
+          was,
+          step,
+          elim step.came [
+            | inr came ↦ inr came
+            | inl kept ↦ inl (record {
+              there = was;
+              on_path = sym step.later.path ∙ carries.on_path;
+              on_oid = sym step.later.oid ∙ carries.on_oid;
+              complete = sym kept ∙ (carries.complete ∙ ap (λ n. Complete (FreshServant n)) step.later.number);
+              untold = false_from_ne_true a.etherealized (λ told. true≢false (sym (step.later.etherealized told) ∙ carries.untold));
+            })
+          ],
+        )
       ]
 
   -- what carries goes on to, unless the entry etherealizes it

@@ -99,7 +99,7 @@ module _ (c : Config) (run limit : ℕ) (given : IsGiven c run) (alone : IsGiven
   told_off off =
       still c run limit opened kind p oid past e sound is no_brings
       (λ a there on_path on_oid tells. (let same = tells_it a there tells in
-          true≢false (sym (ap₂ (λ x y. x && y) (ap (λ q. same_path q p) (ap (λ x. x.path) (sym same) ∙ on_path) ∙ same_path_self p) (ap (λ i. same_bytes i oid) (ap (λ x. x.oid) (sym same) ∙ on_oid) ∙ same_self oid)) ∙ off)))
+      true≢false (sym (ap₂ (λ x y. x && y) (ap (λ q. same_path q p) (ap (λ x. x.path) (sym same) ∙ on_path) ∙ same_path_self p) (ap (λ i. same_bytes i oid) (ap (λ x. x.oid) (sym same) ∙ on_oid) ∙ same_self oid)) ∙ off)))
       (λ a carries. refl)
       (stored_as None (stored_by ∙ ap (λ b. if b then (elim it.phase [ Complete t ↦ fresh_only t | Begun ↦ None | Void ↦ None ]) else None) off))
       refl refl

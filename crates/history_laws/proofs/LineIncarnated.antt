@@ -114,7 +114,7 @@ module _ (c : Config) (run limit : ℕ) (given : IsGiven c run) (alone : IsGiven
   state_stays a carries (Fresh m) brings_m =
       cond_both (a.number == m) _ (state_of c run opened past (FreshServant a.number)) (λ x. x ≡ state_of c run opened past (FreshServant a.number))
       (λ same. absurd (let at : a.number ≡ it.number = eqb-true a.number m same ∙ brought_number it m brings_m in
-          let f : Complete (FreshServant a.number) ≡ Begun = sym carries.complete ∙ (ap (λ x. x.phase) (sound.activation_alone a it carries.there it_in at) ∙ it_begun) in cc))
+      let f : Complete (FreshServant a.number) ≡ Begun = sym carries.complete ∙ (ap (λ x. x.phase) (sound.activation_alone a it carries.there it_in at) ∙ it_begun) in cc))
       (λ _. refl)
   state_stays a carries (Named name) brings_m = refl
   state_stays a carries Double brings_m = refl

@@ -166,8 +166,8 @@ module _ (c : Config) (run limit : ℕ) (given : IsGiven c run) (alone : IsGiven
           let number : a.number ≡ served.0.number = (stands_alone c run limit past given alone within legal.1).fresh served.0 a.number served.1 (served.3.1 ∙ ap (λ t. Complete t) sid') in
           let same : it.it ≡ a = sound.activation_alone it.it a it.there carries.there (it.number ∙ (sym served.2 ∙ sym number)) in
           on_pair_is ∙ ap₂ (λ x y. x && y)
-            (ap (λ q. same_path q p) (sym it.path ∙ (ap (λ x. x.path) same ∙ carries.on_path)) ∙ same_path_self p)
-            (ap (λ i. same_bytes i oid) (sym it.oid ∙ (ap (λ x. x.oid) same ∙ carries.on_oid)) ∙ same_self oid)
+          (ap (λ q. same_path q p) (sym it.path ∙ (ap (λ x. x.path) same ∙ carries.on_path)) ∙ same_path_self p)
+          (ap (λ i. same_bytes i oid) (sym it.oid ∙ (ap (λ x. x.oid) same ∙ carries.on_oid)) ∙ same_self oid)
 
       never_named : (name : List ℕ) → servant_named c name ≡ Some (FreshServant a.number) → ⊥
       never_named name = elim (servant_number c name) as (λ o. (elim o as (λ _. Option Sid) [ Some k ↦ Some (NamedServant k) | None ↦ None ]) ≡ Some (FreshServant a.number) → ⊥) [
@@ -195,7 +195,7 @@ module _ (c : Config) (run limit : ℕ) (given : IsGiven c run) (alone : IsGiven
       (λ a there on_path on_oid phase b. (let f : Run w ≡ Incarnated b.worker b.answer = b.same in cc))
       (λ a there on_path on_oid tells. (let f : Run w ≡ Etherealized tells.0 tells.1 tells.2 = tells.3 in cc))
       (λ a carries. (let other : is_servant (FreshServant a.number) the_servant ≡ false = false_from_ne_true (is_servant (FreshServant a.number) the_servant) (λ its. true≢false (sym (runs_its_own a carries its) ∙ off)) in
-          ap (λ b. if b then (acted (state_of c run opened past (FreshServant a.number)) the_call).0 else state_of c run opened past (FreshServant a.number)) other))
+      ap (λ b. if b then (acted (state_of c run opened past (FreshServant a.number)) the_call).0 else state_of c run opened past (FreshServant a.number)) other))
       refl
       (ap (λ b. if b then the_call ∷ calls_on past p oid else calls_on past p oid) off)
       (ap (λ b. if b then reply_run c run opened past the_servant the_call ∷ replies_on c run opened past p oid else replies_on c run opened past p oid) off)

@@ -1,6 +1,4 @@
 -- Where an adapter keeps its objects and has a servant manager, no default servant and no locator's servant runs.
---use Rattle.poa_choose.specs.Table.{own}
---use Rattle.poa_base.specs.declared.Completion.TheVariants.{No as NotCompleted}
 use Rattle.poa_base.specs.Policies.{is_retain, is_servant_manager}
 use Rattle.poa_base.specs.declared.Cause.TheVariants.{Adapter, Trial}
 use Rattle.poa_base.specs.declared.Endpoint.{Endpoint}

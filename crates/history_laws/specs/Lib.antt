@@ -1,4 +1,2 @@
-
-
 pub mod Undone
 pub mod OneLine

@@ -1,5 +1,5 @@
 //! What holds of every legal history in the long run.
-ghost use Rattle.std.specs.Prelude.{◌≡◌, ℕ, List, None};
+ghost use Rattle.std.specs.Prelude.{◌≡◌, ◌<◌, ◌⊎◌, ℕ, true, List, None};
 ghost use Rattle.poa_base.specs.declared.Config.{Config};
 ghost use Rattle.poa_base.specs.declared.Entry.{Entry};
 ghost use Rattle.poa_tree.specs.Trees.{In};
@@ -9,13 +9,15 @@ ghost use Rattle.history_laws.specs.OneLine.{BringsFresh, AreIncarnated, IsOneLi
 ghost use Rattle.poa_history.specs.declared.activation.Activation.{Activation};
 ghost use Rattle.poa_history.specs.Alone.{IsGivenAlone};
 ghost use Rattle.poa_history.specs.Bounds.{IsWithinLimits};
+ghost use Rattle.poa_history.specs.Arrivals.{arrivals};
 ghost use Rattle.poa_history.specs.Changes.{standing};
+ghost use Rattle.poa_history.specs.Replies.{decided};
 ghost use Rattle.poa_history.specs.Legal.{IsLegal};
 ghost use Rattle.poa_history.specs.Sound.{IsGiven};
 ghost use Rattle.poa_history.specs.Stages.{stage};
 ghost use Rattle.poa_history.specs.Turns.{turn};
 ghost use Rattle.poa_history.specs.declared.stage.Stage.TheVariants.{Free};
-ghost use Rattle.history_laws.specs.Undone.{AreIdle, IsInHand, IsAllDone, was_told};
+ghost use Rattle.history_laws.specs.Undone.{AreIdle, IsInHand, IsHeldBack, IsAllDone, was_told};
 
 /// Nothing stays undone. What was begun is in the hands of exactly one of the sixteen workers: each request in
 /// flight and each trial, each incarnation, and each etherealization. So where none of them has a next entry,
@@ -24,6 +26,12 @@ ghost use Rattle.history_laws.specs.Undone.{AreIdle, IsInHand, IsAllDone, was_to
 pub fn nothing_stays_undone()
     ensures in_hand { (c : Config) (run limit : ℕ) (h : List Entry) → IsGiven c run → IsGivenAlone c run → IsWithinLimits c limit → IsLegal c run limit h → IsInHand c run h }
     ensures done { (c : Config) (run limit : ℕ) (h : List Entry) → IsGiven c run → IsGivenAlone c run → IsWithinLimits c limit → IsLegal c run limit h → AreIdle c run h → IsAllDone c run h }
+{}
+
+/// Every call is answered. Where no worker has a next entry, each call that arrived is decided, a command that waits
+/// too, or a manager in the state HOLDING holds it back.
+pub fn calls_are_answered()
+    ensures { (c : Config) (run limit : ℕ) (h : List Entry) → IsGiven c run → IsGivenAlone c run → IsWithinLimits c limit → IsLegal c run limit h → AreIdle c run h → (r : ℕ) → r < arrivals h → (decided c run h r ≡ true) ⊎ IsHeldBack c run h r }
 {}
 
 /// The first worker tells for all: where it has no next entry, and no worker has begun anything, none of the sixteen
