@@ -1,5 +1,5 @@
 //! What holds of every run of an accepted configuration.
-ghost use Rattle.std.specs.Prelude.{◌≡◌, ℕ, suc, true, false, ◌<◌, ◌^◌, List};
+ghost use Rattle.std.specs.Prelude.{◌≡◌, ℕ, suc, true, false, ◌<◌, ◌^◌, ◌⊎◌, List};
 ghost use Rattle.poa_base.specs.declared.Config.{Config};
 ghost use Rattle.poa_base.specs.declared.Entry.{Entry};
 ghost use Rattle.poa_base.specs.declared.Kind.{Kind};
@@ -8,14 +8,16 @@ ghost use Rattle.poa_tree.specs.declared.node.Node.{Node};
 ghost use Rattle.poa_tree.specs.Paths.{is_root};
 ghost use Rattle.poa_tree.specs.Trees.{In};
 ghost use Rattle.poa_history.specs.Alone.{IsGivenAlone, StandsAlone};
+ghost use Rattle.poa_history.specs.Arrivals.{arrivals};
 ghost use Rattle.poa_history.specs.Changes.{standing};
+ghost use Rattle.poa_history.specs.Replies.{decided};
 ghost use Rattle.poa_history.specs.Destroyed.{was_destroyed, IsEnded, IsEmptied};
 ghost use Rattle.poa_history.specs.Ends.{is_gone};
 ghost use Rattle.poa_history.specs.InFlight.{IsManned};
 ghost use Rattle.poa_history.specs.Lifetime.{HasLifetime};
 ghost use Rattle.poa_history.specs.Sound.{IsGiven, IsSound};
 ghost use Rattle.poa_history.specs.States.{Stored};
-ghost use Rattle.history_laws.specs.Undone.{AreIdle, IsInHand, IsAllDone};
+ghost use Rattle.history_laws.specs.Undone.{AreIdle, IsInHand, IsHeldBack, IsAllDone};
 ghost use Rattle.history_laws.specs.OneLine.{BringsFresh, AreIncarnated, IsOneLine, HasLineState, KeepsLineState};
 ghost use Rattle.history_openings.specs.Runs.{IsRun};
 
@@ -89,6 +91,12 @@ pub fn lifetimes_are_kept()
 pub fn nothing_stays_undone()
     ensures in_hand { (c : Config) (run limit : ℕ) (h : List Entry) → IsRun c run limit h → IsInHand c run h }
     ensures done { (c : Config) (run limit : ℕ) (h : List Entry) → IsRun c run limit h → AreIdle c run h → IsAllDone c run h }
+{}
+
+/// Every call is answered. Where no worker has a next entry, each call that arrived is decided, a command that waits
+/// too, or a manager in the state HOLDING holds it back.
+pub fn calls_are_answered()
+    ensures { (c : Config) (run limit : ℕ) (h : List Entry) → IsRun c run limit h → AreIdle c run h → (r : ℕ) → r < arrivals h → (decided c run h r ≡ true) ⊎ IsHeldBack c run h r }
 {}
 
 /// The updates of an object are one line. Let a path have a servant activator whose first matching rule brings an id
