@@ -35,6 +35,9 @@ const ERROR: &[u8] = b"GIOP\x01\x02\0\x06\0\0\0\0";
 const LOCATE: &[u8] =
     b"GIOP\x01\x02\x01\x03$\0\0\0\x03\0\0\0\0\0\0\0\x18\0\0\0POA\x01\0\0\0\0\x01\0\0\0\0\0\0\x08\0\0\0\x01\0\0\0\x01";
 
+// The LocateReply that the object of id 3 is here.
+const HERE_FOR_3: &[u8] = b"GIOP\x01\x02\x01\x04\x08\0\0\0\x03\0\0\0\x01\0\0\0";
+
 // The value 5 for id 1 and for id 2, also in the other byte order, and false for id 1.
 const FIVE_FOR_1: &[u8] =
     b"GIOP\x01\x02\x01\x01\x14\0\0\0\x01\0\0\0\0\0\0\0\0\0\0\0\x05\0\0\0\0\0\0\0";
@@ -206,8 +209,8 @@ fn tells_the_place_of_a_bad_message_behind_the_replies(rt: HostRuntime) -> Resul
         &rt,
         alloc,
         &[ADD, LOCATE, ERROR],
-        Status::Unbuilt { at: 72 },
-        &[FIVE_FOR_1],
+        Status::Malformed { at: 120 },
+        &[FIVE_FOR_1, HERE_FOR_3, ERROR],
     )
 }
 
@@ -544,7 +547,6 @@ fn each_status_has_a_number_and_a_line(rt: HostRuntime) -> Result<(), Fail> {
             19,
             b"input limit 4294967296".as_slice(),
         ),
-        (Status::Unbuilt { at: 72 }, 20, b"unbuilt at 72".as_slice()),
     ] {
         assert_eq!(rt; status.number(), number);
         let text = status.to_string(alloc)?;
