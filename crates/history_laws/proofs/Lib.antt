@@ -21,3 +21,5 @@ mod Decided
 mod Waiting
 mod Since
 pub mod Answered
+mod RootStays
+pub mod Shut

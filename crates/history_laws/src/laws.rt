@@ -17,7 +17,7 @@ ghost use Rattle.poa_history.specs.Sound.{IsGiven};
 ghost use Rattle.poa_history.specs.Stages.{stage};
 ghost use Rattle.poa_history.specs.Turns.{turn};
 ghost use Rattle.poa_history.specs.declared.stage.Stage.TheVariants.{Free};
-ghost use Rattle.history_laws.specs.Undone.{AreIdle, IsInHand, IsHeldBack, IsAllDone, was_told};
+ghost use Rattle.history_laws.specs.Undone.{AreIdle, IsInHand, IsHeldBack, IsAllDone, IsAllOver, was_shut, was_told};
 
 /// Nothing stays undone. What was begun is in the hands of exactly one of the sixteen workers: each request in
 /// flight and each trial, each incarnation, and each etherealization. So where none of them has a next entry,
@@ -29,9 +29,11 @@ pub fn nothing_stays_undone()
 {}
 
 /// Every call is answered. Where no worker has a next entry, each call that arrived is decided, a command that waits
-/// too, or a manager in the state HOLDING holds it back.
+/// too, or a manager in the state HOLDING holds it back. Where moreover a `shutdown` was done, every activation is
+/// void or finished, and every call is decided.
 pub fn calls_are_answered()
-    ensures { (c : Config) (run limit : ℕ) (h : List Entry) → IsGiven c run → IsGivenAlone c run → IsWithinLimits c limit → IsLegal c run limit h → AreIdle c run h → (r : ℕ) → r < arrivals h → (decided c run h r ≡ true) ⊎ IsHeldBack c run h r }
+    ensures answered { (c : Config) (run limit : ℕ) (h : List Entry) → IsGiven c run → IsGivenAlone c run → IsWithinLimits c limit → IsLegal c run limit h → AreIdle c run h → (r : ℕ) → r < arrivals h → (decided c run h r ≡ true) ⊎ IsHeldBack c run h r }
+    ensures shut { (c : Config) (run limit : ℕ) (h : List Entry) → IsGiven c run → IsGivenAlone c run → IsWithinLimits c limit → IsLegal c run limit h → AreIdle c run h → was_shut h ≡ true → IsAllOver c run h }
 {}
 
 /// The first worker tells for all: where it has no next entry, and no worker has begun anything, none of the sixteen

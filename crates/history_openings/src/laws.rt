@@ -17,7 +17,7 @@ ghost use Rattle.poa_history.specs.InFlight.{IsManned};
 ghost use Rattle.poa_history.specs.Lifetime.{HasLifetime};
 ghost use Rattle.poa_history.specs.Sound.{IsGiven, IsSound};
 ghost use Rattle.poa_history.specs.States.{Stored};
-ghost use Rattle.history_laws.specs.Undone.{AreIdle, IsInHand, IsHeldBack, IsAllDone};
+ghost use Rattle.history_laws.specs.Undone.{AreIdle, IsInHand, IsHeldBack, IsAllDone, IsAllOver, was_shut};
 ghost use Rattle.history_laws.specs.OneLine.{BringsFresh, AreIncarnated, IsOneLine, HasLineState, KeepsLineState};
 ghost use Rattle.history_openings.specs.Runs.{IsRun};
 
@@ -94,9 +94,11 @@ pub fn nothing_stays_undone()
 {}
 
 /// Every call is answered. Where no worker has a next entry, each call that arrived is decided, a command that waits
-/// too, or a manager in the state HOLDING holds it back.
+/// too, or a manager in the state HOLDING holds it back. Where moreover a `shutdown` was done, every activation is
+/// void or finished, and every call is decided.
 pub fn calls_are_answered()
-    ensures { (c : Config) (run limit : ℕ) (h : List Entry) → IsRun c run limit h → AreIdle c run h → (r : ℕ) → r < arrivals h → (decided c run h r ≡ true) ⊎ IsHeldBack c run h r }
+    ensures answered { (c : Config) (run limit : ℕ) (h : List Entry) → IsRun c run limit h → AreIdle c run h → (r : ℕ) → r < arrivals h → (decided c run h r ≡ true) ⊎ IsHeldBack c run h r }
+    ensures shut { (c : Config) (run limit : ℕ) (h : List Entry) → IsRun c run limit h → AreIdle c run h → was_shut h ≡ true → IsAllOver c run h }
 {}
 
 /// The updates of an object are one line. Let a path have a servant activator whose first matching rule brings an id
