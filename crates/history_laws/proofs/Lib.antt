@@ -23,3 +23,4 @@ mod Since
 pub mod Answered
 mod RootStays
 pub mod Shut
+pub mod Collecting

@@ -1,7 +1,8 @@
 //! What holds of every legal history in the long run.
-ghost use Rattle.std.specs.Prelude.{◌≡◌, ◌<◌, ◌⊎◌, ℕ, true, List, None};
+ghost use Rattle.std.specs.Prelude.{◌≡◌, ◌<◌, ◌⊎◌, ◌∷◌, ℕ, true, List, None};
 ghost use Rattle.poa_base.specs.declared.Config.{Config};
 ghost use Rattle.poa_base.specs.declared.Entry.{Entry};
+ghost use Rattle.poa_base.specs.declared.Entry.TheVariants.{Collect};
 ghost use Rattle.poa_tree.specs.Trees.{In};
 ghost use Rattle.poa_base.specs.declared.Kind.{Kind};
 ghost use Rattle.poa_history.specs.States.{Stored};
@@ -40,6 +41,12 @@ pub fn calls_are_answered()
 /// has a next entry. Another worker is held from more, since MAIN_THREAD_MODEL makes it wait for the first.
 pub fn first_worker_tells()
     ensures { (c : Config) (run : ℕ) (h : List Entry) → turn c run h 0 ≡ None → ((w : ℕ) → stage h w ≡ Free) → AreIdle c run h }
+{}
+
+/// That a reply is given to its connection changes no worker's next entry. So a run that was idle stays so while
+/// its replies are collected.
+pub fn collecting_changes_no_turn()
+    ensures { (c : Config) (run limit : ℕ) (h : List Entry) → IsGiven c run → IsGivenAlone c run → IsWithinLimits c limit → IsLegal c run limit h → (conn a w : ℕ) → turn c run (Collect conn a ∷ h) w ≡ turn c run h w }
 {}
 
 /// An activation is etherealized exactly where a worker that had it in hand said so.
