@@ -40,7 +40,7 @@ use Rattle.poa_choose.specs.Table.{own}
 module _ (f : Facts) where
   -- what the table holds from the first worker it holds from each
   abbrev HeldFromAll : (ℕ → Choice) → Type 0
-  HeldFromAll row = is_held (row 0) ≡ true → (w : ℕ) → is_held (row w) ≡ true
+  HeldFromAll choices = is_held (choices 0) ≡ true → (w : ℕ) → is_held (choices w) ≡ true
 
   for_all : (choice : Choice) → HeldFromAll (λ w. choice)
   for_all choice holds w = holds

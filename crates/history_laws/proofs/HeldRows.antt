@@ -112,10 +112,10 @@ module _ (f : Facts) where
 
     -- what it holds, a manager in the state HOLDING holds from every worker
     abbrev IsHeldAll : (ℕ → Choice) → Type 0
-    IsHeldAll row = is_held (row 0) ≡ true → (f.state ≡ Holding) × ((w : ℕ) → row w ≡ Held (Some (ManagerCause f.manager)))
+    IsHeldAll choices = is_held (choices 0) ≡ true → (f.state ≡ Holding) × ((w : ℕ) → choices w ≡ Held (Some (ManagerCause f.manager)))
 
-    goes_on : (row : ℕ → Choice) → Goes (row 0) → IsHeldAll row
-    goes_on row goes holds = absurd (true≢false (sym holds ∙ goes))
+    goes_on : (choices : ℕ → Choice) → Goes (choices 0) → IsHeldAll choices
+    goes_on choices goes holds = absurd (true≢false (sym holds ∙ goes))
 
     by_state : (on : ℕ → Choice) → Goes (on 0) → (state : ManagerState) → f.state ≡ state → IsHeldAll (λ w. state_rule f state (on w))
     by_state on goes Holding at = λ _. (at, λ w. refl)

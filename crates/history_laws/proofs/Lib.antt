@@ -21,3 +21,6 @@ mod Decided
 mod Waiting
 mod Since
 pub mod Answered
+mod RootStays
+pub mod Shut
+pub mod Collecting

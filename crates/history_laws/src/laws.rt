@@ -1,7 +1,8 @@
 //! What holds of every legal history in the long run.
-ghost use Rattle.std.specs.Prelude.{◌≡◌, ◌<◌, ◌⊎◌, ℕ, true, List, None};
+ghost use Rattle.std.specs.Prelude.{◌≡◌, ◌<◌, ◌⊎◌, ◌∷◌, ℕ, true, List, None};
 ghost use Rattle.poa_base.specs.declared.Config.{Config};
 ghost use Rattle.poa_base.specs.declared.Entry.{Entry};
+ghost use Rattle.poa_base.specs.declared.Entry.TheVariants.{Collect};
 ghost use Rattle.poa_tree.specs.Trees.{In};
 ghost use Rattle.poa_base.specs.declared.Kind.{Kind};
 ghost use Rattle.poa_history.specs.States.{Stored};
@@ -17,7 +18,7 @@ ghost use Rattle.poa_history.specs.Sound.{IsGiven};
 ghost use Rattle.poa_history.specs.Stages.{stage};
 ghost use Rattle.poa_history.specs.Turns.{turn};
 ghost use Rattle.poa_history.specs.declared.stage.Stage.TheVariants.{Free};
-ghost use Rattle.history_laws.specs.Undone.{AreIdle, IsInHand, IsHeldBack, IsAllDone, was_told};
+ghost use Rattle.history_laws.specs.Undone.{AreIdle, IsInHand, IsHeldBack, IsAllDone, IsAllOver, was_shut, was_told};
 
 /// Nothing stays undone. What was begun is in the hands of exactly one of the sixteen workers: each request in
 /// flight and each trial, each incarnation, and each etherealization. So where none of them has a next entry,
@@ -29,15 +30,23 @@ pub fn nothing_stays_undone()
 {}
 
 /// Every call is answered. Where no worker has a next entry, each call that arrived is decided, a command that waits
-/// too, or a manager in the state HOLDING holds it back.
+/// too, or a manager in the state HOLDING holds it back. Where moreover a `shutdown` was done, every activation is
+/// void or finished, and every call is decided.
 pub fn calls_are_answered()
-    ensures { (c : Config) (run limit : ℕ) (h : List Entry) → IsGiven c run → IsGivenAlone c run → IsWithinLimits c limit → IsLegal c run limit h → AreIdle c run h → (r : ℕ) → r < arrivals h → (decided c run h r ≡ true) ⊎ IsHeldBack c run h r }
+    ensures answered { (c : Config) (run limit : ℕ) (h : List Entry) → IsGiven c run → IsGivenAlone c run → IsWithinLimits c limit → IsLegal c run limit h → AreIdle c run h → (r : ℕ) → r < arrivals h → (decided c run h r ≡ true) ⊎ IsHeldBack c run h r }
+    ensures shut { (c : Config) (run limit : ℕ) (h : List Entry) → IsGiven c run → IsGivenAlone c run → IsWithinLimits c limit → IsLegal c run limit h → AreIdle c run h → was_shut h ≡ true → IsAllOver c run h }
 {}
 
 /// The first worker tells for all: where it has no next entry, and no worker has begun anything, none of the sixteen
 /// has a next entry. Another worker is held from more, since MAIN_THREAD_MODEL makes it wait for the first.
 pub fn first_worker_tells()
     ensures { (c : Config) (run : ℕ) (h : List Entry) → turn c run h 0 ≡ None → ((w : ℕ) → stage h w ≡ Free) → AreIdle c run h }
+{}
+
+/// That a reply is given to its connection changes no worker's next entry. So a run that was idle stays so while
+/// its replies are collected.
+pub fn collecting_changes_no_turn()
+    ensures { (c : Config) (run limit : ℕ) (h : List Entry) → IsGiven c run → IsGivenAlone c run → IsWithinLimits c limit → IsLegal c run limit h → (conn a w : ℕ) → turn c run (Collect conn a ∷ h) w ≡ turn c run h w }
 {}
 
 /// An activation is etherealized exactly where a worker that had it in hand said so.

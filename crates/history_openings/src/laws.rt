@@ -1,7 +1,8 @@
 //! What holds of every run of an accepted configuration.
-ghost use Rattle.std.specs.Prelude.{◌≡◌, ℕ, suc, true, false, ◌<◌, ◌^◌, ◌⊎◌, List};
+ghost use Rattle.std.specs.Prelude.{◌≡◌, ℕ, suc, true, false, ◌<◌, ◌^◌, ◌⊎◌, ◌∷◌, List};
 ghost use Rattle.poa_base.specs.declared.Config.{Config};
 ghost use Rattle.poa_base.specs.declared.Entry.{Entry};
+ghost use Rattle.poa_base.specs.declared.Entry.TheVariants.{Collect};
 ghost use Rattle.poa_base.specs.declared.Kind.{Kind};
 ghost use Rattle.conf_rules.specs.Rules.{KeepsRules};
 ghost use Rattle.poa_tree.specs.declared.node.Node.{Node};
@@ -17,7 +18,8 @@ ghost use Rattle.poa_history.specs.InFlight.{IsManned};
 ghost use Rattle.poa_history.specs.Lifetime.{HasLifetime};
 ghost use Rattle.poa_history.specs.Sound.{IsGiven, IsSound};
 ghost use Rattle.poa_history.specs.States.{Stored};
-ghost use Rattle.history_laws.specs.Undone.{AreIdle, IsInHand, IsHeldBack, IsAllDone};
+ghost use Rattle.poa_history.specs.Turns.{turn};
+ghost use Rattle.history_laws.specs.Undone.{AreIdle, IsInHand, IsHeldBack, IsAllDone, IsAllOver, was_shut};
 ghost use Rattle.history_laws.specs.OneLine.{BringsFresh, AreIncarnated, IsOneLine, HasLineState, KeepsLineState};
 ghost use Rattle.history_openings.specs.Runs.{IsRun};
 
@@ -95,9 +97,17 @@ pub fn nothing_stays_undone()
 {}
 
 /// Every call is answered. Where no worker has a next entry, each call that arrived is decided, a command that waits
-/// too, or a manager in the state HOLDING holds it back.
+/// too, or a manager in the state HOLDING holds it back. Where moreover a `shutdown` was done, every activation is
+/// void or finished, and every call is decided.
 pub fn calls_are_answered()
-    ensures { (c : Config) (run limit : ℕ) (h : List Entry) → IsRun c run limit h → AreIdle c run h → (r : ℕ) → r < arrivals h → (decided c run h r ≡ true) ⊎ IsHeldBack c run h r }
+    ensures answered { (c : Config) (run limit : ℕ) (h : List Entry) → IsRun c run limit h → AreIdle c run h → (r : ℕ) → r < arrivals h → (decided c run h r ≡ true) ⊎ IsHeldBack c run h r }
+    ensures shut { (c : Config) (run limit : ℕ) (h : List Entry) → IsRun c run limit h → AreIdle c run h → was_shut h ≡ true → IsAllOver c run h }
+{}
+
+/// That a reply is given to its connection changes no worker's next entry. So a run that was idle stays so while
+/// its replies are collected.
+pub fn collecting_changes_no_turn()
+    ensures { (c : Config) (run limit : ℕ) (h : List Entry) → IsRun c run limit h → (conn a w : ℕ) → turn c run (Collect conn a ∷ h) w ≡ turn c run h w }
 {}
 
 /// The updates of an object are one line. Let a path have a servant activator whose first matching rule brings an id
