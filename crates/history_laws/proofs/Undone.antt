@@ -36,7 +36,6 @@ use Rattle.poa_history.specs.declared.flight.Flight.{Flight}
 use Rattle.poa_history.specs.declared.stage.Stage.{Stage}
 use Rattle.poa_history.specs.declared.stage.Stage.TheVariants.{Free, Incarnating, Ran, Removing, Serving, Trying}
 use Rattle.poa_tree.proofs.Finding.{find_in, find_none}
-use Rattle.poa_tree.specs.Adapters.{above}
 use Rattle.poa_tree.specs.Trees.{In}
 use Rattle.poa_tree.specs.Walks.{adapter_met, child_met, walk}
 use Rattle.std.proofs.Common.{◌∙◌, ap, ap₂, arith, inl, inr, subst, sym}
