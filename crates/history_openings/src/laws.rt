@@ -1,18 +1,26 @@
 //! What holds of every run of an accepted configuration.
-ghost use Rattle.std.specs.Prelude.{◌≡◌, ℕ, suc, true, false, ◌<◌, ◌^◌, List};
+ghost use Rattle.std.specs.Prelude.{◌≡◌, ℕ, suc, true, false, ◌<◌, ◌^◌, ◌⊎◌, ◌∷◌, List};
 ghost use Rattle.poa_base.specs.declared.Config.{Config};
 ghost use Rattle.poa_base.specs.declared.Entry.{Entry};
+ghost use Rattle.poa_base.specs.declared.Entry.TheVariants.{Collect};
+ghost use Rattle.poa_base.specs.declared.Kind.{Kind};
 ghost use Rattle.conf_rules.specs.Rules.{KeepsRules};
 ghost use Rattle.poa_tree.specs.declared.node.Node.{Node};
 ghost use Rattle.poa_tree.specs.Paths.{is_root};
 ghost use Rattle.poa_tree.specs.Trees.{In};
 ghost use Rattle.poa_history.specs.Alone.{IsGivenAlone, StandsAlone};
+ghost use Rattle.poa_history.specs.Arrivals.{arrivals};
 ghost use Rattle.poa_history.specs.Changes.{standing};
+ghost use Rattle.poa_history.specs.Replies.{decided};
 ghost use Rattle.poa_history.specs.Destroyed.{was_destroyed, IsEnded, IsEmptied};
 ghost use Rattle.poa_history.specs.Ends.{is_gone};
 ghost use Rattle.poa_history.specs.InFlight.{IsManned};
 ghost use Rattle.poa_history.specs.Lifetime.{HasLifetime};
 ghost use Rattle.poa_history.specs.Sound.{IsGiven, IsSound};
+ghost use Rattle.poa_history.specs.States.{Stored};
+ghost use Rattle.poa_history.specs.Turns.{turn};
+ghost use Rattle.history_laws.specs.Undone.{AreIdle, IsInHand, IsHeldBack, IsAllDone, IsAllOver, was_shut};
+ghost use Rattle.history_laws.specs.OneLine.{BringsFresh, AreIncarnated, IsOneLine, HasLineState, KeepsLineState};
 ghost use Rattle.history_openings.specs.Runs.{IsRun};
 
 /// What stands at the start is sound: the adapters that are created then make a tree, and the configured
@@ -73,7 +81,43 @@ pub fn in_flight_has_its_worker()
 /// Every run keeps the lifetime of its activations: an activation begins once, when every earlier one of its id
 /// is over; requests run in it only between its completion and its removal; it is taken out at most once, with
 /// nothing in flight in it, and no later admission names it; it is etherealized at most once, after that, by the
-/// worker that took it out. CORBA 3.3 Part 1, sections 15.2.4 and 15.3.6.
+/// worker that took it out. No two configured objects of one adapter have one id. CORBA 3.3 Part 1, sections
+/// 15.2.4 and 15.3.6.
 pub fn lifetimes_are_kept()
     ensures { (c : Config) (run limit : ℕ) (h : List Entry) → IsRun c run limit h → HasLifetime c run h }
+{}
+
+/// Nothing stays undone. What was begun is in the hands of exactly one of the sixteen workers: each request in
+/// flight and each trial, each incarnation, and each etherealization. So where none of them has a next entry,
+/// nothing is in flight, every activation that is ending is finished, every adapter that was destroyed is gone,
+/// and each arrival that is unadmitted is held back by a manager in the state HOLDING.
+pub fn nothing_stays_undone()
+    ensures in_hand { (c : Config) (run limit : ℕ) (h : List Entry) → IsRun c run limit h → IsInHand c run h }
+    ensures done { (c : Config) (run limit : ℕ) (h : List Entry) → IsRun c run limit h → AreIdle c run h → IsAllDone c run h }
+{}
+
+/// Every call is answered. Where no worker has a next entry, each call that arrived is decided, a command that waits
+/// too, or a manager in the state HOLDING holds it back. Where moreover a `shutdown` was done, every activation is
+/// void or finished, and every call is decided.
+pub fn calls_are_answered()
+    ensures answered { (c : Config) (run limit : ℕ) (h : List Entry) → IsRun c run limit h → AreIdle c run h → (r : ℕ) → r < arrivals h → (decided c run h r ≡ true) ⊎ IsHeldBack c run h r }
+    ensures shut { (c : Config) (run limit : ℕ) (h : List Entry) → IsRun c run limit h → AreIdle c run h → was_shut h ≡ true → IsAllOver c run h }
+{}
+
+/// That a reply is given to its connection changes no worker's next entry. So a run that was idle stays so while
+/// its replies are collected.
+pub fn collecting_changes_no_turn()
+    ensures { (c : Config) (run limit : ℕ) (h : List Entry) → IsRun c run limit h → (conn a w : ℕ) → turn c run (Collect conn a ∷ h) w ≡ turn c run h w }
+{}
+
+/// The updates of an object are one line. Let a path have a servant activator whose first matching rule brings an id
+/// fresh servants of a kind, let each activation of the id be begun by a request that had it incarnated, and none
+/// be ended first by a destroy that etherealizes nothing. Then its requests are answered as by one servant that is
+/// never taken down, with any number of deactivations, destructions and re-creations between them; the servant that
+/// it has is in that one servant's state; and where one was etherealized and each activation of the id is over, that
+/// state is what is stored. CORBA 3.3 Part 1, section 15.3.6.
+pub fn servants_are_one_line()
+    ensures line { (c : Config) (run limit : ℕ) (h : List Entry) → IsRun c run limit h → (opened : Stored) (kind : Kind) (p : List (List ℕ)) (oid : List ℕ) → BringsFresh c p oid kind → AreIncarnated c run h p oid → IsOneLine c run opened kind h p oid }
+    ensures state { (c : Config) (run limit : ℕ) (h : List Entry) → IsRun c run limit h → (opened : Stored) (kind : Kind) (p : List (List ℕ)) (oid : List ℕ) → BringsFresh c p oid kind → AreIncarnated c run h p oid → HasLineState c run opened kind h p oid }
+    ensures kept { (c : Config) (run limit : ℕ) (h : List Entry) → IsRun c run limit h → (opened : Stored) (kind : Kind) (p : List (List ℕ)) (oid : List ℕ) → BringsFresh c p oid kind → AreIncarnated c run h p oid → KeepsLineState c run opened kind h p oid }
 {}

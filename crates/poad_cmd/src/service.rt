@@ -191,7 +191,6 @@ impl Service {
             }
             Stop::Closed => Some(self.read_whole()),
             Stop::Refused { at } => Some(Status::Malformed { at }),
-            Stop::Unbuilt { at } => Some(Status::Unbuilt { at }),
             Stop::Full { arrivals, bytes } => Some(Status::Limit { arrivals, bytes }),
             Stop::NoMemory => Some(Status::WantMemory),
         }
@@ -216,7 +215,7 @@ fn write_last<K: Sink>(why: Stop, sink: &mut K) -> bool
     match why {
         Stop::Refused { .. } => deliver(sink, &write_error()),
         Stop::Full { .. } => deliver(sink, &write_closing()),
-        Stop::Waits { .. } | Stop::Closed | Stop::Unbuilt { .. } | Stop::NoMemory => true,
+        Stop::Waits { .. } | Stop::Closed | Stop::NoMemory => true,
     }
 }
 
@@ -226,7 +225,6 @@ fn stop_of(fault: MsgFault, at: u64) -> Stop
 {
     match fault {
         MsgFault::Malformed | MsgFault::NotForServer => Stop::Refused { at },
-        MsgFault::Unbuilt => Stop::Unbuilt { at },
         MsgFault::WantMemory => Stop::NoMemory,
     }
 }

@@ -1,0 +1,26 @@
+mod Workers
+mod Begun
+mod Dying
+mod Told
+mod Flown
+mod HeldRows
+mod Idle
+mod CommandsGo
+pub mod Undone
+mod RunRows
+mod Keyed
+mod KindKept
+mod Incarnations
+mod Line
+mod LineRuns
+mod LineIncarnated
+mod LineEtherealized
+pub mod OneServant
+pub mod FirstWorker
+mod Decided
+mod Waiting
+mod Since
+pub mod Answered
+mod RootStays
+pub mod Shut
+pub mod Collecting
