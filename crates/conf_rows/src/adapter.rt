@@ -120,12 +120,7 @@ fn preset_given(
     ensures value { FieldGives result (the_preset_given at (find_in servants.now) policies.now (table_view table.now)) }
     ensures found { IfOk result (λ preset. IfSome preset (IsPreset (IsNumber (find_in servants.now)) policies.now)) }
 {
-    only_if(
-        alloc,
-        at,
-        "default",
-        policies.uses_default_servant(),
-    )?;
+    only_if(alloc, at, "default", policies.uses_default_servant())?;
     let servant = number_named(alloc, servants, at, table, "default")?;
     Ok(Some(servant))
 }
