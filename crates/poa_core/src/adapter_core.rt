@@ -83,7 +83,7 @@ impl Core {
         arriving::arrive(&mut self.inside, conn, call, size)
     }
 
-    /// A worker below 16 makes its next entry.
+    /// A worker below 16 makes its next entry. Where it has only to end what it began, that takes no memory.
     pub fn step(&mut self, worker: u32) -> Result<StepOut, WantMemory>
         requires { worker < 16 }
         ensures { answers.Steps worker self.old result self.new }
