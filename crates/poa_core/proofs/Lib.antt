@@ -13,3 +13,6 @@ pub mod NextTurn
 pub mod Filling
 pub mod ArrivedThen
 pub mod Begun
+pub mod TableFits
+pub mod CommandFits
+pub mod ReplyFits
