@@ -23,6 +23,11 @@ use Rattle.call_tables.specs.declared.wait.Wait.{Wait}
 use Rattle.call_tables.specs.declared.wait.Wait.TheVariants.{Nothing, Quiet, Off, Gone}
 use Rattle.call_tables.specs.declared.wait.Ordered.{Ordered}
 
+-- the entry admits an arrival
+abbrev pub admits : Entry → Bool
+admits (Admit w r verdict) = true
+admits e = false
+
 abbrev pub wait_for : ℕ → Standing → Order → Wait
 wait_for m s Activate = Nothing
 wait_for m s (Hold wait) = Quiet m

@@ -1,5 +1,5 @@
 //! What a command that waits is waiting for.
-ghost use Rattle.std.specs.Prelude.{◌≡◌, ◌==◌, ◌&&◌, ℕ, List, Some, None, if◌then◌else◌, not, option_copied, IfOk};
+ghost use Rattle.std.specs.Prelude.{◌≡◌, ◌==◌, ◌&&◌, ℕ, List, Some, None, if◌then◌else◌, false, not, option_copied, IfOk, IsOk};
 ghost use Rattle.poa_base.specs.declared.Entry.{Entry as EntryOf};
 ghost use Rattle.poa_history.specs.Changes.{standing as stands_after};
 ghost use Rattle.poa_history.specs.Logs as logs;
@@ -160,14 +160,15 @@ fn wait_begun(
 }
 
 /// What the arrival of an entry waits for from now on, where the entry admits it; `call` is its call, and
-/// `standing` what stands before.
+/// `standing` what stands before. Fails for want of memory, and only at an Admit.
 pub fn wait_by(
     config: &Config,
     standing: &Standing,
     entry: &Entry,
     call: Option<&Call>,
 ) -> Result<Option<Wait>, WantMemory>
-    ensures { (run : ℕ) (past : List EntryOf) → seen standing.now ≡ stands_after config.now run past → option_copied call.entry ≡ call_told past entry.now → IfOk result (λ wait. WaitIs config.now run past entry.now wait) }
+    ensures waits { (run : ℕ) (past : List EntryOf) → seen standing.now ≡ stands_after config.now run past → option_copied call.entry ≡ call_told past entry.now → IfOk result (λ wait. WaitIs config.now run past entry.now wait) }
+    ensures ends { waits.admits entry.now ≡ false → IsOk result }
 {
     match entry {
         Entry::Admit { verdict, .. } => wait_begun(config, standing, verdict, call),
@@ -188,13 +189,15 @@ fn manager_ordered(config: &Config, command: Option<&Command>) -> Result<Option<
     }
 }
 
-/// What an entry orders, where it admits a command to a manager; `call` is the call that it admits.
+/// What an entry orders, where it admits a command to a manager; `call` is the call that it admits. Fails for want
+/// of memory, and only at an Admit.
 pub fn ordered_by(
     config: &Config,
     entry: &Entry,
     call: Option<&Call>,
 ) -> Result<Option<Ordered>, WantMemory>
-    ensures { (past : List EntryOf) → option_copied call.entry ≡ call_told past entry.now → IfOk result (λ ordered. ordered ≡ waits.ordered_by config.now past entry.now) }
+    ensures orders { (past : List EntryOf) → option_copied call.entry ≡ call_told past entry.now → IfOk result (λ ordered. ordered ≡ waits.ordered_by config.now past entry.now) }
+    ensures ends { waits.admits entry.now ≡ false → IsOk result }
 {
     match entry {
         Entry::Admit {

@@ -62,8 +62,8 @@ module _ (conn size : ℕ) (call : Call) (old new : Inside) (ready : IsReady old
   abbrev e : Entry
   e = Arrive conn size call
 
-  same_stay : stay new.tables.tally ≡ stay old.tables.tally
-  same_stay = stay_after (history old) e old.tables.tally new.tables.tally refl ready.agrees.tables.tally noted.tables.tally
+  same_stay : stay new.tables ≡ stay old.tables
+  same_stay = stay_after (history old) e old.tables new.tables refl refl ready.agrees.tables noted.tables
 
   space_of : (l l' many many' s s' room room' more : ℕ) → l' ≡ l + 1 → many' ≡ many + more → more ≤ 1 → s' ≡ s → room' ≡ room → l + (many + s) + 2 ≤ room → l' + (many' + s') + 0 ≤ room'
   space_of l l' many many' s s' room room' more a b few c d fits = omega (arith, a, b, few, c, d, fits)
@@ -82,7 +82,7 @@ module _ (conn size : ℕ) (call : Call) (old new : Inside) (ready : IsReady old
               owed = owed_without new.config new.run new.limit (history old) conn size call noted.runs.legal new.desk.owing.items noted.before.which noted.before.each unasked;
             });
         space = space_of (vec_len old.entries) (vec_len new.entries) (length old.desk.owing.items + length old.desk.outbox.items) (length new.desk.owing.items + length new.desk.outbox.items)
-            (stay old.tables.tally) (stay new.tables.tally) (vec_capacity old.entries) (vec_capacity new.entries) 0 noted.len (none_more (length old.desk.owing.items + length old.desk.outbox.items) (length new.desk.owing.items + length new.desk.outbox.items) noted.as_many) (omega arith) same_stay noted.capacity ready.space;
+            (stay old.tables) (stay new.tables) (vec_capacity old.entries) (vec_capacity new.entries) 0 noted.len (none_more (length old.desk.owing.items + length old.desk.outbox.items) (length new.desk.owing.items + length new.desk.outbox.items) noted.as_many) (omega arith) same_stay noted.capacity ready.space;
       }
     where
       none_more : (a b : ℕ) → b ≡ a → b ≡ a + 0
@@ -105,7 +105,7 @@ module _ (conn size : ℕ) (call : Call) (old new : Inside) (ready : IsReady old
                   (new_owes new.config new.run new.limit (history old) conn size call noted.runs.legal row at (sym (ap (λ (o : Owing). o.conn) it)) (sym (ap (λ (o : Owing). o.number) it)) (sym (ap (λ (o : Owing). o.head) it)) (sym (ap (λ (o : Owing). o.wait) it))) asked);
             });
         space = space_of (vec_len old.entries) (vec_len new.entries) (length old.desk.owing.items + length old.desk.outbox.items) (length desk.owing.items + length desk.outbox.items)
-            (stay old.tables.tally) (stay new.tables.tally) (vec_capacity old.entries) (vec_capacity new.entries) 1 noted.len
+            (stay old.tables) (stay new.tables) (vec_capacity old.entries) (vec_capacity new.entries) 1 noted.len
             (one_more (length old.desk.owing.items + length old.desk.outbox.items) (length new.desk.owing.items) (length new.desk.outbox.items) (length desk.owing.items) (length desk.outbox.items) noted.as_many (ap length owing ∙ length-append new.desk.owing.items (row ∷ [])) (ap length outbox)) (omega arith) same_stay noted.capacity ready.space;
       }
     where

@@ -1,5 +1,5 @@
 -- A run that hasn't begun is kept.
-use Rattle.std.proofs.Common.{◌≡◌, ℕ, ◌+◌, ◌^◌, ◌<◌, ◌≤◌, [], length, reverse, refl, sym, ap, subst, vec_len, vec_capacity, arith}
+use Rattle.std.proofs.Common.{◌≡◌, ℕ, ◌+◌, ◌^◌, ◌<◌, ◌≤◌, [], length, reverse, refl, sym, ap, subst, ◌∙◌, vec_len, vec_capacity, arith}
 use Rattle.conf_rules.specs.Rules.{KeepsRules}
 use Rattle.call_tables.specs.Owed.{AreOwed}
 use Rattle.call_tables.specs.Decided.{AreFiled}
@@ -8,6 +8,7 @@ use Rattle.adapter_state.specs.State.{IsState}
 use Rattle.poa_core.specs.declared.inside.Inside.{Inside}
 use Rattle.poa_core.specs.Agrees.{Agrees, KnowsTables, opened_in}
 use Rattle.poa_core.specs.Kept.{IsKept, stay}
+use Rattle.poa_core.proofs.Endings.{none_begun}
 use Rattle.poa_core.proofs.Space.{stay_is}
 
 -- what is known of what was made
@@ -22,9 +23,9 @@ pub record IsNew (i : Inside) : Type 0 where
   pub room : HasRoom i.desk
   pub entries : i.entries.items ≡ []
   pub len : vec_len i.entries ≡ 0
-  pub space : 2 ≤ vec_capacity i.entries
+  pub space : 18 ≤ vec_capacity i.entries
 
-space_of : (l a b s room : ℕ) → l ≡ 0 → a ≡ 0 → b ≡ 0 → s ≡ 2 → 2 ≤ room → l + (a + b + s) + 0 ≤ room
+space_of : (l a b s room : ℕ) → l ≡ 0 → a ≡ 0 → b ≡ 0 → s ≡ 18 → 18 ≤ room → l + (a + b + s) + 0 ≤ room
 space_of l a b s room w x y z fits = omega (arith, w, x, y, z, fits)
 
 pub begun_kept : (i : Inside) → IsNew i → IsKept i
@@ -39,6 +40,6 @@ begun_kept i is =
             filed = subst (AreFiled i.config i.run (opened_in i) []) (sym is.outbox) (record { which = refl; each = λ f none. absurd none });
             room = is.room;
           });
-      space = space_of (vec_len i.entries) (length i.desk.owing.items) (length i.desk.outbox.items) (stay i.tables.tally) (vec_capacity i.entries)
-          is.len (ap length is.owing) (ap length is.outbox) (stay_is [] i.tables.tally is.tables.tally) is.space;
+      space = space_of (vec_len i.entries) (length i.desk.owing.items) (length i.desk.outbox.items) (stay i.tables) (vec_capacity i.entries)
+          is.len (ap length is.owing) (ap length is.outbox) (stay_is [] i.tables is.tables ∙ ap (λ n. 2 + n) none_begun) is.space;
     }

@@ -1,5 +1,6 @@
 -- A connection enters, or leaves.
 use Rattle.std.proofs.Common.{◌≡◌, ℕ, ◌+◌, ◌<◌, ◌≤◌, true, false, refl, length, vec_len, vec_capacity, arith}
+use Rattle.std.specs.Prelude.{Result, Ok, Err, OnOk, is_err}
 use Rattle.poa_base.specs.declared.Entry.TheVariants.{Entered, Left}
 use Rattle.poa_history.specs.Arrivals.{connections}
 use Rattle.poa_history.specs.Legal.{IsOpen}
@@ -21,13 +22,17 @@ entered_quiet conn i ready is few =
       left = record { which = agrees.filed.which; each = agrees.filed.each };
     })
 
+pub ok_so : {T E : Type 0} {P : Type 0} (r : Result T E) → OnOk r P → false ≡ is_err r → P
+ok_so (Ok x) p is = p
+ok_so (Err e) p is = absurd (let x : false ≡ true = is in cc)
+
 entered_one : (s s' : ℕ) → s' ≤ s + 1 → s' + 1 ≤ s + 2
 entered_one s s' more = omega (arith, more)
 
 pub entered_kept : (conn : ℕ) (old new : Inside) → IsReady old → IsNoted (Entered conn) old new → IsKept new
 entered_kept conn old new ready noted =
     kept_then 2 (Entered conn) old new noted refl
-    (entered_one (stay old.tables.tally) (stay new.tables.tally) (stay_entered (history old) conn old.tables.tally new.tables.tally ready.agrees.tables.tally noted.tables.tally)) ready.space
+    (entered_one (stay old.tables) (stay new.tables) (stay_entered (history old) conn old.tables new.tables ready.agrees.tables noted.tables)) ready.space
 
 pub left_quiet : (conn : ℕ) (i : Inside) → IsKept i → IsOpen (history i) conn → IsQuiet (history i) (Left conn) i
 left_quiet conn i kept open_ =
@@ -46,7 +51,7 @@ some_room l many s room some fits = omega (arith, some, fits)
 pub left_room : (conn : ℕ) (i : Inside) → IsKept i → IsOpen (history i) conn → HasRoomForEntry (Left conn) i
 left_room conn i kept open_ =
     record {
-      entries = some_room (vec_len i.entries) (length i.desk.owing.items + length i.desk.outbox.items) (stay i.tables.tally) (vec_capacity i.entries) (stay_open (history i) conn i.tables.tally open_ kept.agrees.tables.tally) kept.space;
+      entries = some_room (vec_len i.entries) (length i.desk.owing.items + length i.desk.outbox.items) (stay i.tables) (vec_capacity i.entries) (stay_open (history i) conn i.tables open_ kept.agrees.tables) kept.space;
       calls = λ is. absurd (let e : false ≡ true = is in cc);
       queue = λ is. absurd (let e : false ≡ true = is in cc);
       tally = tt;
@@ -59,4 +64,4 @@ less_one s s' is = omega (arith, is)
 pub left_kept : (conn : ℕ) (old new : Inside) → IsKept old → IsOpen (history old) conn → IsNoted (Left conn) old new → IsKept new
 left_kept conn old new kept open_ noted =
     kept_then 0 (Left conn) old new noted refl
-    (less_one (stay old.tables.tally) (stay new.tables.tally) (stay_left (history old) conn old.tables.tally new.tables.tally open_ kept.agrees.tables.tally noted.tables.tally)) kept.space
+    (less_one (stay old.tables) (stay new.tables) (stay_left (history old) conn old.tables new.tables open_ kept.agrees.tables noted.tables)) kept.space

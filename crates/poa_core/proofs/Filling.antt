@@ -69,7 +69,7 @@ module _ (conn size : ℕ) (i : Inside) (kept : IsKept i) (unfilled : is_filled 
   pub filled_room : HasRoomForEntry (Filled conn size) i
   filled_room =
       record {
-        entries = some_room (vec_len i.entries) (length i.desk.owing.items + length i.desk.outbox.items) (stay i.tables.tally) (vec_capacity i.entries) (stay_unfilled (history i) i.tables.tally unfilled kept.agrees.tables.tally) kept.space;
+        entries = some_room (vec_len i.entries) (length i.desk.owing.items + length i.desk.outbox.items) (stay i.tables) (vec_capacity i.entries) (stay_unfilled (history i) i.tables unfilled kept.agrees.tables) kept.space;
         calls = λ is. absurd (let e : false ≡ true = is in cc);
         queue = λ is. absurd (let e : false ≡ true = is in cc);
         tally = tt;
@@ -79,4 +79,4 @@ module _ (conn size : ℕ) (i : Inside) (kept : IsKept i) (unfilled : is_filled 
   pub filled_kept : (new : Inside) → IsNoted (Filled conn size) i new → IsKept new
   filled_kept new noted =
       kept_then 0 (Filled conn size) i new noted refl
-      (less_one (stay i.tables.tally) (stay new.tables.tally) (stay_filled (history i) conn size i.tables.tally new.tables.tally unfilled kept.agrees.tables.tally noted.tables.tally)) kept.space
+      (less_one (stay i.tables) (stay new.tables) (stay_filled (history i) conn size i.tables new.tables unfilled kept.agrees.tables noted.tables)) kept.space

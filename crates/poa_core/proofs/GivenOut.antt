@@ -41,8 +41,8 @@ module _ (conn : ℕ) (i : Inside) (kept : IsKept i) (desk : Desk) (given : IsGi
     kept_without =
         (let agrees = kept.agrees in record {
           agrees = record { runs = agrees.runs; state = agrees.state; tables = agrees.tables; owed = owed_still; filed = subst (AreFiled i.config i.run (opened_in i) (history i)) outbox_same agrees.filed; room = given.room };
-          space = subst (λ (fs : List Filed). vec_len i.entries + (length desk.owing.items + length fs + stay i.tables.tally) + 0 ≤ vec_capacity i.entries) outbox_same
-              (subst (λ os. vec_len i.entries + (length os + length i.desk.outbox.items + stay i.tables.tally) + 0 ≤ vec_capacity i.entries) (sym given.owing) kept.space);
+          space = subst (λ (fs : List Filed). vec_len i.entries + (length desk.owing.items + length fs + stay i.tables) + 0 ≤ vec_capacity i.entries) outbox_same
+              (subst (λ os. vec_len i.entries + (length os + length i.desk.outbox.items + stay i.tables) + 0 ≤ vec_capacity i.entries) (sym given.owing) kept.space);
         })
 
     pub none_next : next_reply i.config i.run (history i) conn ≡ None
@@ -58,7 +58,7 @@ module _ (conn : ℕ) (i : Inside) (kept : IsKept i) (desk : Desk) (given : IsGi
 
     pub space_for_one : HasSpace 1 then_
     space_for_one =
-        space_of (vec_len i.entries) (length i.desk.owing.items) (length desk.owing.items) (length i.desk.outbox.items) (length desk.outbox.items) (stay i.tables.tally) (vec_capacity i.entries)
+        space_of (vec_len i.entries) (length i.desk.owing.items) (length desk.owing.items) (length i.desk.outbox.items) (length desk.outbox.items) (stay i.tables) (vec_capacity i.entries)
         (ap length given.owing) one_less kept.space
 
     some_room : (l many s room : ℕ) → l + (many + s) + 1 ≤ room → l < room
@@ -67,7 +67,7 @@ module _ (conn : ℕ) (i : Inside) (kept : IsKept i) (desk : Desk) (given : IsGi
     pub collect_room : HasRoomForEntry (Collect conn f.arrival) then_
     collect_room =
         record {
-          entries = some_room (vec_len i.entries) (length desk.owing.items + length desk.outbox.items) (stay i.tables.tally) (vec_capacity i.entries) space_for_one;
+          entries = some_room (vec_len i.entries) (length desk.owing.items + length desk.outbox.items) (stay i.tables) (vec_capacity i.entries) space_for_one;
           calls = λ is. absurd (let e : false ≡ true = is in cc);
           queue = λ is. absurd (let e : false ≡ true = is in cc);
           tally = tt;
@@ -97,4 +97,4 @@ module _ (conn : ℕ) (i : Inside) (kept : IsKept i) (desk : Desk) (given : IsGi
     pub kept_with : (new : Inside) → IsNoted (Collect conn f.arrival) then_ new → IsKept new
     kept_with new noted =
         kept_then 1 (Collect conn f.arrival) then_ new noted refl
-        (at_most (stay new.tables.tally) (stay i.tables.tally) 1 (stay_after (history i) (Collect conn f.arrival) i.tables.tally new.tables.tally refl kept.agrees.tables.tally noted.tables.tally) (omega arith)) space_for_one
+        (at_most (stay new.tables) (stay i.tables) 1 (stay_after (history i) (Collect conn f.arrival) i.tables new.tables refl refl kept.agrees.tables noted.tables) (omega arith)) space_for_one

@@ -1,5 +1,5 @@
 -- The core is kept after an entry is noted.
-use Rattle.std.proofs.Common.{◌≡◌, ℕ, ◌+◌, ◌≤◌, true, false, List, ◌∷◌, length, reverse, sym, ap, subst, vec_len, vec_capacity, arith}
+use Rattle.std.proofs.Common.{◌≡◌, ℕ, ◌+◌, ◌≤◌, true, false, if◌then◌else◌, List, ◌∷◌, length, refl, reverse, sym, ap, subst, vec_len, vec_capacity, arith}
 use Rattle.std.specs.Prelude.{option_copied}
 use Rattle.poa_base.specs.declared.Entry.{Entry}
 use Rattle.poa_base.specs.declared.Entry.TheVariants.{Entered, Arrive, Filled, Left, Collect, Admit, Tried, Incarnated, Run, Done, TakeOut, Etherealized, Abandon}
@@ -19,10 +19,10 @@ use Rattle.adapter_state.specs.State.{is_turn}
 use Rattle.poa_core.specs.declared.inside.Inside.{Inside}
 use Rattle.poa_core.specs.Life.{Life}
 use Rattle.poa_core.specs.Agrees.{Agrees, KnowsTables, history, opened_in}
-use Rattle.poa_core.specs.Turning.{IsAsked}
+use Rattle.poa_core.specs.Turning.{IsAsked, is_ending}
 use Rattle.poa_core.specs.Noting.{IsNoted}
-use Rattle.poa_core.specs.Kept.{IsKept, HasSpace, life, stay}
-use Rattle.poa_core.proofs.Space.{stay_after, turns_keep, turns_arrive_none}
+use Rattle.poa_core.specs.Kept.{IsKept, HasSpace, life, needed, stay}
+use Rattle.poa_core.proofs.Space.{stay_turned, stay_ended, turns_arrive_none}
 
 -- the history goes on by the entry
 pub longer : (e : Entry) (old new : Inside) → IsNoted e old new → history new ≡ e ∷ history old
@@ -38,21 +38,31 @@ agrees_then e old new noted same =
 space_then : (k l l' many many' s s' room room' : ℕ) → l' ≡ l + 1 → many' ≡ many → s' + 1 ≤ s + k → room' ≡ room → l + (many + s) + k ≤ room → l' + (many' + s') + 0 ≤ room'
 space_then k l l' many many' s s' room room' a b c d fits = omega (arith, a, b, c, d, fits)
 
-pub kept_then : (k : ℕ) (e : Entry) (old new : Inside) → IsNoted e old new → arrivals (e ∷ history old) ≡ arrivals (history old) → stay new.tables.tally + 1 ≤ stay old.tables.tally + k → HasSpace k old → IsKept new
+pub kept_then : (k : ℕ) (e : Entry) (old new : Inside) → IsNoted e old new → arrivals (e ∷ history old) ≡ arrivals (history old) → stay new.tables + 1 ≤ stay old.tables + k → HasSpace k old → IsKept new
 kept_then k e old new noted same less space =
     record {
       agrees = agrees_then e old new noted same;
       space = space_then k (vec_len old.entries) (vec_len new.entries) (length old.desk.owing.items + length old.desk.outbox.items) (length new.desk.owing.items + length new.desk.outbox.items)
-          (stay old.tables.tally) (stay new.tables.tally) (vec_capacity old.entries) (vec_capacity new.entries) noted.len noted.as_many less noted.capacity space;
+          (stay old.tables) (stay new.tables) (vec_capacity old.entries) (vec_capacity new.entries) noted.len noted.as_many less noted.capacity space;
     }
 
 pub at_most : (a b k : ℕ) → a ≡ b → 1 ≤ k → a + 1 ≤ b + k
 at_most a b k is some = omega (arith, is, some)
 
-pub turn_kept : (e : Entry) (old new : Inside) → IsNoted e old new → is_turn e ≡ true → KnowsTables (history old) old.tables → HasSpace 2 old → IsKept new
-turn_kept e old new noted turn tables space =
-    kept_then 2 e old new noted (turns_arrive_none (history old) e turn)
-    (at_most (stay new.tables.tally) (stay old.tables.tally) 2 (stay_after (history old) e old.tables.tally new.tables.tally (turns_keep e turn) tables.tally noted.tables.tally) (omega arith)) space
+pub turn_kept : (e : Entry) (old new : Inside) → IsNoted e old new → is_turn e ≡ true → KnowsTables (history old) old.tables → HasSpace (needed e) old → IsKept new
+turn_kept e old new noted turn tables =
+    elim (is_ending e) as (λ b. is_ending e ≡ b → HasSpace (if b then 0 else 2) old → IsKept new) [
+      | true ↦ (λ ends space. kept_then 0 e old new noted (turns_arrive_none (history old) e turn)
+          (one_less (stay new.tables) (stay old.tables) (stay_ended new.config new.run new.limit (history old) e old.tables new.tables noted.runs.legal.0 turn ends tables noted.tables)) space)
+      | false ↦ (λ _ space. kept_then 2 e old new noted (turns_arrive_none (history old) e turn)
+          (one_more (stay new.tables) (stay old.tables) (stay_turned (history old) e old.tables new.tables turn tables noted.tables)) space)
+    ] refl
+  where
+    one_less : (a b : ℕ) → a + 1 ≡ b → a + 1 ≤ b + 0
+    one_less a b is = omega (arith, is)
+
+    one_more : (a b : ℕ) → a ≤ b + 1 → a + 1 ≤ b + 2
+    one_more a b is = omega (arith, is)
 
 -- the history of the run goes on
 pub runs_still : (e : Entry) (old new : Inside) → life new ≡ life old → IsRun old.config old.run old.limit (e ∷ history old) → IsRun new.config new.run new.limit (e ∷ history new)

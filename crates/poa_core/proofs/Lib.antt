@@ -2,8 +2,10 @@ pub mod Turned
 pub mod Tabled
 pub mod Noted
 pub mod Quieted
+pub mod Endings
 pub mod Space
 pub mod Connected
+pub mod Ready
 pub mod Keeping
 pub mod Taken
 pub mod GivenOut
@@ -11,3 +13,6 @@ pub mod NextTurn
 pub mod Filling
 pub mod ArrivedThen
 pub mod Begun
+pub mod TableFits
+pub mod CommandFits
+pub mod ReplyFits

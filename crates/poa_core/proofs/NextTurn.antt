@@ -1,5 +1,7 @@
 -- The next entry of a worker is its turn, and may follow.
-use Rattle.std.proofs.Common.{◌≡◌, ℕ, ◌<◌, true, false, List, ◌∷◌, Some, None, refl, sym, subst}
+use Rattle.std.proofs.Common.{◌≡◌, ℕ, ◌<◌, true, false, List, ◌∷◌, Some, None, refl, sym, ap, subst, ◌∙◌}
+use Rattle.std.specs.Prelude.{Result, Ok, Err, IsErr}
+use Rattle.std.specs.declared.alloc.AllocError.{AllocError}
 use Rattle.poa_base.specs.declared.Config.{Config}
 use Rattle.poa_base.specs.declared.Entry.{Entry}
 use Rattle.poa_base.specs.declared.Entry.TheVariants.{Entered, Arrive, Filled, Left, Collect, Admit, Tried, Incarnated, Run, Done, TakeOut, Etherealized, Abandon}
@@ -15,9 +17,13 @@ use Rattle.poa_history.specs.Legal.{IsTurn, MayFollow}
 use Rattle.poa_history.proofs.TurnIs.{mapped_by, goes_on, takes, admits, turned}
 use Rattle.history_openings.specs.Runs.{IsRun}
 use Rattle.standing_of.specs.Entries.{stage_at}
-use Rattle.arrival_tables.specs.Begun.{worker_of}
+use Rattle.arrival_tables.specs.Begun.{worker_of, only_ends}
 use Rattle.arrival_tables.proofs.Staging.{worker_stage}
 use Rattle.adapter_state.specs.State.{is_turn}
+use Rattle.poa_core.specs.Turning.{is_ending}
+use Rattle.poa_core.specs.Life.{Life}
+use Rattle.poa_core.specs.Answers.{Steps}
+use Rattle.poa_core.specs.declared.step_out.StepOut.{StepOut}
 
 pub record IsMade (w : ℕ) (e : Entry) : Type 0 where
   pub turn_is : is_turn e ≡ true
@@ -62,5 +68,27 @@ module _ (c : Config) (run limit : ℕ) (past : List Entry) (w : ℕ) (e : Entry
         may_follow (Collect conn r) by is = absurd (let f : None ≡ Some w = by in cc)
         may_follow (Abandon v) by is = absurd (let f : None ≡ Some w = by in cc)
 
+    -- what was begun and has only to be ended is ended next
+    pub ends_next : IsRun c run limit past → only_ends (stage past w) ≡ true → is_ending e ≡ true
+    ends_next runs only =
+        elim (turned c run past w e next) [
+          | goes_on on ↦ going_ends (stage past w) on only
+          | takes a free there due same ↦ absurd (let x : false ≡ true = sym (ap only_ends free) ∙ only in cc)
+          | admits r v free less unadmitted told same ↦ absurd (let x : false ≡ true = sym (ap only_ends free) ∙ only in cc)
+        ]
+      where
+        going_ends : (begun : Stage) → going_on c (standing c run past) w begun ≡ Some e → only_ends begun ≡ true → is_ending e ≡ true
+        going_ends (Ran r) is only = (let f : Some (Done w) ≡ Some e = is in let g : Done w ≡ e = cc in sym (ap is_ending g))
+        going_ends (Removing n) is only = subst (λ x. is_ending x ≡ true) (mapped_by (λ (a : Activation). Etherealized w a.cleanup a.remaining) (activation_numbered (standing c run past) n) e is).2 refl
+        going_ends Free is only = absurd (let x : false ≡ true = only in cc)
+        going_ends (Trying r) is only = absurd (let x : false ≡ true = only in cc)
+        going_ends (Incarnating r n) is only = absurd (let x : false ≡ true = only in cc)
+        going_ends (Serving r) is only = absurd (let x : false ≡ true = only in cc)
+
     pub begun_next : IsRun c run limit past → stage past w ≡ stage_at past e
     begun_next runs = sym (worker_stage c run limit past e w made.by (follows_next runs).legal.0).1
+
+-- a step that failed
+pub failed : (w : ℕ) (old new : Life) (r : Result StepOut AllocError) → IsErr r → is_abandoned old.history w ≡ false → only_ends (stage old.history w) ≡ false → new ≡ old → Steps w old r new
+failed w old new (Err fault) is going more same = (going, more, same)
+failed w old new (Ok out) is going more same = absurd (let x : false ≡ true = is in cc)

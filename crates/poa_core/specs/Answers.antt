@@ -13,6 +13,7 @@ use Rattle.poa_history.specs.Replies.{next_reply, reply_of, owed}
 use Rattle.poa_history.specs.Searches.{count_below}
 use Rattle.poa_history.specs.Stages.{stage, is_unadmitted, is_abandoned}
 use Rattle.poa_history.specs.Turns.{turn}
+use Rattle.arrival_tables.specs.Begun.{only_ends}
 use Rattle.run_tally.specs.Leaving.{is_shut, are_gone}
 pub use Rattle.run_tally.specs.Limits.{is_taken, filled_at}
 pub use Rattle.call_tables.specs.Owed.{head_of}
@@ -63,7 +64,7 @@ unadmitted h = count_below (is_unadmitted h) (arrivals h)
 abbrev pub is_run_over : List Entry → Bool
 is_run_over h = is_shut h && (are_gone h (connections h) && (unadmitted h == 0))
 
--- a worker makes its next entry
+-- a worker makes its next entry. Where it has only to end what it began, memory isn't wanting
 abbrev pub Steps : ℕ → Life → Result StepOut AllocError → Life → Type 0
 Steps w old (Ok step_out.Stopped) new = (is_abandoned old.history w ≡ true) × (new ≡ old)
 Steps w old (Ok (step_out.Idle over)) new =
@@ -71,7 +72,7 @@ Steps w old (Ok (step_out.Idle over)) new =
 Steps w old (Ok (step_out.Did point)) new =
     (is_abandoned old.history w ≡ false) × (point ≡ point_of (stage new.history w))
     × ((e : Entry) × (turn old.config old.run old.history w ≡ Some e) × (new ≡ with_entry e old))
-Steps w old (Err fault) new = (is_abandoned old.history w ≡ false) × (new ≡ old)
+Steps w old (Err fault) new = (is_abandoned old.history w ≡ false) × (only_ends (stage old.history w) ≡ false) × (new ≡ old)
 
 -- a connection is given its next reply
 abbrev pub Collects : ℕ → Life → Collected → Life → Type 0

@@ -1,28 +1,44 @@
 -- What stays true of the core between its calls.
-use Rattle.std.specs.Prelude.{◌≡◌, ℕ, ◌+◌, ◌≤◌, Bool, true, false, if◌then◌else◌, List, ◌∷◌, length, is_some, vec_len, vec_capacity}
+use Rattle.std.specs.Prelude.{◌≡◌, ℕ, ◌+◌, ◌≤◌, Bool, true, false, not, if◌then◌else◌, List, ◌∷◌, length, is_some, slice_index_or, vec_len, vec_capacity}
 use Rattle.poa_base.specs.declared.Entry.{Entry}
 use Rattle.poa_base.specs.declared.Entry.TheVariants.{Entered, Arrive, Filled, Left, Collect}
+use Rattle.poa_history.specs.declared.stage.Stage.TheVariants.{Free}
+use Rattle.poa_history.specs.Searches.{count_below}
 use Rattle.history_openings.specs.Runs.{IsRun}
 use Rattle.run_tally.specs.declared.Tally.{Tally}
 use Rattle.run_tally.specs.Tallies.{flag_of, HasRoomForOne as HasRoomForConnection}
 use Rattle.call_tables.specs.Desk.{AreLeft, HasRoomForOne}
+use Rattle.arrival_tables.specs.declared.workers.Workers.{Workers}
+use Rattle.arrival_tables.specs.Begun.{only_ends}
 use Rattle.arrival_tables.specs.Queued.{HasPlace}
 use Rattle.poa_core.specs.declared.inside.Inside.{Inside}
+use Rattle.poa_core.specs.declared.tables.Tables.{Tables}
 use Rattle.poa_core.specs.Life.{Life}
 use Rattle.call_tables.specs.Owed.{AreOwed}
 use Rattle.adapter_state.specs.State.{IsState}
 use Rattle.poa_core.specs.Agrees.{Agrees, KnowsTables, history, opened_in}
+use Rattle.poa_core.specs.Turning.{is_ending}
 
 abbrev pub unless : Bool → ℕ
 unless b = if b then 0 else 1
 
--- how many connections may leave, and whether the run may be filled
-abbrev pub stay : Tally → ℕ
-stay t = t.staying + unless (flag_of t.left.items 0) + unless (is_some t.filled)
+-- how many workers have only to end what they began, and how many haven't given up
+unfoldable pub by_workers : Workers → ℕ
+by_workers workers =
+    count_below (λ w. only_ends (slice_index_or workers.stages.items w Free)) 16 + count_below (λ w. not (slice_index_or workers.abandoned.items w false)) 16
 
--- how many entries may still come that take no memory: a Collect of each reply, a Left of each connection, one Filled
+-- how many connections may leave, and whether the run may be filled
+abbrev pub by_connections : Tally → ℕ
+by_connections t = t.staying + unless (flag_of t.left.items 0) + unless (is_some t.filled)
+
+-- how many entries of connections and workers may still come that take no memory, but those that collect a reply
+abbrev pub stay : Tables → ℕ
+stay t = by_connections t.tally + by_workers t.workers
+
+-- how many entries may still come that take no memory: a Collect of each reply, a Left of each connection, one Filled,
+-- a Done or an Etherealized of each worker that has only that to do, an Abandon of each worker
 abbrev pub to_come : Inside → ℕ
-to_come i = length i.desk.owing.items + length i.desk.outbox.items + stay i.tables.tally
+to_come i = length i.desk.owing.items + length i.desk.outbox.items + stay i.tables
 
 -- the journal has room for them, and for so many more
 abbrev pub HasSpace : ℕ → Inside → Type 0
@@ -31,6 +47,10 @@ HasSpace more i = vec_len i.entries + to_come i + more ≤ vec_capacity i.entrie
 pub record IsKept (i : Inside) : Type 0 where
   pub agrees : Agrees (history i) i
   pub space : HasSpace 0 i
+
+-- how much room an entry of a worker needs behind them: none where it only ends what was begun
+abbrev pub needed : Entry → ℕ
+needed e = if is_ending e then 0 else 2
 
 -- there is room for one entry more, whatever it is
 pub record IsReady (i : Inside) : Type 0 where

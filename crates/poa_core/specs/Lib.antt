@@ -5,3 +5,4 @@ pub mod Turning
 pub mod Noting
 pub mod Kept
 pub mod Arriving
+pub mod Fits

@@ -3,7 +3,7 @@ use Rattle.std.specs.Prelude.{◌≡◌, ℕ, Bool, true, false, List, ◌∷◌
 use Rattle.poa_base.specs.declared.Call.{Call}
 use Rattle.poa_base.specs.declared.Config.{Config}
 use Rattle.poa_base.specs.declared.Entry.{Entry}
-use Rattle.poa_base.specs.declared.Entry.TheVariants.{Admit, Run}
+use Rattle.poa_base.specs.declared.Entry.TheVariants.{Admit, Run, Done, Etherealized}
 use Rattle.poa_history.specs.States.{Stored, servant_run}
 use Rattle.history_openings.specs.Runs.{IsRun}
 use Rattle.standing_of.specs.Entries.{stage_at}
@@ -25,6 +25,12 @@ call_in e call = None
 abbrev pub is_run : Entry → Bool
 is_run (Run w) = true
 is_run e = false
+
+-- it only ends what was begun: its room was made by the entry that began it
+abbrev pub is_ending : Entry → Bool
+is_ending (Done w) = true
+is_ending (Etherealized w cleanup remaining) = true
+is_ending e = false
 
 -- an entry of a worker comes behind a history, with what the history says of it
 pub record IsAsked (c : Config) (run limit : ℕ) (opened : Stored) (past : List Entry) (k : Coming) (s : State) : Type 0 where

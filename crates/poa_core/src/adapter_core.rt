@@ -11,6 +11,7 @@ ghost use Rattle.poa_tree.specs.Nodes.{node_at};
 ghost use Rattle.poa_base.specs.declared.Entry.TheVariants.{Left};
 ghost use Rattle.poa_core.specs.Life.{begun, opened, with_entry};
 ghost use Rattle.poa_core.specs.Answers as answers;
+ghost use Rattle.poa_core.specs.Fits.{FitsItsCall};
 
 use crate::arrive_fault::ArriveFault;
 use crate::collected::Collected;
@@ -83,7 +84,7 @@ impl Core {
         arriving::arrive(&mut self.inside, conn, call, size)
     }
 
-    /// A worker below 16 makes its next entry.
+    /// A worker below 16 makes its next entry. Where it has only to end what it began, that takes no memory.
     pub fn step(&mut self, worker: u32) -> Result<StepOut, WantMemory>
         requires { worker < 16 }
         ensures { answers.Steps worker self.old result self.new }
@@ -91,10 +92,12 @@ impl Core {
         stepping::step(&mut self.inside, worker)
     }
 
-    /// A connection that entered is given its next reply. It may have left. Takes no memory.
+    /// A connection that entered is given its next reply, which is one to a call of its kind. It may have left. Takes
+    /// no memory.
     pub fn collect(&mut self, conn: u32) -> Collected
         requires { conn < connections self.old.history }
-        ensures { answers.Collects conn self.old result self.new }
+        ensures collects { answers.Collects conn self.old result self.new }
+        ensures fits { FitsItsCall self.old.history result }
     {
         collecting::collect(&mut self.inside, conn)
     }

@@ -10,8 +10,8 @@ use call_tables::Desk;
 use poa_base::{Config, Store, WantMemory};
 use std::alloc::Global;
 
-/// A run of a configuration, before its first entry. Room is kept for the first connection's leaving, and for the
-/// first call that isn't taken.
+/// A run of a configuration, before its first entry. Room is kept for the first connection's leaving, for the first
+/// call that isn't taken, and for the giving up of 16 workers.
 pub fn begin(
     alloc: Global,
     config: Config,
@@ -27,7 +27,7 @@ pub fn begin(
     let tables = tables::none(alloc)?;
     let state = adapter_state::opening(alloc, &config, run, &opening)?;
     let mut entries = Vec::new(alloc);
-    entries.try_reserve(2)?;
+    entries.try_reserve(18)?;
     Ok(Inside {
         alloc,
         config,

@@ -1,5 +1,7 @@
 //! Connections are given their replies.
+ghost use Rattle.poa_core.specs.Agrees.{history};
 ghost use Rattle.poa_core.specs.Answers.{Collects};
+ghost use Rattle.poa_core.specs.Fits.{FitsItsCall};
 ghost use Rattle.poa_core.specs.Kept.{IsKept, life};
 
 use crate::collected::Collected;
@@ -12,6 +14,7 @@ pub fn collect(inside: &mut Inside, conn: u32) -> Collected
     requires { IsKept inside.old }
     ensures kept { IsKept inside.new }
     ensures collected { Collects conn (life inside.old) result (life inside.new) }
+    ensures fits { FitsItsCall (history inside.old) result }
 {
     let Some(filed) = inside.desk.collect(conn) else {
         return Collected::Nothing {

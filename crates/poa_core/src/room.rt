@@ -1,13 +1,22 @@
 //! Room for what comes.
-ghost use Rattle.std.specs.Prelude.{◌≡◌, ◌+◌, ◌≤◌, None, ◌⊎◌, OnOk};
+ghost use Rattle.std.specs.Prelude.{◌≡◌, ◌+◌, ◌≤◌, ◌∷◌, None, true, ◌⊎◌, IsOk, OnOk};
 ghost use Rattle.std.specs.Option.{IsSomeAnd};
-ghost use Rattle.poa_core.specs.Kept.{IsKept, IsReady, life, to_come};
+ghost use Rattle.history_openings.specs.Runs.{IsRun};
+ghost use Rattle.poa_core.specs.Agrees.{history};
+ghost use Rattle.poa_core.specs.Kept.{HasSpace, IsKept, IsReady, life, needed, to_come};
+ghost use Rattle.poa_core.specs.Noting.{HasRoomForEntry};
+ghost use Rattle.poa_core.specs.Turning as turning;
 
 use crate::inside::Inside;
 use crate::tables;
-use poa_base::WantMemory;
+use poa_base::{Entry, WantMemory};
+
+/// How many entries of workers may still come that take no memory, at most: each of 16 may have to end what it
+/// began, and may give up.
+const WORKERS: usize = 32;
 
 /// How many entries may still come that take no memory, and some more; none where that is too many to count.
+#[tactic(auto, using(crate::proofs::Endings::workers_few))]
 fn most(inside: &Inside) -> Option<usize>
     ensures { IsSomeAnd result (λ n. to_come inside.now + 2 ≤ n) ⊎ (result ≡ None) }
 {
@@ -18,6 +27,7 @@ fn most(inside: &Inside) -> Option<usize>
         .len()
         .checked_add(inside.desk.outbox.len())?
         .checked_add(staying)?
+        .checked_add(WORKERS)?
         .checked_add(4)
 }
 
@@ -32,4 +42,29 @@ pub fn make_room(inside: &mut Inside) -> Result<(), WantMemory>
     inside.desk.reserve()?;
     let most = most(inside).ok_or(WantMemory)?;
     inside.entries.try_reserve(most)
+}
+
+/// Whether an entry only ends what was begun.
+fn is_ending(entry: &Entry) -> bool
+    ensures { result ≡ turning.is_ending entry.now }
+{
+    matches!(entry, Entry::Done { .. } | Entry::Etherealized { .. })
+}
+
+/// Makes room for an entry of a worker; all else is as it was. One that only ends what was begun has its room since
+/// then, and takes no memory.
+#[tactic(auto, using(crate::proofs::Ready::ending_room, crate::proofs::Ready::ending_space, crate::proofs::Ready::ready_space))]
+pub fn make_room_for(inside: &mut Inside, entry: &Entry) -> Result<(), WantMemory>
+    requires kept { IsKept inside.old }
+    requires follows { IsRun inside.old.config inside.old.run inside.old.limit (entry.now ∷ history inside.old) }
+    ensures room { OnOk result (HasRoomForEntry entry.now inside.new) }
+    ensures space { OnOk result (HasSpace (needed entry.now) inside.new) }
+    ensures kept { IsKept inside.new }
+    ensures life { life inside.new ≡ life inside.old }
+    ensures ends { turning.is_ending entry.now ≡ true → IsOk result }
+{
+    if is_ending(entry) {
+        return Ok(());
+    }
+    make_room(inside)
 }

@@ -1,6 +1,8 @@
 //! A worker makes its next entry.
-ghost use Rattle.std.specs.Prelude.{◌≡◌, ◌<◌, IfOk};
+ghost use Rattle.std.specs.Prelude.{◌≡◌, ◌<◌, true, IfOk, IsOk};
+ghost use Rattle.poa_history.specs.Stages as begun;
 ghost use Rattle.poa_history.specs.Turns.{turn};
+ghost use Rattle.arrival_tables.specs.Begun.{only_ends};
 ghost use Rattle.poa_core.specs.Answers as answers;
 ghost use Rattle.poa_core.specs.Agrees.{history};
 ghost use Rattle.poa_core.specs.Kept.{IsKept, life};
@@ -29,7 +31,8 @@ fn point_of(stage: Stage) -> Point
 fn next(inside: &Inside, worker: u32) -> Result<Option<Entry>, WantMemory>
     requires kept { IsKept inside.now }
     requires worker { worker < 16 }
-    ensures { IfOk result (λ entry. entry ≡ turn inside.now.config inside.now.run (history inside.now) worker) }
+    ensures next { IfOk result (λ entry. entry ≡ turn inside.now.config inside.now.run (history inside.now) worker) }
+    ensures ends { only_ends (begun.stage (history inside.now) worker) ≡ true → IsOk result }
 {
     let known = Known {
         config: &inside.config,
@@ -43,7 +46,7 @@ fn next(inside: &Inside, worker: u32) -> Result<Option<Entry>, WantMemory>
     known.next(inside.alloc, &inside.tables.workers, worker)
 }
 
-/// A worker below 16 makes its next entry; or nothing changes.
+/// A worker below 16 makes its next entry; or nothing changes. What was begun can always be ended.
 pub fn step(inside: &mut Inside, worker: u32) -> Result<StepOut, WantMemory>
     requires kept { IsKept inside.old }
     requires worker { worker < 16 }

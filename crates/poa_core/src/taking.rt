@@ -1,21 +1,23 @@
 //! A worker's entry is taken.
-ghost use Rattle.std.specs.Prelude.{◌≡◌, ◌∷◌, true, OnOk, OnErr};
+ghost use Rattle.std.specs.Prelude.{◌≡◌, ◌∷◌, true, IsOk, OnOk, OnErr};
 ghost use Rattle.history_openings.specs.Runs.{IsRun};
 ghost use Rattle.standing_of.specs.Entries.{stage_at};
 ghost use Rattle.adapter_state.specs.State.{is_turn};
 ghost use Rattle.poa_core.specs.Life.{with_entry};
 ghost use Rattle.poa_core.specs.Agrees.{history};
 ghost use Rattle.poa_core.specs.Kept.{IsKept, life};
+ghost use Rattle.poa_core.specs.Turning.{is_ending};
 
 use crate::inside::Inside;
 use crate::noting::note;
-use crate::room::make_room;
+use crate::room::make_room_for;
 use crate::turning::{bring, call_at, servant_in};
 use adapter_state::Coming;
 use poa_base::{Entry, WantMemory};
 use poa_history::Stage;
 
-/// An entry of a worker is taken: all of it takes effect and it stands in the journal, or nothing changes.
+/// An entry of a worker is taken: all of it takes effect and it stands in the journal, or nothing changes. One that
+/// only ends what was begun is always taken.
 pub fn take(inside: &mut Inside, entry: Entry, stage: Stage) -> Result<(), WantMemory>
     requires kept { IsKept inside.old }
     requires follows { IsRun inside.old.config inside.old.run inside.old.limit (entry ∷ history inside.old) }
@@ -24,8 +26,9 @@ pub fn take(inside: &mut Inside, entry: Entry, stage: Stage) -> Result<(), WantM
     ensures kept { IsKept inside.new }
     ensures ok { OnOk result (life inside.new ≡ with_entry entry (life inside.old)) }
     ensures err { OnErr result (life inside.new ≡ life inside.old) }
+    ensures ends { is_ending entry ≡ true → IsOk result }
 {
-    make_room(inside)?;
+    make_room_for(inside, &entry)?;
     let call = call_at(&inside.entries, &inside.tables.calls, &entry, stage);
     let runs = servant_in(
         &inside.config,

@@ -1,9 +1,10 @@
 //! The entries that workers make.
-ghost use Rattle.std.specs.Prelude.{◌≡◌, ◌∷◌, ℕ, false, List, reverse, option_copied, IfOk, OnOk, OnErr};
+ghost use Rattle.std.specs.Prelude.{◌≡◌, ◌∷◌, ℕ, true, false, List, reverse, option_copied, IfOk, IsOk, OnOk, OnErr};
 ghost use Rattle.poa_history.specs.Changes.{standing as stands_after};
 ghost use Rattle.poa_history.specs.States.{Stored, servant_run};
 ghost use Rattle.standing_of.specs.Entries.{stage_at};
 ghost use Rattle.standing_queries.specs.Seen.{seen};
+ghost use Rattle.arrival_tables.specs.Begun.{only_ends};
 ghost use Rattle.arrival_tables.specs.Placed.{KnowsCalls};
 ghost use Rattle.call_replies.specs.Comes.{call_at as the_call_at};
 ghost use Rattle.adapter_state.specs.State.{IsState};
@@ -68,14 +69,16 @@ fn call_admitted<'a>(coming: &Coming<'a>) -> Option<&'a Call>
     }
 }
 
-/// The servant of a request that runs.
+/// The servant of a request that runs. `WantMemory` stands for a number that doesn't fit 32 bits, and is never
+/// answered where what was begun is only to be ended.
 pub fn servant_in(
     config: &Config,
     standing: &Standing,
     entries: &[Entry],
     stage: Stage,
 ) -> Result<Option<Sid>, WantMemory>
-    ensures { (run : ℕ) → seen standing.now ≡ stands_after config.now run (reverse entries.now) → IfOk result (λ servant. servant ≡ servant_run config.now run (reverse entries.now) stage) }
+    ensures servant { (run : ℕ) → seen standing.now ≡ stands_after config.now run (reverse entries.now) → IfOk result (λ servant. servant ≡ servant_run config.now run (reverse entries.now) stage) }
+    ensures ends { only_ends stage ≡ true → IsOk result }
 {
     match stage {
         Stage::Serving(arrival) => servant_by(config, standing, admitted(entries, arrival)),
@@ -110,6 +113,7 @@ fn ran(
 }
 
 /// Any other entry: what it decides is told by what stood before it.
+#[tactic(auto, using(crate::proofs::Endings::wants_none, crate::proofs::Endings::ends_only))]
 fn told(
     alloc: Global,
     config: &Config,
@@ -122,6 +126,7 @@ fn told(
     ensures ok { (limit : ℕ) (opened : Stored) (past : List EntryOf) → IsAsked config.now run limit opened past coming.now state.old → OnOk result (IsState config.now run opened (coming.now.entry.now ∷ past) state.new) }
     ensures decides { (limit : ℕ) (opened : Stored) (past : List EntryOf) → IsAsked config.now run limit opened past coming.now state.old → IfOk result (λ it. Decides config.now run opened past coming.now.entry.now it.target it.reply) }
     ensures err { (opened : Stored) (past : List EntryOf) → IsState config.now run opened past state.old → OnErr result (IsState config.now run opened past state.new) }
+    ensures ends { turning.is_ending coming.now.entry.now ≡ true → IsOk result }
 {
     let decision = decision_of(
         alloc,
@@ -152,6 +157,7 @@ fn decide(
     ensures ok { (limit : ℕ) (opened : Stored) (past : List EntryOf) → IsAsked config.now run limit opened past coming.now state.old → OnOk result (IsState config.now run opened (coming.now.entry.now ∷ past) state.new) }
     ensures decides { (limit : ℕ) (opened : Stored) (past : List EntryOf) → IsAsked config.now run limit opened past coming.now state.old → IfOk result (λ it. Decides config.now run opened past coming.now.entry.now it.target it.reply) }
     ensures err { (opened : Stored) (past : List EntryOf) → IsState config.now run opened past state.old → OnErr result (IsState config.now run opened past state.new) }
+    ensures ends { turning.is_ending coming.now.entry.now ≡ true → IsOk result }
 {
     match coming.entry {
         Entry::Run { .. } => ran(alloc, config, run, coming, state),
@@ -159,7 +165,9 @@ fn decide(
     }
 }
 
-/// An entry of a worker changes what stands, and what it brings is told; or nothing changes.
+/// An entry of a worker changes what stands, and what it brings is told; or nothing changes. One that only ends what
+/// was begun takes no memory.
+#[tactic(auto, using(crate::proofs::Endings::admits_none))]
 pub fn bring(
     alloc: Global,
     config: &Config,
@@ -171,6 +179,7 @@ pub fn bring(
     ensures ok { (limit : ℕ) (opened : Stored) (past : List EntryOf) → IsAsked config.now run limit opened past coming.now state.old → OnOk result (IsState config.now run opened (coming.now.entry.now ∷ past) state.new) }
     ensures brought { (limit : ℕ) (opened : Stored) (past : List EntryOf) → IsAsked config.now run limit opened past coming.now state.old → IfOk result (λ b. IsBrought config.now run opened past coming.now.entry.now b) }
     ensures err { (opened : Stored) (past : List EntryOf) → IsState config.now run opened past state.old → OnErr result (IsState config.now run opened past state.new) }
+    ensures ends { turning.is_ending coming.now.entry.now ≡ true → IsOk result }
 {
     let admits = call_admitted(coming);
     let wait = wait_by(config, &state.standing, coming.entry, admits)?;

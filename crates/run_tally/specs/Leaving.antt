@@ -1,16 +1,21 @@
 -- How a run comes to its end: a `shutdown` is admitted, and the connections leave.
-use Rattle.std.specs.Prelude.{ℕ, Bool, false, not, ◌&&◌, ◌||◌, ◌==◌, List, [], ◌∷◌, Some, None}
+use Rattle.std.specs.Prelude.{ℕ, Bool, false, not, ◌&&◌, ◌||◌, ◌==◌, List, [], ◌∷◌, Option, Some, None}
+use Rattle.poa_base.specs.declared.Call.{Call}
 use Rattle.poa_base.specs.declared.Entry.{Entry}
 use Rattle.poa_base.specs.declared.Entry.TheVariants.{Admit}
 use Rattle.poa_history.specs.Arrivals.{call_of}
 use Rattle.poa_history.specs.Legal.{has_left, is_shutdown}
-use Rattle.poa_history.specs.Logs.{is_accepted}
 use Rattle.poa_history.specs.Searches.{count_below}
 
--- a `shutdown` was admitted
+-- there is a call, and it is a `shutdown`
+abbrev pub is_shut_by : Option Call → Bool
+is_shut_by (Some call) = is_shutdown call
+is_shut_by None = false
+
+-- a `shutdown` was admitted, whatever it was answered: one is refused where the root is being destroyed already
 abbrev pub is_shut : List Entry → Bool
 is_shut [] = false
-is_shut (Admit w r verdict ∷ past) = (is_accepted verdict && elim (call_of past r) [ Some call ↦ is_shutdown call | None ↦ false ]) || is_shut past
+is_shut (Admit w r verdict ∷ past) = is_shut_by (call_of past r) || is_shut past
 is_shut (e ∷ past) = is_shut past
 
 -- a connection is there still, and isn't the first

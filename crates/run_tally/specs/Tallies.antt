@@ -1,12 +1,10 @@
 -- What the tally of a run says of its history.
-use Rattle.std.specs.Prelude.{◌≡◌, ℕ, ◌^◌, ◌<◌, Bool, false, ◌&&◌, List, length, Option, Some, None, option_map, slice_index_or, vec_len, vec_capacity}
+use Rattle.std.specs.Prelude.{◌≡◌, ℕ, ◌^◌, ◌<◌, Bool, false, List, length, Option, None, option_map, slice_index_or, vec_len, vec_capacity}
 use Rattle.poa_base.specs.declared.Call.{Call}
 use Rattle.poa_base.specs.declared.Entry.{Entry}
 use Rattle.poa_base.specs.declared.Entry.TheVariants.{Entered, Admit}
-use Rattle.poa_base.specs.declared.Verdict.{Verdict}
 use Rattle.poa_history.specs.Arrivals.{arrivals, arrived_bytes, call_of, connections}
-use Rattle.poa_history.specs.Legal.{has_left, had_shutdown, is_shutdown}
-use Rattle.poa_history.specs.Logs.{is_accepted}
+use Rattle.poa_history.specs.Legal.{has_left, had_shutdown}
 use Rattle.run_tally.specs.declared.tally.Tally.{Tally}
 use Rattle.run_tally.specs.Leaving.{is_shut, staying}
 use Rattle.run_tally.specs.Limits.{filled_at}
@@ -38,10 +36,6 @@ HasRoomFor e t = Unit {0}
 abbrev pub call_admitted : List Entry → Entry → Option Call
 call_admitted past (Admit w r verdict) = call_of past r
 call_admitted past e = None
-
--- the verdict on a call is that a `shutdown` is done
-abbrev pub is_shut_by : Verdict → Option Call → Bool
-is_shut_by verdict call = is_accepted verdict && elim call [ Some call ↦ is_shutdown call | None ↦ false ]
 
 -- the counts of calls and bytes fit 64 bits
 pub record AreFew (h : List Entry) : Type 0 where

@@ -5,13 +5,13 @@ ghost use Rattle.poa_base.specs.declared.Entry.{Entry as EntryOf};
 ghost use Rattle.poa_base.specs.declared.Entry.TheVariants.{Entered, Arrive, Filled, Left, Admit};
 ghost use Rattle.poa_history.specs.Arrivals as calls;
 ghost use Rattle.poa_history.specs.Legal as legal;
+ghost use Rattle.run_tally.specs.Leaving as leaving;
 ghost use Rattle.run_tally.specs.Tallies as tallies;
 ghost use Rattle.run_tally.specs.Tallies.{IsTally, HasRoomFor, HasRoomForOne};
 
 use crate::full::Full;
 use crate::tally::Tally;
 use poa_base::{Call, Command, Entry, Verdict};
-use standing_queries::commands::is_accepted;
 
 /// Whether a call is the administrator's `shutdown`.
 pub fn is_shutdown(call: &Call) -> bool
@@ -26,15 +26,14 @@ pub fn is_shutdown(call: &Call) -> bool
     }
 }
 
-/// Whether the verdict on a call is that a `shutdown` is done.
-fn is_shut_by(verdict: &Verdict, call: Option<&Call>) -> bool
-    ensures { result ≡ tallies.is_shut_by verdict.now (option_copied call.entry) }
+/// Whether there is a call, and it is a `shutdown`.
+fn is_shut_by(call: Option<&Call>) -> bool
+    ensures { result ≡ leaving.is_shut_by (option_copied call.entry) }
 {
-    is_accepted(verdict)
-        && match call {
-            Some(call) => is_shutdown(call),
-            None => false,
-        }
+    match call {
+        Some(call) => is_shutdown(call),
+        None => false,
+    }
 }
 
 /// One connection more is there; the first isn't counted.
@@ -104,11 +103,11 @@ fn leave(conn: u32, tally: &mut Tally)
     mark(conn, &mut tally.left);
 }
 
-/// A call is admitted.
+/// A call is admitted, whatever it is answered.
 fn admit(worker: u32, arrival: u64, verdict: &Verdict, call: Option<&Call>, tally: &mut Tally)
     ensures { (past : List EntryOf) → option_copied call.entry ≡ calls.call_of past arrival → IsTally past tally.old → IsTally (Admit worker arrival verdict.now ∷ past) tally.new }
 {
-    tally.shut = is_shut_by(verdict, call) || tally.shut;
+    tally.shut = is_shut_by(call) || tally.shut;
 }
 
 /// Takes in an entry, with the call of the arrival that it admits. Takes no memory.

@@ -1,6 +1,6 @@
 //! What no clause says: that a connection enters with ample memory, and what is counted of a short run.
 use crate::{Tally, advance, connections, is_open, is_run_over, is_taken, none, reserve};
-use poa_base::{Answer, Call, Command, Entry, Verdict};
+use poa_base::{Answer, Call, Command, Entry, Reason, Verdict};
 use std::test::Fail;
 
 fn shutdown() -> Call {
@@ -75,6 +75,21 @@ fn a_run_ends_after_its_shutdown(rt: HostRuntime) -> Result<(), Fail> {
     assert!(rt; tally.shut && !is_run_over(&tally, 0));
     advance(&Entry::Left { conn: 1 }, None, &mut tally);
     assert!(rt; !is_run_over(&tally, 1));
+    assert!(rt; is_run_over(&tally, 0));
+    Ok(())
+}
+
+#[test]
+fn a_refused_shutdown_ends_a_run(rt: HostRuntime) -> Result<(), Fail> {
+    let mut tally = none(rt.alloc());
+    enter(0, &mut tally)?;
+    arrive(0, 20, &mut tally);
+    let entry = Entry::Admit {
+        worker: 0,
+        arrival: 0,
+        verdict: Verdict::Answer(Answer::No(Reason::AdapterNonExistent)),
+    };
+    advance(&entry, Some(&shutdown()), &mut tally);
     assert!(rt; is_run_over(&tally, 0));
     Ok(())
 }

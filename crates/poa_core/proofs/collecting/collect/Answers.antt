@@ -1,7 +1,8 @@
 use Rattle.std.proofs.Common.{refl, sym, ◌∙◌}
 use Rattle.call_tables.proofs.Given.{owed_is}
-use Rattle.poa_core.specs.Agrees.{history}
+use Rattle.poa_core.specs.Agrees.{history, opened_in}
 use Rattle.poa_core.proofs.GivenOut.{IsGiven, kept_without, none_next, collect_quiet, kept_with, filed_here, next_here, collect_room, owed_still}
+use Rattle.poa_core.proofs.ReplyFits.{reply_fits}
 use Rattle.poa_core.proofs.collecting.collect.Goals as goal
 
 pub returns-in_default-clause-kept : goal.returns-in_default-clause-kept
@@ -40,3 +41,9 @@ returns-clause-collected c =
     let found = sym c.collect.ensures.given ∙ c.in-Some.is in
     let its = filed_here c.args.conn i c.requires c.collect.new.self given c.in-Some.filed found in
     (next_here c.args.conn i c.requires c.collect.new.self given c.in-Some.filed found, sym its.head, its.reply, c.quiet.ensures.life_is))
+
+pub returns-clause-fits : goal.returns-clause-fits
+returns-clause-fits c =
+    (let i = c.args.inside.now in
+    let its = filed_here c.args.conn i c.requires c.collect.new.self (record { outbox = c.collect.ensures.outbox; owing = c.collect.ensures.owing; room = c.collect.ensures.room }) c.in-Some.filed (sym c.collect.ensures.given ∙ c.in-Some.is) in
+    reply_fits i.config i.run i.limit (opened_in i) c.in-Some.filed.arrival c.in-Some.filed.reply (history i) c.requires.agrees.runs its.reply)

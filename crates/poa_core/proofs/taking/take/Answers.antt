@@ -1,30 +1,36 @@
+use Rattle.std.proofs.Common.{◌≡◌, true, false, ap, ◌∙◌}
+use Rattle.arrival_tables.specs.Begun.{only_ends}
 use Rattle.poa_core.specs.Agrees.{history, opened_in}
+use Rattle.poa_core.proofs.Endings.{ending_stage}
 use Rattle.poa_core.proofs.Keeping.{asked_then, runs_still, begun_still, left_still, turn_kept}
 use Rattle.poa_core.proofs.taking.take.Goals as goal
 
 pub bring-requires : goal.bring-requires
 bring-requires c =
-    let mid = c.make_room.new.inside in
-    let room = c.in_ok-make_room.ensures in (
+    let mid = c.make_room_for.new.inside in
+    let agrees = c.make_room_for.ensures.kept.agrees in (
       mid.limit,
       opened_in mid,
       history mid,
-      asked_then c.args.inside.now mid _ _ _ c.deref.ensures.value c.deref-2.ensures.value room.ready.agrees c.make_room.ensures.life c.requires.follows c.requires.turn c.requires.begun c.call_at-call.ensures (c.in_ok-runs.ensures mid.run),
+      asked_then c.args.inside.now mid _ _ _ c.deref.ensures.value c.deref-2.ensures.value agrees c.make_room_for.ensures.life c.requires.follows c.requires.turn c.requires.begun c.call_at-call.ensures (c.in_ok-runs.ensures.servant mid.run),
     )
+
+pub note-requires-clause-room : goal.note-requires-clause-room
+note-requires-clause-room c = (let room = c.in_ok-make_room_for.ensures.room in record { entries = room.entries; calls = room.calls; queue = room.queue; tally = room.tally; desk = room.desk })
 
 pub note-requires-clause-halfway : goal.note-requires-clause-halfway
 note-requires-clause-halfway c =
     let old = c.args.inside.now in
-    let mid = c.make_room.new.inside in
+    let mid = c.make_room_for.new.inside in
     let entry = c.args.entry in
-    let agrees = c.in_ok-make_room.ensures.ready.agrees in
+    let agrees = c.make_room_for.ensures.kept.agrees in
     record {
-      follows = runs_still entry old mid c.make_room.ensures.life c.requires.follows;
-      begun_is = begun_still entry c.args.stage old mid c.make_room.ensures.life c.requires.begun;
+      follows = runs_still entry old mid c.make_room_for.ensures.life c.requires.follows;
+      begun_is = begun_still entry c.args.stage old mid c.make_room_for.ensures.life c.requires.begun;
       state = c.in_ok-brought.ensures.ok mid.limit (opened_in mid) (history mid)
-          (asked_then old mid _ _ _ c.deref.ensures.value c.deref-2.ensures.value agrees c.make_room.ensures.life c.requires.follows c.requires.turn c.requires.begun c.call_at-call.ensures (c.in_ok-runs.ensures mid.run));
+          (asked_then old mid _ _ _ c.deref.ensures.value c.deref-2.ensures.value agrees c.make_room_for.ensures.life c.requires.follows c.requires.turn c.requires.begun c.call_at-call.ensures (c.in_ok-runs.ensures.servant mid.run));
       brought = c.in_ok-brought.ensures.brought mid.limit (opened_in mid) (history mid)
-          (asked_then old mid _ _ _ c.deref.ensures.value c.deref-2.ensures.value agrees c.make_room.ensures.life c.requires.follows c.requires.turn c.requires.begun c.call_at-call.ensures (c.in_ok-runs.ensures mid.run));
+          (asked_then old mid _ _ _ c.deref.ensures.value c.deref-2.ensures.value agrees c.make_room_for.ensures.life c.requires.follows c.requires.turn c.requires.begun c.call_at-call.ensures (c.in_ok-runs.ensures.servant mid.run));
       tables = agrees.tables;
       owed = agrees.owed;
       left = left_still entry mid c.requires.turn agrees.filed;
@@ -32,6 +38,11 @@ note-requires-clause-halfway c =
 
 pub returns-clause-kept : goal.returns-clause-kept
 returns-clause-kept c =
-    let mid = c.make_room.new.inside in
-    let ready = c.in_ok-make_room.ensures.ready in
-    turn_kept c.args.entry (record mid { state = c.bring.new.state }) c.note.new.inside c.note.ensures c.requires.turn ready.agrees.tables ready.space
+    let mid = c.make_room_for.new.inside in
+    turn_kept c.args.entry (record mid { state = c.bring.new.state }) c.note.new.inside c.note.ensures c.requires.turn c.make_room_for.ensures.kept.agrees.tables c.in_ok-make_room_for.ensures.space
+
+pub returns-in_err-runs-clause-ends : goal.returns-in_err-runs-clause-ends
+returns-in_err-runs-clause-ends c = λ ends.
+    (let i = c.args.inside.now in
+    let never : false ≡ true = c.in_err-runs.ensures.ends (ap only_ends c.requires.begun ∙ ending_stage i.config i.run i.limit (history i) c.args.entry c.requires.follows.legal.0 ends) in
+    absurd (let e : false ≡ true = never in cc))
