@@ -34,7 +34,6 @@ use Rattle.poa_history.specs.declared.activation.Phase.TheVariants.{Begun, Compl
 use Rattle.poa_history.specs.declared.stage.Stage.{Stage}
 use Rattle.poa_history.specs.declared.stage.Stage.TheVariants.{Free, Incarnating, Ran, Removing, Serving, Trying}
 use Rattle.poa_tree.proofs.Finding.{find_none}
-use Rattle.poa_tree.specs.Adapters.{above}
 use Rattle.poa_tree.specs.Nodes.{stands_under}
 use Rattle.poa_tree.specs.Paths.{is_root, leads_to}
 use Rattle.poa_tree.specs.Trees.{In}

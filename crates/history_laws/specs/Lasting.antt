@@ -18,6 +18,9 @@ pub record LeavesNothing (c : Config) (run : ℕ) (h : List Entry) : Type 0 wher
 
 -- the updates of an object to which a servant activator alone brings servants are those of one servant
 pub record KeepsUpdates (c : Config) (run : ℕ) (opened : Stored) (h : List Entry) : Type 0 where
-  pub line : (kind : Kind) (p : List (List ℕ)) (oid : List ℕ) → BringsFresh c p oid kind → AreIncarnated c run h p oid → IsOneLine c run opened kind h p oid
-  pub state : (kind : Kind) (p : List (List ℕ)) (oid : List ℕ) → BringsFresh c p oid kind → AreIncarnated c run h p oid → HasLineState c run opened kind h p oid
-  pub kept : (kind : Kind) (p : List (List ℕ)) (oid : List ℕ) → BringsFresh c p oid kind → AreIncarnated c run h p oid → KeepsLineState c run opened kind h p oid
+  pub line : (kind : Kind) (p : List (List ℕ)) (oid : List ℕ) → BringsFresh c p oid kind → AreIncarnated c run h p oid
+      → IsOneLine c run opened kind h p oid
+  pub state : (kind : Kind) (p : List (List ℕ)) (oid : List ℕ) → BringsFresh c p oid kind → AreIncarnated c run h p oid
+      → HasLineState c run opened kind h p oid
+  pub kept : (kind : Kind) (p : List (List ℕ)) (oid : List ℕ) → BringsFresh c p oid kind → AreIncarnated c run h p oid
+      → KeepsLineState c run opened kind h p oid
