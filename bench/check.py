@@ -1,7 +1,7 @@
 #!/usr/bin/env python3
 """Reads large configurations with the built program, and prints the times of half a file and of the whole one.
 
-usage: bench/check.py [PROGRAM]      PROGRAM is crates/poad/out/poad where it isn't given. Run ./poad once first, so
+usage: bench/check.py [PROGRAM]      PROGRAM is out/poad where it isn't given. Run ./poad once first, so
                                      that it is built.
 
 There are two files of about 1,048,576 bytes, the most that a configuration has: one with as many objects as fit, and
@@ -81,7 +81,7 @@ def seconds(program, text, counts, folder):
 
 def main():
     top = Path(__file__).resolve().parent.parent
-    program = sys.argv[1] if len(sys.argv) > 1 else str(top / "crates/poad/out/poad")
+    program = sys.argv[1] if len(sys.argv) > 1 else str(top / "out/poad")
     slow = False
     with tempfile.TemporaryDirectory() as name:
         for what, (text, count) in (("objects", objects()), ("managers, servants and adapters with rules", tables())):

@@ -6,7 +6,7 @@ use Rattle.poa_base.specs.declared.ManagerState.{ManagerState}
 use Rattle.poa_base.specs.declared.Command.{Command}
 use Rattle.poa_base.specs.declared.Command.TheVariants.{Preset, Forward, Unforward}
 use Rattle.poa_base.specs.declared.Entry.{Entry}
-use Rattle.poa_manager.specs.States.{state_at}
+use Rattle.adapter_settings.specs.States.{state_at}
 use Rattle.poa_tree.specs.Paths.{same_path}
 use Rattle.poa_history.specs.Logs.{manager_state, preset_of, endpoint_of, forward_from}
 use Rattle.adapter_settings.specs.declared.presets.PresetRow.{PresetRow}

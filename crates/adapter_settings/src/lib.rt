@@ -4,6 +4,7 @@
 #![tactic(auto)]
 
 mod endpoints;
+mod managers;
 mod presets;
 mod settings;
 mod states;
@@ -11,6 +12,7 @@ mod states;
 mod tests;
 
 pub use endpoints::{EndpointRow, Endpoints, endpoint_of, forward_of};
+pub use managers::Managers;
 pub use presets::{PresetRow, Presets, preset_of};
 pub use settings::{Settings, apply, opening, settings_of};
 pub use states::{manager_state, order_for};

@@ -6,10 +6,10 @@ ghost use Rattle.adapter_settings.specs.Told.{Tells, may_grow};
 ghost use Rattle.adapter_settings.specs.Changed.{Follows};
 
 use crate::endpoints::Endpoints;
+use crate::managers::Managers;
 use crate::presets::Presets;
 use crate::states::set_state;
 use poa_base::{Command, Config, Entry, WantMemory};
-use poa_manager::Managers;
 use standing_queries::commands::command_done;
 use std::alloc::Global;
 

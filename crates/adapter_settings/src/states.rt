@@ -1,13 +1,13 @@
 //! The states of the managers.
 ghost use Rattle.std.specs.Prelude.{◌≡◌, ℕ, suc, Some, length, option_copied};
 ghost use Rattle.poa_base.specs.declared.Command.{Command};
-ghost use Rattle.poa_manager.specs.States.{state_at};
+ghost use Rattle.adapter_settings.specs.States.{state_at};
 ghost use Rattle.poa_history.specs.Logs as logs;
 ghost use Rattle.adapter_settings.specs.Told as told;
 
+use crate::managers::Managers;
 use crate::settings::Settings;
 use poa_base::{Command, Config, ManagerState, Name, Order};
-use poa_manager::Managers;
 use standing_queries::templates::manager_number;
 
 /// The state that an order brings.

@@ -16,6 +16,7 @@ ghost use Rattle.standing_of.specs.Entries.{stage_at};
 ghost use Rattle.arrival_tables.specs.Queued.{IsQueue, HasPlace, call_tried, may_queue};
 
 use crate::ordered::{has, insert, insert_if, push_if, remove};
+use poa_base::limits::UNADMITTED;
 use poa_base::{Attempt, Call, Entry, WantMemory};
 use poa_history::Stage;
 use standing_queries::calls::is_message;
@@ -75,7 +76,7 @@ fn arrive(call: &Call, arrival: u64, queue: &mut Queue)
     requires { HasPlace queue.old }
     ensures { (past : List Entry) (conn size : ℕ) → arrival ≡ arrivals_in past → IsQueue past queue.old → IsQueue (entry_kinds.Arrive conn size call.now ∷ past) queue.new }
 {
-    let crowded = queue.messages.as_slice().len() >= 65536;
+    let crowded = queue.messages.as_slice().len() as u64 >= UNADMITTED;
     queue.unadmitted.push_reserved(arrival);
     push_if(is_message(Some(call)), &mut queue.messages, arrival);
     push_if(crowded, &mut queue.crowded, arrival);

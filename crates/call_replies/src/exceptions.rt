@@ -2,33 +2,33 @@
 ghost use Rattle.std.specs.Prelude.{◌≡◌, option_copied};
 ghost use Rattle.poa_history.specs.Replies as replies;
 
-use poa_base::{Call, Completion, ExcName, Outcome, Reply, SysExc};
+use poa_base::{Call, Completion, ExcName, Outcome, Reply, SysExc, minors};
 
-/// There is no adapter of that path: OMG's minor 2.
+/// There is no adapter of that path.
 pub(crate) const NOT_EXIST: SysExc = SysExc {
     name: ExcName::ObjectNotExist,
-    minor: 0x4f4d_0002,
+    minor: minors::NO_ADAPTER,
     done: Completion::No,
 };
 
-/// The adapter activator raised an exception: OMG's minor 1.
+/// The adapter activator raised an exception.
 pub(crate) const ACTIVATOR_RAISED: SysExc = SysExc {
     name: ExcName::ObjAdapter,
-    minor: 0x4f4d_0001,
+    minor: minors::ACTIVATOR_RAISED,
     done: Completion::No,
 };
 
-/// The adapter is being destroyed: OMG's minor 4.
+/// The adapter is being destroyed.
 pub(crate) const ADAPTER_DYING: SysExc = SysExc {
     name: ExcName::Transient,
-    minor: 0x4f4d_0004,
+    minor: minors::ADAPTER_DYING,
     done: Completion::No,
 };
 
-/// The servant is active under another id: OMG's minor 5.
+/// The servant is active under another id.
 pub(crate) const SERVANT_DOUBLE: SysExc = SysExc {
     name: ExcName::ObjAdapter,
-    minor: 0x4f4d_0005,
+    minor: minors::SERVANT_DOUBLE,
     done: Completion::No,
 };
 

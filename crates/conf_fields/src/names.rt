@@ -5,7 +5,7 @@ ghost use Rattle.text_words.specs.Identity.{id_of};
 ghost use Rattle.text_words.specs.Name.{name_of, host_of, is_name, is_host};
 ghost use Rattle.std.specs.List.{list_all};
 ghost use Rattle.text_words.specs.Path.{path_names_of, path_text};
-ghost use Rattle.text_words.specs.WordGives.{FieldGives as Reads};
+ghost use Rattle.text_words.specs.WordGives.{WordGives};
 ghost use Rattle.conf_fields.specs.declared.fault.ConfFault.TheVariants as fault;
 ghost use Rattle.conf_fields.specs.FieldGives.{FieldGives, GivesView};
 ghost use Rattle.conf_fields.specs.Look.{wanted, with_default, text_in};
@@ -22,7 +22,7 @@ use toml::Table;
 
 /// What was read of a word, or none where the word is out of form.
 fn readable<T>(read: Result<T, WordFault>) -> Result<Option<T>, ConfFault>
-    ensures value { (meant : Option T) → Reads read meant → IfOk result (λ found. meant ≡ found) }
+    ensures value { (meant : Option T) → WordGives read meant → IfOk result (λ found. meant ≡ found) }
     ensures memory { IfErr result (λ e. e ≡ fault.WantMemory) }
 {
     match read {

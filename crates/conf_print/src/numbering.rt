@@ -4,7 +4,7 @@ ghost use Rattle.std.specs.BTreeMap as tree;
 ghost use Rattle.poa_base.specs.Store.{path_cmp};
 ghost use Rattle.conf_print.specs.Numbers.{no_numbers, numbers_of, with_adapter, with_number};
 
-use poa_base::{AdapterConf, Path, Policy, TryClone, WantMemory};
+use poa_base::{AdapterConf, Path, TryClone, WantMemory};
 use std::alloc::Global;
 use std::collections::BTreeMap;
 
@@ -36,7 +36,7 @@ pub(crate) fn adapter_numbers(
 fn note_adapter(numbers: &mut Numbers, adapter: &AdapterConf, number: u32) -> Result<(), WantMemory>
     ensures { OnOk result (tree.get path_cmp numbers.new ≡ with_adapter adapter.now number (tree.get path_cmp numbers.old)) }
 {
-    if matches!(adapter.policies.lifespan, Policy::Persistent) {
+    if adapter.policies.lasts() {
         return Ok(());
     }
     note(numbers, adapter.path.try_clone()?, number)

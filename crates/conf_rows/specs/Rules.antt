@@ -2,6 +2,7 @@
 use Rattle.std.specs.Prelude.{ℕ, ◌==◌, Bool, true, false, ◌||◌, List, [], ◌∷◌, codes, length, Option, Some, None, is_some, Result, Ok, Err, if◌then◌else◌}
 use Rattle.std.specs.Option.{option_map}
 use Rattle.std.specs.Str.{bytes_eq}
+use Rattle.poa_base.specs.declared.minors.TheConstants.{FAULT_SERVANT}
 use Rattle.poa_base.specs.declared.Completion.{Completion}
 use Rattle.poa_base.specs.declared.Completion.TheVariants as done
 use Rattle.poa_base.specs.declared.Gives.{Gives}
@@ -42,7 +43,7 @@ way_of ms =
 
 -- whether the operation had ended: only the servant that always fails can't tell
 unfoldable pub completion_of : ℕ → Completion
-completion_of minor = if minor == 0xFFFFF009 then done.Maybe else done.No
+completion_of minor = if minor == FAULT_SERVANT then done.Maybe else done.No
 
 -- the keys of the other ways aren't there
 unfoldable pub no_other : Place → Members → Result (Unit {0}) ConfFault

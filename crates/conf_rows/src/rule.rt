@@ -16,8 +16,8 @@ use conf_fields::{
     ConfFault, Numbers, Place, at_most, has, host_at, id_of_text, items_at, known_keys, member_at,
     none_of, number_named, number_or, only_if, port_at, table_in, word_at, wrong,
 };
+use poa_base::minors::FAULT_SERVANT;
 use poa_base::{Completion, Endpoint, Gives, Items, Oid, PolicySet, RuleConf, SysExc};
-use poa_policy::{is_retain, is_servant_manager};
 use std::alloc::Global;
 use toml::{Table, Value};
 
@@ -85,7 +85,7 @@ fn matched_at(alloc: Global, at: Place, table: &Table) -> Result<Option<Oid>, Co
 fn completion_of(minor: u32) -> Completion
     ensures { result ≡ the_completion_of minor }
 {
-    if minor == 0xFFFF_F009 {
+    if minor == FAULT_SERVANT {
         Completion::Maybe
     } else {
         Completion::No
@@ -118,7 +118,7 @@ fn fresh_at(
     ensures within { (servants : Find) → IfOk result (GivesWithin (IsNumber servants) policies.now) }
 {
     let kind = word_at(alloc, at, table, "fresh")?;
-    only_if(alloc, at, "fresh", is_retain(policies.retention))?;
+    only_if(alloc, at, "fresh", policies.retains())?;
     no_other(alloc, at, table)?;
     Ok(Gives::Fresh(kind))
 }
@@ -263,7 +263,7 @@ fn may_have(values: &[Value], policies: &PolicySet) -> bool
     ensures { result ≡ (the_empty (items_view values.now) || the_servant_manager policies.now.processing) }
 {
     let none = values.is_empty();
-    none || is_servant_manager(policies.processing)
+    none || policies.uses_servant_manager()
 }
 
 #[tactic(auto, unfolding(crate::specs::Rules::rule_keys))]

@@ -1,5 +1,6 @@
 -- The rules that every configuration keeps.
 use Rattle.std.specs.Prelude.{◌≡◌, ◌≢◌, ◌≤◌, true, List, [], length, codes}
+use Rattle.poa_base.specs.declared.limits.TheConstants.{OBJECTS}
 use Rattle.poa_base.specs.declared.Config.{Config}
 use Rattle.poa_base.specs.declared.ForwardConf.{ForwardConf}
 use Rattle.poa_base.specs.declared.ManagerConf.{ManagerConf}
@@ -31,7 +32,7 @@ pub record AreFew (c : Config) : Type 0 where
   pub managers : length c.managers ≤ 1024
   pub servants : length c.servants ≤ 1024
   pub adapters : length c.adapters ≤ 1024
-  pub objects : length c.objects ≤ 65536
+  pub objects : length c.objects ≤ OBJECTS
   pub forwards : length c.forwards ≤ 1024
 
 pub record KeepsRules (c : Config) : Type 0 where

@@ -2,6 +2,7 @@
 use Rattle.std.specs.Prelude.{ℕ, ◌&&◌, List, [], ◌∷◌, ◌++◌, codes, decimal, length, map, Option, Some, None, Result, Ok, Err, if◌then◌else◌}
 use Rattle.std.specs.List.{slice_get, flat_map}
 use Rattle.hex.specs.Hex.{encode_lower}
+use Rattle.poa_base.specs.declared.limits.TheConstants.{OBJECTS}
 use Rattle.poa_base.specs.declared.AdapterConf.{AdapterConf}
 use Rattle.poa_base.specs.declared.ObjectConf.{ObjectConf}
 use Rattle.poa_base.specs.declared.PolicySet.{PolicySet}
@@ -103,5 +104,5 @@ object_after homes adapters servants done d = object_in (Object (length done)) h
 
 unfoldable pub objects_of : Find → List AdapterConf → Find → Members → Result (List ObjectConf) ConfFault
 objects_of homes adapters servants ms = do
-  ds ← entries_at 65536 Top (codes "object") ms
+  ds ← entries_at OBJECTS Top (codes "object") ms
   entries_of (object_after homes adapters servants) [] ds

@@ -6,6 +6,7 @@ ghost use Rattle.text_words.specs.Path.{path_text};
 ghost use Rattle.conf_fields.specs.Entries.{entries_of};
 ghost use Rattle.conf_fields.specs.FieldGives.{FieldGives, GivesView};
 ghost use Rattle.conf_fields.specs.Numbers.{find_in, noted, seen_of};
+ghost use Rattle.poa_base.specs.declared.limits.TheConstants.{OBJECTS};
 ghost use Rattle.poa_base.specs.Policies.{is_system_id as the_system_id, is_multiple_id as the_multiple_id};
 ghost use Rattle.conf_rules.specs.Entries.{EachAfter};
 ghost use Rattle.conf_toml.specs.Found.{HomeFound, IsFit, IsFoundHome, IsRead, IsReadAfter};
@@ -18,8 +19,9 @@ use conf_fields::{
     ConfFault, Numbers, Place, entries_at, find, id_at, known_keys, no_numbers, no_such, none_of,
     not_twice, note, number_named, only_if, or_missing, path_at, table_in,
 };
+use poa_base::limits::OBJECTS;
 use poa_base::{AdapterConf, Items, ObjectConf, Oid, Path, PolicySet};
-use poa_policy::{defaults, is_multiple_id, is_retain, is_system_id};
+use poa_policy::defaults;
 use std::alloc::{AllocError, Global};
 use toml::{Table, Value};
 
@@ -38,7 +40,7 @@ fn home_in(alloc: Global, at: Place, adapter: Option<&AdapterConf>) -> Result<Po
     let Some(adapter) = adapter else {
         return no_such(alloc, at, "adapter");
     };
-    let fit = adapter.boot && is_retain(adapter.policies.retention);
+    let fit = adapter.boot && adapter.policies.retains();
     only_if(alloc, at, "adapter", fit)?;
     Ok(adapter.policies)
 }
@@ -98,7 +100,7 @@ fn own_id(
     ensures value { FieldGives result (the_id_at at policies.now (table_view table.now)) }
     ensures exact { IfOk result (λ oid. is_none oid ≡ the_system_id policies.now.assignment) }
 {
-    if is_system_id(policies.assignment) {
+    if policies.makes_ids() {
         no_id(alloc, at, table)
     } else {
         some_id(alloc, at, table)
@@ -148,7 +150,7 @@ fn new_servant(
     ensures value { FieldGives result (the_new_servant at (find_in taken.now) policies.now path.now servant) }
     ensures alone { OnOk result ((the_multiple_id policies.now.uniqueness ≡ true) ⊎ (find_in taken.now (the_servant_text path.now servant) ≡ None)) }
 {
-    if is_multiple_id(policies.uniqueness) {
+    if policies.is_multiple() {
         return Ok(());
     }
     let text = servant_text(alloc, path, servant)?;
@@ -239,12 +241,12 @@ fn entries(
     ids: &mut Numbers,
     taken: &mut Numbers,
 ) -> Result<Items<ObjectConf>, ConfFault>
-    requires few { length values.now ≤ 65536 }
+    requires few { length values.now ≤ OBJECTS }
     requires ids { find_in ids.old ≡ seen_of (ids_of []) }
     requires taken { find_in taken.old ≡ seen_of (taken_of []) }
     ensures value { FieldGives result (entries_of (object_after (find_in homes.now.paths.now) homes.now.adapters.now (find_in homes.now.servants.now)) [] (items_view values.now)) }
     ensures read { IfOk result (λ objects. EachAfter (IsReadAfter (find_in homes.now.paths.now) homes.now.adapters.now (find_in homes.now.servants.now)) [] objects) }
-    ensures few { IfOk result (λ objects. length objects ≤ 65536) }
+    ensures few { IfOk result (λ objects. length objects ≤ OBJECTS) }
 {
     let mut objects = Vec::new(alloc);
     for (i, value) in values.iter().enumerate() {
@@ -265,9 +267,9 @@ pub(crate) fn objects(
 ) -> Result<Items<ObjectConf>, ConfFault>
     ensures value { FieldGives result (objects_of (find_in homes.now.paths.now) homes.now.adapters.now (find_in homes.now.servants.now) (table_view top.now)) }
     ensures read { IfOk result (λ objects. EachAfter (IsReadAfter (find_in homes.now.paths.now) homes.now.adapters.now (find_in homes.now.servants.now)) [] objects) }
-    ensures few { IfOk result (λ objects. length objects ≤ 65536) }
+    ensures few { IfOk result (λ objects. length objects ≤ OBJECTS) }
 {
-    let values = entries_at(alloc, Place::Top, top, "object", 65536)?;
+    let values = entries_at(alloc, Place::Top, top, "object", OBJECTS)?;
     let mut ids = no_numbers(alloc);
     let mut taken = no_numbers(alloc);
     entries(alloc, values, homes, &mut ids, &mut taken)

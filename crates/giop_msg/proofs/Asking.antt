@@ -4,9 +4,9 @@ use Rattle.std.specs.Prelude.{min}
 use Rattle.std.proofs.lemmas.List.{length-replicate}
 use Rattle.std.proofs.Math.Seq.{drop-append_seam, drop-nil}
 use Rattle.std.proofs.Common.{length-append}
-use Rattle.cdr_core.specs.Field.{Field}
+use Rattle.cdr_core.specs.Field.{Field, octets}
 use Rattle.cdr_core.specs.Spelling.{gap, written}
-use Rattle.cdr_core.specs.Cursor.{Cursor}
+use Rattle.cdr_core.specs.Cursor.{Cursor, Reads}
 use Rattle.cdr_core.specs.Draft.{empty_draft}
 use Rattle.cdr_core.proofs.OneReading.{same_cursor}
 use Rattle.poa_base.specs.declared.Ask.{Ask}
@@ -15,8 +15,9 @@ use Rattle.poa_base.specs.declared.Datum.{Datum}
 use Rattle.poa_base.specs.declared.Head.{Head}
 use Rattle.giop_frame.specs.Part.{is_little}
 use Rattle.giop_msg.specs.declared.kind.TheConstants.{HEADER, MINOR, REQUEST}
+use Rattle.giop_msg.specs.declared.target.TheConstants.{KEY_ADDRESS}
 use Rattle.giop_msg.specs.Fields.{ReadsAll, fields_start}
-use Rattle.giop_msg.specs.Target.{by_key, target_fields}
+use Rattle.giop_msg.specs.Target.{by_key, key_fields, IsTarget}
 use Rattle.giop_msg.specs.Request.{opening_fields, closing_fields, body_at, request_head}
 use Rattle.giop_msg.specs.Reply.{datum_field}
 use Rattle.giop_msg.specs.Ask.{request_draft, request_end, argument_bytes, request_bytes, asked_body, IsAsk}
@@ -42,7 +43,7 @@ body_of_argument little place (Some datum) =
 
 -- the fields of the Request
 abbrev fields : Ask → List Field
-fields ask = opening_fields ask.head.id ask.head.flags 0 0 0 ++ target_fields (by_key ask.key) ++ closing_fields ask.operation []
+fields ask = opening_fields ask.head.id ask.head.flags 0 0 0 ++ key_fields ask.key ++ closing_fields ask.operation []
 
 fields_fit : (ask : Ask) → IsAsk ask → AllFit (fields ask)
 fields_fit ask is = (is.id, (is.flags, (omega arith, (omega arith, (omega arith, (omega arith, (is.key, (is.operation, (omega arith, tt)))))))))
@@ -64,6 +65,20 @@ fields_read ask is =
     (reads_written (fields ask) (record { little = ask.head.little; place = HEADER; rest = (request_draft ask).bytes ++ (behind ask).rest }) (behind ask) (fields_fit ask is)
     (ap (λ (l : List ℕ). l ++ (behind ask).rest) bytes) refl (ap (λ (l : List ℕ). HEADER + length l) bytes))
 
+-- the fields of a target by its key are read as that target
+target_by_key : (key : List ℕ) (a b : Cursor) → ReadsAll (key_fields key) a b → IsTarget (Some key) a b
+target_by_key key a b read = record {
+  disposition = KEY_ADDRESS;
+  behind = read.0;
+  told = read.1.0;
+  address = record {
+    object = by_key key;
+    is = refl;
+    read = subst (λ (c : Cursor). Reads (octets key) read.0 c) (sym read.1.1.1.1) read.1.1.1.0;
+    gives = refl;
+  };
+}
+
 -- the head as it is read
 same_head : (h : Head) (little : Bool) → h.minor ≡ MINOR → h.locate ≡ false → little ≡ h.little → h ≡ request_head h.id h.flags little
 same_head h little minor locate order =
@@ -78,15 +93,15 @@ pub written_asks : WrittenAsks
 written_asks ask is =
     let content : List ℕ = (request_draft ask).bytes ++ argument_bytes ask.head.little (request_end ask) ask.argument in
     let whole = fields_read ask is in
-    let parts = reads_split (opening_fields ask.head.id ask.head.flags 0 0 0 ++ target_fields (by_key ask.key)) (closing_fields ask.operation []) (fields_start (request_bytes ask)) (behind ask) whole in
-    let front = reads_split (opening_fields ask.head.id ask.head.flags 0 0 0) (target_fields (by_key ask.key)) (fields_start (request_bytes ask)) parts.0 parts.1.0 in (
+    let parts = reads_split (opening_fields ask.head.id ask.head.flags 0 0 0 ++ key_fields ask.key) (closing_fields ask.operation []) (fields_start (request_bytes ask)) (behind ask) whole in
+    let front = reads_split (opening_fields ask.head.id ask.head.flags 0 0 0) (key_fields ask.key) (fields_start (request_bytes ask)) parts.0 parts.1.0 in (
       framed-type MINOR REQUEST ask.head.little content,
       record {
         behind_opening = front.0;
         behind_target = parts.0;
         behind = behind ask;
         opening = record { a = 0; b = 0; c = 0; read = front.1.0 };
-        addressed = record { object = by_key ask.key; read = front.1.1; gives = refl };
+        addressed = target_by_key ask.key front.0 parts.0 front.1.1;
         closing = record { contexts = []; read = parts.1.1 };
         is_head = same_head ask.head (is_little (request_bytes ask)) is.minor is.no_locate (framed-order MINOR REQUEST ask.head.little content);
         is_body = sym (body_of_argument ask.head.little (request_end ask) ask.argument);

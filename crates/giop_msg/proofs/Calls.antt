@@ -1,5 +1,5 @@
 -- A message gives one answer.
-use Rattle.std.proofs.Common.{◌≡◌, ℕ, List, Option, Ok, Err, refl, sym, ap, ap₂, ◌∙◌, subst, arith, inl, inr}
+use Rattle.std.proofs.Common.{◌≡◌, ℕ, List, Option, Ok, Err, refl, sym, ap, ap₂, ◌∙◌, subst, arith, ◌⊎◌, inl, inr}
 use Rattle.cdr_core.proofs.OneReading.{one_ulong_read}
 use Rattle.poa_base.specs.declared.Body.{Body}
 use Rattle.poa_base.specs.declared.Call.{Call}
@@ -9,16 +9,17 @@ use Rattle.giop_frame.specs.Part.{is_little}
 use Rattle.giop_msg.specs.declared.incoming.Incoming.{Incoming}
 use Rattle.giop_msg.specs.declared.incoming.Incoming.TheVariants as incoming
 use Rattle.giop_msg.specs.declared.fault.MsgFault.{MsgFault}
-use Rattle.giop_msg.specs.declared.fault.MsgFault.TheVariants.{Malformed, NotForServer, Unbuilt, WantMemory}
+use Rattle.giop_msg.specs.declared.fault.MsgFault.TheVariants.{Malformed, NotForServer, WantMemory}
 use Rattle.giop_msg.specs.declared.kind.TheConstants.{REQUEST, CANCEL_REQUEST, LOCATE_REQUEST, CLOSE_CONNECTION}
 use Rattle.giop_msg.specs.Fields.{fields_start}
 use Rattle.giop_msg.specs.Header.{message_type, IsForClient}
-use Rattle.giop_msg.specs.Request.{body_at, request_head, IsRequest, IsLaterRequest}
-use Rattle.giop_msg.specs.Call.{HasId, MakesCall, Asks, IsUnbuilt, CallOf}
+use Rattle.giop_msg.specs.Request.{body_at, request_head, IsRequest}
+use Rattle.giop_msg.specs.Call.{HasId, MakesCall, Asks, CallOf}
 use Rattle.giop_msg.specs.Laws.{OneCall}
 use Rattle.giop_msg.proofs.Contexts.{one_closing}
-use Rattle.giop_msg.proofs.Targets.{one_target, no_later_target}
+use Rattle.giop_msg.proofs.Targets.{one_target}
 use Rattle.giop_msg.proofs.Requests.{one_opening, target_at, closing_at}
+use Rattle.giop_msg.proofs.Locates.{one_locate}
 
 -- the parts of a Request tell its call
 same_call : (h k : Head) (t u : Option (List ℕ)) (o p : List ℕ) (x y : Body) → h ≡ k → t ≡ u → o ≡ p → x ≡ y → Request h t o x ≡ Request k u p y
@@ -38,21 +39,36 @@ one_id bytes m n here there = (one_ulong_read m n (fields_start bytes) here.behi
 
 -- a message makes one call
 one_made : (bytes : List ℕ) (a b : Call) → MakesCall bytes a → MakesCall bytes b → a ≡ b
-one_made bytes (Request h t o x) (Request k u p y) is has = one_request bytes h k t u o p x y is has
-one_made bytes (Request h t o x) (Locate k u) is has = absurd has
+one_made bytes (Request h t o x) (Request k u p y) is has = one_request bytes h k t u o p x y is.1 has.1
+one_made bytes (Request h t o x) (Locate k u) is has = absurd (omega (arith, is.0, has.0))
 one_made bytes (Request h t o x) (Line n c) is has = absurd has
-one_made bytes (Locate h t) b is has = absurd is
+one_made bytes (Locate h t) (Request k u p y) is has = absurd (omega (arith, is.0, has.0))
+one_made bytes (Locate h t) (Locate k u) is has = one_locate bytes h k t u is.1 has.1
+one_made bytes (Locate h t) (Line n c) is has = absurd has
 one_made bytes (Line n c) b is has = absurd is
+
+-- of one of two types
+made_type : (bytes : List ℕ) (call : Call) → MakesCall bytes call → (message_type bytes ≡ REQUEST) ⊎ (message_type bytes ≡ LOCATE_REQUEST)
+made_type bytes (Request h t o x) makes = inl makes.0
+made_type bytes (Locate h t) makes = inr makes.0
+made_type bytes (Line n c) makes = absurd makes
+
+pub makes_none : (bytes : List ℕ) (n : ℕ) (call : Call) → message_type bytes ≡ n → (n ≡ REQUEST → ⊥) → (n ≡ LOCATE_REQUEST → ⊥) → MakesCall bytes call → ⊥
+makes_none bytes n call kind no_request no_locate makes = by (made_type bytes call makes)
+  where
+    by : (message_type bytes ≡ REQUEST) ⊎ (message_type bytes ≡ LOCATE_REQUEST) → ⊥
+    by (inl request) = no_request (sym kind ∙ request)
+    by (inr locate) = no_locate (sym kind ∙ locate)
 
 -- and asks one thing
 one_asked : (bytes : List ℕ) (a b : Incoming) → Asks bytes a → Asks bytes b → a ≡ b
-one_asked bytes (incoming.Call a) (incoming.Call b) is has = ap (λ (c : Call). incoming.Call c) (one_made bytes a b is.1 has.1)
-one_asked bytes (incoming.Call a) (incoming.Cancel n) is has = absurd (omega (arith, is.0, has.0))
-one_asked bytes (incoming.Call a) incoming.Closing is has = absurd (omega (arith, is.0, has))
-one_asked bytes (incoming.Cancel m) (incoming.Call b) is has = absurd (omega (arith, has.0, is.0))
+one_asked bytes (incoming.Call a) (incoming.Call b) is has = ap (λ (c : Call). incoming.Call c) (one_made bytes a b is has)
+one_asked bytes (incoming.Call a) (incoming.Cancel n) is has = absurd (makes_none bytes CANCEL_REQUEST a has.0 (λ e. omega (arith, e)) (λ e. omega (arith, e)) is)
+one_asked bytes (incoming.Call a) incoming.Closing is has = absurd (makes_none bytes CLOSE_CONNECTION a has (λ e. omega (arith, e)) (λ e. omega (arith, e)) is)
+one_asked bytes (incoming.Cancel m) (incoming.Call b) is has = absurd (makes_none bytes CANCEL_REQUEST b is.0 (λ e. omega (arith, e)) (λ e. omega (arith, e)) has)
 one_asked bytes (incoming.Cancel m) (incoming.Cancel n) is has = ap (λ (i : ℕ). incoming.Cancel i) (one_id bytes m n is.1 has.1)
 one_asked bytes (incoming.Cancel m) incoming.Closing is has = absurd (omega (arith, is.0, has))
-one_asked bytes incoming.Closing (incoming.Call b) is has = absurd (omega (arith, has.0, is))
+one_asked bytes incoming.Closing (incoming.Call b) is has = absurd (makes_none bytes CLOSE_CONNECTION b is (λ e. omega (arith, e)) (λ e. omega (arith, e)) has)
 one_asked bytes incoming.Closing (incoming.Cancel n) is has = absurd (omega (arith, is, has.0))
 one_asked bytes incoming.Closing incoming.Closing is has = refl
 
@@ -81,51 +97,26 @@ no_client_closing (inr (inl e)) = omega (arith, e)
 no_client_closing (inr (inr e)) = omega (arith, e)
 
 pub not_for_client : (bytes : List ℕ) (asked : Incoming) → Asks bytes asked → IsForClient (message_type bytes) → ⊥
-not_for_client bytes (incoming.Call call) asks client = no_client_request (for_client bytes REQUEST client asks.0)
+not_for_client bytes (incoming.Call call) asks client = by (made_type bytes call asks)
+  where
+    by : (message_type bytes ≡ REQUEST) ⊎ (message_type bytes ≡ LOCATE_REQUEST) → ⊥
+    by (inl request) = no_client_request (for_client bytes REQUEST client request)
+    by (inr locate) = no_client_locate (for_client bytes LOCATE_REQUEST client locate)
 not_for_client bytes (incoming.Cancel id) asks client = no_client_cancel (for_client bytes CANCEL_REQUEST client asks.0)
 not_for_client bytes incoming.Closing asks client = no_client_closing (for_client bytes CLOSE_CONNECTION client asks)
-
-pub unbuilt_not_for_client : (bytes : List ℕ) → IsUnbuilt bytes → IsForClient (message_type bytes) → ⊥
-unbuilt_not_for_client bytes (inl later) client = no_client_request (for_client bytes REQUEST client later.0)
-unbuilt_not_for_client bytes (inr later) client = no_client_locate (for_client bytes LOCATE_REQUEST client later.is_locate)
-
--- a Request that is read is none that isn't read yet
-read_or_later : (bytes : List ℕ) (head : Head) (t : Option (List ℕ)) (o : List ℕ) (body : Body) → IsRequest bytes head t o body → IsLaterRequest bytes → ⊥
-read_or_later bytes head t o body is later =
-    no_later_target t later.behind is.behind_target (target_at bytes head t o body later.id later.flags later.behind later.opening is) later.target
-
-asked_or_later : (bytes : List ℕ) (call : Call) → MakesCall bytes call → IsLaterRequest bytes → ⊥
-asked_or_later bytes (Request head target operation body) is later = read_or_later bytes head target operation body is later
-asked_or_later bytes (Locate head target) is later = is
-asked_or_later bytes (Line number command) is later = is
-
-pub not_unbuilt : (bytes : List ℕ) (asked : Incoming) → Asks bytes asked → IsUnbuilt bytes → ⊥
-not_unbuilt bytes (incoming.Call call) asks (inl later) = asked_or_later bytes call asks.1 later.1
-not_unbuilt bytes (incoming.Call call) asks (inr later) = omega (arith, asks.0, later.is_locate)
-not_unbuilt bytes (incoming.Cancel id) asks (inl later) = omega (arith, asks.0, later.0)
-not_unbuilt bytes (incoming.Cancel id) asks (inr later) = omega (arith, asks.0, later.is_locate)
-not_unbuilt bytes incoming.Closing asks (inl later) = omega (arith, asks, later.0)
-not_unbuilt bytes incoming.Closing asks (inr later) = omega (arith, asks, later.is_locate)
 
 one_fault : (bytes : List ℕ) (e f : MsgFault) → CallOf bytes (Err e) → CallOf bytes (Err f) → e ≡ f
 one_fault bytes Malformed Malformed is has = refl
 one_fault bytes Malformed NotForServer is has = absurd (is.for_server has)
-one_fault bytes Malformed Unbuilt is has = absurd (is.built has)
 one_fault bytes NotForServer Malformed is has = absurd (has.for_server is)
 one_fault bytes NotForServer NotForServer is has = refl
-one_fault bytes NotForServer Unbuilt is has = absurd (unbuilt_not_for_client bytes has is)
-one_fault bytes Unbuilt Malformed is has = absurd (has.built is)
-one_fault bytes Unbuilt NotForServer is has = absurd (unbuilt_not_for_client bytes is has)
-one_fault bytes Unbuilt Unbuilt is has = refl
 one_fault bytes WantMemory f is has = absurd is
 one_fault bytes Malformed WantMemory is has = absurd has
 one_fault bytes NotForServer WantMemory is has = absurd has
-one_fault bytes Unbuilt WantMemory is has = absurd has
 
 asked_or_fault : (bytes : List ℕ) (asked : Incoming) (e : MsgFault) → Asks bytes asked → CallOf bytes (Err e) → ⊥
 asked_or_fault bytes asked Malformed is has = has.asks_nothing asked is
 asked_or_fault bytes asked NotForServer is has = not_for_client bytes asked is has
-asked_or_fault bytes asked Unbuilt is has = not_unbuilt bytes asked is has
 asked_or_fault bytes asked WantMemory is has = has
 
 pub one_call : OneCall

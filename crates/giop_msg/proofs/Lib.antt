@@ -1,6 +1,8 @@
 pub mod Fields
 pub mod Contexts
+pub mod Lacking
 pub mod Targets
+pub mod Locates
 pub mod Places
 pub mod Requests
 pub mod Calls

@@ -1,13 +1,16 @@
 -- What is left of a message behind the fields that were read.
-use Rattle.std.proofs.Common.{◌≡◌, ℕ, ◌+◌, ◌≤◌, List, [], ◌∷◌, ◌++◌, length, drop, refl, sym, ap, ◌∙◌, subst, arith, length-append}
+use Rattle.std.proofs.Common.{◌≡◌, ℕ, ◌+◌, ◌≤◌, List, [], ◌∷◌, ◌++◌, Option, length, drop, refl, sym, ap, ◌∙◌, subst, arith, length-append}
 use Rattle.std.proofs.lemmas.List.{length-drop, drop-drop}
 use Rattle.std.proofs.Math.Seq.{drop-append_seam}
-use Rattle.cdr_core.specs.Field.{Field}
+use Rattle.cdr_core.specs.Field.{Field, ushort, ulong, text, octets}
 use Rattle.cdr_core.specs.Cursor.{Cursor, Reads}
 use Rattle.cdr_core.proofs.OneReading.{same_cursor}
+use Rattle.poa_base.specs.declared.Profile.{Profile}
 use Rattle.giop_frame.specs.Part.{is_little}
+use Rattle.ior_profile.specs.Tagged.{ReadsProfile, ReadsProfiles}
 use Rattle.giop_msg.specs.declared.kind.TheConstants.{HEADER}
 use Rattle.giop_msg.specs.Fields.{ReadsAll, fields_start}
+use Rattle.giop_msg.specs.Target.{Target, by_key, by_profile, by_reference, ReadsAddress, IsTarget}
 
 -- the cursor stands in the message
 pub record IsWithin (bytes : List ℕ) (c : Cursor) : Type 0 where
@@ -34,6 +37,28 @@ pub fields_within : (bytes : List ℕ) (fs : List Field) (a b : Cursor) → IsWi
 fields_within bytes [] a b within read = subst (IsWithin bytes) (sym read) within
 fields_within bytes (f ∷ fs) a b within read =
     fields_within bytes fs read.0 b (field_within bytes f a read.0 within read.1.0) read.1.1
+
+profile_within : (bytes : List ℕ) (p : Profile) (a b : Cursor) → IsWithin bytes a → ReadsProfile p a b → IsWithin bytes b
+profile_within bytes p a b within read =
+    field_within bytes (octets p.bytes) read.tagged b (field_within bytes (ulong p.tag) a read.tagged within read.tag) read.bytes
+
+profiles_within : (bytes : List ℕ) (ps : List Profile) (a b : Cursor) → IsWithin bytes a → ReadsProfiles ps a b → IsWithin bytes b
+profiles_within bytes [] a b within read = subst (IsWithin bytes) (sym read) within
+profiles_within bytes (p ∷ ps) a b within read =
+    profiles_within bytes ps read.0 b (profile_within bytes p a read.0 within read.1) read.2
+
+address_within : (bytes : List ℕ) (object : Target) (a b : Cursor) → IsWithin bytes a → ReadsAddress object a b → IsWithin bytes b
+address_within bytes (by_key key) a b within read = field_within bytes (octets key) a b within read
+address_within bytes (by_profile profile) a b within read = profile_within bytes profile a b within read
+address_within bytes (by_reference index ior) a b within read =
+    profiles_within bytes ior.profiles read.1.1.counted b
+    (field_within bytes (ulong (length ior.profiles)) read.1.1.named read.1.1.counted
+    (field_within bytes (text ior.type_id) read.0 read.1.1.named
+    (field_within bytes (ulong index) a read.0 within read.1.0) read.1.1.type_id) read.1.1.count) read.1.1.profiles
+
+pub target_within : (bytes : List ℕ) (t : Option (List ℕ)) (a b : Cursor) → IsWithin bytes a → IsTarget t a b → IsWithin bytes b
+target_within bytes t a b within is =
+    address_within bytes is.address.object is.behind b (field_within bytes (ushort is.disposition) a is.behind within is.told) is.address.read
 
 -- a cursor of the message is told by its place
 pub by_place : (bytes : List ℕ) (c : Cursor) (place : ℕ) → IsWithin bytes c → place ≡ c.place → record { little = is_little bytes; place = place; rest = drop place bytes } ≡ c

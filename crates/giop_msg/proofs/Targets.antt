@@ -1,84 +1,108 @@
 -- Why a target can't be read, and that it is read in one way.
-use Rattle.std.proofs.Common.{◌≡◌, ◌≢◌, ℕ, ◌≤◌, List, Option, Some, refl, sym, ap, ◌∙◌, subst, arith, ◌⊎◌, inl, inr}
+use Rattle.std.proofs.Common.{◌≡◌, ℕ, ◌≤◌, List, Option, sym, ap, ap₂, ◌∙◌, subst, arith}
 use Rattle.cdr_core.specs.declared.CdrFault.{CdrFault}
-use Rattle.cdr_core.specs.declared.CdrFault.TheVariants.{Short, BadBool, NoNul, WantMemory}
-use Rattle.cdr_core.specs.Kind.{Octets}
-use Rattle.cdr_core.specs.Field.{ushort, octets}
+use Rattle.cdr_core.specs.Kind.{ULong, Octets}
+use Rattle.cdr_core.specs.Field.{ushort, ulong, octets}
 use Rattle.cdr_core.specs.Cursor.{Cursor, Reads}
 use Rattle.cdr_core.specs.Refusal.{Refuses}
-use Rattle.cdr_core.proofs.OneReading.{one_ushort_read, one_octets_read}
+use Rattle.cdr_core.proofs.OneReading.{one_ushort_read, one_ulong_read, one_octets_read}
 use Rattle.cdr_core.proofs.Refusals.{none_where_refused}
-use Rattle.giop_msg.specs.declared.fault.MsgFault.TheVariants as fault
-use Rattle.giop_msg.specs.declared.target.TheConstants.{KEY_ADDRESS}
-use Rattle.giop_msg.specs.Fields.{ReadsAll}
-use Rattle.giop_msg.specs.Target.{Target, by_key, target_fields, key_of, IsTarget, IsLaterAddress, IsLaterTarget}
-use Rattle.giop_msg.specs.Reading.{fault_of, TargetFault}
+use Rattle.ior_profile.specs.Tagged.{ProfileBreaks}
+use Rattle.ior_profile.specs.Reference.{ReadsIor, IorBreaks}
+use Rattle.ior_profile.specs.Key.{TellsKey, HasKey}
+use Rattle.ior_profile.proofs.OneReading.{one_profile, one_ior, profile_stands, ior_stands}
+use Rattle.ior_profile.proofs.Keys.{one_told_key, one_key, one_found}
+use Rattle.giop_msg.specs.declared.target.TheConstants.{KEY_ADDRESS, PROFILE_ADDRESS, REFERENCE_ADDRESS}
+use Rattle.giop_msg.specs.Target.{Target, by_key, by_profile, by_reference, disposition_of, ReadsAddress, GivesKey, IsAddress, IsTarget}
+use Rattle.giop_msg.specs.Reading.{NoTarget, NoAddress}
 
--- a key was read
-pub key_read : (key target : List ℕ) (a b c : Cursor) → Reads (ushort KEY_ADDRESS) a b → Reads (octets key) b c → target ≡ key → IsTarget (Some target) a c
-key_read key target a b c disposition read same = record {
-  object = by_key key;
-  read = (b, (disposition, (c, (read, refl))));
-  gives = ap (λ (k : List ℕ). Some k) same;
-}
+-- an address of a disposition is read in one way
+same_address : (x y : Target) (a b c : Cursor) → disposition_of x ≡ disposition_of y → ReadsAddress x a b → ReadsAddress y a c → (x ≡ y) × (b ≡ c)
+same_address (by_key k) (by_key l) a b c same here there =
+    let key = one_octets_read k l a b c here there in
+    (ap by_key key.0, key.1)
+same_address (by_key k) (by_profile q) a b c same here there = absurd (omega (arith, same))
+same_address (by_key k) (by_reference j y) a b c same here there = absurd (omega (arith, same))
+same_address (by_profile p) (by_key l) a b c same here there = absurd (omega (arith, same))
+same_address (by_profile p) (by_profile q) a b c same here there =
+    let profile = one_profile p q a b c here there in
+    (ap by_profile profile.0, profile.1)
+same_address (by_profile p) (by_reference j y) a b c same here there = absurd (omega (arith, same))
+same_address (by_reference i x) (by_key l) a b c same here there = absurd (omega (arith, same))
+same_address (by_reference i x) (by_profile q) a b c same here there = absurd (omega (arith, same))
+same_address (by_reference i x) (by_reference j y) a b c same here there =
+    let index = one_ulong_read i j a here.0 there.0 here.1.0 there.1.0 in
+    let ior = one_ior x y there.0 b c (subst (λ (z : Cursor). ReadsIor x z b) index.1 here.1.1) there.1.1 in
+    (ap₂ by_reference index.0 ior.0, ior.1)
 
-no_later : (n : ℕ) (a b : Cursor) → Reads (ushort n) a b → (IsLaterAddress n → ⊥) → IsLaterTarget a → ⊥
-no_later n a b read other later =
-    other (subst IsLaterAddress (one_ushort_read later.disposition n a later.behind b later.read read).0 later.later)
+-- and gives one key, or none
+one_given : (x : Target) (t u : Option (List ℕ)) → GivesKey x t → GivesKey x u → t ≡ u
+one_given (by_key key) t u here there = here ∙ sym there
+one_given (by_profile profile) t u here there = one_found (TellsKey profile) (one_told_key profile) t u here there
+one_given (by_reference index ior) t u here there = one_found (HasKey ior index) (one_key ior index) t u here there
 
-not_later_key : IsLaterAddress KEY_ADDRESS → ⊥
-not_later_key (inl e) = omega (arith, e)
-not_later_key (inr e) = omega (arith, e)
+one_address : (n : ℕ) (t u : Option (List ℕ)) (a b c : Cursor) → IsAddress n t a b → IsAddress n u a c → (t ≡ u) × (b ≡ c)
+one_address n t u a b c here there =
+    let one = same_address here.object there.object a b c (here.is ∙ sym there.is) here.read there.read in
+    (one_given there.object t u (subst (λ (x : Target). GivesKey x t) one.0 here.gives) there.gives, one.1)
 
--- by another disposition no target is read
-no_target : (n : ℕ) (object : Target) (a b c : Cursor) → Reads (ushort n) a b → n ≢ KEY_ADDRESS → ReadsAll (target_fields object) a c → ⊥
-no_target n (by_key key) a b c read other all = other (one_ushort_read n KEY_ADDRESS a b all.0 read all.1.0).0
-
-no_key : (object : Target) (a b c : Cursor) (refused : CdrFault) → Reads (ushort KEY_ADDRESS) a b → Refuses Octets b refused → ReadsAll (target_fields object) a c → ⊥
-no_key (by_key key) a b c refused read refuses all =
-    let one = one_ushort_read KEY_ADDRESS KEY_ADDRESS a b all.0 read all.1.0 in
-    none_where_refused (octets key) b all.1.1.0 refused refuses (subst (λ (z : Cursor). Reads (octets key) z all.1.1.0) (sym one.1) all.1.1.1.0)
-
-unread : (a b : Cursor) (refused : CdrFault) → Reads (ushort KEY_ADDRESS) a b → Refuses Octets b refused → TargetFault a fault.Malformed
-unread a b refused read refuses = (λ target after is. no_key is.object a b after refused read refuses is.read, no_later KEY_ADDRESS a b read not_later_key)
-
--- the key can't be read
-pub key_refused : (a b : Cursor) (refused : CdrFault) → Reads (ushort KEY_ADDRESS) a b → ((refused ≡ WantMemory) ⊎ Refuses Octets b refused) → TargetFault a (fault_of refused)
-key_refused a b WantMemory read why = tt
-key_refused a b (Short need have) read (inl e) = absurd (cc)
-key_refused a b (Short need have) read (inr refuses) = unread a b (Short need have) read refuses
-key_refused a b (BadBool value) read (inl e) = absurd (cc)
-key_refused a b (BadBool value) read (inr refuses) = unread a b (BadBool value) read refuses
-key_refused a b NoNul read (inl e) = absurd (cc)
-key_refused a b NoNul read (inr refuses) = unread a b NoNul read refuses
-
--- the disposition is none
-pub other_disposition : (n : ℕ) (a b : Cursor) → Reads (ushort n) a b → 3 ≤ n → TargetFault a fault.Malformed
-other_disposition n a b read above = (
-  λ target after is. no_target n is.object a b after read (λ e. omega (arith, e)) is.read,
-  no_later n a b read (λ later. neither later),
-)
-  where
-    neither : IsLaterAddress n → ⊥
-    neither (inl e) = omega (arith, e)
-    neither (inr e) = omega (arith, e)
-
-same_target : (x y : Target) (a b c : Cursor) → ReadsAll (target_fields x) a b → ReadsAll (target_fields y) a c → (x ≡ y) × (b ≡ c)
-same_target (by_key k) (by_key l) a b c here there =
-    let disposition = one_ushort_read KEY_ADDRESS KEY_ADDRESS a here.0 there.0 here.1.0 there.1.0 in
-    let read : Reads (octets l) here.0 there.1.1.0 = subst (λ (z : Cursor). Reads (octets l) z there.1.1.0) (sym disposition.1) there.1.1.1.0 in
-    let key = one_octets_read k l here.0 here.1.1.0 there.1.1.0 here.1.1.1.0 read in
-    (ap by_key key.0, here.1.1.1.1 ∙ (key.1 ∙ sym there.1.1.1.1))
+-- the address stands where the disposition that was read ends
+pub address_at : (n : ℕ) (t : Option (List ℕ)) (a b after : Cursor) → Reads (ushort n) a b → IsTarget t a after → IsAddress n t b after
+address_at n t a b after told is =
+    let disposition = one_ushort_read is.disposition n a is.behind b is.told told in
+    subst (λ (z : Cursor). IsAddress n t z after) disposition.1 (subst (λ (m : ℕ). IsAddress m t is.behind after) disposition.0 is.address)
 
 -- a target is read in one way
 pub one_target : (t u : Option (List ℕ)) (a b c : Cursor) → IsTarget t a b → IsTarget u a c → (t ≡ u) × (b ≡ c)
 one_target t u a b c here there =
-    let one = same_target here.object there.object a b c here.read there.read in
-    (here.gives ∙ (ap key_of one.0 ∙ sym there.gives), one.1)
+    one_address there.disposition t u there.behind b c (address_at there.disposition t a there.behind b there.told here) there.address
 
--- a target that is read is none that isn't read yet
-pub no_later_target : (t : Option (List ℕ)) (a b : Cursor) → IsTarget t a b → IsLaterTarget a → ⊥
-no_later_target t a b is later = at is.object is.read
+-- without an address there is no target
+pub no_target_behind : (n : ℕ) (a b : Cursor) → Reads (ushort n) a b → NoAddress n b → NoTarget a
+no_target_behind n a b told none target after is = none target after (address_at n target a b after told is)
+
+-- no key can be read
+pub no_key : (a : Cursor) (fault : CdrFault) → Refuses Octets a fault → NoAddress KEY_ADDRESS a
+no_key a fault refused target after is = at is.object is.is is.read
   where
-    at : (object : Target) → ReadsAll (target_fields object) a b → ⊥
-    at (by_key key) all = no_later KEY_ADDRESS a all.0 all.1.0 not_later_key later
+    at : (object : Target) → disposition_of object ≡ KEY_ADDRESS → ReadsAddress object a after → ⊥
+    at (by_key key) same read = none_where_refused (octets key) a after fault refused read
+    at (by_profile profile) same read = omega (arith, same)
+    at (by_reference index ior) same read = omega (arith, same)
+
+-- no profile
+pub no_profile : (a : Cursor) (place : ℕ) → ProfileBreaks a place → NoAddress PROFILE_ADDRESS a
+no_profile a place breaks target after is = at is.object is.is is.read
+  where
+    at : (object : Target) → disposition_of object ≡ PROFILE_ADDRESS → ReadsAddress object a after → ⊥
+    at (by_key key) same read = omega (arith, same)
+    at (by_profile profile) same read = profile_stands profile a after place read breaks
+    at (by_reference index ior) same read = omega (arith, same)
+
+-- no index, or no reference behind it
+pub no_index : (a : Cursor) (fault : CdrFault) → Refuses ULong a fault → NoAddress REFERENCE_ADDRESS a
+no_index a fault refused target after is = at is.object is.is is.read
+  where
+    at : (object : Target) → disposition_of object ≡ REFERENCE_ADDRESS → ReadsAddress object a after → ⊥
+    at (by_key key) same read = omega (arith, same)
+    at (by_profile profile) same read = omega (arith, same)
+    at (by_reference index ior) same read = none_where_refused (ulong index) a read.0 fault refused read.1.0
+
+pub no_reference : (n : ℕ) (a b : Cursor) (place : ℕ) → Reads (ulong n) a b → IorBreaks b place → NoAddress REFERENCE_ADDRESS a
+no_reference n a b place told breaks target after is = at is.object is.is is.read
+  where
+    at : (object : Target) → disposition_of object ≡ REFERENCE_ADDRESS → ReadsAddress object a after → ⊥
+    at (by_key key) same read = omega (arith, same)
+    at (by_profile profile) same read = omega (arith, same)
+    at (by_reference index ior) same read =
+        let one = one_ulong_read index n a read.0 b read.1.0 told in
+        ior_stands ior b after place (subst (λ (z : Cursor). ReadsIor ior z after) one.1 read.1.1) breaks
+
+-- there is no other disposition
+pub other_disposition : (n : ℕ) (a : Cursor) → 3 ≤ n → NoAddress n a
+other_disposition n a above target after is = at is.object is.is
+  where
+    at : (object : Target) → disposition_of object ≡ n → ⊥
+    at (by_key key) same = omega (arith, same, above)
+    at (by_profile profile) same = omega (arith, same, above)
+    at (by_reference index ior) same = omega (arith, same, above)

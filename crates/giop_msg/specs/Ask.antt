@@ -9,14 +9,14 @@ use Rattle.poa_base.specs.declared.Call.TheVariants.{Request}
 use Rattle.poa_base.specs.declared.Datum.{Datum}
 use Rattle.giop_msg.specs.declared.kind.TheConstants.{MINOR, REQUEST, HEADER}
 use Rattle.giop_msg.specs.Outgoing.{framed, fields_draft}
-use Rattle.giop_msg.specs.Target.{by_key, target_fields}
+use Rattle.giop_msg.specs.Target.{key_fields}
 use Rattle.giop_msg.specs.Request.{opening_fields, closing_fields}
 use Rattle.giop_msg.specs.Reply.{datum_field}
 
 -- the fields in front of the body: the reserved octets are 0, the target is told by its key, no contexts
 abbrev pub request_draft : Ask → Draft
 request_draft ask =
-    fields_draft ask.head.little (opening_fields ask.head.id ask.head.flags 0 0 0 ++ target_fields (by_key ask.key) ++ closing_fields ask.operation [])
+    fields_draft ask.head.little (opening_fields ask.head.id ask.head.flags 0 0 0 ++ key_fields ask.key ++ closing_fields ask.operation [])
 
 -- the place behind these fields
 abbrev pub request_end : Ask → ℕ

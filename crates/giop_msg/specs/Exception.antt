@@ -4,7 +4,8 @@ use Rattle.cdr_core.specs.Field.{Field, ulong, text}
 use Rattle.poa_base.specs.declared.ExcName.{ExcName}
 use Rattle.poa_base.specs.declared.ExcName.TheVariants.{ObjectNotExist, Transient, ObjAdapter, BadOperation, Marshal, Unknown}
 use Rattle.poa_base.specs.declared.SysExc.{SysExc}
-use Rattle.giop_msg.specs.declared.exception.TheConstants.{FAULT_SERVANT, COMPLETED_NO, COMPLETED_MAYBE}
+use Rattle.poa_base.specs.declared.minors.TheConstants.{FAULT_SERVANT}
+use Rattle.giop_msg.specs.declared.exception.TheConstants.{COMPLETED_NO, COMPLETED_MAYBE}
 
 -- the repository id of an exception
 abbrev pub exception_id : ExcName → List ℕ

@@ -2,6 +2,7 @@ pub mod Fields
 pub mod Header
 pub mod Target
 pub mod Request
+pub mod Locate
 pub mod Call
 pub mod Reading
 pub mod Outgoing

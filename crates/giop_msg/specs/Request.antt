@@ -8,7 +8,7 @@ use Rattle.poa_base.specs.declared.Body.{Body}
 use Rattle.giop_frame.specs.Part.{is_little}
 use Rattle.giop_msg.specs.declared.kind.TheConstants.{MINOR}
 use Rattle.giop_msg.specs.Fields.{ReadsAll, fields_start}
-use Rattle.giop_msg.specs.Target.{IsTarget, IsLaterTarget}
+use Rattle.giop_msg.specs.Target.{IsTarget}
 
 -- the fields in front of the target: the id, the response flags, and three octets that are reserved
 abbrev pub opening_fields : ℕ → ℕ → ℕ → ℕ → ℕ → List Field
@@ -61,11 +61,3 @@ pub record IsRequest (bytes : List ℕ) (head : Head) (target : Option (List ℕ
   pub closing : IsClosing operation behind_target behind
   pub is_head : head ≡ request_head head.id head.flags (is_little bytes)
   pub is_body : body ≡ body_at behind
-
--- behind the opening a target stands that isn't read yet
-pub record IsLaterRequest (bytes : List ℕ) : Type 0 where
-  pub id : ℕ
-  pub flags : ℕ
-  pub behind : Cursor
-  pub opening : IsOpening id flags (fields_start bytes) behind
-  pub target : IsLaterTarget behind

@@ -4,10 +4,8 @@ ghost use Rattle.cdr_core.specs.Fields.{with_fields};
 ghost use Rattle.giop_msg.specs.Exception.{exception_id as id_of, completion_of as completion, exception_fields};
 
 use cdr_core::Writer;
+use poa_base::minors::FAULT_SERVANT;
 use poa_base::{ExcName, SysExc, WantMemory};
-
-/// The minor code of UNKNOWN that a fault servant raises, after which the operation may have happened.
-pub(crate) const FAULT_SERVANT: u32 = 0xFFFF_F009;
 
 /// COMPLETED_NO.
 pub(crate) const COMPLETED_NO: u32 = 1;

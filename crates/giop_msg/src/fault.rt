@@ -11,8 +11,6 @@ pub enum MsgFault {
     Malformed,
     /// A Reply, a LocateReply or a MessageError.
     NotForServer,
-    /// A LocateRequest, or a Request whose target is told by a profile or by a reference: not read yet.
-    Unbuilt,
     /// No memory was left for the call.
     WantMemory,
 }
@@ -47,7 +45,6 @@ impl fmt::Display for MsgFault {
         match self {
             MsgFault::Malformed => write!(f, "the message can't be read"),
             MsgFault::NotForServer => write!(f, "the message isn't for a server"),
-            MsgFault::Unbuilt => write!(f, "the message isn't served yet"),
             MsgFault::WantMemory => write!(f, "out of memory"),
         }
     }

@@ -4,7 +4,7 @@ use poa_base::Call;
 /// What a message asks.
 #[derive(Debug, PartialEq, Eq, Drop)]
 pub enum Incoming {
-    /// A Request.
+    /// A Request or a LocateRequest.
     Call(Call),
     /// A CancelRequest, with the id of the request.
     Cancel { id: u32 },

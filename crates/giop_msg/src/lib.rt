@@ -10,6 +10,7 @@ mod field;
 mod incoming;
 mod kind;
 pub mod laws;
+mod locate;
 mod outgoing;
 mod reading;
 mod reply;

@@ -12,18 +12,21 @@ ghost use Rattle.giop_msg.specs.Ask.{request_bytes, call_of, IsAsk};
 use crate::fault::MsgFault;
 use crate::incoming::Incoming;
 use crate::kind::{CANCEL_REQUEST, CLOSE_CONNECTION, HEADER, LOCATE_REQUEST, REQUEST};
+use crate::locate::read_locate;
 use crate::request::read_request;
 use cdr_core::Reader;
 use giop_frame::Message;
 use std::alloc::Global;
 
-/// What a message asks of a server: the call of a Request, the id of a CancelRequest, or a CloseConnection.
+/// What a message asks of a server: the call of a Request or a LocateRequest, the id of a CancelRequest, or a
+/// CloseConnection. A call whose target is told by a profile or by a reference from which no key can be read
+/// has no target.
 ///
-/// `Malformed` where the fields of a Request, CancelRequest or LocateRequest can't be read: the id, and for a
-/// Request the response flags, the target, the operation and the service contexts. `NotForServer` for a Reply,
-/// a LocateReply or a MessageError. `Unbuilt` for a LocateRequest, or a Request whose target is told by a
-/// profile or by a reference. `WantMemory` where no memory was left. What stands behind the id of a
-/// CancelRequest, or behind the header of a CloseConnection, is ignored.
+/// `Malformed` where the fields of a Request, LocateRequest or CancelRequest can't be read: the id; of the two
+/// calls the target; and of a Request the response flags, the operation and the service contexts.
+/// `NotForServer` for a Reply, a LocateReply or a MessageError. `WantMemory` where no memory was left. What
+/// stands behind the target of a LocateRequest, behind the id of a CancelRequest, or behind the header of a
+/// CloseConnection, is ignored.
 pub fn read_call(alloc: Global, message: &Message) -> Result<Incoming, MsgFault>
     ensures call { IfOk result (λ asked. CallOf message.now.bytes (Ok asked)) }
     ensures fault { IfErr result (λ fault. (fault ≡ MsgFault.WantMemory) ⊎ CallOf message.now.bytes (Err fault)) }
@@ -48,10 +51,7 @@ fn read_message(alloc: Global, bytes: &[u8]) -> Result<Incoming, MsgFault>
         CANCEL_REQUEST => Ok(Incoming::Cancel {
             id: read_id(bytes)?,
         }),
-        LOCATE_REQUEST => {
-            read_id(bytes)?;
-            Err(MsgFault::Unbuilt)
-        }
+        LOCATE_REQUEST => Ok(Incoming::Call(read_locate(alloc, bytes)?)),
         CLOSE_CONNECTION => Ok(Incoming::Closing),
         _ => Err(MsgFault::NotForServer),
     }

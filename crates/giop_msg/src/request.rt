@@ -2,9 +2,11 @@
 ghost use Rattle.std.specs.Prelude.{◌≡◌, ◌≢◌, ◌⊎◌, ◌≤◌, ◌+◌, ◌<◌, ◌^◌, ℕ, List, [], drop, length, IfOk, IfErr, OnOk};
 ghost use Rattle.cdr_core.specs.Cursor.{Cursor};
 ghost use Rattle.giop_frame.specs.Part.{is_little as little_flag};
+ghost use Rattle.giop_msg.specs.Header.{message_type};
+ghost use Rattle.giop_msg.specs.declared.kind.TheConstants.{REQUEST};
 ghost use Rattle.giop_msg.specs.Request.{body_at as body_behind, IsOpening, IsClosing};
 ghost use Rattle.giop_msg.specs.Call.{MakesCall};
-ghost use Rattle.giop_msg.specs.Reading.{IsContext, HasContexts, RequestFault};
+ghost use Rattle.giop_msg.specs.Reading.{IsContext, HasContexts, Lacks, NoCall};
 
 use crate::fault::MsgFault;
 use crate::kind::{HEADER, MINOR};
@@ -21,11 +23,12 @@ struct Opening {
     flags: u8,
 }
 
-/// The call that the fields of a message make, where they are those of a Request.
+/// The call that a Request makes.
 pub(crate) fn read_request(alloc: Global, bytes: &[u8]) -> Result<Call, MsgFault>
-    requires { HEADER ≤ length bytes.now }
+    requires whole { HEADER ≤ length bytes.now }
+    requires request { message_type bytes.now ≡ REQUEST }
     ensures ok { IfOk result (λ call. MakesCall bytes.now call) }
-    ensures bad { IfErr result (λ fault. RequestFault bytes.now fault) }
+    ensures bad { IfErr result (λ fault. Lacks (NoCall bytes.now) fault) }
 {
     let mut reader = enter(bytes);
     let opening = read_opening(&mut reader)?;

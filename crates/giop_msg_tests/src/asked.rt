@@ -1,7 +1,7 @@
 //! What messages ask.
 
 use crate::told::asked;
-use crate::vectors::{ADD, CONTEXTS, GARBAGE, GET, GET_BIG, LOCATE, NON_EXISTENT, PARTS};
+use crate::vectors::{ADD, CONTEXTS, GARBAGE, GET, GET_BIG, NON_EXISTENT, PARTS};
 use std::test::Fail;
 
 #[test]
@@ -72,17 +72,6 @@ fn messages_for_clients_are_not_for_a_server(rt: HostRuntime) -> Result<(), Fail
         wanted
     );
     assert_eq!(rt; asked(alloc, "47494f500102010600000000")?.as_str(), wanted);
-    Ok(())
-}
-
-#[test]
-fn locates_and_targets_without_a_key_are_not_read_yet(rt: HostRuntime) -> Result<(), Fail> {
-    let alloc = rt.alloc();
-    let wanted = "the message isn't served yet";
-    assert_eq!(rt; asked(alloc, LOCATE)?.as_str(), wanted);
-    let profile = "47494f500102010020000000010000000300000001000000000000000000000004000000676574\
-0000000000";
-    assert_eq!(rt; asked(alloc, profile)?.as_str(), wanted);
     Ok(())
 }
 

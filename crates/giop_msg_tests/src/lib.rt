@@ -5,6 +5,8 @@
 #[cfg(test)]
 mod asked;
 #[cfg(test)]
+mod targets;
+#[cfg(test)]
 mod told;
 #[cfg(test)]
 mod vectors;

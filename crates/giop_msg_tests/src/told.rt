@@ -13,9 +13,24 @@ const LONGEST: usize = 4096;
 
 /// What the first message of a stream asks. The stream is in hexadecimal digits.
 pub fn asked(alloc: Global, stream: &str) -> Result<String, Fail> {
-    let text = hex::decode(alloc, stream)?;
+    let bytes = hex::decode(alloc, stream)?;
+    asked_by(alloc, bytes.as_slice())
+}
+
+/// What a little-endian LocateRequest with id 3 asks, behind whose id these bytes stand.
+pub fn located(alloc: Global, address: &[u8]) -> Result<String, Fail> {
+    let size = address.len().min(LONGEST) as u32 + 4;
+    let mut stream = Vec::from_slice(alloc, b"GIOP\x01\x02\x01\x03")?;
+    stream.extend_from_slice(&size.to_le_bytes())?;
+    stream.extend_from_slice(&[3, 0, 0, 0])?;
+    stream.extend_from_slice(address)?;
+    asked_by(alloc, stream.as_slice())
+}
+
+/// What the first message of a stream of these bytes asks.
+fn asked_by(alloc: Global, stream: &[u8]) -> Result<String, Fail> {
     let mut framer = Framer::new(alloc, 1_048_576);
-    framer.feed(&text.as_slice()[..text.len().min(LONGEST)])?;
+    framer.feed(&stream[..stream.len().min(LONGEST)])?;
     let Next::Message(message) = framer.next()? else {
         return Ok(format!(in alloc; "no message")?);
     };
@@ -34,30 +49,44 @@ fn told(alloc: Global, incoming: &Incoming) -> Result<String, Fail> {
     }
 }
 
-/// The object, the request with its body and the place of that, and the head.
+/// A call: its object, a request with its body and the place of that, and the head.
 fn told_call(alloc: Global, call: &Call) -> Result<String, Fail> {
-    let Call::Request {
-        head,
-        target: Some(key),
-        operation,
-        body,
-    } = call
-    else {
-        return Ok(format!(in alloc; "another call")?);
-    };
-    let key = hex::encode(alloc, key.as_slice())?;
-    let operation = str::from_utf8(operation.as_slice())?;
-    let argument = hex::encode(alloc, body.bytes.as_slice())?;
-    let base = body.base;
+    match call {
+        Call::Request {
+            head,
+            target,
+            operation,
+            body,
+        } => {
+            let key = told_key(alloc, target)?;
+            let operation = str::from_utf8(operation.as_slice())?;
+            let argument = hex::encode(alloc, body.bytes.as_slice())?;
+            let base = body.base;
+            let head = told_head(alloc, head)?;
+            Ok(format!(in alloc; "{key} {operation}({argument}) at {base}, {head}")?)
+        }
+        Call::Locate { head, target } => {
+            let key = told_key(alloc, target)?;
+            let head = told_head(alloc, head)?;
+            Ok(format!(in alloc; "locate {key}, {head}")?)
+        }
+        Call::Line { .. } => Ok(format!(in alloc; "a line")?),
+    }
+}
+
+/// The key of an object in hexadecimal digits, or `-`.
+fn told_key(alloc: Global, target: &Option<Bytes>) -> Result<String, Fail> {
+    match target {
+        Some(key) => Ok(hex::encode(alloc, key.as_slice())?),
+        None => Ok(format!(in alloc; "-")?),
+    }
+}
+
+/// The id, the version, the byte order and the response flags.
+fn told_head(alloc: Global, head: &Head) -> Result<String, Fail> {
     let (id, minor, flags) = (head.id, head.minor, head.flags);
-    let order = if head.little && body.little {
-        "little"
-    } else {
-        "big"
-    };
-    Ok(format!(in alloc;
-        "{key} {operation}({argument}) at {base}, {id} 1.{minor} {order} {flags}"
-    )?)
+    let order = if head.little { "little" } else { "big" };
+    Ok(format!(in alloc; "{id} 1.{minor} {order} {flags}")?)
 }
 
 /// The bytes that answer a request by this outcome.

@@ -1,10 +1,14 @@
 //! The bytes of messages that are written.
+ghost use Rattle.std.specs.Prelude.{IfOk};
+ghost use Rattle.poa_base.specs.declared.Head.{Head};
+ghost use Rattle.giop_msg.specs.Reply.{AnswersHead};
 
 use crate::told::{bytes, replied, requested};
 use crate::vectors::{ADD, GET_BIG, KEY, NON_EXISTENT, PADDED};
 use giop_msg::laws::{one_call, written_asks, written_is_message};
 use giop_msg::{write_closing, write_error, write_reply};
 use poa_base::{Completion, Datum, Endpoint, ExcName, Head, Outcome, Reply, SysExc};
+use std::alloc::Global;
 use std::test::Fail;
 
 /// The head of a little-endian request with id 1, which wants its results.
@@ -117,14 +121,7 @@ fn flags_of_exactly_1_hide_results_and_user_exceptions(rt: HostRuntime) -> Resul
 #[test]
 fn write_reply_gives_forwards(rt: HostRuntime) -> Result<(), Fail> {
     let alloc = rt.alloc();
-    let forward = Reply::Forward {
-        endpoint: Endpoint {
-            host: bytes(alloc, b"127.0.0.1")?,
-            port: 2900,
-        },
-        key: bytes(alloc, b"POA\x01\x01\x01\x05moved\x00\x01a")?,
-    };
-    let reply = write_reply(alloc, &Head { id: 2, ..FIRST }, &forward)?;
+    let reply = write_reply(alloc, &Head { id: 2, ..FIRST }, &forward(alloc)?)?;
     let text = hex::encode(alloc, reply.as_slice())?;
     assert_eq!(rt;
         text.as_str(),
@@ -142,12 +139,43 @@ fn write_reply_tells_where_an_object_is(rt: HostRuntime) -> Result<(), Fail> {
         hex::encode(alloc, here.as_slice())?.as_str(),
         "47494f5001020104080000000300000001000000"
     );
+    let unknown = write_reply(alloc, &LOCATE, &Reply::UnknownObject)?;
+    assert_eq!(rt;
+        hex::encode(alloc, unknown.as_slice())?.as_str(),
+        "47494f5001020104080000000300000000000000"
+    );
     let addressing = write_reply(alloc, &Head { id: 4, ..LOCATE }, &Reply::Addressing)?;
     assert_eq!(rt;
         hex::encode(alloc, addressing.as_slice())?.as_str(),
         "47494f50010201040a00000004000000050000000000"
     );
     Ok(())
+}
+
+#[test]
+fn a_locate_is_forwarded_by_a_status_of_its_own(rt: HostRuntime) -> Result<(), Fail> {
+    let alloc = rt.alloc();
+    let reply = write_reply(alloc, &LOCATE, &forward(alloc)?)?;
+    let text = hex::encode(alloc, reply.as_slice())?;
+    assert_eq!(rt;
+        text.as_str(),
+        "47494f50010201044800000003000000020000000100000000000000010000000000\
+00002c000000000102000000000a3132372e302e302e31000b540000000f504f41010101056d6f7665640001610000000000"
+    );
+    Ok(())
+}
+
+/// The object whose key is that of `a` in the adapter `/moved` is at 127.0.0.1 port 2900.
+fn forward(alloc: Global) -> Result<Reply, Fail>
+    ensures { IfOk result (λ reply. (head : Head) → AnswersHead head reply) }
+{
+    Ok(Reply::Forward {
+        endpoint: Endpoint {
+            host: bytes(alloc, b"127.0.0.1")?,
+            port: 2900,
+        },
+        key: bytes(alloc, b"POA\x01\x01\x01\x05moved\x00\x01a")?,
+    })
 }
 
 #[test]

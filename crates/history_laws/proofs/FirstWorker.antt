@@ -13,7 +13,8 @@ use Rattle.poa_base.specs.declared.ExcName.TheVariants.{ObjectNotExist, Transien
 use Rattle.poa_base.specs.declared.ManagerState.{ManagerState}
 use Rattle.poa_base.specs.declared.ManagerState.TheVariants.{Active, Discarding, Holding, Inactive}
 use Rattle.poa_base.specs.declared.Verdict.TheVariants.{Addressing}
-use Rattle.poa_choose.specs.Table.{awaits_main, awaits_turn, first_row, inactive_rule, key_rows, missing_rows, object_rows, omg, refuse, state_rule, thread_rows, walk_rows}
+use Rattle.poa_base.specs.declared.minors.TheConstants.{ADAPTER_DYING, BAD_KEY, DISCARDED, OTHER_LIFESPAN}
+use Rattle.poa_choose.specs.Table.{awaits_main, awaits_turn, first_row, inactive_rule, key_rows, missing_rows, object_rows, refuse, state_rule, thread_rows, walk_rows}
 use Rattle.poa_choose.specs.declared.Choice.{Choice}
 use Rattle.poa_choose.specs.declared.Choice.TheVariants.{Go, Held}
 use Rattle.poa_choose.specs.declared.Facts.{Facts}
@@ -33,7 +34,6 @@ use Rattle.std.proofs.Common.{◌∙◌, ap, ap₂, arith, sym}
 use Rattle.std.proofs.lemmas.Bool.{cond_both, true≢false}
 use Rattle.std.specs.Option.{option_or}
 use Rattle.std.specs.Prelude.{◌<◌, ◌≡◌, List, None, Option, Some, false, find, if◌then◌else◌, not, option_map, refl, suc, true, zero, ℕ}
-use Rattle.poa_choose.specs.Table.{own}
 
 module _ (f : Facts) where
   -- what the table holds from the first worker it holds from each
@@ -54,28 +54,28 @@ module _ (f : Facts) where
   by_state : (on : ℕ → Choice) → HeldFromAll on → (state : ManagerState) → HeldFromAll (λ w. state_rule f state (on w))
   by_state on all Holding = for_all (Held (Some (ManagerCause f.manager)))
   by_state on all Active = all
-  by_state on all Discarding = for_all (refuse f Transiently (omg 1))
+  by_state on all Discarding = for_all (refuse f Transiently DISCARDED)
   by_state on all Inactive = for_all (inactive_rule f)
 
   by_walk : (walk : WalkFact) → HeldFromAll (λ w. walk_rows f w walk)
-  by_walk MeetsDying = for_all (refuse f Transiently (omg 4))
+  by_walk MeetsDying = for_all (refuse f Transiently ADAPTER_DYING)
   by_walk MeetsMissing = for_all (missing_rows f)
   by_walk MeetsAdapter =
-      elim f.differs as (λ b. HeldFromAll (λ w. if b then refuse f ObjectNotExist (own 2) else state_rule f f.state (thread_rows f w)))
-      [ true ↦ for_all (refuse f ObjectNotExist (own 2)) | false ↦ by_state (thread_rows f) by_thread f.state ]
+      elim f.differs as (λ b. HeldFromAll (λ w. if b then refuse f ObjectNotExist OTHER_LIFESPAN else state_rule f f.state (thread_rows f w)))
+      [ true ↦ for_all (refuse f ObjectNotExist OTHER_LIFESPAN) | false ↦ by_state (thread_rows f) by_thread f.state ]
 
   by_key : (key : KeyFact) → HeldFromAll (λ w. key_rows f w key)
   by_key Absent = for_all (Go Addressing)
-  by_key BadKey = for_all (refuse f ObjectNotExist (own 1))
-  by_key OtherRun = for_all (refuse f ObjectNotExist (own 2))
+  by_key BadKey = for_all (refuse f ObjectNotExist BAD_KEY)
+  by_key OtherRun = for_all (refuse f ObjectNotExist OTHER_LIFESPAN)
   by_key Transient = by_walk f.walk
   by_key Persistent = by_walk f.walk
 
   pub held_from_all : is_held (first_row f 0) ≡ true → (w : ℕ) → is_held (first_row f w) ≡ true
   unfolding first_row
   held_from_all =
-      elim f.crowded as (λ b. HeldFromAll (λ w. if b then refuse f Transiently (omg 1) else key_rows f w f.key))
-      [ true ↦ for_all (refuse f Transiently (omg 1)) | false ↦ by_key f.key ]
+      elim f.crowded as (λ b. HeldFromAll (λ w. if b then refuse f Transiently DISCARDED else key_rows f w f.key))
+      [ true ↦ for_all (refuse f Transiently DISCARDED) | false ↦ by_key f.key ]
 
 held_none : (choice : Choice) → chosen choice ≡ None → is_held choice ≡ true
 held_none (Held cause) is = refl

@@ -9,7 +9,8 @@ use Rattle.poa_base.specs.declared.ManagerState.TheVariants.{Active, Discarding,
 use Rattle.poa_base.specs.declared.Policy.{Policy}
 use Rattle.poa_base.specs.declared.Policy.TheVariants.{DefaultServant, ServantManager}
 use Rattle.poa_base.specs.declared.Verdict.TheVariants.{Addressing, Here, Incarnate, Try}
-use Rattle.poa_choose.specs.Table.{activator_rows, awaits_main, awaits_turn, default_rows, first_row, forward_or, found_rows, inactive_rule, is_transient, key_rows, located_rows, locator_rows, manager_rows, map_rows, missing_rows, object_rows, omg, processing_rows, refuse, state_rule, thread_rows, trial_rows, unmade, walk_rows}
+use Rattle.poa_base.specs.declared.minors.TheConstants.{ADAPTER_DYING, BAD_KEY, DISCARDED, MANAGER_INACTIVE, NOT_ACTIVE, NO_ADAPTER, NO_SERVANT_MANAGER, OTHER_LIFESPAN}
+use Rattle.poa_choose.specs.Table.{activator_rows, awaits_main, awaits_turn, default_rows, first_row, forward_or, found_rows, inactive_rule, is_transient, key_rows, located_rows, locator_rows, manager_rows, map_rows, missing_rows, object_rows, processing_rows, refuse, state_rule, thread_rows, trial_rows, unmade, walk_rows}
 use Rattle.poa_choose.specs.declared.Choice.{Choice}
 use Rattle.poa_choose.specs.declared.Choice.TheVariants.{Go, Held}
 use Rattle.poa_choose.specs.declared.Facts.{Facts}
@@ -24,7 +25,6 @@ use Rattle.poa_choose.specs.declared.WalkFact.TheVariants.{Dying as MeetsDying, 
 use Rattle.std.proofs.Common.{◌∙◌, sym}
 use Rattle.std.proofs.lemmas.Bool.{cond_both, true≢false}
 use Rattle.std.specs.Prelude.{◌&&◌, ◌≡◌, Bool, List, None, Option, Some, false, if◌then◌else◌, not, refl, true, ℕ}
-use Rattle.poa_choose.specs.Table.{own}
 
 abbrev pub is_held : Choice → Bool
 is_held (Held cause) = true
@@ -55,7 +55,7 @@ module _ (f : Facts) where
   forward_goes (Some endpoint) name minor = refl
 
   pub inactive_goes : Goes (inactive_rule f)
-  inactive_goes = cond_both (is_transient f.key) (refuse f ObjAdapter (own 5)) (forward_or f.entry (refuse f ObjAdapter (own 5))) Goes (λ _. refl) (λ _. forward_goes f.entry ObjAdapter (own 5))
+  inactive_goes = cond_both (is_transient f.key) (refuse f ObjAdapter MANAGER_INACTIVE) (forward_or f.entry (refuse f ObjAdapter MANAGER_INACTIVE)) Goes (λ _. refl) (λ _. forward_goes f.entry ObjAdapter MANAGER_INACTIVE)
 
   module _ (freed : IsFreed f) where
     located_goes : (l : Located) → Goes (located_rows f l)
@@ -75,13 +75,13 @@ module _ (f : Facts) where
 
     manager_goes : Goes (manager_rows f)
     manager_goes =
-        cond_both (not f.rules) (refuse f ObjAdapter (omg 4)) (if is_retain f.policies.retention then activator_rows f else locator_rows f) Goes (λ _. refl)
+        cond_both (not f.rules) (refuse f ObjAdapter NO_SERVANT_MANAGER) (if is_retain f.policies.retention then activator_rows f else locator_rows f) Goes (λ _. refl)
         (λ _. cond_both (is_retain f.policies.retention) (activator_rows f) (locator_rows f) Goes (λ _. activator_goes)
         (λ _. cond_both f.locate (Go Here) (located_rows f f.located) Goes (λ _. refl) (λ _. located_goes f.located)))
 
     processing_goes : (p : Policy) → Goes (processing_rows f p)
     processing_goes DefaultServant = default_goes f.preset
-    processing_goes ServantManager = cond_both (unmade f) (refuse f ObjectNotExist (own 3)) (manager_rows f) Goes (λ _. refl) (λ _. manager_goes)
+    processing_goes ServantManager = cond_both (unmade f) (refuse f ObjectNotExist NOT_ACTIVE) (manager_rows f) Goes (λ _. refl) (λ _. manager_goes)
     processing_goes _ = refl
 
     map_goes : (slot : MapFact) → is_busy_slot slot ≡ false → Goes (map_rows f slot)
@@ -104,9 +104,9 @@ module _ (f : Facts) where
 
     trial_goes : Goes (trial_rows f)
     trial_goes =
-        cond_both f.trial (Held (Some (Trial f.adapter))) (if f.tries then Go Try else forward_or f.entry (refuse f ObjectNotExist (omg 2))) Goes
+        cond_both f.trial (Held (Some (Trial f.adapter))) (if f.tries then Go Try else forward_or f.entry (refuse f ObjectNotExist NO_ADAPTER)) Goes
         (λ tried. absurd (true≢false (sym tried ∙ freed.untried)))
-        (λ _. cond_both f.tries (Go Try) (forward_or f.entry (refuse f ObjectNotExist (omg 2))) Goes (λ _. refl) (λ _. forward_goes f.entry ObjectNotExist (omg 2)))
+        (λ _. cond_both f.tries (Go Try) (forward_or f.entry (refuse f ObjectNotExist NO_ADAPTER)) Goes (λ _. refl) (λ _. forward_goes f.entry ObjectNotExist NO_ADAPTER))
 
     -- what it holds, a manager in the state HOLDING holds from every worker
     abbrev IsHeldAll : (ℕ → Choice) → Type 0
@@ -118,33 +118,33 @@ module _ (f : Facts) where
     by_state : (on : ℕ → Choice) → Goes (on 0) → (state : ManagerState) → f.state ≡ state → IsHeldAll (λ w. state_rule f state (on w))
     by_state on goes Holding at = λ _. (at, λ w. refl)
     by_state on goes Active at = goes_on on goes
-    by_state on goes Discarding at = goes_on (λ w. refuse f Transiently (omg 1)) refl
+    by_state on goes Discarding at = goes_on (λ w. refuse f Transiently DISCARDED) refl
     by_state on goes Inactive at = goes_on (λ w. inactive_rule f) inactive_goes
 
     by_missing : IsHeldAll (λ w. missing_rows f)
     by_missing =
-        elim (is_transient f.key) as (λ b. IsHeldAll (λ w. if b then refuse f ObjectNotExist (own 2) else state_rule f f.state (trial_rows f)))
-        [ true ↦ goes_on (λ w. refuse f ObjectNotExist (own 2)) refl | false ↦ by_state (λ w. trial_rows f) trial_goes f.state refl ]
+        elim (is_transient f.key) as (λ b. IsHeldAll (λ w. if b then refuse f ObjectNotExist OTHER_LIFESPAN else state_rule f f.state (trial_rows f)))
+        [ true ↦ goes_on (λ w. refuse f ObjectNotExist OTHER_LIFESPAN) refl | false ↦ by_state (λ w. trial_rows f) trial_goes f.state refl ]
 
     by_found : IsHeldAll (found_rows f)
     by_found =
-        elim f.differs as (λ b. IsHeldAll (λ w. if b then refuse f ObjectNotExist (own 2) else state_rule f f.state (thread_rows f w)))
-        [ true ↦ goes_on (λ w. refuse f ObjectNotExist (own 2)) refl | false ↦ by_state (thread_rows f) thread_goes f.state refl ]
+        elim f.differs as (λ b. IsHeldAll (λ w. if b then refuse f ObjectNotExist OTHER_LIFESPAN else state_rule f f.state (thread_rows f w)))
+        [ true ↦ goes_on (λ w. refuse f ObjectNotExist OTHER_LIFESPAN) refl | false ↦ by_state (thread_rows f) thread_goes f.state refl ]
 
     by_walk : (walk : WalkFact) → IsHeldAll (λ w. walk_rows f w walk)
-    by_walk MeetsDying = goes_on (λ w. refuse f Transiently (omg 4)) refl
+    by_walk MeetsDying = goes_on (λ w. refuse f Transiently ADAPTER_DYING) refl
     by_walk MeetsMissing = by_missing
     by_walk MeetsAdapter = by_found
 
     by_key : (key : KeyFact) → IsHeldAll (λ w. key_rows f w key)
     by_key Absent = goes_on (λ w. Go Addressing) refl
-    by_key BadKey = goes_on (λ w. refuse f ObjectNotExist (own 1)) refl
-    by_key OtherRun = goes_on (λ w. refuse f ObjectNotExist (own 2)) refl
+    by_key BadKey = goes_on (λ w. refuse f ObjectNotExist BAD_KEY) refl
+    by_key OtherRun = goes_on (λ w. refuse f ObjectNotExist OTHER_LIFESPAN) refl
     by_key Transient = by_walk f.walk
     by_key Persistent = by_walk f.walk
 
     pub held_rows : is_held (first_row f 0) ≡ true → (f.state ≡ Holding) × ((w : ℕ) → first_row f w ≡ Held (Some (ManagerCause f.manager)))
     unfolding first_row
     held_rows =
-        elim f.crowded as (λ b. IsHeldAll (λ w. if b then refuse f Transiently (omg 1) else key_rows f w f.key))
-        [ true ↦ goes_on (λ w. refuse f Transiently (omg 1)) refl | false ↦ by_key f.key ]
+        elim f.crowded as (λ b. IsHeldAll (λ w. if b then refuse f Transiently DISCARDED else key_rows f w f.key))
+        [ true ↦ goes_on (λ w. refuse f Transiently DISCARDED) refl | false ↦ by_key f.key ]

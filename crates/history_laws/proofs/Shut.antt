@@ -11,7 +11,8 @@ use Rattle.poa_base.specs.declared.Command.TheVariants.{Activate, ActivateId, Ba
 use Rattle.poa_base.specs.declared.Config.{Config}
 use Rattle.poa_base.specs.declared.Entry.{Entry}
 use Rattle.poa_base.specs.declared.ExcName.TheVariants.{Transient as Transiently}
-use Rattle.poa_choose.specs.Table.{first_row, key_rows, omg, refuse, walk_rows}
+use Rattle.poa_base.specs.declared.minors.TheConstants.{DISCARDED}
+use Rattle.poa_choose.specs.Table.{first_row, key_rows, refuse, walk_rows}
 use Rattle.poa_choose.specs.declared.Facts.{Facts}
 use Rattle.poa_choose.specs.declared.KeyFact.{KeyFact}
 use Rattle.poa_choose.specs.declared.KeyFact.TheVariants.{Absent, Bad as BadKey, OtherRun, Persistent, Transient}
@@ -87,7 +88,7 @@ module _ (f : Facts) (dying : f.walk ≡ MeetsDying) where
 
   dying_goes : (w : ℕ) → is_held (first_row f w) ≡ false
   unfolding first_row
-  dying_goes w = cond_both f.crowded (refuse f Transiently (omg 1)) (key_rows f w f.key) (λ x. is_held x ≡ false) (λ _. refl) (λ _. by_key w f.key)
+  dying_goes w = cond_both f.crowded (refuse f Transiently DISCARDED) (key_rows f w f.key) (λ x. is_held x ≡ false) (λ _. refl) (λ _. by_key w f.key)
 
 module _ (c : Config) (run limit : ℕ) (given : IsGiven c run) (alone : IsGivenAlone c run) (within : IsWithinLimits c limit) (h : List Entry) (legal : IsLegal c run limit h) (idle : AreIdle c run h) (shut : was_shut h ≡ true) where
   abbrev s : Standing

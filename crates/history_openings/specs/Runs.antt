@@ -1,5 +1,6 @@
 -- The runs of an accepted configuration.
 use Rattle.std.specs.Prelude.{ℕ, ◌^◌, ◌<◌, ◌≤◌, List}
+use Rattle.poa_base.specs.declared.limits.TheConstants.{CALLS}
 use Rattle.poa_base.specs.declared.Config.{Config}
 use Rattle.poa_base.specs.declared.Entry.{Entry}
 use Rattle.conf_rules.specs.Rules.{KeepsRules}
@@ -9,5 +10,5 @@ use Rattle.poa_history.specs.Legal.{IsLegal}
 pub record IsRun (c : Config) (run limit : ℕ) (h : List Entry) : Type 0 where
   pub accepted : KeepsRules c
   pub numbered : run < 2 ^ 32
-  pub limited : limit ≤ 4000000
+  pub limited : limit ≤ CALLS
   pub legal : IsLegal c run limit h

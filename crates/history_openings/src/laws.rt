@@ -82,7 +82,8 @@ pub fn in_flight_has_its_worker()
 /// Every run keeps the lifetime of its activations: an activation begins once, when every earlier one of its id
 /// is over; requests run in it only between its completion and its removal; it is taken out at most once, with
 /// nothing in flight in it, and no later admission names it; it is etherealized at most once, after that, by the
-/// worker that took it out. CORBA 3.3 Part 1, sections 15.2.4 and 15.3.6.
+/// worker that took it out. No two configured objects of one adapter have one id. CORBA 3.3 Part 1, sections
+/// 15.2.4 and 15.3.6.
 pub fn lifetimes_are_kept()
     ensures { (c : Config) (run limit : ℕ) (h : List Entry) → IsRun c run limit h → HasLifetime c run h }
 {}

@@ -1,0 +1,5 @@
+pub mod OneReading
+pub mod Stopping
+pub mod Pushing
+pub mod Bodies
+pub mod Keys

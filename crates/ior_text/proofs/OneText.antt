@@ -5,20 +5,21 @@ use Rattle.cdr_core.specs.Cursor.{Cursor}
 use Rattle.poa_base.specs.declared.Ior.{Ior}
 use Rattle.ior_text.specs.declared.fault.IorFault.{IorFault}
 use Rattle.ior_text.specs.declared.fault.IorFault.TheVariants.{NoPrefix, OddDigits, BadDigit, Malformed, WantMemory}
-use Rattle.ior_text.specs.Encapsulation.{ReadsIor, IorBreaks, Encloses, Spoils}
+use Rattle.ior_profile.specs.Reference.{ReadsIor, IorBreaks}
+use Rattle.ior_text.specs.Encapsulation.{Encloses, Spoils}
 use Rattle.ior_text.specs.Text.{bytes_of, TextGives}
-use Rattle.ior_text.proofs.OneReading.{one_ior, ior_stands, one_ior_place}
+use Rattle.ior_profile.proofs.OneReading.{one_ior, ior_stands, one_ior_place}
 
 pub one_enclosed : (bytes : List ℕ) (i j : Ior) → Encloses bytes i → Encloses bytes j → i ≡ j
 one_enclosed bytes i j r s =
     let start : r.start ≡ s.start = cc (r.opened, s.opened) in
-    one_ior i j s.start (subst (λ (x : Cursor). ReadsIor i x) start r.read) s.read
+    (one_ior i j s.start r.after s.after (subst (λ (x : Cursor). ReadsIor i x r.after) start r.read) s.read).0
 
 pub enclosed_stands : (bytes : List ℕ) (i : Ior) (at : ℕ) → Encloses bytes i → Spoils bytes at → ⊥
 enclosed_stands bytes i at r (inl none) = cc (r.opened, none.0)
 enclosed_stands bytes i at r (inr breaks) =
     let start : breaks.start ≡ r.start = cc (r.opened, breaks.opened) in
-    ior_stands i r.start at r.read (subst (λ (x : Cursor). IorBreaks x at) start breaks.breaks)
+    ior_stands i r.start r.after at r.read (subst (λ (x : Cursor). IorBreaks x at) start breaks.breaks)
 
 pub one_spoiled : (bytes : List ℕ) (m n : ℕ) → Spoils bytes m → Spoils bytes n → m ≡ n
 one_spoiled bytes m n (inl a) (inl b) = a.1 ∙ sym b.1

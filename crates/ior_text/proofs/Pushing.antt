@@ -1,16 +1,10 @@
 -- One more profile behind the others.
-use Rattle.std.proofs.Common.{◌≡◌, ℕ, ◌+◌, ◌<◌, List, [], ◌∷◌, ◌++◌, length, take, get_or, refl, sym, ◌∙◌, ap, subst}
+use Rattle.std.proofs.Common.{◌≡◌, ℕ, ◌+◌, ◌<◌, List, [], ◌∷◌, ◌++◌, length, take, get_or, refl, sym, ◌∙◌, ap}
 use Rattle.std.proofs.lemmas.List.{take_more}
-use Rattle.cdr_core.specs.Cursor.{Cursor}
 use Rattle.cdr_core.specs.Field.{ulong, octets}
 use Rattle.cdr_core.specs.Draft.{Draft, with_field}
 use Rattle.poa_base.specs.declared.Profile.{Profile}
-use Rattle.ior_text.specs.Profiles.{ReadsProfile, ReadsProfiles}
 use Rattle.ior_text.specs.Written.{with_profile, with_profiles}
-
-pub reads_push : (ps : List Profile) (p : Profile) (c behind after : Cursor) → ReadsProfiles ps c behind → ReadsProfile p behind after → ReadsProfiles (ps ++ p ∷ []) c after
-reads_push [] p c behind after read one = (after, subst (λ (x : Cursor). ReadsProfile p x after) read one, refl)
-reads_push (q ∷ qs) p c behind after read one = (read.0, read.1, reads_push qs p read.0 behind after read.2 one)
 
 pub with_profiles-push : (ps : List Profile) (p : Profile) (d : Draft) → with_profiles (ps ++ p ∷ []) d ≡ with_profile p (with_profiles ps d)
 with_profiles-push [] p d = refl

@@ -12,8 +12,9 @@ use Rattle.cdr_core.specs.Draft.{Draft, empty_draft, with_field}
 use Rattle.cdr_core.proofs.Written.{written_reads_back}
 use Rattle.poa_base.specs.declared.Ior.{Ior}
 use Rattle.poa_base.specs.declared.Profile.{Profile}
-use Rattle.ior_text.specs.Profiles.{ReadsProfiles}
-use Rattle.ior_text.specs.Encapsulation.{inside, Encloses}
+use Rattle.ior_profile.specs.Encapsulation.{inside}
+use Rattle.ior_profile.specs.Tagged.{ReadsProfiles}
+use Rattle.ior_text.specs.Encapsulation.{Encloses}
 use Rattle.ior_text.specs.Text.{digits_of, TextGives}
 use Rattle.ior_text.specs.Written.{with_profile, with_profiles, encapsulation, ior_text, IsProfile, IsIor}
 use Rattle.ior_text.proofs.WrittenBytes.{IsBytes-append, IsBytes-zeros, IsBytes-text, IsBytes-ulong, IsBytes-profiles}
@@ -84,8 +85,9 @@ ior_back ior fits =
     let left = profiles_back ior.profiles counted two.after (recursion_from_All IsProfile ior.profiles fits.profiles) two.stands (others.1 ∙ ap (λ m. counted.bytes ++ m) (sym two.rest)) in
     record {
       start = start;
+      after = left.0;
       opened = ap inside whole;
-      read = record { named = one.after; counted = two.after; after = left.0; type_id = one.read; count = two.read; profiles = left.1 };
+      read = record { named = one.after; counted = two.after; type_id = one.read; count = two.read; profiles = left.1 };
     }
 
 pub encapsulation_bytes : (ior : Ior) → IsIor ior → IsBytes (encapsulation ior)

@@ -1,5 +1,4 @@
 use super::*;
-use poa_base::Profile;
 use std::test::*;
 
 /// The reference of the first object that run 1 makes in the root, a register, at 127.0.0.1 port 2809.
@@ -50,21 +49,6 @@ fn shows_each_fault_as_its_line(rt: HostRuntime) -> Result<(), Fail> {
         (IorFault::WantMemory, "want of memory"),
     ] {
         assert_eq!(rt; fault.to_string(rt.alloc())?.as_str(), line);
-    }
-    Ok(())
-}
-
-#[test]
-fn reads_the_data_of_each_version(rt: HostRuntime) -> Result<(), Fail> {
-    let alloc = rt.alloc();
-    // Big-endian: version, host `h`, port 7, key `k`, no count of components. It is read as 1.0 alone.
-    for (minor, has_body) in [(0, true), (1, false)] {
-        let data = [0, 1, minor, 0, 0, 0, 0, 2, b'h', 0, 0, 7, 0, 0, 0, 1, b'k'];
-        let profile = Profile {
-            tag: 0,
-            bytes: poa_base::Bytes::from_vec(Vec::from_slice(alloc, &data)?),
-        };
-        assert_eq!(rt; read_body(alloc, &profile)?.is_some(), has_body);
     }
     Ok(())
 }

@@ -1,5 +1,6 @@
 -- System exceptions in a journal: the standard name, and the minor in eight hexadecimal digits.
 use Rattle.std.specs.Prelude.{◌≡◌, ℕ, ◌==◌, List, [], ◌∷◌, Option, None, if◌then◌else◌}
+use Rattle.poa_base.specs.declared.minors.TheConstants.{FAULT_SERVANT}
 use Rattle.poa_base.specs.declared.ExcName.{ExcName}
 use Rattle.poa_base.specs.declared.SysExc.{SysExc}
 use Rattle.poa_base.specs.declared.Completion.{Completion}
@@ -14,7 +15,7 @@ use Rattle.text_words.specs.Parts.{alone}
 
 -- whether the operation had ended, which follows from the minor: it may have where a servant failed
 abbrev pub completion_of : ℕ → Completion
-completion_of n = if n == 0xfffff009 then Maybe else No
+completion_of n = if n == FAULT_SERVANT then Maybe else No
 
 abbrev pub exception_tokens : SysExc → List Token
 exception_tokens e = keyword (exception_word e.name) ∷ minor e.minor ∷ []

@@ -5,11 +5,9 @@ ghost use Rattle.journal_words.specs.Fixed.{exception_word};
 ghost use Rattle.journal_words.specs.Exception.{completion_of, exception_name_of, exception_of, exception_tokens};
 
 use crate::fixed::Raised;
+use poa_base::minors::FAULT_SERVANT;
 use poa_base::{Completion, ExcName, SysExc, WantMemory};
 use text_words::{WordFault, Worded, find_word, minor, nothing, put_minor, put_word};
-
-/// The minor of the exception that a servant of the kind `fault` raises, and of no other here.
-const FAULT_SERVANT: u32 = 0xffff_f009;
 
 fn completion(minor: u32) -> Completion
     ensures { result ≡ completion_of minor }

@@ -1,5 +1,6 @@
 //! Whether an entry may follow the ones before it, by the kind of the entry.
 ghost use Rattle.std.specs.Prelude.{◌≡◌, ◌↔◌, ◌⊎◌, ◌+◌, ◌<◌, ◌≤◌, ◌^◌, reverse, IfOk, IsTrue, Some, true, false};
+ghost use Rattle.poa_base.specs.declared.limits.TheConstants.{CONNECTIONS};
 ghost use Rattle.poa_history.specs.Arrivals as calls;
 ghost use Rattle.poa_history.specs.Legal as legal;
 ghost use Rattle.poa_history.specs.Replies as replies;
@@ -9,15 +10,13 @@ ghost use Rattle.model_legal.specs.Workers.{is_step};
 use crate::arriving::{arrived_bytes, had_shutdown, has_left, is_filled};
 use crate::same::is_that;
 use model_replies::slow_next_reply;
+use poa_base::limits::CONNECTIONS;
 use poa_base::{Call, Config, Entry, Store, WantMemory};
 use poa_model::slow_next;
 use run_tally::is_shutdown;
 use standing_queries::calls::{arrivals, connections};
 use standing_queries::workers::is_abandoned;
 use std::alloc::Global;
-
-/// How many connections a run takes.
-const CONNECTIONS: u32 = 4_000_000;
 
 /// How many workers a run has.
 const WORKERS: u32 = 16;
@@ -65,9 +64,9 @@ fn is_first_shutdown(past: &[Entry], call: &Call) -> bool
 
 /// Whether a connection may enter under that number.
 fn may_enter(past: &[Entry], conn: u32) -> bool
-    ensures { IsTrue result ↔ ((conn ≡ calls.connections (reverse past.now)) × (conn < 4000000)) }
+    ensures { IsTrue result ↔ ((conn ≡ calls.connections (reverse past.now)) × (conn < CONNECTIONS)) }
 {
-    conn as u64 == connections(past) && conn < CONNECTIONS
+    conn as u64 == connections(past) && u64::from(conn) < CONNECTIONS
 }
 
 /// Whether a call of this size may arrive over the connection.

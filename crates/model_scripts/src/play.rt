@@ -10,8 +10,8 @@ use poa_journal::print_entry;
 use poa_model::slow_next;
 use standing_of::standing_of;
 use standing_queries::calls::call_of;
-use standing_queries::nodes::node_at;
-use standing_queries::templates::{has_template, lasts, policies_at};
+use poa_tree::nodes::node_at;
+use standing_queries::templates::{has_template, policies_at};
 use std::alloc::Global;
 use text_words::{any_identity, number32, path, put_number, signed, words};
 
@@ -162,7 +162,7 @@ impl Play {
     /// What a key of the path says of its adapter.
     fn stamp(&self, path: &Path) -> Result<Option<Stamp>, WantMemory> {
         let names = path.as_slice();
-        if !has_template(&self.config, names) || lasts(policies_at(&self.config, names)) {
+        if !has_template(&self.config, names) || policies_at(&self.config, names).lasts() {
             return Ok(None);
         }
         let standing = standing_of(self.alloc, &self.config, self.config.run, &self.history)?;

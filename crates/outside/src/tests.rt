@@ -1,5 +1,6 @@
 use super::*;
 use poa_base::Bytes;
+use std::fs;
 use std::io;
 use std::io::{Read, Write};
 use std::test::Fail;
@@ -97,5 +98,30 @@ fn readers_and_writers_are_sources_and_sinks(rt: HostRuntime) -> Result<(), Fail
     assert_eq!(rt; output.write(b"ab"), Wrote::Wrote(2));
     let mut full = StandardOutput::new(Full);
     assert_eq!(rt; full.write(b"ab"), Wrote::Failed);
+    Ok(())
+}
+
+// The folder in which the test of the system's files writes, beside where it runs.
+const FOLDER: &str = "outside_test_of_system_files";
+
+#[test]
+fn system_files_are_put_and_taken_within_their_limit(rt: HostRuntime) -> Result<(), Fail> {
+    let _ = fs::remove_dir_all(&rt, FOLDER);
+    fs::create_dir(&rt, FOLDER)?;
+    let name = "outside_test_of_system_files/state";
+    let mut files = SystemFiles::new(rt.alloc(), &rt);
+    assert!(rt; matches!(files.take(name, 9), Taken::Absent));
+    assert_eq!(rt; files.put(name, b"a longer one"), Put::Done);
+    assert_eq!(rt; files.put(name, b"abc"), Put::Done);
+    assert!(rt; matches!(files.take(name, 2), Taken::TooLong));
+    let Taken::Bytes(bytes) = files.take(name, 3) else {
+        return Err(Fail::from("not taken"));
+    };
+    assert_eq!(rt; bytes.as_slice(), b"abc".as_slice());
+    let nowhere = "outside_test_of_system_files/none/state";
+    assert_eq!(rt; files.put(nowhere, b"abc"), Put::Failed);
+    assert!(rt; matches!(files.take(nowhere, 9), Taken::Absent));
+    assert!(rt; matches!(files.take(FOLDER, 9), Taken::Failed));
+    fs::remove_dir_all(&rt, FOLDER)?;
     Ok(())
 }

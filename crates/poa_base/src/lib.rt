@@ -1,5 +1,5 @@
 //! The data types of the adapter: what stands in a reference, a message, a command, a history and a
-//! configuration, with the limits on names, object ids and paths.
+//! configuration, with the limits on names, object ids and paths, the limits of a run, and the minor codes.
 #![tactic(auto)]
 
 mod answer;
@@ -14,8 +14,10 @@ mod invocation;
 mod items;
 mod journal;
 mod key;
+pub mod limits;
 mod manager;
 mod message;
+pub mod minors;
 mod name;
 mod oid;
 mod path;

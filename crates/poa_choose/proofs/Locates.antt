@@ -1,12 +1,11 @@
 -- What holds of each choice that a locate may get, holds of every choice for a locate.
-use Rattle.std.proofs.Common.{◌≡◌, ◌==◌, ◌&&◌, ℕ, Bool, true, false, List, Option, None, Some, not, refl, sym, ◌∙◌}
+use Rattle.std.proofs.Common.{◌≡◌, ℕ, true, false, List, Option, None, Some, not, sym, ◌∙◌}
 use Rattle.std.proofs.lemmas.Bool.{cond_both, true≢false}
-use Rattle.poa_base.specs.Policies.{is_single_thread, is_main_thread, is_retain}
+use Rattle.poa_base.specs.Policies.{is_retain}
 use Rattle.poa_base.specs.declared.Endpoint.{Endpoint}
 use Rattle.poa_base.specs.declared.ExcName.{ExcName}
-use Rattle.poa_base.specs.declared.ExcName.TheVariants.{ObjectNotExist, Transient as Transiently, ObjAdapter}
 use Rattle.poa_base.specs.declared.Verdict.{Verdict}
-use Rattle.poa_base.specs.declared.Verdict.TheVariants.{Try, Refuse, Forward, Addressing, Here, Unknown}
+use Rattle.poa_base.specs.declared.Verdict.TheVariants.{Try, Forward, Addressing, Here, Unknown}
 use Rattle.poa_base.specs.declared.ManagerState.{ManagerState}
 use Rattle.poa_base.specs.declared.ManagerState.TheVariants.{Holding, Active, Discarding, Inactive}
 use Rattle.poa_base.specs.declared.Policy.{Policy}
@@ -16,13 +15,12 @@ use Rattle.poa_choose.specs.declared.facts.Choice.{Choice}
 use Rattle.poa_choose.specs.declared.facts.Choice.TheVariants.{Go, Held}
 use Rattle.poa_choose.specs.declared.facts.Facts.{Facts}
 use Rattle.poa_choose.specs.declared.facts.KeyFact.{KeyFact}
-use Rattle.poa_choose.specs.declared.facts.KeyFact.TheVariants.{Absent, Bad, OtherRun, Transient, Persistent}
+use Rattle.poa_choose.specs.declared.facts.KeyFact.TheVariants.{Absent, Bad, OtherRun}
 use Rattle.poa_choose.specs.declared.facts.MapFact.{MapFact}
 use Rattle.poa_choose.specs.declared.facts.MapFact.TheVariants.{Active as ActiveAs, Busy, Free}
 use Rattle.poa_choose.specs.declared.facts.WalkFact.{WalkFact}
 use Rattle.poa_choose.specs.declared.facts.WalkFact.TheVariants.{Dying, Missing, Found}
-use Rattle.poa_choose.specs.Laws.{runs}
-use Rattle.poa_choose.specs.Table.{refuse, serve, is_transient, forward_or, inactive_rule, state_rule, locator_rows, activator_rows, manager_rows, default_rows, unmade, processing_rows, map_rows, object_rows, awaits_turn, awaits_main, thread_rows, found_rows, trial_rows, missing_rows, walk_rows, key_rows, first_row, own, omg}
+use Rattle.poa_choose.specs.Table.{refuse, serve, is_transient, forward_or, state_rule, manager_rows, default_rows, unmade, processing_rows, map_rows, awaits_turn, awaits_main, thread_rows, trial_rows, walk_rows, key_rows, first_row}
 
 module _ (P : Choice → Type 0) (held : (cause : Option Cause) → P (Held cause)) (forward : (endpoint : Endpoint) → P (Go (Forward endpoint))) (try : P (Go Try)) (addressing : P (Go Addressing)) (here : P (Go Here)) (unknown : P (Go Unknown)) (f : Facts) (locate : f.locate ≡ true) where
   impossible : {A : Type 0} → f.locate ≡ false → A

@@ -1,28 +1,21 @@
 -- No servant runs by the rows before those of an adapter that is found and whose manager is ACTIVE.
-use Rattle.std.proofs.Common.{◌≡◌, ◌==◌, ◌&&◌, ℕ, Bool, true, false, List, Option, None, Some, not, refl, sym, ◌∙◌}
+use Rattle.std.proofs.Common.{◌≡◌, ℕ, Bool, true, false, Option, None, Some, refl, sym, ◌∙◌}
 use Rattle.std.proofs.lemmas.Bool.{cond_both, true≢false}
-use Rattle.poa_base.specs.Policies.{is_single_thread, is_main_thread, is_retain}
+use Rattle.poa_base.specs.declared.minors.TheConstants.{DISCARDED, ADAPTER_DYING, BAD_KEY, OTHER_LIFESPAN}
 use Rattle.poa_base.specs.declared.Endpoint.{Endpoint}
 use Rattle.poa_base.specs.declared.ExcName.{ExcName}
-use Rattle.poa_base.specs.declared.ExcName.TheVariants.{ObjectNotExist, Transient as Transiently, ObjAdapter}
-use Rattle.poa_base.specs.declared.Verdict.{Verdict}
-use Rattle.poa_base.specs.declared.Verdict.TheVariants.{Try, Refuse, Forward, Addressing, Here, Unknown}
+use Rattle.poa_base.specs.declared.ExcName.TheVariants.{ObjectNotExist, Transient as Transiently}
 use Rattle.poa_base.specs.declared.ManagerState.{ManagerState}
 use Rattle.poa_base.specs.declared.ManagerState.TheVariants.{Holding, Active, Discarding, Inactive}
-use Rattle.poa_base.specs.declared.Policy.{Policy}
-use Rattle.poa_base.specs.declared.Policy.TheVariants.{DefaultServant, ServantManager}
-use Rattle.poa_base.specs.declared.Cause.{Cause}
 use Rattle.poa_choose.specs.declared.facts.Choice.{Choice}
-use Rattle.poa_choose.specs.declared.facts.Choice.TheVariants.{Go, Held}
+use Rattle.poa_choose.specs.declared.facts.Choice.TheVariants.{Go}
 use Rattle.poa_choose.specs.declared.facts.Facts.{Facts}
 use Rattle.poa_choose.specs.declared.facts.KeyFact.{KeyFact}
-use Rattle.poa_choose.specs.declared.facts.KeyFact.TheVariants.{Absent, Bad, OtherRun, Transient, Persistent}
-use Rattle.poa_choose.specs.declared.facts.MapFact.{MapFact}
-use Rattle.poa_choose.specs.declared.facts.MapFact.TheVariants.{Active as ActiveAs, Busy, Free}
+use Rattle.poa_choose.specs.declared.facts.KeyFact.TheVariants.{Absent, Bad, OtherRun}
 use Rattle.poa_choose.specs.declared.facts.WalkFact.{WalkFact}
 use Rattle.poa_choose.specs.declared.facts.WalkFact.TheVariants.{Dying, Missing, Found}
 use Rattle.poa_choose.specs.Laws.{runs}
-use Rattle.poa_choose.specs.Table.{refuse, serve, is_transient, forward_or, inactive_rule, state_rule, locator_rows, activator_rows, manager_rows, default_rows, unmade, processing_rows, map_rows, object_rows, awaits_turn, awaits_main, thread_rows, found_rows, trial_rows, missing_rows, walk_rows, key_rows, first_row, own, omg}
+use Rattle.poa_choose.specs.Table.{refuse, is_transient, forward_or, inactive_rule, state_rule, thread_rows, trial_rows, missing_rows, walk_rows, key_rows, first_row}
 
 module _ (f : Facts) where
   refused : (name : ExcName) (minor : ℕ) → runs (refuse f name minor) ≡ false
@@ -53,20 +46,20 @@ module _ (f : Facts) where
   active_by : (state : ManagerState) (on : Choice) → runs (state_rule f state on) ≡ true → state ≡ Active
   active_by Holding on h = impossible refl h
   active_by Active on h = refl
-  active_by Discarding on h = impossible (refused Transiently (omg 1)) h
+  active_by Discarding on h = impossible (refused Transiently DISCARDED) h
   active_by Inactive on h = impossible inactive h
 
   by_walk : (worker : ℕ) (walk : WalkFact) → runs (walk_rows f worker walk) ≡ true → (f.state ≡ Active) × (walk ≡ Found)
-  by_walk worker Dying h = impossible (refused Transiently (omg 4)) h
+  by_walk worker Dying h = impossible (refused Transiently ADAPTER_DYING) h
   by_walk worker Missing h = impossible no_missing h
-  by_walk worker Found h = (cond_both f.differs _ _ (λ c. runs c ≡ true → f.state ≡ Active) (λ _. impossible (refused ObjectNotExist (own 2))) (λ _. active_by f.state (thread_rows f worker)) h, refl)
+  by_walk worker Found h = (cond_both f.differs _ _ (λ c. runs c ≡ true → f.state ≡ Active) (λ _. impossible (refused ObjectNotExist OTHER_LIFESPAN)) (λ _. active_by f.state (thread_rows f worker)) h, refl)
 
   by_key : (worker : ℕ) (key : KeyFact) → runs (key_rows f worker key) ≡ true → (f.state ≡ Active) × (f.walk ≡ Found)
   by_key worker Absent h = impossible refl h
-  by_key worker Bad h = impossible (refused ObjectNotExist (own 1)) h
-  by_key worker OtherRun h = impossible (refused ObjectNotExist (own 2)) h
+  by_key worker Bad h = impossible (refused ObjectNotExist BAD_KEY) h
+  by_key worker OtherRun h = impossible (refused ObjectNotExist OTHER_LIFESPAN) h
   by_key worker _ h = by_walk worker f.walk h
 
   pub runs_where_active : (worker : ℕ) → runs (first_row f worker) ≡ true → (f.state ≡ Active) × (f.walk ≡ Found)
   unfolding first_row
-  runs_where_active worker = cond_both f.crowded _ _ (λ c. runs c ≡ true → (f.state ≡ Active) × (f.walk ≡ Found)) (λ _. impossible (refused Transiently (omg 1))) (λ _. by_key worker f.key)
+  runs_where_active worker = cond_both f.crowded _ _ (λ c. runs c ≡ true → (f.state ≡ Active) × (f.walk ≡ Found)) (λ _. impossible (refused Transiently DISCARDED)) (λ _. by_key worker f.key)

@@ -2,7 +2,7 @@
 use Rattle.std.specs.Prelude.{Bool, true, false}
 use Rattle.poa_base.specs.declared.Verdict.TheVariants.{Serve, Preset, Locator, Incarnate, Refuse}
 use Rattle.poa_choose.specs.declared.facts.Choice.{Choice}
-use Rattle.poa_choose.specs.declared.facts.Choice.TheVariants.{Go, Held}
+use Rattle.poa_choose.specs.declared.facts.Choice.TheVariants.{Go}
 
 -- a servant runs, or is brought to run
 abbrev pub runs : Choice → Bool

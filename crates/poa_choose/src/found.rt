@@ -2,9 +2,11 @@
 ghost use Rattle.std.specs.Prelude.{◌≡◌};
 ghost use Rattle.poa_choose.specs.Table.{found_rows, thread_rows, object_rows, processing_rows, default_rows, manager_rows, activator_rows, locator_rows, awaits_turn as the_awaits_turn, awaits_main as the_awaits_main, unmade as the_unmade};
 
-use crate::policies::{is_main_thread, is_retain, is_single_thread, is_system_id};
-use crate::refusals::{OMG, OWN, inactive, refuse, serve};
+use crate::refusals::{inactive, refuse, serve};
 use crate::{Choice, Facts, Located, MapFact};
+use poa_base::minors::{
+    DISCARDED, NO_DEFAULT_SERVANT, NO_SERVANT_MANAGER, NOT_ACTIVE, OTHER_LIFESPAN,
+};
 use poa_base::{Cause, ExcName, ManagerState, Policy, Verdict};
 
 /// The adapter is there.
@@ -12,14 +14,14 @@ pub fn found(facts: Facts, worker: u32) -> Choice
     ensures { result ≡ found_rows facts worker }
 {
     if facts.differs {
-        return refuse(&facts, ExcName::ObjectNotExist, OWN + 2);
+        return refuse(&facts, ExcName::ObjectNotExist, OTHER_LIFESPAN);
     }
     match facts.state {
         ManagerState::Holding => Choice::Held {
             cause: Some(Cause::Manager(facts.manager)),
         },
         ManagerState::Active => threads(facts, worker),
-        ManagerState::Discarding => refuse(&facts, ExcName::Transient, OMG + 1),
+        ManagerState::Discarding => refuse(&facts, ExcName::Transient, DISCARDED),
         ManagerState::Inactive => inactive(facts),
     }
 }
@@ -28,14 +30,14 @@ pub fn found(facts: Facts, worker: u32) -> Choice
 fn awaits_turn(facts: &Facts) -> bool
     ensures { result ≡ the_awaits_turn facts.now }
 {
-    !facts.locate && is_single_thread(facts.policies.thread) && facts.running
+    !facts.locate && facts.policies.is_single_thread() && facts.running
 }
 
 /// MAIN_THREAD_MODEL: a request waits for the first worker.
 fn awaits_main(facts: &Facts, worker: u32) -> bool
     ensures { result ≡ the_awaits_main facts.now worker }
 {
-    !facts.locate && is_main_thread(facts.policies.thread) && worker != 0
+    !facts.locate && facts.policies.is_main_thread() && worker != 0
 }
 
 /// The manager is ACTIVE.
@@ -57,7 +59,7 @@ fn threads(facts: Facts, worker: u32) -> Choice
 fn object(facts: Facts) -> Choice
     ensures { result ≡ object_rows facts }
 {
-    if !is_retain(facts.policies.retention) {
+    if !facts.policies.retains() {
         return processing(facts);
     }
     match facts.slot {
@@ -76,7 +78,7 @@ fn object(facts: Facts) -> Choice
 fn unmade(facts: &Facts) -> bool
     ensures { result ≡ the_unmade facts.now }
 {
-    is_retain(facts.policies.retention) && is_system_id(facts.policies.assignment) && facts.bad_id
+    facts.policies.retains() && facts.policies.makes_ids() && facts.bad_id
 }
 
 /// No active object has the id: CORBA 3.3 Part 1, chapter 15, "Request Processing Policy".
@@ -87,12 +89,12 @@ fn processing(facts: Facts) -> Choice
         Policy::DefaultServant => preset(facts),
         Policy::ServantManager => {
             if unmade(&facts) {
-                refuse(&facts, ExcName::ObjectNotExist, OWN + 3)
+                refuse(&facts, ExcName::ObjectNotExist, NOT_ACTIVE)
             } else {
                 managed(facts)
             }
         }
-        _ => refuse(&facts, ExcName::ObjectNotExist, OWN + 3),
+        _ => refuse(&facts, ExcName::ObjectNotExist, NOT_ACTIVE),
     }
 }
 
@@ -100,7 +102,7 @@ fn processing(facts: Facts) -> Choice
 fn preset(facts: Facts) -> Choice
     ensures { result ≡ default_rows facts facts.preset }
 {
-    let refusal = refuse(&facts, ExcName::ObjAdapter, OMG + 3);
+    let refusal = refuse(&facts, ExcName::ObjAdapter, NO_DEFAULT_SERVANT);
     let Facts { locate, preset, .. } = facts;
     match preset {
         None => refusal,
@@ -119,9 +121,9 @@ fn managed(facts: Facts) -> Choice
     ensures { result ≡ manager_rows facts }
 {
     if !facts.rules {
-        return refuse(&facts, ExcName::ObjAdapter, OMG + 4);
+        return refuse(&facts, ExcName::ObjAdapter, NO_SERVANT_MANAGER);
     }
-    if is_retain(facts.policies.retention) {
+    if facts.policies.retains() {
         return activator(&facts);
     }
     locator(facts)
@@ -149,7 +151,7 @@ fn locator(facts: Facts) -> Choice
     if facts.locate {
         return Choice::Go(Verdict::Here);
     }
-    let refusal = refuse(&facts, ExcName::ObjectNotExist, OWN + 3);
+    let refusal = refuse(&facts, ExcName::ObjectNotExist, NOT_ACTIVE);
     let Facts { located, .. } = facts;
     match located {
         Located::Servant(servant) => Choice::Go(Verdict::Locator(servant)),

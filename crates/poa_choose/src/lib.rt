@@ -6,7 +6,6 @@ mod facts;
 mod found;
 mod laws;
 mod missing;
-mod policies;
 mod refusals;
 mod table;
 #[cfg(test)]

@@ -2,8 +2,9 @@
 ghost use Rattle.std.specs.Prelude.{◌≡◌};
 ghost use Rattle.poa_choose.specs.Table.{missing_rows, trial_rows};
 
-use crate::refusals::{OMG, OWN, forward_or, inactive, refuse};
+use crate::refusals::{forward_or, inactive, refuse};
 use crate::{Choice, Facts, KeyFact};
+use poa_base::minors::{DISCARDED, NO_ADAPTER, OTHER_LIFESPAN};
 use poa_base::{Cause, ExcName, ManagerState, Verdict};
 
 /// A child is missing: CORBA 3.3 Part 1, chapter 15, "AdapterActivator Interface".
@@ -11,14 +12,14 @@ pub fn missing(facts: Facts) -> Choice
     ensures { result ≡ missing_rows facts }
 {
     if let KeyFact::Transient = facts.key {
-        return refuse(&facts, ExcName::ObjectNotExist, OWN + 2);
+        return refuse(&facts, ExcName::ObjectNotExist, OTHER_LIFESPAN);
     }
     match facts.state {
         ManagerState::Holding => Choice::Held {
             cause: Some(Cause::Manager(facts.manager)),
         },
         ManagerState::Active => trial(facts),
-        ManagerState::Discarding => refuse(&facts, ExcName::Transient, OMG + 1),
+        ManagerState::Discarding => refuse(&facts, ExcName::Transient, DISCARDED),
         ManagerState::Inactive => inactive(facts),
     }
 }
@@ -37,6 +38,6 @@ fn trial(facts: Facts) -> Choice
     if facts.tries {
         return Choice::Go(Verdict::Try);
     }
-    let refusal = refuse(&facts, ExcName::ObjectNotExist, OMG + 2);
+    let refusal = refuse(&facts, ExcName::ObjectNotExist, NO_ADAPTER);
     forward_or(facts.entry, refusal)
 }

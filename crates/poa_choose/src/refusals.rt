@@ -3,12 +3,8 @@ ghost use Rattle.std.specs.Prelude.{◌≡◌};
 ghost use Rattle.poa_choose.specs.Table.{refuse as the_refuse, serve as the_serve, forward_or as the_forward_or, inactive_rule};
 
 use crate::{Choice, Facts, KeyFact};
+use poa_base::minors::MANAGER_INACTIVE;
 use poa_base::{Completion, Endpoint, ExcName, SysExc, Verdict};
-
-/// The minor codes of the OMG begin here (OMGVMCID).
-pub const OMG: u32 = 0x4F4D_0000;
-/// The minor codes of this server's own begin here.
-pub const OWN: u32 = 0xFFFF_F000;
 
 /// An exception to a request, which didn't begin; to a locate, that the object is unknown.
 pub fn refuse(facts: &Facts, name: ExcName, minor: u32) -> Choice
@@ -49,7 +45,7 @@ pub fn forward_or(entry: Option<Endpoint>, other: Choice) -> Choice
 pub fn inactive(facts: Facts) -> Choice
     ensures { result ≡ inactive_rule facts }
 {
-    let refusal = refuse(&facts, ExcName::ObjAdapter, OWN + 5);
+    let refusal = refuse(&facts, ExcName::ObjAdapter, MANAGER_INACTIVE);
     match facts.key {
         KeyFact::Transient => refusal,
         _ => forward_or(facts.entry, refusal),

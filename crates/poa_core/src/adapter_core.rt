@@ -21,7 +21,7 @@ use crate::{arriving, beginning, collecting, connecting, stepping};
 use arrival_tables::queue;
 use history_openings::laws::lifetimes_are_kept;
 use poa_base::{Call, Config, Entry, Path, Store, WantMemory};
-use standing_queries::nodes;
+use poa_tree::nodes;
 use std::alloc::Global;
 use std::marker::Model;
 

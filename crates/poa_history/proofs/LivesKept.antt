@@ -1,6 +1,6 @@
 -- Every legal history keeps the lifetime of its activations.
-use Rattle.std.specs.Prelude.{◌≡◌, ℕ, zero, suc, Bool, true, false, not, ◌&&◌, ◌==◌, if◌then◌else◌, List, [], ◌∷◌, ◌++◌, map, length, find, All, Option, Some, None, slice_get, refl}
-use Rattle.std.proofs.Common.{inl, inr, sym, subst, ap, ◌∙◌, arith}
+use Rattle.std.specs.Prelude.{◌≡◌, ℕ, zero, suc, Bool, true, false, not, ◌&&◌, ◌||◌, ◌==◌, if◌then◌else◌, List, [], ◌∷◌, ◌++◌, map, length, find, All, Option, Some, None, slice_get, refl}
+use Rattle.std.proofs.Common.{inl, inr, sym, subst, ap, ap₂, ◌∙◌, arith}
 use Rattle.std.proofs.lemmas.Bool.{cond_both, and_parts, true≢false, false_from_ne_true, eqb-true, eq-eqb}
 use Rattle.std.proofs.lemmas.List.{length-map}
 use Rattle.std.proofs.lemmas.List.Elements.{All-nil, All-cons}
@@ -39,11 +39,12 @@ use Rattle.poa_history.specs.Changes.{standing, changed, with_admitted, with_mad
 use Rattle.poa_history.specs.Situations.{is_changing}
 use Rattle.poa_history.specs.Turns.{activation_numbered}
 use Rattle.poa_history.specs.Legal.{MayFollow, IsLegal}
+use Rattle.poa_history.specs.Opening.{opening}
 use Rattle.poa_history.specs.Sound.{IsGiven, IsSound}
 use Rattle.poa_history.specs.Bounds.{IsWithinLimits}
 use Rattle.poa_history.specs.Alone.{IsGivenAlone}
 use Rattle.poa_history.specs.InFlight.{named, IsRunning, Holds, IsManned}
-use Rattle.poa_history.specs.Lifetime.{IsServable, IsRemovable, IsEtherealizable, KeepsLives, BeginsFreely, HasLifetime}
+use Rattle.poa_history.specs.Lifetime.{IsServable, IsRemovable, IsEtherealizable, KeepsLives, BeginsFreely, OpensFreely, HasLifetime}
 use Rattle.poa_tree.proofs.Finding.{find_in, find_none}
 use Rattle.poa_tree.proofs.Leading.{bytes_same}
 use Rattle.poa_history.proofs.SettledKept.{not_true}
@@ -56,6 +57,7 @@ use Rattle.poa_history.proofs.ActivationsFrom.{IsBegun, incarnating, activating,
 use Rattle.poa_history.proofs.CommandAnswers.{begin_keyed}
 use Rattle.poa_history.proofs.IdsFew.{has_ordinal}
 use Rattle.poa_history.proofs.LegalSound.{legal_sound}
+use Rattle.poa_history.proofs.AloneKept.{all_open}
 use Rattle.poa_history.proofs.MannedKept.{out_unused, all_manned}
 use Rattle.poa_history.proofs.Untouched.{activations_in, activations_tried}
 
@@ -335,12 +337,22 @@ module _ (c : Config) (run limit : ℕ) (past : List Entry) (e : Entry) (may : M
   pub lives_step : KeepsLives c run past e × BeginsFreely c run past e
   lives_step = (keeps e refl, freely)
 
+-- a configured object has its servant from the start, and isn't over then
+opened_not_over : (c : Config) (run : ℕ) (a : Activation) → In a (opening c run).activations → is_over c a ≡ false
+opened_not_over c run a there =
+    let opens = all_open c run a there in
+    ap₂ (λ phase out. (elim phase [ Void ↦ true | Begun ↦ false | Complete t ↦ false ]) || (out && (a.quiet || (not (has_activator c a.path) || a.etherealized)))) opens.1.1 opens.0
+
+opens_freely : (c : Config) (run : ℕ) → IsGiven c run → OpensFreely c run
+opens_freely c run given a b a_in b_in at of_id =
+    given.opens.life_alone a b a_in b_in at of_id (opened_not_over c run a a_in) (opened_not_over c run b b_in)
+
 module _ (c : Config) (run limit : ℕ) where
   pub has_lifetime : (h : List Entry) → IsGiven c run → IsGivenAlone c run → IsWithinLimits c limit → IsLegal c run limit h → HasLifetime c run h
-  has_lifetime [] given alone within legal = record { kept = tt; freely = tt }
+  has_lifetime [] given alone within legal = record { opened = opens_freely c run given; kept = tt; freely = tt }
   has_lifetime (e ∷ past) given alone within legal =
       let before = has_lifetime past given alone within legal.1 in
       let sound = legal_sound c run limit past given within legal.1 in
       let moves = may_move c run past sound given.numbered (has_ordinal c run limit within past legal.1) given.implicit limit e legal.0 in
       let step = lives_step c run limit past e legal.0 sound moves (all_manned c run limit past given alone within legal.1) in
-      record { kept = (step.0, before.kept); freely = (step.1, before.freely) }
+      record { opened = before.opened; kept = (step.0, before.kept); freely = (step.1, before.freely) }

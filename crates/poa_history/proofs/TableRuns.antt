@@ -2,6 +2,7 @@
 use Rattle.std.specs.Prelude.{◌≡◌, ℕ, Bool, true, false, not, List, Option, Some, None, ◌⊎◌, refl}
 use Rattle.std.proofs.Common.{inl, inr, sym, ap, ◌∙◌}
 use Rattle.std.proofs.lemmas.Bool.{cond_both, true≢false}
+use Rattle.poa_base.specs.declared.minors.TheConstants.{DISCARDED, ADAPTER_DYING, NO_DEFAULT_SERVANT, NO_SERVANT_MANAGER, NO_ADAPTER, BAD_KEY, OTHER_LIFESPAN, NOT_ACTIVE, MANAGER_INACTIVE}
 use Rattle.poa_base.specs.Policies.{is_retain, is_servant_manager}
 use Rattle.poa_base.specs.declared.Endpoint.{Endpoint}
 use Rattle.poa_base.specs.declared.ExcName.{ExcName}
@@ -24,7 +25,7 @@ use Rattle.poa_choose.specs.declared.MapFact.{MapFact}
 use Rattle.poa_choose.specs.declared.MapFact.TheVariants.{Active as ActiveAs, Busy, Free}
 use Rattle.poa_choose.specs.declared.WalkFact.{WalkFact}
 use Rattle.poa_choose.specs.declared.WalkFact.TheVariants.{Dying, Missing, Found}
-use Rattle.poa_choose.specs.Table.{refuse, serve, is_transient, forward_or, inactive_rule, state_rule, located_rows, locator_rows, manager_rows, default_rows, unmade, processing_rows, map_rows, object_rows, awaits_turn, awaits_main, thread_rows, trial_rows, walk_rows, key_rows, first_row, own, omg}
+use Rattle.poa_choose.specs.Table.{refuse, serve, is_transient, forward_or, inactive_rule, state_rule, located_rows, locator_rows, manager_rows, default_rows, unmade, processing_rows, map_rows, object_rows, awaits_turn, awaits_main, thread_rows, trial_rows, walk_rows, key_rows, first_row}
 
 -- a servant runs by it, or is brought to run
 abbrev pub is_run : Verdict → Bool
@@ -69,12 +70,12 @@ module _ (f : Facts) (v : Verdict) where
     served {A} u then_ = cond_both f.locate _ _ (λ x. Go x ≡ Go v → A) (λ _. never Here refl) (λ request same. then_ request (let e : Go u ≡ Go v = same in cc))
 
     inactive : {A : Type 0} → inactive_rule f ≡ Go v → A
-    inactive {A} = cond_both (is_transient f.key) _ _ (λ c. c ≡ Go v → A) (λ _. refused ObjAdapter (own 5)) (λ _. forwarded f.entry ObjAdapter (own 5))
+    inactive {A} = cond_both (is_transient f.key) _ _ (λ c. c ≡ Go v → A) (λ _. refused ObjAdapter MANAGER_INACTIVE) (λ _. forwarded f.entry ObjAdapter MANAGER_INACTIVE)
 
     through_state : {A : Type 0} (state : ManagerState) (on : Choice) → (on ≡ Go v → A) → state_rule f state on ≡ Go v → A
     through_state Holding on then_ same = never_held _ same
     through_state Active on then_ same = then_ same
-    through_state Discarding on then_ same = refused Transiently (omg 1) same
+    through_state Discarding on then_ same = refused Transiently DISCARDED same
     through_state Inactive on then_ same = inactive same
 
     abbrev Runs : Type 0
@@ -84,17 +85,17 @@ module _ (f : Facts) (v : Verdict) where
     by_located (Servant name) request same = (request, locates name (let e : Go (Locator name) ≡ Go v = same in cc))
     by_located (Elsewhere endpoint) request same = never (Forward endpoint) refl same
     by_located (Raise exception) request same = never (Refuse exception) refl same
-    by_located NoRule request same = refused ObjectNotExist (own 3) same
+    by_located NoRule request same = refused ObjectNotExist NOT_ACTIVE same
 
     by_locator : locator_rows f ≡ Go v → Runs
     by_locator = cond_both f.locate _ _ (λ c. c ≡ Go v → Runs) (λ _. never Here refl) (by_located f.located)
 
     by_default : (preset : Option (List ℕ)) → default_rows f preset ≡ Go v → Runs
-    by_default None = refused ObjAdapter (omg 3)
+    by_default None = refused ObjAdapter NO_DEFAULT_SERVANT
     by_default (Some name) = served (Preset name) (λ request same. (request, presets name same))
 
     by_manager : f.slot ≡ Free ⊎ (is_retain f.policies.retention ≡ false) → is_servant_manager f.policies.processing ≡ true → unmade f ≡ false → manager_rows f ≡ Go v → Runs
-    by_manager free manages made = cond_both (not f.rules) _ _ (λ c. c ≡ Go v → Runs) (λ _. refused ObjAdapter (omg 4))
+    by_manager free manages made = cond_both (not f.rules) _ _ (λ c. c ≡ Go v → Runs) (λ _. refused ObjAdapter NO_SERVANT_MANAGER)
         (λ ruled. cond_both (is_retain f.policies.retention) _ _ (λ c. c ≡ Go v → Runs)
         (λ retains. cond_both f.locate _ _ (λ c. c ≡ Go v → Runs) (λ _. never Here refl)
         (λ request. cond_both f.busy _ _ (λ c. c ≡ Go v → Runs) (λ _. never_held _)
@@ -111,8 +112,8 @@ module _ (f : Facts) (v : Verdict) where
 
     by_processing : f.slot ≡ Free ⊎ (is_retain f.policies.retention ≡ false) → (p : Policy) → f.policies.processing ≡ p → processing_rows f p ≡ Go v → Runs
     by_processing free DefaultServant at = by_default f.preset
-    by_processing free ServantManager at = cond_both (unmade f) _ _ (λ c. c ≡ Go v → Runs) (λ _. refused ObjectNotExist (own 3)) (λ made. by_manager free (ap is_servant_manager at) made)
-    by_processing free _ at = refused ObjectNotExist (own 3)
+    by_processing free ServantManager at = cond_both (unmade f) _ _ (λ c. c ≡ Go v → Runs) (λ _. refused ObjectNotExist NOT_ACTIVE) (λ made. by_manager free (ap is_servant_manager at) made)
+    by_processing free _ at = refused ObjectNotExist NOT_ACTIVE
 
     by_map : (slot : MapFact) → f.slot ≡ slot → map_rows f slot ≡ Go v → Runs
     by_map (ActiveAs n) at = served (Serve n) (λ request same. (request, serves n at same))
@@ -136,19 +137,19 @@ module _ (f : Facts) (v : Verdict) where
 
     no_trial : {A : Type 0} → trial_rows f ≡ Go v → A
     no_trial {A} = cond_both f.trial _ _ (λ c. c ≡ Go v → A) (λ _. never_held _)
-        (λ _. cond_both f.tries _ _ (λ c. c ≡ Go v → A) (λ _. never Try refl) (λ _. forwarded f.entry ObjectNotExist (omg 2)))
+        (λ _. cond_both f.tries _ _ (λ c. c ≡ Go v → A) (λ _. never Try refl) (λ _. forwarded f.entry ObjectNotExist NO_ADAPTER))
 
     by_walk : (worker : ℕ) (walk : WalkFact) → f.walk ≡ walk → walk_rows f worker walk ≡ Go v → RunsWhere worker
-    by_walk worker Dying at = refused Transiently (omg 4)
-    by_walk worker Missing at = cond_both (is_transient f.key) _ _ (λ c. c ≡ Go v → RunsWhere worker) (λ _. refused ObjectNotExist (own 2)) (λ _. through_state f.state (trial_rows f) no_trial)
-    by_walk worker Found at = cond_both f.differs _ _ (λ c. c ≡ Go v → RunsWhere worker) (λ _. refused ObjectNotExist (own 2)) (λ _. through_state f.state (thread_rows f worker) (by_thread worker at))
+    by_walk worker Dying at = refused Transiently ADAPTER_DYING
+    by_walk worker Missing at = cond_both (is_transient f.key) _ _ (λ c. c ≡ Go v → RunsWhere worker) (λ _. refused ObjectNotExist OTHER_LIFESPAN) (λ _. through_state f.state (trial_rows f) no_trial)
+    by_walk worker Found at = cond_both f.differs _ _ (λ c. c ≡ Go v → RunsWhere worker) (λ _. refused ObjectNotExist OTHER_LIFESPAN) (λ _. through_state f.state (thread_rows f worker) (by_thread worker at))
 
     by_key : (worker : ℕ) (key : KeyFact) → key_rows f worker key ≡ Go v → RunsWhere worker
     by_key worker Absent = never Addressing refl
-    by_key worker Bad = refused ObjectNotExist (own 1)
-    by_key worker OtherRun = refused ObjectNotExist (own 2)
+    by_key worker Bad = refused ObjectNotExist BAD_KEY
+    by_key worker OtherRun = refused ObjectNotExist OTHER_LIFESPAN
     by_key worker _ = by_walk worker f.walk refl
 
     pub runs_where : (worker : ℕ) → first_row f worker ≡ Go v → RunsWhere worker
     unfolding first_row
-    runs_where worker = cond_both f.crowded _ _ (λ c. c ≡ Go v → RunsWhere worker) (λ _. refused Transiently (omg 1)) (λ _. by_key worker f.key)
+    runs_where worker = cond_both f.crowded _ _ (λ c. c ≡ Go v → RunsWhere worker) (λ _. refused Transiently DISCARDED) (λ _. by_key worker f.key)

@@ -2,6 +2,7 @@
 use Rattle.std.specs.Prelude.{ℕ, suc, Bool, true, false, not, ◌&&◌, ◌||◌, ◌==◌, nat_lt, nat_le, if◌then◌else◌, List, [], ◌∷◌, length, take, drop, find, Option, Some, None, is_some, is_none}
 use Rattle.std.specs.List.{list_any}
 use Rattle.std.specs.Int.{w32, from_be_bytes}
+use Rattle.poa_base.specs.declared.limits.TheConstants.{ADAPTERS}
 use Rattle.poa_base.specs.declared.Config.{Config}
 use Rattle.poa_base.specs.declared.ManagerState.{ManagerState}
 use Rattle.poa_base.specs.declared.ManagerState.TheVariants.{Inactive}
@@ -86,7 +87,7 @@ create_row c s (x ∷ p) =
     else if is_tried s.flights (x ∷ p) then None
     else elim (node_at s.nodes (x ∷ p)) [
       | Some old ↦ (if old.dying then None else refusal AdapterAlreadyExists)
-      | None ↦ (if nat_le 65536 s.count then refusal (TooMany s.count) else good)
+      | None ↦ (if nat_le ADAPTERS s.count then refusal (TooMany s.count) else good)
     ])
 
 abbrev pub activate_row : Config → ℕ → Standing → List (List ℕ) → List ℕ → Option Verdict

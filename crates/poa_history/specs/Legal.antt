@@ -1,5 +1,6 @@
 -- A legal history: each entry may follow the ones before it.
 use Rattle.std.specs.Prelude.{◌≡◌, ℕ, ◌+◌, ◌^◌, ◌<◌, ◌≤◌, Bool, true, false, ◌||◌, ◌==◌, List, [], ◌∷◌, Some, ◌⊎◌}
+use Rattle.poa_base.specs.declared.limits.TheConstants.{CONNECTIONS}
 use Rattle.poa_base.specs.declared.Config.{Config}
 use Rattle.poa_base.specs.declared.Call.{Call}
 use Rattle.poa_base.specs.declared.Call.TheVariants.{Line}
@@ -67,7 +68,7 @@ pub record IsTurn (c : Config) (run : ℕ) (past : List Entry) (w : ℕ) (e : En
 
 -- the entry may follow the history
 abbrev pub MayFollow : Config → ℕ → ℕ → List Entry → Entry → Type 0
-MayFollow c run limit past (Entered conn) = (conn ≡ connections past) × (conn < 4000000)
+MayFollow c run limit past (Entered conn) = (conn ≡ connections past) × (conn < CONNECTIONS)
 MayFollow c run limit past (Arrive conn size call) = MayArrive limit past conn size call
 MayFollow c run limit past (Filled conn size) = MayFill limit past conn size
 MayFollow c run limit past (Left conn) = IsOpen past conn

@@ -15,6 +15,8 @@ use Rattle.poa_history.specs.Changes.{standing}
 use Rattle.poa_history.specs.Turns.{activation_numbered}
 use Rattle.poa_history.specs.InFlight.{named}
 use Rattle.poa_history.specs.Legal.{EachEntry}
+use Rattle.poa_history.specs.Opening.{opening}
+use Rattle.poa_tree.specs.Trees.{In}
 
 -- it has a servant, and isn't out of the map
 pub record IsServable (s : Standing) (n : ℕ) : Type 0 where
@@ -67,6 +69,12 @@ BeginsFreely c run past e =
     (a : Activation) → slice_get (standing c run (e ∷ past)).activations (length (standing c run past).activations) ≡ Some a
     → BeginsFree c (standing c run past).activations a
 
+-- no two configured objects of one adapter have one id
+abbrev pub OpensFreely : Config → ℕ → Type 0
+OpensFreely c run =
+    (a b : Activation) → In a (opening c run).activations → In b (opening c run).activations → a.adapter ≡ b.adapter → a.oid ≡ b.oid → a ≡ b
+
 pub record HasLifetime (c : Config) (run : ℕ) (h : List Entry) : Type 0 where
+  pub opened : OpensFreely c run
   pub kept : EachEntry (KeepsLives c run) h
   pub freely : EachEntry (BeginsFreely c run) h

@@ -7,6 +7,7 @@ use Rattle.poa_base.specs.declared.Call.TheVariants.{Request, Locate, Line}
 use Rattle.poa_base.specs.declared.SysExc.{SysExc}
 use Rattle.poa_base.specs.declared.ExcName.TheVariants.{ObjectNotExist, Transient, ObjAdapter}
 use Rattle.poa_base.specs.declared.Completion.TheVariants.{No as NotCompleted}
+use Rattle.poa_base.specs.declared.minors.TheConstants.{ADAPTER_DYING, ACTIVATOR_RAISED, SERVANT_DOUBLE, NO_ADAPTER}
 use Rattle.poa_base.specs.declared.Endpoint.{Endpoint}
 use Rattle.poa_base.specs.declared.Outcome.TheVariants.{System}
 use Rattle.poa_base.specs.declared.Reply.{Reply}
@@ -59,18 +60,18 @@ decided c run [] r = false
 decided c run (e ∷ past) r =
     is_decided_by past e r || (decided c run past r || (is_waiting (admitted (e ∷ past) r) && settles c run (e ∷ past) r))
 
--- a system exception before the operation could act; OMG's minor codes begin at 0x4F4D0000
+-- a system exception before the operation could act
 abbrev pub not_exist_omg : SysExc
-not_exist_omg = record { name = ObjectNotExist; minor = 1330446338; done = NotCompleted }
+not_exist_omg = record { name = ObjectNotExist; minor = NO_ADAPTER; done = NotCompleted }
 
 abbrev pub activator_raised : SysExc
-activator_raised = record { name = ObjAdapter; minor = 1330446337; done = NotCompleted }
+activator_raised = record { name = ObjAdapter; minor = ACTIVATOR_RAISED; done = NotCompleted }
 
 abbrev pub adapter_dying : SysExc
-adapter_dying = record { name = Transient; minor = 1330446340; done = NotCompleted }
+adapter_dying = record { name = Transient; minor = ADAPTER_DYING; done = NotCompleted }
 
 abbrev pub servant_double : SysExc
-servant_double = record { name = ObjAdapter; minor = 1330446341; done = NotCompleted }
+servant_double = record { name = ObjAdapter; minor = SERVANT_DOUBLE; done = NotCompleted }
 
 -- to a locate every exception is UNKNOWN_OBJECT
 abbrev pub raised_to : Option Call → SysExc → Reply

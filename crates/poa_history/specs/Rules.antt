@@ -6,6 +6,7 @@ use Rattle.poa_base.specs.declared.Gives.TheVariants.{Fresh as FreshKind, Servan
 use Rattle.poa_base.specs.declared.SysExc.{SysExc}
 use Rattle.poa_base.specs.declared.ExcName.TheVariants.{ObjectNotExist}
 use Rattle.poa_base.specs.declared.Completion.TheVariants.{No as NotCompleted}
+use Rattle.poa_base.specs.declared.minors.TheConstants.{NOT_ACTIVE}
 use Rattle.poa_base.specs.declared.Sid.TheVariants.{Named as NamedServant}
 use Rattle.poa_base.specs.declared.Incarnation.{Incarnation}
 use Rattle.poa_base.specs.declared.Incarnation.TheVariants.{Fresh, Named, Double, Forward, Raise}
@@ -24,9 +25,9 @@ matches oid rule = elim rule.oid [ None ↦ true | Some wanted ↦ same_bytes wa
 abbrev pub rule_for : List RuleConf → List ℕ → Option RuleConf
 rule_for rules oid = find (matches oid) rules
 
--- minor codes of this server begin at 0xFFFFF000: 3 says that the id isn't active
+-- the id isn't active
 abbrev pub not_active : SysExc
-not_active = record { name = ObjectNotExist; minor = 4294963203; done = NotCompleted }
+not_active = record { name = ObjectNotExist; minor = NOT_ACTIVE; done = NotCompleted }
 
 -- a configured servant is brought, unless ids are unique and it is in the map of the adapter already
 abbrev pub named_or_double : Config → Standing → Activation → ℕ → Incarnation

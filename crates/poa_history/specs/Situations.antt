@@ -1,6 +1,7 @@
 -- What stands about a request or a locate: the facts that the table of verdicts asks.
 use Rattle.std.specs.Prelude.{ℕ, Bool, true, false, not, ◌&&◌, ◌||◌, ◌==◌, nat_le, if◌then◌else◌, List, [], ◌∷◌, length, find, Option, Some, None, is_some}
 use Rattle.std.specs.List.{list_any}
+use Rattle.poa_base.specs.declared.limits.TheConstants.{UNADMITTED}
 use Rattle.poa_base.specs.declared.Config.{Config}
 use Rattle.poa_base.specs.declared.Key.{Key}
 use Rattle.poa_base.specs.declared.Entry.{Entry}
@@ -35,7 +36,7 @@ waiting_messages past = count_below (λ r. is_unadmitted past r && is_message (c
 -- so many stood unadmitted when it arrived
 abbrev pub is_crowded : List Entry → ℕ → Bool
 is_crowded [] r = false
-is_crowded (Arrive conn size call ∷ past) r = if r == arrivals past then nat_le 65536 (waiting_messages past) else is_crowded past r
+is_crowded (Arrive conn size call ∷ past) r = if r == arrivals past then nat_le UNADMITTED (waiting_messages past) else is_crowded past r
 is_crowded (e ∷ past) r = is_crowded past r
 
 abbrev pub key_fact : ℕ → Option (List ℕ) → KeyFact

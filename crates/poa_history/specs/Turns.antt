@@ -1,6 +1,7 @@
 -- The next entry of a worker: what it has begun goes on, else a removal that is due, else the next arrival is admitted.
 use Rattle.std.specs.Prelude.{ℕ, Bool, not, ◌&&◌, ◌==◌, nat_lt, if◌then◌else◌, List, find, Option, Some, None, option_map, is_some}
 use Rattle.std.specs.Option.{option_or}
+use Rattle.poa_base.specs.declared.limits.TheConstants.{ADAPTERS}
 use Rattle.poa_base.specs.declared.Config.{Config}
 use Rattle.poa_base.specs.declared.Children.{Children}
 use Rattle.poa_base.specs.declared.Children.TheVariants.{Create, Refuse, Raise as RaiseInstead}
@@ -35,7 +36,7 @@ activation_numbered s n = find (λ a. a.number == n) s.activations
 -- what an adapter activator answers for a child, where its parent lives
 abbrev pub attempt_by : Config → Standing → Option Children → List (List ℕ) → Attempt
 attempt_by c s (Some RaiseInstead) child = Raised
-attempt_by c s (Some Create) child = if is_some (template c child) && nat_lt s.count 65536 then Yes s.count else No
+attempt_by c s (Some Create) child = if is_some (template c child) && nat_lt s.count ADAPTERS then Yes s.count else No
 attempt_by c s (Some Refuse) child = No
 attempt_by c s None child = No
 

@@ -4,6 +4,7 @@ ghost use Rattle.poa_history.specs.Arrivals as calls;
 ghost use Rattle.poa_history.specs.Stages as begun;
 ghost use Rattle.poa_history.specs.Situations as situations;
 
+use poa_base::limits::UNADMITTED;
 use poa_base::Entry;
 use standing_queries::calls::{arrivals, call_of, is_message};
 use standing_queries::workers::admitted;
@@ -36,7 +37,7 @@ pub fn is_crowded(history: &[Entry], arrival: u64) -> bool
     for (i, entry) in history.iter().enumerate() {
         if let Entry::Arrive { .. } = entry {
             if arrival == arrivals(&history[..i]) {
-                crowded = waiting_messages(&history[..i]) >= 65536;
+                crowded = waiting_messages(&history[..i]) >= UNADMITTED;
             }
         }
     }

@@ -5,12 +5,7 @@
 mod kind;
 mod rule;
 mod settling;
-mod which;
 
 pub use kind::{PolicyKind, kind_of};
 pub use rule::Rule;
 pub use settling::{InvalidPolicy, defaults, settle};
-pub use which::{
-    is_default_servant, is_implicit, is_map_only, is_multiple_id, is_retain, is_servant_manager,
-    is_system_id,
-};

@@ -3,9 +3,6 @@ ghost use Rattle.std.specs.Prelude.{◌≡◌};
 ghost use Rattle.poa_policy.specs.Rules.{keeps as the_keeps, names as the_names, first_broken as the_first_broken};
 
 use crate::kind::PolicyKind;
-use crate::which::{
-    is_default_servant, is_implicit, is_map_only, is_multiple_id, is_retain, is_system_id,
-};
 use poa_base::PolicySet;
 
 /// A rule on the policies of one adapter, named by its numbers' order in the POA chapter.
@@ -25,13 +22,10 @@ impl Rule {
         ensures { result ≡ the_keeps self set.now }
     {
         match self {
-            Rule::MapOnlyRetains => !is_map_only(set.processing) || is_retain(set.retention),
-            Rule::DefaultServantIsShared => {
-                !is_default_servant(set.processing) || is_multiple_id(set.uniqueness)
-            }
+            Rule::MapOnlyRetains => !set.uses_map_only() || set.retains(),
+            Rule::DefaultServantIsShared => { !set.uses_default_servant() || set.is_multiple() }
             Rule::ImplicitMakesIds => {
-                !is_implicit(set.implicit)
-                    || is_system_id(set.assignment) && is_retain(set.retention)
+                !set.activates_implicitly() || set.makes_ids() && set.retains()
             }
         }
     }

@@ -3,9 +3,5 @@ pub mod Leading
 pub mod Finding
 pub mod TreeKept
 pub mod WalkStands
-mod AboveIs
-mod Stepwise
-pub mod Numbers
-mod Creating
-mod Letting
+pub mod InPlace
 mod Parents

@@ -2,4 +2,3 @@ pub mod Paths
 pub mod Nodes
 pub mod Walks
 pub mod Trees
-pub mod Adapters

@@ -1,5 +1,5 @@
 -- What holds of the adapters that stand, whatever was created, destroyed and ended.
-use Rattle.std.specs.Prelude.{◌≡◌, ℕ, ◌<◌, ◌≤◌, Bool, true, false, List, [], ◌∷◌, ◌++◌, ◌⊎◌}
+use Rattle.std.specs.Prelude.{◌≡◌, ℕ, ◌<◌, Bool, true, false, List, [], ◌∷◌, ◌++◌, ◌⊎◌}
 use Rattle.poa_tree.specs.declared.node.Node.{Node}
 use Rattle.poa_tree.specs.Paths.{leads_to}
 
@@ -20,11 +20,6 @@ pub record IsTree (ns : List Node) (count : ℕ) : Type 0 where
   pub closed : (n : Node) (q : List (List ℕ)) (x : List ℕ) → In n ns → n.path ≡ q ++ x ∷ [] → (m : Node) × In m ns × (m.path ≡ q)
   -- what is below an adapter that is being destroyed is being destroyed
   pub below : (n m : Node) → In n ns → In m ns → leads_to n.path m.path ≡ true → n.dying ≡ true → m.dying ≡ true
-
--- the tree, of which at most 65,536 adapters are created
-pub record IsKept (ns : List Node) (count : ℕ) : Type 0 where
-  pub tree : IsTree ns count
-  pub few : count ≤ 65536
 
 -- an adapter of this number stands
 abbrev pub Stands : List Node → ℕ → Type 0

@@ -1,5 +1,8 @@
-//! What no clause says: that each call succeeds with ample memory, and answers on one tree.
-use crate::{Found, Tree, TreeFault};
+//! What no clause says: that each call answers on one tree.
+use crate::nodes::{mark, node_at, node_numbered, stands_under};
+use crate::paths::parent_path;
+use crate::walks::{child_met, place_met, walk};
+use crate::{Found, Node};
 use poa_base::{Name, Path};
 use std::alloc::Global;
 use std::test::Fail;
@@ -15,64 +18,48 @@ fn path(alloc: Global, letters: &[u8]) -> Result<Path, Fail> {
     Ok(Path::from_vec(names).ok_or("no path")?)
 }
 
-#[test]
-fn a_new_tree_has_the_root_alone(rt: HostRuntime) -> Result<(), Fail> {
-    let tree = Tree::new(rt.alloc())?;
-    assert_eq!(rt; tree.count(), 1);
-    assert_eq!(rt; tree.find(&Path::root(rt.alloc())), Found::Live(0));
-    assert_eq!(rt; tree.parent(0), None);
-    assert_eq!(rt; tree.below(0, 0), Some(0));
-    assert_eq!(rt; tree.below(0, 1), None);
-    assert_eq!(rt; tree.path(0).as_slice().len(), 0);
-    assert_eq!(rt; tree.is_dying(0), false);
-    Ok(())
+/// The root, `a`, `a/b` and `c`.
+fn tree(alloc: Global) -> Result<Vec<Node>, Fail> {
+    let mut nodes = Vec::new(alloc);
+    for (number, letters) in [b"".as_slice(), b"a", b"ab", b"c"].iter().enumerate() {
+        nodes.push(Node {
+            number: number as u32,
+            path: path(alloc, letters)?,
+            dying: false,
+        })?;
+    }
+    Ok(nodes)
 }
 
 #[test]
-fn creates_below_a_parent_that_lives(rt: HostRuntime) -> Result<(), Fail> {
-    let mut tree = Tree::new(rt.alloc())?;
-    let a = path(rt.alloc(), b"a")?;
+fn walks_to_the_adapter_or_the_missing_child(rt: HostRuntime) -> Result<(), Fail> {
+    let nodes = tree(rt.alloc())?;
     let b = path(rt.alloc(), b"ab")?;
-    let c = path(rt.alloc(), b"abc")?;
-    assert_eq!(rt; tree.create(&b), Err(TreeFault::AdapterNonExistent));
-    assert_eq!(rt; tree.create(&a), Ok(1));
-    assert_eq!(rt; tree.create(&b), Ok(2));
-    assert_eq!(rt; tree.create(&a), Err(TreeFault::AdapterAlreadyExists));
-    assert_eq!(rt; tree.find(&b), Found::Live(2));
-    assert_eq!(rt; tree.number(&b), Some(2));
-    assert_eq!(rt; tree.live_number(&c), None);
+    assert_eq!(rt; walk(&nodes, b.as_slice()), Found::Live(2));
+    let far = path(rt.alloc(), b"axy")?;
+    let found = walk(&nodes, far.as_slice());
     assert_eq!(rt;
-        tree.find(&c),
+        found,
         Found::Missing {
-            parent: 2,
-            depth: 2
+            parent: 1,
+            depth: 1
         }
     );
+    assert!(rt; child_met(found, far.as_slice()) == path(rt.alloc(), b"ax")?.as_slice());
+    assert!(rt; place_met(found, far.as_slice()) == parent_path(b.as_slice()));
     Ok(())
-}
-
-#[test]
-fn a_path_is_created_anew_once_its_adapter_is_gone(rt: HostRuntime) -> Result<(), Fail> {
-    let mut tree = Tree::new(rt.alloc())?;
-    let a = path(rt.alloc(), b"a")?;
-    if tree.create(&a) == Ok(1) {
-        tree.mark_dying(1);
-        assert_eq!(rt; tree.find(&a), Found::Dying(1));
-        if tree.may_go(1) {
-            tree.drop_gone(1);
-            assert_eq!(rt; tree.create(&a), Ok(2));
-            return Ok(());
-        }
-    }
-    Err(Fail::from("it goes"))
 }
 
 #[test]
 fn what_is_below_an_adapter_dies_with_it(rt: HostRuntime) -> Result<(), Fail> {
-    let mut tree = Tree::new(rt.alloc())?;
-    tree.mark_dying(0);
+    let mut nodes = tree(rt.alloc())?;
     let a = path(rt.alloc(), b"a")?;
-    assert_eq!(rt; tree.find(&a), Found::Dying(0));
-    assert_eq!(rt; tree.create(&a), Err(TreeFault::AdapterNonExistent));
+    mark(&mut nodes, a.as_slice());
+    let b = path(rt.alloc(), b"ab")?;
+    assert_eq!(rt; walk(&nodes, b.as_slice()), Found::Dying(1));
+    assert!(rt; matches!(node_at(&nodes, b.as_slice()), Some(node) if node.dying));
+    assert!(rt; matches!(node_numbered(&nodes, 3), Some(node) if !node.dying));
+    assert!(rt; stands_under(&nodes, a.as_slice(), 2));
+    assert!(rt; !stands_under(&nodes, a.as_slice(), 3));
     Ok(())
 }

@@ -1,6 +1,7 @@
 //! The verdict on an administrator's command: done with its answer, refused for the first reason of its
 //! row, or held, which is none.
 ghost use Rattle.std.specs.Prelude.{◌≡◌, ◌==◌, ◌&&◌, ◌||◌, ℕ, List, Some, None, if◌then◌else◌, not, suc, take, drop, length, nat_lt, nat_le, is_some, IfOk};
+ghost use Rattle.poa_base.specs.declared.limits.TheConstants.{ADAPTERS};
 ghost use Rattle.poa_base.specs.declared.Answer.{Answer};
 ghost use Rattle.poa_base.specs.declared.Entry.{Entry};
 ghost use Rattle.poa_base.specs.declared.Reason.{Reason};
@@ -19,22 +20,21 @@ ghost use Rattle.adapter_settings.specs.Told.{Tells};
 
 use crate::references::reference_text;
 use adapter_settings::{Settings, endpoint_of, manager_state};
+use poa_base::limits::ADAPTERS;
 use poa_base::{
     Answer, Command, Config, ManagerState, Name, Oid, Order, Path, Reason, Sid, Verdict, WantMemory,
 };
 use poa_history::Activation;
 use poa_tree::Node;
+use poa_tree::nodes::node_at;
+use poa_tree::paths::parent_path;
 use standing_queries::Standing;
 use standing_queries::activations::{is_active, is_in_map, is_of};
 use standing_queries::commands::{is_implicit, live_at, referred};
 use standing_queries::ends::is_over;
 use standing_queries::flights::is_tried;
 use standing_queries::ids::{made_id, next};
-use standing_queries::nodes::{node_at, parent_path};
-use standing_queries::templates::{
-    has_template, is_unique, makes_ids, manager_number, policies_at, retains, servant_number,
-    uses_default_servant,
-};
+use standing_queries::templates::{has_template, manager_number, policies_at, servant_number};
 use std::alloc::Global;
 
 fn refusal(reason: Reason) -> Option<Verdict>
@@ -98,7 +98,7 @@ fn manager_row(
 fn place_row(standing: &Standing, path: &[Name]) -> Option<Verdict>
     ensures { result ≡ elim (tree.node_at standing.now.nodes.items path.now) [
       | Some old ↦ (if old.dying then None else rows.refusal Reason.AdapterAlreadyExists)
-      | None ↦ (if nat_le 65536 standing.now.count then rows.refusal (Reason.TooMany standing.now.count) else rows.good)
+      | None ↦ (if nat_le ADAPTERS standing.now.count then rows.refusal (Reason.TooMany standing.now.count) else rows.good)
     ] }
 {
     match node_at(&standing.nodes, path) {
@@ -110,7 +110,7 @@ fn place_row(standing: &Standing, path: &[Name]) -> Option<Verdict>
             }
         }
         None => {
-            if standing.count >= 65536 {
+            if standing.count >= ADAPTERS {
                 refusal(Reason::TooMany {
                     count: standing.count,
                 })
@@ -145,7 +145,7 @@ fn create_row(config: &Config, standing: &Standing, path: &[Name]) -> Option<Ver
 fn is_taken(config: &Config, standing: &Standing, node: &Node, servant: u32) -> bool
     ensures { result ≡ rows.is_taken config.now (seen standing.now) node.now servant }
 {
-    is_unique(policies_at(config, node.path.as_slice()))
+    policies_at(config, node.path.as_slice()).is_unique()
         && is_in_map(&standing.activations, node.number, Sid::Named(servant))
 }
 
@@ -171,7 +171,7 @@ fn activate_row(
         return Ok(refusal(Reason::AdapterNonExistent));
     };
     let policies = policies_at(config, path.as_slice());
-    if !(retains(policies) && makes_ids(policies)) {
+    if !(policies.retains() && policies.makes_ids()) {
         return Ok(refusal(Reason::WrongPolicy));
     }
     let Some(number) = servant_number(config, servant)? else {
@@ -205,7 +205,7 @@ fn is_unmade(run: u32, made: u32, oid: &[u8]) -> bool
 pub fn is_bad_id(config: &Config, run: u32, made: u32, path: &[Name], oid: &[u8]) -> bool
     ensures { result ≡ rows.is_bad_id config.now run made path.now oid.now }
 {
-    makes_ids(policies_at(config, path)) && (oid.len() != 8 || is_unmade(run, made, oid))
+    policies_at(config, path).makes_ids() && (oid.len() != 8 || is_unmade(run, made, oid))
 }
 
 /// Whether the activation is of the id, and active.
@@ -279,7 +279,7 @@ fn activate_id_row(
     let Some(node) = live_at(standing, path.as_slice()) else {
         return Ok(refusal(Reason::AdapterNonExistent));
     };
-    if !retains(policies_at(config, path.as_slice())) {
+    if !policies_at(config, path.as_slice()).retains() {
         return Ok(refusal(Reason::WrongPolicy));
     }
     let Some(number) = servant_number(config, servant)? else {
@@ -298,7 +298,7 @@ fn deactivate_row(config: &Config, standing: &Standing, path: &Path, oid: &Oid) 
     let Some(node) = live_at(standing, path.as_slice()) else {
         return refusal(Reason::AdapterNonExistent);
     };
-    if !retains(policies_at(config, path.as_slice())) {
+    if !policies_at(config, path.as_slice()).retains() {
         refusal(Reason::WrongPolicy)
     } else if has_active(standing, node.number, oid) {
         good()
@@ -414,7 +414,7 @@ fn preset_row(
     if live_at(standing, path.as_slice()).is_none() {
         return Ok(refusal(Reason::AdapterNonExistent));
     }
-    if !uses_default_servant(policies_at(config, path.as_slice())) {
+    if !policies_at(config, path.as_slice()).uses_default_servant() {
         return Ok(refusal(Reason::WrongPolicy));
     }
     match servant_number(config, servant)? {

@@ -19,14 +19,14 @@ use poa_base::{Bytes, Call, Config, Endpoint, Key, ManagerState, Name, Oid, Path
 use poa_choose::{Facts, KeyFact, MapFact, WalkFact};
 use poa_history::Activation;
 use poa_tree::Found;
+use poa_tree::walks::{adapter_met, child_met, place_met, walk};
 use standing_queries::Standing;
 use standing_queries::activations::{is_active, is_begun, is_of};
 use standing_queries::calls::{is_locate, target_of};
 use standing_queries::ends::{is_finished, is_over};
 use standing_queries::flights::{is_running, is_tried};
 use standing_queries::keys::{key_in, key_of};
-use standing_queries::templates::{children_at, lasts, manager_at, policies_at, rules_at};
-use standing_queries::walks::{adapter_met, child_met, place_met, walk};
+use standing_queries::templates::{children_at, manager_at, policies_at, rules_at};
 use std::alloc::Global;
 
 /// What a key is to this run.
@@ -72,7 +72,7 @@ fn walk_fact(found: Found) -> WalkFact
 fn differs(config: &Config, key: &Key, adapter: u32) -> bool
     ensures { result ≡ situations.differs config.now key.now adapter }
 {
-    let lasts = lasts(policies_at(config, key.path.as_slice()));
+    let lasts = policies_at(config, key.path.as_slice()).lasts();
     match key.stamp {
         None => !lasts,
         Some(stamp) => lasts || stamp.number != adapter,
@@ -267,7 +267,7 @@ pub fn facts_of(
         crowded,
         key: key_fact(alloc, run, target_of(Some(call)))?,
     };
-    let found = walk(alloc, &standing.nodes, key.path.as_slice())?;
+    let found = walk(&standing.nodes, key.path.as_slice());
     let place = place_met(found, key.path.as_slice());
     let set = as_set(config, settings, place, &key.path)?;
     facts_met(config, run, standing, set, asked, &key, found)

@@ -5,7 +5,7 @@ ghost use Rattle.poa_history.specs.References as references;
 
 use ior_object::write_reference;
 use poa_base::{Bytes, Config, Endpoint, Key, Oid, Path, Stamp, State, WantMemory};
-use standing_queries::templates::{lasts, policies_at};
+use standing_queries::templates::policies_at;
 use std::alloc::Global;
 
 /// The key of an object.
@@ -18,7 +18,7 @@ fn key_for(
 ) -> Result<Key, WantMemory>
     ensures { IfOk result (λ key. key ≡ references.key_for config.now run number path.now oid.now) }
 {
-    let stamp = if lasts(policies_at(config, path.as_slice())) {
+    let stamp = if policies_at(config, path.as_slice()).lasts() {
         None
     } else {
         Some(Stamp { run, number })

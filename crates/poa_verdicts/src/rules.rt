@@ -8,17 +8,18 @@ ghost use Rattle.standing_queries.specs.Seen.{seen};
 
 use poa_base::{
     Completion, Config, ExcName, Gives, Incarnation, Name, Oid, RuleConf, Sid, SysExc, WantMemory,
+    minors,
 };
 use poa_choose::Located;
 use poa_history::Activation;
 use standing_queries::Standing;
 use standing_queries::activations::is_in_map;
-use standing_queries::templates::{is_unique, policies_at, rules_at, servant_name};
+use standing_queries::templates::{policies_at, rules_at, servant_name};
 
-/// The id isn't active: minor 3 of this server's own.
+/// The id isn't active.
 const NOT_ACTIVE: SysExc = SysExc {
     name: ExcName::ObjectNotExist,
-    minor: 0xffff_f003,
+    minor: minors::NOT_ACTIVE,
     done: Completion::No,
 };
 
@@ -58,7 +59,7 @@ fn named_or_double(
 ) -> Result<Incarnation, WantMemory>
     ensures { IfOk result (λ answer. answer ≡ rules.named_or_double config.now (seen standing.now) activation.now servant) }
 {
-    if is_unique(policies_at(config, activation.path.as_slice()))
+    if policies_at(config, activation.path.as_slice()).is_unique()
         && is_in_map(
             &standing.activations,
             activation.adapter,

@@ -9,13 +9,14 @@ ghost use Rattle.poa_verdicts.specs.Needs.{needs_memory};
 
 use crate::facts::is_changing;
 use crate::rules::brought;
+use poa_base::limits::ADAPTERS;
 use poa_base::{Attempt, Children, Config, Entry, Name, WantMemory};
 use poa_history::{Activation, Flight, Stage};
 use poa_tree::Node;
+use poa_tree::nodes::node_numbered;
 use standing_queries::Standing;
 use standing_queries::activations::{is_complete, is_ending};
 use standing_queries::flights::is_used;
-use standing_queries::nodes::node_numbered;
 use standing_queries::templates::{children_at, has_activator, has_template};
 
 /// What is in flight for an arrival.
@@ -50,7 +51,7 @@ fn attempt_by(
     match children {
         Some(Children::Raise) => Attempt::Raised,
         Some(Children::Create) => {
-            if has_template(config, child) && standing.count < 65536 {
+            if has_template(config, child) && standing.count < ADAPTERS {
                 Attempt::Yes {
                     number: standing.count,
                 }

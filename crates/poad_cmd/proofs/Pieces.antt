@@ -12,7 +12,7 @@ use Rattle.giop_frame.specs.Framer.{FramerGives as FramerGives, HasGiven, reach}
 use Rattle.giop_frame.proofs.Cutting.{given_fed}
 use Rattle.poad_cmd.specs.declared.service.Service.{Service}
 use Rattle.poad_cmd.specs.declared.status.Status.{Status}
-use Rattle.poad_cmd.specs.declared.status.Status.TheVariants.{Ok, Malformed, Held, Limit, WriteFault, WantMemory, Unbuilt}
+use Rattle.poad_cmd.specs.declared.status.Status.TheVariants.{Ok, Malformed, Held, Limit, WriteFault, WantMemory}
 use Rattle.poad_cmd.specs.declared.stop.Stop.{Stop}
 use Rattle.poad_cmd.specs.declared.stop.Stop.TheVariants as stop
 use Rattle.poad_cmd.specs.Delivery.{Hands}
@@ -47,7 +47,6 @@ gains_all : (status : Status) (why : Stop) (held : ℕ) (bytes before now : List
 gains_all Ok why held bytes before now ends e = e
 gains_all (Held count) why held bytes before now ends e = e
 gains_all (Malformed at) why held bytes before now ends e = e
-gains_all (Unbuilt at) why held bytes before now ends e = e
 gains_all (Limit calls limit) why held bytes before now ends e = e
 gains_all WriteFault why held bytes before now ends e = (length bytes, e ∙ ap (λ (all : List ℕ). before ++ all) (take_all bytes))
 gains_all WantMemory why held bytes before now ends e = (length bytes, e ∙ ap (λ (all : List ℕ). before ++ all) (take_all bytes))
@@ -117,7 +116,6 @@ ends_kept (Held count) why mid served life u same e =
     (let kept : served.core ≡ u.life = subst (λ (w : Stop). Keeps w u.messages u.life mid served) e.0 u.kept in
     subst (λ (s : Life). EndsPiece (Held count) why (unadmitted s.history)) (same ∙ kept) e)
 ends_kept (Malformed at) why mid served life u same e = e
-ends_kept (Unbuilt at) why mid served life u same e = e
 ends_kept (Limit calls bytes) why mid served life u same e = e
 ends_kept WriteFault why mid served life u same e = tt
 ends_kept WantMemory why mid served life u same e = tt

@@ -11,7 +11,7 @@ use Rattle.giop_frame.specs.Framer.{reach}
 use Rattle.giop_frame.proofs.Streams.{unfinished_stream}
 use Rattle.poad_cmd.specs.declared.service.Service.{Service}
 use Rattle.poad_cmd.specs.declared.status.Status.{Status}
-use Rattle.poad_cmd.specs.declared.status.Status.TheVariants.{Ok, Malformed, Truncated, Held, Limit, ReadFault, InputLimit, WriteFault, WantMemory, Unbuilt}
+use Rattle.poad_cmd.specs.declared.status.Status.TheVariants.{Ok, Malformed, Truncated, Held, Limit, ReadFault, InputLimit, WriteFault, WantMemory}
 use Rattle.poad_cmd.specs.declared.stop.Stop.{Stop}
 use Rattle.poad_cmd.specs.declared.stop.Stop.TheVariants as stop
 use Rattle.poad_cmd.specs.Serving.{MessageGives, IsLegalRun, Serves}
@@ -103,7 +103,6 @@ gains_on : (status : Status) (why : Stop) (held : ℕ) (x y z first last : List 
 gains_on Ok why held x y z first last ends p q = q ∙ (ap (λ (before : List ℕ). before ++ last) p ∙ append_assoc x first last)
 gains_on (Held count) why held x y z first last ends p q = q ∙ (ap (λ (before : List ℕ). before ++ last) p ∙ append_assoc x first last)
 gains_on (Malformed at) why held x y z first last ends p q = q ∙ (ap (λ (before : List ℕ). before ++ last) p ∙ append_assoc x first last)
-gains_on (Unbuilt at) why held x y z first last ends p q = q ∙ (ap (λ (before : List ℕ). before ++ last) p ∙ append_assoc x first last)
 gains_on (Limit calls bytes) why held x y z first last ends p q = q ∙ (ap (λ (before : List ℕ). before ++ last) p ∙ append_assoc x first last)
 gains_on WriteFault why held x y z first last ends p q = (length first + q.0, q.1 ∙ (ap (λ (before : List ℕ). before ++ take q.0 last) p ∙ (append_assoc x first (take q.0 last) ∙ ap (λ (bytes : List ℕ). x ++ bytes) (sym (take-append-add first last q.0)))))
 gains_on WantMemory why held x y z first last ends p q = (length first + q.0, q.1 ∙ (ap (λ (before : List ℕ). before ++ take q.0 last) p ∙ (append_assoc x first (take q.0 last) ∙ ap (λ (bytes : List ℕ). x ++ bytes) (sym (take-append-add first last q.0)))))
@@ -113,7 +112,6 @@ ends_on : (status : Status) (why : Stop) (held : ℕ) (got : List ℕ) (left : O
 ends_on Ok why held got left ends = (inl ends.0, ends.1)
 ends_on (Held count) why held got left ends = (inl ends.0, ends.1, ends.2)
 ends_on (Malformed at) why held got left ends = ends
-ends_on (Unbuilt at) why held got left ends = ends
 ends_on (Limit calls bytes) why held got left ends = ends
 ends_on WriteFault why held got left ends = tt
 ends_on WantMemory why held got left ends = tt

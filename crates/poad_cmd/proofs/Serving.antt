@@ -10,7 +10,7 @@ use Rattle.giop_frame.proofs.Streams.{SomeStream, some_stream}
 use Rattle.giop_frame.proofs.Cutting.{given_message, stream_fails_here}
 use Rattle.poad_cmd.specs.declared.service.Service.{Service}
 use Rattle.poad_cmd.specs.declared.stop.Stop.{Stop}
-use Rattle.poad_cmd.specs.declared.stop.Stop.TheVariants.{Waits, Closed, Refused, Unbuilt, Full, NoMemory}
+use Rattle.poad_cmd.specs.declared.stop.Stop.TheVariants.{Waits, Closed, Refused, Full, NoMemory}
 use Rattle.poad_cmd.specs.Serving.{MessageGives, IsLegalRun, Serves}
 use Rattle.poad_cmd.specs.Stop.{message_limit, Begins, StopsAt}
 use Rattle.poad_cmd.specs.Service.{HasServed, ServedMore, Keeps, IsKept, ServesUpTo, ServesOne, StopsHere, Turns, StopsBy, Handles, GivesBytes}
@@ -65,7 +65,6 @@ stops_by : (old mid : Service) (message : Framed) → FramerAnswers old.framer (
 stops_by old mid message took (Waits have) by fed given h = absurd by
 stops_by old mid message took Closed by fed given h = record { message = message; begins = begins fed (given ++ message ∷ []) mid.framer (came old mid message took fed given h); is = by }
 stops_by old mid message took (Refused at) by fed given h = inr (record { message = message; begins = begins fed (given ++ message ∷ []) mid.framer (came old mid message took fed given h); is = by })
-stops_by old mid message took (Unbuilt at) by fed given h = record { message = message; begins = begins fed (given ++ message ∷ []) mid.framer (came old mid message took fed given h); is = by }
 stops_by old mid message took (Full calls bytes) by fed given h = record { message = message; begins = begins fed (given ++ message ∷ []) mid.framer (came old mid message took fed given h); is = by }
 stops_by old mid message took NoMemory by fed given h = begins fed given old.framer h
 

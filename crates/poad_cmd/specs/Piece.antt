@@ -7,7 +7,7 @@ use Rattle.giop_frame.specs.Stream.{Framed}
 use Rattle.giop_frame.specs.Framer.{reach}
 use Rattle.poad_cmd.specs.declared.service.Service.{Service}
 use Rattle.poad_cmd.specs.declared.status.Status.{Status}
-use Rattle.poad_cmd.specs.declared.status.Status.TheVariants.{Ok, Malformed, Truncated, Held, Limit, WriteFault, WantMemory, Unbuilt}
+use Rattle.poad_cmd.specs.declared.status.Status.TheVariants.{Ok, Malformed, Truncated, Held, Limit, WriteFault, WantMemory}
 use Rattle.poad_cmd.specs.declared.stop.Stop.{Stop}
 use Rattle.poad_cmd.specs.declared.stop.Stop.TheVariants as stop
 use Rattle.poad_cmd.specs.Serving.{MessageGives, IsLegalRun, Serves}
@@ -20,7 +20,6 @@ abbrev pub EndsPiece : Status → Stop → ℕ → Type 0
 EndsPiece Ok why held = (why ≡ stop.Closed) × (held ≡ 0)
 EndsPiece (Held count) why held = (why ≡ stop.Closed) × (count ≡ held) × (0 < held)
 EndsPiece (Malformed at) why held = why ≡ stop.Refused at
-EndsPiece (Unbuilt at) why held = why ≡ stop.Unbuilt at
 EndsPiece (Limit calls bytes) why held = why ≡ stop.Full calls bytes
 EndsPiece WriteFault why held = ⊤
 EndsPiece WantMemory why held = ⊤

@@ -10,7 +10,7 @@ use Rattle.poa_core.specs.Answers.{unadmitted}
 use Rattle.replay_run.specs.Playing.{life_at_first}
 use Rattle.giop_frame.specs.Stream.{Framed}
 use Rattle.poad_cmd.specs.declared.status.Status.{Status}
-use Rattle.poad_cmd.specs.declared.status.Status.TheVariants.{Ok, Malformed, ReadFault, WriteFault, Truncated, Held, Limit, WantMemory, InputLimit, Unbuilt}
+use Rattle.poad_cmd.specs.declared.status.Status.TheVariants.{Ok, Malformed, ReadFault, WriteFault, Truncated, Held, Limit, WantMemory, InputLimit}
 use Rattle.poad_cmd.specs.declared.stop.Stop.{Stop}
 use Rattle.poad_cmd.specs.declared.stop.Stop.TheVariants as stop
 use Rattle.poad_cmd.specs.Serving.{MessageGives, Serves}
@@ -35,7 +35,6 @@ RunEnds Ok why held got left = IsRead why left × (held ≡ 0)
 RunEnds (Held count) why held got left = IsRead why left × (count ≡ held) × (0 < held)
 RunEnds (Truncated have) why held got left = (why ≡ stop.Waits have) × (0 < have) × IsDrained left
 RunEnds (Malformed at) why held got left = why ≡ stop.Refused at
-RunEnds (Unbuilt at) why held got left = why ≡ stop.Unbuilt at
 RunEnds (Limit calls bytes) why held got left = why ≡ stop.Full calls bytes
 RunEnds (InputLimit taken) why held got left = IsWaiting why × (taken ≡ length got) × (taken ≡ 2 ^ 32)
 RunEnds ReadFault why held got left = IsWaiting why

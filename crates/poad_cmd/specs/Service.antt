@@ -12,13 +12,13 @@ use Rattle.giop_msg.specs.declared.MsgFault.TheVariants as fault
 use Rattle.giop_msg.specs.Call.{CallOf}
 use Rattle.poad_cmd.specs.declared.service.Service.{Service}
 use Rattle.poad_cmd.specs.declared.stop.Stop.{Stop}
-use Rattle.poad_cmd.specs.declared.stop.Stop.TheVariants.{Waits, Closed, Refused, Unbuilt, Full, NoMemory}
+use Rattle.poad_cmd.specs.declared.stop.Stop.TheVariants.{Waits, Closed, Refused, Full, NoMemory}
 use Rattle.poa_base.specs.declared.Config.{Config}
 use Rattle.giop_msg.specs.Reply.{reply_bytes}
 use Rattle.replay_run.specs.Talking.{CollectsAll}
 use Rattle.poad_cmd.specs.Serving.{MessageGives, GivesAsked, IsLegalRun, Serves, Works}
 use Rattle.poad_cmd.specs.Run.{life_at_answer}
-use Rattle.poad_cmd.specs.Stop.{message_limit, StopsAt, IsBadMessage, IsUnbuilt, IsClosing, IsRefused}
+use Rattle.poad_cmd.specs.Stop.{message_limit, StopsAt, IsBadMessage, IsClosing, IsRefused}
 
 -- the service was fed this text, and has served these messages of it
 abbrev pub HasServed : List ℕ → List Framed → Service → Type 0
@@ -80,7 +80,6 @@ abbrev pub StopsBy : Stop → Life → Framed → Type 0
 StopsBy (Waits have) life message = ⊥
 StopsBy Closed life message = IsClosing message
 StopsBy (Refused at) life message = IsBadMessage at message
-StopsBy (Unbuilt at) life message = IsUnbuilt at message
 StopsBy (Full calls bytes) life message = IsRefused life calls bytes message
 StopsBy NoMemory life message = ⊤
 
@@ -118,7 +117,6 @@ Does (Some _) asked size old new = ⊥
 abbrev pub StopsByFault : MsgFault → ℕ → Stop → Type 0
 StopsByFault fault.Malformed at why = why ≡ Refused at
 StopsByFault fault.NotForServer at why = why ≡ Refused at
-StopsByFault fault.Unbuilt at why = why ≡ Unbuilt at
 StopsByFault fault.WantMemory at why = why ≡ NoMemory
 
 -- the turns of a call that arrived were taken, and its replies wait behind those that waited; or memory is wanting

@@ -10,7 +10,7 @@ use Rattle.giop_msg.specs.Outgoing.{framed}
 use Rattle.poa_core.specs.Life.{Life}
 use Rattle.poa_core.specs.Answers.{is_taken, filled_by, filled_at}
 use Rattle.poad_cmd.specs.declared.stop.Stop.{Stop}
-use Rattle.poad_cmd.specs.declared.stop.Stop.TheVariants.{Waits, Closed, Refused, Unbuilt, Full, NoMemory}
+use Rattle.poad_cmd.specs.declared.stop.Stop.TheVariants.{Waits, Closed, Refused, Full, NoMemory}
 
 -- the size of a message is at most this
 abbrev pub message_limit : ℕ
@@ -37,10 +37,6 @@ pub record IsBadPlace (text : List ℕ) (messages : List Framed) (at : ℕ) : Ty
 abbrev pub IsBadMessage : ℕ → Framed → Type 0
 IsBadMessage at message = (message.at ≡ at) × (CallOf message.bytes (Err fault.Malformed) ⊎ CallOf message.bytes (Err fault.NotForServer))
 
--- a message of this place that isn't served yet
-abbrev pub IsUnbuilt : ℕ → Framed → Type 0
-IsUnbuilt at message = (message.at ≡ at) × CallOf message.bytes (Err fault.Unbuilt)
-
 -- a CloseConnection
 abbrev pub IsClosing : Framed → Type 0
 IsClosing message = CallOf message.bytes (Ok Closing)
@@ -57,7 +53,6 @@ abbrev pub StopsAt : Stop → Life → List ℕ → List Framed → Type 0
 StopsAt (Waits have) life text messages = Stream message_limit text messages (left_over have)
 StopsAt Closed life text messages = Comes text messages IsClosing
 StopsAt (Refused at) life text messages = IsBadPlace text messages at ⊎ Comes text messages (IsBadMessage at)
-StopsAt (Unbuilt at) life text messages = Comes text messages (IsUnbuilt at)
 StopsAt (Full calls bytes) life text messages = Comes text messages (IsRefused life calls bytes)
 StopsAt NoMemory life text messages = Begins text messages
 

@@ -7,8 +7,6 @@
 mod answering;
 mod delivery;
 mod fault_line;
-#[cfg(test)]
-mod file_tests;
 mod filing;
 mod host;
 mod naming;

@@ -18,6 +18,7 @@ use crate::turns::{collected, take_turns};
 use giop_frame::{Framer, Message, Next};
 use giop_msg::{Incoming, MsgFault, read_call, write_closing, write_error};
 use outside::Sink;
+use poa_base::limits::CALLS;
 use poa_base::{Call, Config, Store, WantMemory};
 use poa_core::{ArriveFault, Core};
 use std::alloc::Global;
@@ -27,9 +28,6 @@ const MESSAGE_LIMIT: u32 = 1_048_576;
 
 /// The most bytes that a message has with its header.
 const LONGEST: u64 = 1_048_588;
-
-/// The most calls that a run takes.
-const CALLS: u64 = 4_000_000;
 
 /// What serves a stream of messages: the framer of the stream, the adapter with its one connection, and the replies
 /// that aren't written yet.
@@ -193,7 +191,6 @@ impl Service {
             }
             Stop::Closed => Some(self.read_whole()),
             Stop::Refused { at } => Some(Status::Malformed { at }),
-            Stop::Unbuilt { at } => Some(Status::Unbuilt { at }),
             Stop::Full { arrivals, bytes } => Some(Status::Limit { arrivals, bytes }),
             Stop::NoMemory => Some(Status::WantMemory),
         }
@@ -218,7 +215,7 @@ fn write_last<K: Sink>(why: Stop, sink: &mut K) -> bool
     match why {
         Stop::Refused { .. } => deliver(sink, &write_error()),
         Stop::Full { .. } => deliver(sink, &write_closing()),
-        Stop::Waits { .. } | Stop::Closed | Stop::Unbuilt { .. } | Stop::NoMemory => true,
+        Stop::Waits { .. } | Stop::Closed | Stop::NoMemory => true,
     }
 }
 
@@ -228,7 +225,6 @@ fn stop_of(fault: MsgFault, at: u64) -> Stop
 {
     match fault {
         MsgFault::Malformed | MsgFault::NotForServer => Stop::Refused { at },
-        MsgFault::Unbuilt => Stop::Unbuilt { at },
         MsgFault::WantMemory => Stop::NoMemory,
     }
 }

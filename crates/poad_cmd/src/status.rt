@@ -45,8 +45,6 @@ pub enum Status {
     FileTooLong,
     /// So many bytes were read, as many as a run reads.
     InputLimit { taken: u64 },
-    /// The message that starts at this byte is of a kind that isn't served yet.
-    Unbuilt { at: u64 },
 }
 
 impl Status {
@@ -71,7 +69,6 @@ impl Status {
             Status::NoFile => 16,
             Status::FileTooLong => 17,
             Status::InputLimit { .. } => 19,
-            Status::Unbuilt { .. } => 20,
         }
     }
 }
@@ -97,7 +94,6 @@ impl fmt::Display for Status {
             Status::NoFile => write!(f, "no file"),
             Status::FileTooLong => write!(f, "file too long"),
             Status::InputLimit { taken } => write!(f, "input limit {taken}"),
-            Status::Unbuilt { at } => write!(f, "unbuilt at {at}"),
         }
     }
 }

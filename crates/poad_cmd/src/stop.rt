@@ -9,8 +9,6 @@ pub(crate) enum Stop {
     Closed,
     /// A bad place or message, or one that isn't for a server, starts here.
     Refused { at: u64 },
-    /// A message that isn't served yet starts here.
-    Unbuilt { at: u64 },
     /// The call of a message is refused for the limits of the run: so many calls, and bytes of them, had arrived.
     Full { arrivals: u64, bytes: u64 },
     /// No memory was left.

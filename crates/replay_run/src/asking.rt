@@ -7,7 +7,7 @@ use giop_msg::write_request;
 use object_key::write_key;
 use poa_base::{Ask, Bytes, Config, Datum, Head, Key, Name, Oid, Path, Stamp, WantMemory};
 use poa_core::Core;
-use standing_queries::templates::{has_template, lasts, policies_at};
+use standing_queries::templates::{has_template, policies_at};
 use std::alloc::Global;
 
 /// The number of no adapter.
@@ -106,7 +106,7 @@ fn is_transient(config: &Config, path: &Path) -> bool
     ensures { result ≡ is_transient_at config.now path.now }
 {
     let names = path.as_slice();
-    has_template(config, names) && !lasts(policies_at(config, names))
+    has_template(config, names) && !policies_at(config, names).lasts()
 }
 
 // The number of the adapter that stands at a path.

@@ -13,13 +13,11 @@ use crate::channel::{Channel, channels_of};
 use crate::line::Line;
 use crate::played::Played;
 use crate::player::Player;
+use poa_base::limits::CALLS;
 use poa_base::{Bytes, Config, Store, WantMemory};
 use poa_core::Core;
 use replay_script::{Script, ScriptStep, Step};
 use std::alloc::Global;
-
-/// The most calls that a run takes.
-const LIMIT: u64 = 4_000_000;
 
 /// Plays a script on a run of a configuration, with nothing stored before.
 ///
@@ -46,7 +44,7 @@ fn player_of(alloc: Global, config: Config) -> Result<Player, WantMemory>
     ensures { IfOk result (λ player. IsAtFirst config player) }
 {
     let run = config.run;
-    let core = Core::new(alloc, config, run, Store::new(alloc), LIMIT)?;
+    let core = Core::new(alloc, config, run, Store::new(alloc), CALLS)?;
     Ok(Player {
         core,
         printed: Vec::new(alloc),

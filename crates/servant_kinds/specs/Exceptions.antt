@@ -4,7 +4,7 @@ use Rattle.poa_base.specs.declared.Outcome.{Outcome}
 use Rattle.poa_base.specs.declared.Outcome.TheVariants.{User, System}
 use Rattle.poa_base.specs.declared.ExcName.TheVariants.{BadOperation, Marshal, Unknown}
 use Rattle.poa_base.specs.declared.Completion.TheVariants.{No, Maybe}
-use Rattle.servant_kinds.specs.declared.exception.TheConstants.{UNKNOWN_OPERATION, BAD_ARGUMENTS, FAULT_SERVANT}
+use Rattle.poa_base.specs.declared.minors.TheConstants.{UNKNOWN_OPERATION, BAD_ARGUMENTS, FAULT_SERVANT}
 
 -- the servant has no operation of this name
 abbrev pub unknown_operation : Outcome

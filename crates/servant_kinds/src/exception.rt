@@ -3,17 +3,9 @@ ghost use Rattle.std.specs.Prelude.{◌≡◌, IfOk};
 ghost use Rattle.poa_base.specs.declared.Outcome.TheVariants.{User};
 ghost use Rattle.servant_kinds.specs.Exceptions.{unknown_operation, bad_arguments, fault_outcome};
 
+use poa_base::minors::{BAD_ARGUMENTS, FAULT_SERVANT, UNKNOWN_OPERATION};
 use poa_base::{Bytes, Completion, ExcName, Outcome, SysExc, WantMemory};
 use std::alloc::Global;
-
-/// The minor code of BAD_OPERATION: the servant has no operation of this name.
-pub const UNKNOWN_OPERATION: u32 = 0xFFFF_F007;
-
-/// The minor code of MARSHAL: the arguments can't be read.
-pub const BAD_ARGUMENTS: u32 = 0xFFFF_F008;
-
-/// The minor code of UNKNOWN, raised by a fault servant.
-pub const FAULT_SERVANT: u32 = 0xFFFF_F009;
 
 /// The servant has no operation of this name.
 pub(crate) fn refuse_operation() -> Outcome

@@ -12,7 +12,6 @@ mod register;
 mod servant;
 mod type_ids;
 
-pub use exception::{BAD_ARGUMENTS, FAULT_SERVANT, UNKNOWN_OPERATION};
 pub use poa_base::WantMemory;
 pub use servant::Servant;
 pub use type_ids::type_id;

@@ -1,4 +1,3 @@
-mod InPlace
 mod Dropping
 mod TakingOut
 pub mod Settled

@@ -8,7 +8,7 @@ use Rattle.poa_history.specs.declared.activation.Activation.{Activation}
 use Rattle.poa_history.specs.declared.activation.Phase.TheVariants.{Begun, Complete, Void}
 use Rattle.poa_history.specs.Standings.{is_mapped, has_servant}
 use Rattle.poa_history.specs.Changes.{at_number, is_elsewhere}
-use Rattle.standing_of.proofs.InPlace.{mapped_one}
+use Rattle.poa_tree.proofs.InPlace.{mapped_one}
 
 -- the test finds the same in a list that was changed in front, where the change doesn't bear on it
 any_changed : {A : Type 0} (test : A → Bool) (f : A → A) → ((x : A) → test (f x) ≡ test x) → (i : ℕ) (xs : List A) → list_any test (map f (take i xs) ++ drop i xs) ≡ list_any test xs

@@ -10,9 +10,9 @@ ghost use Rattle.standing_queries.specs.Seen.{seen};
 use poa_base::{Config, Name, Oid};
 use poa_history::Activation;
 use poa_tree::Node;
+use poa_tree::nodes::{mark, stands_under};
 use standing_queries::Standing;
 use standing_queries::activations::is_of;
-use standing_queries::nodes::{leads_to, stands_under};
 use standing_queries::templates::{has_activator, manager_at};
 
 /// The activation is ending, by a destroy or so that its servant is etherealized.
@@ -22,25 +22,6 @@ fn end_by_destroy(activation: &mut Activation, etherealize: bool)
     activation.quiet = activation.quiet || (!activation.ending && !etherealize);
     activation.cleanup = activation.cleanup || (etherealize && !activation.out);
     activation.ending = true;
-}
-
-/// The adapter is being destroyed, if it is that of the path or below it.
-fn mark_one(node: &mut Node, path: &[Name])
-    ensures { node.new ≡ tree.marked path.now node.old }
-{
-    if leads_to(path, node.path.as_slice()) {
-        node.dying = true;
-    }
-}
-
-/// The adapter of the path and those below it are being destroyed.
-#[tactic(auto, using(crate::proofs::InPlace::mapped_one))]
-fn mark(nodes: &mut Vec<Node>, path: &[Name])
-    ensures { nodes.new.items ≡ map (tree.marked path.now) nodes.old.items }
-{
-    for node in nodes.iter_mut() {
-        mark_one(node, path);
-    }
 }
 
 /// An activation is ending where its adapter stands at the path or below it.
@@ -53,7 +34,7 @@ fn end_under(nodes: &[Node], path: &[Name], etherealize: bool, activation: &mut 
 }
 
 /// The activations of the adapters that stand at the path or below it are ending.
-#[tactic(auto, using(crate::proofs::InPlace::mapped_one))]
+#[tactic(auto, using(poa_tree::proofs::InPlace::mapped_one))]
 fn end_all_under(
     nodes: &[Node],
     path: &[Name],
@@ -98,7 +79,7 @@ fn end_activators(config: &Config, manager: usize, activation: &mut Activation)
 }
 
 /// The manager's activations that have a servant activator are ending.
-#[tactic(auto, using(crate::proofs::InPlace::mapped_one))]
+#[tactic(auto, using(poa_tree::proofs::InPlace::mapped_one))]
 pub fn turn_off(config: &Config, activations: &mut Vec<Activation>, manager: usize)
     ensures { activations.new.items ≡ map (λ a. if configured.has_activator config.now a.path && (configured.manager_at config.now a.path == manager) then changes.ended_by_destroy true a else a) activations.old.items }
 {
@@ -117,7 +98,7 @@ fn end_of_id(adapter: u32, oid: &Oid, activation: &mut Activation)
 }
 
 /// The activations of the id are ending.
-#[tactic(auto, using(crate::proofs::InPlace::mapped_one))]
+#[tactic(auto, using(poa_tree::proofs::InPlace::mapped_one))]
 pub fn deactivate(activations: &mut Vec<Activation>, adapter: u32, oid: &Oid)
     ensures { activations.new.items ≡ map (λ a. if stands.is_of adapter oid.now a then record a { ending = true } else a) activations.old.items }
 {

@@ -6,9 +6,8 @@ ghost use Rattle.standing_queries.specs.Seen.{seen};
 use crate::beginning::begun;
 use poa_base::{Key, Name, Path, Verdict, WantMemory};
 use poa_history::{Flight, Phase};
+use poa_tree::walks::{adapter_met, child_met, walk};
 use standing_queries::Standing;
-use standing_queries::nodes::copied;
-use standing_queries::walks::{adapter_met, child_met, walk};
 use std::alloc::Global;
 
 /// A request is admitted to the adapter of its key.
@@ -22,7 +21,7 @@ fn add_request(
     ensures ok { OnOk result (seen standing.new ≡ changes.with_request arrival key.now activation (seen standing.old)) }
     ensures err { OnErr result (seen standing.new ≡ seen standing.old) }
 {
-    let adapter = adapter_met(walk(alloc, &standing.nodes, key.path.as_slice())?);
+    let adapter = adapter_met(walk(&standing.nodes, key.path.as_slice()));
     standing.flights.push(Flight {
         arrival,
         adapter,
@@ -30,6 +29,17 @@ fn add_request(
         child: None,
     })?;
     Ok(())
+}
+
+/// The same names.
+fn copied(alloc: Global, names: &[Name]) -> Result<Vec<Name>, WantMemory>
+    ensures { IfOk result (λ copy. copy.items ≡ names.now) }
+{
+    let mut copy = Vec::new(alloc);
+    for name in names {
+        copy.push(name.clone()?)?;
+    }
+    Ok(copy)
 }
 
 /// A path of these names.
@@ -49,7 +59,7 @@ fn add_trial(
     ensures ok { OnOk result (seen standing.new ≡ changes.with_trial arrival key.now (seen standing.old)) }
     ensures err { OnErr result (seen standing.new ≡ seen standing.old) }
 {
-    let found = walk(alloc, &standing.nodes, key.path.as_slice())?;
+    let found = walk(&standing.nodes, key.path.as_slice());
     let child = path_of(alloc, child_met(found, key.path.as_slice()))?;
     standing.flights.push(Flight {
         arrival,
@@ -70,7 +80,7 @@ fn add_incarnation(
     ensures ok { OnOk result (seen standing.new ≡ changes.with_incarnation arrival key.now (seen standing.old)) }
     ensures err { OnErr result (seen standing.new ≡ seen standing.old) }
 {
-    let adapter = adapter_met(walk(alloc, &standing.nodes, key.path.as_slice())?);
+    let adapter = adapter_met(walk(&standing.nodes, key.path.as_slice()));
     let activation = begun(
         standing.activations.len(),
         adapter,

@@ -18,7 +18,7 @@ fn bring(number: u32, phase: Phase, activation: &mut Activation)
 }
 
 /// The activation that is being incarnated has come so far.
-#[tactic(auto, using(crate::proofs::InPlace::mapped_one))]
+#[tactic(auto, using(poa_tree::proofs::InPlace::mapped_one))]
 pub fn complete(activations: &mut Vec<Activation>, number: u32, phase: Phase)
     ensures { activations.new.items ≡ map (changes.at_number number (changes.come_to phase)) activations.old.items }
 {
@@ -92,7 +92,7 @@ fn end(number: u32, activation: &mut Activation)
 }
 
 /// The servant of the activation that was taken out is etherealized.
-#[tactic(auto, using(crate::proofs::InPlace::mapped_one))]
+#[tactic(auto, using(poa_tree::proofs::InPlace::mapped_one))]
 pub fn etherealize(activations: &mut Vec<Activation>, number: u32)
     ensures { activations.new.items ≡ map (changes.at_number number (λ a. record a { etherealized = true })) activations.old.items }
 {

@@ -34,7 +34,7 @@ fn let_out(config: &Config, flights: &[Flight], activation: &mut Activation)
 }
 
 /// The activations that are to leave the map do.
-#[tactic(auto, using(crate::proofs::InPlace::mapped_one))]
+#[tactic(auto, using(poa_tree::proofs::InPlace::mapped_one))]
 fn let_all_out(config: &Config, flights: &[Flight], activations: &mut Vec<Activation>)
     ensures { (s : Stood) → s.flights ≡ flights.now → activations.new.items ≡ map (ends.let_out config.now s) activations.old.items }
 {

@@ -1,3 +1,2 @@
 pub mod KeysRead
-pub mod Parents
 pub mod Onward

@@ -10,12 +10,12 @@ ghost use Rattle.standing_queries.specs.Seen.{seen};
 
 use crate::activations::{has_servant, is_mapped};
 use crate::calls::call_of;
-use crate::nodes::node_at;
 use crate::standing::Standing;
-use crate::templates::{activates_implicitly, is_unique, policies_at, retains};
+use crate::templates::policies_at;
 use poa_base::{Answer, Call, Command, Config, Entry, Name, Sid, Verdict};
 use poa_history::Activation;
 use poa_tree::Node;
+use poa_tree::nodes::node_at;
 
 /// Whether the command was done.
 pub fn is_accepted(verdict: &Verdict) -> bool
@@ -110,7 +110,7 @@ pub fn referred<'a>(
     ensures { option_copied result ≡ rows.referred config.now (seen standing.now) node.now servant }
 {
     let policies = policies_at(config, node.path.as_slice());
-    if retains(policies) && is_unique(policies) {
+    if policies.retains() && policies.is_unique() {
         mapped(&standing.activations, node.number, servant)
     } else {
         None
@@ -123,5 +123,5 @@ pub fn is_implicit(config: &Config, standing: &Standing, node: &Node, servant: u
 {
     let policies = policies_at(config, node.path.as_slice());
     referred(config, standing, node, servant).is_none()
-        && (retains(policies) && activates_implicitly(policies))
+        && (policies.retains() && policies.activates_implicitly())
 }

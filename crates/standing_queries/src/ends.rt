@@ -7,12 +7,11 @@ ghost use Rattle.poa_history.specs.Ends as ends;
 ghost use Rattle.standing_queries.specs.Seen.{seen};
 
 use crate::activations::is_void;
-use crate::nodes;
 use crate::standing::Standing;
 use crate::templates::has_activator;
 use poa_base::{Config, Name};
 use poa_history::Activation;
-use poa_tree::Node;
+use poa_tree::{Node, nodes};
 
 /// Whether it is out of the map, and etherealized where that is due.
 pub fn is_finished(config: &Config, activation: &Activation) -> bool

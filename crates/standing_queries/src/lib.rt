@@ -10,11 +10,9 @@ pub mod ends;
 pub mod flights;
 pub mod ids;
 pub mod keys;
-pub mod nodes;
 pub mod orders;
 mod standing;
 pub mod templates;
-pub mod walks;
 pub mod workers;
 
 pub use standing::Standing;

@@ -91,82 +91,12 @@ pub fn preset_at(config: &Config, path: &[Name]) -> Option<u32>
     own_entry(config, path)?.preset
 }
 
-/// Whether the policies have RETAIN.
-pub fn retains(policies: PolicySet) -> bool
-    ensures { result ≡ configured.retains policies }
-{
-    match policies.retention {
-        Policy::Retain => true,
-        _ => false,
-    }
-}
-
-/// Whether they have UNIQUE_ID.
-pub fn is_unique(policies: PolicySet) -> bool
-    ensures { result ≡ configured.is_unique policies }
-{
-    match policies.uniqueness {
-        Policy::UniqueId => true,
-        _ => false,
-    }
-}
-
-/// Whether they have SYSTEM_ID.
-pub fn makes_ids(policies: PolicySet) -> bool
-    ensures { result ≡ configured.makes_ids policies }
-{
-    match policies.assignment {
-        Policy::SystemId => true,
-        _ => false,
-    }
-}
-
-/// Whether they have IMPLICIT_ACTIVATION.
-pub fn activates_implicitly(policies: PolicySet) -> bool
-    ensures { result ≡ configured.activates_implicitly policies }
-{
-    match policies.implicit {
-        Policy::Implicit => true,
-        _ => false,
-    }
-}
-
-/// Whether they have USE_DEFAULT_SERVANT.
-pub fn uses_default_servant(policies: PolicySet) -> bool
-    ensures { result ≡ configured.uses_default_servant policies }
-{
-    match policies.processing {
-        Policy::DefaultServant => true,
-        _ => false,
-    }
-}
-
-/// Whether they have USE_SERVANT_MANAGER.
-pub fn uses_servant_manager(policies: PolicySet) -> bool
-    ensures { result ≡ configured.uses_servant_manager policies }
-{
-    match policies.processing {
-        Policy::ServantManager => true,
-        _ => false,
-    }
-}
-
-/// Whether they have PERSISTENT.
-pub fn lasts(policies: PolicySet) -> bool
-    ensures { result ≡ configured.lasts policies }
-{
-    match policies.lifespan {
-        Policy::Persistent => true,
-        _ => false,
-    }
-}
-
 /// Whether the adapter of a path has a servant activator.
 pub fn has_activator(config: &Config, path: &[Name]) -> bool
     ensures { result ≡ configured.has_activator config.now path.now }
 {
     let policies = policies_at(config, path);
-    retains(policies) && uses_servant_manager(policies) && !rules_at(config, path).is_empty()
+    policies.retains() && policies.uses_servant_manager() && !rules_at(config, path).is_empty()
 }
 
 /// Whether it is the name of the manager that every server has.

@@ -1,5 +1,5 @@
 use Rattle.std.proofs.Common.{[], sym, subst}
-use Rattle.poa_manager.specs.States.{start_states}
+use Rattle.adapter_settings.specs.States.{start_states}
 use Rattle.adapter_settings.specs.Told.{Tells}
 use Rattle.adapter_settings.proofs.Opened.{opened}
 use Rattle.adapter_settings.proofs.settings.opening.Goals as goal

@@ -1,5 +1,5 @@
-use Rattle.poa_tree.proofs.AboveIs.{above_front}
+use Rattle.poa_tree.proofs.Parents.{parent_taken}
 use Rattle.poa_tree.proofs.paths.parent_path.Goals as goal
 
-pub returns : goal.returns
-returns c = above_front _ _ _ c.in_ok-front.ensures.cases.0
+pub returns-in-len1-up : goal.returns-in-len1-up
+returns-in-len1-up c = parent_taken c.args.path.now

@@ -1,0 +1,46 @@
+//! The minor codes of the system exceptions: CORBA 3.3 Part 1, A.5. Those of the OMG begin at 0x4F4D0000
+//! (OMGVMCID), those of this server at 0xFFFFF000; the low bits number them within one exception.
+
+/// TRANSIENT 1 of the OMG: the manager discards requests, or too many calls stood unadmitted.
+pub const DISCARDED: u32 = 0x4F4D_0001;
+
+/// TRANSIENT 4 of the OMG: the adapter is being destroyed.
+pub const ADAPTER_DYING: u32 = 0x4F4D_0004;
+
+/// OBJ_ADAPTER 1 of the OMG: the adapter activator raised an exception.
+pub const ACTIVATOR_RAISED: u32 = 0x4F4D_0001;
+
+/// OBJ_ADAPTER 3 of the OMG: there is no default servant.
+pub const NO_DEFAULT_SERVANT: u32 = 0x4F4D_0003;
+
+/// OBJ_ADAPTER 4 of the OMG: there is no servant manager.
+pub const NO_SERVANT_MANAGER: u32 = 0x4F4D_0004;
+
+/// OBJ_ADAPTER 5 of the OMG: the servant activator brought a servant that is active under another id, where
+/// ids are unique.
+pub const SERVANT_DOUBLE: u32 = 0x4F4D_0005;
+
+/// OBJECT_NOT_EXIST 2 of the OMG: there is no adapter of the key's path, and none was made.
+pub const NO_ADAPTER: u32 = 0x4F4D_0002;
+
+/// OBJECT_NOT_EXIST 1 of this server: the target is no spelling of a key.
+pub const BAD_KEY: u32 = 0xFFFF_F001;
+
+/// OBJECT_NOT_EXIST 2 of this server: the key is of another lifespan than its adapter, of another run, or of
+/// an earlier adapter of the path.
+pub const OTHER_LIFESPAN: u32 = 0xFFFF_F002;
+
+/// OBJECT_NOT_EXIST 3 of this server: no object of the id is active, and none is brought.
+pub const NOT_ACTIVE: u32 = 0xFFFF_F003;
+
+/// OBJ_ADAPTER 5 of this server: the manager is INACTIVE.
+pub const MANAGER_INACTIVE: u32 = 0xFFFF_F005;
+
+/// BAD_OPERATION 7 of this server: the servant has no operation of this name.
+pub const UNKNOWN_OPERATION: u32 = 0xFFFF_F007;
+
+/// MARSHAL 8 of this server: the arguments can't be read.
+pub const BAD_ARGUMENTS: u32 = 0xFFFF_F008;
+
+/// UNKNOWN 9 of this server: a fault servant raised it. Of this minor alone the completion is MAYBE.
+pub const FAULT_SERVANT: u32 = 0xFFFF_F009;

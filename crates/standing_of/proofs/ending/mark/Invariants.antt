@@ -1,6 +1,0 @@
-use Rattle.std.proofs.Common.{◌≡◌, ◌++◌, map, take, drop}
-use Rattle.poa_tree.specs.Nodes as tree
-use Rattle.standing_of.proofs.ending.mark.Given as goal
-
-abbrev pub invariant-loop-node : goal.invariant-loop-node
-invariant-loop-node l = l.node-items ≡ map (tree.marked l.path) (take l.node-index l.fn.nodes.items) ++ drop l.node-index l.fn.nodes.items
