@@ -23,7 +23,6 @@ use Rattle.poa_history.specs.Logs.{command_done}
 use Rattle.poa_history.specs.Opening.{number_at}
 use Rattle.poa_history.specs.Sound.{IsGiven, IsSound}
 use Rattle.poa_history.specs.Standings.{Standing}
-use Rattle.poa_history.specs.Turns.{admission}
 use Rattle.poa_history.specs.declared.activation.Activation.{Activation}
 use Rattle.poa_tree.specs.Nodes.{stands}
 use Rattle.poa_tree.specs.Paths.{leads_to}

@@ -22,8 +22,6 @@ use Rattle.poa_choose.specs.declared.MapFact.{MapFact}
 use Rattle.poa_choose.specs.declared.MapFact.TheVariants.{Active as ActiveAs, Busy, Free as FreeSlot}
 use Rattle.poa_choose.specs.declared.WalkFact.{WalkFact}
 use Rattle.poa_choose.specs.declared.WalkFact.TheVariants.{Dying as MeetsDying, Found as MeetsAdapter, Missing as MeetsMissing}
-use Rattle.poa_history.specs.Commands.{waits}
-use Rattle.poa_tree.specs.Walks.{walk}
 use Rattle.std.proofs.Common.{◌∙◌, sym}
 use Rattle.std.proofs.lemmas.Bool.{cond_both, true≢false}
 use Rattle.std.specs.Prelude.{◌&&◌, ◌≡◌, Bool, List, None, Option, Some, false, if◌then◌else◌, not, refl, true, ℕ}

@@ -32,7 +32,6 @@ use Rattle.poa_history.specs.Sound.{IsGiven, IsSound}
 use Rattle.poa_history.specs.Standings.{Standing, is_void}
 use Rattle.poa_history.specs.States.{kind_brought}
 use Rattle.poa_history.specs.Templates.{has_activator, rules_at}
-use Rattle.poa_history.specs.Turns.{admission}
 use Rattle.poa_history.specs.declared.activation.Activation.{Activation}
 use Rattle.poa_history.specs.declared.activation.Phase.TheVariants.{Begun, Complete, Void}
 use Rattle.poa_history.specs.declared.stage.Stage.TheVariants.{Incarnating}

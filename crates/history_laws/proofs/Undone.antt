@@ -4,7 +4,6 @@ use Rattle.history_laws.proofs.CommandsGo.{commands_go}
 use Rattle.history_laws.proofs.Flown.{is_trying, trial_is_tried}
 use Rattle.history_laws.proofs.HeldRows.{IsFreed, held_rows, is_busy_slot, is_held}
 use Rattle.history_laws.proofs.Idle.{all_landed, dying_gone, ending_finished, living_active, mapped_none, none_admitted, none_changing}
-use Rattle.history_laws.proofs.Line.{still}
 use Rattle.history_laws.proofs.Workers.{below_sixteen}
 use Rattle.history_laws.specs.Undone.{AreIdle, IsAllDone, IsAtFlight, IsHeldBack, IsInHand}
 use Rattle.poa_base.specs.declared.Call.{Call}
@@ -16,7 +15,6 @@ use Rattle.poa_choose.specs.Table.{first_row}
 use Rattle.poa_choose.specs.declared.Choice.{Choice}
 use Rattle.poa_choose.specs.declared.Choice.TheVariants.{Go, Held}
 use Rattle.poa_choose.specs.declared.MapFact.TheVariants.{Active as ActiveAs, Busy, Free as FreeSlot}
-use Rattle.poa_history.proofs.ActivationsFrom.{incarnating}
 use Rattle.poa_history.proofs.MannedKept.{all_manned}
 use Rattle.poa_history.proofs.SettledKept.{not_true}
 use Rattle.poa_history.specs.Alone.{IsGivenAlone}

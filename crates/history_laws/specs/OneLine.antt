@@ -82,7 +82,8 @@ was_incarnated (e ∷ past) n = was_incarnated past n
 -- destroy that etherealizes nothing, since its updates would be lost
 abbrev pub AreIncarnated : Config → ℕ → List Entry → List (List ℕ) → List ℕ → Type 0
 AreIncarnated c run h p oid =
-    (a : Activation) → In a (standing c run h).activations → a.path ≡ p → a.oid ≡ oid → (was_incarnated h a.number ≡ true) × (a.quiet ≡ false)
+    (a : Activation) → In a (standing c run h).activations → a.path ≡ p → a.oid ≡ oid
+    → (was_incarnated h a.number ≡ true) × (a.quiet ≡ false)
 
 -- the state in which the one servant opens: what was stored when the run began, where that is of the kind
 abbrev pub line_opening : Stored → Kind → List (List ℕ) → List ℕ → State
@@ -99,7 +100,8 @@ IsOneLine c run opened kind h p oid = replies_on c run opened h p oid ≡ replie
 -- the servant that the id has is in the state of the one servant
 abbrev pub HasLineState : Config → ℕ → Stored → Kind → List Entry → List (List ℕ) → List ℕ → Type 0
 HasLineState c run opened kind h p oid =
-    (a : Activation) → In a (standing c run h).activations → a.path ≡ p → a.oid ≡ oid → a.phase ≡ Complete (FreshServant a.number) → a.etherealized ≡ false
+    (a : Activation) → In a (standing c run h).activations → a.path ≡ p → a.oid ≡ oid
+    → a.phase ≡ Complete (FreshServant a.number) → a.etherealized ≡ false
     → state_of c run opened h (FreshServant a.number) ≡ line_state opened kind h p oid
 
 -- where a servant of the id was etherealized, and each of its activations is over, the stored state is that of the one servant

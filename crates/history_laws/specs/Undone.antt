@@ -60,7 +60,8 @@ pub record IsInHand (c : Config) (run : ℕ) (h : List Entry) : Type 0 where
   -- each incarnation
   pub incarnating : (a : Activation) → In a (standing c run h).activations → a.phase ≡ Begun → IsWithOne h (IsIncarnating a.number)
   -- each etherealization: of an activation that a servant activator is to be told of, out and not etherealized
-  pub removing : (a : Activation) → In a (standing c run h).activations → has_activator c a.path ≡ true → a.out ≡ true → a.quiet ≡ false → a.etherealized ≡ false → IsWithOne h (IsRemoving a.number)
+  pub removing : (a : Activation) → In a (standing c run h).activations → has_activator c a.path ≡ true → a.out ≡ true
+      → a.quiet ≡ false → a.etherealized ≡ false → IsWithOne h (IsRemoving a.number)
 
 -- none of the sixteen workers has a next entry
 abbrev pub AreIdle : Config → ℕ → List Entry → Type 0
@@ -80,7 +81,8 @@ pub record IsAllDone (c : Config) (run : ℕ) (h : List Entry) : Type 0 where
   -- every activation that is ending is finished
   pub finished : (a : Activation) → In a (standing c run h).activations → is_ending a ≡ true → is_finished c a ≡ true
   -- every adapter that was destroyed is gone; of these the root alone still stands
-  pub gone : (n : Node) → In n (standing c run h).nodes → n.dying ≡ true → (is_root n.path ≡ true) × (is_gone c (standing c run h) n.number ≡ true)
+  pub gone : (n : Node) → In n (standing c run h).nodes → n.dying ≡ true
+      → (is_root n.path ≡ true) × (is_gone c (standing c run h) n.number ≡ true)
   -- every arrival that is unadmitted is held back by a manager
   pub held : (r : ℕ) → r < arrivals h → is_unadmitted h r ≡ true → IsHeldBack c run h r
 

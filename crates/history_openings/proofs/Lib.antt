@@ -3,3 +3,4 @@ pub mod Policies
 pub mod Boots
 pub mod Objects
 pub mod Opened
+pub mod Lasting

@@ -19,6 +19,7 @@ ghost use Rattle.poa_history.specs.Lifetime.{HasLifetime};
 ghost use Rattle.poa_history.specs.Sound.{IsGiven, IsSound};
 ghost use Rattle.poa_history.specs.States.{Stored};
 ghost use Rattle.poa_history.specs.Turns.{turn};
+ghost use Rattle.history_laws.specs.Lasting.{KeepsUpdates, LeavesNothing};
 ghost use Rattle.history_laws.specs.Undone.{AreIdle, IsInHand, IsHeldBack, IsAllDone, IsAllOver, was_shut};
 ghost use Rattle.history_laws.specs.OneLine.{BringsFresh, AreIncarnated, IsOneLine, HasLineState, KeepsLineState};
 ghost use Rattle.history_openings.specs.Runs.{IsRun};
@@ -120,4 +121,10 @@ pub fn servants_are_one_line()
     ensures line { (c : Config) (run limit : ℕ) (h : List Entry) → IsRun c run limit h → (opened : Stored) (kind : Kind) (p : List (List ℕ)) (oid : List ℕ) → BringsFresh c p oid kind → AreIncarnated c run h p oid → IsOneLine c run opened kind h p oid }
     ensures state { (c : Config) (run limit : ℕ) (h : List Entry) → IsRun c run limit h → (opened : Stored) (kind : Kind) (p : List (List ℕ)) (oid : List ℕ) → BringsFresh c p oid kind → AreIncarnated c run h p oid → HasLineState c run opened kind h p oid }
     ensures kept { (c : Config) (run limit : ℕ) (h : List Entry) → IsRun c run limit h → (opened : Stored) (kind : Kind) (p : List (List ℕ)) (oid : List ℕ) → BringsFresh c p oid kind → AreIncarnated c run h p oid → KeepsLineState c run opened kind h p oid }
+{}
+
+/// The long laws together, as the calls of the adapter state them of a run.
+pub fn runs_last()
+    ensures undone { (c : Config) (run limit : ℕ) (h : List Entry) → IsRun c run limit h → LeavesNothing c run h }
+    ensures updates { (c : Config) (run limit : ℕ) (h : List Entry) → IsRun c run limit h → (opened : Stored) → KeepsUpdates c run opened h }
 {}
