@@ -2,6 +2,7 @@
 ghost use Rattle.std.specs.Prelude.{◌≡◌, ℕ, ◌≤◌, ◌<◌, List, option_map, reverse, IfOk};
 ghost use Rattle.poa_base.specs.Store.{stored as stored_in};
 ghost use Rattle.conf_rules.specs.Rules.{KeepsRules};
+ghost use Rattle.history_laws.specs.Lasting.{KeepsUpdates, LeavesNothing};
 ghost use Rattle.poa_history.specs.Arrivals.{connections};
 ghost use Rattle.poa_history.specs.Changes.{standing};
 ghost use Rattle.poa_history.specs.Legal.{IsLegal, IsOpen, IsSize};
@@ -20,7 +21,7 @@ use crate::inside::Inside;
 use crate::step_out::StepOut;
 use crate::{arriving, beginning, collecting, connecting, stepping};
 use arrival_tables::queue;
-use history_openings::laws::lifetimes_are_kept;
+use history_openings::laws::{lifetimes_are_kept, runs_last};
 use poa_base::{Call, Config, Entry, Path, Store, WantMemory};
 use poa_tree::nodes;
 use std::alloc::Global;
@@ -111,13 +112,16 @@ impl Core {
     }
 
     /// The journal's entries, the oldest first. They are a legal history, which keeps the lifetime of every
-    /// activation.
+    /// activation, leaves nothing undone, and keeps the updates of each object that a servant activator brings.
     pub fn entries(&self) -> &[Entry]
         ensures entries { result.now ≡ reverse self.now.history }
         ensures legal { IsLegal self.now.config self.now.run self.now.limit self.now.history }
         ensures lifetime { HasLifetime self.now.config self.now.run self.now.history }
+        ensures undone { LeavesNothing self.now.config self.now.run self.now.history }
+        ensures updates { KeepsUpdates self.now.config self.now.run (opened self.now) self.now.history }
     {
         lifetimes_are_kept();
+        runs_last();
         &self.inside.entries
     }
 

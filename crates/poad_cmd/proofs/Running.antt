@@ -4,7 +4,7 @@ use Rattle.std.proofs.Math.Seq.{take-append-add}
 use Rattle.std.proofs.lemmas.List.{take-take, take-append-le}
 use Rattle.outside.specs.Told.{IfTold}
 use Rattle.poa_base.specs.declared.Config.{Config}
-use Rattle.poa_core.specs.Life.{Life}
+use Rattle.poa_core.specs.Life.{Life, opened}
 use Rattle.poa_core.specs.Answers.{unadmitted}
 use Rattle.giop_frame.specs.Stream.{Framed, Stream, left_over, start}
 use Rattle.giop_frame.specs.Framer.{reach}
@@ -15,6 +15,7 @@ use Rattle.poad_cmd.specs.declared.status.Status.TheVariants.{Ok, Malformed, Tru
 use Rattle.poad_cmd.specs.declared.stop.Stop.{Stop}
 use Rattle.poad_cmd.specs.declared.stop.Stop.TheVariants as stop
 use Rattle.poad_cmd.specs.Serving.{MessageGives, IsLegalRun, Serves}
+use Rattle.history_laws.specs.Lasting.{KeepsUpdates, LeavesNothing}
 use Rattle.poad_cmd.specs.Stop.{message_limit, StopsAt, Begins, last_words}
 use Rattle.poad_cmd.specs.Run.{RunAnswers, RunEnds, Gains, IsDrained, IsKeptBy, life_at_answer}
 use Rattle.poad_cmd.specs.Service.{HasServed}
@@ -24,7 +25,7 @@ use Rattle.poa_history.specs.Legal.{IsLegal}
 use Rattle.poa_history.specs.Lifetime.{HasLifetime}
 use Rattle.replay_run.specs.Playing.{life_at_first}
 use Rattle.replay_run.proofs.Same.{Givens, givens_life, givens_then}
-use Rattle.replay_run.proofs.Given.{legal_for, lifetime_for}
+use Rattle.replay_run.proofs.Given.{legal_for, lifetime_for, undone_for, updates_for}
 use Rattle.poad_cmd.proofs.Worked.{asked_givens}
 use Rattle.poad_cmd.proofs.Serving.{serves_then}
 
@@ -125,10 +126,10 @@ serves_givens : (messages : List Framed) (a : Life) (replies : List ℕ) (b : Li
 serves_givens [] a replies b s = subst (λ (l : Life). Givens a l) (sym s.1) (givens_life a)
 serves_givens (m ∷ ms) a replies b s = givens_then a s.1.0 b (gives_givens a m s.0 s.1.0 s.1.1.1.0) (serves_givens ms s.1.0 s.1.1.0 b s.1.1.1.1)
 
-kept_so : (c : Config) (life : Life) → Givens (life_at_answer c) life → IsLegalRun life → IsLegal c c.run 4000000 life.history × HasLifetime c c.run life.history
+kept_so : (c : Config) (life : Life) → Givens (life_at_answer c) life → IsLegalRun life → IsLegal c c.run 4000000 life.history × HasLifetime c c.run life.history × LeavesNothing c c.run life.history × KeepsUpdates c c.run (opened (life_at_first c)) life.history
 kept_so c life g legal =
     let first : Givens (life_at_first c) life = record { config = g.config; run = g.run; limit = g.limit; opening = g.opening } in
-    (legal_for c life first legal.legal, lifetime_for c life first legal.lifetime)
+    (legal_for c life first legal.legal, lifetime_for c life first legal.lifetime, undone_for c life first legal.undone, updates_for c life first legal.updates)
 
 kept_by : (status : Status) (c : Config) (life : Life) (messages : List Framed) (replies : List ℕ) → Serves MessageGives (life_at_answer c) messages replies life → IsLegalRun life → IsKeptBy status c life
 kept_by WantMemory c life messages replies s legal = tt

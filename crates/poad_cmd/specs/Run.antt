@@ -5,7 +5,8 @@ use Rattle.poa_base.specs.declared.Config.{Config}
 use Rattle.poa_base.specs.declared.Entry.TheVariants.{Entered}
 use Rattle.poa_history.specs.Legal.{IsLegal}
 use Rattle.poa_history.specs.Lifetime.{HasLifetime}
-use Rattle.poa_core.specs.Life.{Life, with_entry}
+use Rattle.history_laws.specs.Lasting.{KeepsUpdates, LeavesNothing}
+use Rattle.poa_core.specs.Life.{Life, with_entry, opened}
 use Rattle.poa_core.specs.Answers.{unadmitted}
 use Rattle.replay_run.specs.Playing.{life_at_first}
 use Rattle.giop_frame.specs.Stream.{Framed}
@@ -52,10 +53,12 @@ Gains _ bytes old new = new ≡ old ++ bytes
 abbrev pub life_at_answer : Config → Life
 life_at_answer c = with_entry (Entered 0) (life_at_first c)
 
--- the run is a legal one of the configuration, and keeps the lifetimes of activations; of want of memory nothing is said
+-- the run is a legal one of the configuration, keeps the lifetimes of activations, leaves nothing undone and keeps the
+-- updates of objects; of want of memory nothing is said
 abbrev pub IsKeptBy : Status → Config → Life → Type 0
 IsKeptBy WantMemory c life = ⊤
-IsKeptBy status c life = IsLegal c c.run 4000000 life.history × HasLifetime c c.run life.history
+IsKeptBy status c life =
+    IsLegal c c.run 4000000 life.history × HasLifetime c c.run life.history × LeavesNothing c c.run life.history × KeepsUpdates c c.run (opened (life_at_first c)) life.history
 
 -- `answer` took bytes of the source, served the messages of their stream in order, up to one that it doesn't serve, and
 -- gave the sink their replies, and behind them MessageError where the next message is bad, or CloseConnection where the

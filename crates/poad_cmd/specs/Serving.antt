@@ -10,7 +10,8 @@ use Rattle.giop_msg.specs.Call.{CallOf}
 use Rattle.giop_msg.specs.Reply.{reply_bytes}
 use Rattle.poa_history.specs.Legal.{IsLegal}
 use Rattle.poa_history.specs.Lifetime.{HasLifetime}
-use Rattle.poa_core.specs.Life.{Life, with_entry}
+use Rattle.history_laws.specs.Lasting.{KeepsUpdates, LeavesNothing}
+use Rattle.poa_core.specs.Life.{Life, with_entry, opened}
 use Rattle.poa_core.specs.Answers.{is_taken}
 use Rattle.replay_run.specs.Working.{IsIdle, Makes}
 use Rattle.replay_run.specs.Talking.{CollectsAll}
@@ -39,10 +40,12 @@ pub record MessageGives (life : Life) (message : Framed) (bytes : List ℕ) (aft
   pub asks : CallOf message.bytes (Ok asked)
   pub gives : GivesAsked life asked (length message.bytes) bytes after
 
--- what has happened is legal, and keeps the lifetimes of activations
+-- what has happened is legal, keeps the lifetimes of activations, leaves nothing undone and keeps updates
 pub record IsLegalRun (life : Life) : Type 0 where
   pub legal : IsLegal life.config life.run life.limit life.history
   pub lifetime : HasLifetime life.config life.run life.history
+  pub undone : LeavesNothing life.config life.run life.history
+  pub updates : KeepsUpdates life.config life.run (opened life) life.history
 
 -- messages served in order from the one state to the other, with all their replies; `Each` says what one message gives
 abbrev pub Serves : {State Message : Type 0} → (State → Message → List ℕ → State → Type 0) → State → List Message → List ℕ → State → Type 0

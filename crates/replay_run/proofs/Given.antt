@@ -5,8 +5,10 @@ use Rattle.poa_base.specs.declared.Entry.{Entry}
 use Rattle.poa_base.specs.declared.Entry.TheVariants.{Entered}
 use Rattle.poa_history.specs.Arrivals.{connections}
 use Rattle.poa_history.specs.Legal.{IsLegal}
+use Rattle.poa_base.specs.Store.{Slots, stored as stored_in}
 use Rattle.poa_history.specs.Lifetime.{HasLifetime}
-use Rattle.poa_core.specs.Life.{Life, with_entry}
+use Rattle.history_laws.specs.Lasting.{KeepsUpdates, LeavesNothing}
+use Rattle.poa_core.specs.Life.{Life, with_entry, opened}
 use Rattle.replay_script.specs.declared.ScriptStep.{ScriptStep}
 use Rattle.replay_script.specs.declared.Step.{Step}
 use Rattle.replay_script.specs.declared.Step.TheVariants as step
@@ -72,6 +74,17 @@ legal_for c last g legal =
     subst (λ (d : Config). IsLegal d c.run 4000000 last.history) g.config
     (subst (λ (r : ℕ). IsLegal last.config r 4000000 last.history) g.run
     (subst (λ (l : ℕ). IsLegal last.config last.run l last.history) g.limit legal))
+
+pub undone_for : (c : Config) (last : Life) → Givens (life_at_first c) last → LeavesNothing last.config last.run last.history → LeavesNothing c c.run last.history
+undone_for c last g kept =
+    subst (λ (d : Config). LeavesNothing d c.run last.history) g.config
+    (subst (λ (r : ℕ). LeavesNothing last.config r last.history) g.run kept)
+
+pub updates_for : (c : Config) (last : Life) → Givens (life_at_first c) last → KeepsUpdates last.config last.run (opened last) last.history → KeepsUpdates c c.run (opened (life_at_first c)) last.history
+updates_for c last g kept =
+    subst (λ (o : Slots). KeepsUpdates c c.run (stored_in o) last.history) g.opening
+    (subst (λ (d : Config). KeepsUpdates d c.run (opened last) last.history) g.config
+    (subst (λ (r : ℕ). KeepsUpdates last.config r (opened last) last.history) g.run kept))
 
 pub lifetime_for : (c : Config) (last : Life) → Givens (life_at_first c) last → HasLifetime last.config last.run last.history → HasLifetime c c.run last.history
 lifetime_for c last g kept =

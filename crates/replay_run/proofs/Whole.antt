@@ -4,7 +4,8 @@ use Rattle.std.specs.Option.{option_or}
 use Rattle.poa_base.specs.declared.Config.{Config}
 use Rattle.poa_history.specs.Legal.{IsLegal, has_left}
 use Rattle.poa_history.specs.Lifetime.{HasLifetime}
-use Rattle.poa_core.specs.Life.{Life}
+use Rattle.poa_core.specs.Life.{Life, opened}
+use Rattle.history_laws.specs.Lasting.{KeepsUpdates, LeavesNothing}
 use Rattle.poa_core.specs.Answers.{filled_at, unadmitted}
 use Rattle.replay_script.specs.declared.Script.{Script}
 use Rattle.replay_script.specs.declared.ScriptStep.{ScriptStep}
@@ -25,7 +26,7 @@ use Rattle.poa_base.specs.declared.Datum.{Datum}
 use Rattle.replay_run.specs.Asking.{asked}
 use Rattle.replay_run.specs.Reading.{Feeds}
 use Rattle.replay_run.proofs.Seats.{keeps_still}
-use Rattle.replay_run.proofs.Given.{plays_givens, legal_for, lifetime_for}
+use Rattle.replay_run.proofs.Given.{plays_givens, legal_for, lifetime_for, undone_for, updates_for}
 use Rattle.replay_run.proofs.Same.{Same, Still, Givens, givens_life, givens_then, same_givens, still_life, still_then, still_stays, still_settles, still_collects}
 
 -- a step of the workers
@@ -91,8 +92,9 @@ full_is a b at is = map_or a b ∙ ap (λ o. option_or o (option_map numbers b))
 pub is_played : (c : Config) (script : Script) (answer : Played) (p q r : Player) (xs ys : List Channel)
     → IsAtFirst c p → AreFresh script.connections xs → Keeps q ys → Shows (PlaysAll script.steps) p q xs ys → Works (Then Rests (CollectsEach ys)) q r
     → answer.printed ≡ r.printed.items → answer.held ≡ unadmitted r.core.history → answer.full ≡ option_or r.filled r.turned_away
-    → IsLegal r.core.config r.core.run r.core.limit r.core.history → HasLifetime r.core.config r.core.run r.core.history → IsPlayed c script answer
-is_played c script answer p q r xs ys first fresh keeps shows works printed held full legal lifetime =
+    → IsLegal r.core.config r.core.run r.core.limit r.core.history → HasLifetime r.core.config r.core.run r.core.history
+    → LeavesNothing r.core.config r.core.run r.core.history → KeepsUpdates r.core.config r.core.run (opened r.core) r.core.history → IsPlayed c script answer
+is_played c script answer p q r xs ys first fresh keeps shows works printed held full legal lifetime undone updates =
     let still : Still q.core r.core = still_finished ys q.core works.text r.core works.does in
     let played : Givens p.core q.core = plays_givens script.steps (world p xs) shows.text (world q ys) shows.does in
     let givens : Givens (life_at_first c) r.core = subst (λ (l : Life). Givens l r.core) first.life (givens_then p.core q.core r.core played (same_givens q.core r.core still.same)) in
@@ -112,6 +114,8 @@ is_played c script answer p q r xs ys first fresh keeps shows works printed held
       };
       legal = legal_for c r.core givens legal;
       lifetime = lifetime_for c r.core givens lifetime;
+      undone = undone_for c r.core givens undone;
+      updates = updates_for c r.core givens updates;
       held = held;
       full = ap (λ o. option_map numbers o) full
           ∙ (full_is r.filled r.turned_away (filled_at r.core.history) filled

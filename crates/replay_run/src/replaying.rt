@@ -3,6 +3,8 @@ ghost use Rattle.std.specs.Prelude.{◌≡◌, IfOk, OnOk};
 ghost use Rattle.std.specs.Option.{option_or};
 ghost use Rattle.poa_history.specs.Legal.{IsLegal};
 ghost use Rattle.poa_history.specs.Lifetime.{HasLifetime};
+ghost use Rattle.history_laws.specs.Lasting.{KeepsUpdates, LeavesNothing};
+ghost use Rattle.poa_core.specs.Life.{opened};
 ghost use Rattle.poa_core.specs.Answers.{unadmitted};
 ghost use Rattle.conf_rules.specs.Rules.{KeepsRules};
 ghost use Rattle.replay_run.specs.Playing.{IsPlayed, Plays, PlaysAll};
@@ -60,6 +62,8 @@ fn result_of(player: Player) -> Played
     ensures full { result.full ≡ option_or player.filled player.turned_away }
     ensures legal { IsLegal player.core.config player.core.run player.core.limit player.core.history }
     ensures lifetime { HasLifetime player.core.config player.core.run player.core.history }
+    ensures undone { LeavesNothing player.core.config player.core.run player.core.history }
+    ensures updates { KeepsUpdates player.core.config player.core.run (opened player.core) player.core.history }
 {
     let _ = player.core.entries();
     let Player {

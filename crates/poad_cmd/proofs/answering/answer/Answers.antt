@@ -17,7 +17,7 @@ returns-in_default-new-clause-answers g c = run_refused _ _ _
 
 pub loop-taken-init : goal.loop-taken-init
 loop-taken-init g c = record {
-  runs = run_starts _ _ _ c.in-Ok-new.service c.in-Ok-new.ensures.served c.in-Ok-new.ensures.reached c.in-Ok-new.ensures.core c.in-Ok-new.ensures.replies c.in-Ok-new.ensures.waiting (record { legal = c.entries.ensures.legal; lifetime = c.entries.ensures.lifetime });
+  runs = run_starts _ _ _ c.in-Ok-new.service c.in-Ok-new.ensures.served c.in-Ok-new.ensures.reached c.in-Ok-new.ensures.core c.in-Ok-new.ensures.replies c.in-Ok-new.ensures.waiting (record { legal = c.entries.ensures.legal; lifetime = c.entries.ensures.lifetime; undone = c.entries.ensures.undone; updates = c.entries.ensures.updates });
   open_ = open_first c.args.config c.in-Ok-new.service c.in-Ok-new.ensures.core;
   within = omega arith;
   room_is = c.in-Ok.ensures.len;

@@ -5,7 +5,7 @@ use Rattle.poad_cmd.proofs.Pieces.{Fed, piece_refused, piece_unwritten, piece_se
 use Rattle.poad_cmd.proofs.answering.take_piece.Goals as goal
 
 pub returns-in_default-clause-takes : goal.returns-in_default-clause-takes
-returns-in_default-clause-takes g c = piece_refused c.args.piece.now c.args.service.now _ (g.K.Sink.held c.args.sink.now) (record { legal = c.entries.ensures.legal; lifetime = c.entries.ensures.lifetime })
+returns-in_default-clause-takes g c = piece_refused c.args.piece.now c.args.service.now _ (g.K.Sink.held c.args.sink.now) (record { legal = c.entries.ensures.legal; lifetime = c.entries.ensures.lifetime; undone = c.entries.ensures.undone; updates = c.entries.ensures.updates })
 
 pub returns-then-not-write_replies-clause-takes : goal.returns-then-not-write_replies-clause-takes
 returns-then-not-write_replies-clause-takes g c =
