@@ -17,7 +17,7 @@ use Rattle.poad_cmd.specs.declared.stop.Stop.TheVariants as stop
 use Rattle.poad_cmd.specs.Serving.{MessageGives, IsLegalRun, Serves}
 use Rattle.history_laws.specs.Lasting.{KeepsUpdates, LeavesNothing}
 use Rattle.poad_cmd.specs.Stop.{message_limit, StopsAt, Begins, last_words}
-use Rattle.poad_cmd.specs.Run.{RunAnswers, RunEnds, Gains, IsDrained, IsKeptBy, life_at_answer}
+use Rattle.poad_cmd.specs.Run.{RunAnswers, RunEnds, Gains, IsBelowLimit, IsDrained, IsKeptBy, life_at_answer}
 use Rattle.poad_cmd.specs.Service.{HasServed}
 use Rattle.poad_cmd.specs.Piece.{TakesPiece, EndsPiece, EndsAt}
 use Rattle.poad_cmd.proofs.Told.{told_then, told_here, told_so, told_last}
@@ -167,20 +167,23 @@ run_stops c status l m h k taken service r gains ends = record {
   ends = ends;
 }
 
+below_limit : (taken : ℕ) (got : List ℕ) → taken ≡ length got → taken < 2 ^ 32 → IsBelowLimit got
+below_limit taken got count more = omega (arith, count, more)
+
 -- the run stops at a read that failed
-pub run_fails : (c : Config) (l m h k : Option (List ℕ)) (taken : ℕ) (service : Service) → Runs c l m h k taken service → RunAnswers c ReadFault l m h k
-run_fails c l m h k taken service r = run_stops c ReadFault l m h k taken service r (λ x y bytes e. e) (service.waiting, refl)
+pub run_fails : (c : Config) (l m h k : Option (List ℕ)) (taken : ℕ) (service : Service) → Runs c l m h k taken service → taken < 2 ^ 32 → RunAnswers c ReadFault l m h k
+run_fails c l m h k taken service r more = run_stops c ReadFault l m h k taken service r (λ x y bytes e. e) ((service.waiting, refl), below_limit taken r.got r.count more)
 
 -- the run stops at its limit
 pub run_limited : (c : Config) (l m h k : Option (List ℕ)) (taken : ℕ) (service : Service) → Runs c l m h k taken service → taken ≡ 2 ^ 32 → RunAnswers c (InputLimit taken) l m h k
 run_limited c l m h k taken service r full = run_stops c (InputLimit taken) l m h k taken service r (λ x y bytes e. e) ((service.waiting, refl), r.count, full)
 
 -- the run stops at the end of its source
-pub run_finished : (c : Config) (status : Status) (l m h k : Option (List ℕ)) (taken : ℕ) (service : Service) → Runs c l m h k taken service → IsDrained m → EndsAt status service.waiting (unadmitted service.core.history) → RunAnswers c status l m h k
-run_finished c Ok l m h k taken service r none at = run_stops c Ok l m h k taken service r (λ x y bytes e. e) (inr (ap (λ (n : ℕ). stop.Waits n) at.0, none), at.1)
-run_finished c (Held count) l m h k taken service r none at = run_stops c (Held count) l m h k taken service r (λ x y bytes e. e) (inr (ap (λ (n : ℕ). stop.Waits n) at.0, none), at.1, at.2)
-run_finished c (Truncated have) l m h k taken service r none at = run_stops c (Truncated have) l m h k taken service r (λ x y bytes e. e) (ap (λ (n : ℕ). stop.Waits n) (sym at.0), at.1, none)
-run_finished c _ l m h k taken service r none at = absurd at
+pub run_finished : (c : Config) (status : Status) (l m h k : Option (List ℕ)) (taken : ℕ) (service : Service) → Runs c l m h k taken service → IsDrained m → taken < 2 ^ 32 → EndsAt status service.waiting (unadmitted service.core.history) → RunAnswers c status l m h k
+run_finished c Ok l m h k taken service r none more at = run_stops c Ok l m h k taken service r (λ x y bytes e. e) (inr (ap (λ (n : ℕ). stop.Waits n) at.0, none, below_limit taken r.got r.count more), at.1)
+run_finished c (Held count) l m h k taken service r none more at = run_stops c (Held count) l m h k taken service r (λ x y bytes e. e) (inr (ap (λ (n : ℕ). stop.Waits n) at.0, none, below_limit taken r.got r.count more), at.1, at.2)
+run_finished c (Truncated have) l m h k taken service r none more at = run_stops c (Truncated have) l m h k taken service r (λ x y bytes e. e) (ap (λ (n : ℕ). stop.Waits n) (sym at.0), at.1, none, below_limit taken r.got r.count more)
+run_finished c _ l m h k taken service r none more at = absurd at
 
 -- nothing was read or written for want of memory
 pub run_refused : (c : Config) (l h : Option (List ℕ)) → RunAnswers c WantMemory l l h h

@@ -25,20 +25,24 @@ IsDrained left = IfTold left left (λ old new. new ≡ [])
 abbrev pub IsWaiting : Stop → Type 0
 IsWaiting why = (have : ℕ) × (why ≡ stop.Waits have)
 
+-- fewer bytes were taken than a run takes at most
+abbrev pub IsBelowLimit : List ℕ → Type 0
+IsBelowLimit got = length got < 2 ^ 32
+
 -- the input was read to a CloseConnection, or to its end with nothing left over
-abbrev pub IsRead : Stop → Option (List ℕ) → Type 0
-IsRead why left = (why ≡ stop.Closed) ⊎ ((why ≡ stop.Waits 0) × IsDrained left)
+abbrev pub IsRead : Stop → List ℕ → Option (List ℕ) → Type 0
+IsRead why got left = (why ≡ stop.Closed) ⊎ ((why ≡ stop.Waits 0) × IsDrained left × IsBelowLimit got)
 
 -- why a run ends with a status: `got` was taken of the source, serving it stopped for this reason, and so many calls
--- are unadmitted
+-- are unadmitted. Where no message ends the run, it is the limit of the input exactly where that was taken
 abbrev pub RunEnds : Status → Stop → ℕ → List ℕ → Option (List ℕ) → Type 0
-RunEnds Ok why held got left = IsRead why left × (held ≡ 0)
-RunEnds (Held count) why held got left = IsRead why left × (count ≡ held) × (0 < held)
-RunEnds (Truncated have) why held got left = (why ≡ stop.Waits have) × (0 < have) × IsDrained left
+RunEnds Ok why held got left = IsRead why got left × (held ≡ 0)
+RunEnds (Held count) why held got left = IsRead why got left × (count ≡ held) × (0 < held)
+RunEnds (Truncated have) why held got left = (why ≡ stop.Waits have) × (0 < have) × IsDrained left × IsBelowLimit got
 RunEnds (Malformed at) why held got left = why ≡ stop.Refused at
 RunEnds (Limit calls bytes) why held got left = why ≡ stop.Full calls bytes
 RunEnds (InputLimit taken) why held got left = IsWaiting why × (taken ≡ length got) × (taken ≡ 2 ^ 32)
-RunEnds ReadFault why held got left = IsWaiting why
+RunEnds ReadFault why held got left = IsWaiting why × IsBelowLimit got
 RunEnds WriteFault why held got left = ⊤
 RunEnds WantMemory why held got left = ⊤
 RunEnds _ why held got left = ⊥

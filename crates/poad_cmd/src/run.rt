@@ -49,7 +49,7 @@ use std::alloc::Global;
 ///   it were written, and then MessageError (CORBA 3.3 Part 2, 9.4.8).
 /// - `Truncated`: the source ended, and so many of its bytes belong to no whole message: those behind the last
 ///   part, and all parts of messages that are still open. The replies to the whole messages were written.
-/// - `InputLimit`: 2^32 bytes were taken of the source, and no message of them ends the run.
+/// - `InputLimit`: exactly where 2^32 bytes were taken of the source, and no message of them ends the run.
 /// - `ReadFault`, `WriteFault`: a read of the source, or a write to the sink, failed in this call. After a fault
 ///   of reading every reply that was due was written, and after one of writing a front of what was due.
 /// - `WantMemory`: no memory was left. A front of what was due was written.

@@ -33,9 +33,10 @@ world player channels = record { life = player.core; channels = channels; turned
 abbrev pub KnowsFilled : Player → Type 0
 KnowsFilled player = option_map numbers player.filled ≡ filled_at player.core.history
 
--- no more was fed than was counted
-abbrev pub IsCounted : Channel → Type 0
-IsCounted channel = reach channel.stream ≤ channel.fed
+-- no more was fed than was counted, and no message is longer than one may be
+pub record IsCounted (channel : Channel) : Type 0 where
+  pub reached : reach channel.stream ≤ channel.fed
+  pub limited : channel.stream.limit ≡ 1048576
 
 -- a connection that entered, and hasn't left where it hasn't ended
 pub record IsSeated (channel : Channel) (h : List Entry) : Type 0 where

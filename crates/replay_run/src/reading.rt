@@ -1,5 +1,5 @@
 //! The bytes that come over a connection, and the calls of their messages.
-ghost use Rattle.std.specs.Prelude.{◌≡◌, ◌≢◌, ◌++◌, ◌<◌, ◌^◌, IfOk, OnOk, length, false, Some};
+ghost use Rattle.std.specs.Prelude.{◌≡◌, ◌≢◌, ◌++◌, ◌<◌, ◌≤◌, ◌^◌, IfOk, OnOk, length, false, Some};
 ghost use Rattle.poa_history.specs.Legal.{IsOpen, IsSize};
 ghost use Rattle.giop_msg.specs.declared.MsgFault.TheVariants as msg;
 ghost use Rattle.replay_run.specs.Lines.{bad_line};
@@ -15,9 +15,6 @@ use giop_msg::{Incoming, MsgFault, read_call};
 use poa_base::{Call, WantMemory};
 use poa_core::ArriveFault;
 use std::alloc::Global;
-
-/// The most bytes that a message has with its header.
-const LONGEST: u64 = 1_048_588;
 
 impl Player {
     /// Bytes come over a connection: the messages that they make whole are read.
@@ -43,6 +40,7 @@ impl Player {
     // Reads the messages that stand whole.
     fn read_on(&mut self, alloc: Global, channel: &mut Channel, conn: u32) -> Result<(), WantMemory>
         requires open_ { IsOpen self.old.core.history conn }
+        requires counted { IsCounted channel.old }
         ensures tells { OnOk result (Tells (ReadsOn conn) self.old self.new channel.old channel.new) }
         ensures counted { IsCounted channel.old → IsCounted channel.new }
     {
@@ -63,6 +61,7 @@ impl Player {
         conn: u32,
     ) -> Result<bool, WantMemory>
         requires open_ { IsOpen self.old.core.history conn }
+        requires counted { IsCounted channel.old }
         ensures tells { IfOk result (λ more. Tells (ReadsNext more conn) self.old self.new channel.old channel.new) }
         ensures open_ { IsOpen self.new.core.history conn }
         ensures counted { IsCounted channel.old → IsCounted channel.new }
@@ -90,6 +89,7 @@ impl Player {
         message: &Message,
     ) -> Result<(), WantMemory>
         requires open_ { IsOpen self.old.core.history conn }
+        requires sized { length message.now.bytes ≤ 1048588 }
         ensures tells { OnOk result (Tells (Handles conn message.now) self.old self.new channel.old channel.new) }
         ensures open_ { IsOpen self.new.core.history conn }
         ensures counted { IsCounted channel.old → IsCounted channel.new }
@@ -97,10 +97,6 @@ impl Player {
         match read_call(alloc, message) {
             Ok(Incoming::Call(call)) => {
                 let size = message.bytes().len() as u64;
-                // The stream has no longer message.
-                if size > LONGEST {
-                    return Err(WantMemory);
-                }
                 self.call(channel.name.as_slice(), conn, call, size)
             }
             Ok(Incoming::Cancel { .. }) => Ok(()),

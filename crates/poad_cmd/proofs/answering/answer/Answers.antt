@@ -48,7 +48,7 @@ loop-taken-preserved g c = record {
 
 pub returns-in-End-clause-answers : goal.returns-in-End-clause-answers
 returns-in-End-clause-answers g c =
-    run_finished _ c.ended.result _ _ _ _ c.loop-taken.taken c.loop-taken.service (run_still _ _ _ _ _ _ c.loop-taken.taken c.loop-taken.service c.loop-taken.invariant.runs (end_still _ _ c.in-End.ensures.bytes)) (end_left _ _ c.in-End.ensures.bytes) c.ended.ensures
+    run_finished _ c.ended.result _ _ _ _ c.loop-taken.taken c.loop-taken.service (run_still _ _ _ _ _ _ c.loop-taken.taken c.loop-taken.service c.loop-taken.invariant.runs (end_still _ _ c.in-End.ensures.bytes)) (end_left _ _ c.in-End.ensures.bytes) c.loop-taken-test.true c.ended.ensures
 
 pub returns-in-End-clause-read : goal.returns-in-End-clause-read
 returns-in-End-clause-read g c = cause_still _ _ _ (omega (arith, c.loop-taken.invariant.reads, c.in-End.ensures.failed.later)) (λ e. subst (λ (status : Status). EndsAt status c.loop-taken.service.waiting (unadmitted c.loop-taken.service.core.history)) e c.ended.ensures)
@@ -57,7 +57,7 @@ pub returns-in-End-clause-written : goal.returns-in-End-clause-written
 returns-in-End-clause-written g c = cause_still _ _ _ c.loop-taken.invariant.writes (λ e. subst (λ (status : Status). EndsAt status c.loop-taken.service.waiting (unadmitted c.loop-taken.service.core.history)) e c.ended.ensures)
 
 pub returns-in-Failed-clause-answers : goal.returns-in-Failed-clause-answers
-returns-in-Failed-clause-answers g c = run_fails _ _ _ _ _ c.loop-taken.taken c.loop-taken.service (run_still _ _ _ _ _ _ c.loop-taken.taken c.loop-taken.service c.loop-taken.invariant.runs c.in-Failed.ensures.bytes)
+returns-in-Failed-clause-answers g c = run_fails _ _ _ _ _ c.loop-taken.taken c.loop-taken.service (run_still _ _ _ _ _ _ c.loop-taken.taken c.loop-taken.service c.loop-taken.invariant.runs c.in-Failed.ensures.bytes) c.loop-taken-test.true
 
 pub returns-in-Failed-clause-read : goal.returns-in-Failed-clause-read
 returns-in-Failed-clause-read g c = cause_from _ _ _ _ _ c.loop-taken.invariant.reads c.in-Failed.ensures.failed (λ _. refl)

@@ -1,8 +1,14 @@
-use Rattle.std.proofs.Common.{refl, subst}
+use Rattle.std.proofs.Common.{refl, subst, arith}
 use Rattle.giop_frame.specs.declared.Next.{Next}
-use Rattle.giop_frame.specs.Framer.{FramerAnswers}
+use Rattle.giop_frame.specs.Framer.{FramerAnswers, IsWithin}
 use Rattle.replay_run.proofs.Read.{message_next, nothing_next, bad_next}
 use Rattle.replay_run.proofs.player.Player.read_next.Goals as goal
+
+pub message-in-Message-requires-clause-sized : goal.message-in-Message-requires-clause-sized
+message-in-Message-requires-clause-sized c =
+    let within = subst (λ (n : Next). IsWithin c.args.channel.now.stream.limit n) c.in-Message.is c.in_ok-message.ensures.sized in
+    let limit = c.requires.counted.limited in
+    omega (arith, within, limit)
 
 pub returns-in_ok-message-in-Message-clause-tells : goal.returns-in_ok-message-in-Message-clause-tells
 returns-in_ok-message-in-Message-clause-tells c =

@@ -8,6 +8,9 @@ pub returns-then-not-branch-clause-tells : goal.returns-then-not-branch-clause-t
 returns-then-not-branch-clause-tells c = tells_end (ReadsOn c.args.conn) c.args.self.now c.loop.self c.read_next.new.self c.args.channel.now c.loop.channel c.read_next.new.channel c.loop.invariant.reads
     (next_so c.in_ok-read_next.field-0 false c.args.conn c.loop.self c.read_next.new.self c.loop.channel c.read_next.new.channel c.if-not-branch.true c.in_ok-read_next.ensures.tells)
 
+pub read_next-requires-clause-counted : goal.read_next-requires-clause-counted
+read_next-requires-clause-counted c = c.loop.invariant.counted c.requires.counted
+
 pub loop-preserved : goal.loop-preserved
 loop-preserved c = record {
   reads = tells_onward (ReadsOn c.args.conn) c.args.self.now c.loop.self c.read_next.new.self c.args.channel.now c.loop.channel c.read_next.new.channel c.loop.invariant.reads
