@@ -22,7 +22,7 @@ EndsPlay status held full = ⊥
 -- what the script prints was written
 pub record Writes (c : Config) (script : Script) (Ends : Played → Type 0) (Gains : List ℕ → List ℕ → List ℕ → Type 0) (held_old held_new : Option (List ℕ)) : Type 0 where
   pub played : Played
-  pub is : IsPlayed c script played
+  pub is : IsPlayed c 4000000 script played
   pub gave : IfTold held_old held_new (Gains played.printed)
   pub ends : Ends played
 

@@ -55,14 +55,14 @@ Gains _ bytes old new = new ≡ old ++ bytes
 
 -- the run of a configuration, once its one connection has entered
 abbrev pub life_at_answer : Config → Life
-life_at_answer c = with_entry (Entered 0) (life_at_first c)
+life_at_answer c = with_entry (Entered 0) (life_at_first c 4000000)
 
 -- the run is a legal one of the configuration, keeps the lifetimes of activations, leaves nothing undone and keeps the
 -- updates of objects; of want of memory nothing is said
 abbrev pub IsKeptBy : Status → Config → Life → Type 0
 IsKeptBy WantMemory c life = ⊤
 IsKeptBy status c life =
-    IsLegal c c.run 4000000 life.history × HasLifetime c c.run life.history × LeavesNothing c c.run life.history × KeepsUpdates c c.run (opened (life_at_first c)) life.history
+    IsLegal c c.run 4000000 life.history × HasLifetime c c.run life.history × LeavesNothing c c.run life.history × KeepsUpdates c c.run (opened (life_at_first c 4000000)) life.history
 
 -- `answer` took bytes of the source, served the messages of their stream in order, up to one that it doesn't serve, and
 -- gave the sink their replies, and behind them MessageError where the next message is bad, or CloseConnection where the

@@ -11,6 +11,7 @@ use crate::status::Status;
 use crate::taking::{take_config, take_script};
 use outside::{Files, Sink};
 use poa_base::Config;
+use poa_base::limits::CALLS;
 use replay_run::{Full, replay};
 use replay_script::Script;
 use std::alloc::Global;
@@ -46,7 +47,7 @@ fn play<K: Sink>(alloc: Global, config: Config, script: &Script, sink: &mut K) -
     ensures plays { PlaysScript config script.now result (K.held sink.old) (K.held sink.new) }
     ensures written { HasCause (K.write_faults sink.old) (K.write_faults sink.new) (result ≡ Status.WriteFault) }
 {
-    let Ok(played) = replay(alloc, config, script) else {
+    let Ok(played) = replay(alloc, config, CALLS, script) else {
         return Status::WantMemory;
     };
     if !deliver(sink, played.printed.as_slice()) {

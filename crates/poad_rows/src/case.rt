@@ -1,5 +1,6 @@
 //! One case: a command line, what it reads, and what fails.
 use crate::fault::Fault;
+use crate::limited::play_limited;
 use crate::shelf::Shelf;
 use outside::{MemFiles, MemSink, MemSource};
 use poad_cmd::{Host, Status, run_words};
@@ -18,6 +19,8 @@ pub struct Case {
     pub failing_reads: Vec<u64>,
     pub failing_writes: Vec<u64>,
     pub failing_takes: Vec<u64>,
+    /// How many calls the run of a script takes, where that isn't the most.
+    pub limit: Option<u64>,
 }
 
 /// What a case wrote and how it ended.
@@ -38,6 +41,7 @@ impl Case {
             failing_reads: Vec::new(alloc),
             failing_writes: Vec::new(alloc),
             failing_takes: Vec::new(alloc),
+            limit: None,
         }
     }
 
@@ -51,7 +55,11 @@ impl Case {
             failing_reads,
             failing_writes,
             failing_takes,
+            limit,
         } = self;
+        if let Some(limit) = limit {
+            return play_limited(alloc, &words, files, limit);
+        }
         let mut held = MemFiles::new(alloc, failing_takes, Vec::new(alloc));
         for file in files.all() {
             held.hold(&file.name, &file.bytes)?;

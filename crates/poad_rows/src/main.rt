@@ -10,6 +10,7 @@
 //! - `fill BYTE COUNT`, so many bytes of this value, behind what was sent in the case, or else behind the last file;
 //! - `piece SIZE`, how many bytes a read gives at most;
 //! - `fails read N`, `fails write N`, `fails take N`: that read, write or take of a file fails, counted from 0;
+//! - `takes COUNT`, how many calls the run of a script takes: `replay` then plays it on such a run;
 //! - `run`, which does the command;
 //! - empty lines, and lines that begin with `#`.
 //!
@@ -18,6 +19,7 @@
 
 mod case;
 mod fault;
+mod limited;
 mod printing;
 mod shelf;
 mod table;

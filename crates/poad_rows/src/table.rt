@@ -77,6 +77,8 @@ impl Table {
             self.piece(rest)
         } else if verb == b"fails".as_slice() {
             self.fails(rest)
+        } else if verb == b"takes".as_slice() {
+            self.takes(rest)
         } else {
             Err(Fault::BadLine)
         }
@@ -161,6 +163,14 @@ impl Table {
         Ok(())
     }
 
+    fn takes(&mut self, words: &[&[u8]]) -> Result<(), Fault> {
+        let [count] = words else {
+            return Err(Fault::BadLine);
+        };
+        self.case.limit = Some(number64(count)?);
+        Ok(())
+    }
+
     fn fails(&mut self, words: &[&[u8]]) -> Result<(), Fault> {
         let [kind, number] = words else {
             return Err(Fault::BadLine);
@@ -181,7 +191,10 @@ impl Table {
     /// Does the command of the case, and prints what it wrote and how it ended.
     fn run(&mut self, out: &mut Vec<u8>) -> Result<(), Fault> {
         let case = std::mem::replace(&mut self.case, Case::new(self.alloc));
-        let binary = case.words.first().is_some_and(|word| word.as_str() == "answer");
+        let binary = case
+            .words
+            .first()
+            .is_some_and(|word| word.as_str() == "answer");
         let ran = case.run(&self.files)?;
         if binary {
             put_messages(out, &ran.written)?;

@@ -69,24 +69,24 @@ plays_givens [] w text v s = same_world w v s.1
 plays_givens (s ∷ ss) w text v t = givens_then w.life t.between.life v.life (play_givens s.step w t.front t.between t.first) (plays_givens ss t.between t.rest v t.second)
 
 -- a run with these givens is one of the configuration
-pub legal_for : (c : Config) (last : Life) → Givens (life_at_first c) last → IsLegal last.config last.run last.limit last.history → IsLegal c c.run 4000000 last.history
-legal_for c last g legal =
-    subst (λ (d : Config). IsLegal d c.run 4000000 last.history) g.config
-    (subst (λ (r : ℕ). IsLegal last.config r 4000000 last.history) g.run
+pub legal_for : (c : Config) (limit : ℕ) (last : Life) → Givens (life_at_first c limit) last → IsLegal last.config last.run last.limit last.history → IsLegal c c.run limit last.history
+legal_for c limit last g legal =
+    subst (λ (d : Config). IsLegal d c.run limit last.history) g.config
+    (subst (λ (r : ℕ). IsLegal last.config r limit last.history) g.run
     (subst (λ (l : ℕ). IsLegal last.config last.run l last.history) g.limit legal))
 
-pub undone_for : (c : Config) (last : Life) → Givens (life_at_first c) last → LeavesNothing last.config last.run last.history → LeavesNothing c c.run last.history
-undone_for c last g kept =
+pub undone_for : (c : Config) (limit : ℕ) (last : Life) → Givens (life_at_first c limit) last → LeavesNothing last.config last.run last.history → LeavesNothing c c.run last.history
+undone_for c limit last g kept =
     subst (λ (d : Config). LeavesNothing d c.run last.history) g.config
     (subst (λ (r : ℕ). LeavesNothing last.config r last.history) g.run kept)
 
-pub updates_for : (c : Config) (last : Life) → Givens (life_at_first c) last → KeepsUpdates last.config last.run (opened last) last.history → KeepsUpdates c c.run (opened (life_at_first c)) last.history
-updates_for c last g kept =
+pub updates_for : (c : Config) (limit : ℕ) (last : Life) → Givens (life_at_first c limit) last → KeepsUpdates last.config last.run (opened last) last.history → KeepsUpdates c c.run (opened (life_at_first c limit)) last.history
+updates_for c limit last g kept =
     subst (λ (o : Slots). KeepsUpdates c c.run (stored_in o) last.history) g.opening
     (subst (λ (d : Config). KeepsUpdates d c.run (opened last) last.history) g.config
     (subst (λ (r : ℕ). KeepsUpdates last.config r (opened last) last.history) g.run kept))
 
-pub lifetime_for : (c : Config) (last : Life) → Givens (life_at_first c) last → HasLifetime last.config last.run last.history → HasLifetime c c.run last.history
-lifetime_for c last g kept =
+pub lifetime_for : (c : Config) (limit : ℕ) (last : Life) → Givens (life_at_first c limit) last → HasLifetime last.config last.run last.history → HasLifetime c c.run last.history
+lifetime_for c limit last g kept =
     subst (λ (d : Config). HasLifetime d c.run last.history) g.config
     (subst (λ (r : ℕ). HasLifetime last.config r last.history) g.run kept)

@@ -58,8 +58,8 @@ pub on_ok : {X Y : Type 0} (r : Result X Y) (P Q : Type 0) → (P → Q) → OnO
 on_ok (Ok x) P Q f p = f p
 on_ok (Err e) P Q f p = tt
 
-pub keeps_first : (c : Config) (player : Player) (channels : List Channel) → IsAtFirst c player → IsNew channels → Keeps player channels
-keeps_first c player channels first new = record {
+pub keeps_first : (c : Config) (limit : ℕ) (player : Player) (channels : List Channel) → IsAtFirst c limit player → IsNew channels → Keeps player channels
+keeps_first c limit player channels first new = record {
   filled = ap (λ o. option_map numbers o) first.filled ∙ sym (ap (λ (l : Life). filled_at l.history) first.life);
   seated = λ i a at. record {
     counted = (new i a at).1;
@@ -89,15 +89,15 @@ full_is : (a b : Option Full) (at : Option (ℕ × ℕ)) → option_map numbers 
     → option_map numbers (option_or a b) ≡ option_or at (option_map numbers b)
 full_is a b at is = map_or a b ∙ ap (λ o. option_or o (option_map numbers b)) is
 
-pub is_played : (c : Config) (script : Script) (answer : Played) (p q r : Player) (xs ys : List Channel)
-    → IsAtFirst c p → AreFresh script.connections xs → Keeps q ys → Shows (PlaysAll script.steps) p q xs ys → Works (Then Rests (CollectsEach ys)) q r
+pub is_played : (c : Config) (limit : ℕ) (script : Script) (answer : Played) (p q r : Player) (xs ys : List Channel)
+    → IsAtFirst c limit p → AreFresh script.connections xs → Keeps q ys → Shows (PlaysAll script.steps) p q xs ys → Works (Then Rests (CollectsEach ys)) q r
     → answer.printed ≡ r.printed.items → answer.held ≡ unadmitted r.core.history → answer.full ≡ option_or r.filled r.turned_away
     → IsLegal r.core.config r.core.run r.core.limit r.core.history → HasLifetime r.core.config r.core.run r.core.history
-    → LeavesNothing r.core.config r.core.run r.core.history → KeepsUpdates r.core.config r.core.run (opened r.core) r.core.history → IsPlayed c script answer
-is_played c script answer p q r xs ys first fresh keeps shows works printed held full legal lifetime undone updates =
+    → LeavesNothing r.core.config r.core.run r.core.history → KeepsUpdates r.core.config r.core.run (opened r.core) r.core.history → IsPlayed c limit script answer
+is_played c limit script answer p q r xs ys first fresh keeps shows works printed held full legal lifetime undone updates =
     let still : Still q.core r.core = still_finished ys q.core works.text r.core works.does in
     let played : Givens p.core q.core = plays_givens script.steps (world p xs) shows.text (world q ys) shows.does in
-    let givens : Givens (life_at_first c) r.core = subst (λ (l : Life). Givens l r.core) first.life (givens_then p.core q.core r.core played (same_givens q.core r.core still.same)) in
+    let givens : Givens (life_at_first c limit) r.core = subst (λ (l : Life). Givens l r.core) first.life (givens_then p.core q.core r.core played (same_givens q.core r.core still.same)) in
     let filled : option_map numbers r.filled ≡ filled_at r.core.history =
     ap (λ o. option_map numbers o) works.filled ∙ (keeps.filled ∙ sym still.filled) in
     record {
@@ -112,10 +112,10 @@ is_played c script answer p q r xs ys first fresh keeps shows works printed held
         finishes = works.does;
         joined = printed ∙ (works.printed ∙ ap (λ (t : List ℕ). t ++ works.text) (shows.printed ∙ ap (λ (t : List ℕ). t ++ shows.text) first.printed));
       };
-      legal = legal_for c r.core givens legal;
-      lifetime = lifetime_for c r.core givens lifetime;
-      undone = undone_for c r.core givens undone;
-      updates = updates_for c r.core givens updates;
+      legal = legal_for c limit r.core givens legal;
+      lifetime = lifetime_for c limit r.core givens lifetime;
+      undone = undone_for c limit r.core givens undone;
+      updates = updates_for c limit r.core givens updates;
       held = held;
       full = ap (λ o. option_map numbers o) full
           ∙ (full_is r.filled r.turned_away (filled_at r.core.history) filled

@@ -162,8 +162,8 @@ abbrev pub IsNew : List Channel → Type 0
 IsNew channels = (i : ℕ) (a : Channel) → slice_get channels i ≡ Some a → (a.number ≡ None) × IsCounted a
 
 -- a player before the first line
-pub record IsAtFirst (c : Config) (player : Player) : Type 0 where
-  pub life : player.core ≡ life_at_first c
+pub record IsAtFirst (c : Config) (limit : ℕ) (player : Player) : Type 0 where
+  pub life : player.core ≡ life_at_first c limit
   pub printed : player.printed.items ≡ []
   pub filled : player.filled ≡ None
   pub turned_away : player.turned_away ≡ None

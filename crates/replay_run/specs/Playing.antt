@@ -81,12 +81,12 @@ AreFresh [] [] = Unit {0}
 AreFresh (name ∷ names) (channel ∷ channels) = IsFresh name channel × AreFresh names channels
 AreFresh names channels = ⊥
 
--- a run of the configuration's number, with nothing stored, that takes 4,000,000 arrivals
-abbrev pub life_at_first : Config → Life
-life_at_first c = begun c c.run 4000000 finite.empty
+-- a run of the configuration's number, with nothing stored, that takes so many arrivals
+abbrev pub life_at_first : Config → ℕ → Life
+life_at_first c limit = begun c c.run limit finite.empty
 
-pub record IsOpening (c : Config) (names : List (List ℕ)) (w : World) : Type 0 where
-  pub life : w.life ≡ life_at_first c
+pub record IsOpening (c : Config) (limit : ℕ) (names : List (List ℕ)) (w : World) : Type 0 where
+  pub life : w.life ≡ life_at_first c limit
   pub channels : AreFresh names w.channels
   pub nobody : w.turned_away ≡ None
 
@@ -101,9 +101,9 @@ CollectsEach [] = Stays
 CollectsEach (c ∷ cs) = Then (CollectsOf c.name c.number) (CollectsEach cs)
 
 -- a script prints this, and leaves this history; `played` is how things stand behind its last line
-pub record Outputs (c : Config) (script : Script) (text : List ℕ) (played : World) (last : Life) : Type 0 where
+pub record Outputs (c : Config) (limit : ℕ) (script : Script) (text : List ℕ) (played : World) (last : Life) : Type 0 where
   pub opening : World
-  pub opens : IsOpening c script.connections opening
+  pub opens : IsOpening c limit script.connections opening
   pub front : List ℕ
   pub rest : List ℕ
   pub plays : PlaysAll script.steps opening front played
@@ -118,13 +118,13 @@ abbrev pub full_of : Life → Option Full → Option (ℕ × ℕ)
 full_of last turned_away = option_or (filled_at last.history) (option_map numbers turned_away)
 
 -- what is answered for a script
-pub record IsPlayed (c : Config) (script : Script) (answer : Played) : Type 0 where
+pub record IsPlayed (c : Config) (limit : ℕ) (script : Script) (answer : Played) : Type 0 where
   pub played : World
   pub last : Life
-  pub outputs : Outputs c script answer.printed played last
-  pub legal : IsLegal c c.run 4000000 last.history
+  pub outputs : Outputs c limit script answer.printed played last
+  pub legal : IsLegal c c.run limit last.history
   pub lifetime : HasLifetime c c.run last.history
   pub undone : LeavesNothing c c.run last.history
-  pub updates : KeepsUpdates c c.run (opened (life_at_first c)) last.history
+  pub updates : KeepsUpdates c c.run (opened (life_at_first c limit)) last.history
   pub held : answer.held ≡ unadmitted last.history
   pub full : option_map numbers answer.full ≡ full_of last played.turned_away

@@ -1,5 +1,5 @@
 //! Scripts played.
-ghost use Rattle.std.specs.Prelude.{◌≡◌, IfOk, OnOk};
+ghost use Rattle.std.specs.Prelude.{◌≡◌, ◌≤◌, IfOk, OnOk};
 ghost use Rattle.std.specs.Option.{option_or};
 ghost use Rattle.poa_history.specs.Legal.{IsLegal};
 ghost use Rattle.poa_history.specs.Lifetime.{HasLifetime};
@@ -15,25 +15,31 @@ use crate::channel::{Channel, channels_of};
 use crate::line::Line;
 use crate::played::Played;
 use crate::player::Player;
-use poa_base::limits::CALLS;
 use poa_base::{Bytes, Config, Store, WantMemory};
 use poa_core::Core;
 use replay_script::{Script, ScriptStep, Step};
 use std::alloc::Global;
 
-/// Plays a script on a run of a configuration, with nothing stored before.
+/// Plays a script on a run of a configuration that takes so many arrivals, from 1 to 4,000,000, with nothing stored
+/// before.
 ///
 /// The steps come one behind the other. Then the workers 0 to 15 run until none has anything to do, and the
 /// replies of each connection are collected. A connection enters at its first line. Its bytes are read message by
-/// message; behind a message that can't be read, that isn't for a server or that isn't served yet no byte is read.
+/// message; behind a message that can't be read or that isn't for a server no byte is read.
 ///
 /// `held` counts the calls that are unadmitted at the end. `full` has the numbers of calls and of bytes that there
 /// were when the first call was refused for the limits of the run, or, where none was, the first connection.
-pub fn replay(alloc: Global, config: Config, script: &Script) -> Result<Played, WantMemory>
+pub fn replay(
+    alloc: Global,
+    config: Config,
+    limit: u64,
+    script: &Script,
+) -> Result<Played, WantMemory>
     requires rules { KeepsRules config }
-    ensures { IfOk result (λ played. IsPlayed config script.now played) }
+    requires limit { (1 ≤ limit) × (limit ≤ 4000000) }
+    ensures { IfOk result (λ played. IsPlayed config limit script.now played) }
 {
-    let mut player = player_of(alloc, config)?;
+    let mut player = player_of(alloc, config, limit)?;
     let mut channels = channels_of(alloc, script.connections.as_slice())?;
     player.play_all(alloc, &mut channels, script.steps.as_slice())?;
     player.finish(alloc, &channels)?;
@@ -41,12 +47,13 @@ pub fn replay(alloc: Global, config: Config, script: &Script) -> Result<Played, 
 }
 
 // A player before the first line.
-fn player_of(alloc: Global, config: Config) -> Result<Player, WantMemory>
+fn player_of(alloc: Global, config: Config, limit: u64) -> Result<Player, WantMemory>
     requires rules { KeepsRules config }
-    ensures { IfOk result (λ player. IsAtFirst config player) }
+    requires limit { (1 ≤ limit) × (limit ≤ 4000000) }
+    ensures { IfOk result (λ player. IsAtFirst config limit player) }
 {
     let run = config.run;
-    let core = Core::new(alloc, config, run, Store::new(alloc), CALLS)?;
+    let core = Core::new(alloc, config, run, Store::new(alloc), limit)?;
     Ok(Player {
         core,
         printed: Vec::new(alloc),
