@@ -1,9 +1,8 @@
 use super::*;
 use poa_base::Bytes;
-use std::fs;
-use std::io;
 use std::io::{Read, Write};
 use std::test::Fail;
+use std::{fs, io};
 
 // A reader that always fails.
 #[derive(Drop)]

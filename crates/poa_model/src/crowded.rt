@@ -4,8 +4,8 @@ ghost use Rattle.poa_history.specs.Arrivals as calls;
 ghost use Rattle.poa_history.specs.Stages as begun;
 ghost use Rattle.poa_history.specs.Situations as situations;
 
-use poa_base::limits::UNADMITTED;
 use poa_base::Entry;
+use poa_base::limits::UNADMITTED;
 use standing_queries::calls::{arrivals, call_of, is_message};
 use standing_queries::workers::admitted;
 
