@@ -202,7 +202,7 @@ seat_entered channels place old mid channel k at life filled =
     let count : connections mid.core.history ≡ suc conn = ap (λ (l : Life). connections l.history) life in
     record {
       number = refl;
-      counted = s.counted;
+      counted = record { reached = s.counted.reached; limited = s.counted.limited };
       more = omega (arith, count);
       mine = omega (arith, count);
       left = same;

@@ -4,12 +4,6 @@ use Rattle.giop_frame.specs.Framer.{FramerAnswers, IsWithin}
 use Rattle.replay_run.proofs.Read.{message_next, nothing_next, bad_next}
 use Rattle.replay_run.proofs.player.Player.read_next.Goals as goal
 
-pub message-in-Message-requires-clause-sized : goal.message-in-Message-requires-clause-sized
-message-in-Message-requires-clause-sized c =
-    let within = subst (λ (n : Next). IsWithin c.args.channel.now.stream.limit n) c.in-Message.is c.in_ok-message.ensures.sized in
-    let limit = c.requires.counted.limited in
-    omega (arith, within, limit)
-
 pub returns-in_ok-message-in-Message-clause-tells : goal.returns-in_ok-message-in-Message-clause-tells
 returns-in_ok-message-in-Message-clause-tells c =
     let comes = subst (λ (n : Next). FramerAnswers c.args.channel.now.stream n c.next.new.self) c.in-Message.is c.in_ok-message.ensures.answer in
