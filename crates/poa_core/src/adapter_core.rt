@@ -3,6 +3,7 @@ ghost use Rattle.std.specs.Prelude.{◌≡◌, ℕ, ◌≤◌, ◌<◌, List, op
 ghost use Rattle.poa_base.specs.Store.{stored as stored_in};
 ghost use Rattle.conf_rules.specs.Rules.{KeepsRules};
 ghost use Rattle.history_laws.specs.Lasting.{KeepsUpdates, LeavesNothing};
+ghost use Rattle.history_openings.specs.Runs.{IsRun};
 ghost use Rattle.poa_history.specs.Arrivals.{connections};
 ghost use Rattle.poa_history.specs.Changes.{standing};
 ghost use Rattle.poa_history.specs.Legal.{IsLegal, IsOpen, IsSize};
@@ -111,11 +112,12 @@ impl Core {
         connecting::leave(&mut self.inside, conn);
     }
 
-    /// The journal's entries, the oldest first. They are a legal history, which keeps the lifetime of every
+    /// The journal's entries, the oldest first. They are a legal history of a run of an accepted configuration, which keeps the lifetime of every
     /// activation, leaves nothing undone, and keeps the updates of each object that a servant activator brings.
     pub fn entries(&self) -> &[Entry]
         ensures entries { result.now ≡ reverse self.now.history }
         ensures legal { IsLegal self.now.config self.now.run self.now.limit self.now.history }
+        ensures runs { IsRun self.now.config self.now.run self.now.limit self.now.history }
         ensures lifetime { HasLifetime self.now.config self.now.run self.now.history }
         ensures undone { LeavesNothing self.now.config self.now.run self.now.history }
         ensures updates { KeepsUpdates self.now.config self.now.run (opened self.now) self.now.history }

@@ -128,7 +128,7 @@ serves_givens (m ∷ ms) a replies b s = givens_then a s.1.0 b (gives_givens a m
 
 kept_so : (c : Config) (life : Life) → Givens (life_at_answer c) life → IsLegalRun life → IsLegal c c.run 4000000 life.history × HasLifetime c c.run life.history × LeavesNothing c c.run life.history × KeepsUpdates c c.run (opened (life_at_first c 4000000)) life.history
 kept_so c life g legal =
-    let first : Givens (life_at_first c 4000000) life = record { config = g.config; run = g.run; limit = g.limit; opening = g.opening } in
+    let first : Givens (life_at_first c 4000000) life = record { config = g.config; run = g.run; limit = g.limit; opening = g.opening; going = g.going } in
     (legal_for c 4000000 life first legal.legal, lifetime_for c 4000000 life first legal.lifetime, undone_for c 4000000 life first legal.undone, updates_for c 4000000 life first legal.updates)
 
 kept_by : (status : Status) (c : Config) (life : Life) (messages : List Framed) (replies : List ℕ) → Serves MessageGives (life_at_answer c) messages replies life → IsLegalRun life → IsKeptBy status c life

@@ -15,6 +15,7 @@ use Rattle.poad_cmd.specs.Service.{Does, GivesReplies}
 use Rattle.poa_core.specs.declared.StepOut.TheVariants as step_out
 use Rattle.poa_core.specs.declared.Collected.TheVariants as collected
 use Rattle.replay_run.specs.Talking.{CollectsAll}
+use Rattle.replay_run.proofs.Turning.{turn_apart}
 use Rattle.replay_run.proofs.Seats.{open_still}
 use Rattle.replay_run.proofs.Collected.{Did, did, did_still, collected_one, collected_same, collected_none}
 use Rattle.poa_base.specs.declared.Config.{Config}
@@ -62,13 +63,13 @@ open_first c service is = subst (λ (l : Life). IsOpen l.history 0) (sym is) (re
 
 works_givens : (a b : Life) → Works a b → Givens a b
 works_givens a b (works_out l idle) = givens_life l
-works_givens a b (works_on l last e makes more) = givens_then l (with_entry e l) last (record { config = refl; run = refl; limit = refl; opening = refl }) (works_givens (with_entry e l) last more)
+works_givens a b (works_on l last e makes more) = givens_then l (with_entry e l) last (record { config = refl; run = refl; limit = refl; opening = refl; going = (turn_apart l.config l.run l.history 0 e makes.next).going l.history }) (works_givens (with_entry e l) last more)
 
 -- what was asked leaves the givens of the run as they are
 pub asked_givens : (a : Life) (asked : Incoming) (size : ℕ) (bytes : List ℕ) (b : Life) → GivesAsked a asked size bytes b → Givens a b
 asked_givens a (incoming.Call call) size bytes b g =
     (let arrived : Life = with_entry (Arrive 0 size call) a in
-    let first : Givens a arrived = record { config = refl; run = refl; limit = refl; opening = refl } in
+    let first : Givens a arrived = record { config = refl; run = refl; limit = refl; opening = refl; going = λ w. refl } in
     givens_then a arrived b first (givens_then arrived g.worked b (works_givens arrived g.worked g.works) (same_givens g.worked b (still_collects reply_bytes 0 g.worked bytes b g.collects).same)))
 asked_givens a (incoming.Cancel id) size bytes b g = subst (λ (l : Life). Givens a l) (sym g.1) (givens_life a)
 asked_givens a incoming.Closing size bytes b g = absurd g

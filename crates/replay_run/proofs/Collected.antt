@@ -41,7 +41,7 @@ collected_one say conn old new last r head reply more c all =
 
 pub collected_same : (conn : ℕ) (old new : Life) (r : ℕ) (head : Head) (reply : Reply) → Collects conn old (collected.Reply r head reply) new → Same old new
 collected_same conn old new r head reply c =
-    subst (λ (l : Life). Same old l) (sym c.3) (record { config = refl; run = refl; limit = refl; opening = refl; entered = refl; left = λ n. refl })
+    subst (λ (l : Life). Same old l) (sym c.3) (record { config = refl; run = refl; limit = refl; opening = refl; entered = refl; left = λ n. refl; going = λ w. refl })
 
 -- none is decided
 pub collected_none : (say : Head → Reply → List ℕ) (conn : ℕ) (old new : Life) (owes : ℕ) → Collects conn old (collected.Nothing owes) new → CollectsAll say conn old [] new

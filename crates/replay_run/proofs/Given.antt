@@ -7,6 +7,7 @@ use Rattle.poa_history.specs.Arrivals.{connections}
 use Rattle.poa_history.specs.Legal.{IsLegal}
 use Rattle.poa_base.specs.Store.{Slots, stored as stored_in}
 use Rattle.poa_history.specs.Lifetime.{HasLifetime}
+use Rattle.history_openings.specs.Runs.{IsRun}
 use Rattle.history_laws.specs.Lasting.{KeepsUpdates, LeavesNothing}
 use Rattle.poa_core.specs.Life.{Life, with_entry, opened}
 use Rattle.replay_script.specs.declared.ScriptStep.{ScriptStep}
@@ -35,7 +36,7 @@ module _ (P : ℕ → Talk → List ℕ → Talk → Type 0) (keep : (conn : ℕ
   entering : (b : Bool) (channel : Channel) (w : World) (text : List ℕ) (v : World) → Enters b P place channel w text v → Givens w.life v.life
   entering true channel w text v c =
       (let kept : Givens (entered w).life v.life = carried (numbered (connections w.life.history) channel) (connections w.life.history) (entered w) text v c in
-      record { config = kept.config; run = kept.run; limit = kept.limit; opening = kept.opening })
+      record { config = kept.config; run = kept.run; limit = kept.limit; opening = kept.opening; going = kept.going })
   entering false channel w text v r = subst (λ (u : World). Givens w.life u.life) (sym r.1) (givens_life w.life)
 
   on_channel : (number : Option ℕ) (channel : Channel) (w : World) (text : List ℕ) (v : World) → OnChannel number P place channel w text v → Givens w.life v.life
@@ -74,6 +75,12 @@ legal_for c limit last g legal =
     subst (λ (d : Config). IsLegal d c.run limit last.history) g.config
     (subst (λ (r : ℕ). IsLegal last.config r limit last.history) g.run
     (subst (λ (l : ℕ). IsLegal last.config last.run l last.history) g.limit legal))
+
+pub run_for : (c : Config) (limit : ℕ) (last : Life) → Givens (life_at_first c limit) last → IsRun last.config last.run last.limit last.history → IsRun c c.run limit last.history
+run_for c limit last g is =
+    subst (λ (d : Config). IsRun d c.run limit last.history) g.config
+    (subst (λ (r : ℕ). IsRun last.config r limit last.history) g.run
+    (subst (λ (l : ℕ). IsRun last.config last.run l last.history) g.limit is))
 
 pub undone_for : (c : Config) (limit : ℕ) (last : Life) → Givens (life_at_first c limit) last → LeavesNothing last.config last.run last.history → LeavesNothing c c.run last.history
 undone_for c limit last g kept =

@@ -1,5 +1,6 @@
 pub mod Turning
 pub mod Same
+pub mod Idle
 pub mod Seats
 pub mod Onward
 pub mod Turned

@@ -8,6 +8,7 @@ use Rattle.poa_base.specs.declared.Head.{Head}
 use Rattle.poa_base.specs.declared.Reply.{Reply}
 use Rattle.poa_history.specs.Arrivals.{connections}
 use Rattle.poa_history.specs.Legal.{has_left, is_filled}
+use Rattle.poa_history.specs.Stages.{is_abandoned}
 use Rattle.poa_core.specs.Life.{Life, with_entry}
 use Rattle.poa_core.specs.Answers.{filled_at, filled_by, is_taken}
 use Rattle.giop_frame.specs.Stream.{Framed}
@@ -27,22 +28,24 @@ pub record Same (old new : Life) : Type 0 where
   pub opening : new.opening ≡ old.opening
   pub entered : connections new.history ≡ connections old.history
   pub left : (n : ℕ) → has_left new.history n ≡ has_left old.history n
+  pub going : (w : ℕ) → is_abandoned new.history w ≡ is_abandoned old.history w
 
--- the givens of the run alone
+-- the givens of the run, and who gave up
 pub record Givens (old new : Life) : Type 0 where
   pub config : new.config ≡ old.config
   pub run : new.run ≡ old.run
   pub limit : new.limit ≡ old.limit
   pub opening : new.opening ≡ old.opening
+  pub going : (w : ℕ) → is_abandoned new.history w ≡ is_abandoned old.history w
 
 pub givens_life : (life : Life) → Givens life life
-givens_life life = record { config = refl; run = refl; limit = refl; opening = refl }
+givens_life life = record { config = refl; run = refl; limit = refl; opening = refl; going = λ w. refl }
 
 pub givens_then : (a b c : Life) → Givens a b → Givens b c → Givens a c
-givens_then a b c p q = record { config = q.config ∙ p.config; run = q.run ∙ p.run; limit = q.limit ∙ p.limit; opening = q.opening ∙ p.opening }
+givens_then a b c p q = record { config = q.config ∙ p.config; run = q.run ∙ p.run; limit = q.limit ∙ p.limit; opening = q.opening ∙ p.opening; going = λ w. q.going w ∙ p.going w }
 
 pub same_givens : (old new : Life) → Same old new → Givens old new
-same_givens old new s = record { config = s.config; run = s.run; limit = s.limit; opening = s.opening }
+same_givens old new s = record { config = s.config; run = s.run; limit = s.limit; opening = s.opening; going = s.going }
 
 -- and the run is as full as it was
 pub record Still (old new : Life) : Type 0 where
@@ -50,7 +53,7 @@ pub record Still (old new : Life) : Type 0 where
   pub filled : filled_at new.history ≡ filled_at old.history
 
 pub same_life : (life : Life) → Same life life
-same_life life = record { config = refl; run = refl; limit = refl; opening = refl; entered = refl; left = λ n. refl }
+same_life life = record { config = refl; run = refl; limit = refl; opening = refl; entered = refl; left = λ n. refl; going = λ w. refl }
 
 pub same_then : (a b c : Life) → Same a b → Same b c → Same a c
 same_then a b c p q = record {
@@ -60,6 +63,7 @@ same_then a b c p q = record {
   opening = q.opening ∙ p.opening;
   entered = q.entered ∙ p.entered;
   left = λ n. q.left n ∙ p.left n;
+  going = λ w. q.going w ∙ p.going w;
 }
 
 pub still_life : (life : Life) → Still life life
@@ -76,7 +80,7 @@ pub still_made : (life : Life) (w : ℕ) (e : Entry) → Makes life w e → Stil
 still_made life w e m =
     let apart : IsApart e = turn_apart life.config life.run life.history w e m.next in
     record {
-      same = record { config = refl; run = refl; limit = refl; opening = refl; entered = apart.entered life.history; left = λ n. apart.left life.history n };
+      same = record { config = refl; run = refl; limit = refl; opening = refl; entered = apart.entered life.history; left = λ n. apart.left life.history n; going = λ v. apart.going life.history v };
       filled = apart.filled life.history;
     }
 
@@ -113,5 +117,5 @@ pub still_collects : (say : Head → Reply → List ℕ) (conn : ℕ) (life : Li
 still_collects say conn life text last (none_left a none) = still_life a
 still_collects say conn life text last (collects_on a b r reply rest next is more) =
     still_then a (with_entry (Collect conn r) a) b
-    (record { same = record { config = refl; run = refl; limit = refl; opening = refl; entered = refl; left = λ n. refl }; filled = refl })
+    (record { same = record { config = refl; run = refl; limit = refl; opening = refl; entered = refl; left = λ n. refl; going = λ w. refl }; filled = refl })
     (still_collects say conn (with_entry (Collect conn r) a) rest b more)

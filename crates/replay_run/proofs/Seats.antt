@@ -32,11 +32,11 @@ use Rattle.replay_run.proofs.Same.{Same, Still, Givens, same_givens, same_life, 
 -- a call changes neither the givens nor who is there
 same_filled : (b : Bool) (conn size : ℕ) (life : Life) → Same life (if b then life else with_entry (Filled conn size) life)
 same_filled true conn size life = same_life life
-same_filled false conn size life = record { config = refl; run = refl; limit = refl; opening = refl; entered = refl; left = λ n. refl }
+same_filled false conn size life = record { config = refl; run = refl; limit = refl; opening = refl; entered = refl; left = λ n. refl; going = λ w. refl }
 
 same_taken : (b : Bool) (conn : ℕ) (call : Call) (size : ℕ) (life : Life)
     → Same life (if b then with_entry (Arrive conn size call) life else filled_by conn size life)
-same_taken true conn call size life = record { config = refl; run = refl; limit = refl; opening = refl; entered = refl; left = λ n. refl }
+same_taken true conn call size life = record { config = refl; run = refl; limit = refl; opening = refl; entered = refl; left = λ n. refl; going = λ w. refl }
 same_taken false conn call size life = same_filled (is_filled life.history) conn size life
 
 pub same_call : (conn : ℕ) (call : Call) (size : ℕ) (life : Life) → Same life (after_call conn call size life)
@@ -124,7 +124,7 @@ moves_ended : (b : Bool) (conn : ℕ) (before : Talk) (text : List ℕ) (after :
     → Either b Stays (Leaves conn) before text after → Moves conn before after
 moves_ended true conn before text after s = rests_move conn before after (rests_stay before text after s)
 moves_ended false conn before text after s = moves_at conn before (left conn before) after s.1 (record {
-  givens = record { config = refl; run = refl; limit = refl; opening = refl };
+  givens = record { config = refl; run = refl; limit = refl; opening = refl; going = λ w. refl };
   number = refl;
   entered = refl;
   others = λ n other. left_other conn n before.life.history other;
@@ -296,6 +296,6 @@ open_still conn old new s is = record {
 }
 
 pub same_arrived : (conn : ℕ) (call : Call) (size : ℕ) (old new : Life) (answer : Result ℕ ArriveFault) → Arrives conn call size old answer new → Same old new
-same_arrived conn call size old new (Ok r) a = subst (λ (l : Life). Same old l) (sym a.2) (record { config = refl; run = refl; limit = refl; opening = refl; entered = refl; left = λ n. refl })
+same_arrived conn call size old new (Ok r) a = subst (λ (l : Life). Same old l) (sym a.2) (record { config = refl; run = refl; limit = refl; opening = refl; entered = refl; left = λ n. refl; going = λ w. refl })
 same_arrived conn call size old new (Err (arrive_fault.Limit calls bytes)) a = subst (λ (l : Life). Same old l) (sym a.1) (same_filled (is_filled old.history) conn size old)
 same_arrived conn call size old new (Err arrive_fault.WantMemory) a = subst (λ (l : Life). Same old l) (sym a.1) (same_life old)

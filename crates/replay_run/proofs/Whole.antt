@@ -11,6 +11,13 @@ use Rattle.replay_script.specs.declared.Script.{Script}
 use Rattle.replay_script.specs.declared.ScriptStep.{ScriptStep}
 use Rattle.replay_script.specs.declared.Step.{Step}
 use Rattle.replay_script.specs.declared.Step.TheVariants as step
+use Rattle.poa_base.specs.declared.Entry.{Entry}
+use Rattle.poa_base.specs.declared.Entry.TheVariants.{Collect}
+use Rattle.history_laws.specs.Undone.{AreIdle}
+use Rattle.history_openings.specs.Runs.{IsRun}
+use Rattle.poa_history.specs.Stages.{is_abandoned}
+use Rattle.poa_history.specs.Turns.{turn}
+use Rattle.replay_run.proofs.Idle.{idle_at_end}
 use Rattle.replay_run.specs.declared.channel.Channel.{Channel}
 use Rattle.replay_run.specs.declared.line.Line.{Line}
 use Rattle.replay_run.specs.declared.played.Full.{Full}
@@ -26,7 +33,7 @@ use Rattle.poa_base.specs.declared.Datum.{Datum}
 use Rattle.replay_run.specs.Asking.{asked}
 use Rattle.replay_run.specs.Reading.{Feeds}
 use Rattle.replay_run.proofs.Seats.{keeps_still}
-use Rattle.replay_run.proofs.Given.{plays_givens, legal_for, lifetime_for, undone_for, updates_for}
+use Rattle.replay_run.proofs.Given.{plays_givens, legal_for, run_for, lifetime_for, undone_for, updates_for}
 use Rattle.replay_run.proofs.Same.{Same, Still, Givens, givens_life, givens_then, same_givens, still_life, still_then, still_stays, still_settles, still_collects}
 
 -- a step of the workers
@@ -92,12 +99,18 @@ full_is a b at is = map_or a b ∙ ap (λ o. option_or o (option_map numbers b))
 pub is_played : (c : Config) (limit : ℕ) (script : Script) (answer : Played) (p q r : Player) (xs ys : List Channel)
     → IsAtFirst c limit p → AreFresh script.connections xs → Keeps q ys → Shows (PlaysAll script.steps) p q xs ys → Works (Then Rests (CollectsEach ys)) q r
     → answer.printed ≡ r.printed.items → answer.held ≡ unadmitted r.core.history → answer.full ≡ option_or r.filled r.turned_away
-    → IsLegal r.core.config r.core.run r.core.limit r.core.history → HasLifetime r.core.config r.core.run r.core.history
+    → ((c : Config) (run limit : ℕ) (h : List Entry) → IsRun c run limit h → (conn a w : ℕ) → turn c run (Collect conn a ∷ h) w ≡ turn c run h w)
+    → IsRun r.core.config r.core.run r.core.limit r.core.history → IsLegal r.core.config r.core.run r.core.limit r.core.history → HasLifetime r.core.config r.core.run r.core.history
     → LeavesNothing r.core.config r.core.run r.core.history → KeepsUpdates r.core.config r.core.run (opened r.core) r.core.history → IsPlayed c limit script answer
-is_played c limit script answer p q r xs ys first fresh keeps shows works printed held full legal lifetime undone updates =
+is_played c limit script answer p q r xs ys first fresh keeps shows works printed held full collecting runs legal lifetime undone updates =
     let still : Still q.core r.core = still_finished ys q.core works.text r.core works.does in
     let played : Givens p.core q.core = plays_givens script.steps (world p xs) shows.text (world q ys) shows.does in
     let givens : Givens (life_at_first c limit) r.core = subst (λ (l : Life). Givens l r.core) first.life (givens_then p.core q.core r.core played (same_givens q.core r.core still.same)) in
+    let is_run : IsRun c c.run limit r.core.history = run_for c limit r.core givens runs in
+    let idle : AreIdle c c.run r.core.history = idle_at_end c c.run limit
+    (λ h lawful conn a w. collecting c c.run limit h (record { accepted = is_run.accepted; numbered = is_run.numbered; limited = is_run.limited; legal = lawful }) conn a w)
+    ys q.core works.text r.core works.does (played.config ∙ ap (λ (l : Life). l.config) first.life) (played.run ∙ ap (λ (l : Life). l.run) first.life)
+    (λ w. played.going w ∙ ap (λ (l : Life). is_abandoned l.history w) first.life) is_run.legal in
     let filled : option_map numbers r.filled ≡ filled_at r.core.history =
     ap (λ o. option_map numbers o) works.filled ∙ (keeps.filled ∙ sym still.filled) in
     record {
@@ -115,6 +128,7 @@ is_played c limit script answer p q r xs ys first fresh keeps shows works printe
       legal = legal_for c limit r.core givens legal;
       lifetime = lifetime_for c limit r.core givens lifetime;
       undone = undone_for c limit r.core givens undone;
+      left = (undone_for c limit r.core givens undone).done idle;
       updates = updates_for c limit r.core givens updates;
       held = held;
       full = ap (λ o. option_map numbers o) full

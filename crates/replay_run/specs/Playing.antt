@@ -7,6 +7,7 @@ use Rattle.poa_base.specs.Store.{Slots, stored as stored_in}
 use Rattle.giop_frame.specs.Framer.{HasGiven}
 use Rattle.poa_history.specs.Legal.{IsLegal}
 use Rattle.poa_history.specs.Lifetime.{HasLifetime}
+use Rattle.history_laws.specs.Undone.{IsAllDone}
 use Rattle.history_laws.specs.Lasting.{KeepsUpdates, LeavesNothing}
 use Rattle.poa_history.specs.States.{stored}
 use Rattle.poa_journal.specs.Journal.{journal_text, store_text}
@@ -125,6 +126,8 @@ pub record IsPlayed (c : Config) (limit : ℕ) (script : Script) (answer : Playe
   pub legal : IsLegal c c.run limit last.history
   pub lifetime : HasLifetime c c.run last.history
   pub undone : LeavesNothing c c.run last.history
+  -- what the script leaves undone a manager in the state HOLDING holds back
+  pub left : IsAllDone c c.run last.history
   pub updates : KeepsUpdates c c.run (opened (life_at_first c limit)) last.history
   pub held : answer.held ≡ unadmitted last.history
   pub full : option_map numbers answer.full ≡ full_of last played.turned_away

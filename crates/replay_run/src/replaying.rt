@@ -4,6 +4,7 @@ ghost use Rattle.std.specs.Option.{option_or};
 ghost use Rattle.poa_history.specs.Legal.{IsLegal};
 ghost use Rattle.poa_history.specs.Lifetime.{HasLifetime};
 ghost use Rattle.history_laws.specs.Lasting.{KeepsUpdates, LeavesNothing};
+ghost use Rattle.history_openings.specs.Runs.{IsRun};
 ghost use Rattle.poa_core.specs.Life.{opened};
 ghost use Rattle.poa_core.specs.Answers.{unadmitted};
 ghost use Rattle.conf_rules.specs.Rules.{KeepsRules};
@@ -15,6 +16,7 @@ use crate::channel::{Channel, channels_of};
 use crate::line::Line;
 use crate::played::Played;
 use crate::player::Player;
+use history_openings::laws::collecting_changes_no_turn;
 use poa_base::{Bytes, Config, Store, WantMemory};
 use poa_core::Core;
 use replay_script::{Script, ScriptStep, Step};
@@ -39,6 +41,7 @@ pub fn replay(
     requires limit { (1 ≤ limit) × (limit ≤ 4000000) }
     ensures { IfOk result (λ played. IsPlayed config limit script.now played) }
 {
+    collecting_changes_no_turn();
     let mut player = player_of(alloc, config, limit)?;
     let mut channels = channels_of(alloc, script.connections.as_slice())?;
     player.play_all(alloc, &mut channels, script.steps.as_slice())?;
@@ -68,6 +71,7 @@ fn result_of(player: Player) -> Played
     ensures held { result.held ≡ unadmitted player.core.history }
     ensures full { result.full ≡ option_or player.filled player.turned_away }
     ensures legal { IsLegal player.core.config player.core.run player.core.limit player.core.history }
+    ensures runs { IsRun player.core.config player.core.run player.core.limit player.core.history }
     ensures lifetime { HasLifetime player.core.config player.core.run player.core.history }
     ensures undone { LeavesNothing player.core.config player.core.run player.core.history }
     ensures updates { KeepsUpdates player.core.config player.core.run (opened player.core) player.core.history }

@@ -23,4 +23,4 @@ returns c =
     let lent : c.deref.result.now ≡ ys = search rules in
     let works = subst (λ (cs : List Channel). Works (Then Rests (CollectsEach cs)) q r) lent c.in_ok-finish.ensures in
     is_played c.args.config c.args.limit c.args.script.now c.result_of.result p q r xs ys c.in_ok-player.ensures fresh c.in_ok-play_all.ensures.keeps shows works
-    c.result_of.ensures.printed c.result_of.ensures.held c.result_of.ensures.full c.result_of.ensures.legal c.result_of.ensures.lifetime c.result_of.ensures.undone c.result_of.ensures.updates
+    c.result_of.ensures.printed c.result_of.ensures.held c.result_of.ensures.full c.collecting_changes_no_turn.ensures c.result_of.ensures.runs c.result_of.ensures.legal c.result_of.ensures.lifetime c.result_of.ensures.undone c.result_of.ensures.updates

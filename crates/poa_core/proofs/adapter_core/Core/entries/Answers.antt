@@ -2,10 +2,16 @@ use Rattle.std.proofs.Common.{subst}
 use Rattle.poa_base.specs.Store.{stored as stored_in}
 use Rattle.poa_history.specs.Lifetime.{HasLifetime}
 use Rattle.history_laws.specs.Lasting.{KeepsUpdates, LeavesNothing}
+use Rattle.history_openings.specs.Runs.{IsRun}
 use Rattle.history_openings.proofs.Lasting.{keeps_updates, leaves_nothing}
 use Rattle.poa_core.specs.Life.{Life, opened}
 use Rattle.poa_core.specs.Agrees.{history}
 use Rattle.poa_core.proofs.adapter_core.Core.entries.Goals as goal
+
+pub returns-clause-runs : goal.returns-clause-runs
+returns-clause-runs c =
+    (let i = c.self.inside.inside in
+    subst (λ (l : Life). IsRun l.config l.run l.limit l.history) c.self.view_is c.self.invariant.agrees.runs)
 
 pub returns-clause-lifetime : goal.returns-clause-lifetime
 returns-clause-lifetime c =
