@@ -3,6 +3,7 @@ use Rattle.std.specs.Prelude.{◌≡◌, ◌≢◌, ℕ, ◌<◌, List, ◌++◌
 use Rattle.outside.specs.Keeping.{Contents}
 use Rattle.outside.specs.Told.{IfTold}
 use Rattle.poa_base.specs.declared.Config.{Config}
+use Rattle.poa_base.specs.declared.limits.TheConstants.{CALLS}
 use Rattle.replay_script.specs.declared.Script.{Script}
 use Rattle.replay_run.specs.declared.Full.{Full}
 use Rattle.replay_run.specs.declared.Played.{Played}
@@ -22,7 +23,7 @@ EndsPlay status held full = ⊥
 -- what the script prints was written
 pub record Writes (c : Config) (script : Script) (Ends : Played → Type 0) (Gains : List ℕ → List ℕ → List ℕ → Type 0) (held_old held_new : Option (List ℕ)) : Type 0 where
   pub played : Played
-  pub is : IsPlayed c 4000000 script played
+  pub is : IsPlayed c CALLS script played
   pub gave : IfTold held_old held_new (Gains played.printed)
   pub ends : Ends played
 
