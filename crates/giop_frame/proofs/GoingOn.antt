@@ -2,7 +2,7 @@
 use Rattle.std.proofs.Common.{◌≡◌, List, [], ◌++◌, ℕ, Option, Some, None, MatchOption, refl, subst, sym}
 use Rattle.giop_frame.specs.declared.why.Why.{Why}
 use Rattle.giop_frame.specs.Framing.{Framing}
-use Rattle.giop_frame.specs.Framer.{FramerGives, GoesOn}
+use Rattle.giop_frame.specs.Framer.{GoesOn}
 use Rattle.giop_frame.specs.Stream.{Framed, End, bad_place, StreamFrom}
 use Rattle.giop_frame.proofs.Streams.{some_stream}
 
