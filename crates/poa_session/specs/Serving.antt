@@ -1,5 +1,7 @@
 -- What each step of a session does.
 use Rattle.std.specs.Prelude.{◌≡◌, ℕ, ◌+◌, ◌^◌, ◌≤◌, ◌<◌, List, [], ◌∷◌, ◌++◌, length, true, false, Option, Some, None, IfSome, Result, Ok, Err}
+use Rattle.std.specs.declared.alloc.AllocError.{AllocError}
+use Rattle.poa_base.specs.declared.Call.{Call}
 use Rattle.poa_base.specs.declared.Entry.{Entry}
 use Rattle.poa_base.specs.declared.SessionEnd.{SessionEnd}
 use Rattle.poa_base.specs.declared.SessionEnd.TheVariants.{Ended, Shut, ReadFault, WriteFault, Truncated, InputLimit, Abandoned, WantMemory}
@@ -18,6 +20,8 @@ use Rattle.session_laws.specs.Expecting.{Expects}
 use Rattle.session_input.specs.Hearing.{Intake, OfIntake, StillHears}
 use Rattle.poa_session.specs.Growing.{Adds}
 use Rattle.poa_session.specs.Served.{DriesUp, IsDry}
+use Rattle.poa_session.specs.declared.progress.Progress.{Progress}
+use Rattle.poa_session.specs.declared.progress.Progress.TheVariants as progress
 use Rattle.poa_session.specs.declared.flow.Flow.{Flow}
 use Rattle.poa_session.specs.declared.flow.Flow.TheVariants.{On, Ends, Broke}
 
@@ -65,6 +69,17 @@ abbrev pub AsPaid : List Entry → ℕ → Result ℕ SessionEnd → List ℕ �
 AsPaid h c (Ok owed) due done = (done ≡ due) × (owed ≡ 0 → IsPaidBy h c)
 AsPaid h c (Err end) due done = BreaksOff h end due done
 
+-- the replies that are decided were given, and stand behind the bytes that stood before
+abbrev pub AsGathered : List Entry → ℕ → List ℕ → List ℕ → List ℕ → Result ℕ AllocError → Type 0
+AsGathered h c old due new (Ok owed) = (new ≡ old ++ due) × (owed ≡ 0 → IsPaidBy h c)
+AsGathered h c old due new (Err fault) = Unit {0}
+
+pub record Gathers (g : Givens) (c : ℕ) (v w : View Givens Entry) (old new : List ℕ) (result : Result ℕ AllocError) : Type 0 where
+  pub due : List ℕ
+  pub adds : Adds g c v w [] due
+  pub same : filling_by (past w) c ≡ filling_by (past v) c
+  pub gathered : AsGathered (past w) c old due new result
+
 pub record Pays (g : Givens) (c : ℕ) (v : View Givens Entry) (a : Shown) (w : View Givens Entry) (b : Shown) (result : Result ℕ SessionEnd) : Type 0 where
   pub due : List ℕ
   pub done : List ℕ
@@ -72,6 +87,19 @@ pub record Pays (g : Givens) (c : ℕ) (v : View Givens Entry) (a : Shown) (w : 
   pub moved : Moves a b [] done
   pub same : filling_by (past w) c ≡ filling_by (past v) c
   pub paid : AsPaid (past w) c result due done
+
+-- all that was owed is written; or the session breaks off
+abbrev pub AsPaidAll : List Entry → ℕ → Result (Unit {0}) SessionEnd → List ℕ → List ℕ → Type 0
+AsPaidAll h c (Ok done') due done = (done ≡ due) × IsPaidBy h c
+AsPaidAll h c (Err end) due done = BreaksOff h end due done
+
+pub record PaysAll (g : Givens) (c : ℕ) (v : View Givens Entry) (a : Shown) (w : View Givens Entry) (b : Shown) (result : Result (Unit {0}) SessionEnd) : Type 0 where
+  pub due : List ℕ
+  pub done : List ℕ
+  pub adds : Adds g c v w [] due
+  pub moved : Moves a b [] done
+  pub same : filling_by (past w) c ≡ filling_by (past v) c
+  pub paid : AsPaidAll (past w) c result due done
 
 -- a piece was taken in; or the session ends so, where so many bytes were left over before
 abbrev pub AsTaken : Intake → Intake → ℕ → List ℕ → Option (List ℕ) → Option SessionEnd → Type 0
@@ -136,13 +164,21 @@ pub record Converses (g : Givens) (peer : Peer) (c : ℕ) (v : View Givens Entry
   pub silent : is_late_by (past v) c ≡ true → calls ≡ []
   pub settled : arrived_by (past v) c ≡ [] → joined_by g (past v) c ≡ [] → filling_by (past v) c ≡ None → Settled g peer c w text out end b.left
 
+-- the call arrived; or it didn't, and the session may end so, where it was the next of what the peer sent
+abbrev pub AsArrived : Givens → ℕ → Call → ℕ → View Givens Entry → View Givens Entry → Progress → Type 0
+AsArrived g c call size v w progress.On = Adds g c v w (record { call = call; size = size } ∷ []) [] × (filling_by (past w) c ≡ filling_by (past v) c)
+AsArrived g c call size v w (progress.Waits have) = ⊥
+AsArrived g c call size v w (progress.Ends end) =
+    Adds g c v w [] []
+    × ((peer : Peer) (text : List ℕ) → filling_by (past v) c ≡ None → IsNext peer text (arrived_by (past v) c) size → MayEnd peer c w text end)
+
 -- the input may say more
 abbrev pub AsHeard : Peer → ℕ → View Givens Entry → Intake → View Givens Entry → Intake → Progress → Type 0
-AsHeard peer c v i w j On =
+AsHeard peer c v i w j progress.On =
     (filling_by (past w) c ≡ filling_by (past v) c)
     × ((text : List ℕ) → Expects peer (OfIntake i) text (arrived_by (past v) c) → Expects peer (OfIntake j) text (arrived_by (past w) c))
-AsHeard peer c v i w j (Waits have) = AsListened peer c v i w j (Ok have)
-AsHeard peer c v i w j (Ends end) = AsListened peer c v i w j (Err end)
+AsHeard peer c v i w j (progress.Waits have) = AsListened peer c v i w j (Ok have)
+AsHeard peer c v i w j (progress.Ends end) = AsListened peer c v i w j (Err end)
 
 pub record Hears (g : Givens) (peer : Peer) (c : ℕ) (v : View Givens Entry) (i : Intake) (w : View Givens Entry) (j : Intake) (result : Progress) : Type 0 where
   pub calls : List Heard

@@ -10,7 +10,7 @@ use Rattle.poa_history.specs.Legal.{IsLegal, MayFollow, is_filled}
 use Rattle.poa_history.specs.Stages.{is_abandoned}
 use Rattle.run_tally.specs.Leaving.{is_shut, is_shut_by}
 use Rattle.run_tally.specs.Limits.{filled_at}
-use Rattle.session_laws.specs.declared.Peer.{Peer}
+use Rattle.session_laws.specs.declared.peer.Peer.{Peer}
 use Rattle.session_laws.specs.Hearing.{Heard}
 use Rattle.session_laws.specs.Sessions.{CauseBy}
 

@@ -1,7 +1,7 @@
 -- What is heard of a peer so far, step by step.
 use Rattle.std.proofs.Common.{◌≡◌, ℕ, List, [], ◌∷◌, ◌++◌, refl, sym, subst, append_assoc, append-nil}
 use Rattle.poa_base.specs.declared.Call.{Call}
-use Rattle.session_laws.specs.declared.Peer.{Peer}
+use Rattle.session_laws.specs.declared.peer.Peer.{Peer}
 use Rattle.session_laws.specs.Hearing.{Heard, Stop}
 use Rattle.session_laws.specs.Sessions.{Hears, Begins, IsNext}
 use Rattle.session_laws.specs.Expecting.{Hearing, Expects, GoesOn}

@@ -3,7 +3,7 @@ use Rattle.std.proofs.Common.{◌≡◌, ℕ, zero, suc, ◌+◌, ◌<◌, ◌�
 use Rattle.std.proofs.lemmas.Bool.{cond_both, and_parts, not-true}
 use Rattle.text_words.specs.Cuts.{cut, onto, lacks, parts_of}
 use Rattle.text_words.proofs.Cutting.{cut-front, cut-alone}
-use Rattle.session_laws.specs.declared.Peer.TheVariants.{Administrator}
+use Rattle.session_laws.specs.declared.peer.Peer.TheVariants.{Administrator}
 use Rattle.session_laws.specs.Hearing.{Heard, Stop, over, bad}
 use Rattle.session_laws.specs.Lines.{calls_in, stop_in, is_long, is_spoken, spoken, without_return, HearsLinesFrom}
 use Rattle.session_laws.specs.Expecting.{Cutting, Expects, GoesOn, OfLines}
@@ -21,15 +21,20 @@ pub record HasParts (s : ℕ) (text : List ℕ) : Type 0 where
   pub more : List (List ℕ)
   pub parts : parts_of s text ≡ first ∷ more
 
-onto_some : (b : ℕ) (parts : List (List ℕ)) → (first : List ℕ) × (more : List (List ℕ)) × (onto b parts ≡ first ∷ more)
+-- parts that aren't none
+abbrev AreSome : List (List ℕ) → Type 0
+AreSome parts = (first : List ℕ) × (more : List (List ℕ)) × (parts ≡ first ∷ more)
+
+onto_some : (b : ℕ) (parts : List (List ℕ)) → AreSome (onto b parts)
 onto_some b [] = (b ∷ [], [], refl)
 onto_some b (w ∷ ws) = (b ∷ w, ws, refl)
 
+some_parts : (s : ℕ) (text : List ℕ) → AreSome (parts_of s text)
+some_parts s [] = ([], [], refl)
+some_parts s (b ∷ bs) = cond_both (b == s) ([] ∷ parts_of s bs) (onto b (parts_of s bs)) AreSome (λ _. ([], parts_of s bs, refl)) (λ _. onto_some b (parts_of s bs))
+
 pub has_parts : (s : ℕ) (text : List ℕ) → HasParts s text
-has_parts s [] = record { first = []; more = []; parts = refl }
-has_parts s (b ∷ bs) =
-    cond_both (b == s) ([] ∷ parts_of s bs) (onto b (parts_of s bs)) (λ ps. (first : List ℕ) × (more : List (List ℕ)) × (ps ≡ first ∷ more))
-    (λ _. ([], parts_of s bs, refl)) (λ _. onto_some b (parts_of s bs))
+has_parts s text = (let p = some_parts s text in record { first = p.0; more = p.1; parts = p.2 })
 
 -- bytes in front that have no s belong to the first part
 pub parts_behind : (s : ℕ) (a b : List ℕ) (first : List ℕ) (more : List (List ℕ)) → lacks s a ≡ true → parts_of s b ≡ first ∷ more → parts_of s (a ++ b) ≡ (a ++ first) ∷ more
@@ -112,25 +117,28 @@ module _ (l : Cutting) (raw rest text : List ℕ) (stands : l.unread ≡ raw ++ 
       → OfLines l text (spoken l.number (without_return raw) ++ calls) stop
   line_read calls stop short heard =
       let p = has_parts 10 (rest ++ text) in
-      let whole : parts_of 10 (l.unread ++ text) ≡ raw ∷ p.first ∷ p.more = parted ∙ ap (λ ps. raw ∷ ps) p.parts in
-      ( ap (λ cs. spoken l.number (without_return raw) ++ cs) (heard.0 ∙ ap (calls_in (suc l.number)) p.parts)
-        ∙ sym (ap (calls_in l.number) whole ∙ calls_short l.number raw p.first p.more short),
-        heard.1 ∙ ap (stop_in (l.place + length raw + 1)) p.parts ∙ sym (ap (stop_in l.place) whole ∙ stop_short l.place raw p.first p.more short) )
+      let whole : parts_of 10 (l.unread ++ text) ≡ raw ∷ p.first ∷ p.more = parted ∙ ap (λ ps. raw ∷ ps) p.parts in (
+        ap (λ cs. spoken l.number (without_return raw) ++ cs) (heard.0 ∙ ap (calls_in (suc l.number)) p.parts)
+            ∙ sym (ap (calls_in l.number) whole ∙ calls_short l.number raw p.first p.more short),
+        heard.1 ∙ ap (stop_in (l.place + length raw + 1)) p.parts ∙ sym (ap (stop_in l.place) whole ∙ stop_short l.place raw p.first p.more short),
+      )
 
   -- a whole line is too long
   pub line_long : is_long raw ≡ true → OfLines l text [] (bad l.place)
-  line_long long =
-      (sym (ap (calls_in l.number) parted ∙ calls_long l.number raw (parts_of 10 (rest ++ text)) long),
-       sym (ap (stop_in l.place) parted ∙ stop_long l.place raw (parts_of 10 (rest ++ text)) long))
+  line_long long = (
+    sym (ap (calls_in l.number) parted ∙ calls_long l.number raw (parts_of 10 (rest ++ text)) long),
+    sym (ap (stop_in l.place) parted ∙ stop_long l.place raw (parts_of 10 (rest ++ text)) long),
+  )
 
 -- a line that isn't whole yet is too long
 pub front_long : (l : Cutting) (text : List ℕ) → lacks 10 l.unread ≡ true → is_long l.unread ≡ true → OfLines l text [] (bad l.place)
 front_long l text clear long =
     let p = has_parts 10 text in
     let parted = parts_behind 10 l.unread text p.first p.more clear p.parts in
-    let still = stays_long l.unread p.first long in
-    (sym (ap (calls_in l.number) parted ∙ calls_long l.number (l.unread ++ p.first) p.more still),
-     sym (ap (stop_in l.place) parted ∙ stop_long l.place (l.unread ++ p.first) p.more still))
+    let still = stays_long l.unread p.first long in (
+      sym (ap (calls_in l.number) parted ∙ calls_long l.number (l.unread ++ p.first) p.more still),
+      sym (ap (stop_in l.place) parted ∙ stop_long l.place (l.unread ++ p.first) p.more still),
+    )
 
 -- no whole line is left
 pub lines_over : (l : Cutting) → lacks 10 l.unread ≡ true → is_long l.unread ≡ false → OfLines l [] [] (over (length l.unread))

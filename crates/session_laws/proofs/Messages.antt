@@ -10,7 +10,7 @@ use Rattle.giop_msg.specs.declared.Incoming.{Incoming}
 use Rattle.giop_msg.specs.declared.Incoming.TheVariants as incoming
 use Rattle.giop_msg.specs.declared.MsgFault.{MsgFault}
 use Rattle.giop_msg.specs.Call.{CallOf}
-use Rattle.session_laws.specs.declared.Peer.TheVariants.{Client}
+use Rattle.session_laws.specs.declared.peer.Peer.TheVariants.{Client}
 use Rattle.session_laws.specs.Hearing.{Heard, Stop, closed, over, bad, stop_at, HeardIn, HeardFrom, message_limit}
 use Rattle.session_laws.specs.Expecting.{Expects, GoesOn, OfFramer}
 
@@ -22,18 +22,20 @@ MessagesSay = (bytes : List ℕ) → (said : Result Incoming MsgFault) × CallOf
 abbrev pub FramerGoesOn : Framing → List ℕ → Type 0
 FramerGoesOn f text = (messages : List Framed) × (end : End) × FramerGives f text messages end
 
--- of any messages something is heard
-pub some_heard : MessagesSay → (ms : List Framed) (end : End) → (calls : List Heard) × (stop : Stop) × HeardIn ms end calls stop
+-- of these messages something is heard
+abbrev pub SomeHeard : List Framed → End → Type 0
+SomeHeard ms end = (calls : List Heard) × (stop : Stop) × HeardIn ms end calls stop
+
+heard_more : (m : Framed) (ms : List Framed) (end : End) → SomeHeard ms end → (said : Result Incoming MsgFault) → CallOf m.bytes said → SomeHeard (m ∷ ms) end
+heard_more m ms end rest (Ok (incoming.Call call)) is =
+    (record { call = call; size = length m.bytes } ∷ rest.0, rest.1, (Ok (incoming.Call call), is, (rest.0, refl, rest.2)))
+heard_more m ms end rest (Ok (incoming.Cancel id)) is = (rest.0, rest.1, (Ok (incoming.Cancel id), is, rest.2))
+heard_more m ms end rest (Ok incoming.Closing) is = ([], closed, (Ok incoming.Closing, is, (refl, refl)))
+heard_more m ms end rest (Err fault) is = ([], bad m.at, (Err fault, is, (refl, refl)))
+
+pub some_heard : MessagesSay → (ms : List Framed) (end : End) → SomeHeard ms end
 some_heard say [] end = ([], stop_at end, (refl, refl))
-some_heard say (m ∷ ms) end = by_said (say m.bytes).0 (say m.bytes).1
-  where
-    by_said : (said : Result Incoming MsgFault) → CallOf m.bytes said → (calls : List Heard) × (stop : Stop) × HeardIn (m ∷ ms) end calls stop
-    by_said (Ok (incoming.Call call)) is =
-        let rest = some_heard say ms end in
-        (record { call = call; size = length m.bytes } ∷ rest.0, rest.1, (Ok (incoming.Call call), is, (rest.0, refl, rest.2)))
-    by_said (Ok (incoming.Cancel id)) is = (let rest = some_heard say ms end in (rest.0, rest.1, (Ok (incoming.Cancel id), is, rest.2)))
-    by_said (Ok incoming.Closing) is = ([], closed, (Ok incoming.Closing, is, (refl, refl)))
-    by_said (Err fault) is = ([], bad m.at, (Err fault, is, (refl, refl)))
+some_heard say (m ∷ ms) end = heard_more m ms end (some_heard say ms end) (say m.bytes).0 (say m.bytes).1
 
 pub framer_goes_on : MessagesSay → (f : Framing) (text : List ℕ) → FramerGoesOn f text → GoesOn (OfFramer f) text
 framer_goes_on say f text on =

@@ -16,6 +16,10 @@ use Rattle.session_laws.specs.Records.{arrived_by, joined_by, reply_told, places
 not_of : (conn c : ℕ) → (Some conn ≡ Some c → ⊥) → (conn == c) ≡ false
 not_of conn c other = ne_eqb conn c (λ same. other (ap Some same))
 
+first_of : (a b : Bool) → (a && b) ≡ true → a ≡ true
+first_of true b is = refl
+first_of false b is = absurd (let e : false ≡ true = is in cc)
+
 -- an entry of another
 module _ (c : ℕ) (past : List Entry) where
   pub arrived_other : (e : Entry) → (owner_of e ≡ Some c → ⊥) → arrived_by (e ∷ past) c ≡ arrived_by past c
@@ -47,7 +51,7 @@ module _ (c : ℕ) (past : List Entry) where
       by_number (r == arrivals past)
     where
       by_number : (b : Bool) → (is_at c (if b then Some conn else conn_of past r) && asks (if b then Some call else call_of past r)) ≡ true → is_asked past c r ≡ true
-      by_number true is = absurd (let f : false ≡ true = (rw (sym (not_of conn c other)) is) in cc)
+      by_number true is = absurd (let f : false ≡ true = sym (not_of conn c other) ∙ first_of (conn == c) (asks (Some call)) is in cc)
       by_number false is = is
   asked_before e r other = λ is. is
 

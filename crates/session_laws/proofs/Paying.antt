@@ -15,25 +15,26 @@ use Rattle.poa_history.specs.Stages.{admitted, is_at}
 use Rattle.call_tables.proofs.Arrived.{admitted_arrived, decided_arrived}
 use Rattle.session_laws.specs.Records.{IsPaidBy}
 
+below_other : (r n : ℕ) → r < suc n → (r ≡ n → ⊥) → r < n
+below_other r n less apart = omega (arith, less, apart)
+
+option_none : (a b : Option ℕ) → option_or a b ≡ None → (a ≡ None) × (b ≡ None)
+option_none None b is = (refl, is)
+option_none (Some x) b is = absurd (let e : Some x ≡ None = is in cc)
+
+chosen_none : (b : Bool) (n : ℕ) → (if b then Some n else None) ≡ None → b ≡ false
+chosen_none true n is = absurd (let e : Some n ≡ None = is in cc)
+chosen_none false n is = refl
+
 -- a search that finds nothing passes over nothing
 least_none : (test : ℕ → Bool) (n r : ℕ) → test r ≡ true → r < n → least test n ≡ None → ⊥
 least_none test zero r passes less none = omega (arith, less)
-least_none test (suc n) r passes less none = by_first (least test n) refl none
-  where
-    by_last : (b : Bool) → test n ≡ b → (if b then Some n else None) ≡ None → least test n ≡ None → ⊥
-    by_last true is last first = (let e : Some n ≡ None = last in cc)
-    by_last false fails last first =
-        elim (r == n) as (λ b. (r == n) ≡ b → ⊥) [
-          | true ↦ (λ same. let at : r ≡ n = eqb-true r n same in let e : true ≡ false = sym passes ∙ ap test at ∙ fails in cc)
-          | false ↦ (λ other. let apart : r ≡ n → ⊥ = eqb-false r n other in least_none test n r passes (below r n less apart) first)
-        ] refl
-      where
-        below : (r n : ℕ) → r < suc n → (r ≡ n → ⊥) → r < n
-        below r n less apart = omega (arith, less, apart)
-
-    by_first : (o : Option ℕ) → least test n ≡ o → option_or o (if test n then Some n else None) ≡ None → ⊥
-    by_first None first is = by_last (test n) refl is first
-    by_first (Some k) first is = (let e : Some k ≡ None = is in cc)
+least_none test (suc n) r passes less none =
+    let parts = option_none (least test n) (if test n then Some n else None) none in
+    elim (r == n) as (λ b. (r == n) ≡ b → ⊥) [
+      | true ↦ (λ same. let at : r ≡ n = eqb-true r n same in let e : true ≡ false = sym passes ∙ (ap test at ∙ chosen_none (test n) n parts.1) in cc)
+      | false ↦ (λ other. least_none test n r passes (below_other r n less (eqb-false r n other)) parts.0)
+    ] refl
 
 -- a count of nothing has nothing
 none_counted : (test : ℕ → Bool) (n r : ℕ) → r < n → count_below test n ≡ 0 → test r ≡ false
@@ -66,10 +67,6 @@ first_of : (a b : Bool) → (a && b) ≡ true → a ≡ true
 first_of true b is = refl
 first_of false b is = absurd (let e : false ≡ true = is in cc)
 
-both_none : (a b : Option ℕ) → option_or a b ≡ None → (a ≡ None) × (b ≡ None)
-both_none None b is = (refl, is)
-both_none (Some x) b is = absurd (let e : Some x ≡ None = is in cc)
-
 all_hold : (a b x y : Bool) → a ≡ true → b ≡ false → x ≡ true → y ≡ false → (a && (not b && (x && not y))) ≡ true
 all_hold a b x y is_a is_b is_x is_y = rw (is_a, is_b, is_x, is_y) refl
 
@@ -95,25 +92,25 @@ module _ (c : Config) (run limit : ℕ) where
   next_found whole conn r asked left (e ∷ past) legal is none =
       elim (decided c run past r) as (λ b. decided c run past r ≡ b → ⊥) [
         | true ↦ (λ was. next_found whole conn r asked left past legal.1 was parts.0)
-        | false ↦ (λ wasn't. least_none (is_newly_decided c run whole conn e past) (arrivals past) r
-            (all_hold (is_asked whole conn r) (is_collected whole r) (decided c run (e ∷ past) r) (decided c run past r) asked left is wasn't)
-            (arrived_then e past r legal is wasn't) parts.1)
+        | false ↦ (λ fresh. least_none (is_newly_decided c run whole conn e past) (arrivals past) r
+            (all_hold (is_asked whole conn r) (is_collected whole r) (decided c run (e ∷ past) r) (decided c run past r) asked left is fresh)
+            (arrived_then e past r legal is fresh) parts.1)
       ] refl
     where
       parts : (next_within c run whole conn past ≡ None) × (least (is_newly_decided c run whole conn e past) (arrivals past) ≡ None)
-      parts = both_none (next_within c run whole conn past) (least (is_newly_decided c run whole conn e past) (arrivals past)) none
+      parts = option_none (next_within c run whole conn past) (least (is_newly_decided c run whole conn e past) (arrivals past)) none
 
   pub paid_when : (h : List Entry) (conn : ℕ) → IsLegal c run limit h → next_reply c run h conn ≡ None → owed c run h conn ≡ 0 → IsPaidBy h conn
   paid_when h conn legal none nothing = λ r asked. by_collected r asked (is_collected h r) refl
     where
       then_decided : (a b : Bool) → a ≡ true → (a && not b) ≡ false → b ≡ true
-      then_decided true true is no = refl
-      then_decided true false is no = absurd (let e : true ≡ false = no in cc)
-      then_decided false b is no = absurd (let e : false ≡ true = is in cc)
+      then_decided true true is fails = refl
+      then_decided true false is fails = absurd (let e : true ≡ false = fails in cc)
+      then_decided false b is fails = absurd (let e : false ≡ true = is in cc)
 
       by_collected : (r : ℕ) → is_asked h conn r ≡ true → (b : Bool) → is_collected h r ≡ b → b ≡ true
       by_collected r asked true is = refl
-      by_collected r asked false isn't =
-          absurd (next_found h conn r asked isn't h legal
+      by_collected r asked false left =
+          absurd (next_found h conn r asked left h legal
           (then_decided (is_asked h conn r) (decided c run h r) asked
           (none_counted (λ k. is_asked h conn k && not (decided c run h k)) (arrivals h) r (asked_arrived h conn r (first_of (is_at conn (conn_of h r)) (asks (call_of h r)) asked)) nothing)) none)

@@ -3,7 +3,7 @@ use Rattle.std.specs.Prelude.{◌≡◌, ℕ, List, [], ◌∷◌, ◌++◌}
 use Rattle.giop_frame.specs.Stream.{Framed, End}
 use Rattle.giop_frame.specs.Framing.{Framing}
 use Rattle.giop_frame.specs.Framer.{FramerGives}
-use Rattle.session_laws.specs.declared.Peer.{Peer}
+use Rattle.session_laws.specs.declared.peer.Peer.{Peer}
 use Rattle.session_laws.specs.Hearing.{Heard, Stop, HeardIn}
 use Rattle.session_laws.specs.Lines.{HearsLinesFrom}
 use Rattle.session_laws.specs.Sessions.{Hears}

@@ -10,10 +10,9 @@ use Rattle.run_history.specs.declared.Givens.{Givens}
 use Rattle.run_tally.specs.Leaving.{is_shut}
 use Rattle.run_tally.specs.Limits.{filled_at}
 use Rattle.seat_lock.specs.Histories.{IsPrefix}
-use Rattle.giop_msg.specs.declared.kind.TheConstants.{MINOR, CLOSE_CONNECTION, MESSAGE_ERROR}
 use Rattle.giop_msg.specs.Outgoing.{framed}
-use Rattle.session_laws.specs.declared.Peer.{Peer}
-use Rattle.session_laws.specs.declared.Peer.TheVariants.{Client, Administrator}
+use Rattle.session_laws.specs.declared.peer.Peer.{Peer}
+use Rattle.session_laws.specs.declared.peer.Peer.TheVariants.{Client, Administrator}
 use Rattle.session_laws.specs.Hearing.{Heard, Stop, closed, over, bad, HearsMessages}
 use Rattle.session_laws.specs.Lines.{HearsLines}
 use Rattle.session_laws.specs.Records.{arrived, arrived_by, joined_by, filling_by, IsPaidBy}
@@ -36,11 +35,18 @@ Input peer text calls (Malformed at) = Hears peer text calls (bad at)
 Input peer text calls (Truncated have) = Hears peer text calls (over have) × (0 < have)
 Input peer text calls end = Begins peer text calls
 
--- the message that closes a client's connection: CORBA 3.3 Part 2, 9.4.7 and 9.4.8
+-- MessageError and CloseConnection: CORBA 3.3 Part 2, 9.4.8 and 9.4.7
+abbrev pub message_error : List ℕ
+message_error = framed 2 6 false []
+
+abbrev pub close_connection : List ℕ
+close_connection = framed 2 5 false []
+
+-- the message that closes a client's connection
 abbrev pub closing_message : SessionEnd → List ℕ
-closing_message (Malformed at) = framed MINOR MESSAGE_ERROR false []
-closing_message Shut = framed MINOR CLOSE_CONNECTION false []
-closing_message (Limit calls bytes) = framed MINOR CLOSE_CONNECTION false []
+closing_message (Malformed at) = message_error
+closing_message Shut = close_connection
+closing_message (Limit calls bytes) = close_connection
 closing_message end = []
 
 -- an administrator's has none

@@ -4,7 +4,7 @@ ghost use Rattle.poa_base.specs.declared.Entry.{Entry};
 ghost use Rattle.poa_base.specs.declared.SessionEnd.{SessionEnd};
 ghost use Rattle.run_history.specs.declared.Givens.{Givens};
 ghost use Rattle.run_history.specs.Owners.{HasNone};
-ghost use Rattle.session_laws.specs.declared.Peer.{Peer};
+ghost use Rattle.session_laws.specs.declared.peer.Peer.{Peer};
 ghost use Rattle.session_laws.specs.Sessions.{Session};
 
 /// A session stays what it is while others make entries.
