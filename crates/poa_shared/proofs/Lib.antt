@@ -1,0 +1,4 @@
+mod Places
+mod Holding
+mod Made
+mod Taking
