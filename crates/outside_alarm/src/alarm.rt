@@ -1,44 +1,55 @@
-//! An alarm.
+//! What ends the wait of a reader.
+ghost use Rattle.std.specs.Prelude.{◌≡◌, true, false, IfOk};
+ghost use Rattle.outside_alarm.specs.Alarm.{is_silent};
+
 use mio::Waker;
 use std::alloc::{AllocError, Global};
 use std::sync::Arc;
 
-/// Ends the read of a link that waits, or else the next one that would: the ring is kept until then. Links in memory have
-/// a silent one, since their reads never wait. No clause speaks of waiting.
+/// Ends the read of a link that waits, or else the next one that would. A silent one ends none: it is of a
+/// link whose reads never wait.
 #[derive(Drop)]
 pub struct Alarm {
     waker: Option<Arc<Waker, Global>>,
 }
 
 impl Alarm {
-    /// An alarm that wakes whoever waits with this waker.
-    pub fn new(waker: Arc<Waker, Global>) -> Alarm {
+    /// The alarm of a reader that waits where this waker is heard.
+    pub fn new(waker: Arc<Waker, Global>) -> Self
+        ensures { is_silent result ≡ false }
+    {
         Alarm { waker: Some(waker) }
     }
 
     /// An alarm that nobody hears.
-    pub fn silent() -> Alarm {
+    pub fn silent() -> Self
+        ensures { is_silent result ≡ true }
+    {
         Alarm { waker: None }
     }
 
     /// Whether nobody hears it.
-    pub fn is_silent(&self) -> bool {
+    pub fn is_silent(&self) -> bool
+        ensures { result ≡ is_silent self.now }
+    {
         self.waker.is_none()
     }
 
-    /// Rings. Where that can't be done, who waits wakes by the time.
+    /// Ends the read that waits, or else the next that would. Where the system refuses that, the read goes on
+    /// until its own time is over.
     pub fn ring(&self) {
         if let Some(waker) = &self.waker {
             let _ = waker.wake();
         }
     }
 
-    /// The same alarm once more.
-    pub fn try_clone(&self) -> Result<Alarm, AllocError> {
-        let waker = match &self.waker {
-            Some(waker) => Some(Arc::try_clone(waker)?),
-            None => None,
+    /// The same alarm once more, for another who is to ring it.
+    pub fn try_clone(&self) -> Result<Self, AllocError>
+        ensures { IfOk result (λ copy. is_silent copy ≡ is_silent self.now) }
+    {
+        let Some(waker) = &self.waker else {
+            return Ok(Alarm::silent());
         };
-        Ok(Alarm { waker })
+        Ok(Alarm::new(Arc::try_clone(waker)?))
     }
 }

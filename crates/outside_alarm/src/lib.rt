@@ -1,6 +1,8 @@
-//! What ends a wait from outside: an alarm that any thread may ring.
+//! Alarms: what ends the wait of one who reads, from another thread.
 #![tactic(auto)]
 
 mod alarm;
+#[cfg(test)]
+mod tests;
 
 pub use alarm::Alarm;
