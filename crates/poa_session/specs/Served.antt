@@ -1,5 +1,5 @@
 -- How a connection was served, as the seat and the link show it.
-use Rattle.std.specs.Prelude.{◌≡◌, ℕ, ◌^◌, ◌≤◌, ◌⊎◌, List, [], ◌∷◌, ◌++◌, length, true, Option, Some, None, MatchOption}
+use Rattle.std.specs.Prelude.{◌≡◌, ℕ, ◌^◌, ◌≤◌, ◌⊎◌, List, [], ◌∷◌, ◌++◌, length, true, Some, MatchOption}
 use mathlib.Core.Option.{some}
 use lib.ListN.{get_elem?}
 use Rattle.poa_base.specs.declared.Entry.{Entry}
@@ -12,7 +12,7 @@ use Rattle.seat_lock.specs.Histories.{IsPrefix}
 use Rattle.seat_lock.specs.Steps.{Knows}
 use Rattle.seat_lock.specs.declared.view.View.{View}
 use Rattle.outside.specs.Cause.{Rose}
-use Rattle.outside.specs.Link.{Shown, Moves}
+use Rattle.outside.specs.Link.{Shown, Moves, IsDry}
 use Rattle.poa_shared.specs.Seen.{past}
 use Rattle.run_history.specs.declared.Givens.{Givens}
 use Rattle.run_history.specs.Owners.{owner_of}
@@ -22,20 +22,15 @@ use Rattle.session_laws.specs.Hearing.{Heard, closed}
 use Rattle.session_laws.specs.Records.{arrived, places, is_late}
 use Rattle.session_laws.specs.Sessions.{Cause, Hears, Session, closing}
 
--- nothing is left, where the link tells it
-abbrev pub IsDry : Option (List ℕ) → Type 0
-IsDry None = Unit {0}
-IsDry (Some left) = left ≡ []
-
 -- a CloseConnection was read
 abbrev pub IsClosed : Peer → List ℕ → Type 0
 IsClosed peer text = (calls : List Heard) × Hears peer text calls closed
 
 -- after Truncated, and after Ended without a CloseConnection, the link had nothing left
-abbrev pub DriesUp : Peer → List ℕ → SessionEnd → Option (List ℕ) → Type 0
-DriesUp peer text (Truncated have) left = IsDry left
-DriesUp peer text Ended left = IsClosed peer text ⊎ IsDry left
-DriesUp peer text end left = Unit {0}
+abbrev pub DriesUp : Peer → List ℕ → SessionEnd → Shown → Type 0
+DriesUp peer text (Truncated have) shown = IsDry shown
+DriesUp peer text Ended shown = IsClosed peer text ⊎ IsDry shown
+DriesUp peer text end shown = Unit {0}
 
 -- the connection c entered by the seat and has left: what was read and written is its session by all that the seat has seen,
 -- and the seat made its entries
@@ -50,7 +45,7 @@ pub record ServedAs (g : Givens) (peer : Peer) (v w : View Givens Entry) (a b : 
   pub cause : Cause peer stood c text end
   pub read_fault : end ≡ ReadFault → Rose a.read_faults b.read_faults
   pub write_fault : end ≡ WriteFault → Rose a.write_faults b.write_faults
-  pub dry : DriesUp peer text end b.left
+  pub dry : DriesUp peer text end b
   pub place : ℕ
   pub later : length v.seen ≤ place
   pub entered : get_elem? w.seen place ≡ some (Entered c)

@@ -8,7 +8,7 @@ use Rattle.poa_base.specs.declared.SessionEnd.TheVariants.{Ended, Shut, ReadFaul
 use Rattle.poa_history.specs.Stages.{is_abandoned}
 use Rattle.seat_lock.specs.Histories.{IsPrefix}
 use Rattle.seat_lock.specs.declared.view.View.{View}
-use Rattle.outside.specs.Link.{Shown, Moves}
+use Rattle.outside.specs.Link.{Shown, Moves, IsDry}
 use Rattle.run_history.specs.declared.Givens.{Givens}
 use Rattle.run_tally.specs.Leaving.{is_shut}
 use Rattle.poa_shared.specs.Seen.{Turns, past}
@@ -19,7 +19,7 @@ use Rattle.session_laws.specs.Sessions.{Begins, CauseBy, Input, IsNext, Output, 
 use Rattle.session_laws.specs.Expecting.{Expects}
 use Rattle.session_input.specs.Hearing.{Intake, OfIntake, StillHears}
 use Rattle.poa_session.specs.Growing.{Adds}
-use Rattle.poa_session.specs.Served.{DriesUp, IsDry}
+use Rattle.poa_session.specs.Served.{DriesUp}
 use Rattle.poa_session.specs.declared.progress.Progress.{Progress}
 use Rattle.poa_session.specs.declared.progress.Progress.TheVariants as progress
 use Rattle.poa_session.specs.declared.flow.Flow.{Flow}
@@ -49,7 +49,8 @@ AsListened peer c v i w j (Ok have) =
     (filling_by (past w) c ≡ filling_by (past v) c) × OfIntake j [] [] (over have)
     × ((text : List ℕ) → Expects peer (OfIntake i) text (arrived_by (past v) c) → Expects peer (OfIntake j) text (arrived_by (past w) c))
 AsListened peer c v i w j (Err end) =
-    (text : List ℕ) → filling_by (past v) c ≡ None → Expects peer (OfIntake i) text (arrived_by (past v) c) → MayEnd peer c w text end
+    (text : List ℕ) → filling_by (past v) c ≡ None → Expects peer (OfIntake i) text (arrived_by (past v) c)
+    → MayEnd peer c w text end × ((shown : Shown) → DriesUp peer text end shown)
 
 pub record Listens (g : Givens) (peer : Peer) (c : ℕ) (v : View Givens Entry) (i : Intake) (w : View Givens Entry) (j : Intake) (result : Result ℕ SessionEnd) : Type 0 where
   pub calls : List Heard
@@ -102,28 +103,29 @@ pub record PaysAll (g : Givens) (c : ℕ) (v : View Givens Entry) (a : Shown) (w
   pub paid : AsPaidAll (past w) c result due done
 
 -- a piece was taken in; or the session ends so, where so many bytes were left over before
-abbrev pub AsTaken : Intake → Intake → ℕ → List ℕ → Option (List ℕ) → Option SessionEnd → Type 0
-AsTaken i j have piece left None =
+abbrev pub AsTaken : Intake → Intake → ℕ → List ℕ → Shown → Option SessionEnd → Type 0
+AsTaken i j have piece shown None =
     (j.taken ≡ i.taken + length piece)
     × ((next : List ℕ) (more : List Heard) (stop : Stop) → OfIntake j next more stop → OfIntake i (piece ++ next) more stop)
-AsTaken i j have piece left (Some Ended) = (piece ≡ []) × (have ≡ 0) × IsDry left
-AsTaken i j have piece left (Some (Truncated bytes)) = (piece ≡ []) × (bytes ≡ have) × (0 < have) × IsDry left
-AsTaken i j have piece left (Some ReadFault) = piece ≡ []
-AsTaken i j have piece left (Some (InputLimit taken)) = (piece ≡ []) × (taken ≡ i.taken) × (taken ≡ 2 ^ 40)
-AsTaken i j have piece left (Some WantMemory) = i.taken + length piece ≤ 2 ^ 40
-AsTaken i j have piece left (Some end) = ⊥
+AsTaken i j have piece shown (Some Ended) = (piece ≡ []) × (have ≡ 0) × IsDry shown
+AsTaken i j have piece shown (Some (Truncated bytes)) = (piece ≡ []) × (bytes ≡ have) × (0 < have) × IsDry shown
+AsTaken i j have piece shown (Some ReadFault) = piece ≡ []
+AsTaken i j have piece shown (Some (InputLimit taken)) = (piece ≡ []) × (taken ≡ i.taken) × (taken ≡ 2 ^ 40)
+AsTaken i j have piece shown (Some WantMemory) = Unit {0}
+AsTaken i j have piece shown (Some end) = ⊥
 
 pub record Takes (i j : Intake) (have : ℕ) (a b : Shown) (result : Option SessionEnd) : Type 0 where
   pub piece : List ℕ
   pub moved : Moves a b piece []
-  pub taken : AsTaken i j have piece b.left result
+  pub few : i.taken ≤ 2 ^ 40 → i.taken + length piece ≤ 2 ^ 40
+  pub taken : AsTaken i j have piece b result
 
 -- the session goes on with more text; or it may end so; or what it wrote breaks off
-abbrev pub AsFlow : Peer → ℕ → View Givens Entry → Intake → List ℕ → List ℕ → List ℕ → Option (List ℕ) → Flow → Type 0
-AsFlow peer c w j text due done left On =
+abbrev pub AsFlow : Peer → ℕ → View Givens Entry → Intake → List ℕ → List ℕ → List ℕ → Shown → Flow → Type 0
+AsFlow peer c w j text due done shown On =
     (done ≡ due) × (filling_by (past w) c ≡ None) × (length text ≡ j.taken) × Expects peer (OfIntake j) text (arrived_by (past w) c)
-AsFlow peer c w j text due done left (Ends end) = (done ≡ due) × MayEnd peer c w text end × DriesUp peer text end left
-AsFlow peer c w j text due done left (Broke end) = BreaksOff (past w) end due done × Begins peer text (arrived_by (past w) c) × (filling_by (past w) c ≡ None)
+AsFlow peer c w j text due done shown (Ends end) = (done ≡ due) × MayEnd peer c w text end × DriesUp peer text end shown
+AsFlow peer c w j text due done shown (Broke end) = BreaksOff (past w) end due done × Begins peer text (arrived_by (past w) c) × (filling_by (past w) c ≡ None)
 
 -- one round of a session: calls arrived, replies were given and written, and a piece was read
 pub record Rounds (g : Givens) (peer : Peer) (c : ℕ) (v : View Givens Entry) (a : Shown) (i : Intake) (w : View Givens Entry) (b : Shown) (j : Intake) (flow : Flow) : Type 0 where
@@ -133,16 +135,16 @@ pub record Rounds (g : Givens) (peer : Peer) (c : ℕ) (v : View Givens Entry) (
   pub done : List ℕ
   pub adds : Adds g c v w calls due
   pub moved : Moves a b piece done
-  pub few : i.taken + length piece ≤ 2 ^ 40
+  pub few : i.taken ≤ 2 ^ 40 → i.taken + length piece ≤ 2 ^ 40
   pub silent : is_late_by (past v) c ≡ true → calls ≡ []
   pub flows : (text : List ℕ) → length text ≡ i.taken → filling_by (past v) c ≡ None → Expects peer (OfIntake i) text (arrived_by (past v) c)
-      → AsFlow peer c w j (text ++ piece) due done b.left flow
+      → AsFlow peer c w j (text ++ piece) due done b flow
 
 -- what a session that may end so has come to, where these bytes were written in the end
-pub record Settled (g : Givens) (peer : Peer) (c : ℕ) (w : View Givens Entry) (text out : List ℕ) (end : SessionEnd) (left : Option (List ℕ)) : Type 0 where
+pub record Settled (g : Givens) (peer : Peer) (c : ℕ) (w : View Givens Entry) (text out : List ℕ) (end : SessionEnd) (shown : Shown) : Type 0 where
   pub session : SessionBy g peer (past w) c text out end
   pub cause : CauseBy peer (past w) (arrived_by (past w) c) text end
-  pub dry : DriesUp peer text end left
+  pub dry : DriesUp peer text end shown
 
 -- everything that is owed is paid and the connection closed, where the end asks it
 pub record Settles (g : Givens) (peer : Peer) (c : ℕ) (v : View Givens Entry) (a : Shown) (w : View Givens Entry) (b : Shown) (end result : SessionEnd) : Type 0 where
@@ -150,7 +152,7 @@ pub record Settles (g : Givens) (peer : Peer) (c : ℕ) (v : View Givens Entry) 
   pub done : List ℕ
   pub adds : Adds g c v w [] due
   pub moved : Moves a b [] done
-  pub settled : (text : List ℕ) → MayEnd peer c v text end → DriesUp peer text end a.left → Settled g peer c w text (joined_by g (past v) c ++ done) result b.left
+  pub settled : (text : List ℕ) → MayEnd peer c v text end → DriesUp peer text end a → Settled g peer c w text (joined_by g (past v) c ++ done) result b
 
 -- the connection was served from its entering to the end of its session
 pub record Converses (g : Givens) (peer : Peer) (c : ℕ) (v : View Givens Entry) (a : Shown) (w : View Givens Entry) (b : Shown) (end : SessionEnd) : Type 0 where
@@ -162,7 +164,7 @@ pub record Converses (g : Givens) (peer : Peer) (c : ℕ) (v : View Givens Entry
   pub moved : Moves a b text out
   pub few : length text ≤ 2 ^ 40
   pub silent : is_late_by (past v) c ≡ true → calls ≡ []
-  pub settled : arrived_by (past v) c ≡ [] → joined_by g (past v) c ≡ [] → filling_by (past v) c ≡ None → Settled g peer c w text out end b.left
+  pub settled : arrived_by (past v) c ≡ [] → joined_by g (past v) c ≡ [] → filling_by (past v) c ≡ None → Settled g peer c w text out end b
 
 -- the call arrived; or it didn't, and the session may end so, where it was the next of what the peer sent
 abbrev pub AsArrived : Givens → ℕ → Call → ℕ → View Givens Entry → View Givens Entry → Progress → Type 0

@@ -1,5 +1,5 @@
 //! The lines of an administrator.
-ghost use Rattle.std.specs.Prelude.{◌≡◌, ◌+◌, ◌<◌, ◌≤◌, ◌^◌, ◌++◌, ◌∷◌, ℕ, List, [], length, take, drop, true, OnOk, OnErr, IfOk, IfSome, MatchOption};
+ghost use Rattle.std.specs.Prelude.{◌≡◌, ◌+◌, ◌<◌, ◌≤◌, ◌^◌, ◌++◌, ◌∷◌, ℕ, suc, List, [], length, take, drop, true, OnOk, OnErr, IfOk, IfSome, MatchOption};
 ghost use Rattle.text_words.specs.Cuts.{lacks};
 ghost use Rattle.session_laws.specs.Hearing.{Heard, Stop};
 ghost use Rattle.session_laws.specs.Lines.{is_long as is_long_line, is_spoken as is_spoken_line, without_return as without_return_of};
@@ -69,29 +69,29 @@ impl LineCutter {
         ensures reached { self.new.place + length self.new.unread ≤ self.old.place + length self.old.unread }
     {
         let unread = &self.bytes[self.start..];
-        let Some(length) = line_end(unread) else {
+        let Some(count) = line_end(unread) else {
             if is_long(unread) {
                 return Ok(Told::Bad { at: self.place });
             }
             let have = unread.len() as u64;
             return Ok(Told::More { have });
         };
-        let raw = &unread[..length];
+        let raw = &unread[..count];
         if is_long(raw) {
             return Ok(Told::Bad { at: self.place });
         }
         let told = speak(alloc, self.number, without_return(raw))?;
-        self.skip_line(length);
+        self.skip_line(count);
         Ok(told)
     }
 
-    /// Leaves a line of this length behind.
-    fn skip_line(&mut self, length: usize)
-        requires { length + 1 ≤ length self.old.unread }
-        ensures { self.new ≡ record { place = self.old.place + length + 1; number = self.old.number + 1; unread = drop (length + 1) self.old.unread } }
+    /// Leaves a line of so many bytes behind, and its LF.
+    fn skip_line(&mut self, count: usize)
+        requires { count + 1 ≤ length self.old.unread }
+        ensures { self.new ≡ record { place = self.old.place + count + 1; number = suc self.old.number; unread = drop (count + 1) self.old.unread } }
     {
-        self.start += length + 1;
-        self.place += length as u64 + 1;
+        self.start += count + 1;
+        self.place += count as u64 + 1;
         self.number += 1;
     }
 
