@@ -13,17 +13,6 @@ use Rattle.poa_core.proofs.Space.{stay_abandoned, stay_going}
 use Rattle.poa_core.proofs.Keeping.{kept_then}
 
 module _ (w : ℕ) (i : Inside) (kept : IsKept i) (low : w < 16) (going : is_abandoned (history i) w ≡ false) where
-  pub abandoned_quiet : IsQuiet (history i) (Abandon w) i
-  abandoned_quiet =
-      (let agrees = kept.agrees in let runs = agrees.runs in record {
-        follows = record { accepted = runs.accepted; numbered = runs.numbered; limited = runs.limited; legal = ((low, going), runs.legal) };
-        still = refl;
-        state = agrees.state;
-        tables = agrees.tables;
-        owed = agrees.owed;
-        left = record { which = agrees.filed.which; each = agrees.filed.each };
-      })
-
   pub abandoned_room : HasRoomForEntry (Abandon w) i
   abandoned_room =
       record {
@@ -38,10 +27,3 @@ module _ (w : ℕ) (i : Inside) (kept : IsKept i) (low : w < 16) (going : is_aba
   abandoned_kept new noted =
       kept_then 0 (Abandon w) i new noted refl
       (less_one (stay i.tables) (stay new.tables) (stay_abandoned (history i) w i.tables new.tables low going kept.agrees.tables noted.tables)) kept.space
-
--- one that gave up before changes nothing
-pub abandoned_same : (w : ℕ) (l : Life) → is_abandoned l.history w ≡ true → Abandons w l l
-abandoned_same w l is = ap (λ b. if b then l else with_entry (Abandon w) l) (sym is)
-
-pub abandoned_more : (w : ℕ) (l : Life) → is_abandoned l.history w ≡ false → Abandons w l (with_entry (Abandon w) l)
-abandoned_more w l is = ap (λ b. if b then l else with_entry (Abandon w) l) (sym is)

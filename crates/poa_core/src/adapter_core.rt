@@ -148,7 +148,7 @@ impl Core {
     pub fn phase(&self) -> Phase
         ensures { result ≡ phase_of self.now.history }
     {
-        run_tally::phase(&self.inside.tables.tally)
+        run_tally::phase_of(&self.inside.tables.tally)
     }
 
     /// The decided replies that aren't collected, in the order in which they are given.

@@ -97,7 +97,7 @@ fn phase_without(tally: &Tally) -> Phase
 }
 
 /// How far the run has come.
-pub fn phase(tally: &Tally) -> Phase
+pub fn phase_of(tally: &Tally) -> Phase
     ensures { (h : List Entry) → IsTally h tally.now → result ≡ phases.phase_of h }
 {
     match tally.given_up {
