@@ -1,21 +1,25 @@
 -- What each step of a session does.
-use Rattle.std.specs.Prelude.{◌≡◌, ℕ, ◌+◌, ◌^◌, ◌≤◌, ◌<◌, List, [], ◌∷◌, ◌++◌, length, true, false, Option, Some, None, IfSome, Result, Ok, Err}
+use Rattle.std.specs.Prelude.{◌≡◌, ℕ, ◌+◌, ◌^◌, ◌≤◌, ◌<◌, ◌⊎◌, List, [], ◌∷◌, ◌++◌, length, true, false, Option, Some, None, IfSome, Result, Ok, Err}
 use Rattle.std.specs.declared.alloc.AllocError.{AllocError}
 use Rattle.poa_base.specs.declared.Call.{Call}
 use Rattle.poa_base.specs.declared.Entry.{Entry}
+use Rattle.poa_base.specs.declared.Session.{Session}
 use Rattle.poa_base.specs.declared.SessionEnd.{SessionEnd}
-use Rattle.poa_base.specs.declared.SessionEnd.TheVariants.{Ended, Shut, ReadFault, WriteFault, Truncated, InputLimit, Abandoned, WantMemory}
+use Rattle.poa_base.specs.declared.SessionEnd.TheVariants.{Ended, Shut, ReadFault, WriteFault, Truncated, InputLimit, Limit, Abandoned, WantMemory}
 use Rattle.poa_history.specs.Stages.{is_abandoned}
 use Rattle.seat_lock.specs.Histories.{IsPrefix}
 use Rattle.seat_lock.specs.declared.view.View.{View}
+use Rattle.outside.specs.Cause.{Rose}
 use Rattle.outside.specs.Link.{Shown, Moves, IsDry}
 use Rattle.run_history.specs.declared.Givens.{Givens}
 use Rattle.run_tally.specs.Leaving.{is_shut}
+use Rattle.poa_core.specs.declared.EnterFault.{EnterFault}
+use Rattle.poa_core.specs.declared.EnterFault.TheVariants as enter_fault
 use Rattle.poa_shared.specs.Seen.{Turns, past}
 use Rattle.session_laws.specs.declared.Peer.{Peer}
 use Rattle.session_laws.specs.Hearing.{Heard, Stop, over}
 use Rattle.session_laws.specs.Records.{arrived_by, joined_by, filling_by, is_late_by, IsPaidBy}
-use Rattle.session_laws.specs.Sessions.{Begins, CauseBy, Input, IsNext, Output, SessionBy}
+use Rattle.session_laws.specs.Sessions.{Begins, CauseBy, Input, IsNext, SessionBy, closing}
 use Rattle.session_laws.specs.Expecting.{Expects}
 use Rattle.session_input.specs.Hearing.{Intake, OfIntake, StillHears}
 use Rattle.poa_session.specs.Growing.{Adds}
@@ -101,6 +105,12 @@ pub record PaysAll (g : Givens) (c : ℕ) (v : View Givens Entry) (a : Shown) (w
   pub moved : Moves a b [] done
   pub same : filling_by (past w) c ≡ filling_by (past v) c
   pub paid : AsPaidAll (past w) c result due done
+
+-- at the end of an input so many bytes are left over
+abbrev pub EndsAt : ℕ → SessionEnd → Type 0
+EndsAt have Ended = have ≡ 0
+EndsAt have (Truncated bytes) = (bytes ≡ have) × (0 < have)
+EndsAt have end = ⊥
 
 -- a piece was taken in; or the session ends so, where so many bytes were left over before
 abbrev pub AsTaken : Intake → Intake → ℕ → List ℕ → Shown → Option SessionEnd → Type 0
@@ -188,3 +198,15 @@ pub record Hears (g : Givens) (peer : Peer) (c : ℕ) (v : View Givens Entry) (i
   pub heard : AsHeard peer c v i w j result
   pub taken : j.taken ≡ i.taken
 
+
+-- how a session ends that couldn't begin
+abbrev pub refusal : EnterFault → SessionEnd
+refusal (enter_fault.Limit conns calls bytes) = Limit calls bytes
+refusal enter_fault.WantMemory = WantMemory
+
+-- a link is closed whose connection couldn't enter
+pub record TurnsAway (peer : Peer) (fault : EnterFault) (a b : Shown) (session : Session) : Type 0 where
+  pub out : List ℕ
+  pub moved : Moves a b [] out
+  pub whole : (out ≡ closing peer (refusal fault)) ⊎ (IsPrefix out (closing peer (refusal fault)) × Rose a.write_faults b.write_faults)
+  pub is : session ≡ record { conn = None; end = refusal fault }

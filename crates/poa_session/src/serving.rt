@@ -5,6 +5,7 @@ ghost use Rattle.run_history.specs.declared.Givens.{Givens};
 ghost use Rattle.session_laws.specs.declared.Peer.TheVariants as peers;
 ghost use Rattle.poa_shared.specs.Seats.{IsIdle};
 ghost use Rattle.poa_session.specs.Served.{Served};
+ghost use Rattle.poa_session.specs.Serving.{TurnsAway, refusal as refusal_of};
 
 use crate::closing::close;
 use crate::conversing::converse;
@@ -79,10 +80,17 @@ fn serve<R: Wait, L: Link>(
 fn turn_away<L: Link>(link: &mut L, peer: Peer, fault: EnterFault) -> Session
     ensures { TurnsAway peer fault (L.shown link.old) (L.shown link.new) result }
 {
-    let end = match fault {
-        EnterFault::Limit { arrivals, bytes, .. } => SessionEnd::Limit { arrivals, bytes },
-        EnterFault::WantMemory => SessionEnd::WantMemory,
-    };
+    let end = refusal(fault);
     close(link, peer, end);
     Session { conn: None, end }
+}
+
+// How a session ends that couldn't begin.
+fn refusal(fault: EnterFault) -> SessionEnd
+    ensures { result ≡ refusal_of fault }
+{
+    match fault {
+        EnterFault::Limit { arrivals, bytes, .. } => SessionEnd::Limit { arrivals, bytes },
+        EnterFault::WantMemory => SessionEnd::WantMemory,
+    }
 }

@@ -1,8 +1,9 @@
 //! Bytes from a link.
 ghost use Rattle.std.specs.Prelude.{◌≡◌, ◌<◌, ◌≢◌, length, Some};
 ghost use Rattle.outside.specs.Cause.{HasCause};
-ghost use Rattle.session_input.specs.Hearing.{OfIntake};
-ghost use Rattle.poa_session.specs.Serving.{Reads, Takes};
+ghost use Rattle.outside.specs.Link.{IsRead};
+ghost use Rattle.outside.specs.Reading.{IsWithin};
+ghost use Rattle.poa_session.specs.Serving.{EndsAt, Takes};
 
 use outside::{Link, Took};
 use poa_base::SessionEnd;
@@ -45,7 +46,9 @@ pub(crate) fn take_in<L: Link>(
 fn read_front<L: Link>(link: &mut L, buffer: &mut [u8], most: u64) -> Took
     requires some { 0 < length buffer.old }
     requires allowed { 0 < most }
-    ensures reads { Reads most result buffer.new (L.shown link.old) (L.shown link.new) }
+    ensures within { IsWithin result (length buffer.old) }
+    ensures most { IsWithin result most }
+    ensures bytes { IsRead result buffer.new (L.shown link.old) (L.shown link.new) }
     ensures failed { HasCause (L.shown link.old).read_faults (L.shown link.new).read_faults (result ≡ Took.Failed) }
     ensures buffer { length buffer.new ≡ length buffer.old }
 {
@@ -55,7 +58,7 @@ fn read_front<L: Link>(link: &mut L, buffer: &mut [u8], most: u64) -> Took
 
 // How a session ends at the end of its input, where so many bytes are left over.
 fn ended(have: u64) -> SessionEnd
-    ensures { result ≡ ended_by have }
+    ensures { EndsAt have result }
 {
     match have {
         0 => SessionEnd::Ended,

@@ -1,5 +1,5 @@
 -- What the answers of a framer and of a message say of what is to be heard.
-use Rattle.std.proofs.Common.{◌≡◌, ℕ, suc, ◌+◌, ◌<◌, ◌≤◌, Bool, true, false, List, [], ◌∷◌, ◌++◌, length, take, drop, Ok, Err, refl, sym, ap, subst, ◌∙◌, append_assoc, arith}
+use Rattle.std.proofs.Common.{◌≡◌, ℕ, suc, ◌+◌, ◌<◌, ◌≤◌, Bool, true, false, List, [], ◌∷◌, ◌++◌, length, take, drop, Result, Ok, Err, OnOk, IfOk, refl, sym, ap, subst, ◌∙◌, append_assoc, arith}
 use Rattle.giop_frame.specs.declared.Next.TheVariants as next
 use Rattle.giop_frame.specs.Stream.{Framed, left_over}
 use Rattle.giop_frame.specs.Framing.{Framing}
@@ -46,3 +46,11 @@ told_line l raw rest told.Nothing stands clear short speaks =
 told_line l raw rest (told.More have) stands clear short speaks = absurd speaks
 told_line l raw rest told.Closed stands clear short speaks = absurd speaks
 told_line l raw rest (told.Bad at) stands clear short speaks = absurd speaks
+
+pub on_ok : {T E : Type 0} (r : Result T E) (P Q : Type 0) → (P → Q) → OnOk r P → OnOk r Q
+on_ok (Ok x) P Q f p = f p
+on_ok (Err e) P Q f p = p
+
+pub if_ok : {T E : Type 0} (r : Result T E) (P Q : T → Type 0) → ((x : T) → P x → Q x) → IfOk r P → IfOk r Q
+if_ok (Ok x) P Q f p = f x p
+if_ok (Err e) P Q f p = p

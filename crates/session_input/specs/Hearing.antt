@@ -1,6 +1,5 @@
 -- What is read of a peer, piece by piece.
-use Rattle.std.specs.Prelude.{◌≡◌, ℕ, ◌+◌, true, List, [], ◌∷◌, ◌++◌, length, take, drop, Ok, Err}
-use Rattle.text_words.specs.Cuts.{lacks}
+use Rattle.std.specs.Prelude.{◌≡◌, ℕ, ◌+◌, List, [], ◌∷◌, ◌++◌, length, Ok, Err}
 use Rattle.giop_frame.specs.Stream.{Framed}
 use Rattle.giop_msg.specs.declared.Incoming.TheVariants as incoming
 use Rattle.giop_msg.specs.declared.MsgFault.{MsgFault}
@@ -59,11 +58,6 @@ Asks m told.Nothing = (id : ℕ) × CallOf m.bytes (Ok (incoming.Cancel id))
 Asks m (told.More have) = ⊥
 Asks m told.Closed = CallOf m.bytes (Ok incoming.Closing)
 Asks m (told.Bad at) = (at ≡ m.at) × (fault : MsgFault) × CallOf m.bytes (Err fault)
-
--- the first line of a text has this length
-pub record IsLineOf (n : ℕ) (text : List ℕ) : Type 0 where
-  pub clear : lacks 10 (take n text) ≡ true
-  pub ends : text ≡ take n text ++ 10 ∷ drop (n + 1) text
 
 -- what an answer says of a line of this number
 abbrev pub Speaks : ℕ → List ℕ → Told → Type 0

@@ -4,7 +4,7 @@ ghost use Rattle.text_words.specs.Cuts.{lacks};
 ghost use Rattle.session_laws.specs.Hearing.{Heard, Stop};
 ghost use Rattle.session_laws.specs.Lines.{is_long as is_long_line, is_spoken as is_spoken_line, without_return as without_return_of};
 ghost use Rattle.session_laws.specs.Expecting.{OfLines};
-ghost use Rattle.session_input.specs.Hearing.{AsTold, IsLineOf, Speaks};
+ghost use Rattle.session_input.specs.Hearing.{AsTold, Speaks};
 
 use crate::told::Told;
 use admin_line::read_line;
@@ -68,21 +68,28 @@ impl LineCutter {
         ensures told { IfOk result (λ t. AsTold t (OfLines self.old) (OfLines self.new)) }
         ensures reached { self.new.place + length self.new.unread ≤ self.old.place + length self.old.unread }
     {
-        let unread = &self.bytes[self.start..];
-        let Some(count) = line_end(unread) else {
+        let unread = self.unread();
+        let Some((raw, _)) = split_line(unread) else {
             if is_long(unread) {
                 return Ok(Told::Bad { at: self.place });
             }
             let have = unread.len() as u64;
             return Ok(Told::More { have });
         };
-        let raw = &unread[..count];
         if is_long(raw) {
             return Ok(Told::Bad { at: self.place });
         }
+        let count = raw.len();
         let told = speak(alloc, self.number, without_return(raw))?;
         self.skip_line(count);
         Ok(told)
+    }
+
+    /// The bytes that were fed and not read.
+    fn unread(&self) -> &[u8]
+        ensures { result.now ≡ self.now.unread }
+    {
+        &self.bytes[self.start..]
     }
 
     /// Leaves a line of so many bytes behind, and its LF.
@@ -90,8 +97,9 @@ impl LineCutter {
         requires { count + 1 ≤ length self.old.unread }
         ensures { self.new ≡ record { place = self.old.place + count + 1; number = suc self.old.number; unread = drop (count + 1) self.old.unread } }
     {
-        self.start += count + 1;
-        self.place += count as u64 + 1;
+        let end = self.start + count;
+        self.start = end + 1;
+        self.place = self.place + count as u64 + 1;
         self.number += 1;
     }
 
@@ -108,13 +116,14 @@ impl LineCutter {
     }
 }
 
-// The length of the first line, without its LF. None where no LF has come.
-fn line_end(text: &[u8]) -> Option<usize>
-    ensures { MatchOption result (lacks 10 text.now ≡ true) (λ n. IsLineOf n text.now) }
+// The first line, without its LF, and what stands behind that. None where no LF has come.
+fn split_line(text: &[u8]) -> Option<(&[u8], &[u8])>
+    ensures clear { IfSome result (λ x. lacks 10 x.0.now ≡ true) }
+    ensures parts { MatchOption result (lacks 10 text.now ≡ true) (λ x. text.now ≡ x.0.now ++ 10 ∷ x.1.now) }
 {
     for (i, byte) in text.iter().enumerate() {
         if *byte == b'\n' {
-            return Some(i);
+            return Some((&text[..i], &text[i + 1..]));
         }
     }
     None

@@ -1,5 +1,5 @@
 -- What an administrator's lines say of what is still to be heard.
-use Rattle.std.proofs.Common.{◌≡◌, ℕ, zero, suc, ◌+◌, ◌<◌, ◌≤◌, ◌==◌, nat_lt, Bool, true, false, not, if◌then◌else◌, List, [], ◌∷◌, ◌++◌, length, length-append, refl, sym, ap, subst, ◌∙◌, append_assoc, append-nil, arith, lt-ltb, ltb-true, eq-eqb, ne_eqb}
+use Rattle.std.proofs.Common.{◌≡◌, ℕ, zero, suc, ◌+◌, ◌<◌, ◌≤◌, ◌==◌, nat_lt, Bool, true, false, not, if◌then◌else◌, List, [], ◌∷◌, ◌++◌, ◌-◌, min, length, length-append, refl, sym, ap, subst, ◌∙◌, append_assoc, append-nil, arith, lt-ltb, ltb-true, slice_index, take, length-take}
 use Rattle.std.proofs.lemmas.Bool.{cond_both, and_parts, not-true}
 use Rattle.text_words.specs.Cuts.{cut, onto, lacks, parts_of}
 use Rattle.text_words.proofs.Cutting.{cut-front, cut-alone}
@@ -45,25 +45,14 @@ parts_behind s (c ∷ cs) b first more clear parts =
 
 -- the CR that may end a line is one byte
 pub return_is_one : (raw : List ℕ) → length raw ≤ length (without_return raw) + 1
-return_is_one [] = omega arith
-return_is_one (b ∷ []) = cond_both (b == 13) [] (b ∷ []) (λ x. 1 ≤ length x + 1) (λ _. omega arith) (λ _. omega arith)
-return_is_one (b ∷ c ∷ bs) = (let rest = return_is_one (c ∷ bs) in omega (arith, rest))
+return_is_one raw =
+    cond_both (slice_index raw (length raw - 1) == 13) (take (length raw - 1) raw) raw (λ x. length raw ≤ length x + 1)
+    (λ _. (let short = length-take (length raw - 1) raw in omega (arith, short))) (λ _. omega arith)
 
 pub return_drops : (raw : List ℕ) → length (without_return raw) ≤ length raw
-return_drops [] = omega arith
-return_drops (b ∷ []) = cond_both (b == 13) [] (b ∷ []) (λ x. length x ≤ 1) (λ _. omega arith) (λ _. omega arith)
-return_drops (b ∷ c ∷ bs) = (let rest = return_drops (c ∷ bs) in omega (arith, rest))
-
--- the last byte of a line, where it is a CR and where it isn't
-pub return_dropped : (front : List ℕ) (b : ℕ) → b ≡ 13 → without_return (front ++ b ∷ []) ≡ front
-return_dropped [] b is = rw (eq-eqb b 13 is) refl
-return_dropped (c ∷ []) b is = ap (λ bs. c ∷ bs) (return_dropped [] b is)
-return_dropped (c ∷ d ∷ ds) b is = ap (λ bs. c ∷ bs) (return_dropped (d ∷ ds) b is)
-
-pub return_kept : (front : List ℕ) (b : ℕ) → (b ≡ 13 → ⊥) → without_return (front ++ b ∷ []) ≡ front ++ b ∷ []
-return_kept [] b other = rw (ne_eqb b 13 other) refl
-return_kept (c ∷ []) b other = ap (λ bs. c ∷ bs) (return_kept [] b other)
-return_kept (c ∷ d ∷ ds) b other = ap (λ bs. c ∷ bs) (return_kept (d ∷ ds) b other)
+return_drops raw =
+    cond_both (slice_index raw (length raw - 1) == 13) (take (length raw - 1) raw) raw (λ x. length x ≤ length raw)
+    (λ _. (let short = length-take (length raw - 1) raw in omega (arith, short))) (λ _. omega arith)
 
 -- what is too long stays so, whatever follows
 pub stays_long : (raw more : List ℕ) → is_long raw ≡ true → is_long (raw ++ more) ≡ true

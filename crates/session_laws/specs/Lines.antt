@@ -1,5 +1,5 @@
 -- What is heard of an administrator: the commands of its lines, up to one that is too long.
-use Rattle.std.specs.Prelude.{◌≡◌, ℕ, suc, ◌+◌, ◌==◌, nat_lt, not, Bool, false, if◌then◌else◌, List, [], ◌∷◌, ◌++◌, length}
+use Rattle.std.specs.Prelude.{◌≡◌, ℕ, suc, ◌+◌, ◌==◌, nat_lt, not, Bool, false, if◌then◌else◌, List, [], ◌∷◌, ◌++◌, ◌-◌, length, slice_index, take}
 use Rattle.poa_base.specs.declared.Call.TheVariants.{Line}
 use Rattle.text_words.specs.Cuts.{parts_of}
 use Rattle.admin_line.specs.Reading.{command_of_line}
@@ -7,9 +7,7 @@ use Rattle.session_laws.specs.Hearing.{Heard, Stop, over, bad}
 
 -- a line without the CR that may end it
 abbrev pub without_return : List ℕ → List ℕ
-without_return [] = []
-without_return (b ∷ []) = if b == 13 then [] else b ∷ []
-without_return (b ∷ bs) = b ∷ without_return bs
+without_return raw = if slice_index raw (length raw - 1) == 13 then take (length raw - 1) raw else raw
 
 -- neither empty nor a comment
 abbrev pub is_spoken : List ℕ → Bool
