@@ -1,14 +1,13 @@
 -- Each call of the core makes at most one entry, which its seat may make.
-use Rattle.std.proofs.Common.{◌≡◌, ℕ, Bool, true, false, if◌then◌else◌, List, reverse, refl, sym, ap, subst, ◌∙◌, inl, inr, ◌⊎◌}
+use Rattle.std.proofs.Common.{◌∷◌, length, arith, ◌≡◌, ℕ, true, false, if◌then◌else◌, reverse, refl, sym, ap, subst, ◌∙◌, inl, inr, ◌⊎◌}
 use Rattle.poa_history.specs.Arrivals.{connections}
-use Rattle.std.specs.Prelude.{Result, Ok, Err, Some, None}
+use Rattle.std.specs.Prelude.{Result, Ok, Err, None}
 use Rattle.std.specs.declared.alloc.AllocError.{AllocError}
 use Rattle.poa_base.specs.declared.Call.{Call}
 use Rattle.poa_base.specs.declared.Entry.{Entry}
 use Rattle.poa_base.specs.declared.Entry.TheVariants.{Entered, Arrive, Filled, Left, Collect, Admit, Tried, Incarnated, Run, Done, TakeOut, Etherealized, Abandon}
 use Rattle.poa_history.specs.Legal.{is_filled}
 use Rattle.poa_history.specs.Stages.{is_abandoned}
-use Rattle.poa_history.specs.Turns.{turn}
 use Rattle.adapter_state.specs.State.{is_turn}
 use Rattle.seat_lock.specs.declared.view.View.{View}
 use Rattle.seat_lock.specs.Histories.{MayMake}
@@ -89,3 +88,19 @@ module _ (v : View Givens Entry) (x y : Life) where
 
     pub leaves_made : (conn : ℕ) → Owns v conn → y ≡ with_entry (Left conn) x → IsMade v x y
     leaves_made conn owns s = inr (Left conn, s, may_own v x.history k conn (Left conn) owns refl)
+
+-- what isn't a leaving doesn't make a connection leave
+not_longer : (x : Life) (e : Entry) → x ≡ with_entry e x → ⊥
+not_longer x e is = (let long : length x.history ≡ length (e ∷ x.history) = ap (λ (l : Life). length l.history) is in omega (arith, long))
+
+not_both : (x y : Life) (d e : Entry) → y ≡ with_entry d x → y ≡ with_entry e x → d ≡ e
+not_both x y d e one other = (let both : d ∷ x.history ≡ e ∷ x.history = ap (λ (l : Life). l.history) (sym one ∙ other) in cc)
+
+pub arrives_stay : (v : View Givens Entry) (x y : Life) (conn c : ℕ) (call : Call) (size : ℕ) (r : Result ℕ ArriveFault) → Arrives conn call size x r y → y ≡ with_entry (Left c) x → ⊥
+arrives_stay v x y conn c call size (Ok r) s left = (let same : Arrive conn size call ≡ Left c = not_both x y _ _ s.2 left in cc)
+arrives_stay v x y conn c call size (Err (arrive_fault.Limit calls bytes)) s left =
+    elim (is_filled x.history) as (λ b. y ≡ (if b then x else with_entry (Filled conn size) x) → ⊥) [
+      | true ↦ (λ same. not_longer x (Left c) (sym same ∙ left))
+      | false ↦ (λ more. (let same : Filled conn size ≡ Left c = not_both x y _ _ more left in cc))
+    ] s.1
+arrives_stay v x y conn c call size (Err arrive_fault.WantMemory) s left = not_longer x (Left c) (sym s.1 ∙ left)

@@ -1,18 +1,23 @@
 -- A call that takes the core, makes at most one entry, and puts it back is one event.
-use Rattle.std.proofs.Common.{◌≡◌, ℕ, ◌<◌, List, [], ◌∷◌, ◌++◌, length, reverse, refl, sym, ap, ap₂, subst, ◌∙◌, inl, inr, ⊎_elim, arith}
-use Rattle.std.specs.Prelude.{Some, Option}
+use Rattle.std.proofs.Common.{◌≡◌, ℕ, [], ◌∷◌, ◌++◌, length, reverse, refl, sym, ap, ap₂, subst, ◌∙◌, inl, inr, ⊎_elim, arith}
+use Rattle.std.specs.Prelude.{Some, Result, Ok, Err, IfOk}
+use Rattle.poa_history.specs.Arrivals.{connections}
+use Rattle.poa_core.specs.Answers.{Enters}
+use Rattle.poa_core.specs.declared.enter_fault.EnterFault.{EnterFault}
+use Rattle.run_history.proofs.Owned.{owners_low}
+use Rattle.seat_lock.proofs.Lists.{at_last}
 use Rattle.std.proofs.lemmas.List.{length-reverse, reverse-reverse}
-use mathlib.Core.Option.{some, some-injective}
+use mathlib.Core.Option.{some}
 use lib.ListN.{get_elem?}
 use Rattle.poa_base.specs.declared.Entry.{Entry}
 use Rattle.poa_base.specs.declared.Entry.TheVariants.{Entered, Left}
 use Rattle.seat_lock.specs.declared.view.View.{View}
-use Rattle.seat_lock.specs.Histories.{In, IsPrefix, MayPut, made_by}
+use Rattle.seat_lock.specs.Histories.{In, IsPrefix, MayPut}
 use Rattle.seat_lock.specs.Steps.{Knows}
 use Rattle.seat_lock.specs.Views.{passed_on, turned_to}
 use Rattle.seat_lock.proofs.Calls.{at_prefix, in_made, put_begins}
 use Rattle.seat_lock.proofs.Histories.{made_none, made_one, prefix_through}
-use Rattle.seat_lock.proofs.Totals.{at_below, at_push, in_added}
+use Rattle.seat_lock.proofs.Totals.{at_below, at_push, in_added, in_last}
 use Rattle.run_history.specs.declared.givens.Givens.{Givens}
 use Rattle.run_history.specs.Owners.{owner_of}
 use Rattle.run_history.specs.Runs.{IsHistory}
@@ -21,7 +26,7 @@ use Rattle.poa_shared.specs.Events.{Event}
 use Rattle.poa_shared.specs.Seen.{Holds, Owns, Turns, past}
 use Rattle.poa_shared.proofs.Holding.{goes_on}
 use Rattle.poa_shared.proofs.Made.{IsMade}
-use Rattle.poa_shared.proofs.Places.{at_shorter, reverse_more}
+use Rattle.poa_shared.proofs.Places.{at_reversed, at_shorter, reverse_more}
 
 -- the seat once it took the run x and put the run y
 abbrev after : View Givens Entry → ℕ → Life → Life → View Givens Entry
@@ -121,3 +126,28 @@ module _ (v u : View Givens Entry) (n : ℕ) (x y : Life) (took : u ≡ turned_t
       where
         gone : reverse (reverse y.history) ≡ Left c ∷ x.history → y ≡ with_entry (Left c) x
         gone is = ap₂ life_at (same_givens v x y made) (sym (reverse-reverse y.history) ∙ is)
+
+    -- a connection that enters is held
+    pub enters_hold : (r : Result ℕ EnterFault) → Knows owner_of v (reverse x.history) → IsHistory (givens_of x) x.history → Enters x r y → IfOk r (Holds w)
+    enters_hold (Ok conn) k runs s =
+        subst (λ t. Holds t conn) is_after
+        (record {
+          owns = record {
+            place = length (reverse x.history);
+            made = subst (In (length (reverse x.history))) (sym (made_one v.mine (reverse x.history) (Entered conn) (reverse y.history) longer)) (in_last (length (reverse x.history)) v.mine);
+            entered = subst (λ l. get_elem? l (length (reverse x.history)) ≡ some (Entered conn)) (sym longer) (at_last (reverse x.history) (Entered conn) (length (reverse x.history)) refl);
+          };
+          staying = λ z there at. left z (subst (λ l. get_elem? l z ≡ some (Left conn)) longer at);
+        })
+      where
+        longer : reverse y.history ≡ reverse x.history ++ Entered conn ∷ []
+        longer = ap (λ (l : Life). reverse l.history) s.2 ∙ reverse_more (Entered conn) x.history
+
+        left : (z : ℕ) → get_elem? (reverse x.history ++ Entered conn ∷ []) z ≡ some (Left conn) → ⊥
+        left z at =
+            ⊎_elim
+            (λ (old : get_elem? (reverse x.history) z ≡ some (Left conn)).
+            (let low = owners_low x.config x.run x.limit x.history runs.legal (Left conn) (at_reversed x.history z (Left conn) old) conn refl in let next : conn ≡ connections x.history = s.0 in omega (arith, low, next)))
+            (λ (new : (z ≡ length (reverse x.history)) × (Entered conn ≡ Left conn)). (let e : Entered conn ≡ Left conn = new.1 in cc))
+            (at_push (reverse x.history) (Entered conn) (Left conn) z at)
+    enters_hold (Err fault) k runs s = tt

@@ -35,10 +35,10 @@ impl Belfry {
 
     /// Hangs the alarm of a connection's link.
     pub(crate) fn hang<R: Wait>(&self, rt: &R, conn: u32, alarm: Alarm) -> Result<(), WantMemory> {
-        match self.slots.get((conn % SLOTS) as usize) {
-            Some(slot) => slot.alarms.lock(rt).push((conn, alarm)),
-            None => Ok(()),
+        if let Some(slot) = self.slots.get((conn % SLOTS) as usize) {
+            slot.alarms.lock(rt).push((conn, alarm))?;
         }
+        Ok(())
     }
 
     /// Takes the alarm of a connection down.

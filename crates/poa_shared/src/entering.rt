@@ -30,34 +30,38 @@ impl Shared {
         result
     }
 
-    /// A connection that the seat holds leaves.
+    /// A connection that the seat holds leaves. Workers are woken, since the run may be over.
     pub fn leave<R: Wait>(&self, rt: &R, seat: &mut Seat, conn: u32)
         requires seat { IsIdle self.now seat.old }
         requires conn { Holds (view seat.old) conn }
         ensures seat { IsIdle self.now seat.new }
         ensures left { Event (λ old new. new ≡ with_entry (Left conn) old) (view seat.old) (view seat.new) }
     {
-        let _front = self.front(rt);
+        let front = self.front(rt);
         let mut core = self.lock.take(rt, seat);
         core.is_legal();
         core.leave(conn);
         core.is_legal();
         self.lock.put(seat, core);
+        drop(front);
+        self.wake_workers(seat);
     }
 
-    /// A worker gives the run up.
+    /// A worker gives the run up. Everybody is woken.
     pub fn abandon<R: Wait>(&self, rt: &R, seat: &mut Seat, worker: u32)
         requires seat { IsIdle self.now seat.old }
         requires worker { worker < 16 }
         ensures seat { IsIdle self.now seat.new }
         ensures abandoned { Event (λ old new. answers.Abandons worker old new) (view seat.old) (view seat.new) }
     {
-        let _front = self.front(rt);
+        let front = self.front(rt);
         let mut core = self.lock.take(rt, seat);
         core.is_legal();
         core.abandon(worker);
         core.is_legal();
         self.lock.put(seat, core);
+        drop(front);
+        self.wake_all(rt, seat);
     }
 
     /// How far the run has come.

@@ -4,8 +4,8 @@
 #![tactic(auto)]
 
 mod arriving;
-mod bell;
 mod belfry;
+mod bell;
 mod collecting;
 mod entering;
 mod news;

@@ -2,6 +2,7 @@
 use crate::bell::SLOTS;
 use call_tables::Filed;
 use poa_base::Reply;
+use poa_core::Phase;
 
 /// Whom to wake after turns, once the place before the lock is let go.
 #[derive(Clone, Copy, Debug, Drop)]
@@ -10,6 +11,8 @@ pub struct News {
     pub(crate) slots: u64,
     /// Whether every worker may have something to do.
     pub(crate) is_for_workers: bool,
+    /// Whether everybody is concerned.
+    pub(crate) is_for_all: bool,
 }
 
 impl News {
@@ -18,6 +21,7 @@ impl News {
         News {
             slots: 0,
             is_for_workers: false,
+            is_for_all: false,
         }
     }
 
@@ -28,6 +32,13 @@ impl News {
             if matches!(filed.reply, Reply::Answer { .. }) {
                 self.is_for_workers = true;
             }
+        }
+    }
+
+    /// Notes the phase before and after a turn: that a shutdown was admitted concerns everybody.
+    pub(crate) fn note_phase(&mut self, before: Phase, after: Phase) {
+        if before != after {
+            self.is_for_all = true;
         }
     }
 

@@ -27,7 +27,8 @@ impl Shared {
 
     /// Waits until the bell rings, where it didn't since `listen` gave `heard`; a second at most.
     pub fn sleep<R: Wait>(&self, rt: &R, bell: Bell, heard: u32) {
-        self.lock.sleep(rt, bell.number(), heard, Duration::from_secs(1));
+        self.lock
+            .sleep(rt, bell.number(), heard, Duration::from_secs(1));
     }
 
     /// From now on replies for the connection ring its link's alarm.
@@ -92,6 +93,10 @@ impl Shared {
         requires { IsIdle self.now seat.old }
         ensures { IsUnchanged seat.old seat.new }
     {
+        if news.is_for_all {
+            self.wake_all(rt, seat);
+            return;
+        }
         if news.is_for_workers {
             self.wake_workers(seat);
         }

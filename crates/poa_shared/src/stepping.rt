@@ -13,12 +13,7 @@ use std::sync::Wait;
 
 impl Shared {
     /// A worker below 16 makes its next entry.
-    pub fn step<R: Wait>(
-        &self,
-        rt: &R,
-        seat: &mut Seat,
-        worker: u32,
-    ) -> Result<StepOut, WantMemory>
+    pub fn step<R: Wait>(&self, rt: &R, seat: &mut Seat, worker: u32) -> Result<StepOut, WantMemory>
         requires seat { IsIdle self.now seat.old }
         requires worker { worker < 16 }
         ensures seat { IsIdle self.now seat.new }
@@ -49,9 +44,11 @@ impl Shared {
         let mut core = self.lock.take(rt, seat);
         core.is_legal();
         let known = core.decided().len();
+        let phase = core.phase();
         let result = core.step(worker);
         core.is_legal();
         news.note(core.decided(), known);
+        news.note_phase(phase, core.phase());
         self.lock.put(seat, core);
         result
     }
