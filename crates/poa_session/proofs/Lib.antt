@@ -1,6 +1,9 @@
 pub mod Adding
 pub mod Calls
+pub mod Heard
 pub mod Replies
+pub mod Written
+pub mod Taken
 pub mod Ending
 pub mod Stepping
 pub mod Entering

@@ -183,6 +183,7 @@ AsArrived g c call size v w (progress.Waits have) = ⊥
 AsArrived g c call size v w (progress.Ends end) =
     Adds g c v w [] []
     × ((peer : Peer) (text : List ℕ) → filling_by (past v) c ≡ None → IsNext peer text (arrived_by (past v) c) size → MayEnd peer c w text end)
+    × ((peer : Peer) (text : List ℕ) (shown : Shown) → DriesUp peer text end shown)
 
 -- the input may say more
 abbrev pub AsHeard : Peer → ℕ → View Givens Entry → Intake → View Givens Entry → Intake → Progress → Type 0

@@ -5,7 +5,7 @@ ghost use Rattle.run_history.specs.declared.Givens.{Givens};
 ghost use Rattle.session_laws.specs.declared.Peer.{Peer};
 ghost use Rattle.poa_shared.specs.Seats.{IsIdle};
 ghost use Rattle.poa_shared.specs.Seen.{Holds};
-ghost use Rattle.poa_session.specs.Serving.{Arrives, Hears, Listens};
+ghost use Rattle.poa_session.specs.Serving.{AsArrived, Hears, Listens};
 ghost use Rattle.poa_history.specs.Legal.{IsSize};
 
 use crate::progress::Progress;
@@ -84,7 +84,7 @@ fn arrive<R: Wait>(
     requires size { IsSize size }
     ensures seat { IsIdle shared.now seat.new }
     ensures conn { Holds (view seat.new) conn }
-    ensures arrives { (g : Givens) → (view seat.old).givens ≡ Some g → Arrives g conn call size (view seat.old) (view seat.new) result }
+    ensures arrives { (g : Givens) → (view seat.old).givens ≡ Some g → AsArrived g conn call size (view seat.old) (view seat.new) result }
 {
     match shared.arrive(rt, seat, conn, call, size) {
         Ok(_) => Progress::On,

@@ -90,11 +90,15 @@ module _ (v : View Givens Entry) (x y : Life) where
     leaves_made conn owns s = inr (Left conn, s, may_own v x.history k conn (Left conn) owns refl)
 
 -- what isn't a leaving doesn't make a connection leave
-not_longer : (x : Life) (e : Entry) → x ≡ with_entry e x → ⊥
+pub not_longer : (x : Life) (e : Entry) → x ≡ with_entry e x → ⊥
 not_longer x e is = (let long : length x.history ≡ length (e ∷ x.history) = ap (λ (l : Life). length l.history) is in omega (arith, long))
 
 not_both : (x y : Life) (d e : Entry) → y ≡ with_entry d x → y ≡ with_entry e x → d ≡ e
 not_both x y d e one other = (let both : d ∷ x.history ≡ e ∷ x.history = ap (λ (l : Life). l.history) (sym one ∙ other) in cc)
+
+pub collects_stay : (x y : Life) (conn c : ℕ) (r : Collected) → Collects conn x r y → y ≡ with_entry (Left c) x → ⊥
+collects_stay x y conn c (collected.Reply r head reply) s left = (let same : Collect conn r ≡ Left c = not_both x y _ _ s.3 left in cc)
+collects_stay x y conn c (collected.Nothing owes) s left = not_longer x (Left c) (sym s.2 ∙ left)
 
 pub arrives_stay : (v : View Givens Entry) (x y : Life) (conn c : ℕ) (call : Call) (size : ℕ) (r : Result ℕ ArriveFault) → Arrives conn call size x r y → y ≡ with_entry (Left c) x → ⊥
 arrives_stay v x y conn c call size (Ok r) s left = (let same : Arrive conn size call ≡ Left c = not_both x y _ _ s.2 left in cc)

@@ -69,6 +69,7 @@ impl Shared {
         requires { IsIdle self.now seat.old }
         ensures seat { IsIdle self.now seat.new }
         ensures phase { Event (λ old new. (new ≡ old) × (result ≡ phase_of old.history)) (view seat.old) (view seat.new) }
+        ensures holds { (c : ℕ) → Holds (view seat.old) c → Holds (view seat.new) c }
     {
         let _front = self.front(rt);
         let core = self.lock.take(rt, seat);
