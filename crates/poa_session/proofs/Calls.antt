@@ -33,7 +33,7 @@ histories : (x : Life) (y : Life) → y ≡ x → y.history ≡ x.history
 histories x y same = ap (λ (l : Life). l.history) same
 
 module _ (g : Givens) (c : ℕ) (v : View Givens Entry) (h : List Entry) (w : View Givens Entry) (turns : Turns g v h w) (owns : Owns v c) (call : Call) (size : ℕ) where
-  heard : Heard
+  abbrev heard : Heard
   heard = record { call = call; size = size }
 
   pub arrives_on : (r : ℕ) → answers.Arrives c call size (life_at g h) (Ok r) (life_at g (past w)) → AsArrived g c call size v w progress.On

@@ -1,6 +1,6 @@
 -- The connection is given its replies.
 use Rattle.std.proofs.Common.{◌≡◌, ℕ, List, [], ◌∷◌, ◌++◌, refl, sym, ap, ap₂, subst, ◌∙◌, append_assoc, append-nil}
-use Rattle.std.specs.Prelude.{Some, None}
+use Rattle.std.specs.Prelude.{Some, None, Ok, Err}
 use Rattle.poa_base.specs.declared.Entry.{Entry}
 use Rattle.poa_base.specs.declared.Entry.TheVariants.{Collect}
 use Rattle.poa_base.specs.declared.Head.{Head}
@@ -18,8 +18,10 @@ use Rattle.poa_shared.specs.Seen.{Owns, Turns, past}
 use Rattle.session_laws.specs.Records.{arrived_by, joined_by, filling_by, reply_told, told, told_or_nothing, IsPaidBy}
 use Rattle.session_laws.proofs.Own.{joined_own}
 use Rattle.session_laws.proofs.Paying.{paid_when}
+use Rattle.std.specs.declared.alloc.AllocError.{AllocError}
 use Rattle.poa_session.specs.Growing.{Adds}
-use Rattle.poa_session.proofs.Adding.{adds_both, adds_none, adds_one, found_filling}
+use Rattle.poa_session.specs.Serving.{Gathers}
+use Rattle.poa_session.proofs.Adding.{adds_both, adds_none, adds_one, adds_same, found_filling}
 
 histories : (x : Life) (y : Life) → y ≡ x → y.history ≡ x.history
 histories x y same = ap (λ (l : Life). l.history) same
@@ -43,3 +45,34 @@ module _ (g : Givens) (c : ℕ) (v : View Givens Entry) (h : List Entry) (w : Vi
        ap (λ k. filling_by k c) same ∙ found_filling g c v h w turns owns,
        λ nothing. paid_when g.config g.run g.limit (past w) c turns.runs.legal (ap (λ k. next_reply g.config g.run k c) same ∙ answer.0)
          (ap (λ k. owed g.config g.run k c) same ∙ (sym answer.1 ∙ nothing)))
+
+-- the replies that were given so far stand behind the bytes that stood before
+pub record GathersOn (g : Givens) (c : ℕ) (v w : View Givens Entry) (old new : List ℕ) : Type 0 where
+  pub due : List ℕ
+  pub adds : Adds g c v w [] due
+  pub same : filling_by (past w) c ≡ filling_by (past v) c
+  pub put : new ≡ old ++ due
+
+pub gathers_none : (g : Givens) (c : ℕ) (v : View Givens Entry) (old : List ℕ) → GathersOn g c v v old old
+gathers_none g c v old = record { due = []; adds = adds_same g c v; same = refl; put = sym (append-nil old) }
+
+module _ (g : Givens) (c : ℕ) (v w u : View Givens Entry) (old mid : List ℕ) (x : GathersOn g c v w old mid) where
+  pub gathers_one : (bytes new : List ℕ) → Adds g c w u [] bytes × (filling_by (past u) c ≡ filling_by (past w) c) → new ≡ mid ++ bytes → GathersOn g c v u old new
+  gathers_one bytes new one put = record {
+    due = x.due ++ bytes;
+    adds = adds_both g c v w u [] [] x.due bytes x.adds one.0;
+    same = one.1 ∙ x.same;
+    put = put ∙ (ap (λ bs. bs ++ bytes) x.put ∙ append_assoc old x.due bytes);
+  }
+
+  pub gathers_lost : (bytes new : List ℕ) (fault : AllocError) → Adds g c w u [] bytes × (filling_by (past u) c ≡ filling_by (past w) c) → Gathers g c v u old new (Err fault)
+  gathers_lost bytes new fault one =
+      record { due = x.due ++ bytes; adds = adds_both g c v w u [] [] x.due bytes x.adds one.0; same = one.1 ∙ x.same; gathered = tt }
+
+  pub gathers_all : (owed : ℕ) → Adds g c w u [] [] × (filling_by (past u) c ≡ filling_by (past w) c) × (owed ≡ 0 → IsPaidBy (past u) c) → Gathers g c v u old mid (Ok owed)
+  gathers_all owed done = record {
+    due = x.due ++ [];
+    adds = adds_both g c v w u [] [] x.due [] x.adds done.0;
+    same = done.1 ∙ x.same;
+    gathered = (x.put ∙ ap (λ ds. old ++ ds) (sym (append-nil x.due)), done.2);
+  }

@@ -83,7 +83,7 @@ fn put_reply(
     if let Reply::Answer { number, answer } = reply {
         let line = write_answer(alloc, *number, answer)?;
         replies.extend_from_slice(line.as_slice())?;
-        return replies.push(b'\n');
+        return replies.extend_from_slice(b"\n");
     }
     // Each message is answered by a reply to it.
     if !answers(head, reply) {

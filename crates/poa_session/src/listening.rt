@@ -85,6 +85,7 @@ fn arrive<R: Wait>(
     ensures seat { IsIdle shared.now seat.new }
     ensures conn { Holds (view seat.new) conn }
     ensures arrives { (g : Givens) → (view seat.old).givens ≡ Some g → AsArrived g conn call size (view seat.old) (view seat.new) result }
+    ensures unwritten { (result ≢ Progress.Ends SessionEnd.WriteFault) × (result ≢ Progress.Ends SessionEnd.ReadFault) }
 {
     match shared.arrive(rt, seat, conn, call, size) {
         Ok(_) => Progress::On,

@@ -1,5 +1,5 @@
 //! Everything that is owed is paid.
-ghost use Rattle.std.specs.Prelude.{◌≡◌, ◌≢◌, Some, Err};
+ghost use Rattle.std.specs.Prelude.{◌≡◌, ◌≢◌, ℕ, Some, Err};
 ghost use Rattle.seat_lock.specs.Seats.{view};
 ghost use Rattle.outside.specs.Cause.{HasCause};
 ghost use Rattle.run_history.specs.declared.Givens.{Givens};
@@ -51,6 +51,8 @@ pub(crate) fn look<R: Wait>(rt: &R, shared: &Shared, seat: &mut Seat) -> Option<
     requires seat { IsIdle shared.now seat.old }
     ensures seat { IsIdle shared.now seat.new }
     ensures looks { (g : Givens) → (view seat.old).givens ≡ Some g → Looks g (view seat.old) (view seat.new) result }
+    ensures holds { (c : ℕ) → Holds (view seat.old) c → Holds (view seat.new) c }
+    ensures unfaulted { (result ≢ Some SessionEnd.WriteFault) × (result ≢ Some SessionEnd.ReadFault) }
 {
     match shared.phase(rt, seat) {
         Phase::Running | Phase::Full => None,
