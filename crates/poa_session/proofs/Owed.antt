@@ -17,22 +17,26 @@ use Rattle.poa_session.specs.Writing.{Writes}
 use Rattle.poa_session.proofs.Adding.{adds_both, adds_none, adds_same, found_filling}
 
 -- the replies that were gathered are written
-module _ (g : Givens) (c : ℕ) (v w : View Givens Entry) (new : List ℕ) (a : Shown) where
-  pub pays_lost : (fault : AllocError) → Gathers g c v w [] new (Err fault) → Pays g c v a w a (Err WantMemory)
+module _ (g : Givens) (c : ℕ) (v w : View Givens Entry) (old new : List ℕ) (none : old ≡ []) (a : Shown) where
+  pub pays_lost : (fault : AllocError) → Gathers g c v w old new (Err fault) → Pays g c v a w a (Err WantMemory)
   pays_lost fault x = record { due = x.due; done = []; adds = x.adds; moved = moves_none a; same = x.same; paid = (x.due, refl) }
 
-  pub pays_cut : (owed : ℕ) (b : Shown) → Gathers g c v w [] new (Ok owed) → Writes new a b false → Pays g c v a w b (Err WriteFault)
-  pays_cut owed b x y = record { due = x.due; done = y.done; adds = x.adds; moved = y.moved; same = x.same; paid = (y.rest, sym x.gathered.0 ∙ y.front) }
+  gathered_all : (owed : ℕ) (x : Gathers g c v w old new (Ok owed)) (bytes : List ℕ) → bytes ≡ new → x.due ≡ bytes
+  gathered_all owed x bytes same = sym (same ∙ (x.gathered.0 ∙ ap (λ o. o ++ x.due) none))
 
-  pub pays_whole : (owed : ℕ) (b : Shown) → Gathers g c v w [] new (Ok owed) → Writes new a b true → Pays g c v a w b (Ok owed)
-  pays_whole owed b x y = record {
-    due = x.due;
-    done = y.done;
-    adds = x.adds;
-    moved = y.moved;
-    same = x.same;
-    paid = (sym (sym x.gathered.0 ∙ (y.front ∙ (ap (λ rest. y.done ++ rest) (y.all refl) ∙ append-nil y.done))), x.gathered.1);
-  }
+  module _ (owed : ℕ) (x : Gathers g c v w old new (Ok owed)) (bytes : List ℕ) (same : bytes ≡ new) (b : Shown) where
+    pub pays_cut : Writes bytes a b false → Pays g c v a w b (Err WriteFault)
+    pays_cut y = record { due = x.due; done = y.done; adds = x.adds; moved = y.moved; same = x.same; paid = (y.rest, gathered_all owed x bytes same ∙ y.front) }
+
+    pub pays_whole : Writes bytes a b true → Pays g c v a w b (Ok owed)
+    pays_whole y = record {
+      due = x.due;
+      done = y.done;
+      adds = x.adds;
+      moved = y.moved;
+      same = x.same;
+      paid = (sym (gathered_all owed x bytes same ∙ (y.front ∙ (ap (λ rest. y.done ++ rest) (y.all refl) ∙ append-nil y.done))), x.gathered.1);
+    }
 
 -- so far all that was given is written
 pub record PaysOn (g : Givens) (c : ℕ) (v : View Givens Entry) (a : Shown) (w : View Givens Entry) (b : Shown) : Type 0 where

@@ -1,6 +1,6 @@
 -- The connection is given its replies.
 use Rattle.std.proofs.Common.{◌≡◌, ℕ, List, [], ◌∷◌, ◌++◌, refl, sym, ap, ap₂, subst, ◌∙◌, append_assoc, append-nil}
-use Rattle.std.specs.Prelude.{Some, None, Ok, Err}
+use Rattle.std.specs.Prelude.{Option, Result, Some, None, Ok, Err}
 use Rattle.poa_base.specs.declared.Entry.{Entry}
 use Rattle.poa_base.specs.declared.Entry.TheVariants.{Collect}
 use Rattle.poa_base.specs.declared.Head.{Head}
@@ -13,6 +13,7 @@ use Rattle.run_history.specs.Runs.{opened}
 use Rattle.call_tables.specs.Owed.{head_of}
 use Rattle.poa_core.specs.Answers as answers
 use Rattle.poa_core.specs.Life.{Life, life_at, with_entry}
+use Rattle.poa_core.specs.declared.Collected.{Collected}
 use Rattle.poa_core.specs.declared.Collected.TheVariants as collected
 use Rattle.poa_shared.specs.Seen.{Owns, Turns, past}
 use Rattle.session_laws.specs.Records.{arrived_by, joined_by, filling_by, reply_told, told, told_or_nothing, IsPaidBy}
@@ -20,7 +21,7 @@ use Rattle.session_laws.proofs.Own.{joined_own}
 use Rattle.session_laws.proofs.Paying.{paid_when}
 use Rattle.std.specs.declared.alloc.AllocError.{AllocError}
 use Rattle.poa_session.specs.Growing.{Adds}
-use Rattle.poa_session.specs.Serving.{Gathers}
+use Rattle.poa_session.specs.Serving.{Gathers, NextGathered, PutsOn}
 use Rattle.poa_session.proofs.Adding.{adds_both, adds_none, adds_one, adds_same, found_filling}
 
 histories : (x : Life) (y : Life) → y ≡ x → y.history ≡ x.history
@@ -69,10 +70,21 @@ module _ (g : Givens) (c : ℕ) (v w u : View Givens Entry) (old mid : List ℕ)
   gathers_lost bytes new fault one =
       record { due = x.due ++ bytes; adds = adds_both g c v w u [] [] x.due bytes x.adds one.0; same = one.1 ∙ x.same; gathered = tt }
 
-  pub gathers_all : (owed : ℕ) → Adds g c w u [] [] × (filling_by (past u) c ≡ filling_by (past w) c) × (owed ≡ 0 → IsPaidBy (past u) c) → Gathers g c v u old mid (Ok owed)
-  gathers_all owed done = record {
+  pub gathers_all : (owed : ℕ) (new : List ℕ) → Adds g c w u [] [] × (filling_by (past u) c ≡ filling_by (past w) c) × (owed ≡ 0 → IsPaidBy (past u) c) → new ≡ mid → Gathers g c v u old new (Ok owed)
+  gathers_all owed new done kept = record {
     due = x.due ++ [];
     adds = adds_both g c v w u [] [] x.due [] x.adds done.0;
     same = done.1 ∙ x.same;
-    gathered = (x.put ∙ ap (λ ds. old ++ ds) (sym (append-nil x.due)), done.2);
+    gathered = (kept ∙ (x.put ∙ ap (λ ds. old ++ ds) (sym (append-nil x.due))), done.2);
   }
+
+-- what was collected is put behind the others
+pub next_gathered : (g : Givens) (c : ℕ) (v : View Givens Entry) (h : List Entry) (w : View Givens Entry) → Turns g v h w → Owns v c → (collected : Collected) (old new : List ℕ) (r : Result (Option ℕ) AllocError)
+    → answers.Collects c (life_at g h) collected (life_at g (past w)) → PutsOn collected old new r → NextGathered g c v w old new r
+next_gathered g c v h w turns owns (collected.Reply r head reply) old new (Ok None) answer puts = (told head reply, collects_one g c v h w turns owns r head reply answer, puts)
+next_gathered g c v h w turns owns (collected.Reply r head reply) old new (Ok (Some owed)) answer puts = absurd puts
+next_gathered g c v h w turns owns (collected.Reply r head reply) old new (Err fault) answer puts = (told head reply, collects_one g c v h w turns owns r head reply answer)
+next_gathered g c v h w turns owns (collected.Nothing owes) old new (Ok None) answer puts = absurd puts
+next_gathered g c v h w turns owns (collected.Nothing owes) old new (Ok (Some owed)) answer puts =
+    (let none = collects_none g c v h w turns owns owes answer in ((none.0, none.1, λ nothing. none.2 (sym puts.0 ∙ nothing)), puts.1))
+next_gathered g c v h w turns owns (collected.Nothing owes) old new (Err fault) answer puts = absurd puts

@@ -47,7 +47,7 @@ module _ (g : Givens) (peer : Peer) (c : ℕ) (v : View Givens Entry) (found : L
   all_adds = adds_both g c u w z talked.calls [] talked.replies [] talked.adds left_adds
 
   settled : Settled g peer c w talked.text talked.out end b
-  settled = talked.settled begun.calls begun.replies begun.filling
+  settled = talked.settled entered.runs begun.calls begun.replies begun.filling
 
   legal : IsLegal g.config g.run g.limit h
   legal = (subst (IsLegal g.config g.run g.limit) gone leaves.runs.legal).1

@@ -22,7 +22,7 @@ use Rattle.session_laws.specs.Hearing.{Heard, Stop, over}
 use Rattle.session_laws.specs.Records.{arrived_by, joined_by, filling_by, is_late_by, IsPaidBy}
 use Rattle.session_laws.specs.Sessions.{Begins, CauseBy, Hears as HearsAll, Input, IsNext}
 use Rattle.session_laws.specs.Expecting.{Expects}
-use Rattle.session_laws.proofs.Causes.{abandoned_later, shut_later}
+use Rattle.session_laws.proofs.Causes.{shut_later}
 use Rattle.session_laws.proofs.Expected.{expects_begins, expects_fed, expects_front, expects_stop}
 use Rattle.session_input.specs.Hearing.{Intake, OfIntake}
 use Rattle.session_input.proofs.GoingOn.{intake_goes_on}
@@ -47,6 +47,10 @@ phase_says None true filled = refl
 phase_says None false true = refl
 phase_says None false false = refl
 
+or_later : (a b : Bool) → b ≡ true → (a || b) ≡ true
+or_later true b is = refl
+or_later false b is = is
+
 or_first : (a b : Bool) → a ≡ true → (a || b) ≡ true
 or_first true b first = refl
 or_first false b first = absurd (let e : false ≡ true = first in cc)
@@ -54,7 +58,7 @@ or_first false b first = absurd (let e : false ≡ true = first in cc)
 then_gave_up : (h : List Entry) (v worker : ℕ) → (first_abandoned h ≡ Some worker → is_abandoned h worker ≡ true)
     → (o : Option ℕ) → first_abandoned h ≡ o → option_or o (Some v) ≡ Some worker → is_abandoned (Abandon v ∷ h) worker ≡ true
 then_gave_up h v worker before None none is = or_first (v == worker) (is_abandoned h worker) (eq-eqb v worker (let e : Some v ≡ Some worker = is in cc))
-then_gave_up h v worker before (Some x) was is = abandoned_later (Abandon v) h worker (before (was ∙ is))
+then_gave_up h v worker before (Some x) was is = or_later (v == worker) (is_abandoned h worker) (before (was ∙ is))
 
 gave_up : (h : List Entry) (worker : ℕ) → first_abandoned h ≡ Some worker → is_abandoned h worker ≡ true
 gave_up [] worker is = absurd (let e : None ≡ Some worker = is in cc)

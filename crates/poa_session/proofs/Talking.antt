@@ -73,7 +73,7 @@ module _ (g : Givens) (peer : Peer) (c : ℕ) (v : View Givens Entry) (a : Shown
     moved = subst (Moves a b x.text) (sym (append-nil x.replies)) x.moved;
     few = x.few;
     silent = x.silent;
-    settled = λ nothing joined unfilled.
+    settled = λ ran nothing joined unfilled.
         (let known = x.knows nothing unfilled in
         settled_broken g peer c w x.text x.replies [] [] WantMemory b (joined_so_far joined ∙ sym (append-nil x.replies)) ([], refl)
           (expects_begins peer (OfIntake i) x.text (arrived_by (past w) c) known.expects (intake_goes_on i [])) (filled_none x.text w known.unfilled));
@@ -113,7 +113,7 @@ module _ (g : Givens) (peer : Peer) (c : ℕ) (v : View Givens Entry) (a : Shown
       moved = moves_both a b z x.text x.replies y.piece y.done x.moved y.moved;
       few = all_few (flow.Broke end) y;
       silent = all_silent (flow.Broke end) y;
-      settled = λ nothing joined unfilled.
+      settled = λ ran nothing joined unfilled.
           (let known = x.knows nothing unfilled in
           let went = y.flows x.text x.counted known.unfilled known.expects in
           settled_broken g peer c u (x.text ++ y.piece) x.replies y.due y.done end z (y.adds.joined_is ∙ ap (λ rs. rs ++ y.due) (joined_so_far joined)) went.0 went.1
@@ -131,10 +131,10 @@ module _ (g : Givens) (peer : Peer) (c : ℕ) (v : View Givens Entry) (a : Shown
       moved = moves_both a z q (x.text ++ y.piece) (x.replies ++ y.done) [] s.done (moves_both a b z x.text x.replies y.piece y.done x.moved y.moved) s.moved;
       few = subst (λ t. length t ≤ 2 ^ 40) (sym (append-nil (x.text ++ y.piece))) (all_few (flow.Ends end) y);
       silent = λ late. append-nil (x.calls ++ y.calls) ∙ all_silent (flow.Ends end) y late;
-      settled = λ nothing joined unfilled.
+      settled = λ ran nothing joined unfilled.
           (let known = x.knows nothing unfilled in
           let went = y.flows x.text x.counted known.unfilled known.expects in
           let out : joined_by g (past u) c ≡ x.replies ++ y.done = y.adds.joined_is ∙ (ap (λ rs. rs ++ y.due) (joined_so_far joined) ∙ ap (λ ds. x.replies ++ ds) (sym went.0)) in
           subst (λ tx. Settled g peer c t tx ((x.replies ++ y.done) ++ s.done) result q) (sym (append-nil (x.text ++ y.piece)))
-          (subst (λ rs. Settled g peer c t (x.text ++ y.piece) (rs ++ s.done) result q) out (s.settled (x.text ++ y.piece) went.1 went.2)));
+          (subst (λ rs. Settled g peer c t (x.text ++ y.piece) (rs ++ s.done) result q) out (s.settled (x.text ++ y.piece) (y.adds.runs (x.adds.runs ran)) went.1 went.2)));
     }

@@ -7,7 +7,7 @@ ghost use Rattle.giop_msg.specs.Reply.{AnswersHead};
 ghost use Rattle.session_laws.specs.Records.{told};
 ghost use Rattle.poa_shared.specs.Seats.{IsIdle};
 ghost use Rattle.poa_shared.specs.Seen.{Holds, Owns};
-ghost use Rattle.poa_session.specs.Serving.{Gathers, Pays};
+ghost use Rattle.poa_session.specs.Serving.{Gathers, NextGathered, Pays, PutsOn};
 
 use crate::writing::write_all;
 use admin_line::write_answer;
@@ -63,12 +63,47 @@ fn gather<R: Wait>(
     ensures gathers { (g : Givens) → (view seat.old).givens ≡ Some g → Gathers g conn (view seat.old) (view seat.new) replies.old.items replies.new.items result }
 {
     for _ in rt.forever() {
-        match shared.collect(rt, seat, conn) {
-            Collected::Reply { head, reply, .. } => put_reply(alloc, replies, &head, &reply)?,
-            Collected::Nothing { owed } => return Ok(owed),
+        if let Some(owed) = collect_next(rt, alloc, shared, seat, conn, replies)? {
+            return Ok(owed);
         }
     }
     unreachable!()
+}
+
+// Collects the next reply, and puts it behind the others. Where none is decided, how many calls are owed one.
+fn collect_next<R: Wait>(
+    rt: &R,
+    alloc: Global,
+    shared: &Shared,
+    seat: &mut Seat,
+    conn: u32,
+    replies: &mut Vec<u8>,
+) -> Result<Option<u64>, WantMemory>
+    requires seat { IsIdle shared.now seat.old }
+    requires conn { Holds (view seat.old) conn }
+    ensures seat { IsIdle shared.now seat.new }
+    ensures conn { Holds (view seat.new) conn }
+    ensures next { (g : Givens) → (view seat.old).givens ≡ Some g → NextGathered g conn (view seat.old) (view seat.new) replies.old.items replies.new.items result }
+{
+    let collected = shared.collect(rt, seat, conn);
+    put_collected(alloc, replies, &collected)
+}
+
+// Puts a reply that was collected behind the others.
+fn put_collected(
+    alloc: Global,
+    replies: &mut Vec<u8>,
+    collected: &Collected,
+) -> Result<Option<u64>, WantMemory>
+    ensures { PutsOn collected.now replies.old.items replies.new.items result }
+{
+    match collected {
+        Collected::Reply { head, reply, .. } => {
+            put_reply(alloc, replies, head, reply)?;
+            Ok(None)
+        }
+        Collected::Nothing { owed } => Ok(Some(*owed)),
+    }
 }
 
 // Puts a reply behind the others.
