@@ -202,3 +202,7 @@ module _ (g : Givens) (peer : Peer) (c : ℕ) (v : View Givens Entry) (a : Shown
           dry = tt;
         };
       }
+
+-- a whole piece was written
+pub closed_whole : (bytes : List ℕ) (a b : Shown) → Writes bytes a b true → Moves a b [] bytes
+closed_whole bytes a b w = subst (Moves a b []) (sym (w.front ∙ (ap (λ rest. w.done ++ rest) (w.all refl) ∙ append-nil w.done))) w.moved

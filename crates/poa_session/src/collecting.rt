@@ -63,7 +63,10 @@ fn gather<R: Wait>(
     ensures gathers { (g : Givens) → (view seat.old).givens ≡ Some g → Gathers g conn (view seat.old) (view seat.new) replies.old.items replies.new.items result }
 {
     for _ in rt.forever() {
-        if let Some(owed) = collect_next(rt, alloc, shared, seat, conn, replies)? {
+        let Ok(next) = collect_next(rt, alloc, shared, seat, conn, replies) else {
+            return Err(WantMemory);
+        };
+        if let Some(owed) = next {
             return Ok(owed);
         }
     }

@@ -1,5 +1,9 @@
-use Rattle.std.proofs.Common.{rules, sym, subst, ◌∙◌}
+use Rattle.std.proofs.Common.{◌≡◌, arith, ap, rules, sym, subst, ◌∙◌}
+use Rattle.std.specs.Prelude.{Some, Ok, Err}
+use Rattle.std.proofs.lemmas.Option.{MatchOption-at_some}
+use Rattle.poa_base.specs.declared.SessionEnd.TheVariants.{Abandoned}
 use Rattle.seat_lock.specs.Seats.{view}
+use Rattle.poa_session.specs.Serving.{Looks, Pays}
 use Rattle.poa_session.proofs.Owed.{pays_abandoned, pays_all, pays_broken, pays_none, pays_on}
 use Rattle.poa_session.proofs.paying.pay.Goals as goal
 
@@ -9,17 +13,25 @@ loop-init g c = record {
   seat = search rules;
   conn = c.requires.conn;
   pays = λ givens given. pays_none givens c.args.conn (view c.args.seat.now) (g.L.Link.shown c.args.link.now);
-  counts = search rules;
+  counts = omega arith;
 }
 
-pub returns-in_err-collect_all-clause-pays : goal.returns-in_err-collect_all-clause-pays
-returns-in_err-collect_all-clause-pays g c = ?
+pub returns-in-Err-clause-pays : goal.returns-in-Err-clause-pays
+returns-in-Err-clause-pays g c = λ givens given.
+    (let before = c.loop.invariant.pays givens given in
+    let same = ap (λ m. m.0) c.listen-heard.ensures.same.2 in
+    pays_broken givens c.args.conn (view c.args.seat.now) (g.L.Link.shown c.args.link.now) (view c.loop.seat) (g.L.Link.shown c.loop.link) before (view c.collect_all.new.seat) (g.L.Link.shown c.collect_all.new.link) c.in-Err.broken
+    (subst (λ v. Pays givens c.args.conn v (g.L.Link.shown c.loop.link) (view c.collect_all.new.seat) (g.L.Link.shown c.collect_all.new.link) (Err c.in-Err.broken)) same
+    (c.in-Err.ensures.pays givens (ap (λ v. v.givens) same ∙ (before.adds.given ∙ given)))))
 
-pub returns-then-branch-eq0-clause-pays : goal.returns-then-branch-eq0-clause-pays
-returns-then-branch-eq0-clause-pays g c = ?
+pub returns-then-owed-eq0-clause-pays : goal.returns-then-owed-eq0-clause-pays
+returns-then-owed-eq0-clause-pays g c = ?
 
-pub returns-in-Some-Abandoned-clause-pays : goal.returns-in-Some-Abandoned-clause-pays
-returns-in-Some-Abandoned-clause-pays g c = ?
+pub returns-in-Some-2-clause-conn : goal.returns-in-Some-2-clause-conn
+returns-in-Some-2-clause-conn g c = ?
+
+pub returns-in-Some-2-clause-pays : goal.returns-in-Some-2-clause-pays
+returns-in-Some-2-clause-pays g c = ?
 
 pub loop-preserved : goal.loop-preserved
 loop-preserved g c = ?

@@ -4,7 +4,7 @@ use Rattle.run_history.specs.declared.Givens.{Givens}
 use Rattle.poa_shared.specs.Seats.{IsIdle}
 use Rattle.poa_shared.specs.Seen.{Holds}
 use Rattle.poa_session.proofs.Talking.{Sits}
-use Rattle.poa_session.proofs.conversing.converse.Given as goal
+use Rattle.poa_session.proofs.conversing.talk.Given as goal
 
 abbrev pub invariant-loop : goal.invariant-loop
 invariant-loop g l = record {
@@ -12,7 +12,6 @@ invariant-loop g l = record {
   seat : IsIdle l.shared l.seat;
   conn : Holds (view l.seat) l.conn;
   sits : (givens : Givens) → (view l.initial.seat).givens ≡ Some givens → Sits givens l.peer l.conn (view l.initial.seat) (g.L.Link.shown l.initial.link) (view l.seat) (g.L.Link.shown l.link) l.input;
-  reads : (g.L.Link.shown l.initial.link).read_faults ≤ (g.L.Link.shown l.link).read_faults;
   writes : (g.L.Link.shown l.initial.link).write_faults ≤ (g.L.Link.shown l.link).write_faults;
   buffer : 0 < length l.buffer;
 }
