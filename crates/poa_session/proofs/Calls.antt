@@ -38,9 +38,10 @@ module _ (g : Givens) (c : ℕ) (v : View Givens Entry) (h : List Entry) (w : Vi
 
   pub arrives_on : (r : ℕ) → answers.Arrives c call size (life_at g h) (Ok r) (life_at g (past w)) → AsArrived g c call size v w progress.On
   arrives_on r answer =
-      let is : past w ≡ Arrive c size call ∷ h = histories (with_entry (Arrive c size call) (life_at g h)) (life_at g (past w)) answer.2 in
-      (adds_one g c v h w turns owns (Arrive c size call) is refl (heard ∷ []) [] (arrived_own c h size call) (sym (append-nil (joined_by g h c))) refl,
-       ap (λ k. filling_by k c) is ∙ found_filling g c v h w turns owns)
+      let is : past w ≡ Arrive c size call ∷ h = histories (with_entry (Arrive c size call) (life_at g h)) (life_at g (past w)) answer.2 in (
+        adds_one g c v h w turns owns (Arrive c size call) is refl (heard ∷ []) [] (arrived_own c h size call) (sym (append-nil (joined_by g h c))) refl,
+        ap (λ k. filling_by k c) is ∙ found_filling g c v h w turns owns,
+      )
 
   -- what may end, where no call arrived
   ends_so : Adds g c v w [] [] → (peer : Peer) (text : List ℕ) → IsNext peer text (arrived_by (past v) c) size → IsNext peer text (arrived_by (past w) c) size
@@ -49,32 +50,41 @@ module _ (g : Givens) (c : ℕ) (v : View Givens Entry) (h : List Entry) (w : Vi
   pub arrives_without : answers.Arrives c call size (life_at g h) (Err fault.WantMemory) (life_at g (past w)) → AsArrived g c call size v w (progress.Ends WantMemory)
   arrives_without answer =
       let same : past w ≡ h = histories (life_at g h) (life_at g (past w)) answer.1 in
-      let adds = adds_none g c v h w turns owns same in
-      (adds, (λ peer text unfilled next. (let still = ends_so adds peer text next in record {
-        input = next_begins peer text (arrived_by (past w) c) size still;
-        cause = tt;
-        filled = subst (λ (o : Option ℕ). IfSome o (IsNext peer text (arrived_by (past w) c))) (sym (ap (λ k. filling_by k c) same ∙ (found_filling g c v h w turns owns ∙ unfilled))) tt;
-      })), λ peer text shown. tt)
+      let adds = adds_none g c v h w turns owns same in (
+        adds,
+        (λ peer text unfilled next. (let still = ends_so adds peer text next in record {
+          input = next_begins peer text (arrived_by (past w) c) size still;
+          cause = tt;
+          filled = subst (λ (o : Option ℕ). IfSome o (IsNext peer text (arrived_by (past w) c))) (sym (ap (λ k. filling_by k c) same ∙ (found_filling g c v h w turns owns ∙ unfilled))) tt;
+        })),
+        λ peer text shown. tt,
+      )
 
   -- the run was full, or the call fills it
   full_as : (calls bytes : ℕ) (b : Bool) → is_filled h ≡ b → life_at g (past w) ≡ (if b then life_at g h else with_entry (Filled c size) (life_at g h)) → filled_at (past w) ≡ Some (calls, bytes)
       → AsArrived g c call size v w (progress.Ends (Limit calls bytes))
   full_as calls bytes true was is full =
       let same : past w ≡ h = histories (life_at g h) (life_at g (past w)) is in
-      let adds = adds_none g c v h w turns owns same in
-      (adds, (λ peer text unfilled next. (let still = ends_so adds peer text next in record {
-        input = next_begins peer text (arrived_by (past w) c) size still;
-        cause = (full, size, still);
-        filled = subst (λ (o : Option ℕ). IfSome o (IsNext peer text (arrived_by (past w) c))) (sym (ap (λ k. filling_by k c) same ∙ (found_filling g c v h w turns owns ∙ unfilled))) tt;
-      })), λ peer text shown. tt)
+      let adds = adds_none g c v h w turns owns same in (
+        adds,
+        (λ peer text unfilled next. (let still = ends_so adds peer text next in record {
+          input = next_begins peer text (arrived_by (past w) c) size still;
+          cause = (full, size, still);
+          filled = subst (λ (o : Option ℕ). IfSome o (IsNext peer text (arrived_by (past w) c))) (sym (ap (λ k. filling_by k c) same ∙ (found_filling g c v h w turns owns ∙ unfilled))) tt;
+        })),
+        λ peer text shown. tt,
+      )
   full_as calls bytes false wasn't is full =
       let more : past w ≡ Filled c size ∷ h = histories (with_entry (Filled c size) (life_at g h)) (life_at g (past w)) is in
-      let adds = adds_one g c v h w turns owns (Filled c size) more refl [] [] (sym (append-nil (arrived_by h c))) (sym (append-nil (joined_by g h c))) refl in
-      (adds, (λ peer text unfilled next. (let still = ends_so adds peer text next in record {
-        input = next_begins peer text (arrived_by (past w) c) size still;
-        cause = (full, size, still);
-        filled = subst (λ (o : Option ℕ). IfSome o (IsNext peer text (arrived_by (past w) c))) (sym (ap (λ k. filling_by k c) more ∙ filling_own c h size)) still;
-      })), λ peer text shown. tt)
+      let adds = adds_one g c v h w turns owns (Filled c size) more refl [] [] (sym (append-nil (arrived_by h c))) (sym (append-nil (joined_by g h c))) refl in (
+        adds,
+        (λ peer text unfilled next. (let still = ends_so adds peer text next in record {
+          input = next_begins peer text (arrived_by (past w) c) size still;
+          cause = (full, size, still);
+          filled = subst (λ (o : Option ℕ). IfSome o (IsNext peer text (arrived_by (past w) c))) (sym (ap (λ k. filling_by k c) more ∙ filling_own c h size)) still;
+        })),
+        λ peer text shown. tt,
+      )
 
   pub arrives_full : (calls bytes : ℕ) → answers.Arrives c call size (life_at g h) (Err (fault.Limit calls bytes)) (life_at g (past w)) → AsArrived g c call size v w (progress.Ends (Limit calls bytes))
   arrives_full calls bytes answer = full_as calls bytes (is_filled h) refl answer.1 answer.2

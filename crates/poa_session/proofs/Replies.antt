@@ -33,19 +33,21 @@ module _ (g : Givens) (c : ℕ) (v : View Givens Entry) (h : List Entry) (w : Vi
       → Adds g c v w [] (told head reply) × (filling_by (past w) c ≡ filling_by (past v) c)
   collects_one r head reply answer =
       let is : past w ≡ Collect c r ∷ h = histories (with_entry (Collect c r) (life_at g h)) (life_at g (past w)) answer.3 in
-      let bytes : reply_told g h r ≡ told head reply = ap₂ told_or_nothing (sym answer.1) answer.2 in
-      (adds_one g c v h w turns owns (Collect c r) is refl [] (told head reply) (sym (append-nil (arrived_by h c))) (joined_own c h g r ∙ ap (λ bs. joined_by g h c ++ bs) bytes) refl,
-       ap (λ k. filling_by k c) is ∙ found_filling g c v h w turns owns)
+      let bytes : reply_told g h r ≡ told head reply = ap₂ told_or_nothing (sym answer.1) answer.2 in (
+        adds_one g c v h w turns owns (Collect c r) is refl [] (told head reply) (sym (append-nil (arrived_by h c))) (joined_own c h g r ∙ ap (λ bs. joined_by g h c ++ bs) bytes) refl,
+        ap (λ k. filling_by k c) is ∙ found_filling g c v h w turns owns,
+      )
 
   -- none is decided
   pub collects_none : (owes : ℕ) → answers.Collects c (life_at g h) (collected.Nothing owes) (life_at g (past w))
       → Adds g c v w [] [] × (filling_by (past w) c ≡ filling_by (past v) c) × (owes ≡ 0 → IsPaidBy (past w) c)
   collects_none owes answer =
-      let same : past w ≡ h = histories (life_at g h) (life_at g (past w)) answer.2 in
-      (adds_none g c v h w turns owns same,
-       ap (λ k. filling_by k c) same ∙ found_filling g c v h w turns owns,
-       λ nothing. paid_when g.config g.run g.limit (past w) c turns.runs.legal (ap (λ k. next_reply g.config g.run k c) same ∙ answer.0)
-         (ap (λ k. owed g.config g.run k c) same ∙ (sym answer.1 ∙ nothing)))
+      let same : past w ≡ h = histories (life_at g h) (life_at g (past w)) answer.2 in (
+        adds_none g c v h w turns owns same,
+        ap (λ k. filling_by k c) same ∙ found_filling g c v h w turns owns,
+        λ nothing. paid_when g.config g.run g.limit (past w) c turns.runs.legal (ap (λ k. next_reply g.config g.run k c) same ∙ answer.0)
+            (ap (λ k. owed g.config g.run k c) same ∙ (sym answer.1 ∙ nothing)),
+      )
 
 -- the replies that were given so far stand behind the bytes that stood before
 pub record GathersOn (g : Givens) (c : ℕ) (v w : View Givens Entry) (old new : List ℕ) : Type 0 where

@@ -157,7 +157,7 @@ module _ (g : Givens) (peer : Peer) (c : ℕ) (v : View Givens Entry) (a : Shown
     goes_on = tt;
     flows = λ text counted unfilled expected.
         (let may = stops_may text end looked.stops (expects_begins peer (OfIntake i) text (arrived_by (past u) c) (expected_then (Some end) looked text expected) (intake_goes_on i []))
-            (unfilled_then (Some end) looked unfilled) in
+        (unfilled_then (Some end) looked unfilled) in
         (refl, nothing_behind (λ t. MayEnd peer c u t end) text may.0, nothing_behind (λ t. DriesUp peer t end a) text may.1));
   }
 
@@ -204,12 +204,13 @@ module _ (g : Givens) (peer : Peer) (c : ℕ) (v : View Givens Entry) (a : Shown
         few = λ few. omega (arith, few);
         silent = hears_not listened.calls;
         goes_on = tt;
-        flows = λ text counted unfilled expected.
-            (paid.paid,
-             nothing_behind (λ t. Begins peer t (arrived_by (past w) c)) text
-               (subst (λ cs. Begins peer text cs) (sym (paid.adds.arrived_is ∙ append-nil (arrived_by (past x) c)))
-               (expects_begins peer (OfIntake j) text (arrived_by (past x) c) (heard_all text expected) (intake_goes_on j []))),
-             paid.same ∙ unfilled_still unfilled);
+        flows = λ text counted unfilled expected. (
+          paid.paid,
+          nothing_behind (λ t. Begins peer t (arrived_by (past w) c)) text
+              (subst (λ cs. Begins peer text cs) (sym (paid.adds.arrived_is ∙ append-nil (arrived_by (past x) c)))
+              (expects_begins peer (OfIntake j) text (arrived_by (past x) c) (heard_all text expected) (intake_goes_on j []))),
+          paid.same ∙ unfilled_still unfilled,
+        );
       }
 
       module _ (w : View Givens Entry) (b : Shown) (owed : ℕ) (paid : Pays g c x a w b (Ok owed)) (k : Intake) (z : Shown) where
@@ -239,9 +240,11 @@ module _ (g : Givens) (peer : Peer) (c : ℕ) (v : View Givens Entry) (a : Shown
             subst (λ p. Input peer (text ++ p) (arrived_by (past w) c) (Truncated bytes) × Unit {0} × DriesUp peer (text ++ p) (Truncated bytes) z) (sym took.0)
             ((nothing_behind (λ t. HearsAll peer t (arrived_by (past w) c) (over bytes)) text (expects_stop peer (OfIntake j) text (arrived_by (past w) c) expected (over bytes) (subst (λ n. OfIntake j [] [] (over n)) (sym took.1) listened.heard.1)), subst (λ n. 0 < n) (sym took.1) took.2), tt, took.3)
         takes_may text piece ReadFault counted took expected = (expects_front peer (OfIntake j) text (arrived_by (past w) c) expected piece (intake_goes_on j piece), tt, tt)
-        takes_may text piece (InputLimit taken) counted took expected =
-            (expects_front peer (OfIntake j) text (arrived_by (past w) c) expected piece (intake_goes_on j piece),
-             (took.2, ap (λ p. length (text ++ p)) took.0 ∙ (ap length (append-nil text) ∙ (counted ∙ (sym listened.taken ∙ sym took.1)))), tt)
+        takes_may text piece (InputLimit taken) counted took expected = (
+          expects_front peer (OfIntake j) text (arrived_by (past w) c) expected piece (intake_goes_on j piece),
+          (took.2, ap (λ p. length (text ++ p)) took.0 ∙ (ap length (append-nil text) ∙ (counted ∙ (sym listened.taken ∙ sym took.1)))),
+          tt,
+        )
         takes_may text piece WantMemory counted took expected = (expects_front peer (OfIntake j) text (arrived_by (past w) c) expected piece (intake_goes_on j piece), tt, tt)
         takes_may text piece Shut counted took expected = absurd took
         takes_may text piece WriteFault counted took expected = absurd took
@@ -261,10 +264,11 @@ module _ (g : Givens) (peer : Peer) (c : ℕ) (v : View Givens Entry) (a : Shown
           silent = hears_not listened.calls;
           goes_on = tt;
           flows = λ text counted unfilled expected.
-              (let may = takes_may text took.piece end counted took.taken (expected_now text expected) in
-              (paid.paid.0,
-               record { input = may.0; cause = may.1; filled = subst (λ (x : Option ℕ). IfSome x (IsNext peer (text ++ took.piece) (arrived_by (past w) c))) (sym (unfilled_now unfilled)) tt },
-               may.2));
+              (let may = takes_may text took.piece end counted took.taken (expected_now text expected) in (
+                paid.paid.0,
+                record { input = may.0; cause = may.1; filled = subst (λ (x : Option ℕ). IfSome x (IsNext peer (text ++ took.piece) (arrived_by (past w) c))) (sym (unfilled_now unfilled)) tt },
+                may.2,
+              ));
         }
 
         pub rounds_on : Takes j k have b z None → Rounds g peer c v a i w z k flow.On

@@ -76,7 +76,7 @@ module _ (g : Givens) (peer : Peer) (c : ℕ) (v : View Givens Entry) (a : Shown
     settled = λ ran nothing joined unfilled.
         (let known = x.knows nothing unfilled in
         settled_broken g peer c w x.text x.replies [] [] WantMemory b (joined_so_far joined ∙ sym (append-nil x.replies)) ([], refl)
-          (expects_begins peer (OfIntake i) x.text (arrived_by (past w) c) known.expects (intake_goes_on i [])) (filled_none x.text w known.unfilled));
+        (expects_begins peer (OfIntake i) x.text (arrived_by (past w) c) known.expects (intake_goes_on i [])) (filled_none x.text w known.unfilled));
   }
 
   module _ (u : View Givens Entry) (z : Shown) (j : Intake) where
@@ -117,7 +117,7 @@ module _ (g : Givens) (peer : Peer) (c : ℕ) (v : View Givens Entry) (a : Shown
           (let known = x.knows nothing unfilled in
           let went = y.flows x.text x.counted known.unfilled known.expects in
           settled_broken g peer c u (x.text ++ y.piece) x.replies y.due y.done end z (y.adds.joined_is ∙ ap (λ rs. rs ++ y.due) (joined_so_far joined)) went.0 went.1
-            (filled_none (x.text ++ y.piece) u went.2));
+          (filled_none (x.text ++ y.piece) u went.2));
     }
 
     -- the session ends

@@ -223,7 +223,6 @@ pub record Hears (g : Givens) (peer : Peer) (c : ℕ) (v : View Givens Entry) (i
   pub heard : AsHeard peer c v i w j result
   pub taken : j.taken ≡ i.taken
 
-
 -- how a session ends that couldn't begin
 abbrev pub refusal : EnterFault → SessionEnd
 refusal (enter_fault.Limit conns calls bytes) = Limit calls bytes

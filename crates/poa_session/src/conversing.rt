@@ -48,7 +48,17 @@ pub(crate) fn converse<R: Wait, L: Link>(
     if hang(rt, shared, link, conn).is_err() {
         return SessionEnd::WantMemory;
     }
-    talk(rt, alloc, shared, seat, link, &mut input, buffer.as_mut_slice(), conn, peer)
+    talk(
+        rt,
+        alloc,
+        shared,
+        seat,
+        link,
+        &mut input,
+        buffer.as_mut_slice(),
+        conn,
+        peer,
+    )
 }
 
 // The same, where nothing has come yet.

@@ -23,7 +23,7 @@ pub returns-in-Some-next-clause-gathers : goal.returns-in-Some-next-clause-gathe
 returns-in-Some-next-clause-gathers g c = λ givens given.
     (let before = c.loop.invariant.gathers givens given in
     let next = subst (λ o. NextGathered givens c.args.conn (view c.loop.seat) (view c.collect_next.new.seat) c.loop.replies.items c.collect_next.new.replies.items (Ok o)) c.in-Some-next.is
-      (c.in-Ok.ensures.next givens (before.adds.given ∙ given)) in
+    (c.in-Ok.ensures.next givens (before.adds.given ∙ given)) in
     gathers_all givens c.args.conn (view c.args.seat.now) (view c.loop.seat) (view c.collect_next.new.seat) c.args.replies.now.items c.loop.replies.items before c.in-Some-next.owed c.collect_next.new.replies.items next.0 next.1)
 
 pub loop-preserved : goal.loop-preserved
@@ -34,6 +34,6 @@ loop-preserved g c = record {
   gathers = λ givens given.
       (let before = c.loop.invariant.gathers givens given in
       let next = subst (λ o. NextGathered givens c.args.conn (view c.loop.seat) (view c.collect_next.new.seat) c.loop.replies.items c.collect_next.new.replies.items (Ok o)) c.in_default-next.is
-        (c.in-Ok.ensures.next givens (before.adds.given ∙ given)) in
+      (c.in-Ok.ensures.next givens (before.adds.given ∙ given)) in
       gathers_one givens c.args.conn (view c.args.seat.now) (view c.loop.seat) (view c.collect_next.new.seat) c.args.replies.now.items c.loop.replies.items before next.0 c.collect_next.new.replies.items next.1 next.2);
 }

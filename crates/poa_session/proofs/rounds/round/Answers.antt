@@ -51,7 +51,7 @@ returns-in-Some-take_in-clause-read g c = λ givens given.
     record {
       later = le_trans paid.moved.read_faults c.in-Some-take_in.ensures.failed.later;
       rose = λ is. rose_before _ _ _ paid.moved.read_faults
-        (c.in-Some-take_in.ensures.failed.rose (let e : Ends c.in-Some-take_in.end ≡ Ends ReadFault = is in let same : c.in-Some-take_in.end ≡ ReadFault = cc in ap Some same));
+          (c.in-Some-take_in.ensures.failed.rose (let e : Ends c.in-Some-take_in.end ≡ Ends ReadFault = is in let same : c.in-Some-take_in.end ≡ ReadFault = cc in ap Some same));
     })
 
 pub returns-in-None-clause-rounds : goal.returns-in-None-clause-rounds
