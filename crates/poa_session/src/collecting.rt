@@ -15,7 +15,7 @@ use giop_msg::write_reply;
 use outside::Link;
 use poa_base::{Head, Reply, SessionEnd, WantMemory};
 use poa_core::Collected;
-use poa_shared::{Seat, Shared};
+use poa_shared::{Front, Seat, Shared};
 use std::alloc::Global;
 use std::sync::Wait;
 
@@ -47,7 +47,7 @@ pub(crate) fn collect_all<R: Wait, L: Link>(
     Ok(owed)
 }
 
-// Collects the replies that are decided, and puts them behind the others.
+// Collects the replies that are decided, under one hold of the front, and puts them behind the others.
 fn gather<R: Wait>(
     rt: &R,
     alloc: Global,
@@ -62,8 +62,9 @@ fn gather<R: Wait>(
     ensures conn { Holds (view seat.new) conn }
     ensures gathers { (g : Givens) → (view seat.old).givens ≡ Some g → Gathers g conn (view seat.old) (view seat.new) replies.old.items replies.new.items result }
 {
+    let front = shared.front(rt);
     for _ in rt.forever() {
-        let Ok(next) = collect_next(rt, alloc, shared, seat, conn, replies) else {
+        let Ok(next) = collect_next(rt, alloc, shared, &front, seat, conn, replies) else {
             return Err(WantMemory);
         };
         if let Some(owed) = next {
@@ -73,11 +74,12 @@ fn gather<R: Wait>(
     unreachable!()
 }
 
-// Collects the next reply, and puts it behind the others. Where none is decided, how many calls are owed one.
+// Collects the next reply, and puts it behind the others. Where none is decided, how many calls are owed one. The front is held.
 fn collect_next<R: Wait>(
     rt: &R,
     alloc: Global,
     shared: &Shared,
+    front: &Front<'_>,
     seat: &mut Seat,
     conn: u32,
     replies: &mut Vec<u8>,
@@ -88,7 +90,7 @@ fn collect_next<R: Wait>(
     ensures conn { Holds (view seat.new) conn }
     ensures next { (g : Givens) → (view seat.old).givens ≡ Some g → NextGathered g conn (view seat.old) (view seat.new) replies.old.items replies.new.items result }
 {
-    let collected = shared.collect(rt, seat, conn);
+    let collected = shared.collect_within(rt, front, seat, conn);
     put_collected(alloc, replies, &collected)
 }
 

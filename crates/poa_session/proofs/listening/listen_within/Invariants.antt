@@ -6,7 +6,7 @@ use Rattle.poa_shared.specs.Seats.{IsIdle}
 use Rattle.poa_shared.specs.Seen.{Holds}
 use Rattle.poa_session.specs.Serving.{Hears}
 use Rattle.poa_session.specs.declared.progress.Progress.TheVariants.{On}
-use Rattle.poa_session.proofs.listening.listen.Given as goal
+use Rattle.poa_session.proofs.listening.listen_within.Given as goal
 
 abbrev pub invariant-loop : goal.invariant-loop
 invariant-loop g l = record {
