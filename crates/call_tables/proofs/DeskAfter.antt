@@ -26,9 +26,9 @@ use Rattle.poa_tree.specs.Trees.{In}
 use Rattle.poa_tree.proofs.Members.{in_kept, image_in}
 use Rattle.call_tables.specs.declared.filed.Filed.{Filed as FiledRow}
 use Rattle.call_tables.specs.declared.owing.Owing.{Owing}
-use Rattle.call_tables.specs.Numbers.{below}
+use Rattle.call_tables.specs.Numbers.{below, Ascends}
 use Rattle.call_tables.specs.Waits.{wait_of, wait_in, ordered_by}
-use Rattle.call_tables.specs.Owed.{is_owed, head_of, AreOwed, Owes, IsCurrent}
+use Rattle.call_tables.specs.Owed.{is_owed, head_of, AreOwed, Owes, IsCurrent, arrivals_of}
 use Rattle.call_tables.specs.Decided.{answered, AreFiled, IsFiled, Decides}
 use Rattle.call_tables.specs.Desk.{is_decided, file, waited, IsAlone}
 use Rattle.call_tables.proofs.Lists.{filter_agrees, below_is}
@@ -37,6 +37,7 @@ use Rattle.call_tables.proofs.FiledAfter.{row_stays, filed_after, each_filed}
 use Rattle.call_tables.proofs.RowsNext.{TriesNone, rows_next}
 use Rattle.call_tables.proofs.Given.{next_is}
 use Rattle.call_tables.proofs.Arrived.{decided_arrived, admitted_arrived, next_decided, collected_decided, at_is}
+use Rattle.call_tables.proofs.Rising.{ascending}
 use Rattle.call_tables.proofs.Removed.{Distinct, distinct_below, distinct_kept, left_which, left_in}
 
 -- where no arrival stands twice, the target stands in one row at most
@@ -111,6 +112,9 @@ module _ (c : Config) (run limit : ℕ) (opened : Stored) (past : List Entry) (e
 
   pub rows_alone : IsAlone target (map (waited c run past e) os)
   rows_alone = alone_rows target (map (waited c run past e) os) (subst Distinct (sym rows_after.which) (distinct_kept (is_owed c run past) (below (arrivals past)) (distinct_below (arrivals past))))
+
+  pub rows_ascend : Ascends (arrivals_of (map (waited c run past e) os))
+  rows_ascend = subst Ascends (sym rows_after.which) (ascending (is_owed c run past) (arrivals past))
 
   -- those of the calls that had arrived that are owed a reply still
   pub owed_before : map (λ o. o.arrival) (filter (λ o. not (now o)) (map (waited c run past e) os)) ≡ filter (is_owed c run (e ∷ past)) (below (arrivals past))

@@ -1,7 +1,3 @@
-use Rattle.std.proofs.Common.{rules}
-use Rattle.std.specs.Prelude.{◌==◌, not}
-use Rattle.std.proofs.lemmas.Fn.{filter_same}
+use Rattle.std.proofs.Common.{◌∙◌, sym}
+use Rattle.arrival_tables.proofs.Taking.{found_taken, not_found}
 use Rattle.arrival_tables.proofs.ordered.remove.Goals as goal
-
-pub returns : goal.returns
-returns c = filter_same _ (λ x. not (x == c.args.number)) _ (λ x b f' k. search rules) _ _ c.retain.ensures.filtered
