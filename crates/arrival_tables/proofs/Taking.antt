@@ -1,6 +1,8 @@
 -- A number taken away from numbers that ascend.
-use Rattle.std.specs.Prelude.{slice_index_or, Result, Ok, Err, ◌≡◌, ℕ, zero, suc, ◌<◌, ◌≤◌, Bool, true, false, not, ◌==◌, nat_lt, cond, List, [], ◌∷◌, ◌++◌, length, filter, take, drop, refl}
+use Rattle.std.specs.Prelude.{slice_index_or, Result, Ok, Err, ◌≡◌, ℕ, zero, suc, ◌<◌, ◌≤◌, Bool, true, false, not, ◌==◌, nat_lt, cond, List, [], ◌∷◌, ◌++◌, length, filter, take, drop, Option, Some, None, refl}
 use Rattle.std.specs.List.{remove}
+use Rattle.std.specs.Option.{OnSome, is_some}
+use Rattle.std.specs.Result.{OnOk, OnErr}
 use Rattle.std.specs.List.Sorted.{IsBinarySearchResult}
 use Rattle.std.specs.Ordering.{nat_cmp}
 use Rattle.std.proofs.lemmas.List.Sorted.{searched}
@@ -41,3 +43,12 @@ not_found xs r i up is =
       | inl low ↦ (let less = told.1 found.0 (ltb-true found.0 i low) in let same = found.2 in omega (arith, less, same))
       | inr high ↦ (let more = told.2 found.0 (ltb-false found.0 i high) found.1 in let same = found.2 in omega (arith, more, same))
     ]))))
+
+-- what follows where a call succeeded, and it did
+pub ok_given : {T E P : Type 0} (r : Result T E) {len room : ℕ} → OnErr r (room ≤ len) → len < room → OnOk r P → P
+ok_given (Ok x) full fits then_is = then_is
+ok_given (Err x) full fits then_is = absurd (omega (arith, full, fits))
+
+pub some_given : {A P : Type 0} (o : Option A) → is_some o ≡ true → OnSome o P → P
+some_given (Some x) given then_is = then_is
+some_given None given then_is = absurd (let e : false ≡ true = given in cc)

@@ -97,7 +97,7 @@ module _ (r : ℕ) where
   missing os i up is =
       let parted = is (λ a b d le lt. (let up_to = rises os up a b d le lt in grind (arith, nat_tests, up_to))) in
       all_stay os (λ k d within same.
-          elim (cases_Bool (nat_lt k i)) [
-            | inl low_k ↦ (let less = ranked (get_or os k d).arrival r _ (sym (parted.0 k d (omega arith) (ltb-true k i low_k))) in omega (arith, less, same))
-            | inr high_k ↦ (let more = ranked (get_or os k d).arrival r _ (sym (parted.1 k d (ltb-false k i high_k) within)) in omega (arith, more, same))
-          ])
+      elim (cases_Bool (nat_lt k i)) [
+        | inl low_k ↦ (let less = ranked (get_or os k d).arrival r _ (sym (parted.0 k d (omega arith) (ltb-true k i low_k))) in omega (arith, less, same))
+        | inr high_k ↦ (let more = ranked (get_or os k d).arrival r _ (sym (parted.1 k d (ltb-false k i high_k) within)) in omega (arith, more, same))
+      ])

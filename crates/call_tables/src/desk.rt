@@ -5,7 +5,9 @@ ghost use Rattle.call_tables.specs.Owed.{has_wait};
 
 use crate::filed::Filed;
 use crate::owing::Owing;
-use crate::rows::{any_waits, file_decided, file_target, first_of, keep_undecided, owed_to, put_waits};
+use crate::rows::{
+    any_waits, file_decided, file_target, first_of, keep_undecided, owed_to, put_waits,
+};
 use crate::wait::{Ordered, Wait};
 use poa_base::{Config, Reply, WantMemory};
 use standing_queries::Standing;

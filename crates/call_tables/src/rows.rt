@@ -95,13 +95,7 @@ pub(crate) fn file_decided(
     let mut reply = reply;
     for i in 0..owing.len() {
         file_one(
-            config,
-            standing,
-            target,
-            &mut reply,
-            ordered,
-            &owing[i],
-            outbox,
+            config, standing, target, &mut reply, ordered, &owing[i], outbox,
         );
     }
 }
