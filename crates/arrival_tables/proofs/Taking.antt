@@ -1,12 +1,12 @@
 -- A number taken away from numbers that ascend.
-use Rattle.std.specs.Prelude.{slice_index_or, Result, Ok, Err, ◌≡◌, ℕ, zero, suc, ◌<◌, ◌≤◌, Bool, true, false, not, ◌==◌, nat_lt, cond, List, [], ◌∷◌, ◌++◌, length, filter, take, drop, Option, Some, None, refl}
+use Rattle.std.specs.Prelude.{slice_index_or, Result, Ok, Err, ◌≡◌, ℕ, zero, suc, ◌<◌, ◌≤◌, true, false, not, ◌==◌, nat_lt, cond, List, [], ◌∷◌, length, Option, Some, None, refl}
 use Rattle.std.specs.List.{remove}
 use Rattle.std.specs.Option.{OnSome, is_some}
 use Rattle.std.specs.Result.{OnOk, OnErr}
 use Rattle.std.specs.List.Sorted.{IsBinarySearchResult}
 use Rattle.std.specs.Ordering.{nat_cmp}
 use Rattle.std.proofs.lemmas.List.Sorted.{searched}
-use Rattle.std.proofs.Common.{inl, inr, sym, ap, ap₂, subst, ◌∙◌, arith}
+use Rattle.std.proofs.Common.{inl, inr, sym, ap₂, arith}
 use Rattle.std.proofs.lemmas.Bool.{cases_Bool, eqb-true, eq-eqb, false_from_ne_true, ltb-true, ltb-false}
 use Rattle.poa_tree.specs.Trees.{In}
 use Rattle.arrival_tables.specs.Numbers.{Ascends, without}

@@ -1,4 +1,4 @@
-use Rattle.std.proofs.Common.{◌≡◌, ◌==◌, ap, ap₂, ◌∙◌, length}
+use Rattle.std.proofs.Common.{◌==◌, ap₂, ◌∙◌}
 use Rattle.std.specs.Option.{unwrap_or}
 use Rattle.call_tables.proofs.Filing.{found_or_behind}
 use Rattle.call_tables.proofs.rows.first_of.Goals as goal

@@ -1,5 +1,4 @@
-use Rattle.std.proofs.Common.{◌≡◌, ◌==◌, ◌<◌, Option, Some, None, length, sym, ap, ◌∙◌}
-use Rattle.std.proofs.lemmas.Option.{slice_get-get_or}
+use Rattle.std.proofs.Common.{◌==◌}
 use Rattle.call_tables.proofs.Filing.{taken_is}
 use Rattle.call_tables.proofs.desk.Desk.collect.Goals as goal
 

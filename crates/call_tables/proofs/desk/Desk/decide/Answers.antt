@@ -1,4 +1,4 @@
-use Rattle.std.proofs.Common.{◌≡◌, false, ◌∙◌, ◌++◌, ap, map, filter, not, sym}
+use Rattle.std.proofs.Common.{◌∙◌, ◌++◌, ap, map, not, sym}
 use Rattle.std.specs.List.{list_any}
 use Rattle.poa_history.specs.Stages as begun
 use Rattle.standing_queries.specs.Seen.{seen}

@@ -1,5 +1,4 @@
-use Rattle.std.proofs.Common.{◌≡◌, false, map, None, Option, is_some, sym, ap, subst, ◌∙◌}
-use Rattle.call_tables.specs.declared.wait.Wait.{Wait}
+use Rattle.std.proofs.Common.{map, sym, ap, ◌∙◌}
 use Rattle.call_tables.specs.Desk.{set_wait}
 use Rattle.call_tables.proofs.NoneWaits.{unset, none_given}
 use Rattle.call_tables.proofs.desk.Desk.set_wait.Goals as goal
