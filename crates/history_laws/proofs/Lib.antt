@@ -1,4 +1,4 @@
-mod Workers
+pub mod Workers
 mod Begun
 mod Dying
 mod Told
@@ -17,10 +17,10 @@ mod LineIncarnated
 mod LineEtherealized
 pub mod OneServant
 pub mod FirstWorker
-mod Decided
+pub mod Decided
 mod Waiting
-mod Since
+pub mod Since
 pub mod Answered
-mod RootStays
+pub mod RootStays
 pub mod Shut
 pub mod Collecting

@@ -90,31 +90,13 @@ module _ (f : Facts) (dying : f.walk ≡ MeetsDying) where
   unfolding first_row
   dying_goes w = cond_both f.crowded (refuse f Transiently DISCARDED) (key_rows f w f.key) (λ x. is_held x ≡ false) (λ _. refl) (λ _. by_key w f.key)
 
-module _ (c : Config) (run limit : ℕ) (given : IsGiven c run) (alone : IsGivenAlone c run) (within : IsWithinLimits c limit) (h : List Entry) (legal : IsLegal c run limit h) (idle : AreIdle c run h) (shut : was_shut h ≡ true) where
+-- where the root is being destroyed, all is over
+module _ (c : Config) (run limit : ℕ) (given : IsGiven c run) (alone : IsGivenAlone c run) (within : IsWithinLimits c limit) (h : List Entry) (legal : IsLegal c run limit h) (idle : AreIdle c run h) (root_dying : (n : Node) → In n (standing c run h).nodes → n.path ≡ [] → n.dying ≡ true) where
   abbrev s : Standing
   s = standing c run h
 
   sound : IsSound c run s
   sound = legal_sound c run limit h given within legal
-
-  abbrev it : IsShut h
-  it = shut_at h shut
-
-  -- the root is being destroyed
-  root_dying : (n : Node) → In n s.nodes → n.path ≡ [] → n.dying ≡ true
-  root_dying n there at =
-      let legal_then = legal_before c run limit given within it.more (it.entry ∷ it.past) (subst (IsLegal c run limit) it.split legal) in
-      let before = (legal_sound c run limit it.past given within legal_then.1).tree in
-      let root = before.rooted in
-      let same_split : it.more ++ (it.entry ∷ it.past) ≡ (it.more ++ it.entry ∷ []) ++ it.past = sym (append_snoc it.more it.entry it.past) in
-      let later = root_since c run (it.more ++ it.entry ∷ []) it.past root.0 root.1 root.2 in
-      let there' : In later.0 s.nodes = subst (λ x. In later.0 (standing c run x).nodes) (sym (it.split ∙ same_split)) later.1 in
-      let number : n.number ≡ root.0.number = ap (λ x. x.number) (sound.tree.path_alone n later.0 there there' (at ∙ sym later.2)) ∙ later.3 in
-      let early = before.numbered root.0 root.1 in
-      dying_is c run limit h given within legal n there ∙ (ap (λ x. was_destroyed c run x n.number n.path) it.split
-      ∙ destroyed_since c run limit given within it.more (it.entry ∷ it.past) n.number n.path
-      (or_first (nat_lt n.number (standing c run it.past).count && destroys n.path (command_done it.past it.entry)) (was_destroyed c run it.past n.number n.path)
-      (ap₂ (λ x y. x && y) (lt-ltb n.number (standing c run it.past).count (omega (arith, early, number))) (ap (destroys n.path) it.done))))
 
   all_dying : (n : Node) → In n s.nodes → n.dying ≡ true
   all_dying n there = (let root = sound.tree.rooted in sound.tree.below root.0 n root.1 there (ap (λ p. leads_to p n.path) root.2) (root_dying root.0 root.1 root.2))
@@ -145,5 +127,28 @@ module _ (c : Config) (run limit : ℕ) (given : IsGiven c run) (alone : IsGiven
         | inr back ↦ absurd (true≢false (sym (ap is_held (back.held 0)) ∙ dying_goes (facts_of c run h r) (walk_dying (key_or_none (key_in (call_of h r))).path) 0))
       ]
 
+  pub dying_over : IsAllOver c run h
+  dying_over = record { over = all_over; answered = all_decided }
+
+module _ (c : Config) (run limit : ℕ) (given : IsGiven c run) (alone : IsGivenAlone c run) (within : IsWithinLimits c limit) (h : List Entry) (legal : IsLegal c run limit h) (idle : AreIdle c run h) (shut : was_shut h ≡ true) where
+  abbrev it : IsShut h
+  it = shut_at h shut
+
+  -- the root is being destroyed
+  root_dying : (n : Node) → In n (standing c run h).nodes → n.path ≡ [] → n.dying ≡ true
+  root_dying n there at =
+      let legal_then = legal_before c run limit given within it.more (it.entry ∷ it.past) (subst (IsLegal c run limit) it.split legal) in
+      let before = (legal_sound c run limit it.past given within legal_then.1).tree in
+      let root = before.rooted in
+      let same_split : it.more ++ (it.entry ∷ it.past) ≡ (it.more ++ it.entry ∷ []) ++ it.past = sym (append_snoc it.more it.entry it.past) in
+      let later = root_since c run (it.more ++ it.entry ∷ []) it.past root.0 root.1 root.2 in
+      let there' : In later.0 (standing c run h).nodes = subst (λ x. In later.0 (standing c run x).nodes) (sym (it.split ∙ same_split)) later.1 in
+      let number : n.number ≡ root.0.number = ap (λ x. x.number) ((legal_sound c run limit h given within legal).tree.path_alone n later.0 there there' (at ∙ sym later.2)) ∙ later.3 in
+      let early = before.numbered root.0 root.1 in
+      dying_is c run limit h given within legal n there ∙ (ap (λ x. was_destroyed c run x n.number n.path) it.split
+      ∙ destroyed_since c run limit given within it.more (it.entry ∷ it.past) n.number n.path
+      (or_first (nat_lt n.number (standing c run it.past).count && destroys n.path (command_done it.past it.entry)) (was_destroyed c run it.past n.number n.path)
+      (ap₂ (λ x y. x && y) (lt-ltb n.number (standing c run it.past).count (omega (arith, early, number))) (ap (destroys n.path) it.done))))
+
   pub shut_over : IsAllOver c run h
-  shut_over = record { over = all_over; answered = all_decided }
+  shut_over = dying_over c run limit given alone within h legal idle root_dying

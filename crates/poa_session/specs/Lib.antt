@@ -1,0 +1,4 @@
+pub mod Growing
+pub mod Served
+pub mod Writing
+pub mod Serving

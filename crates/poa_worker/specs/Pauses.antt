@@ -1,0 +1,42 @@
+-- What a worker has done so far, while it goes on.
+use Rattle.std.specs.Prelude.{◌≡◌, ℕ, ◌≤◌, true, List, ◌++◌, length, Result, Ok, Err}
+use Rattle.std.specs.declared.alloc.AllocError.{AllocError}
+use Rattle.poa_base.specs.declared.Entry.{Entry}
+use Rattle.poa_history.specs.Stages.{is_abandoned}
+use Rattle.run_history.specs.declared.givens.Givens.{Givens}
+use Rattle.run_history.specs.Runs.{IsLog}
+use Rattle.run_history.specs.Owners.{owner_of}
+use Rattle.poa_shared.specs.Seen.{past}
+use Rattle.poa_worker.specs.declared.pause.Pause.{Pause}
+use Rattle.poa_worker.specs.declared.pause.Pause.TheVariants as pause
+use Rattle.run_endings.specs.Closing.{IsClosed}
+use Rattle.poa_worker.specs.Worked.{IsTurnAt}
+use Rattle.seat_lock.specs.declared.view.View.{View}
+use Rattle.seat_lock.specs.Histories.{In, IsPrefix}
+use Rattle.seat_lock.specs.Steps.{Knows}
+
+-- between two views of its seat the worker made turns, and nothing else
+pub record MakesTurns (worker : ℕ) (old new : View Givens Entry) : Type 0 where
+  pub grows : IsPrefix old.seen new.seen
+  pub given : new.givens ≡ old.givens
+  pub base : new.base ≡ old.base
+  pub room : new.room ≡ old.room
+  pub made : List ℕ
+  pub mine : new.mine ≡ old.mine ++ made
+  pub each : (place : ℕ) → In place made → (length old.seen ≤ place) × IsTurnAt worker new.seen place
+
+-- the seat has seen all, as it has after each call
+pub record HasSeenAll (g : Givens) (v : View Givens Entry) : Type 0 where
+  pub runs : IsLog g v.seen
+  pub knows : Knows owner_of v v.seen
+
+abbrev pub IsPaused : Givens → ℕ → Result Pause AllocError → View Givens Entry → Type 0
+IsPaused g worker (Ok (pause.At point)) v = Unit {0}
+IsPaused g worker (Ok pause.Later) v = Unit {0}
+IsPaused g worker (Ok (pause.Idle over)) v = HasSeenAll g v × (over ≡ true → IsClosed g worker (past v))
+IsPaused g worker (Ok pause.Stopped) v = HasSeenAll g v × (is_abandoned (past v) worker ≡ true)
+IsPaused g worker (Err fault) v = Unit {0}
+
+-- the worker made turns, and pauses for this cause
+abbrev pub Pauses : Givens → ℕ → View Givens Entry → Result Pause AllocError → View Givens Entry → Type 0
+Pauses g worker old result new = MakesTurns worker old new × IsPaused g worker result new
