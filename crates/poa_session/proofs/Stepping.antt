@@ -1,5 +1,5 @@
 -- A session step by step.
-use Rattle.std.proofs.Common.{◌≡◌, ℕ, ◌+◌, ◌^◌, ◌<◌, ◌≤◌, Bool, true, false, ◌||◌, ◌==◌, if◌then◌else◌, List, [], ◌∷◌, ◌++◌, length, refl, sym, ap, subst, ◌∙◌, append_assoc, append-nil, length-append, inl, inr, arith, eq-eqb}
+use Rattle.std.proofs.Common.{◌≡◌, ℕ, ◌+◌, ◌^◌, ◌<◌, ◌≤◌, Bool, true, false, ◌||◌, ◌==◌, if◌then◌else◌, List, [], ◌∷◌, ◌++◌, length, refl, sym, ap, subst, ◌∙◌, append-nil, inr, arith, eq-eqb}
 use Rattle.std.specs.Prelude.{Option, Some, None, IfSome, Ok, Err}
 use Rattle.std.specs.Option.{option_or}
 use Rattle.poa_base.specs.declared.Entry.{Entry}
@@ -9,8 +9,8 @@ use Rattle.poa_base.specs.declared.SessionEnd.TheVariants.{Ended, Shut, ReadFaul
 use Rattle.poa_history.specs.Legal.{is_filled}
 use Rattle.poa_history.specs.Stages.{is_abandoned}
 use Rattle.seat_lock.specs.declared.view.View.{View}
-use Rattle.outside.specs.Link.{Shown, Moves, IsDry}
-use Rattle.outside.proofs.Moving.{moves_in, moves_none, moves_out}
+use Rattle.outside.specs.Link.{Shown, Moves}
+use Rattle.outside.proofs.Moving.{moves_in, moves_none}
 use Rattle.run_history.specs.declared.Givens.{Givens}
 use Rattle.run_tally.specs.Leaving.{is_shut}
 use Rattle.run_tally.specs.Phases.{first_abandoned, phase_by, phase_of}
@@ -18,8 +18,8 @@ use Rattle.run_tally.specs.declared.Phase.{Phase}
 use Rattle.run_tally.specs.declared.Phase.TheVariants as phase
 use Rattle.poa_shared.specs.Seen.{Owns, Turns, past}
 use Rattle.session_laws.specs.declared.Peer.{Peer}
-use Rattle.session_laws.specs.Hearing.{Heard, Stop, over}
-use Rattle.session_laws.specs.Records.{arrived_by, joined_by, filling_by, is_late_by, IsPaidBy}
+use Rattle.session_laws.specs.Hearing.{Heard, over}
+use Rattle.session_laws.specs.Records.{arrived_by, filling_by, is_late_by}
 use Rattle.session_laws.specs.Sessions.{Begins, CauseBy, Hears as HearsAll, Input, IsNext}
 use Rattle.session_laws.specs.Expecting.{Expects}
 use Rattle.session_laws.proofs.Causes.{shut_later}
@@ -28,7 +28,7 @@ use Rattle.session_input.specs.Hearing.{Intake, OfIntake}
 use Rattle.session_input.proofs.GoingOn.{intake_goes_on}
 use Rattle.poa_session.specs.Growing.{Adds}
 use Rattle.poa_session.specs.Served.{DriesUp}
-use Rattle.poa_session.specs.Serving.{AsFlow, AsHeard, AsListened, AsTaken, BreaksOff, Hears, Listens, Looks, MayEnd, Pays, Rounds, Stops, Takes}
+use Rattle.poa_session.specs.Serving.{AsHeard, AsTaken, Hears, Listens, Looks, MayEnd, Pays, Rounds, Stops, Takes}
 use Rattle.poa_session.specs.declared.flow.Flow.TheVariants as flow
 use Rattle.poa_session.specs.declared.progress.Progress.{Progress}
 use Rattle.poa_session.specs.declared.progress.Progress.TheVariants as progress

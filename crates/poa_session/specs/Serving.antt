@@ -24,7 +24,7 @@ use Rattle.session_laws.specs.Hearing.{Heard, Stop, over}
 use Rattle.session_laws.specs.Records.{arrived_by, joined_by, filling_by, is_late_by, told, IsPaidBy}
 use Rattle.session_laws.specs.Sessions.{Begins, CauseBy, Input, IsNext, SessionBy, closing}
 use Rattle.session_laws.specs.Expecting.{Expects}
-use Rattle.session_input.specs.Hearing.{Intake, OfIntake, StillHears}
+use Rattle.session_input.specs.Hearing.{Intake, OfIntake}
 use Rattle.poa_session.specs.Growing.{Adds}
 use Rattle.poa_session.specs.Served.{DriesUp}
 use Rattle.poa_session.specs.declared.progress.Progress.{Progress}

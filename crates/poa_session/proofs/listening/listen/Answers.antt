@@ -1,4 +1,4 @@
-use Rattle.std.proofs.Common.{ap, subst, sym, ◌∙◌}
+use Rattle.std.proofs.Common.{ap, subst, sym}
 use Rattle.seat_lock.specs.Seats.{view}
 use Rattle.poa_shared.specs.Seen.{Holds}
 use Rattle.poa_session.specs.Serving.{Listens}
