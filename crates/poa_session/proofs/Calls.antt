@@ -19,7 +19,7 @@ use Rattle.session_laws.specs.Records.{arrived_by, joined_by, filling_by}
 use Rattle.session_laws.specs.Sessions.{Begins, Hears, IsNext}
 use Rattle.session_laws.proofs.Own.{arrived_own, filling_own}
 use Rattle.poa_session.specs.Growing.{Adds}
-use Rattle.poa_session.specs.Serving.{AsArrived}
+use Rattle.poa_session.specs.Listening.{AsArrived}
 use Rattle.poa_session.specs.declared.progress.Progress.TheVariants as progress
 use Rattle.poa_session.proofs.Adding.{adds_none, adds_one, found_filling}
 

@@ -20,7 +20,8 @@ use Rattle.session_laws.proofs.Causes.{cause_since}
 use Rattle.session_laws.proofs.Ends.{input_begins, output_now, output_settled, short_of_closing, short_of_replies}
 use Rattle.poa_session.specs.Growing.{Adds}
 use Rattle.poa_session.specs.Served.{DriesUp}
-use Rattle.poa_session.specs.Serving.{BreaksOff, Settled, Settles}
+use Rattle.poa_session.specs.Paying.{BreaksOff}
+use Rattle.poa_session.specs.Settling.{Settled, Settles}
 use Rattle.poa_session.specs.Writing.{Writes}
 use Rattle.poa_session.proofs.Adding.{adds_same}
 

@@ -12,7 +12,8 @@ use Rattle.run_history.specs.declared.Givens.{Givens}
 use Rattle.poa_shared.specs.Seen.{Owns, past}
 use Rattle.session_laws.specs.Records.{filling_by}
 use Rattle.poa_session.specs.Growing.{Adds}
-use Rattle.poa_session.specs.Serving.{BreaksOff, Gathers, Looks, Pays, PaysAll}
+use Rattle.poa_session.specs.Paying.{BreaksOff, Gathers, Pays, PaysAll}
+use Rattle.poa_session.specs.Stopping.{Looks}
 use Rattle.poa_session.specs.Writing.{Writes}
 use Rattle.poa_session.proofs.Adding.{adds_both, adds_none, adds_same, found_filling}
 

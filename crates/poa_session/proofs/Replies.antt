@@ -18,7 +18,7 @@ use Rattle.session_laws.proofs.Own.{joined_own}
 use Rattle.session_laws.proofs.Paying.{paid_when}
 use Rattle.std.specs.declared.alloc.AllocError.{AllocError}
 use Rattle.poa_session.specs.Growing.{Adds}
-use Rattle.poa_session.specs.Serving.{Gathers, NextGathered, PutsOn}
+use Rattle.poa_session.specs.Paying.{Gathers, NextGathered, PutsOn}
 use Rattle.poa_session.proofs.Adding.{adds_both, adds_none, adds_one, adds_same, found_filling}
 
 histories : (x : Life) (y : Life) → y ≡ x → y.history ≡ x.history

@@ -27,7 +27,7 @@ use Rattle.session_laws.proofs.Causes.{cause_since}
 use Rattle.session_laws.proofs.Staying.{session_others, session_same}
 use Rattle.poa_session.specs.Growing.{Adds}
 use Rattle.poa_session.specs.Served.{RefusedAs, Served, ServedAs, TurnedAway}
-use Rattle.poa_session.specs.Serving.{Converses, Settled, TurnsAway, refusal}
+use Rattle.poa_session.specs.Settling.{Converses, Settled, TurnsAway, refusal}
 use Rattle.poa_session.proofs.Adding.{adds_both, adds_one, found_arrived}
 use Rattle.poa_session.proofs.Entering.{Begun, seen_front}
 

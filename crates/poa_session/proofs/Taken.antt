@@ -7,7 +7,7 @@ use Rattle.outside.specs.Link.{Shown, Moves, IsDry}
 use Rattle.outside.proofs.Moving.{moves_none}
 use Rattle.session_laws.specs.Hearing.{Heard, Stop}
 use Rattle.session_input.specs.Hearing.{Intake, OfIntake}
-use Rattle.poa_session.specs.Serving.{EndsAt, Takes}
+use Rattle.poa_session.specs.Taking.{EndsAt, Takes}
 
 module _ (i j : Intake) (have : ℕ) (a b : Shown) where
   few_nothing : i.taken ≤ 2 ^ 40 → i.taken + 0 ≤ 2 ^ 40

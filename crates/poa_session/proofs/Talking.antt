@@ -18,7 +18,8 @@ use Rattle.session_laws.proofs.Expected.{expects_begins}
 use Rattle.session_input.specs.Hearing.{Intake, OfIntake}
 use Rattle.session_input.proofs.GoingOn.{intake_goes_on}
 use Rattle.poa_session.specs.Growing.{Adds}
-use Rattle.poa_session.specs.Serving.{Converses, Rounds, Settled, Settles}
+use Rattle.poa_session.specs.Rounding.{Rounds}
+use Rattle.poa_session.specs.Settling.{Converses, Settled, Settles}
 use Rattle.poa_session.specs.declared.flow.Flow.{Flow}
 use Rattle.poa_session.specs.declared.flow.Flow.TheVariants as flow
 use Rattle.poa_session.proofs.Adding.{adds_both, adds_same}
