@@ -95,9 +95,9 @@ module _ {L : Type 0} (g : Givens) (peer : Peer) (shown : L → Shown) (visits :
     new_one d there same =
         let owns = so_far.ledger.owned d there in
         let old : get_elem? w.seen owns.place ≡ some (Entered c) = subst (λ k. get_elem? w.seen owns.place ≡ some (Entered k)) same (at_prefix v.seen w.seen owns.place (Entered d) served.grows owns.entered) in
-        let is : owns.place ≡ told.entered.0 = entered_once g w.seen owns.place told.entered.0 c served.runs old told.entered.2 in
+        let is : owns.place ≡ told.place = entered_once g w.seen owns.place told.place c served.runs old told.entered in
         let low = at_below v.seen owns.place (Entered d) owns.entered in
-        let high = told.entered.1 in omega arith
+        let high = told.later in omega arith
 
     apart : (d : ℕ) → In d (conns_of visits) → (place : ℕ) → In place (places c w.seen) → Belongs owner_of w.seen place d → ⊥
     apart d there place i b =
@@ -108,9 +108,9 @@ module _ {L : Type 0} (g : Givens) (peer : Peer) (shown : L → Shown) (visits :
 
     own_new : Owns w c
     own_new = record {
-      place = told.entered.0;
-      made = subst (In told.entered.0) (sym told.mine) (in_second told.entered.0 v.mine (places c w.seen) (belongs_placed w.seen c told.entered.0 (Entered c, told.entered.2, refl)));
-      entered = told.entered.2;
+      place = told.place;
+      made = subst (In told.place) (sym told.mine) (in_second told.place v.mine (places c w.seen) (belongs_placed w.seen c told.place (Entered c, told.entered, refl)));
+      entered = told.entered;
     }
 
     once_more : (d : ℕ) → times d (c ∷ conns_of visits) ≤ 1
@@ -155,7 +155,7 @@ module _ {L : Type 0} (g : Givens) (peer : Peer) (shown : L → Shown) (visits :
       );
     }
 
-  by_conn : (o : Option ℕ) → x.session.conn ≡ o → MatchOption o (RefusedAs v w x.session.end) (λ c. ServedAs g peer v w (shown x.before) (shown x.after) c x.session.end) → Attends g peer shown (x ∷ visits) first w
+  by_conn : (o : Option ℕ) → x.session.conn ≡ o → MatchOption o (RefusedAs peer v w (shown x.before) (shown x.after) x.session.end) (λ c. ServedAs g peer v w (shown x.before) (shown x.after) c x.session.end) → Attends g peer shown (x ∷ visits) first w
   by_conn None is refused = attends_refused is refused.mine
   by_conn (Some c) is told = attends_entered c is told
 
