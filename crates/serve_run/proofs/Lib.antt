@@ -8,3 +8,4 @@ pub mod Sessions
 pub mod Lasting
 pub mod Endings
 pub mod Opening
+pub mod Touring
