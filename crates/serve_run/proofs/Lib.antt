@@ -9,3 +9,4 @@ pub mod Lasting
 pub mod Endings
 pub mod Opening
 pub mod Touring
+pub mod Attended

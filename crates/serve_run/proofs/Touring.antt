@@ -166,3 +166,6 @@ module _ {A L : Type 0} (g : Givens) (shown : L → Shown) (standing : A → Opt
       clients = (refl, inner.clients);
       served = more_served Client task lane inner.tours v v' w j outcome kept room inner.served first first_room door refused end joined keeps;
     }
+
+pub kept_itself : (v : View Givens Entry) → IsKept v v
+kept_itself v = record { seen = refl; mine = refl; given = refl; base = refl }
