@@ -10,3 +10,4 @@ pub mod Endings
 pub mod Opening
 pub mod Touring
 pub mod Attended
+pub mod DoorEnds

@@ -14,7 +14,7 @@ use Rattle.serve_run.specs.Holding.{Holds, IsLast, IsWord}
 use Rattle.serve_run.specs.Lanes.{AreOf, AreServed, closed_doors, served_doors}
 use Rattle.serve_run.specs.Outcomes.{any_failed, least_in}
 use Rattle.serve_run.specs.Starting.{IsSameSeat}
-use Rattle.serve_run.specs.Tours.{Tour, Shift, conns_in, workers_in}
+use Rattle.serve_run.specs.Tours.{Tour, Shift, workers_in}
 
 -- the administrators' door was served, too
 abbrev pub IsAdminServed : {A L : Type 0} → List (Tour A L) → List (Tour A L) → Doors A → Doors A → Type 0
@@ -51,6 +51,6 @@ module _ {A L : Type 0} (g : Givens) (shown : L → Shown) (standing : A → Opt
     pub word : IsWord own
     pub shifts : List Shift
     pub holds : outcome.lost ≡ false → Holds g shown standing faults own tours shifts new
-    pub last : outcome.short ≡ None → outcome.lost ≡ false → IsLast own (conns_in tours) new
+    pub last : outcome.short ≡ None → outcome.lost ≡ false → IsLast own tours new
     pub below : (w : ℕ) → In w (workers_in shifts) → w < count
     pub worked : outcome.short ≡ None → outcome.lost ≡ false → (w : ℕ) → w < count → In w (workers_in shifts)

@@ -6,3 +6,4 @@ pub mod Starting
 pub mod Shutting
 pub mod Lanes
 pub mod Attending
+pub mod Running
