@@ -20,6 +20,7 @@ pub struct HoldGate<C: Clock + Drop> {
 }
 
 impl<C: Clock + Drop> HoldGate<C> {
+    /// A gate that holds a worker until the signal is raised.
     pub fn new(clock: C, signal: Signal) -> Self {
         HoldGate {
             clock,

@@ -17,10 +17,12 @@ impl Signal {
         })
     }
 
+    /// Raises it.
     pub fn raise(&self) {
         self.word.store(true, Ordering::SeqCst);
     }
 
+    /// Whether it was raised.
     pub fn is_raised(&self) -> bool {
         self.word.load(Ordering::SeqCst)
     }
