@@ -10,6 +10,7 @@ use Rattle.outside.specs.Told.{IfTold}
 use Rattle.outside.specs.Link.{Shown, Moves, IsDry}
 use Rattle.outside.proofs.Moving.{moves_both, moves_none, moves_out}
 use Rattle.run_history.specs.declared.Givens.{Givens}
+use Rattle.run_history.specs.Runs.{IsHistory}
 use Rattle.poa_shared.specs.Seen.{past}
 use Rattle.session_laws.specs.declared.Peer.{Peer}
 use Rattle.session_laws.specs.Hearing.{Heard}
@@ -118,7 +119,7 @@ module _ (g : Givens) (peer : Peer) (c : ℕ) (v : View Givens Entry) (a : Shown
     done = [];
     adds = adds_same g c v;
     moved = moves_none a;
-    settled = λ text may dry. record {
+    settled = λ text ran may dry. record {
       session = record {
         input = may.input;
         output = output_now peer text (arrived_by (past v) c) (joined_by g (past v) c) (IsPaidBy (past v) c) (joined_by g (past v) c ++ []) end now
@@ -152,15 +153,15 @@ module _ (g : Givens) (peer : Peer) (c : ℕ) (v : View Givens Entry) (a : Shown
       done = done;
       adds = adds;
       moved = moved;
-      settled = λ text may dry. settled_broken g peer c w text (joined_by g (past v) c) due done broken b adds.joined_is breaks (begins_later text may.input) (filled_later text may.filled);
+      settled = λ text ran may dry. settled_broken g peer c w text (joined_by g (past v) c) due done broken b adds.joined_is breaks (begins_later text may.input) (filled_later text may.filled);
     }
 
-    module _ (settling : is_settling end ≡ true) (paid : IsPaidBy (past w) c) (runs : IsLegal g.config g.run g.limit (past w)) where
-      cause_now : (text : List ℕ) → CauseBy peer (past v) (arrived_by (past v) c) text end → CauseBy peer (past w) (arrived_by (past w) c) text end
-      cause_now text cause =
+    module _ (settling : is_settling end ≡ true) (paid : IsPaidBy (past w) c) where
+      cause_now : (text : List ℕ) → IsHistory g (past v) → CauseBy peer (past v) (arrived_by (past v) c) text end → CauseBy peer (past w) (arrived_by (past w) c) text end
+      cause_now text ran cause =
           subst (λ calls. CauseBy peer (past w) calls text end) (sym arrived_same)
           (subst (λ h. CauseBy peer h (arrived_by (past v) c) text end) (sym adds.since)
-          (cause_since g.config g.run g.limit adds.more (past v) (subst (λ h. IsLegal g.config g.run g.limit h) adds.since runs) peer (arrived_by (past v) c) text end cause))
+          (cause_since g.config g.run g.limit adds.more (past v) (subst (λ h. IsLegal g.config g.run g.limit h) adds.since (adds.runs ran).legal) peer (arrived_by (past v) c) text end cause))
 
       -- all is paid, and the connection closed
       pub settles_closed : (b z : Shown) → Moves a b [] due → Moves b z [] (closing peer end) → Settles g peer c v a w z end end
@@ -169,14 +170,14 @@ module _ (g : Givens) (peer : Peer) (c : ℕ) (v : View Givens Entry) (a : Shown
         done = due ++ closing peer end;
         adds = adds;
         moved = moves_out a b z [] due (closing peer end) moved closed;
-        settled = λ text may dry. record {
+        settled = λ text ran may dry. record {
           session = record {
             input = input_later text end may.input;
             output = output_settled peer text (arrived_by (past w) c) (joined_by g (past w) c) (IsPaidBy (past w) c) (joined_by g (past v) c ++ (due ++ closing peer end)) end settling paid
                 (sym (append_assoc (joined_by g (past v) c) due (closing peer end)) ∙ ap (λ rs. rs ++ closing peer end) (sym adds.joined_is));
             filled = filled_later text may.filled;
           };
-          cause = cause_now text may.cause;
+          cause = cause_now text ran may.cause;
           dry = dry_later peer text end a z (due ++ closing peer end) (moves_out a b z [] due (closing peer end) moved closed) dry;
         };
       }
@@ -188,7 +189,7 @@ module _ (g : Givens) (peer : Peer) (c : ℕ) (v : View Givens Entry) (a : Shown
         done = due ++ done;
         adds = adds;
         moved = moves_out a b z [] due done moved part;
-        settled = λ text may dry. record {
+        settled = λ text ran may dry. record {
           session = record {
             input = begins_later text may.input;
             output = short_of_closing peer text (arrived_by (past w) c) (joined_by g (past w) c) (IsPaidBy (past w) c) (joined_by g (past v) c ++ (due ++ done)) end (input_later text end may.input) paid rest
@@ -201,3 +202,7 @@ module _ (g : Givens) (peer : Peer) (c : ℕ) (v : View Givens Entry) (a : Shown
           dry = tt;
         };
       }
+
+-- a whole piece was written
+pub closed_whole : (bytes : List ℕ) (a b : Shown) → Writes bytes a b true → Moves a b [] bytes
+closed_whole bytes a b w = subst (Moves a b []) (sym (w.front ∙ (ap (λ rest. w.done ++ rest) (w.all refl) ∙ append-nil w.done))) w.moved

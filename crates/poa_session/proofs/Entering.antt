@@ -67,7 +67,7 @@ begun g v h w c turns answer = record {
   filling = ap (λ k. filling_by k c) is ∙ no_filling c h none;
   place = length h;
   later = (let long : length h ≡ length turns.goes_on.more + length (past v) = ap length turns.goes_on.is ∙ length-append turns.goes_on.more (past v) in let same = length-reverse v.seen in omega (arith, long, same));
-  entered = subst (λ l. get_elem? l (length h) ≡ some (Entered c)) (sym seen) (at_last (reverse h) (Entered c) (length h) (sym (length-reverse h)));
+  entered = subst (λ l. get_elem? l (length h) ≡ some (Entered c)) (sym seen) (at_last (reverse h) (Entered c) (length h) (length-reverse h));
   places_are = ap (λ k. places_by k c) is ∙ (places_own c h (Entered c) refl ∙ ap (λ ps. ps ++ length h ∷ []) (no_places c h none));
   mine_is = turns.one_made (Entered c) is;
 }

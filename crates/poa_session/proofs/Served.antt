@@ -38,8 +38,7 @@ session_left : (g : Givens) (peer : Peer) (c : ℕ) (h : List Entry) (text out :
 session_left g peer c h text out end s = session_same g peer c text out end h (Left c ∷ h) refl refl refl (λ paid. paid) s
 
 module _ (g : Givens) (peer : Peer) (c : ℕ) (v : View Givens Entry) (found : List Entry) (u w : View Givens Entry) (h : List Entry) (z : View Givens Entry) (a b : Shown) (end : SessionEnd)
-  (entered : Turns g v found u) (begun : Begun g c v u) (talked : Converses g peer c u a w b end) (owns : Owns w c) (leaves : Turns g w h z) (gone : past z ≡ Left c ∷ h) where
-
+    (entered : Turns g v found u) (begun : Begun g c v u) (talked : Converses g peer c u a w b end) (owns : Owns w c) (leaves : Turns g w h z) (gone : past z ≡ Left c ∷ h) where
   left_adds : Adds g c w z [] []
   left_adds = adds_one g c w h z leaves owns (Left c) gone refl [] [] (sym (append-nil (arrived_by h c))) (sym (append-nil (joined_by g h c))) refl
 
@@ -47,7 +46,7 @@ module _ (g : Givens) (peer : Peer) (c : ℕ) (v : View Givens Entry) (found : L
   all_adds = adds_both g c u w z talked.calls [] talked.replies [] talked.adds left_adds
 
   settled : Settled g peer c w talked.text talked.out end b
-  settled = talked.settled begun.calls begun.replies begun.filling
+  settled = talked.settled entered.runs begun.calls begun.replies begun.filling
 
   legal : IsLegal g.config g.run g.limit h
   legal = (subst (IsLegal g.config g.run g.limit) gone leaves.runs.legal).1

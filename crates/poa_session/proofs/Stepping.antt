@@ -20,9 +20,9 @@ use Rattle.poa_shared.specs.Seen.{Owns, Turns, past}
 use Rattle.session_laws.specs.declared.Peer.{Peer}
 use Rattle.session_laws.specs.Hearing.{Heard, Stop, over}
 use Rattle.session_laws.specs.Records.{arrived_by, joined_by, filling_by, is_late_by, IsPaidBy}
-use Rattle.session_laws.specs.Sessions.{Begins, CauseBy, Input, IsNext}
+use Rattle.session_laws.specs.Sessions.{Begins, CauseBy, Hears as HearsAll, Input, IsNext}
 use Rattle.session_laws.specs.Expecting.{Expects}
-use Rattle.session_laws.proofs.Causes.{abandoned_later, shut_later}
+use Rattle.session_laws.proofs.Causes.{shut_later}
 use Rattle.session_laws.proofs.Expected.{expects_begins, expects_fed, expects_front, expects_stop}
 use Rattle.session_input.specs.Hearing.{Intake, OfIntake}
 use Rattle.session_input.proofs.GoingOn.{intake_goes_on}
@@ -47,6 +47,10 @@ phase_says None true filled = refl
 phase_says None false true = refl
 phase_says None false false = refl
 
+or_later : (a b : Bool) → b ≡ true → (a || b) ≡ true
+or_later true b is = refl
+or_later false b is = is
+
 or_first : (a b : Bool) → a ≡ true → (a || b) ≡ true
 or_first true b first = refl
 or_first false b first = absurd (let e : false ≡ true = first in cc)
@@ -54,7 +58,7 @@ or_first false b first = absurd (let e : false ≡ true = first in cc)
 then_gave_up : (h : List Entry) (v worker : ℕ) → (first_abandoned h ≡ Some worker → is_abandoned h worker ≡ true)
     → (o : Option ℕ) → first_abandoned h ≡ o → option_or o (Some v) ≡ Some worker → is_abandoned (Abandon v ∷ h) worker ≡ true
 then_gave_up h v worker before None none is = or_first (v == worker) (is_abandoned h worker) (eq-eqb v worker (let e : Some v ≡ Some worker = is in cc))
-then_gave_up h v worker before (Some x) was is = abandoned_later (Abandon v) h worker (before (was ∙ is))
+then_gave_up h v worker before (Some x) was is = or_later (v == worker) (is_abandoned h worker) (before (was ∙ is))
 
 gave_up : (h : List Entry) (worker : ℕ) → first_abandoned h ≡ Some worker → is_abandoned h worker ≡ true
 gave_up [] worker is = absurd (let e : None ≡ Some worker = is in cc)
@@ -106,8 +110,8 @@ late_shut (Entered conn ∷ h) c is =
 late_shut (e ∷ h) c is = shut_later e h (late_shut h c is)
 
 -- what is asked of the front of a text where nothing follows
-nothing_behind : {P : List ℕ → Type 0} (text : List ℕ) → P text → P (text ++ [])
-nothing_behind {P} text p = subst P (sym (append-nil text)) p
+nothing_behind : (P : List ℕ → Type 0) (text : List ℕ) → P text → P (text ++ [])
+nothing_behind P text p = subst P (sym (append-nil text)) p
 
 module _ (g : Givens) (peer : Peer) (c : ℕ) (v : View Givens Entry) (a : Shown) (i : Intake) (owns : Owns v c) (u : View Givens Entry) where
   module _ (o : Option SessionEnd) (looked : Looks g v u o) where
@@ -150,10 +154,11 @@ module _ (g : Givens) (peer : Peer) (c : ℕ) (v : View Givens Entry) (a : Shown
     moved = moves_none a;
     few = λ few. omega (arith, few);
     silent = λ _. refl;
+    goes_on = tt;
     flows = λ text counted unfilled expected.
         (let may = stops_may text end looked.stops (expects_begins peer (OfIntake i) text (arrived_by (past u) c) (expected_then (Some end) looked text expected) (intake_goes_on i []))
-            (unfilled_then (Some end) looked unfilled) in
-        (refl, nothing_behind {λ t. MayEnd peer c u t end} text may.0, nothing_behind {λ t. DriesUp peer t end a} text may.1));
+        (unfilled_then (Some end) looked unfilled) in
+        (refl, nothing_behind (λ t. MayEnd peer c u t end) text may.0, nothing_behind (λ t. DriesUp peer t end a) text may.1));
   }
 
   module _ (looked : Looks g v u None) (x : View Givens Entry) (j : Intake) where
@@ -173,9 +178,10 @@ module _ (g : Givens) (peer : Peer) (c : ℕ) (v : View Givens Entry) (a : Shown
       moved = moves_none a;
       few = λ few. omega (arith, few);
       silent = hears_not listened.calls;
+      goes_on = tt;
       flows = λ text counted unfilled expected.
           (let may = listened.heard text (unfilled_then None looked unfilled) (expected_then None looked text expected) in
-          (refl, nothing_behind {λ t. MayEnd peer c x t end} text may.0, nothing_behind {λ t. DriesUp peer t end a} text (may.1 a)));
+          (refl, nothing_behind (λ t. MayEnd peer c x t end) text may.0, nothing_behind (λ t. DriesUp peer t end a) text (may.1 a)));
     }
 
     module _ (have : ℕ) (listened : Listens g peer c u i x j (Ok have)) where
@@ -197,12 +203,14 @@ module _ (g : Givens) (peer : Peer) (c : ℕ) (v : View Givens Entry) (a : Shown
         moved = paid.moved;
         few = λ few. omega (arith, few);
         silent = hears_not listened.calls;
-        flows = λ text counted unfilled expected.
-            (paid.paid,
-             nothing_behind {λ t. Begins peer t (arrived_by (past w) c)} text
-               (subst (λ cs. Begins peer text cs) (sym (paid.adds.arrived_is ∙ append-nil (arrived_by (past x) c)))
-               (expects_begins peer (OfIntake j) text (arrived_by (past x) c) (heard_all text expected) (intake_goes_on j []))),
-             paid.same ∙ unfilled_still unfilled);
+        goes_on = tt;
+        flows = λ text counted unfilled expected. (
+          paid.paid,
+          nothing_behind (λ t. Begins peer t (arrived_by (past w) c)) text
+              (subst (λ cs. Begins peer text cs) (sym (paid.adds.arrived_is ∙ append-nil (arrived_by (past x) c)))
+              (expects_begins peer (OfIntake j) text (arrived_by (past x) c) (heard_all text expected) (intake_goes_on j []))),
+          paid.same ∙ unfilled_still unfilled,
+        );
       }
 
       module _ (w : View Givens Entry) (b : Shown) (owed : ℕ) (paid : Pays g c x a w b (Ok owed)) (k : Intake) (z : Shown) where
@@ -227,14 +235,16 @@ module _ (g : Givens) (peer : Peer) (c : ℕ) (v : View Givens Entry) (a : Shown
             → (Input peer (text ++ piece) (arrived_by (past w) c) end) × CauseBy peer (past w) (arrived_by (past w) c) (text ++ piece) end × DriesUp peer (text ++ piece) end z
         takes_may text piece Ended counted took expected =
             subst (λ p. Input peer (text ++ p) (arrived_by (past w) c) Ended × Unit {0} × DriesUp peer (text ++ p) Ended z) (sym took.0)
-            (inr (nothing_behind {λ t. _} text (expects_stop peer (OfIntake j) text (arrived_by (past w) c) expected (over 0) (subst (λ n. OfIntake j [] [] (over n)) took.1 listened.heard.1))), tt, inr took.2)
+            (inr (nothing_behind (λ t. HearsAll peer t (arrived_by (past w) c) (over 0)) text (expects_stop peer (OfIntake j) text (arrived_by (past w) c) expected (over 0) (subst (λ n. OfIntake j [] [] (over n)) took.1 listened.heard.1))), tt, inr took.2)
         takes_may text piece (Truncated bytes) counted took expected =
             subst (λ p. Input peer (text ++ p) (arrived_by (past w) c) (Truncated bytes) × Unit {0} × DriesUp peer (text ++ p) (Truncated bytes) z) (sym took.0)
-            ((nothing_behind {λ t. _} text (expects_stop peer (OfIntake j) text (arrived_by (past w) c) expected (over bytes) (subst (λ n. OfIntake j [] [] (over n)) (sym took.1) listened.heard.1)), subst (λ n. 0 < n) (sym took.1) took.2), tt, took.3)
+            ((nothing_behind (λ t. HearsAll peer t (arrived_by (past w) c) (over bytes)) text (expects_stop peer (OfIntake j) text (arrived_by (past w) c) expected (over bytes) (subst (λ n. OfIntake j [] [] (over n)) (sym took.1) listened.heard.1)), subst (λ n. 0 < n) (sym took.1) took.2), tt, took.3)
         takes_may text piece ReadFault counted took expected = (expects_front peer (OfIntake j) text (arrived_by (past w) c) expected piece (intake_goes_on j piece), tt, tt)
-        takes_may text piece (InputLimit taken) counted took expected =
-            (expects_front peer (OfIntake j) text (arrived_by (past w) c) expected piece (intake_goes_on j piece),
-             (took.2, ap (λ p. length (text ++ p)) took.0 ∙ (ap length (append-nil text) ∙ (counted ∙ (sym listened.taken ∙ sym took.1)))), tt)
+        takes_may text piece (InputLimit taken) counted took expected = (
+          expects_front peer (OfIntake j) text (arrived_by (past w) c) expected piece (intake_goes_on j piece),
+          (took.2, ap (λ p. length (text ++ p)) took.0 ∙ (ap length (append-nil text) ∙ (counted ∙ (sym listened.taken ∙ sym took.1)))),
+          tt,
+        )
         takes_may text piece WantMemory counted took expected = (expects_front peer (OfIntake j) text (arrived_by (past w) c) expected piece (intake_goes_on j piece), tt, tt)
         takes_may text piece Shut counted took expected = absurd took
         takes_may text piece WriteFault counted took expected = absurd took
@@ -252,11 +262,13 @@ module _ (g : Givens) (peer : Peer) (c : ℕ) (v : View Givens Entry) (a : Shown
           moved = all_moved took.piece took.moved;
           few = counted_few took.piece took.few;
           silent = hears_not listened.calls;
+          goes_on = tt;
           flows = λ text counted unfilled expected.
-              (let may = takes_may text took.piece end counted took.taken (expected_now text expected) in
-              (paid.paid.0,
-               record { input = may.0; cause = may.1; filled = subst (λ (x : Option ℕ). IfSome x (IsNext peer (text ++ took.piece) (arrived_by (past w) c))) (sym (unfilled_now unfilled)) tt },
-               may.2));
+              (let may = takes_may text took.piece end counted took.taken (expected_now text expected) in (
+                paid.paid.0,
+                record { input = may.0; cause = may.1; filled = subst (λ (x : Option ℕ). IfSome x (IsNext peer (text ++ took.piece) (arrived_by (past w) c))) (sym (unfilled_now unfilled)) tt },
+                may.2,
+              ));
         }
 
         pub rounds_on : Takes j k have b z None → Rounds g peer c v a i w z k flow.On
@@ -269,8 +281,7 @@ module _ (g : Givens) (peer : Peer) (c : ℕ) (v : View Givens Entry) (a : Shown
           moved = all_moved took.piece took.moved;
           few = counted_few took.piece took.few;
           silent = hears_not listened.calls;
+          goes_on = (paid.paid.0, took.taken.0 ∙ ap (λ n. n + length took.piece) listened.taken);
           flows = λ text counted unfilled expected.
-              (paid.paid.0, unfilled_now unfilled,
-               length-append text took.piece ∙ (ap (λ n. n + length took.piece) (counted ∙ sym listened.taken) ∙ sym took.taken.0),
-               expects_fed peer (OfIntake j) (OfIntake k) text (arrived_by (past w) c) (expected_now text expected) took.piece took.taken.1);
+              (unfilled_now unfilled, expects_fed peer (OfIntake j) (OfIntake k) text (arrived_by (past w) c) (expected_now text expected) took.piece took.taken.1);
         }

@@ -12,13 +12,16 @@ use Rattle.seat_lock.specs.declared.view.View.{View}
 use Rattle.outside.specs.Cause.{Rose}
 use Rattle.outside.specs.Link.{Shown, Moves, IsDry}
 use Rattle.run_history.specs.declared.Givens.{Givens}
+use Rattle.run_history.specs.Runs.{IsHistory}
 use Rattle.run_tally.specs.Leaving.{is_shut}
+use Rattle.poa_core.specs.declared.Collected.{Collected}
+use Rattle.poa_core.specs.declared.Collected.TheVariants as collected
 use Rattle.poa_core.specs.declared.EnterFault.{EnterFault}
 use Rattle.poa_core.specs.declared.EnterFault.TheVariants as enter_fault
 use Rattle.poa_shared.specs.Seen.{Turns, past}
 use Rattle.session_laws.specs.declared.Peer.{Peer}
 use Rattle.session_laws.specs.Hearing.{Heard, Stop, over}
-use Rattle.session_laws.specs.Records.{arrived_by, joined_by, filling_by, is_late_by, IsPaidBy}
+use Rattle.session_laws.specs.Records.{arrived_by, joined_by, filling_by, is_late_by, told, IsPaidBy}
 use Rattle.session_laws.specs.Sessions.{Begins, CauseBy, Input, IsNext, SessionBy, closing}
 use Rattle.session_laws.specs.Expecting.{Expects}
 use Rattle.session_input.specs.Hearing.{Intake, OfIntake, StillHears}
@@ -85,6 +88,21 @@ pub record Gathers (g : Givens) (c : ℕ) (v w : View Givens Entry) (old new : L
   pub same : filling_by (past w) c ≡ filling_by (past v) c
   pub gathered : AsGathered (past w) c old due new result
 
+-- a reply was given, and stands behind the bytes that stood before; or none is decided
+abbrev pub NextGathered : Givens → ℕ → View Givens Entry → View Givens Entry → List ℕ → List ℕ → Result (Option ℕ) AllocError → Type 0
+NextGathered g c v w old new (Ok None) = (bytes : List ℕ) × (Adds g c v w [] bytes × (filling_by (past w) c ≡ filling_by (past v) c)) × (new ≡ old ++ bytes)
+NextGathered g c v w old new (Ok (Some owed)) = (Adds g c v w [] [] × (filling_by (past w) c ≡ filling_by (past v) c) × (owed ≡ 0 → IsPaidBy (past w) c)) × (new ≡ old)
+NextGathered g c v w old new (Err fault) = (bytes : List ℕ) × (Adds g c v w [] bytes × (filling_by (past w) c ≡ filling_by (past v) c))
+
+-- what is collected is put behind the bytes that stand there
+abbrev pub PutsOn : Collected → List ℕ → List ℕ → Result (Option ℕ) AllocError → Type 0
+PutsOn (collected.Reply r head reply) old new (Ok None) = new ≡ old ++ told head reply
+PutsOn (collected.Reply r head reply) old new (Ok (Some owed)) = ⊥
+PutsOn (collected.Reply r head reply) old new (Err fault) = Unit {0}
+PutsOn (collected.Nothing owes) old new (Ok None) = ⊥
+PutsOn (collected.Nothing owes) old new (Ok (Some owed)) = (owed ≡ owes) × (new ≡ old)
+PutsOn (collected.Nothing owes) old new (Err fault) = ⊥
+
 pub record Pays (g : Givens) (c : ℕ) (v : View Givens Entry) (a : Shown) (w : View Givens Entry) (b : Shown) (result : Result ℕ SessionEnd) : Type 0 where
   pub due : List ℕ
   pub done : List ℕ
@@ -132,10 +150,15 @@ pub record Takes (i j : Intake) (have : ℕ) (a b : Shown) (result : Option Sess
 
 -- the session goes on with more text; or it may end so; or what it wrote breaks off
 abbrev pub AsFlow : Peer → ℕ → View Givens Entry → Intake → List ℕ → List ℕ → List ℕ → Shown → Flow → Type 0
-AsFlow peer c w j text due done shown On =
-    (done ≡ due) × (filling_by (past w) c ≡ None) × (length text ≡ j.taken) × Expects peer (OfIntake j) text (arrived_by (past w) c)
+AsFlow peer c w j text due done shown On = (filling_by (past w) c ≡ None) × Expects peer (OfIntake j) text (arrived_by (past w) c)
 AsFlow peer c w j text due done shown (Ends end) = (done ≡ due) × MayEnd peer c w text end × DriesUp peer text end shown
 AsFlow peer c w j text due done shown (Broke end) = BreaksOff (past w) end due done × Begins peer text (arrived_by (past w) c) × (filling_by (past w) c ≡ None)
+
+-- where a session goes on, all replies that were given are written, and the piece is taken in
+abbrev pub GoesOn : Intake → Intake → List ℕ → List ℕ → List ℕ → Flow → Type 0
+GoesOn i j piece due done On = (done ≡ due) × (j.taken ≡ i.taken + length piece)
+GoesOn i j piece due done (Ends end) = Unit {0}
+GoesOn i j piece due done (Broke end) = Unit {0}
 
 -- one round of a session: calls arrived, replies were given and written, and a piece was read
 pub record Rounds (g : Givens) (peer : Peer) (c : ℕ) (v : View Givens Entry) (a : Shown) (i : Intake) (w : View Givens Entry) (b : Shown) (j : Intake) (flow : Flow) : Type 0 where
@@ -147,6 +170,7 @@ pub record Rounds (g : Givens) (peer : Peer) (c : ℕ) (v : View Givens Entry) (
   pub moved : Moves a b piece done
   pub few : i.taken ≤ 2 ^ 40 → i.taken + length piece ≤ 2 ^ 40
   pub silent : is_late_by (past v) c ≡ true → calls ≡ []
+  pub goes_on : GoesOn i j piece due done flow
   pub flows : (text : List ℕ) → length text ≡ i.taken → filling_by (past v) c ≡ None → Expects peer (OfIntake i) text (arrived_by (past v) c)
       → AsFlow peer c w j (text ++ piece) due done b flow
 
@@ -162,7 +186,7 @@ pub record Settles (g : Givens) (peer : Peer) (c : ℕ) (v : View Givens Entry) 
   pub done : List ℕ
   pub adds : Adds g c v w [] due
   pub moved : Moves a b [] done
-  pub settled : (text : List ℕ) → MayEnd peer c v text end → DriesUp peer text end a → Settled g peer c w text (joined_by g (past v) c ++ done) result b
+  pub settled : (text : List ℕ) → IsHistory g (past v) → MayEnd peer c v text end → DriesUp peer text end a → Settled g peer c w text (joined_by g (past v) c ++ done) result b
 
 -- the connection was served from its entering to the end of its session
 pub record Converses (g : Givens) (peer : Peer) (c : ℕ) (v : View Givens Entry) (a : Shown) (w : View Givens Entry) (b : Shown) (end : SessionEnd) : Type 0 where
@@ -174,7 +198,7 @@ pub record Converses (g : Givens) (peer : Peer) (c : ℕ) (v : View Givens Entry
   pub moved : Moves a b text out
   pub few : length text ≤ 2 ^ 40
   pub silent : is_late_by (past v) c ≡ true → calls ≡ []
-  pub settled : arrived_by (past v) c ≡ [] → joined_by g (past v) c ≡ [] → filling_by (past v) c ≡ None → Settled g peer c w text out end b
+  pub settled : IsHistory g (past v) → arrived_by (past v) c ≡ [] → joined_by g (past v) c ≡ [] → filling_by (past v) c ≡ None → Settled g peer c w text out end b
 
 -- the call arrived; or it didn't, and the session may end so, where it was the next of what the peer sent
 abbrev pub AsArrived : Givens → ℕ → Call → ℕ → View Givens Entry → View Givens Entry → Progress → Type 0
@@ -183,6 +207,7 @@ AsArrived g c call size v w (progress.Waits have) = ⊥
 AsArrived g c call size v w (progress.Ends end) =
     Adds g c v w [] []
     × ((peer : Peer) (text : List ℕ) → filling_by (past v) c ≡ None → IsNext peer text (arrived_by (past v) c) size → MayEnd peer c w text end)
+    × ((peer : Peer) (text : List ℕ) (shown : Shown) → DriesUp peer text end shown)
 
 -- the input may say more
 abbrev pub AsHeard : Peer → ℕ → View Givens Entry → Intake → View Givens Entry → Intake → Progress → Type 0
@@ -197,7 +222,6 @@ pub record Hears (g : Givens) (peer : Peer) (c : ℕ) (v : View Givens Entry) (i
   pub adds : Adds g c v w calls []
   pub heard : AsHeard peer c v i w j result
   pub taken : j.taken ≡ i.taken
-
 
 -- how a session ends that couldn't begin
 abbrev pub refusal : EnterFault → SessionEnd

@@ -1,5 +1,5 @@
 //! Replies that are given and written.
-ghost use Rattle.std.specs.Prelude.{◌≡◌, ◌≢◌, ◌≤◌, ◌++◌, ◌×◌, Some, Err, IfOk, OnOk, IsTrue};
+ghost use Rattle.std.specs.Prelude.{◌≡◌, ◌≢◌, ◌≤◌, ◌++◌, Some, Err, IfOk, OnOk, IsTrue};
 ghost use Rattle.seat_lock.specs.Seats.{view};
 ghost use Rattle.outside.specs.Cause.{HasCause};
 ghost use Rattle.run_history.specs.declared.Givens.{Givens};
@@ -7,7 +7,7 @@ ghost use Rattle.giop_msg.specs.Reply.{AnswersHead};
 ghost use Rattle.session_laws.specs.Records.{told};
 ghost use Rattle.poa_shared.specs.Seats.{IsIdle};
 ghost use Rattle.poa_shared.specs.Seen.{Holds, Owns};
-ghost use Rattle.poa_session.specs.Serving.{Gathers, Pays};
+ghost use Rattle.poa_session.specs.Serving.{Gathers, NextGathered, Pays, PutsOn};
 
 use crate::writing::write_all;
 use admin_line::write_answer;
@@ -15,7 +15,7 @@ use giop_msg::write_reply;
 use outside::Link;
 use poa_base::{Head, Reply, SessionEnd, WantMemory};
 use poa_core::Collected;
-use poa_shared::{Seat, Shared};
+use poa_shared::{Front, Seat, Shared};
 use std::alloc::Global;
 use std::sync::Wait;
 
@@ -47,7 +47,7 @@ pub(crate) fn collect_all<R: Wait, L: Link>(
     Ok(owed)
 }
 
-// Collects the replies that are decided, and puts them behind the others.
+// Collects the replies that are decided, under one hold of the front, and puts them behind the others.
 fn gather<R: Wait>(
     rt: &R,
     alloc: Global,
@@ -62,13 +62,53 @@ fn gather<R: Wait>(
     ensures conn { Holds (view seat.new) conn }
     ensures gathers { (g : Givens) → (view seat.old).givens ≡ Some g → Gathers g conn (view seat.old) (view seat.new) replies.old.items replies.new.items result }
 {
+    let front = shared.front(rt);
     for _ in rt.forever() {
-        match shared.collect(rt, seat, conn) {
-            Collected::Reply { head, reply, .. } => put_reply(alloc, replies, &head, &reply)?,
-            Collected::Nothing { owed } => return Ok(owed),
+        let Ok(next) = collect_next(rt, alloc, shared, &front, seat, conn, replies) else {
+            return Err(WantMemory);
+        };
+        if let Some(owed) = next {
+            return Ok(owed);
         }
     }
     unreachable!()
+}
+
+// Collects the next reply, and puts it behind the others. Where none is decided, how many calls are owed one. The front is held.
+fn collect_next<R: Wait>(
+    rt: &R,
+    alloc: Global,
+    shared: &Shared,
+    front: &Front<'_>,
+    seat: &mut Seat,
+    conn: u32,
+    replies: &mut Vec<u8>,
+) -> Result<Option<u64>, WantMemory>
+    requires seat { IsIdle shared.now seat.old }
+    requires conn { Holds (view seat.old) conn }
+    ensures seat { IsIdle shared.now seat.new }
+    ensures conn { Holds (view seat.new) conn }
+    ensures next { (g : Givens) → (view seat.old).givens ≡ Some g → NextGathered g conn (view seat.old) (view seat.new) replies.old.items replies.new.items result }
+{
+    let collected = shared.collect_within(rt, front, seat, conn);
+    put_collected(alloc, replies, &collected)
+}
+
+// Puts a reply that was collected behind the others.
+fn put_collected(
+    alloc: Global,
+    replies: &mut Vec<u8>,
+    collected: &Collected,
+) -> Result<Option<u64>, WantMemory>
+    ensures { PutsOn collected.now replies.old.items replies.new.items result }
+{
+    match collected {
+        Collected::Reply { head, reply, .. } => {
+            put_reply(alloc, replies, head, reply)?;
+            Ok(None)
+        }
+        Collected::Nothing { owed } => Ok(Some(*owed)),
+    }
 }
 
 // Puts a reply behind the others.
@@ -83,7 +123,7 @@ fn put_reply(
     if let Reply::Answer { number, answer } = reply {
         let line = write_answer(alloc, *number, answer)?;
         replies.extend_from_slice(line.as_slice())?;
-        return replies.push(b'\n');
+        return replies.extend_from_slice(b"\n");
     }
     // Each message is answered by a reply to it.
     if !answers(head, reply) {

@@ -1,10 +1,12 @@
 //! A session from its entering to its end.
-ghost use Rattle.std.specs.Prelude.{◌≡◌, Some};
+ghost use Rattle.std.specs.Prelude.{◌≡◌, ◌<◌, [], Some, length};
 ghost use Rattle.seat_lock.specs.Seats.{view};
 ghost use Rattle.outside.specs.Cause.{HasCause};
 ghost use Rattle.run_history.specs.declared.Givens.{Givens};
 ghost use Rattle.poa_shared.specs.Seats.{IsIdle};
 ghost use Rattle.poa_shared.specs.Seen.{Holds};
+ghost use Rattle.session_laws.specs.Expecting.{Expects};
+ghost use Rattle.session_input.specs.Hearing.{OfIntake};
 ghost use Rattle.poa_session.specs.Serving.{Converses};
 
 use crate::closing::settle;
@@ -36,7 +38,7 @@ pub(crate) fn converse<R: Wait, L: Link>(
     ensures seat { IsIdle shared.now seat.new }
     ensures conn { Holds (view seat.new) conn }
     ensures converses { (g : Givens) → (view seat.old).givens ≡ Some g → Converses g peer conn (view seat.old) (L.shown link.old) (view seat.new) (L.shown link.new) result }
-    ensures read { HasCause (L.shown link.old).read_faults (L.shown link.new).read_faults (result ≡ SessionEnd.ReadFault) }
+    ensures read { (g : Givens) → (view seat.old).givens ≡ Some g → HasCause (L.shown link.old).read_faults (L.shown link.new).read_faults (result ≡ SessionEnd.ReadFault) }
     ensures written { HasCause (L.shown link.old).write_faults (L.shown link.new).write_faults (result ≡ SessionEnd.WriteFault) }
 {
     let mut input = Input::new(alloc, peer);
@@ -46,9 +48,44 @@ pub(crate) fn converse<R: Wait, L: Link>(
     if hang(rt, shared, link, conn).is_err() {
         return SessionEnd::WantMemory;
     }
-    let buffer = buffer.as_mut_slice();
+    talk(
+        rt,
+        alloc,
+        shared,
+        seat,
+        link,
+        &mut input,
+        buffer.as_mut_slice(),
+        conn,
+        peer,
+    )
+}
+
+// The same, where nothing has come yet.
+fn talk<R: Wait, L: Link>(
+    rt: &R,
+    alloc: Global,
+    shared: &Shared,
+    seat: &mut Seat,
+    link: &mut L,
+    input: &mut Input,
+    buffer: &mut [u8],
+    conn: u32,
+    peer: Peer,
+) -> SessionEnd
+    requires seat { IsIdle shared.now seat.old }
+    requires conn { Holds (view seat.old) conn }
+    requires fresh { Expects peer (OfIntake input.old) [] [] }
+    requires taken { input.old.taken ≡ 0 }
+    requires buffer { 0 < length buffer.old }
+    ensures seat { IsIdle shared.now seat.new }
+    ensures conn { Holds (view seat.new) conn }
+    ensures converses { (g : Givens) → (view seat.old).givens ≡ Some g → Converses g peer conn (view seat.old) (L.shown link.old) (view seat.new) (L.shown link.new) result }
+    ensures read { (g : Givens) → (view seat.old).givens ≡ Some g → HasCause (L.shown link.old).read_faults (L.shown link.new).read_faults (result ≡ SessionEnd.ReadFault) }
+    ensures written { HasCause (L.shown link.old).write_faults (L.shown link.new).write_faults (result ≡ SessionEnd.WriteFault) }
+{
     for _ in rt.forever() {
-        match round(rt, alloc, shared, seat, link, &mut input, buffer, conn) {
+        match round(rt, alloc, shared, seat, link, input, buffer, conn) {
             Flow::On => {}
             Flow::Ends(end) => return settle(rt, alloc, shared, seat, link, conn, peer, end),
             Flow::Broke(end) => return end,

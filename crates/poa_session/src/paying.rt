@@ -1,5 +1,5 @@
 //! Everything that is owed is paid.
-ghost use Rattle.std.specs.Prelude.{◌≡◌, ◌≢◌, Some, Err};
+ghost use Rattle.std.specs.Prelude.{◌≡◌, ◌≢◌, ℕ, Some, Err, MatchOption, ⊤};
 ghost use Rattle.seat_lock.specs.Seats.{view};
 ghost use Rattle.outside.specs.Cause.{HasCause};
 ghost use Rattle.run_history.specs.declared.Givens.{Givens};
@@ -35,10 +35,15 @@ pub(crate) fn pay<R: Wait, L: Link>(
     for _ in rt.forever() {
         let bell = Bell::Connection(conn);
         let heard = shared.listen(seat, bell);
-        if collect_all(rt, alloc, shared, seat, link, conn)? == 0 {
+        let owed = match collect_all(rt, alloc, shared, seat, link, conn) {
+            Ok(owed) => owed,
+            Err(broken) => return Err(broken),
+        };
+        if owed == 0 {
             return Ok(());
         }
-        if let Some(SessionEnd::Abandoned { worker }) = look(rt, shared, seat) {
+        let end = look(rt, shared, seat);
+        if let Some(worker) = given_up(end) {
             return Err(SessionEnd::Abandoned { worker });
         }
         shared.sleep(rt, bell, heard);
@@ -46,11 +51,23 @@ pub(crate) fn pay<R: Wait, L: Link>(
     unreachable!()
 }
 
+// The worker that gave the run up, where that is how a session ends.
+fn given_up(end: Option<SessionEnd>) -> Option<u32>
+    ensures { MatchOption result ⊤ (λ worker. end ≡ Some (SessionEnd.Abandoned worker)) }
+{
+    match end {
+        Some(SessionEnd::Abandoned { worker }) => Some(worker),
+        _ => None,
+    }
+}
+
 /// How the run ends a session, where it does: a `shutdown` was admitted, or a worker gave the run up.
 pub(crate) fn look<R: Wait>(rt: &R, shared: &Shared, seat: &mut Seat) -> Option<SessionEnd>
     requires seat { IsIdle shared.now seat.old }
     ensures seat { IsIdle shared.now seat.new }
     ensures looks { (g : Givens) → (view seat.old).givens ≡ Some g → Looks g (view seat.old) (view seat.new) result }
+    ensures holds { (c : ℕ) → Holds (view seat.old) c → Holds (view seat.new) c }
+    ensures unfaulted { (result ≢ Some SessionEnd.WriteFault) × (result ≢ Some SessionEnd.ReadFault) }
 {
     match shared.phase(rt, seat) {
         Phase::Running | Phase::Full => None,

@@ -1,8 +1,9 @@
 //! One round of a session.
-ghost use Rattle.std.specs.Prelude.{◌≡◌, ◌≢◌, ◌<◌, ◌×◌, length, Some};
+ghost use Rattle.std.specs.Prelude.{◌≡◌, ◌≢◌, ◌<◌, length, Some};
 ghost use Rattle.seat_lock.specs.Seats.{view};
 ghost use Rattle.outside.specs.Cause.{HasCause};
 ghost use Rattle.run_history.specs.declared.Givens.{Givens};
+ghost use Rattle.poa_base.specs.declared.SessionEnd.TheVariants as end;
 ghost use Rattle.session_laws.specs.declared.Peer.{Peer};
 ghost use Rattle.poa_shared.specs.Seats.{IsIdle};
 ghost use Rattle.poa_shared.specs.Seen.{Holds};
@@ -38,9 +39,9 @@ pub(crate) fn round<R: Wait, L: Link>(
     ensures conn { Holds (view seat.new) conn }
     ensures buffer { length buffer.new ≡ length buffer.old }
     ensures rounds { (g : Givens) → (view seat.old).givens ≡ Some g → (peer : Peer) → Rounds g peer conn (view seat.old) (L.shown link.old) input.old (view seat.new) (L.shown link.new) input.new result }
-    ensures read { HasCause (L.shown link.old).read_faults (L.shown link.new).read_faults (result ≡ Flow.Ends SessionEnd.ReadFault) }
-    ensures written { HasCause (L.shown link.old).write_faults (L.shown link.new).write_faults (result ≡ Flow.Broke SessionEnd.WriteFault) }
-    ensures ends { (result ≢ Flow.Ends SessionEnd.WriteFault) × (result ≢ Flow.Broke SessionEnd.ReadFault) }
+    ensures read { (g : Givens) → (view seat.old).givens ≡ Some g → HasCause (L.shown link.old).read_faults (L.shown link.new).read_faults (result ≡ Flow.Ends end.ReadFault) }
+    ensures written { HasCause (L.shown link.old).write_faults (L.shown link.new).write_faults (result ≡ Flow.Broke end.WriteFault) }
+    ensures ends { (result ≢ Flow.Ends end.WriteFault) × (result ≢ Flow.Broke end.ReadFault) }
 {
     // Before it looks: what is decided or shut from here on ends the read that waits.
     shared.attend(conn);

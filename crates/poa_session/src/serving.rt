@@ -90,7 +90,11 @@ fn refusal(fault: EnterFault) -> SessionEnd
     ensures { result ≡ refusal_of fault }
 {
     match fault {
-        EnterFault::Limit { arrivals, bytes, .. } => SessionEnd::Limit { arrivals, bytes },
+        EnterFault::Limit {
+            arrivals,
+            bytes,
+            ..
+        } => SessionEnd::Limit { arrivals, bytes },
         EnterFault::WantMemory => SessionEnd::WantMemory,
     }
 }

@@ -7,12 +7,13 @@ use Rattle.giop_frame.specs.Framer.{FramerAnswers}
 use Rattle.giop_frame.proofs.GoingOn.{framer_goes_on as some_given}
 use Rattle.giop_msg.specs.declared.Incoming.TheVariants as incoming
 use Rattle.giop_msg.specs.Call.{CallOf}
+use Rattle.std.proofs.Math.Seq.{drop-append-add}
 use Rattle.text_words.specs.Cuts.{lacks}
-use Rattle.session_laws.specs.Hearing.{Heard, Stop, bad}
+use Rattle.session_laws.specs.Hearing.{Heard, Stop, bad, over}
 use Rattle.session_laws.specs.Lines.{is_long, spoken, without_return}
 use Rattle.session_laws.specs.Expecting.{Cutting, OfFramer, OfLines}
 use Rattle.session_laws.proofs.Messages.{framer_bad, framer_call, framer_cancel, framer_closing, framer_malformed, framer_over, framer_same, FramerGoesOn}
-use Rattle.session_laws.proofs.Lines.{behind_line, line_read}
+use Rattle.session_laws.proofs.Lines.{behind_line, front_long, line_long, line_read, lines_over}
 use Rattle.session_input.specs.declared.told.Told.{Told}
 use Rattle.session_input.specs.declared.told.Told.TheVariants as told
 use Rattle.session_input.specs.Hearing.{Asks, AsTold, Speaks}
@@ -54,3 +55,28 @@ on_ok (Err e) P Q f p = p
 pub if_ok : {T E : Type 0} (r : Result T E) (P Q : T → Type 0) → ((x : T) → P x → Q x) → IfOk r P → IfOk r Q
 if_ok (Ok x) P Q f p = f x p
 if_ok (Err e) P Q f p = p
+
+-- what a cutter says, by the bytes that it looks at
+module _ (l : Cutting) (place : ℕ) (unread : List ℕ) (at : place ≡ l.place) (looks : unread ≡ l.unread) where
+  pub cut_long : lacks 10 unread ≡ true → is_long unread ≡ true → AsTold (told.Bad place) (OfLines l) (OfLines l)
+  cut_long clear long =
+      subst (λ (p : ℕ). OfLines l [] [] (bad p)) (sym at)
+      (front_long l [] (subst (λ u. lacks 10 u ≡ true) looks clear) (subst (λ u. is_long u ≡ true) looks long))
+
+  pub cut_over : lacks 10 unread ≡ true → is_long unread ≡ false → AsTold (told.More (length unread)) (OfLines l) (OfLines l)
+  cut_over clear short =
+      ((λ text more stop heard. heard),
+       subst (λ (u : List ℕ). OfLines l [] [] (over (length u))) (sym looks)
+         (lines_over l (subst (λ u. lacks 10 u ≡ true) looks clear) (subst (λ u. is_long u ≡ false) looks short)))
+
+  module _ (raw rest : List ℕ) (parts : unread ≡ raw ++ 10 ∷ rest) (clear : lacks 10 raw ≡ true) where
+    pub cut_line_long : is_long raw ≡ true → AsTold (told.Bad place) (OfLines l) (OfLines l)
+    cut_line_long long = subst (λ (p : ℕ). OfLines l [] [] (bad p)) (sym at) (line_long l raw rest [] (sym looks ∙ parts) clear long)
+
+    pub cut_line : (m : Cutting) (number : ℕ) (line : List ℕ) (t : Told) → number ≡ l.number → is_long raw ≡ false → line ≡ without_return raw → Speaks number line t
+        → m ≡ record { place = l.place + length raw + 1; number = suc l.number; unread = drop (length raw + 1) l.unread } → AsTold t (OfLines l) (OfLines m)
+    cut_line m number line t counted short cut speaks is =
+        let left : drop (length raw + 1) l.unread ≡ rest = ap (drop (length raw + 1)) (sym looks ∙ parts) ∙ drop-append-add raw (10 ∷ rest) 1 in
+        let behind : m ≡ behind_line l raw rest = is ∙ ap (λ u. record { place = l.place + length raw + 1; number = suc l.number; unread = u }) left in
+        subst (λ (k : Cutting). AsTold t (OfLines l) (OfLines k)) (sym behind)
+        (told_line l raw rest t (sym looks ∙ parts) clear short (subst (λ (n : ℕ). Speaks n (without_return raw) t) counted (subst (λ (x : List ℕ). Speaks number x t) cut speaks)))
