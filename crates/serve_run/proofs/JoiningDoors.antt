@@ -68,8 +68,7 @@ module _ (v j : View Givens Entry) (made : List ℕ) (adds : Adds v j made) wher
       each = each_later v j made adds g t.peer shown t.visits apart it.each;
       passes = it.passes;
       refused_is = it.refused_is;
-      stood = it.stood;
-      later = prefix_through it.stood v.seen j.seen it.later adds.grows;
+      later = prefix_through t.stood v.seen j.seen it.later adds.grows;
       cause = it.cause;
     }
 
@@ -83,7 +82,7 @@ module _ (v j : View Givens Entry) (made : List ℕ) (adds : Adds v j made) wher
 module _ {A L : Type 0} (g : Givens) (shown : L → Shown) (standing : A → Option (Standing L)) (faults : A → ℕ) (own : Option (ℕ × Entry)) (tours : List (Tour A L)) (shifts : List Shift) (v u j : View Givens Entry) (holds : Holds {A = A} {L = L} g shown standing faults own tours shifts v)
     (peer : Peer) (closed door : A) (refused : Option Full) (end : PieceEnd) (first : View Givens Entry) (served : DoorServed {A = A} {L = L} g peer shown standing faults first u closed door refused end) (unites : Unites v u j) (mine : j.mine ≡ v.mine ++ u.mine) where
   abbrev pub tour : Tour A L
-  tour = record { peer = peer; closed = closed; served = door; visits = served.visits; refused = refused; end = end }
+  tour = record { peer = peer; closed = closed; served = door; visits = served.visits; refused = refused; end = end; stood = u.seen }
 
   adds : Adds v j u.mine
   adds = adds_other v u j unites mine (0 ∷ conns_in tours) (conns_of served.visits) (workers_in shifts) [] holds.ledger served.attends.ledger
@@ -116,7 +115,7 @@ module _ {A L : Type 0} (g : Givens) (shown : L → Shown) (standing : A → Opt
         (0 ∷ conns_in (tour ∷ tours)) (workers_in shifts) ledger_count (λ w i. i) (λ w i. absurd (omega arith));
     tours_are = (
       toured_later u j v.mine adds' g shown standing faults tour apart'
-      (record { each = served.attends.each; passes = served.passes; refused_is = served.refused_is; stood = u.seen; later = prefix_self u.seen; cause = served.cause }),
+      (record { each = served.attends.each; passes = served.passes; refused_is = served.refused_is; later = prefix_self u.seen; cause = served.cause }),
       each_toured v j u.mine adds g shown standing faults tours (λ c i. apart c (in_second c (0 ∷ []) (conns_in tours) i)) holds.tours_are,
     );
     shifts_are = each_worked v j u.mine adds g shifts (λ w i. no_turns w) holds.shifts_are;

@@ -106,8 +106,11 @@ module _ {A L : Type 0} (g : Givens) (shown : L → Shown) (standing : A → Opt
         (in_either place v.mine u.mine (subst (In place) mine there));
   }
 
-  pub last_worker : IsLast own (conns_in tours) v → IsLast own (conns_in tours) j
-  last_worker last place e is k c there i b = ⊎_elim
-      (λ (old : In k v.mine). last place e is k c old i (belongs_before owner_of v.seen j.seen unites.first k c (holds.ledger.within k old) b))
-      (λ (new : In k u.mine). absurd (apart c (in_second c (0 ∷ []) (conns_in tours) i) k new b))
-      (in_either k v.mine u.mine (subst (In k) mine there))
+  pub last_worker : IsLast {A = A} {L = L} own tours v → IsLast {A = A} {L = L} own tours j
+  last_worker last = record {
+    ended = last.ended;
+    left = λ place e is k c there i b. ⊎_elim
+        (λ (old : In k v.mine). last.left place e is k c old i (belongs_before owner_of v.seen j.seen unites.first k c (holds.ledger.within k old) b))
+        (λ (new : In k u.mine). absurd (apart c (in_second c (0 ∷ []) (conns_in tours) i) k new b))
+        (in_either k v.mine u.mine (subst (In k) mine there));
+  }

@@ -9,3 +9,5 @@ pub mod Lasting
 pub mod Endings
 pub mod Opening
 pub mod Touring
+pub mod Attended
+pub mod DoorEnds

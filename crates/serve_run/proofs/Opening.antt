@@ -91,11 +91,11 @@ module _ {A L : Type 0} (g : Givens) (shown : L → Shown) (standing : A → Opt
       pub own : Option (ℕ × Entry)
       pub word : IsWord own
       pub holds_it : Holds {A = A} {L = L} g shown standing faults own tours shifts w
-      pub last : IsLast own (conns_in tours) w
+      pub last : IsLast {A = A} {L = L} own tours w
 
     module _ (w : View Givens Entry) (given : v.givens ≡ Some g) where
       nothing_said : (h : List Entry) → Turns g v h w → past w ≡ h → IsSaid w
-      nothing_said h t is = record { own = None; word = tt; holds_it = holds_looked g shown standing faults tours shifts v w h t None is holds; last = λ place e same. absurd (let f : None ≡ Some (place, e) = same in cc) }
+      nothing_said h t is = record { own = None; word = tt; holds_it = holds_looked g shown standing faults tours shifts v w h t None is holds; last = record { ended = λ place e same. absurd (let f : None ≡ Some (place, e) = same in cc); left = λ place e same. absurd (let f : None ≡ Some (place, e) = same in cc) } }
 
       pub said : (r : Result ℕ ArriveFault) → Event (λ old new. Arrives 0 (Line 1 Shutdown) 8 old r new) v w → IsSaid w
       said (Ok r) event =

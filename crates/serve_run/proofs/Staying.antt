@@ -21,7 +21,7 @@ use Rattle.serve_pieces.specs.Ledgers.{IsExplained, Ledger}
 use Rattle.serve_pieces.proofs.Growing.{adds_behind, explained_more, owns_later, Adds}
 use Rattle.serve_pieces.proofs.Places.{in_first, in_second, stood_before}
 use Rattle.serve_run.specs.Tours.{Tour, Shift, conns_in, workers_in, EachToured, EachWorked, IsWorkersAt}
-use Rattle.serve_run.specs.Holding.{Holds, IsLast, IsOwn}
+use Rattle.serve_run.specs.Holding.{AreBefore, Holds, IsLast, IsOwn}
 use Rattle.serve_run.proofs.Closing.{belongs_before, closed_longer}
 use Rattle.serve_run.proofs.JoiningDoors.{each_toured, each_worked, no_worker}
 use Rattle.serve_run.proofs.JoiningWorkers.{here_in}
@@ -53,8 +53,11 @@ module _ {A L : Type 0} (g : Givens) (shown : L → Shown) (standing : A → Opt
         own_is = λ place e there stands is. (let old = subst (In place) mine there in holds.own_is place e old (stood_before v.seen w.seen place e grows (holds.ledger.within place old) stands) is);
       }
 
-  pub last_same : (own : Option (ℕ × Entry)) (v w : View Givens Entry) → IsPrefix v.seen w.seen → w.mine ≡ v.mine → HoldsIt own v → IsLast own (conns_in tours) v → IsLast own (conns_in tours) w
-  last_same own v w grows mine holds last place e is k c there i b = (let old = subst (In k) mine there in last place e is k c old i (belongs_before owner_of v.seen w.seen grows k c (holds.ledger.within k old) b))
+  pub last_same : (own : Option (ℕ × Entry)) (v w : View Givens Entry) → IsPrefix v.seen w.seen → w.mine ≡ v.mine → HoldsIt own v → IsLast {A = A} {L = L} own tours v → IsLast {A = A} {L = L} own tours w
+  last_same own v w grows mine holds last = record {
+    ended = last.ended;
+    left = λ place e is k c there i b. (let old = subst (In k) mine there in last.left place e is k c old i (belongs_before owner_of v.seen w.seen grows k c (holds.ledger.within k old) b));
+  }
 
   module _ (v w : View Givens Entry) (h : List Entry) (t : Turns g v h w) where
     found_after : IsPrefix v.seen (reverse h)
@@ -129,10 +132,17 @@ module _ {A L : Type 0} (g : Givens) (shown : L → Shown) (standing : A → Opt
           own_before place d (inl first) = inl first
           own_before place d (inr none) = absurd (let f : None ≡ Some (place, d) = none in cc)
 
-      pub last_own : IsLast (Some (length h, e)) (conns_in tours) w
-      last_own place d same k c there i b =
-          let at : length h ≡ place = place_of (length h, e) (place, d) same in
-          ⊎_elim
-          (λ (old : In k v.mine). (let low = holds.ledger.within k old in let far = longer in omega arith))
-          (λ (new : k ≡ length h). absurd (not_other c i k (subst (λ x. In x (length h ∷ [])) (sym new) (here_in (length h))) b))
-          (in_added k (length h) v.mine (subst (In k) mine there))
+      before : (n : ℕ) → length v.seen ≤ n → (some_tours : List (Tour A L)) → EachToured {A = A} {L = L} g shown standing faults some_tours v → AreBefore {A = A} {L = L} n some_tours
+      before n far [] each = tt
+      before n far (t ∷ more) each = ((let low = prefix_below t.stood v.seen each.0.later in omega arith), before n far more each.1)
+
+      pub last_own : IsLast {A = A} {L = L} (Some (length h, e)) tours w
+      last_own = record {
+        ended = λ place d same. (let at : length h ≡ place = place_of (length h, e) (place, d) same in let far = longer in before place (omega arith) tours holds.tours_are);
+        left = λ place d same k c there i b.
+            (let at : length h ≡ place = place_of (length h, e) (place, d) same in
+            ⊎_elim
+            (λ (old : In k v.mine). (let low = holds.ledger.within k old in let far = longer in omega arith))
+            (λ (new : k ≡ length h). absurd (not_other c i k (subst (λ x. In x (length h ∷ [])) (sym new) (here_in (length h))) b))
+            (in_added k (length h) v.mine (subst (In k) mine there)));
+      }

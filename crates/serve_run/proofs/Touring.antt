@@ -131,7 +131,7 @@ module _ {A L : Type 0} (g : Givens) (shown : L → Shown) (standing : A → Opt
     served = keeps.2
 
     abbrev pub tour_of : Tour A L
-    tour_of = record { peer = peer; closed = closed; served = keeps.0; visits = served.visits; refused = joined.ran.refused; end = joined.ran.end }
+    tour_of = record { peer = peer; closed = closed; served = keeps.0; visits = served.visits; refused = joined.ran.refused; end = joined.ran.end; stood = joined.ran.seat.me.0.seen }
 
     pub same_joined : IsSameSeat v j
     same_joined = record {
@@ -166,3 +166,6 @@ module _ {A L : Type 0} (g : Givens) (shown : L → Shown) (standing : A → Opt
       clients = (refl, inner.clients);
       served = more_served Client task lane inner.tours v v' w j outcome kept room inner.served first first_room door refused end joined keeps;
     }
+
+pub kept_itself : (v : View Givens Entry) → IsKept v v
+kept_itself v = record { seen = refl; mine = refl; given = refl; base = refl }

@@ -58,10 +58,10 @@ abandoned_at (Done v ∷ past) w is = (let it = abandoned_at past w is in (it.0,
 abandoned_at (TakeOut v n x ∷ past) w is = (let it = abandoned_at past w is in (it.0, earlier_stands (TakeOut v n x) past it.0 (Abandon w) it.1))
 abandoned_at (Etherealized v x y ∷ past) w is = (let it = abandoned_at past w is in (it.0, earlier_stands (Etherealized v x y) past it.0 (Abandon w) it.1))
 
-abandoned_now : (w : ℕ) (e : Entry) (past : List Entry) → e ≡ Abandon w → is_abandoned (e ∷ past) w ≡ true
+pub abandoned_now : (w : ℕ) (e : Entry) (past : List Entry) → e ≡ Abandon w → is_abandoned (e ∷ past) w ≡ true
 abandoned_now w e past is = ap (λ d. is_abandoned (d ∷ past) w) is ∙ or_first (w == w) (is_abandoned past w) (eq-eqb w w refl)
 
-abandoned_still : (w : ℕ) (e : Entry) (past : List Entry) → is_abandoned past w ≡ true → is_abandoned (e ∷ past) w ≡ true
+pub abandoned_still : (w : ℕ) (e : Entry) (past : List Entry) → is_abandoned past w ≡ true → is_abandoned (e ∷ past) w ≡ true
 abandoned_still w (Abandon v) past was = or_second (v == w) (is_abandoned past w) was
 abandoned_still w (Entered k) past was = was
 abandoned_still w (Arrive k size call) past was = was

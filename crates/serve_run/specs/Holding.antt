@@ -1,5 +1,5 @@
 -- What the run's own seat holds: its own connection, which is the first, and what was joined into it.
-use Rattle.std.specs.Prelude.{◌≡◌, ℕ, ◌<◌, List, [], ◌∷◌, Option, Some, None, ◌⊎◌}
+use Rattle.std.specs.Prelude.{◌≡◌, ℕ, ◌<◌, ◌≤◌, length, List, [], ◌∷◌, Option, Some, None, ◌⊎◌}
 use mathlib.Core.Option.{some}
 use lib.ListN.{get_elem?}
 use Rattle.outside.specs.Accepting.{Standing}
@@ -28,9 +28,15 @@ module _ {A L : Type 0} (g : Givens) (shown : L → Shown) (standing : A → Opt
     pub shifts_are : EachWorked g shifts v
     pub own_is : (place : ℕ) (e : Entry) → In place v.mine → get_elem? v.seen place ≡ some e → owner_of e ≡ Some 0 → IsOwn own place e
 
--- what it made last came when the connections that entered by doors had made all their entries
-abbrev pub IsLast : Option (ℕ × Entry) → List ℕ → View Givens Entry → Type 0
-IsLast own conns v = (place : ℕ) (e : Entry) → own ≡ Some (place, e) → (k c : ℕ) → In k v.mine → In c conns → Belongs owner_of v.seen k c → k < place
+-- the doors had ended by this place
+abbrev pub AreBefore : {A L : Type 0} → ℕ → List (Tour A L) → Type 0
+AreBefore place [] = Unit {0}
+AreBefore place (t ∷ more) = (length t.stood ≤ place) × AreBefore place more
+
+-- what it made last came when all doors had ended, and the connections that entered by them had made all their entries
+pub record IsLast {A L : Type 0} (own : Option (ℕ × Entry)) (tours : List (Tour A L)) (v : View Givens Entry) : Type 0 where
+  pub ended : (place : ℕ) (e : Entry) → own ≡ Some (place, e) → AreBefore place tours
+  pub left : (place : ℕ) (e : Entry) → own ≡ Some (place, e) → (k c : ℕ) → In k v.mine → In c (conns_in tours) → Belongs owner_of v.seen k c → k < place
 
 -- what the run says on its own connection: the line `shutdown`, of eight bytes, or where that isn't taken for the limits of
 -- the run, that it fills it

@@ -5,3 +5,5 @@ pub mod Outcomes
 pub mod Starting
 pub mod Shutting
 pub mod Lanes
+pub mod Attending
+pub mod Running

@@ -3,7 +3,8 @@ use Rattle.std.specs.Prelude.{Bool, true, false, ◌||◌, List, [], ◌∷◌, 
 use Rattle.run_tally.specs.declared.full.Full.{Full}
 use Rattle.serve_pieces.specs.Refusals.{earlier}
 use Rattle.serve_pieces.specs.declared.ran.PieceEnd.{PieceEnd}
-use Rattle.serve_pieces.specs.declared.ran.PieceEnd.TheVariants.{DoorFailed}
+use Rattle.poa_worker.specs.declared.work_end.WorkEnd.TheVariants.{Closed}
+use Rattle.serve_pieces.specs.declared.ran.PieceEnd.TheVariants.{DoorFailed, Worked}
 use Rattle.serve_run.specs.declared.outcome.Outcome.{Outcome}
 use Rattle.serve_run.specs.declared.outcome.Want.{Want}
 use Rattle.serve_run.specs.Tours.{Tour}
@@ -33,3 +34,8 @@ any_failed (t ∷ more) = any_failed more || is_failed t.end
 abbrev pub least_in : {A L : Type 0} → List (Tour A L) → Option Full
 least_in [] = None
 least_in (t ∷ more) = earlier (least_in more) t.refused
+
+-- whether a worker didn't come to the run's end
+abbrev pub is_loss : PieceEnd → Bool
+is_loss (Worked Closed) = false
+is_loss end = true

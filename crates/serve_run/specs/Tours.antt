@@ -26,6 +26,8 @@ pub record Tour (A L : Type 0) : Type 0 where
   pub visits : List (Visit L)
   pub refused : Option Full
   pub end : PieceEnd
+  -- what was seen of the journal at its end
+  pub stood : List Entry
 
 -- the connections that entered by doors
 abbrev pub conns_in : {A L : Type 0} → List (Tour A L) → List ℕ
@@ -63,9 +65,8 @@ module _ {A L : Type 0} (g : Givens) (shown : L → Shown) (standing : A → Opt
     pub each : EachVisited g t.peer shown t.visits v
     pub passes : IfTold (standing t.closed) (standing t.served) (Passes t.visits)
     pub refused_is : t.refused ≡ least_refusal t.visits
-    pub stood : List Entry
-    pub later : IsPrefix stood v.seen
-    pub cause : DoorHasCause t.end (standing t.served) (faults t.closed) (faults t.served) (reverse stood)
+    pub later : IsPrefix t.stood v.seen
+    pub cause : DoorHasCause t.end (standing t.served) (faults t.closed) (faults t.served) (reverse t.stood)
 
   abbrev pub EachToured : List (Tour A L) → View Givens Entry → Type 0
   EachToured [] v = Unit {0}

@@ -2,14 +2,15 @@
 //! together. What a run comes to is said on the journal of the core that it gives back, in `specs/Served.antt`.
 #![tactic(auto)]
 
+mod doors;
 mod joining;
 mod lanes;
 mod outcome;
+mod serving;
 mod shutting;
 mod starting;
+mod working;
 
-pub use joining::{Joined, door_back, door_in, join};
-pub use lanes::serve_lanes;
+pub use doors::Doors;
 pub use outcome::{Outcome, Want};
-pub use shutting::{Staff, shut_down};
-pub use starting::start;
+pub use working::serve_workers;
