@@ -19,7 +19,7 @@ pub(crate) const CONFIG_LIMIT: u64 = 1 << 20;
 const SCRIPT_LIMIT: u64 = 67_108_864;
 
 /// The configuration in a file, or the status with which the command ends.
-pub(crate) fn take_config<F: Files>(
+pub fn take_config<F: Files>(
     alloc: Global,
     name: &str,
     files: &mut F,
