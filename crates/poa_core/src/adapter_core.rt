@@ -32,6 +32,7 @@ use run_history::Givens;
 use run_tally::Phase;
 use seat_lock::Chronicle;
 use std::alloc::Global;
+use std::collections::VecDeque;
 use std::marker::Model;
 
 /// The adapter: what a run was given, its journal, and what stands after it. Contracts see the givens and the
@@ -152,8 +153,8 @@ impl Core {
     }
 
     /// The decided replies that aren't collected, in the order in which they are given.
-    pub fn decided(&self) -> &[Filed]
-        ensures { AreFiled self.now.config self.now.run (opened self.now) self.now.history result.now }
+    pub fn decided(&self) -> &VecDeque<Filed>
+        ensures { AreFiled self.now.config self.now.run (opened self.now) self.now.history result.now.items }
     {
         &self.inside.desk.outbox
     }

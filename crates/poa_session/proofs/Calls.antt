@@ -1,6 +1,6 @@
 -- A call arrives on the connection, or is refused.
-use Rattle.std.proofs.Common.{◌≡◌, ℕ, Bool, true, false, if◌then◌else◌, List, [], ◌∷◌, ◌++◌, refl, sym, ap, subst, ◌∙◌, append_assoc, append-nil}
-use Rattle.std.specs.Prelude.{Option, Some, None, IfSome, Ok, Err}
+use Rattle.std.proofs.Common.{◌≡◌, ℕ, Bool, true, false, if◌then◌else◌, List, [], ◌∷◌, refl, sym, ap, subst, ◌∙◌, append_assoc, append-nil}
+use Rattle.std.specs.Prelude.{Option, Some, IfSome, Ok, Err}
 use Rattle.poa_base.specs.declared.Call.{Call}
 use Rattle.poa_base.specs.declared.Entry.{Entry}
 use Rattle.poa_base.specs.declared.Entry.TheVariants.{Arrive, Filled}
@@ -15,11 +15,11 @@ use Rattle.poa_core.specs.declared.ArriveFault.TheVariants as fault
 use Rattle.poa_shared.specs.Seen.{Owns, Turns, past}
 use Rattle.session_laws.specs.declared.Peer.{Peer}
 use Rattle.session_laws.specs.Hearing.{Heard}
-use Rattle.session_laws.specs.Records.{arrived_by, joined_by, filling_by, is_late_by}
+use Rattle.session_laws.specs.Records.{arrived_by, joined_by, filling_by}
 use Rattle.session_laws.specs.Sessions.{Begins, Hears, IsNext}
 use Rattle.session_laws.proofs.Own.{arrived_own, filling_own}
 use Rattle.poa_session.specs.Growing.{Adds}
-use Rattle.poa_session.specs.Serving.{AsArrived, MayEnd}
+use Rattle.poa_session.specs.Listening.{AsArrived}
 use Rattle.poa_session.specs.declared.progress.Progress.TheVariants as progress
 use Rattle.poa_session.proofs.Adding.{adds_none, adds_one, found_filling}
 

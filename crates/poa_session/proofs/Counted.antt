@@ -1,7 +1,7 @@
 -- Counts of faults that rose.
-use Rattle.std.proofs.Common.{◌≡◌, ℕ, ◌-◌, ◌^◌, ◌<◌, ◌≤◌, inl, inr, ⊎_elim, arith}
+use Rattle.std.proofs.Common.{ℕ, ◌<◌, ◌≤◌, inl, inr, ⊎_elim, arith}
 use Rattle.std.proofs.lemmas.Bool.{cases_lt}
-use Rattle.outside.specs.Cause.{HasCause, Rose}
+use Rattle.outside.specs.Cause.{Rose}
 
 pub rose_before : (a b z : ℕ) → a ≤ b → Rose b z → Rose a z
 rose_before a b z less (inl rose) = inl (omega (arith, less, rose))

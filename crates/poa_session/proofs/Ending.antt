@@ -1,26 +1,27 @@
 -- How a session comes to its end.
-use Rattle.std.proofs.Common.{◌≡◌, ℕ, Bool, true, false, List, [], ◌∷◌, ◌++◌, refl, sym, ap, subst, ◌∙◌, append_assoc, append-nil, inl, inr, ◌⊎◌}
-use Rattle.std.specs.Prelude.{Option, Some, None, IfSome, Ok, Err}
+use Rattle.std.proofs.Common.{◌≡◌, ℕ, true, false, List, [], ◌++◌, refl, sym, ap, subst, ◌∙◌, append_assoc, append-nil, inl, inr}
+use Rattle.std.specs.Prelude.{Option, Some, None, IfSome}
 use Rattle.poa_base.specs.declared.Entry.{Entry}
 use Rattle.poa_base.specs.declared.SessionEnd.{SessionEnd}
 use Rattle.poa_base.specs.declared.SessionEnd.TheVariants.{Ended, Shut, ReadFault, WriteFault, Malformed, Truncated, InputLimit, Limit, Abandoned, WantMemory}
 use Rattle.poa_history.specs.Legal.{IsLegal}
 use Rattle.seat_lock.specs.declared.view.View.{View}
 use Rattle.outside.specs.Told.{IfTold}
-use Rattle.outside.specs.Link.{Shown, Moves, IsDry}
-use Rattle.outside.proofs.Moving.{moves_both, moves_none, moves_out}
+use Rattle.outside.specs.Link.{Shown, Moves}
+use Rattle.outside.proofs.Moving.{moves_none, moves_out}
 use Rattle.run_history.specs.declared.Givens.{Givens}
 use Rattle.run_history.specs.Runs.{IsHistory}
 use Rattle.poa_shared.specs.Seen.{past}
 use Rattle.session_laws.specs.declared.Peer.{Peer}
 use Rattle.session_laws.specs.Hearing.{Heard}
 use Rattle.session_laws.specs.Records.{arrived_by, joined_by, filling_by, IsPaidBy}
-use Rattle.session_laws.specs.Sessions.{Begins, CauseBy, Input, IsNext, Output, SessionBy, closing, is_settling}
+use Rattle.session_laws.specs.Sessions.{Begins, CauseBy, Input, IsNext, Output, closing, is_settling}
 use Rattle.session_laws.proofs.Causes.{cause_since}
 use Rattle.session_laws.proofs.Ends.{input_begins, output_now, output_settled, short_of_closing, short_of_replies}
 use Rattle.poa_session.specs.Growing.{Adds}
 use Rattle.poa_session.specs.Served.{DriesUp}
-use Rattle.poa_session.specs.Serving.{BreaksOff, MayEnd, PaysAll, Settled, Settles}
+use Rattle.poa_session.specs.Paying.{BreaksOff}
+use Rattle.poa_session.specs.Settling.{Settled, Settles}
 use Rattle.poa_session.specs.Writing.{Writes}
 use Rattle.poa_session.proofs.Adding.{adds_same}
 

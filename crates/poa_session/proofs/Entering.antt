@@ -1,22 +1,20 @@
 -- A connection that has just entered has done nothing yet.
-use Rattle.std.proofs.Common.{◌≡◌, ℕ, ◌<◌, ◌≤◌, List, [], ◌∷◌, ◌++◌, ◌+◌, length, length-append, reverse, refl, sym, ap, subst, ◌∙◌, append-nil, inl, inr, arith}
-use Rattle.std.specs.Prelude.{Option, Some, None, Ok}
+use Rattle.std.proofs.Common.{◌≡◌, ℕ, ◌≤◌, List, [], ◌∷◌, ◌++◌, ◌+◌, length, length-append, reverse, refl, sym, ap, subst, ◌∙◌, append-nil, inl, inr, arith}
+use Rattle.std.specs.Prelude.{Some, None, Ok}
 use Rattle.std.proofs.lemmas.List.{length-reverse, reverse-append, reverse-reverse}
 use mathlib.Core.Option.{some}
 use lib.ListN.{get_elem?}
 use Rattle.poa_base.specs.declared.Entry.{Entry}
 use Rattle.poa_base.specs.declared.Entry.TheVariants.{Entered}
 use Rattle.poa_tree.specs.Trees.{In}
-use Rattle.poa_history.specs.Arrivals.{connections}
 use Rattle.poa_history.specs.Legal.{IsLegal}
-use Rattle.seat_lock.specs.Histories.{IsPrefix}
 use Rattle.seat_lock.specs.declared.view.View.{View}
-use Rattle.seat_lock.proofs.Lists.{at_last, at_longer}
+use Rattle.seat_lock.proofs.Lists.{at_last}
 use Rattle.run_history.specs.declared.Givens.{Givens}
 use Rattle.run_history.specs.Owners.{owner_of, HasNone}
 use Rattle.run_history.proofs.Owned.{owners_low}
 use Rattle.poa_core.specs.Answers as answers
-use Rattle.poa_core.specs.Life.{Life, life_at, with_entry}
+use Rattle.poa_core.specs.Life.{Life, life_at}
 use Rattle.poa_shared.specs.Seen.{Turns, past}
 use Rattle.session_laws.specs.Records.{arrived_by, joined_by, filling_by, places_by}
 use Rattle.session_laws.proofs.Others.{arrived_others, filling_others, joined_others, places_others}

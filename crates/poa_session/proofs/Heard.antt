@@ -1,6 +1,6 @@
 -- What the input says next, and what that does.
-use Rattle.std.proofs.Common.{◌≡◌, ℕ, List, [], ◌∷◌, ◌++◌, refl, sym, subst, ◌∙◌, append-nil, inl}
-use Rattle.std.specs.Prelude.{Option, Some, None, IfSome}
+use Rattle.std.proofs.Common.{◌≡◌, ℕ, List, [], ◌∷◌, refl, sym, subst, inl}
+use Rattle.std.specs.Prelude.{Option, None, IfSome}
 use Rattle.poa_base.specs.declared.Call.{Call}
 use Rattle.poa_base.specs.declared.Entry.{Entry}
 use Rattle.poa_base.specs.declared.SessionEnd.TheVariants.{Ended, Malformed, WantMemory}
@@ -16,7 +16,7 @@ use Rattle.session_laws.proofs.Expected.{expects_begins, expects_call, expects_n
 use Rattle.session_input.specs.declared.Told.TheVariants as told
 use Rattle.session_input.specs.Hearing.{AsTold, Intake, OfIntake}
 use Rattle.session_input.proofs.GoingOn.{intake_goes_on}
-use Rattle.poa_session.specs.Serving.{AsArrived, Hears, MayEnd}
+use Rattle.poa_session.specs.Listening.{AsArrived, Hears}
 use Rattle.poa_session.specs.declared.progress.Progress.{Progress}
 use Rattle.poa_session.specs.declared.progress.Progress.TheVariants as progress
 use Rattle.poa_session.proofs.Adding.{adds_same}

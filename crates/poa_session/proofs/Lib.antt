@@ -8,6 +8,7 @@ pub mod Owed
 pub mod Talking
 pub mod Counted
 pub mod Ending
+pub mod Phases
 pub mod Stepping
 pub mod Entering
 pub mod Served

@@ -1,6 +1,6 @@
 -- What is owed is paid, piece by piece.
-use Rattle.std.proofs.Common.{◌≡◌, ℕ, List, [], ◌∷◌, ◌++◌, true, false, refl, sym, ap, subst, ◌∙◌, append_assoc, append-nil}
-use Rattle.std.specs.Prelude.{Option, Some, None, Ok, Err}
+use Rattle.std.proofs.Common.{◌≡◌, ℕ, List, [], ◌++◌, true, false, refl, sym, ap, subst, ◌∙◌, append_assoc, append-nil}
+use Rattle.std.specs.Prelude.{Option, Some, Ok, Err}
 use Rattle.std.specs.declared.alloc.AllocError.{AllocError}
 use Rattle.poa_base.specs.declared.Entry.{Entry}
 use Rattle.poa_base.specs.declared.SessionEnd.{SessionEnd}
@@ -10,9 +10,10 @@ use Rattle.outside.specs.Link.{Shown, Moves}
 use Rattle.outside.proofs.Moving.{moves_none, moves_out}
 use Rattle.run_history.specs.declared.Givens.{Givens}
 use Rattle.poa_shared.specs.Seen.{Owns, past}
-use Rattle.session_laws.specs.Records.{filling_by, IsPaidBy}
+use Rattle.session_laws.specs.Records.{filling_by}
 use Rattle.poa_session.specs.Growing.{Adds}
-use Rattle.poa_session.specs.Serving.{BreaksOff, Gathers, Looks, Pays, PaysAll}
+use Rattle.poa_session.specs.Paying.{BreaksOff, Gathers, Pays, PaysAll}
+use Rattle.poa_session.specs.Stopping.{Looks}
 use Rattle.poa_session.specs.Writing.{Writes}
 use Rattle.poa_session.proofs.Adding.{adds_both, adds_none, adds_same, found_filling}
 

@@ -1,16 +1,13 @@
 -- The connection is given its replies.
-use Rattle.std.proofs.Common.{◌≡◌, ℕ, List, [], ◌∷◌, ◌++◌, refl, sym, ap, ap₂, subst, ◌∙◌, append_assoc, append-nil}
+use Rattle.std.proofs.Common.{◌≡◌, ℕ, List, [], ◌∷◌, ◌++◌, refl, sym, ap, ap₂, ◌∙◌, append_assoc, append-nil}
 use Rattle.std.specs.Prelude.{Option, Result, Some, None, Ok, Err}
 use Rattle.poa_base.specs.declared.Entry.{Entry}
 use Rattle.poa_base.specs.declared.Entry.TheVariants.{Collect}
 use Rattle.poa_base.specs.declared.Head.{Head}
 use Rattle.poa_base.specs.declared.Reply.{Reply}
-use Rattle.poa_history.specs.Arrivals.{call_of}
-use Rattle.poa_history.specs.Replies.{next_reply, owed, reply_of}
+use Rattle.poa_history.specs.Replies.{next_reply, owed}
 use Rattle.seat_lock.specs.declared.view.View.{View}
 use Rattle.run_history.specs.declared.Givens.{Givens}
-use Rattle.run_history.specs.Runs.{opened}
-use Rattle.call_tables.specs.Owed.{head_of}
 use Rattle.poa_core.specs.Answers as answers
 use Rattle.poa_core.specs.Life.{Life, life_at, with_entry}
 use Rattle.poa_core.specs.declared.Collected.{Collected}
@@ -21,7 +18,7 @@ use Rattle.session_laws.proofs.Own.{joined_own}
 use Rattle.session_laws.proofs.Paying.{paid_when}
 use Rattle.std.specs.declared.alloc.AllocError.{AllocError}
 use Rattle.poa_session.specs.Growing.{Adds}
-use Rattle.poa_session.specs.Serving.{Gathers, NextGathered, PutsOn}
+use Rattle.poa_session.specs.Paying.{Gathers, NextGathered, PutsOn}
 use Rattle.poa_session.proofs.Adding.{adds_both, adds_none, adds_one, adds_same, found_filling}
 
 histories : (x : Life) (y : Life) → y ≡ x → y.history ≡ x.history

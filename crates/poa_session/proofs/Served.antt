@@ -1,6 +1,6 @@
 -- A connection that entered, was served and has left.
-use Rattle.std.proofs.Common.{◌≡◌, ℕ, ◌≤◌, ◌^◌, List, [], ◌∷◌, ◌++◌, length, reverse, true, refl, sym, ap, subst, ◌∙◌, append_assoc, append-nil}
-use Rattle.std.specs.Prelude.{Option, Some, None, MatchOption, Ok, Err}
+use Rattle.std.proofs.Common.{◌≡◌, ℕ, List, [], ◌∷◌, ◌++◌, reverse, true, refl, sym, ap, subst, ◌∙◌, append_assoc, append-nil}
+use Rattle.std.specs.Prelude.{Some, MatchOption, Err}
 use Rattle.std.proofs.lemmas.List.{reverse-append, reverse-reverse}
 use mathlib.Core.Option.{some}
 use lib.ListN.{get_elem?}
@@ -8,28 +8,26 @@ use Rattle.poa_base.specs.declared.Entry.{Entry}
 use Rattle.poa_base.specs.declared.Entry.TheVariants.{Entered, Left}
 use Rattle.poa_base.specs.declared.Session.{Session as Ending}
 use Rattle.poa_base.specs.declared.SessionEnd.{SessionEnd}
-use Rattle.poa_base.specs.declared.SessionEnd.TheVariants.{ReadFault, WriteFault, Limit, WantMemory}
+use Rattle.poa_base.specs.declared.SessionEnd.TheVariants.{ReadFault, WriteFault}
 use Rattle.poa_history.specs.Legal.{IsLegal}
 use Rattle.seat_lock.specs.declared.view.View.{View}
 use Rattle.seat_lock.proofs.Lists.{at_longer}
 use Rattle.outside.specs.Cause.{Rose}
-use Rattle.outside.specs.Link.{Shown, Moves}
+use Rattle.outside.specs.Link.{Shown}
 use Rattle.run_history.specs.declared.Givens.{Givens}
-use Rattle.run_history.specs.Owners.{HasNone}
 use Rattle.poa_core.specs.Answers as answers
-use Rattle.poa_core.specs.Life.{Life, life_at, with_entry}
+use Rattle.poa_core.specs.Life.{Life, life_at}
 use Rattle.poa_core.specs.declared.EnterFault.{EnterFault}
 use Rattle.poa_core.specs.declared.EnterFault.TheVariants as enter_fault
 use Rattle.poa_shared.specs.Seen.{Owns, Turns, past}
 use Rattle.session_laws.specs.declared.Peer.{Peer}
-use Rattle.session_laws.specs.Hearing.{Heard}
-use Rattle.session_laws.specs.Records.{arrived_by, joined_by, filling_by, is_late_by, places_by, IsPaidBy}
+use Rattle.session_laws.specs.Records.{arrived_by, joined_by, is_late_by}
 use Rattle.session_laws.specs.Sessions.{CauseBy, SessionBy}
 use Rattle.session_laws.proofs.Causes.{cause_since}
 use Rattle.session_laws.proofs.Staying.{session_others, session_same}
 use Rattle.poa_session.specs.Growing.{Adds}
 use Rattle.poa_session.specs.Served.{RefusedAs, Served, ServedAs, TurnedAway}
-use Rattle.poa_session.specs.Serving.{Converses, Settled, TurnsAway, refusal}
+use Rattle.poa_session.specs.Settling.{Converses, Settled, TurnsAway, refusal}
 use Rattle.poa_session.proofs.Adding.{adds_both, adds_one, found_arrived}
 use Rattle.poa_session.proofs.Entering.{Begun, seen_front}
 

@@ -1,25 +1,19 @@
 -- A session step by step.
-use Rattle.std.proofs.Common.{◌≡◌, ℕ, ◌+◌, ◌^◌, ◌<◌, ◌≤◌, Bool, true, false, ◌||◌, ◌==◌, if◌then◌else◌, List, [], ◌∷◌, ◌++◌, length, refl, sym, ap, subst, ◌∙◌, append_assoc, append-nil, length-append, inl, inr, arith, eq-eqb}
+use Rattle.std.proofs.Common.{◌≡◌, ℕ, ◌+◌, ◌^◌, ◌<◌, ◌≤◌, true, false, ◌==◌, if◌then◌else◌, List, [], ◌∷◌, ◌++◌, length, refl, sym, ap, subst, ◌∙◌, append-nil, inr, arith}
 use Rattle.std.specs.Prelude.{Option, Some, None, IfSome, Ok, Err}
-use Rattle.std.specs.Option.{option_or}
 use Rattle.poa_base.specs.declared.Entry.{Entry}
-use Rattle.poa_base.specs.declared.Entry.TheVariants.{Entered, Abandon}
+use Rattle.poa_base.specs.declared.Entry.TheVariants.{Entered}
 use Rattle.poa_base.specs.declared.SessionEnd.{SessionEnd}
 use Rattle.poa_base.specs.declared.SessionEnd.TheVariants.{Ended, Shut, ReadFault, WriteFault, Malformed, Truncated, InputLimit, Limit, Abandoned, WantMemory}
-use Rattle.poa_history.specs.Legal.{is_filled}
-use Rattle.poa_history.specs.Stages.{is_abandoned}
 use Rattle.seat_lock.specs.declared.view.View.{View}
-use Rattle.outside.specs.Link.{Shown, Moves, IsDry}
-use Rattle.outside.proofs.Moving.{moves_in, moves_none, moves_out}
+use Rattle.outside.specs.Link.{Shown, Moves}
+use Rattle.outside.proofs.Moving.{moves_in, moves_none}
 use Rattle.run_history.specs.declared.Givens.{Givens}
 use Rattle.run_tally.specs.Leaving.{is_shut}
-use Rattle.run_tally.specs.Phases.{first_abandoned, phase_by, phase_of}
-use Rattle.run_tally.specs.declared.Phase.{Phase}
-use Rattle.run_tally.specs.declared.Phase.TheVariants as phase
-use Rattle.poa_shared.specs.Seen.{Owns, Turns, past}
+use Rattle.poa_shared.specs.Seen.{Owns, past}
 use Rattle.session_laws.specs.declared.Peer.{Peer}
-use Rattle.session_laws.specs.Hearing.{Heard, Stop, over}
-use Rattle.session_laws.specs.Records.{arrived_by, joined_by, filling_by, is_late_by, IsPaidBy}
+use Rattle.session_laws.specs.Hearing.{Heard, over}
+use Rattle.session_laws.specs.Records.{arrived_by, filling_by, is_late_by}
 use Rattle.session_laws.specs.Sessions.{Begins, CauseBy, Hears as HearsAll, Input, IsNext}
 use Rattle.session_laws.specs.Expecting.{Expects}
 use Rattle.session_laws.proofs.Causes.{shut_later}
@@ -28,62 +22,15 @@ use Rattle.session_input.specs.Hearing.{Intake, OfIntake}
 use Rattle.session_input.proofs.GoingOn.{intake_goes_on}
 use Rattle.poa_session.specs.Growing.{Adds}
 use Rattle.poa_session.specs.Served.{DriesUp}
-use Rattle.poa_session.specs.Serving.{AsFlow, AsHeard, AsListened, AsTaken, BreaksOff, Hears, Listens, Looks, MayEnd, Pays, Rounds, Stops, Takes}
+use Rattle.poa_session.specs.Listening.{AsHeard, Hears, Listens}
+use Rattle.poa_session.specs.Paying.{Pays}
+use Rattle.poa_session.specs.Rounding.{Rounds}
+use Rattle.poa_session.specs.Stopping.{Looks, MayEnd, Stops}
+use Rattle.poa_session.specs.Taking.{AsTaken, Takes}
 use Rattle.poa_session.specs.declared.flow.Flow.TheVariants as flow
 use Rattle.poa_session.specs.declared.progress.Progress.{Progress}
 use Rattle.poa_session.specs.declared.progress.Progress.TheVariants as progress
 use Rattle.poa_session.proofs.Adding.{adds_both, adds_none, adds_same, found_filling}
-
--- what a phase says
-abbrev Says : Option ℕ → Bool → Phase → Type 0
-Says first shut phase.Running = shut ≡ false
-Says first shut phase.Full = shut ≡ false
-Says first shut phase.Shut = shut ≡ true
-Says first shut (phase.Abandoned worker) = first ≡ Some worker
-
-phase_says : (first : Option ℕ) (shut filled : Bool) → Says first shut (phase_by first shut filled)
-phase_says (Some worker) shut filled = refl
-phase_says None true filled = refl
-phase_says None false true = refl
-phase_says None false false = refl
-
-or_later : (a b : Bool) → b ≡ true → (a || b) ≡ true
-or_later true b is = refl
-or_later false b is = is
-
-or_first : (a b : Bool) → a ≡ true → (a || b) ≡ true
-or_first true b first = refl
-or_first false b first = absurd (let e : false ≡ true = first in cc)
-
-then_gave_up : (h : List Entry) (v worker : ℕ) → (first_abandoned h ≡ Some worker → is_abandoned h worker ≡ true)
-    → (o : Option ℕ) → first_abandoned h ≡ o → option_or o (Some v) ≡ Some worker → is_abandoned (Abandon v ∷ h) worker ≡ true
-then_gave_up h v worker before None none is = or_first (v == worker) (is_abandoned h worker) (eq-eqb v worker (let e : Some v ≡ Some worker = is in cc))
-then_gave_up h v worker before (Some x) was is = or_later (v == worker) (is_abandoned h worker) (before (was ∙ is))
-
-gave_up : (h : List Entry) (worker : ℕ) → first_abandoned h ≡ Some worker → is_abandoned h worker ≡ true
-gave_up [] worker is = absurd (let e : None ≡ Some worker = is in cc)
-gave_up (Abandon v ∷ h) worker is = then_gave_up h v worker (gave_up h worker) (first_abandoned h) refl is
-gave_up (e ∷ h) worker is = gave_up h worker is
-
--- how a phase ends a session
-abbrev pub stop_of : Phase → Option SessionEnd
-stop_of phase.Running = None
-stop_of phase.Full = None
-stop_of phase.Shut = Some Shut
-stop_of (phase.Abandoned worker) = Some (Abandoned worker)
-
-stops_as : (h : List Entry) (p : Phase) → Says (first_abandoned h) (is_shut h) p → Stops h (stop_of p)
-stops_as h phase.Running says = says
-stops_as h phase.Full says = says
-stops_as h phase.Shut says = says
-stops_as h (phase.Abandoned worker) says = gave_up h worker says
-
-pub looks_at : (g : Givens) (v : View Givens Entry) (h : List Entry) (w : View Givens Entry) (p : Phase) → Turns g v h w → past w ≡ h → p ≡ phase_of h → Looks g v w (stop_of p)
-looks_at g v h w p turns same is = record {
-  turns = subst (λ k. Turns g v k w) (sym same) turns;
-  stops = stops_as (past w) p (subst (λ k. Says (first_abandoned k) (is_shut k) p) (sym same)
-      (subst (Says (first_abandoned h) (is_shut h)) (sym is) (phase_says (first_abandoned h) (is_shut h) (is_filled h))));
-}
 
 -- reading on
 pub hears_same : (g : Givens) (peer : Peer) (c : ℕ) (v : View Givens Entry) (i : Intake) → Hears g peer c v i v i progress.On

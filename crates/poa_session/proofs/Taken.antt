@@ -1,5 +1,5 @@
 -- A piece of a link's input is taken in.
-use Rattle.std.proofs.Common.{◌≡◌, ℕ, ◌+◌, ◌^◌, ◌<◌, ◌≤◌, List, [], ◌++◌, length, take, refl, sym, ap, subst, ◌∙◌, arith}
+use Rattle.std.proofs.Common.{◌≡◌, ℕ, ◌+◌, ◌^◌, ◌≤◌, List, [], ◌++◌, length, refl, arith}
 use Rattle.std.specs.Prelude.{Some, None}
 use Rattle.poa_base.specs.declared.SessionEnd.{SessionEnd}
 use Rattle.poa_base.specs.declared.SessionEnd.TheVariants.{Ended, Shut, ReadFault, WriteFault, Malformed, Truncated, InputLimit, Limit, Abandoned, WantMemory}
@@ -7,7 +7,7 @@ use Rattle.outside.specs.Link.{Shown, Moves, IsDry}
 use Rattle.outside.proofs.Moving.{moves_none}
 use Rattle.session_laws.specs.Hearing.{Heard, Stop}
 use Rattle.session_input.specs.Hearing.{Intake, OfIntake}
-use Rattle.poa_session.specs.Serving.{AsTaken, EndsAt, Takes}
+use Rattle.poa_session.specs.Taking.{EndsAt, Takes}
 
 module _ (i j : Intake) (have : ℕ) (a b : Shown) where
   few_nothing : i.taken ≤ 2 ^ 40 → i.taken + 0 ≤ 2 ^ 40

@@ -1,25 +1,25 @@
 -- A session from its entering on, round by round.
-use Rattle.std.proofs.Common.{◌≡◌, ℕ, ◌+◌, ◌^◌, ◌≤◌, true, List, [], ◌∷◌, ◌++◌, length, length-append, refl, sym, ap, subst, ◌∙◌, append_assoc, append-nil, arith}
-use Rattle.std.specs.Prelude.{Option, Some, None, IfSome}
+use Rattle.std.proofs.Common.{◌≡◌, ℕ, ◌+◌, ◌^◌, ◌≤◌, true, List, [], ◌++◌, length, length-append, refl, sym, ap, subst, ◌∙◌, append-nil, arith}
+use Rattle.std.specs.Prelude.{Option, None, IfSome}
 use Rattle.poa_base.specs.declared.Entry.{Entry}
 use Rattle.poa_base.specs.declared.SessionEnd.{SessionEnd}
 use Rattle.poa_base.specs.declared.SessionEnd.TheVariants.{WantMemory}
 use Rattle.seat_lock.specs.declared.view.View.{View}
 use Rattle.outside.specs.Link.{Shown, Moves}
-use Rattle.outside.proofs.Moving.{moves_both, moves_none, moves_out}
+use Rattle.outside.proofs.Moving.{moves_both, moves_none}
 use Rattle.run_history.specs.declared.Givens.{Givens}
 use Rattle.poa_shared.specs.Seen.{past}
 use Rattle.session_laws.specs.declared.Peer.{Peer}
 use Rattle.session_laws.specs.Hearing.{Heard}
-use Rattle.session_laws.specs.Records.{arrived_by, joined_by, filling_by, is_late_by, IsPaidBy}
-use Rattle.session_laws.specs.Sessions.{Begins, IsNext}
+use Rattle.session_laws.specs.Records.{arrived_by, joined_by, filling_by, is_late_by}
+use Rattle.session_laws.specs.Sessions.{IsNext}
 use Rattle.session_laws.specs.Expecting.{Expects}
-use Rattle.session_laws.proofs.Ends.{short_of_replies}
 use Rattle.session_laws.proofs.Expected.{expects_begins}
 use Rattle.session_input.specs.Hearing.{Intake, OfIntake}
 use Rattle.session_input.proofs.GoingOn.{intake_goes_on}
 use Rattle.poa_session.specs.Growing.{Adds}
-use Rattle.poa_session.specs.Serving.{BreaksOff, Converses, Rounds, Settled, Settles}
+use Rattle.poa_session.specs.Rounding.{Rounds}
+use Rattle.poa_session.specs.Settling.{Converses, Settled, Settles}
 use Rattle.poa_session.specs.declared.flow.Flow.{Flow}
 use Rattle.poa_session.specs.declared.flow.Flow.TheVariants as flow
 use Rattle.poa_session.proofs.Adding.{adds_both, adds_same}

@@ -6,7 +6,7 @@ ghost use Rattle.run_history.specs.declared.Givens.{Givens};
 ghost use Rattle.session_laws.specs.Sessions.{closing, closing_message, is_settling as is_settling_end};
 ghost use Rattle.poa_shared.specs.Seats.{IsIdle};
 ghost use Rattle.poa_shared.specs.Seen.{Holds};
-ghost use Rattle.poa_session.specs.Serving.{Settles};
+ghost use Rattle.poa_session.specs.Settling.{Settles};
 ghost use Rattle.poa_session.specs.Writing.{Writes};
 
 use crate::paying::pay;

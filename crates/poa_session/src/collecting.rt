@@ -7,7 +7,7 @@ ghost use Rattle.giop_msg.specs.Reply.{AnswersHead};
 ghost use Rattle.session_laws.specs.Records.{told};
 ghost use Rattle.poa_shared.specs.Seats.{IsIdle};
 ghost use Rattle.poa_shared.specs.Seen.{Holds, Owns};
-ghost use Rattle.poa_session.specs.Serving.{Gathers, NextGathered, Pays, PutsOn};
+ghost use Rattle.poa_session.specs.Paying.{Gathers, NextGathered, Pays, PutsOn};
 
 use crate::writing::write_all;
 use admin_line::write_answer;

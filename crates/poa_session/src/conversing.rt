@@ -7,7 +7,7 @@ ghost use Rattle.poa_shared.specs.Seats.{IsIdle};
 ghost use Rattle.poa_shared.specs.Seen.{Holds};
 ghost use Rattle.session_laws.specs.Expecting.{Expects};
 ghost use Rattle.session_input.specs.Hearing.{OfIntake};
-ghost use Rattle.poa_session.specs.Serving.{Converses};
+ghost use Rattle.poa_session.specs.Settling.{Converses};
 
 use crate::closing::settle;
 use crate::flow::Flow;

@@ -5,7 +5,7 @@ ghost use Rattle.run_history.specs.declared.Givens.{Givens};
 ghost use Rattle.session_laws.specs.declared.Peer.{Peer};
 ghost use Rattle.poa_shared.specs.Seats.{IsIdle};
 ghost use Rattle.poa_shared.specs.Seen.{Holds};
-ghost use Rattle.poa_session.specs.Serving.{AsArrived, Hears, Listens};
+ghost use Rattle.poa_session.specs.Listening.{AsArrived, Hears, Listens};
 ghost use Rattle.poa_history.specs.Legal.{IsSize};
 
 use crate::progress::Progress;

@@ -5,7 +5,8 @@ ghost use Rattle.outside.specs.Cause.{HasCause};
 ghost use Rattle.run_history.specs.declared.Givens.{Givens};
 ghost use Rattle.poa_shared.specs.Seats.{IsIdle};
 ghost use Rattle.poa_shared.specs.Seen.{Holds};
-ghost use Rattle.poa_session.specs.Serving.{Looks, PaysAll};
+ghost use Rattle.poa_session.specs.Paying.{PaysAll};
+ghost use Rattle.poa_session.specs.Stopping.{Looks};
 
 use crate::collecting::collect_all;
 use outside::Link;

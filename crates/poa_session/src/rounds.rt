@@ -7,7 +7,7 @@ ghost use Rattle.poa_base.specs.declared.SessionEnd.TheVariants as end;
 ghost use Rattle.session_laws.specs.declared.Peer.{Peer};
 ghost use Rattle.poa_shared.specs.Seats.{IsIdle};
 ghost use Rattle.poa_shared.specs.Seen.{Holds};
-ghost use Rattle.poa_session.specs.Serving.{Rounds};
+ghost use Rattle.poa_session.specs.Rounding.{Rounds};
 
 use crate::collecting::collect_all;
 use crate::flow::Flow;

@@ -5,7 +5,7 @@ ghost use Rattle.run_history.specs.declared.Givens.{Givens};
 ghost use Rattle.session_laws.specs.declared.Peer.TheVariants as peers;
 ghost use Rattle.poa_shared.specs.Seats.{IsIdle};
 ghost use Rattle.poa_session.specs.Served.{Served};
-ghost use Rattle.poa_session.specs.Serving.{TurnsAway, refusal as refusal_of};
+ghost use Rattle.poa_session.specs.Settling.{TurnsAway, refusal as refusal_of};
 
 use crate::closing::close;
 use crate::conversing::converse;

@@ -3,7 +3,7 @@ ghost use Rattle.std.specs.Prelude.{◌≡◌, ◌<◌, ◌≢◌, length, Some}
 ghost use Rattle.outside.specs.Cause.{HasCause};
 ghost use Rattle.outside.specs.Link.{IsRead};
 ghost use Rattle.outside.specs.Reading.{IsWithin};
-ghost use Rattle.poa_session.specs.Serving.{EndsAt, Takes};
+ghost use Rattle.poa_session.specs.Taking.{EndsAt, Takes};
 
 use outside::{Link, Took};
 use poa_base::SessionEnd;

@@ -3,6 +3,7 @@ use crate::bell::SLOTS;
 use call_tables::Filed;
 use poa_base::Reply;
 use poa_core::Phase;
+use std::collections::VecDeque;
 
 /// Whom to wake after turns, once the place before the lock is let go.
 #[derive(Clone, Copy, Debug, Drop)]
@@ -26,8 +27,9 @@ impl News {
     }
 
     /// Notes the replies that were decided behind so many. A command may have made calls ready for any worker.
-    pub(crate) fn note(&mut self, decided: &[Filed], known: usize) {
-        for filed in decided.iter().skip(known) {
+    pub(crate) fn note(&mut self, decided: &VecDeque<Filed>, known: usize) {
+        for place in known..decided.len() {
+            let filed = &decided[place];
             self.slots |= 1 << (filed.conn % SLOTS);
             if matches!(filed.reply, Reply::Answer { .. }) {
                 self.is_for_workers = true;

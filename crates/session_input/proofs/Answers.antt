@@ -1,18 +1,16 @@
 -- What the answers of a framer and of a message say of what is to be heard.
-use Rattle.std.proofs.Common.{◌≡◌, ℕ, suc, ◌+◌, ◌<◌, ◌≤◌, Bool, true, false, List, [], ◌∷◌, ◌++◌, length, take, drop, Result, Ok, Err, OnOk, IfOk, refl, sym, ap, subst, ◌∙◌, append_assoc, arith}
+use Rattle.std.proofs.Common.{◌≡◌, ℕ, suc, ◌+◌, true, false, List, [], ◌∷◌, ◌++◌, length, drop, Result, Ok, Err, OnOk, IfOk, refl, sym, ap, subst, ◌∙◌}
 use Rattle.giop_frame.specs.declared.Next.TheVariants as next
 use Rattle.giop_frame.specs.Stream.{Framed, left_over}
 use Rattle.giop_frame.specs.Framing.{Framing}
 use Rattle.giop_frame.specs.Framer.{FramerAnswers}
 use Rattle.giop_frame.proofs.GoingOn.{framer_goes_on as some_given}
-use Rattle.giop_msg.specs.declared.Incoming.TheVariants as incoming
-use Rattle.giop_msg.specs.Call.{CallOf}
 use Rattle.std.proofs.Math.Seq.{drop-append-add}
 use Rattle.text_words.specs.Cuts.{lacks}
-use Rattle.session_laws.specs.Hearing.{Heard, Stop, bad, over}
-use Rattle.session_laws.specs.Lines.{is_long, spoken, without_return}
+use Rattle.session_laws.specs.Hearing.{bad, over}
+use Rattle.session_laws.specs.Lines.{is_long, without_return}
 use Rattle.session_laws.specs.Expecting.{Cutting, OfFramer, OfLines}
-use Rattle.session_laws.proofs.Messages.{framer_bad, framer_call, framer_cancel, framer_closing, framer_malformed, framer_over, framer_same, FramerGoesOn}
+use Rattle.session_laws.proofs.Messages.{framer_call, framer_cancel, framer_closing, framer_malformed, framer_same, FramerGoesOn}
 use Rattle.session_laws.proofs.Lines.{behind_line, front_long, line_long, line_read, lines_over}
 use Rattle.session_input.specs.declared.told.Told.{Told}
 use Rattle.session_input.specs.declared.told.Told.TheVariants as told
@@ -33,9 +31,10 @@ told_message f g m (told.Bad at) answers asks =
 
 -- a framer that gives no message
 pub told_more : (f g : Framing) (have : ℕ) → FramerAnswers f (next.NeedMore have) g → AsTold (told.More have) (OfFramer f) (OfFramer g)
-told_more f g have answers =
-    ((λ text more stop w. framer_same f g text more stop w answers.1),
-     record { messages = []; end = left_over have; gives = (answers.1 [] [] (left_over have)).1 answers.0; heard = (refl, refl) })
+told_more f g have answers = (
+  (λ text more stop w. framer_same f g text more stop w answers.1),
+  record { messages = []; end = left_over have; gives = (answers.1 [] [] (left_over have)).1 answers.0; heard = (refl, refl) },
+)
 
 -- a line that is read
 pub told_line : (l : Cutting) (raw rest : List ℕ) (t : Told) → l.unread ≡ raw ++ 10 ∷ rest → lacks 10 raw ≡ true → is_long raw ≡ false
@@ -64,10 +63,11 @@ module _ (l : Cutting) (place : ℕ) (unread : List ℕ) (at : place ≡ l.place
       (front_long l [] (subst (λ u. lacks 10 u ≡ true) looks clear) (subst (λ u. is_long u ≡ true) looks long))
 
   pub cut_over : lacks 10 unread ≡ true → is_long unread ≡ false → AsTold (told.More (length unread)) (OfLines l) (OfLines l)
-  cut_over clear short =
-      ((λ text more stop heard. heard),
-       subst (λ (u : List ℕ). OfLines l [] [] (over (length u))) (sym looks)
-         (lines_over l (subst (λ u. lacks 10 u ≡ true) looks clear) (subst (λ u. is_long u ≡ false) looks short)))
+  cut_over clear short = (
+    (λ text more stop heard. heard),
+    subst (λ (u : List ℕ). OfLines l [] [] (over (length u))) (sym looks)
+        (lines_over l (subst (λ u. lacks 10 u ≡ true) looks clear) (subst (λ u. is_long u ≡ false) looks short)),
+  )
 
   module _ (raw rest : List ℕ) (parts : unread ≡ raw ++ 10 ∷ rest) (clear : lacks 10 raw ≡ true) where
     pub cut_line_long : is_long raw ≡ true → AsTold (told.Bad place) (OfLines l) (OfLines l)

@@ -134,13 +134,7 @@ fn without_return(raw: &[u8]) -> &[u8]
     ensures { result.now ≡ without_return_of raw.now }
 {
     match raw {
-        [front @ .., last] => {
-            if *last == b'\r' {
-                front
-            } else {
-                raw
-            }
-        }
+        [front @ .., last] => { if *last == b'\r' { front } else { raw } }
         [] => raw,
     }
 }

@@ -1,10 +1,10 @@
 -- Why a session ended stays so, as the run goes on.
-use Rattle.std.proofs.Common.{◌≡◌, ℕ, Bool, true, false, ◌||◌, ◌==◌, List, [], ◌∷◌, ◌++◌, Option, Some, None, refl, sym, ◌∙◌}
+use Rattle.std.proofs.Common.{◌≡◌, ℕ, Bool, true, false, ◌||◌, ◌==◌, List, [], ◌∷◌, ◌++◌, Some, None, refl, sym, ◌∙◌}
 use Rattle.poa_base.specs.declared.Config.{Config}
 use Rattle.poa_base.specs.declared.Entry.{Entry}
 use Rattle.poa_base.specs.declared.Entry.TheVariants.{Filled, Admit, Abandon}
 use Rattle.poa_base.specs.declared.SessionEnd.{SessionEnd}
-use Rattle.poa_base.specs.declared.SessionEnd.TheVariants.{Ended, Shut, ReadFault, WriteFault, Malformed, Truncated, InputLimit, Limit, Abandoned, WantMemory}
+use Rattle.poa_base.specs.declared.SessionEnd.TheVariants.{Shut, Limit, Abandoned}
 use Rattle.poa_history.specs.Arrivals.{call_of}
 use Rattle.poa_history.specs.Legal.{IsLegal, MayFollow, is_filled}
 use Rattle.poa_history.specs.Stages.{is_abandoned}

@@ -1,11 +1,11 @@
 -- What is read and written, by the end of a session.
-use Rattle.std.proofs.Common.{◌≡◌, ℕ, ◌<◌, Bool, true, false, List, [], ◌∷◌, ◌++◌, length, inl, inr, refl, sym, ap, subst, append-nil, ◌∙◌, length-append, ◌+◌, arith}
+use Rattle.std.proofs.Common.{◌≡◌, ℕ, true, false, List, [], ◌++◌, length, inl, inr, refl, sym, ap, append-nil, ◌∙◌, length-append, ◌+◌, arith}
 use Rattle.poa_base.specs.declared.SessionEnd.{SessionEnd}
 use Rattle.poa_base.specs.declared.SessionEnd.TheVariants.{Ended, Shut, ReadFault, WriteFault, Malformed, Truncated, InputLimit, Limit, Abandoned, WantMemory}
 use Rattle.session_laws.specs.declared.peer.Peer.{Peer}
 use Rattle.session_laws.specs.declared.peer.Peer.TheVariants.{Client, Administrator}
 use Rattle.session_laws.specs.Hearing.{Heard, closed, over, bad}
-use Rattle.session_laws.specs.Sessions.{Begins, Closes, FallsShort, Input, Output, closing, is_settling}
+use Rattle.session_laws.specs.Sessions.{Begins, FallsShort, Input, Output, closing, is_settling}
 use Rattle.session_laws.proofs.Expected.{hears_begins}
 
 -- however a session ended, the calls that arrived are the first ones

@@ -1,5 +1,5 @@
 -- What is heard of a peer so far, step by step.
-use Rattle.std.proofs.Common.{◌≡◌, ℕ, List, [], ◌∷◌, ◌++◌, refl, sym, subst, append_assoc, append-nil}
+use Rattle.std.proofs.Common.{ℕ, List, [], ◌∷◌, ◌++◌, sym, subst, append_assoc, append-nil}
 use Rattle.poa_base.specs.declared.Call.{Call}
 use Rattle.session_laws.specs.declared.peer.Peer.{Peer}
 use Rattle.session_laws.specs.Hearing.{Heard, Stop}

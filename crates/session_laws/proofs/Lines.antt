@@ -1,11 +1,11 @@
 -- What an administrator's lines say of what is still to be heard.
-use Rattle.std.proofs.Common.{◌≡◌, ℕ, zero, suc, ◌+◌, ◌<◌, ◌≤◌, ◌==◌, nat_lt, Bool, true, false, not, if◌then◌else◌, List, [], ◌∷◌, ◌++◌, ◌-◌, min, length, length-append, refl, sym, ap, subst, ◌∙◌, append_assoc, append-nil, arith, lt-ltb, ltb-true, slice_index, take, length-take}
+use Rattle.std.proofs.Common.{◌≡◌, ℕ, suc, ◌+◌, ◌≤◌, ◌==◌, true, false, not, List, [], ◌∷◌, ◌++◌, ◌-◌, length, length-append, refl, sym, ap, subst, ◌∙◌, append_assoc, append-nil, arith, lt-ltb, ltb-true, slice_index, take, length-take}
 use Rattle.std.proofs.lemmas.Bool.{cond_both, and_parts, not-true}
-use Rattle.text_words.specs.Cuts.{cut, onto, lacks, parts_of}
+use Rattle.text_words.specs.Cuts.{onto, lacks, parts_of}
 use Rattle.text_words.proofs.Cutting.{cut-front, cut-alone}
 use Rattle.session_laws.specs.declared.peer.Peer.TheVariants.{Administrator}
 use Rattle.session_laws.specs.Hearing.{Heard, Stop, over, bad}
-use Rattle.session_laws.specs.Lines.{calls_in, stop_in, is_long, is_spoken, spoken, without_return, HearsLinesFrom}
+use Rattle.session_laws.specs.Lines.{calls_in, stop_in, is_long, spoken, without_return, HearsLinesFrom}
 use Rattle.session_laws.specs.Expecting.{Cutting, Expects, GoesOn, OfLines}
 
 -- a byte that isn't s stands in front of the first part

@@ -1,5 +1,5 @@
 -- What a framer's answers say of what is still to be heard.
-use Rattle.std.proofs.Common.{◌≡◌, ℕ, List, [], ◌∷◌, ◌++◌, ◌↔◌, length, Result, Ok, Err, refl}
+use Rattle.std.proofs.Common.{ℕ, List, [], ◌∷◌, ◌++◌, ◌↔◌, length, Result, Ok, Err, refl}
 use Rattle.poa_base.specs.declared.Call.{Call}
 use Rattle.giop_frame.specs.declared.Next.TheVariants as next
 use Rattle.giop_frame.specs.declared.Why.{Why}
@@ -11,7 +11,7 @@ use Rattle.giop_msg.specs.declared.Incoming.TheVariants as incoming
 use Rattle.giop_msg.specs.declared.MsgFault.{MsgFault}
 use Rattle.giop_msg.specs.Call.{CallOf}
 use Rattle.session_laws.specs.declared.peer.Peer.TheVariants.{Client}
-use Rattle.session_laws.specs.Hearing.{Heard, Stop, closed, over, bad, stop_at, HeardIn, HeardFrom, message_limit}
+use Rattle.session_laws.specs.Hearing.{Heard, Stop, closed, over, bad, stop_at, HeardIn, message_limit}
 use Rattle.session_laws.specs.Expecting.{Expects, GoesOn, OfFramer}
 
 -- each message says something

@@ -1,17 +1,14 @@
 -- What a history says of a connection stays, whatever entries others make.
-use Rattle.std.proofs.Common.{◌≡◌, ℕ, suc, Bool, true, false, ◌&&◌, ◌||◌, ◌==◌, if◌then◌else◌, List, [], ◌∷◌, ◌++◌, length, reverse, Option, Some, None, refl, sym, ap, ◌∙◌, subst, ne_eqb, append_assoc, append-nil}
-use Rattle.std.proofs.lemmas.Bool.{cond_both, eqb-true}
+use Rattle.std.proofs.Common.{◌≡◌, ℕ, Bool, true, false, ◌&&◌, ◌||◌, ◌==◌, if◌then◌else◌, List, [], ◌∷◌, ◌++◌, length, reverse, Option, Some, None, refl, sym, ap, ◌∙◌, subst, ne_eqb}
 use Rattle.std.proofs.lemmas.List.{reverse-append}
-use Rattle.poa_base.specs.declared.Call.{Call}
 use Rattle.poa_base.specs.declared.Entry.{Entry}
-use Rattle.poa_base.specs.declared.Entry.TheVariants.{Entered, Arrive, Filled, Left, Collect, Admit, Tried, Incarnated, Run, Done, TakeOut, Etherealized, Abandon}
+use Rattle.poa_base.specs.declared.Entry.TheVariants.{Entered, Arrive, Filled, Collect}
 use Rattle.poa_history.specs.Arrivals.{arrivals, call_of, conn_of}
 use Rattle.poa_history.specs.Replies.{asks, is_asked, is_collected}
 use Rattle.poa_history.specs.Stages.{is_at}
 use Rattle.run_history.specs.declared.Givens.{Givens}
 use Rattle.run_history.specs.Owners.{owner_of, HasNone}
-use Rattle.session_laws.specs.Hearing.{Heard}
-use Rattle.session_laws.specs.Records.{arrived_by, joined_by, reply_told, places_by, filling_by, is_late_by, IsPaidBy}
+use Rattle.session_laws.specs.Records.{arrived_by, joined_by, places_by, filling_by, is_late_by, IsPaidBy}
 
 not_of : (conn c : ℕ) → (Some conn ≡ Some c → ⊥) → (conn == c) ≡ false
 not_of conn c other = ne_eqb conn c (λ same. other (ap Some same))

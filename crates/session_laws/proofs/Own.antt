@@ -1,9 +1,8 @@
 -- What an entry of the connection changes of what a history says of it.
-use Rattle.std.proofs.Common.{◌≡◌, ℕ, List, [], ◌∷◌, ◌++◌, length, Some, refl, ap, eq-eqb}
+use Rattle.std.proofs.Common.{◌≡◌, ℕ, List, [], ◌∷◌, ◌++◌, length, Some, refl, eq-eqb}
 use Rattle.poa_base.specs.declared.Call.{Call}
 use Rattle.poa_base.specs.declared.Entry.{Entry}
-use Rattle.poa_base.specs.declared.Entry.TheVariants.{Entered, Arrive, Filled, Left, Collect}
-use Rattle.poa_history.specs.Stages.{is_at}
+use Rattle.poa_base.specs.declared.Entry.TheVariants.{Entered, Arrive, Filled, Collect}
 use Rattle.run_history.specs.declared.Givens.{Givens}
 use Rattle.run_history.specs.Owners.{owner_of}
 use Rattle.run_tally.specs.Leaving.{is_shut}

@@ -1,5 +1,5 @@
 -- What is still to be heard of a peer, as its bytes are taken: the words of those that read them piece by piece.
-use Rattle.std.specs.Prelude.{◌≡◌, ℕ, List, [], ◌∷◌, ◌++◌}
+use Rattle.std.specs.Prelude.{ℕ, List, ◌++◌}
 use Rattle.giop_frame.specs.Stream.{Framed, End}
 use Rattle.giop_frame.specs.Framing.{Framing}
 use Rattle.giop_frame.specs.Framer.{FramerGives}

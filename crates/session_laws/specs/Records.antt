@@ -1,7 +1,6 @@
 -- What a history says of a connection. Of the words here those that end in `_by` take a history with its newest entry
 -- first, as the definitions of histories do; the others take a log, which is in the journal's order.
 use Rattle.std.specs.Prelude.{◌≡◌, ℕ, Bool, true, false, ◌==◌, if◌then◌else◌, List, [], ◌∷◌, ◌++◌, length, reverse, Option, Some, None, ◌^◌}
-use Rattle.poa_base.specs.declared.Call.{Call}
 use Rattle.poa_base.specs.declared.Entry.{Entry}
 use Rattle.poa_base.specs.declared.Entry.TheVariants.{Entered, Arrive, Filled, Collect}
 use Rattle.poa_base.specs.declared.Head.{Head}

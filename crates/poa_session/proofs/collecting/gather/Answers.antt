@@ -1,7 +1,7 @@
 use Rattle.std.proofs.Common.{◌∙◌, rules, subst}
-use Rattle.std.specs.Prelude.{Ok, Some, None}
+use Rattle.std.specs.Prelude.{Ok}
 use Rattle.seat_lock.specs.Seats.{view}
-use Rattle.poa_session.specs.Serving.{NextGathered}
+use Rattle.poa_session.specs.Paying.{NextGathered}
 use Rattle.poa_session.proofs.Replies.{gathers_all, gathers_lost, gathers_none, gathers_one}
 use Rattle.poa_session.proofs.collecting.gather.Goals as goal
 

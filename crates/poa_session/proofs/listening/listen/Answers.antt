@@ -1,7 +1,7 @@
-use Rattle.std.proofs.Common.{ap, subst, sym, ◌∙◌}
+use Rattle.std.proofs.Common.{ap, subst, sym}
 use Rattle.seat_lock.specs.Seats.{view}
 use Rattle.poa_shared.specs.Seen.{Holds}
-use Rattle.poa_session.specs.Serving.{Listens}
+use Rattle.poa_session.specs.Listening.{Listens}
 use Rattle.poa_session.proofs.listening.listen.Goals as goal
 
 pub returns-clause-conn : goal.returns-clause-conn

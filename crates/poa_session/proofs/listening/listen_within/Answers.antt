@@ -1,5 +1,4 @@
-use Rattle.std.proofs.Common.{◌≡◌, ◌∙◌, rules}
-use Rattle.std.specs.Prelude.{Some}
+use Rattle.std.proofs.Common.{◌∙◌, rules}
 use Rattle.seat_lock.specs.Seats.{view}
 use Rattle.poa_session.specs.declared.progress.Progress.TheVariants.{Ends, On, Waits}
 use Rattle.poa_session.proofs.Stepping.{hears_same, hears_then}

@@ -4,7 +4,7 @@ use Rattle.run_history.specs.declared.Givens.{Givens}
 use Rattle.session_laws.specs.declared.Peer.{Peer}
 use Rattle.poa_shared.specs.Seats.{IsIdle}
 use Rattle.poa_shared.specs.Seen.{Holds}
-use Rattle.poa_session.specs.Serving.{Hears}
+use Rattle.poa_session.specs.Listening.{Hears}
 use Rattle.poa_session.specs.declared.progress.Progress.TheVariants.{On}
 use Rattle.poa_session.proofs.listening.listen_within.Given as goal
 

@@ -2,7 +2,7 @@ use Rattle.std.proofs.Common.{ap}
 use Rattle.seat_lock.specs.Seats.{view}
 use Rattle.run_tally.specs.declared.Phase.TheVariants.{Abandoned}
 use Rattle.poa_core.specs.Life.{Life}
-use Rattle.poa_session.proofs.Stepping.{looks_at}
+use Rattle.poa_session.proofs.Phases.{looks_at}
 use Rattle.poa_session.proofs.paying.look.Goals as goal
 
 pub returns-in-Abandoned-clause-looks : goal.returns-in-Abandoned-clause-looks

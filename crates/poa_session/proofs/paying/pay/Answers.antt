@@ -1,9 +1,8 @@
-use Rattle.std.proofs.Common.{◌≡◌, arith, ap, rules, sym, subst, ◌∙◌}
-use Rattle.std.specs.Prelude.{Some, Ok, Err}
-use Rattle.std.proofs.lemmas.Option.{MatchOption-at_some}
-use Rattle.poa_base.specs.declared.SessionEnd.TheVariants.{Abandoned}
+use Rattle.std.proofs.Common.{arith, ap, rules, subst, ◌∙◌}
+use Rattle.std.specs.Prelude.{Ok, Err}
 use Rattle.seat_lock.specs.Seats.{view}
-use Rattle.poa_session.specs.Serving.{Looks, Pays}
+use Rattle.poa_session.specs.Paying.{Pays}
+use Rattle.poa_session.specs.Stopping.{Looks}
 use Rattle.poa_session.proofs.Owed.{pays_abandoned, pays_all, pays_broken, pays_none, pays_on}
 use Rattle.poa_session.proofs.paying.pay.Goals as goal
 

@@ -1,4 +1,4 @@
-use Rattle.std.proofs.Common.{ap, refl, sym, ◌∙◌}
+use Rattle.std.proofs.Common.{ap, refl, ◌∙◌}
 use Rattle.seat_lock.specs.Seats.{view}
 use Rattle.poa_core.specs.Life.{Life}
 use Rattle.poa_session.proofs.Entering.{begun}

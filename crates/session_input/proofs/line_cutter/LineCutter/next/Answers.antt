@@ -1,4 +1,4 @@
-use Rattle.std.proofs.Common.{length, sym, ap, ◌∙◌}
+use Rattle.std.proofs.Common.{sym, ap, ◌∙◌}
 use Rattle.session_laws.specs.Expecting.{Cutting}
 use Rattle.session_input.proofs.Answers.{cut_line, cut_line_long, cut_long, cut_over}
 use Rattle.session_input.proofs.line_cutter.LineCutter.next.Goals as goal
