@@ -2,3 +2,4 @@ pub mod Numbers
 pub mod Placing
 pub mod Staging
 pub mod Queueing
+pub mod Taking

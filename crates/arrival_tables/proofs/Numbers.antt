@@ -201,12 +201,12 @@ get_in [] i low = absurd (omega (arith, low))
 get_in (x ∷ xs) zero low = inl refl
 get_in (x ∷ xs) (suc i) low = inr (get_in xs i (omega (arith, low)))
 
-in_get : (r : ℕ) (xs : List ℕ) → In r xs → (i : ℕ) × (i < length xs) × (slice_index_or xs i 0 ≡ r)
+pub in_get : (r : ℕ) (xs : List ℕ) → In r xs → (i : ℕ) × (i < length xs) × (slice_index_or xs i 0 ≡ r)
 in_get r [] is = absurd is
 in_get r (x ∷ xs) (inl same) = (zero, omega arith, sym same)
 in_get r (x ∷ xs) (inr more) = (let found = in_get r xs more in (suc found.0, (let low = found.1 in omega (arith, low)), found.2))
 
-rises : (xs : List ℕ) → Ascends xs → (i j : ℕ) → i ≤ j → j < length xs → slice_index_or xs i 0 ≤ slice_index_or xs j 0
+pub rises : (xs : List ℕ) → Ascends xs → (i j : ℕ) → i ≤ j → j < length xs → slice_index_or xs i 0 ≤ slice_index_or xs j 0
 rises [] up i j low within = absurd (omega (arith, within))
 rises (x ∷ xs) up zero zero low within = omega arith
 rises (x ∷ xs) up zero (suc j) low within = (let less = up.0 (slice_index_or xs j 0) (get_in xs j (omega (arith, within))) in omega (arith, less))

@@ -1,5 +1,6 @@
 -- Which arrivals wait to be admitted, and which came when too many waited.
-use Rattle.std.specs.Prelude.{◌≡◌, ℕ, ◌≤◌, ◌<◌, Bool, true, false, ◌&&◌, List, filter, Option, Some, None, vec_len, vec_capacity}
+use Rattle.std.specs.Prelude.{◌≡◌, ℕ, ◌≤◌, ◌<◌, Bool, true, false, ◌&&◌, List, filter, Option, Some, None}
+use Rattle.std.specs.VecDeque.{deque_len, deque_capacity}
 use Rattle.poa_base.specs.declared.Call.{Call}
 use Rattle.poa_base.specs.declared.Entry.{Entry}
 use Rattle.poa_base.specs.declared.Entry.TheVariants.{Arrive, Tried}
@@ -34,6 +35,6 @@ may_queue e = false
 
 -- one call more takes no memory
 pub record HasPlace (q : Queue) : Type 0 where
-  pub unadmitted : vec_len q.unadmitted < vec_capacity q.unadmitted
-  pub messages : vec_len q.messages < vec_capacity q.messages
-  pub crowded : vec_len q.crowded < vec_capacity q.crowded
+  pub unadmitted : deque_len q.unadmitted < deque_capacity q.unadmitted
+  pub messages : deque_len q.messages < deque_capacity q.messages
+  pub crowded : deque_len q.crowded < deque_capacity q.crowded

@@ -70,8 +70,8 @@ impl<'a> Known<'a> {
         requires { IsTold self.now }
         ensures { IfOk result (λ entry. entry ≡ first_in (ready self.now worker) self.now.queue.now.unadmitted.items) }
     {
-        for arrival in &self.queue.unadmitted {
-            let entry = self.admission_of(alloc, worker, *arrival)?;
+        for i in 0..self.queue.unadmitted.len() {
+            let entry = self.admission_of(alloc, worker, self.queue.unadmitted[i])?;
             if entry.is_some() {
                 return Ok(entry);
             }

@@ -1,23 +1,26 @@
 //! Lists of numbers in order.
-ghost use Rattle.std.specs.Prelude.{◌≡◌, ◌==◌, ◌≤◌, ◌<◌, [], ◌∷◌, ◌++◌, length, filter, nat_lt, if◌then◌else◌, vec_len, vec_capacity};
+ghost use Rattle.std.specs.Prelude.{◌≡◌, ◌==◌, ◌≤◌, ◌<◌, [], ◌∷◌, ◌++◌, length, filter, nat_lt, if◌then◌else◌};
+ghost use Rattle.std.specs.VecDeque.{deque_len, deque_capacity};
 ghost use Rattle.std.specs.List.{list_any};
 ghost use Rattle.arrival_tables.specs.Numbers.{Ascends, inserted, without};
 
+use std::collections::VecDeque;
+
 /// Whether a number is one of numbers that ascend.
-pub fn has(numbers: &[u64], number: u64) -> bool
-    ensures { Ascends numbers.now → result ≡ list_any (λ x. x == number) numbers.now }
+pub fn has(numbers: &VecDeque<u64>, number: u64) -> bool
+    ensures { Ascends numbers.now.items → result ≡ list_any (λ x. x == number) numbers.now.items }
 {
     numbers.binary_search(&number).is_ok()
 }
 
 /// How many are less than a number.
-fn place_for(numbers: &[u64], number: u64) -> usize
-    ensures place { result ≡ length (filter (λ x. nat_lt x number) numbers.now) }
-    ensures within { result ≤ length numbers.now }
+fn place_for(numbers: &VecDeque<u64>, number: u64) -> usize
+    ensures place { result ≡ length (filter (λ x. nat_lt x number) numbers.now.items) }
+    ensures within { result ≤ length numbers.now.items }
 {
     let mut place = 0;
-    for other in numbers {
-        if *other < number {
+    for i in 0..numbers.len() {
+        if numbers[i] < number {
             place += 1;
         }
     }
@@ -25,8 +28,8 @@ fn place_for(numbers: &[u64], number: u64) -> usize
 }
 
 /// Puts a number behind all that are less. Takes no memory.
-pub fn insert(numbers: &mut Vec<u64>, number: u64)
-    requires { vec_len numbers.old < vec_capacity numbers.old }
+pub fn insert(numbers: &mut VecDeque<u64>, number: u64)
+    requires { deque_len numbers.old < deque_capacity numbers.old }
     ensures { numbers.new.items ≡ inserted number numbers.old.items }
 {
     let place = place_for(numbers, number);
@@ -34,18 +37,18 @@ pub fn insert(numbers: &mut Vec<u64>, number: u64)
 }
 
 /// Puts a number behind all, where it is to. Takes no memory.
-pub fn push_if(is: bool, numbers: &mut Vec<u64>, number: u64)
-    requires { vec_len numbers.old < vec_capacity numbers.old }
+pub fn push_if(is: bool, numbers: &mut VecDeque<u64>, number: u64)
+    requires { deque_len numbers.old < deque_capacity numbers.old }
     ensures { numbers.new.items ≡ (if is then numbers.old.items ++ number ∷ [] else numbers.old.items) }
 {
     if is {
-        numbers.push_reserved(number);
+        numbers.push_back_reserved(number);
     }
 }
 
 /// Puts a number behind all that are less, where it is to. Takes no memory.
-pub fn insert_if(is: bool, numbers: &mut Vec<u64>, number: u64)
-    requires { vec_len numbers.old < vec_capacity numbers.old }
+pub fn insert_if(is: bool, numbers: &mut VecDeque<u64>, number: u64)
+    requires { deque_len numbers.old < deque_capacity numbers.old }
     ensures { numbers.new.items ≡ (if is then inserted number numbers.old.items else numbers.old.items) }
 {
     if is {
@@ -53,9 +56,11 @@ pub fn insert_if(is: bool, numbers: &mut Vec<u64>, number: u64)
     }
 }
 
-/// Takes a number away.
-pub fn remove(numbers: &mut Vec<u64>, number: u64)
-    ensures { numbers.new.items ≡ without number numbers.old.items }
+/// Takes a number away from numbers that ascend.
+pub fn remove(numbers: &mut VecDeque<u64>, number: u64)
+    ensures { Ascends numbers.old.items → numbers.new.items ≡ without number numbers.old.items }
 {
-    numbers.retain(|other| *other != number);
+    if let Ok(place) = numbers.binary_search(&number) {
+        let _taken = numbers.remove(place);
+    }
 }

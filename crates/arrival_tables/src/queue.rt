@@ -22,14 +22,15 @@ use poa_history::Stage;
 use standing_queries::calls::is_message;
 use standing_queries::workers::arrival_in;
 use std::alloc::Global;
+use std::collections::VecDeque;
 
 /// The arrivals that aren't admitted, in order; those of them that are requests or locates; and the arrivals
 /// that came when too many of these waited.
-#[derive(Debug, Drop)]
+#[derive(Drop)]
 pub struct Queue {
-    pub unadmitted: Vec<u64>,
-    pub messages: Vec<u64>,
-    pub crowded: Vec<u64>,
+    pub unadmitted: VecDeque<u64>,
+    pub messages: VecDeque<u64>,
+    pub crowded: VecDeque<u64>,
 }
 
 /// The queue before the first arrival.
@@ -37,9 +38,9 @@ pub fn empty(alloc: Global) -> Queue
     ensures { IsQueue [] result }
 {
     Queue {
-        unadmitted: Vec::new(alloc),
-        messages: Vec::new(alloc),
-        crowded: Vec::new(alloc),
+        unadmitted: VecDeque::new(alloc),
+        messages: VecDeque::new(alloc),
+        crowded: VecDeque::new(alloc),
     }
 }
 
@@ -47,7 +48,7 @@ pub fn empty(alloc: Global) -> Queue
 pub fn count(queue: &Queue) -> u64
     ensures { (h : List Entry) → IsQueue h queue.now → result ≡ count_below (begun.is_unadmitted h) (arrivals_in h) }
 {
-    queue.unadmitted.as_slice().len() as u64
+    queue.unadmitted.len() as u64
 }
 
 /// Whether too many waited when it arrived.
@@ -65,9 +66,9 @@ pub fn reserve(queue: &mut Queue) -> Result<(), WantMemory>
     ensures kept { (h : List Entry) → IsQueue h queue.old → IsQueue h queue.new }
     ensures room { OnOk result (HasPlace queue.new) }
 {
-    queue.unadmitted.try_reserve(1)?;
-    queue.messages.try_reserve(1)?;
-    queue.crowded.try_reserve(1)?;
+    queue.unadmitted.reserve(1)?;
+    queue.messages.reserve(1)?;
+    queue.crowded.reserve(1)?;
     Ok(())
 }
 
@@ -76,8 +77,8 @@ fn arrive(call: &Call, arrival: u64, queue: &mut Queue)
     requires { HasPlace queue.old }
     ensures { (past : List Entry) (conn size : ℕ) → arrival ≡ arrivals_in past → IsQueue past queue.old → IsQueue (entry_kinds.Arrive conn size call.now ∷ past) queue.new }
 {
-    let crowded = queue.messages.as_slice().len() as u64 >= UNADMITTED;
-    queue.unadmitted.push_reserved(arrival);
+    let crowded = queue.messages.len() as u64 >= UNADMITTED;
+    queue.unadmitted.push_back_reserved(arrival);
     push_if(is_message(Some(call)), &mut queue.messages, arrival);
     push_if(crowded, &mut queue.crowded, arrival);
 }

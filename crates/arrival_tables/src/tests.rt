@@ -6,6 +6,7 @@ use crate::{calls, queue, workers};
 use poa_base::{Attempt, Call, Command, Entry, Head, Verdict};
 use poa_history::Stage;
 use std::alloc::Global;
+use std::collections::VecDeque;
 use std::test::Fail;
 
 /// A journal with its tables.
@@ -24,6 +25,15 @@ fn opened(alloc: Global) -> Result<Run, Fail> {
         queue: queue::empty(alloc),
         workers: all_free(alloc)?,
     })
+}
+
+/// Whether these are the numbers, in this order.
+fn holds(numbers: &VecDeque<u64>, wanted: &[u64]) -> bool {
+    numbers.len() == wanted.len()
+        && wanted
+            .iter()
+            .enumerate()
+            .all(|(i, number)| numbers.get(i) == Some(number))
 }
 
 /// The tables take in an entry, and the journal gets it.
@@ -117,10 +127,10 @@ fn calls_are_found_where_they_arrived(rt: HostRuntime) -> Result<(), Fail> {
 fn a_call_that_was_tried_goes_back_to_its_place(rt: HostRuntime) -> Result<(), Fail> {
     let mut run = arrived(rt.alloc())?;
     assert_eq!(rt; count(&run.queue), 3);
-    assert_eq!(rt; run.queue.messages.as_slice(), &[1][..]);
+    assert!(rt; holds(&run.queue.messages, &[1][..]));
     note(&mut run, admit(1, Verdict::Try))?;
-    assert_eq!(rt; run.queue.unadmitted.as_slice(), &[0, 2][..]);
-    assert_eq!(rt; run.queue.messages.as_slice(), &[][..]);
+    assert!(rt; holds(&run.queue.unadmitted, &[0, 2][..]));
+    assert!(rt; holds(&run.queue.messages, &[][..]));
     assert_eq!(rt; stage(&run.workers, 2), Stage::Trying(1));
     note(
         &mut run,
@@ -129,8 +139,8 @@ fn a_call_that_was_tried_goes_back_to_its_place(rt: HostRuntime) -> Result<(), F
             answer: Attempt::Yes { number: 1 },
         },
     )?;
-    assert_eq!(rt; run.queue.unadmitted.as_slice(), &[0, 1, 2][..]);
-    assert_eq!(rt; run.queue.messages.as_slice(), &[1][..]);
+    assert!(rt; holds(&run.queue.unadmitted, &[0, 1, 2][..]));
+    assert!(rt; holds(&run.queue.messages, &[1][..]));
     assert_eq!(rt; stage(&run.workers, 2), Stage::Free);
     assert!(rt; !is_crowded(&run.queue, 1));
     note(&mut run, Entry::Abandon { worker: 7 })?;

@@ -1,5 +1,5 @@
 -- An entry that comes to the desk.
-use Rattle.std.proofs.Common.{◌≡◌, ℕ, ◌+◌, Bool, true, false, not, List, [], ◌∷◌, ◌++◌, map, filter, length, Option, Some, None, refl, sym, ap, ap₂, subst, ◌∙◌, arith, ◌<◌, ◌≤◌}
+use Rattle.std.proofs.Common.{◌≡◌, ℕ, ◌+◌, Bool, not, List, [], ◌∷◌, ◌++◌, map, filter, length, Option, refl, sym, ap, subst, ◌∙◌, arith, ◌<◌, ◌≤◌}
 use Rattle.std.proofs.lemmas.List.{length-append, length-map}
 use Rattle.std.proofs.lemmas.List.Filters.{length-filter_both}
 use Rattle.poa_base.specs.declared.Config.{Config}
@@ -15,10 +15,11 @@ use Rattle.call_tables.specs.declared.owing.Owing.{Owing}
 use Rattle.call_tables.specs.declared.wait.Wait.{Wait}
 use Rattle.call_tables.specs.declared.wait.Ordered.{Ordered}
 use Rattle.call_tables.specs.Waits.{ordered_by}
-use Rattle.call_tables.specs.Owed.{AreOwed}
+use Rattle.call_tables.specs.Numbers.{Ascends}
+use Rattle.call_tables.specs.Owed.{AreOwed, arrivals_of}
 use Rattle.call_tables.specs.Decided.{AreFiled}
 use Rattle.call_tables.specs.Desk.{is_decided, file, set_wait, waited, waited_by, WaitIs, Comes, AreOwedBefore, AreLeft, IsAlone}
-use Rattle.call_tables.proofs.DeskAfter.{rows_alone, owed_before, each_owed, owed_after, filed_then}
+use Rattle.call_tables.proofs.DeskAfter.{rows_alone, rows_ascend, owed_before, each_owed, owed_after, filed_then}
 
 map_same : {A : Type 0} (xs : List A) → map (λ x. x) xs ≡ xs
 map_same [] = refl
@@ -46,6 +47,9 @@ module _ (c : Config) (e : Entry) (standing : Standing) (target : Option ℕ) (r
 
   pub alone_then : IsAlone target (map (waited_by e wait) os)
   alone_then = subst (IsAlone target) (sym rows) (rows_alone c k.run k.limit k.opened k.past e k.manned k.legal target reply k.decides os k.owed)
+
+  pub ascend_then : Ascends (arrivals_of (map (waited_by e wait) os))
+  ascend_then = subst (λ rs. Ascends (arrivals_of rs)) (sym rows) (rows_ascend c k.run k.limit k.opened k.past e k.manned k.legal target reply k.decides os k.owed)
 
   -- the rows that the desk keeps and those that it files are those of the history
   keeps : filter (λ o. not (is_decided c standing target ordered o)) (map (waited_by e wait) os)

@@ -1,32 +1,23 @@
 -- What an entry decides, and the replies that are filed.
-use Rattle.std.proofs.Common.{◌≡◌, ℕ, ◌<◌, Bool, true, false, not, ◌&&◌, ◌||◌, ◌==◌, List, [], ◌∷◌, ◌++◌, map, filter, Option, Some, None, if◌then◌else◌, refl, sym, ap, ap₂, subst, ◌∙◌, inl, inr, ◌⊎◌}
-use Rattle.std.proofs.lemmas.List.{map-append}
-use Rattle.std.proofs.lemmas.List.Elements.{filter-append}
+use Rattle.std.proofs.Common.{◌≡◌, ℕ, ◌<◌, Bool, true, false, not, ◌&&◌, ◌||◌, List, [], ◌∷◌, map, filter, Option, Some, None, refl, sym, ap, ap₂, subst, ◌∙◌, inl, inr}
 use Rattle.poa_base.specs.declared.Config.{Config}
-use Rattle.poa_base.specs.declared.Reply.{Reply}
-use Rattle.poa_base.specs.declared.Reply.TheVariants.{Answer as AnswerReply}
-use Rattle.poa_base.specs.declared.Answer.TheVariants.{Good}
 use Rattle.poa_base.specs.declared.Entry.{Entry}
 use Rattle.poa_history.specs.Arrivals.{arrivals, call_of, conn_of}
 use Rattle.poa_history.specs.Changes.{standing}
-use Rattle.poa_history.specs.Replies.{asks, decided, is_decided_by, is_waiting, is_collected, number_of, reply_by, reply_of}
-use Rattle.poa_history.specs.Settling.{is_overtaken, settles}
+use Rattle.poa_history.specs.Replies.{asks, decided, is_decided_by, is_waiting, number_of}
+use Rattle.poa_history.specs.Settling.{settles}
 use Rattle.poa_history.specs.Stages.{admitted, is_at}
-use Rattle.poa_history.specs.Standings.{Standing}
-use Rattle.poa_history.specs.States.{Stored}
 use Rattle.poa_history.proofs.IdsFew.{call_kept}
 use Rattle.poa_tree.specs.Trees.{In}
-use Rattle.poa_tree.proofs.Members.{in_kept, in_image}
-use Rattle.call_tables.specs.declared.filed.Filed.{Filed}
+use Rattle.poa_tree.proofs.Members.{in_kept}
 use Rattle.call_tables.specs.declared.owing.Owing.{Owing}
 use Rattle.call_tables.specs.declared.wait.Wait.{Wait}
-use Rattle.call_tables.specs.declared.wait.Wait.TheVariants.{Nothing, Quiet, Off, Gone}
 use Rattle.call_tables.specs.declared.wait.Ordered.{Ordered}
 use Rattle.call_tables.specs.Numbers.{below}
-use Rattle.call_tables.specs.Waits.{wait_in, is_overtaking, has_come}
-use Rattle.call_tables.specs.Owed.{is_owed, head_of, Owes, IsCurrent}
-use Rattle.call_tables.specs.Decided.{is_answered_by, answered, IsFiled, Decides}
-use Rattle.call_tables.specs.Desk.{is_decided, file}
+use Rattle.call_tables.specs.Waits.{wait_in, has_come}
+use Rattle.call_tables.specs.Owed.{is_owed, head_of}
+use Rattle.call_tables.specs.Decided.{is_answered_by}
+use Rattle.call_tables.specs.Desk.{is_decided}
 use Rattle.call_tables.proofs.Lists.{filter_agrees, filter_twice, filter_mapped, below_is}
 use Rattle.call_tables.proofs.Waiting.{comes, IsOvertaken, settles_is}
 

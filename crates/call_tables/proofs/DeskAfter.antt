@@ -1,13 +1,11 @@
 -- The desk after each entry of a legal history.
-use Rattle.std.proofs.Common.{◌≡◌, ℕ, ◌<◌, ◌+◌, zero, suc, Bool, true, false, not, ◌&&◌, ◌||◌, ◌==◌, List, [], ◌∷◌, ◌++◌, map, filter, find, take, length, slice_get, cond, Option, Some, None, if◌then◌else◌, refl, sym, ap, ap₂, subst, ◌∙◌, inl, inr, ◌⊎◌, arith}
-use Rattle.std.specs.List.{list_any}
-use Rattle.std.proofs.lemmas.Bool.{cond_both, eqb-true, eq-eqb, true≢false, false_from_ne_true}
+use Rattle.std.proofs.Common.{◌≡◌, ℕ, ◌<◌, zero, suc, Bool, true, false, not, ◌&&◌, ◌||◌, ◌==◌, List, [], ◌∷◌, ◌++◌, map, filter, slice_get, cond, Option, Some, None, if◌then◌else◌, refl, sym, ap, ap₂, subst, ◌∙◌, inl, inr, ◌⊎◌, arith}
+use Rattle.std.proofs.lemmas.Bool.{eqb-true, eq-eqb, true≢false, false_from_ne_true}
 use Rattle.std.proofs.lemmas.List.{map-append, append-nil}
 use Rattle.std.proofs.lemmas.List.Elements.{filter-append}
 use Rattle.poa_base.specs.declared.Config.{Config}
 use Rattle.poa_base.specs.declared.Call.{Call}
 use Rattle.poa_base.specs.declared.Reply.{Reply}
-use Rattle.poa_base.specs.declared.Verdict.TheVariants.{Try}
 use Rattle.poa_base.specs.declared.Entry.{Entry}
 use Rattle.poa_base.specs.declared.Entry.TheVariants.{Entered, Arrive, Filled, Left, Collect, Admit, Tried, Incarnated, Run, Done, TakeOut, Etherealized, Abandon}
 use Rattle.poa_base.specs.declared.Attempt.TheVariants.{Yes, No, Raised, Dying}
@@ -20,24 +18,23 @@ use Rattle.poa_history.specs.Logs.{command_in}
 use Rattle.poa_history.specs.Settling.{before_admit, settles}
 use Rattle.poa_history.specs.Stages.{stage, arrival_in, is_at, admitted}
 use Rattle.poa_history.specs.States.{Stored}
-use Rattle.poa_history.proofs.IdsFew.{call_kept}
 use Rattle.poa_history.proofs.TurnTells.{trial_is}
 use Rattle.poa_tree.specs.Trees.{In}
 use Rattle.poa_tree.proofs.Members.{in_kept, image_in}
 use Rattle.call_tables.specs.declared.filed.Filed.{Filed as FiledRow}
 use Rattle.call_tables.specs.declared.owing.Owing.{Owing}
-use Rattle.call_tables.specs.Numbers.{below}
+use Rattle.call_tables.specs.Numbers.{below, Ascends}
 use Rattle.call_tables.specs.Waits.{wait_of, wait_in, ordered_by}
-use Rattle.call_tables.specs.Owed.{is_owed, head_of, AreOwed, Owes, IsCurrent}
+use Rattle.call_tables.specs.Owed.{is_owed, head_of, AreOwed, Owes, IsCurrent, arrivals_of}
 use Rattle.call_tables.specs.Decided.{answered, AreFiled, IsFiled, Decides}
 use Rattle.call_tables.specs.Desk.{is_decided, file, waited, IsAlone}
-use Rattle.call_tables.proofs.Lists.{filter_agrees, below_is}
-use Rattle.call_tables.proofs.Deciding.{AreRows, owed_which, stays_decided}
+use Rattle.call_tables.proofs.Lists.{below_is}
+use Rattle.call_tables.proofs.Deciding.{AreRows, owed_which}
 use Rattle.call_tables.proofs.FiledAfter.{row_stays, filed_after, each_filed}
 use Rattle.call_tables.proofs.RowsNext.{TriesNone, rows_next}
-use Rattle.call_tables.proofs.Given.{next_is}
 use Rattle.call_tables.proofs.Arrived.{decided_arrived, admitted_arrived, next_decided, collected_decided, at_is}
-use Rattle.call_tables.proofs.Removed.{Distinct, distinct_below, distinct_kept, left_which, left_in}
+use Rattle.call_tables.proofs.Rising.{ascending}
+use Rattle.call_tables.proofs.Removed.{Distinct, distinct_below, distinct_kept}
 
 -- where no arrival stands twice, the target stands in one row at most
 pub alone_rows : (target : Option ℕ) (os : List Owing) → Distinct (map (λ o. o.arrival) os) → IsAlone target os
@@ -111,6 +108,9 @@ module _ (c : Config) (run limit : ℕ) (opened : Stored) (past : List Entry) (e
 
   pub rows_alone : IsAlone target (map (waited c run past e) os)
   rows_alone = alone_rows target (map (waited c run past e) os) (subst Distinct (sym rows_after.which) (distinct_kept (is_owed c run past) (below (arrivals past)) (distinct_below (arrivals past))))
+
+  pub rows_ascend : Ascends (arrivals_of (map (waited c run past e) os))
+  rows_ascend = subst Ascends (sym rows_after.which) (ascending (is_owed c run past) (arrivals past))
 
   -- those of the calls that had arrived that are owed a reply still
   pub owed_before : map (λ o. o.arrival) (filter (λ o. not (now o)) (map (waited c run past e) os)) ≡ filter (is_owed c run (e ∷ past)) (below (arrivals past))

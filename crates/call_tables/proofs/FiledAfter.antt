@@ -7,12 +7,11 @@ use Rattle.poa_base.specs.declared.Reply.{Reply}
 use Rattle.poa_base.specs.declared.Reply.TheVariants.{Answer as AnswerReply}
 use Rattle.poa_base.specs.declared.Answer.TheVariants.{Good}
 use Rattle.poa_base.specs.declared.Entry.{Entry}
-use Rattle.poa_history.specs.Arrivals.{arrivals, call_of, conn_of}
+use Rattle.poa_history.specs.Arrivals.{arrivals, call_of}
 use Rattle.poa_history.specs.Changes.{standing}
-use Rattle.poa_history.specs.Replies.{asks, decided, number_of, reply_of}
-use Rattle.poa_history.specs.Settling.{is_overtaken, is_quiet}
+use Rattle.poa_history.specs.Replies.{asks, decided, number_of}
+use Rattle.poa_history.specs.Settling.{is_quiet}
 use Rattle.poa_history.specs.Stages.{is_at}
-use Rattle.poa_history.specs.Standings.{Standing}
 use Rattle.poa_history.specs.States.{Stored}
 use Rattle.poa_history.proofs.IdsFew.{call_kept}
 use Rattle.poa_tree.specs.Trees.{In}
@@ -24,12 +23,12 @@ use Rattle.call_tables.specs.declared.wait.Wait.TheVariants.{Nothing, Quiet, Off
 use Rattle.call_tables.specs.declared.wait.Ordered.{Ordered}
 use Rattle.call_tables.specs.Numbers.{below}
 use Rattle.call_tables.specs.Waits.{is_overtaking, has_come}
-use Rattle.call_tables.specs.Owed.{is_owed, head_of, Owes, IsCurrent}
+use Rattle.call_tables.specs.Owed.{head_of, Owes, IsCurrent}
 use Rattle.call_tables.specs.Decided.{is_answered_by, answered, IsFiled, Decides}
 use Rattle.call_tables.specs.Desk.{is_decided, file}
-use Rattle.call_tables.proofs.Lists.{filter_agrees, below_is}
+use Rattle.call_tables.proofs.Lists.{below_is}
 use Rattle.call_tables.proofs.Waiting.{IsOvertaken}
-use Rattle.call_tables.proofs.Deciding.{IsNext, AreRows, row_owed, row_fresh, row_decided, filed_which, owed_which}
+use Rattle.call_tables.proofs.Deciding.{AreRows, row_owed, row_fresh, row_decided, filed_which}
 use Rattle.call_tables.proofs.Kept.{conn_arrived, conn_kept, replied_decided, reply_kept, reply_fixed}
 
 not_true : (b : Bool) → not b ≡ true → b ≡ false

@@ -1,8 +1,9 @@
 -- Filing the replies of the calls that an entry decides.
 use Rattle.std.proofs.Common.{◌≡◌, ℕ, ◌+◌, ◌<◌, zero, ◌||◌, Bool, true, false, List, [], ◌∷◌, ◌++◌, map, filter, take, length, get_or, not, suc, ◌≤◌, arith, cond, nat_lt, Some, None, find, slice_get, refl, sym, ap, subst, ◌∙◌, if◌then◌else◌, Option}
-use Rattle.std.specs.Option.{unwrap_or}
+use Rattle.std.specs.Option.{unwrap_or, IsSome, IfSome}
+use Rattle.std.specs.Prelude.{◌↔◌}
 use Rattle.std.specs.List.{list_any, position, position_or_len}
-use Rattle.std.proofs.lemmas.Bool.{ltb-false}
+use Rattle.std.proofs.lemmas.Bool.{ltb-true, ltb-false}
 use Rattle.std.proofs.lemmas.Option.{slice_get-get_or, slice_get_past}
 use Rattle.std.proofs.lemmas.List.{take_more, append_assoc, map-append, length-append, length-map}
 use Rattle.std.proofs.lemmas.List.Elements.{filter-append}
@@ -109,3 +110,19 @@ first_is p xs i x at below is =
 
 pub none_is : {A : Type 0} (p : A → Bool) (xs : List A) (i : ℕ) → i ≡ position_or_len p xs → length xs ≤ i → None ≡ find p xs
 none_is p xs i at behind = sym (slice_get_past xs i behind) ∙ ap (slice_get xs) at ∙ sym (find_at p xs)
+
+-- the target's row alone is filed
+pub filed_one : (target : Option ℕ) (reply : Reply) (row : Owing) (old : List Filed) (rows : List Owing) → rows ≡ row ∷ [] → is_at row.arrival target ≡ true
+    → old ++ record { arrival = row.arrival; conn = row.conn; head = row.head; reply = reply } ∷ [] ≡ old ++ map (file target reply) rows
+filed_one target reply row old rows one at =
+    ap (λ b. old ++ record { arrival = row.arrival; conn = row.conn; head = row.head; reply = if b then reply else AnswerReply row.number Good } ∷ []) (sym at)
+    ∙ ap (λ os. old ++ map (file target reply) os) (sym one)
+
+-- what is taken from the place of the first element that passes is what is found
+pub taken_is : {A : Type 0} (p : A → Bool) (xs : List A) (i : ℕ) (taken : Option A) {n : ℕ} → n ≡ length xs → i ≡ position_or_len p xs → (IsSome taken ↔ (i < n)) → IfSome taken (λ x. x ≡ get_or xs i x) → taken ≡ find p xs
+taken_is p xs i (Some x) many at there value = first_is p xs i x at (subst (λ m. i < m) many (there.0 refl)) value
+taken_is p xs i None many at there value =
+    elim (nat_lt i (length xs)) as (λ b. nat_lt i (length xs) ≡ b → None ≡ find p xs) [
+      | true ↦ (λ low. absurd (let e : false ≡ true = there.1 (subst (λ m. i < m) (sym many) (ltb-true i (length xs) low)) in cc))
+      | false ↦ (λ high. none_is p xs i at (ltb-false i (length xs) high))
+    ] refl

@@ -1,8 +1,6 @@
 -- Which reply a connection is given next, and how many it is owed, by the rows.
-use Rattle.std.proofs.Common.{◌≡◌, ℕ, ◌+◌, ◌<◌, ◌≤◌, zero, suc, Bool, true, false, not, ◌&&◌, ◌||◌, ◌==◌, List, [], ◌∷◌, ◌++◌, map, filter, find, take, drop, length, cond, Option, Some, None, option_map, if◌then◌else◌, refl, sym, ap, ap₂, subst, ◌∙◌, inl, inr, ◌⊎◌, arith}
+use Rattle.std.proofs.Common.{◌≡◌, ℕ, ◌<◌, ◌≤◌, Bool, true, false, not, ◌&&◌, ◌==◌, List, [], ◌∷◌, filter, find, length, Some, option_map, refl, sym, ap, ap₂, ◌∙◌, arith}
 use Rattle.std.specs.Option.{option_or}
-use Rattle.std.specs.List.{position_or_len}
-use Rattle.std.proofs.lemmas.Bool.{cond_both, eqb-true, eq-eqb, true≢false, false_from_ne_true}
 use Rattle.std.proofs.lemmas.List.Folds.{find-append}
 use Rattle.std.proofs.lemmas.List.{length-map}
 use Rattle.poa_base.specs.declared.Config.{Config}
@@ -12,13 +10,11 @@ use Rattle.poa_history.specs.Replies.{asks, decided, is_asked, is_collected, is_
 use Rattle.poa_history.specs.Stages.{is_at}
 use Rattle.poa_history.specs.States.{Stored}
 use Rattle.poa_history.proofs.IdsFew.{call_kept, arrivals_kept}
-use Rattle.poa_tree.specs.Trees.{In}
-use Rattle.poa_tree.proofs.Members.{in_kept}
 use Rattle.call_tables.specs.declared.filed.Filed.{Filed as FiledRow}
 use Rattle.call_tables.specs.declared.owing.Owing.{Owing}
 use Rattle.call_tables.specs.Numbers.{below}
-use Rattle.call_tables.specs.Owed.{is_owed, AreOwed, Owes}
-use Rattle.call_tables.specs.Decided.{is_answered_by, answered, AreFiled, IsFiled}
+use Rattle.call_tables.specs.Owed.{is_owed, AreOwed}
+use Rattle.call_tables.specs.Decided.{is_answered_by, answered, AreFiled}
 use Rattle.call_tables.proofs.Lists.{filter_agrees, filter_twice, filter_mapped, find_kept, find_agrees, find_mapped, least_found, counted, below_is}
 
 -- a reply of the connection that isn't collected

@@ -11,3 +11,5 @@ pub mod Arrived
 pub mod Removed
 pub mod DeskAfter
 pub mod Coming
+pub mod Rising
+pub mod NoneWaits

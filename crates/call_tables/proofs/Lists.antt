@@ -1,7 +1,6 @@
 -- Lists that are filtered, mapped and searched.
-use Rattle.std.proofs.Common.{◌≡◌, ℕ, ◌+◌, ◌<◌, zero, suc, Bool, true, false, not, ◌&&◌, ◌||◌, ◌==◌, List, [], ◌∷◌, ◌++◌, map, filter, find, take, drop, length, Option, Some, None, option_map, get_or, cond, refl, sym, ap, ap₂, subst, ◌∙◌, inl, inr, ◌⊎◌, arith}
+use Rattle.std.proofs.Common.{◌≡◌, ℕ, ◌+◌, ◌<◌, zero, suc, Bool, true, false, ◌&&◌, List, [], ◌∷◌, ◌++◌, map, filter, find, length, Some, None, option_map, cond, refl, sym, ap, ap₂, ◌∙◌, inl, inr, ◌⊎◌, arith}
 use Rattle.std.specs.Option.{option_or}
-use Rattle.std.proofs.lemmas.Bool.{cond_both, eqb-true, true≢false}
 use Rattle.poa_tree.specs.Trees.{In}
 use Rattle.call_tables.specs.Numbers.{below}
 use Rattle.poa_history.specs.Searches.{least, count_below}

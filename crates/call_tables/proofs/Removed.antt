@@ -1,12 +1,12 @@
 -- The reply that is collected leaves the outbox.
-use Rattle.std.proofs.Common.{◌≡◌, ℕ, ◌+◌, ◌<◌, zero, suc, Bool, true, false, not, ◌&&◌, ◌||◌, ◌==◌, List, [], ◌∷◌, ◌++◌, map, filter, find, take, drop, cond, Option, Some, None, option_map, refl, sym, ap, ap₂, subst, ◌∙◌, inl, inr, ◌⊎◌, arith}
+use Rattle.std.proofs.Common.{◌≡◌, ℕ, ◌+◌, zero, suc, Bool, true, false, not, ◌&&◌, ◌||◌, ◌==◌, List, [], ◌∷◌, ◌++◌, map, filter, find, take, drop, cond, Some, None, refl, sym, ap, ap₂, subst, ◌∙◌, inl, inr, ◌⊎◌, arith}
 use Rattle.std.specs.List.{position_or_len}
 use Rattle.std.proofs.lemmas.Bool.{cond_both, eqb-true, eq-eqb, false_from_ne_true, true≢false}
 use Rattle.poa_base.specs.declared.Config.{Config}
 use Rattle.poa_base.specs.declared.Entry.{Entry}
 use Rattle.poa_base.specs.declared.Entry.TheVariants.{Collect}
 use Rattle.poa_history.specs.Arrivals.{arrivals}
-use Rattle.poa_history.specs.Replies.{asks, decided, is_collected, next_reply}
+use Rattle.poa_history.specs.Replies.{asks, decided, is_collected}
 use Rattle.poa_history.specs.Arrivals.{call_of}
 use Rattle.poa_history.specs.States.{Stored}
 use Rattle.poa_tree.specs.Trees.{In}
@@ -16,7 +16,6 @@ use Rattle.call_tables.specs.Numbers.{below}
 use Rattle.call_tables.specs.Decided.{is_answered_by, answered, AreFiled}
 use Rattle.call_tables.specs.Desk.{without_first}
 use Rattle.call_tables.proofs.Lists.{filter_agrees, filter_twice, below_is}
-use Rattle.call_tables.proofs.Given.{next_is}
 use Rattle.call_tables.proofs.Arrived.{answered_decided}
 
 -- no element twice

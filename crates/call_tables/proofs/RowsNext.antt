@@ -1,5 +1,5 @@
 -- What the rows wait for, as the next entry leaves it.
-use Rattle.std.proofs.Common.{◌≡◌, ℕ, ◌<◌, Bool, true, false, not, ◌&&◌, ◌||◌, ◌==◌, is_some, List, [], ◌∷◌, map, filter, Option, Some, None, option_map, if◌then◌else◌, refl, sym, ap, ap₂, subst, ◌∙◌, inl, inr, ◌⊎◌}
+use Rattle.std.proofs.Common.{◌≡◌, ℕ, ◌<◌, true, false, not, ◌&&◌, ◌||◌, ◌==◌, is_some, List, [], ◌∷◌, map, Option, Some, None, option_map, if◌then◌else◌, refl, sym, ap, ap₂, subst, ◌∙◌}
 use Rattle.std.proofs.lemmas.Bool.{cond_both, eqb-true, eq-eqb, true≢false, false_from_ne_true}
 use Rattle.poa_base.specs.declared.Config.{Config}
 use Rattle.poa_base.specs.declared.Verdict.{Verdict}
@@ -18,10 +18,8 @@ use Rattle.poa_tree.proofs.Members.{in_image}
 use Rattle.call_tables.specs.declared.owing.Owing.{Owing}
 use Rattle.call_tables.specs.declared.wait.Wait.{Wait}
 use Rattle.call_tables.specs.declared.wait.Wait.TheVariants.{Nothing, Quiet, Off, Gone}
-use Rattle.call_tables.specs.declared.wait.Ordered.{Ordered}
-use Rattle.call_tables.specs.Numbers.{below}
-use Rattle.call_tables.specs.Waits.{wait_of, wait_in, is_overtaking, manager_ordered, ordered_by, wait_begun}
-use Rattle.call_tables.specs.Owed.{is_owed, head_of, Owes, AreOwed, IsCurrent}
+use Rattle.call_tables.specs.Waits.{wait_of, is_overtaking, manager_ordered, ordered_by, wait_begun}
+use Rattle.call_tables.specs.Owed.{head_of, Owes, AreOwed, IsCurrent}
 use Rattle.call_tables.specs.Desk.{set_wait, waited}
 use Rattle.call_tables.proofs.Waiting.{IsOvertaken, overtaken_now}
 use Rattle.call_tables.proofs.Deciding.{IsNext, AreRows}

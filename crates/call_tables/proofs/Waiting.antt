@@ -1,5 +1,5 @@
 -- What a command that waits is waiting for, as entries follow.
-use Rattle.std.proofs.Common.{◌≡◌, ℕ, Bool, true, false, not, ◌&&◌, ◌||◌, ◌==◌, List, [], ◌∷◌, Option, Some, None, refl, sym, ap, ap₂, subst, ◌∙◌, if◌then◌else◌, is_some, length}
+use Rattle.std.proofs.Common.{◌≡◌, ℕ, Bool, true, false, not, ◌&&◌, ◌||◌, ◌==◌, List, ◌∷◌, Option, Some, None, refl, ap, ap₂, ◌∙◌, if◌then◌else◌, is_some}
 use Rattle.std.proofs.lemmas.Bool.{cond_both}
 use Rattle.poa_base.specs.declared.Config.{Config}
 use Rattle.poa_base.specs.declared.Command.{Command}
@@ -11,17 +11,15 @@ use Rattle.poa_base.specs.declared.Entry.TheVariants.{Entered, Arrive, Filled, L
 use Rattle.poa_history.specs.Templates.{manager_number}
 use Rattle.poa_history.specs.Arrivals.{call_of}
 use Rattle.poa_history.specs.Changes.{standing}
-use Rattle.poa_history.specs.Ends.{is_gone}
 use Rattle.poa_history.specs.Logs.{command_in, command_done, order_for}
-use Rattle.poa_history.specs.Opening.{number_at}
 use Rattle.poa_history.specs.Replies.{is_waiting}
-use Rattle.poa_history.specs.Settling.{before_admit, is_quiet, is_overtaken, are_ended, order_holds, settles_by, settles}
+use Rattle.poa_history.specs.Settling.{before_admit, is_quiet, is_overtaken, order_holds, settles_by, settles}
 use Rattle.poa_history.specs.Stages.{admitted}
 use Rattle.poa_history.specs.Standings.{Standing}
 use Rattle.call_tables.specs.declared.wait.Wait.{Wait}
-use Rattle.call_tables.specs.declared.wait.Wait.TheVariants.{Nothing, Quiet, Off, Gone}
+use Rattle.call_tables.specs.declared.wait.Wait.TheVariants.{Quiet}
 use Rattle.call_tables.specs.declared.wait.Ordered.{Ordered}
-use Rattle.call_tables.specs.Waits.{wait_for, wait_of, wait_in, is_overtaking, has_come, manager_ordered, ordered_by, wait_begun}
+use Rattle.call_tables.specs.Waits.{wait_for, wait_of, wait_in, is_overtaking, has_come, manager_ordered, ordered_by}
 
 -- what is waited for has come, or nothing is waited for
 abbrev pub comes : Config → Standing → Option Ordered → ℕ → Option Wait → Bool

@@ -1,5 +1,6 @@
 -- What a desk of replies does.
-use Rattle.std.specs.Prelude.{◌≡◌, ℕ, ◌+◌, ◌≤◌, ◌<◌, not, Bool, true, false, ◌||◌, ◌==◌, if◌then◌else◌, suc, List, ◌∷◌, ◌++◌, map, filter, length, take, drop, slice_get, Option, Some, None, vec_len, vec_capacity}
+use Rattle.std.specs.Prelude.{◌≡◌, ℕ, ◌+◌, ◌≤◌, ◌<◌, not, Bool, true, false, ◌||◌, ◌==◌, if◌then◌else◌, suc, List, ◌∷◌, ◌++◌, map, filter, length, take, drop, slice_get, Option, Some, None}
+use Rattle.std.specs.VecDeque.{deque_len, deque_capacity}
 use Rattle.std.specs.List.{list_any, position_or_len}
 use Rattle.poa_base.specs.declared.Config.{Config}
 use Rattle.poa_base.specs.declared.Entry.{Entry}
@@ -46,11 +47,11 @@ IsAlone target os =
 
 -- there is room for the replies of those that are owed one
 abbrev pub HasRoom : Desk → Type 0
-HasRoom d = length d.outbox.items + length d.owing.items ≤ vec_capacity d.outbox
+HasRoom d = length d.outbox.items + length d.owing.items ≤ deque_capacity d.outbox
 
 -- there is room for one more
 abbrev pub HasRoomForOne : Desk → Type 0
-HasRoomForOne d = (vec_len d.owing < vec_capacity d.owing) × (length d.outbox.items + length d.owing.items < vec_capacity d.outbox)
+HasRoomForOne d = (deque_len d.owing < deque_capacity d.owing) × (length d.outbox.items + length d.owing.items < deque_capacity d.outbox)
 
 -- the place of the first reply of a connection
 abbrev pub first_of : ℕ → List Filed → ℕ

@@ -1,6 +1,12 @@
--- The numbers below a bound.
-use Rattle.std.specs.Prelude.{ℕ, zero, suc, List, [], ◌∷◌, ◌++◌}
+-- The numbers below a bound, and numbers in order.
+use Rattle.std.specs.Prelude.{ℕ, zero, suc, ◌<◌, List, [], ◌∷◌, ◌++◌}
+use Rattle.poa_tree.specs.Trees.{In}
 
 abbrev pub below : ℕ → List ℕ
 below zero = []
 below (suc k) = below k ++ k ∷ []
+
+-- each number is less than all behind it
+abbrev pub Ascends : List ℕ → Type 0
+Ascends [] = Unit {0}
+Ascends (x ∷ xs) = ((y : ℕ) → In y xs → x < y) × Ascends xs

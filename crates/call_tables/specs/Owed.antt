@@ -1,5 +1,5 @@
 -- The calls that are owed a reply: each asks one, and no entry has decided it.
-use Rattle.std.specs.Prelude.{◌≡◌, ℕ, Bool, true, false, not, ◌&&◌, ◌||◌, ◌==◌, List, map, filter, Option, Some, None}
+use Rattle.std.specs.Prelude.{◌≡◌, ℕ, Bool, false, not, ◌&&◌, List, map, filter, Option, Some, None, is_some}
 use Rattle.poa_base.specs.declared.Config.{Config}
 use Rattle.poa_base.specs.declared.Call.{Call}
 use Rattle.poa_base.specs.declared.Call.TheVariants.{Request, Locate, Line}
@@ -11,7 +11,7 @@ use Rattle.poa_history.specs.Settling.{is_overtaken}
 use Rattle.poa_tree.specs.Trees.{In}
 use Rattle.call_tables.specs.declared.owing.Owing.{Owing}
 use Rattle.call_tables.specs.declared.wait.Wait.{Wait}
-use Rattle.call_tables.specs.declared.wait.Wait.TheVariants.{Nothing, Quiet, Off, Gone}
+use Rattle.call_tables.specs.declared.wait.Wait.TheVariants.{Quiet}
 use Rattle.call_tables.specs.Numbers.{below}
 use Rattle.call_tables.specs.Waits.{wait_in}
 
@@ -46,3 +46,11 @@ pub record Owes (c : Config) (run : ℕ) (h : List Entry) (o : Owing) : Type 0 w
 pub record AreOwed (c : Config) (run : ℕ) (h : List Entry) (os : List Owing) : Type 0 where
   pub which : map (λ o. o.arrival) os ≡ filter (is_owed c run h) (below (arrivals h))
   pub each : (o : Owing) → In o os → Owes c run h o
+
+-- the calls of the rows
+abbrev pub arrivals_of : List Owing → List ℕ
+arrivals_of os = map (λ o. o.arrival) os
+
+-- it waits for something
+abbrev pub has_wait : Owing → Bool
+has_wait o = is_some o.wait

@@ -1,5 +1,6 @@
 //! The desk after an entry.
-ghost use Rattle.std.specs.Prelude.{◌≡◌, ◌+◌, ◌≤◌, ◌∷◌, ◌++◌, not, filter, length, map, vec_len, vec_capacity};
+ghost use Rattle.std.specs.Prelude.{◌≡◌, ◌+◌, ◌≤◌, ◌∷◌, ◌++◌, not, filter, length, map};
+ghost use Rattle.std.specs.VecDeque.{deque_len, deque_capacity};
 ghost use Rattle.poa_history.specs.Arrivals.{arrivals};
 ghost use Rattle.standing_queries.specs.Seen.{seen};
 ghost use Rattle.call_tables.specs.Decided.{AreFiled};
@@ -18,9 +19,9 @@ fn set_wait(entry: &Entry, wait: Option<Wait>, desk: &mut Desk)
     ensures owing { desk.new.owing.items ≡ map (desks.waited_by entry.now wait) desk.old.owing.items }
     ensures outbox { desk.new.outbox.items ≡ desk.old.outbox.items }
     ensures room { HasRoom desk.new }
-    ensures fewer { vec_len desk.new.owing ≤ vec_len desk.old.owing }
-    ensures places { vec_capacity desk.new.owing ≡ vec_capacity desk.old.owing }
-    ensures capacity { vec_capacity desk.new.outbox ≡ vec_capacity desk.old.outbox }
+    ensures fewer { deque_len desk.new.owing ≤ deque_len desk.old.owing }
+    ensures places { deque_capacity desk.new.owing ≡ deque_capacity desk.old.owing }
+    ensures capacity { deque_capacity desk.new.outbox ≡ deque_capacity desk.old.outbox }
 {
     if let Entry::Admit { arrival, .. } = entry {
         desk.set_wait(*arrival, wait);

@@ -6,6 +6,7 @@ mod advancing;
 mod desk;
 mod filed;
 mod owing;
+mod rows;
 mod wait;
 
 pub use advancing::advance;

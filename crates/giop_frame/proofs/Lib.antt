@@ -8,4 +8,5 @@ pub mod Answering
 pub mod Cutting
 pub mod Bounds
 pub mod Streams
+pub mod GoingOn
 pub mod Sizes

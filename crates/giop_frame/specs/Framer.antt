@@ -16,6 +16,12 @@ abbrev pub HasGiven : ℕ → List ℕ → List Framed → Framing → Type 0
 HasGiven limit fed given f =
     (text : List ℕ) (messages : List Framed) (end : End) → FramerGives f text messages end ↔ Stream limit (fed ++ text) (given ++ messages) end
 
+-- fed this text from here on, the framer gives some messages, and then says how it ends
+pub record GoesOn (f : Framing) (text : List ℕ) : Type 0 where
+  pub messages : List Framed
+  pub end : End
+  pub gives : FramerGives f text messages end
+
 -- two framers give the same, whatever they are fed
 abbrev pub GiveTheSame : Framing → Framing → Type 0
 GiveTheSame f g = (text : List ℕ) (messages : List Framed) (end : End) → FramerGives g text messages end ↔ FramerGives f text messages end

@@ -18,7 +18,7 @@ mod why;
 
 pub use framer::Framer;
 pub use frames::{Frames, frame};
-pub use laws::each_text_has_one_stream;
+pub use laws::{a_framer_goes_on, each_text_has_one_stream};
 pub use message::Message;
 pub use next::Next;
 pub use poa_base::WantMemory;

@@ -6,6 +6,14 @@ pub mod Locates
 pub mod Places
 pub mod Requests
 pub mod Calls
+pub mod Deciding
+pub mod Numbers
+pub mod Strings
+pub mod Profiles
+pub mod Telling
+pub mod Addressing
+pub mod Parts
+pub mod Saying
 pub mod Messages
 pub mod Written
 pub mod Headers

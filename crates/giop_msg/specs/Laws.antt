@@ -12,6 +12,10 @@ use Rattle.giop_msg.specs.Ask.{request_bytes, call_of, IsAsk}
 abbrev pub OneCall : Type 0
 OneCall = (bytes : List ℕ) (r s : Result Incoming MsgFault) → CallOf bytes r → CallOf bytes s → r ≡ s
 
+-- and each bytes give one: a call, a cancel or a closing, or why they ask nothing
+abbrev pub EachSays : Type 0
+EachSays = (bytes : List ℕ) → (said : Result Incoming MsgFault) × CallOf bytes said
+
 -- a Request that is written is a message
 abbrev pub WrittenIsMessage : Type 0
 WrittenIsMessage = (ask : Ask) → IsMessage (request_bytes ask)

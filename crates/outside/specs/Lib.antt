@@ -4,3 +4,6 @@ pub mod Reading
 pub mod Writing
 pub mod Keeping
 pub mod Memory
+pub mod Link
+pub mod Accepting
+pub mod Crew

@@ -1,8 +1,13 @@
+ghost use Rattle.std.specs.Prelude.{◌≡◌, ◌*◌, ⊤};
+
 use super::*;
-use poa_base::Bytes;
+use poa_base::{Bytes, Point};
+use std::alloc::Global;
 use std::io::{Read, Write};
+use std::sync::Arc;
+use std::sync::atomic::{AtomicU64, Ordering};
 use std::test::Fail;
-use std::{fs, io};
+use std::{fs, io, thread};
 
 // A reader that always fails.
 #[derive(Drop)]
@@ -122,5 +127,59 @@ fn system_files_are_put_and_taken_within_their_limit(rt: HostRuntime) -> Result<
     assert!(rt; matches!(files.take(nowhere, 9), Taken::Absent));
     assert!(rt; matches!(files.take(FOLDER, 9), Taken::Failed));
     fs::remove_dir_all(&rt, FOLDER)?;
+    Ok(())
+}
+
+// Doubles a number, once both of two such jobs were begun.
+#[derive(Drop)]
+struct Meeting {
+    begun: Arc<AtomicU64, Global>,
+    number: u32,
+}
+
+impl Job for Meeting {
+    type Out = u64;
+
+    ghost condition = { λ _. ⊤ };
+
+    ghost promise = { λ job out. out ≡ 2 * job.number };
+
+    fn work(self) -> u64 {
+        self.begun.fetch_add(1, Ordering::SeqCst);
+        for _ in 0..u64::MAX {
+            if self.begun.load(Ordering::SeqCst) >= 2 {
+                break;
+            }
+            thread::yield_now();
+        }
+        2 * self.number as u64
+    }
+}
+
+#[test]
+fn a_crew_does_jobs_at_once_and_hands_back_what_it_refuses(rt: HostRuntime) -> Result<(), Fail> {
+    let begun = Arc::new(rt.alloc(), AtomicU64::new(0))?;
+    let mut crew = ThreadCrew::new(rt.alloc(), &rt, vec![in rt.alloc(); 1]?);
+    let mut tickets = Vec::new(rt.alloc());
+    for number in 0..3 {
+        let begun = Arc::try_clone(&begun)?;
+        match crew.start(Meeting { begun, number }) {
+            Ok(ticket) => tickets.push(ticket)?,
+            Err(back) => assert_eq!(rt; back.number, 1),
+        }
+    }
+    assert_eq!(rt; tickets.len(), 2);
+    let mut sum = 0u64;
+    for ticket in tickets {
+        sum = sum.saturating_add(crew.join(ticket));
+    }
+    assert_eq!(rt; sum, 4);
+    Ok(())
+}
+
+#[test]
+fn an_open_gate_keeps_nobody(rt: HostRuntime) -> Result<(), Fail> {
+    OpenGate.pass(Point::Free);
+    assert!(rt; OpenGate.is_open());
     Ok(())
 }

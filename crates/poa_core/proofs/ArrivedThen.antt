@@ -51,7 +51,7 @@ pub arrived_quiet : (conn size : ℕ) (call : Call) (i : Inside) → IsReady i �
 arrived_quiet conn size call i ready open_ sized taken =
     (let agrees = ready.agrees in let runs = agrees.runs in record {
       follows = record { accepted = runs.accepted; numbered = runs.numbered; limited = runs.limited; legal = (record { open_ = open_; sized = sized; room = taken_of i.limit (history i) size call taken }, runs.legal) };
-      conn = refl;
+      still = refl;
       state = agrees.state;
       tables = agrees.tables;
       owed = agrees.owed;

@@ -15,7 +15,7 @@ pub entered_quiet : (conn : ℕ) (i : Inside) → IsReady i → conn ≡ connect
 entered_quiet conn i ready is few =
     (let agrees = ready.agrees in let runs = agrees.runs in record {
       follows = record { accepted = runs.accepted; numbered = runs.numbered; limited = runs.limited; legal = ((is, few), runs.legal) };
-      conn = refl;
+      still = refl;
       state = agrees.state;
       tables = agrees.tables;
       owed = agrees.owed;
@@ -38,7 +38,7 @@ pub left_quiet : (conn : ℕ) (i : Inside) → IsKept i → IsOpen (history i) c
 left_quiet conn i kept open_ =
     (let agrees = kept.agrees in let runs = agrees.runs in record {
       follows = record { accepted = runs.accepted; numbered = runs.numbered; limited = runs.limited; legal = (open_, runs.legal) };
-      conn = refl;
+      still = refl;
       state = agrees.state;
       tables = agrees.tables;
       owed = agrees.owed;

@@ -1,5 +1,5 @@
 -- Of each worker that has only to end what it began, one entry may still come; and one of each that hasn't given up.
-use Rattle.std.proofs.Common.{◌≡◌, ℕ, ◌+◌, ◌<◌, ◌≤◌, Bool, true, false, not, ◌==◌, List, [], ◌∷◌, Option, Some, None, if◌then◌else◌, slice_index_or, refl, sym, ap, ap₂, subst, ◌∙◌, arith}
+use Rattle.std.proofs.Common.{◌≡◌, ℕ, ◌+◌, ◌<◌, ◌≤◌, Bool, true, false, not, ◌||◌, ◌==◌, List, [], ◌∷◌, Option, Some, None, if◌then◌else◌, slice_index_or, refl, sym, ap, ap₂, subst, ◌∙◌, arith}
 use Rattle.std.proofs.lemmas.Bool.{eq-eqb}
 use Rattle.poa_base.specs.declared.Config.{Config}
 use Rattle.poa_base.specs.declared.Entry.{Entry}
@@ -148,3 +148,14 @@ module _ (c : Config) (run limit : ℕ) (h : List Entry) where
   ending_stage e may is =
       by_ending (λ x. MayFollow c run limit h x → only_ends (stage_at h x) ≡ true)
       (λ w at. ap only_ends (done_is c run h w at).1) (λ w x y at. ap only_ends (removal_is c run h w x y at).begun) e is may
+
+-- a worker that gives up takes the room that was kept for that
+pub abandon_takes : (h : List Entry) (v : ℕ) → v < 16 → is_abandoned h v ≡ false → by_history (Abandon v ∷ h) + 1 ≡ by_history h
+unfolding by_history
+abandon_takes h v low going =
+    sums _ _ _ _ refl
+    (count_less (λ w. not (is_abandoned h w)) (λ w. not ((v == w) || is_abandoned h w)) v 16 low (ap not going) (ap (λ b. not (b || is_abandoned h v)) (eq-eqb v v refl))
+    (λ w other. ap (λ b. not (b || is_abandoned h w)) (sym other)))
+  where
+    sums : (a b c d : ℕ) → a ≡ b → d ≡ c + 1 → a + c + 1 ≡ b + d
+    sums a b c d same less = omega (arith, same, less)

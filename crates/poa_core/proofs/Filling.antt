@@ -59,7 +59,7 @@ module _ (conn size : ℕ) (i : Inside) (kept : IsKept i) (unfilled : is_filled 
   filled_quiet open_ sized full =
       (let agrees = kept.agrees in let runs = agrees.runs in record {
         follows = record { accepted = runs.accepted; numbered = runs.numbered; limited = runs.limited; legal = (record { open_ = open_; sized = sized; first = unfilled; full = full_of i.limit (history i) size unfilled full }, runs.legal) };
-        conn = refl;
+        still = refl;
         state = agrees.state;
         tables = agrees.tables;
         owed = agrees.owed;

@@ -81,7 +81,7 @@ module _ (conn : ℕ) (i : Inside) (kept : IsKept i) (desk : Desk) (given : IsGi
     collect_quiet =
         (let agrees = kept.agrees in let runs = agrees.runs in record {
           follows = record { accepted = runs.accepted; numbered = runs.numbered; limited = runs.limited; legal = (next_here, runs.legal) };
-          conn = refl;
+          still = refl;
           state = agrees.state;
           tables = agrees.tables;
           owed = owed_still;

@@ -5,6 +5,7 @@ pub mod Quieted
 pub mod Endings
 pub mod Space
 pub mod Connected
+pub mod Abandoned
 pub mod Ready
 pub mod Keeping
 pub mod Taken

@@ -7,6 +7,7 @@ use Rattle.poa_base.specs.declared.Entry.TheVariants.{Entered, Arrive, Filled, L
 use Rattle.poa_history.specs.Arrivals.{arrivals, connections}
 use Rattle.poa_history.specs.Legal.{MayFollow, has_left, is_filled, IsOpen}
 use Rattle.poa_history.specs.Searches.{count_below}
+use Rattle.poa_history.specs.Stages.{is_abandoned}
 use Rattle.run_tally.specs.declared.Tally.{Tally}
 use Rattle.run_tally.specs.declared.Full.{Full}
 use Rattle.run_tally.specs.Tallies.{IsTally}
@@ -18,7 +19,7 @@ use Rattle.poa_core.specs.declared.tables.Tables.{Tables}
 use Rattle.poa_core.specs.Agrees.{KnowsTables}
 use Rattle.poa_core.specs.Turning.{is_ending}
 use Rattle.poa_core.specs.Kept.{unless, by_connections, by_workers, stay, is_conn}
-use Rattle.poa_core.proofs.Endings.{by_history, workers_is, conns_keep, turns_add, endings_take}
+use Rattle.poa_core.proofs.Endings.{by_history, workers_is, conns_keep, turns_add, endings_take, abandon_takes}
 
 -- the same of the history
 abbrev pub conns_of : List Entry → ℕ
@@ -194,6 +195,21 @@ stay_ended c run limit h e t u may turn ends old new =
 pub stay_ending : (c : Config) (run limit : ℕ) (h : List Entry) (e : Entry) (t : Tables) → MayFollow c run limit h e → is_ending e ≡ true → KnowsTables h t → 1 ≤ stay t
 stay_ending c run limit h e t may ends old =
     sums _ _ _ (by_connections t.tally) (workers_is h t.workers old.workers) (endings_take c run limit h e may ends)
+  where
+    sums : (w w' v a : ℕ) → w ≡ w' → v + 1 ≡ w' → 1 ≤ a + w
+    sums w w' v a same less = omega (arith, same, less)
+
+-- a worker that gives up takes the room that was kept for that
+pub stay_abandoned : (h : List Entry) (v : ℕ) (t u : Tables) → v < 16 → is_abandoned h v ≡ false → KnowsTables h t → KnowsTables (Abandon v ∷ h) u → stay u + 1 ≡ stay t
+stay_abandoned h v t u low going old new =
+    sums _ _ _ _ _ _ (tally_after h (Abandon v) t.tally u.tally refl old.tally new.tally) (workers_is h t.workers old.workers) (workers_is (Abandon v ∷ h) u.workers new.workers) (abandon_takes h v low going)
+  where
+    sums : (a b c d c' d' : ℕ) → a ≡ b → d ≡ d' → c ≡ c' → c' + 1 ≡ d' → a + c + 1 ≡ b + d
+    sums a b c d c' d' same old new less = omega (arith, same, old, new, less)
+
+pub stay_going : (h : List Entry) (v : ℕ) (t : Tables) → v < 16 → is_abandoned h v ≡ false → KnowsTables h t → 1 ≤ stay t
+stay_going h v t low going old =
+    sums _ _ _ (by_connections t.tally) (workers_is h t.workers old.workers) (abandon_takes h v low going)
   where
     sums : (w w' v a : ℕ) → w ≡ w' → v + 1 ≡ w' → 1 ≤ a + w
     sums w w' v a same less = omega (arith, same, less)

@@ -2,7 +2,7 @@
 use Rattle.std.specs.Prelude.{◌≡◌, ℕ, ◌≤◌, ◌<◌, Bool, true, false, ◌&&◌, ◌==◌, if◌then◌else◌, List, Some, None, Result, Ok, Err}
 use Rattle.poa_base.specs.declared.Call.{Call}
 use Rattle.poa_base.specs.declared.Entry.{Entry}
-use Rattle.poa_base.specs.declared.Entry.TheVariants.{Entered, Arrive, Filled, Collect}
+use Rattle.poa_base.specs.declared.Entry.TheVariants.{Entered, Arrive, Filled, Collect, Abandon}
 use Rattle.poa_base.specs.declared.Point.{Point}
 use Rattle.poa_base.specs.declared.Point.TheVariants.{Serving as ServingPoint, Incarnating as IncarnatingPoint, Trying as TryingPoint, Etherealizing, Free as FreePoint}
 use Rattle.poa_history.specs.declared.stage.Stage.{Stage}
@@ -81,3 +81,7 @@ Collects conn old (collected.Reply r head reply) new =
     × (reply_of old.config old.run (opened old) old.history r ≡ Some reply) × (new ≡ with_entry (Collect conn r) old)
 Collects conn old (collected.Nothing owes) new =
     (next_reply old.config old.run old.history conn ≡ None) × (owes ≡ owed old.config old.run old.history conn) × (new ≡ old)
+
+-- a worker gives the run up; one that did before changes nothing
+abbrev pub Abandons : ℕ → Life → Life → Type 0
+Abandons w old new = new ≡ (if is_abandoned old.history w then old else with_entry (Abandon w) old)

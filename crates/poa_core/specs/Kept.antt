@@ -15,7 +15,7 @@ use Rattle.poa_core.specs.declared.inside.Inside.{Inside}
 use Rattle.poa_core.specs.declared.tables.Tables.{Tables}
 use Rattle.poa_core.specs.Life.{Life}
 use Rattle.call_tables.specs.Owed.{AreOwed}
-use Rattle.adapter_state.specs.State.{IsState}
+use Rattle.adapter_state.specs.State.{IsState, is_turn}
 use Rattle.poa_core.specs.Agrees.{Agrees, KnowsTables, history, opened_in}
 use Rattle.poa_core.specs.Turning.{is_ending}
 
@@ -74,10 +74,10 @@ is_conn (Left conn) = true
 is_conn (Collect conn r) = true
 is_conn e = false
 
--- an entry of a connection comes; what it collects was collected
+-- an entry comes that is no turn of a worker; what it collects was collected
 pub record IsQuiet (h : List Entry) (e : Entry) (i : Inside) : Type 0 where
   pub follows : IsRun i.config i.run i.limit (e ∷ h)
-  pub conn : is_conn e ≡ true
+  pub still : is_turn e ≡ false
   pub state : IsState i.config i.run (opened_in i) h i.state
   pub tables : KnowsTables h i.tables
   pub owed : AreOwed i.config i.run h i.desk.owing.items

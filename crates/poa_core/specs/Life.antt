@@ -4,6 +4,7 @@ use Rattle.poa_base.specs.declared.Config.{Config}
 use Rattle.poa_base.specs.declared.Entry.{Entry}
 use Rattle.poa_base.specs.Store.{Slots, stored as stored_in}
 use Rattle.poa_history.specs.States.{Stored}
+use Rattle.run_history.specs.declared.givens.Givens.{Givens}
 
 pub record Life : Type 0 where
   pub config : Config
@@ -26,3 +27,10 @@ with_entry e life = record life { history = e ∷ life.history }
 -- what was stored for an id of a path when the run began
 abbrev pub opened : Life → Stored
 opened life = stored_in life.opening
+
+-- what the run was given, and the run with this history
+abbrev pub givens_of : Life → Givens
+givens_of life = record { config = life.config; run = life.run; limit = life.limit; opening = life.opening }
+
+abbrev pub life_at : Givens → List Entry → Life
+life_at g h = record { config = g.config; run = g.run; limit = g.limit; opening = g.opening; history = h }

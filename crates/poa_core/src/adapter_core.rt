@@ -1,5 +1,7 @@
 //! The core of the adapter.
 ghost use Rattle.std.specs.Prelude.{◌≡◌, ℕ, ◌≤◌, ◌<◌, List, option_map, reverse, IfOk};
+ghost use Rattle.call_tables.specs.Decided.{AreFiled};
+ghost use Rattle.run_tally.specs.Phases.{phase_of};
 ghost use Rattle.poa_base.specs.Store.{stored as stored_in};
 ghost use Rattle.conf_rules.specs.Rules.{KeepsRules};
 ghost use Rattle.history_laws.specs.Lasting.{KeepsUpdates, LeavesNothing};
@@ -20,19 +22,24 @@ use crate::collected::Collected;
 use crate::enter_fault::EnterFault;
 use crate::inside::Inside;
 use crate::step_out::StepOut;
-use crate::{arriving, beginning, collecting, connecting, stepping};
+use crate::{abandoning, arriving, beginning, collecting, connecting, stepping};
 use arrival_tables::queue;
+use call_tables::Filed;
 use history_openings::laws::{lifetimes_are_kept, runs_last};
 use poa_base::{Call, Config, Entry, Path, Store, WantMemory};
 use poa_tree::nodes;
+use run_history::Givens;
+use run_tally::Phase;
+use seat_lock::Chronicle;
 use std::alloc::Global;
+use std::collections::VecDeque;
 use std::marker::Model;
 
 /// The adapter: what a run was given, its journal, and what stands after it. Contracts see the givens and the
-/// history.
+/// history. It is as thin as a pointer, so that a lock hands it on at no cost.
 #[derive(Drop)]
 pub struct Core {
-    inside: Inside,
+    inside: Box<Inside>,
 }
 
 impl Model for Core {
@@ -45,9 +52,26 @@ impl Model for Core {
 
     ghost coded = { Prim.hlevel (codes, store.the_row.coded) };
 
-    ghost view = { λ c. life c.inside };
+    ghost view = { λ c. life c.inside.value };
 
-    ghost invariant = { λ c. IsKept c.inside };
+    ghost invariant = { λ c. IsKept c.inside.value };
+}
+
+/// Under a lock the core stands for its history, in the journal's order.
+impl Chronicle for Core {
+    type Givens = Givens;
+
+    type Entry = Entry;
+
+    ghost use Rattle.std.specs.Prelude.{reverse};
+    ghost use Rattle.run_history.specs.Owners.{owner_of};
+    ghost use Rattle.poa_core.specs.Life.{givens_of};
+
+    ghost givens = { givens_of };
+
+    ghost history = { λ c. reverse c.history };
+
+    ghost owner = { owner_of };
 }
 
 impl Core {
@@ -64,8 +88,9 @@ impl Core {
         requires limit { (1 ≤ limit) × (limit ≤ 4000000) }
         ensures { IfOk result (λ core. core ≡ begun config run limit store) }
     {
+        let inside = beginning::begin(alloc, config, run, store, limit)?;
         Ok(Core {
-            inside: beginning::begin(alloc, config, run, store, limit)?,
+            inside: Box::new(alloc, inside)?,
         })
     }
 
@@ -110,6 +135,35 @@ impl Core {
         ensures { self.new ≡ with_entry (Left conn) self.old }
     {
         connecting::leave(&mut self.inside, conn);
+    }
+
+    /// A worker below 16 gives the run up; one that did before changes nothing. Takes no memory.
+    pub fn abandon(&mut self, worker: u32)
+        requires { worker < 16 }
+        ensures { answers.Abandons worker self.old self.new }
+    {
+        abandoning::abandon(&mut self.inside, worker);
+    }
+
+    /// How far the run has come.
+    pub fn phase(&self) -> Phase
+        ensures { result ≡ phase_of self.now.history }
+    {
+        run_tally::phase_of(&self.inside.tables.tally)
+    }
+
+    /// The decided replies that aren't collected, in the order in which they are given.
+    pub fn decided(&self) -> &VecDeque<Filed>
+        ensures { AreFiled self.now.config self.now.run (opened self.now) self.now.history result.now.items }
+    {
+        &self.inside.desk.outbox
+    }
+
+    /// For proofs: the history is that of a run of an accepted configuration, and legal.
+    pub fn is_legal(&self)
+        ensures { IsRun self.now.config self.now.run self.now.limit self.now.history }
+    {
+        let _inside = &self.inside;
     }
 
     /// The journal's entries, the oldest first. They are a legal history of a run of an accepted configuration, which keeps the lifetime of every

@@ -3,6 +3,7 @@
 //! `specs/Answers.antt`. CORBA 3.3 Part 1, chapter 15.
 #![tactic(auto)]
 
+mod abandoning;
 mod adapter_core;
 mod arrive_fault;
 mod arriving;
@@ -25,4 +26,5 @@ pub use adapter_core::Core;
 pub use arrive_fault::ArriveFault;
 pub use collected::Collected;
 pub use enter_fault::EnterFault;
+pub use run_tally::Phase;
 pub use step_out::StepOut;

@@ -1,4 +1,4 @@
-//! The entries of connections.
+//! The entries that change nothing that stands.
 ghost use Rattle.poa_core.specs.Agrees.{history};
 ghost use Rattle.poa_core.specs.Noting.{HasRoomForEntry, IsNoted};
 ghost use Rattle.poa_core.specs.Kept.{IsQuiet};
@@ -10,7 +10,7 @@ use call_replies::Decision;
 use poa_base::{Entry, Reply};
 use poa_history::Stage;
 
-/// An entry of a connection is noted. It changes nothing that stands. Takes no memory.
+/// An entry of a connection, or the giving up of a worker, is noted. It changes nothing that stands. Takes no memory.
 pub fn quiet(inside: &mut Inside, entry: Entry)
     requires room { HasRoomForEntry entry inside.old }
     requires quiet { IsQuiet (history inside.old) entry inside.old }

@@ -19,6 +19,7 @@ pub record IsSameBut (t u : Tally) : Type 0 where
   pub full : u.filled ≡ t.filled
   pub order : u.ordered ≡ t.ordered
   pub end : u.shut ≡ t.shut
+  pub gave : u.given_up ≡ t.given_up
 
 abbrev full_pair : Option Full → Option (ℕ × ℕ)
 full_pair o = option_map (λ f. (f.arrivals, f.bytes)) o
@@ -42,6 +43,7 @@ entered_is past t u conn next few same left staying_is is =
       full = ap full_pair same.full ∙ is.full;
       order = same.order ∙ is.order;
       end = same.end ∙ is.end;
+      gave = same.gave ∙ is.gave;
     }
   where
     one_more : (a b : ℕ) → a ≡ b → a + 1 ≡ suc b
@@ -62,6 +64,7 @@ left_is past t u conn open_ same marked staying_is is =
       full = ap full_pair same.full ∙ is.full;
       order = same.order ∙ is.order;
       end = same.end ∙ is.end;
+      gave = same.gave ∙ is.gave;
     }
 
 -- the run was never filled

@@ -1,3 +1,4 @@
 pub mod Limits
 pub mod Leaving
+pub mod Phases
 pub mod Tallies

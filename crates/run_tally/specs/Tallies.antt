@@ -8,6 +8,7 @@ use Rattle.poa_history.specs.Legal.{has_left, had_shutdown}
 use Rattle.run_tally.specs.declared.tally.Tally.{Tally}
 use Rattle.run_tally.specs.Leaving.{is_shut, staying}
 use Rattle.run_tally.specs.Limits.{filled_at}
+use Rattle.run_tally.specs.Phases.{first_abandoned}
 
 -- the flag of a number; those behind the list are false
 abbrev pub flag_of : List Bool → ℕ → Bool
@@ -22,6 +23,7 @@ pub record IsTally (h : List Entry) (t : Tally) : Type 0 where
   pub full : option_map (λ f. (f.arrivals, f.bytes)) t.filled ≡ filled_at h
   pub order : t.ordered ≡ had_shutdown h
   pub end : t.shut ≡ is_shut h
+  pub gave : t.given_up ≡ first_abandoned h
 
 -- there is room for one connection more
 abbrev pub HasRoomForOne : Tally → Type 0

@@ -2,7 +2,7 @@
 ghost use Rattle.std.specs.Prelude.{◌≡◌, ◌∷◌, ◌+◌, ◌-◌, ◌^◌, ◌<◌, ◌≤◌, ◌==◌, ℕ, List, length, min, true, if◌then◌else◌, option_copied, slice_set};
 ghost use Rattle.poa_base.specs.declared.Config.{Config};
 ghost use Rattle.poa_base.specs.declared.Entry.{Entry as EntryOf};
-ghost use Rattle.poa_base.specs.declared.Entry.TheVariants.{Entered, Arrive, Filled, Left, Admit};
+ghost use Rattle.poa_base.specs.declared.Entry.TheVariants.{Entered, Arrive, Filled, Left, Admit, Abandon};
 ghost use Rattle.poa_history.specs.Arrivals as calls;
 ghost use Rattle.poa_history.specs.Legal as legal;
 ghost use Rattle.run_tally.specs.Leaving as leaving;
@@ -110,6 +110,13 @@ fn admit(worker: u32, arrival: u64, verdict: &Verdict, call: Option<&Call>, tall
     tally.shut = is_shut_by(call) || tally.shut;
 }
 
+/// A worker gives the run up; the first one is remembered.
+fn give_up(worker: u32, tally: &mut Tally)
+    ensures { (past : List EntryOf) → IsTally past tally.old → IsTally (Abandon worker ∷ past) tally.new }
+{
+    tally.given_up = tally.given_up.or(Some(worker));
+}
+
 /// Takes in an entry, with the call of the arrival that it admits. Takes no memory.
 pub fn advance(entry: &Entry, call: Option<&Call>, tally: &mut Tally)
     requires { HasRoomFor entry.now tally.old }
@@ -125,6 +132,7 @@ pub fn advance(entry: &Entry, call: Option<&Call>, tally: &mut Tally)
             arrival,
             verdict,
         } => admit(*worker, *arrival, verdict, call, tally),
+        Entry::Abandon { worker } => give_up(*worker, tally),
         _ => {}
     }
 }

@@ -1,13 +1,15 @@
 //! What a tally answers, without memory.
-ghost use Rattle.std.specs.Prelude.{◌≡◌, ◌↔◌, ◌+◌, ◌^◌, ◌&&◌, ◌==◌, IsTrue, List, length, nat_le, nat_lt, not};
+ghost use Rattle.std.specs.Prelude.{◌≡◌, ◌↔◌, ◌+◌, ◌^◌, ◌&&◌, ◌==◌, IsTrue, List, length, nat_le, nat_lt, not, None};
 ghost use Rattle.poa_base.specs.declared.Entry.{Entry};
 ghost use Rattle.poa_history.specs.Arrivals as calls;
 ghost use Rattle.poa_history.specs.Legal as legal;
 ghost use Rattle.run_tally.specs.Limits as limits;
 ghost use Rattle.run_tally.specs.Leaving as leaving;
+ghost use Rattle.run_tally.specs.Phases as phases;
 ghost use Rattle.run_tally.specs.Tallies.{IsTally, flag_of};
 
 use crate::moves::is_shutdown;
+use crate::phase::Phase;
 use crate::tally::Tally;
 use poa_base::Call;
 
@@ -78,4 +80,28 @@ pub fn is_run_over(tally: &Tally, unadmitted: u64) -> bool
     ensures { (h : List Entry) → IsTally h tally.now → result ≡ (leaving.is_shut h && (leaving.are_gone h (calls.connections h) && (unadmitted == 0))) }
 {
     tally.shut && tally.staying == 0 && unadmitted == 0
+}
+
+/// How far a run has come that no worker gave up.
+fn phase_without(tally: &Tally) -> Phase
+    ensures { (h : List Entry) → IsTally h tally.now → result ≡ phases.phase_by None (leaving.is_shut h) (legal.is_filled h) }
+{
+    if tally.shut {
+        return Phase::Shut;
+    }
+    if is_unfilled(tally) {
+        Phase::Running
+    } else {
+        Phase::Full
+    }
+}
+
+/// How far the run has come.
+pub fn phase_of(tally: &Tally) -> Phase
+    ensures { (h : List Entry) → IsTally h tally.now → result ≡ phases.phase_of h }
+{
+    match tally.given_up {
+        Some(worker) => Phase::Abandoned { worker },
+        None => phase_without(tally),
+    }
 }

@@ -24,6 +24,8 @@ pub struct Tally {
     pub ordered: bool,
     /// Whether a `shutdown` was admitted.
     pub shut: bool,
+    /// The worker that gave the run up first.
+    pub given_up: Option<u32>,
 }
 
 /// The tally of a run that hasn't begun. Takes no memory.
@@ -38,6 +40,7 @@ pub fn none(alloc: Global) -> Tally
         filled: None,
         ordered: false,
         shut: false,
+        given_up: None,
     }
 }
 

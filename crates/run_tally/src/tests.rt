@@ -1,5 +1,7 @@
 //! What no clause says: that a connection enters with ample memory, and what is counted of a short run.
-use crate::{Tally, advance, connections, is_open, is_run_over, is_taken, none, reserve};
+use crate::{
+    Phase, Tally, advance, connections, is_open, is_run_over, is_taken, none, phase_of, reserve,
+};
 use poa_base::{Answer, Call, Command, Entry, Reason, Verdict};
 use std::test::Fail;
 
@@ -91,5 +93,20 @@ fn a_refused_shutdown_ends_a_run(rt: HostRuntime) -> Result<(), Fail> {
     };
     advance(&entry, Some(&shutdown()), &mut tally);
     assert!(rt; is_run_over(&tally, 0));
+    Ok(())
+}
+
+#[test]
+fn a_run_goes_through_its_phases(rt: HostRuntime) -> Result<(), Fail> {
+    let mut tally = none(rt.alloc());
+    enter(0, &mut tally)?;
+    assert!(rt; phase_of(&tally) == Phase::Running);
+    advance(&Entry::Filled { conn: 0, size: 20 }, None, &mut tally);
+    assert!(rt; phase_of(&tally) == Phase::Full);
+    tally.shut = true;
+    assert!(rt; phase_of(&tally) == Phase::Shut);
+    advance(&Entry::Abandon { worker: 5 }, None, &mut tally);
+    advance(&Entry::Abandon { worker: 2 }, None, &mut tally);
+    assert!(rt; phase_of(&tally) == Phase::Abandoned { worker: 5 });
     Ok(())
 }

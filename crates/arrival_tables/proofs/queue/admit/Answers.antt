@@ -1,6 +1,15 @@
 use Rattle.std.specs.Prelude.{refl}
+use Rattle.std.proofs.Common.{sym, subst}
+use Rattle.poa_history.specs.Arrivals.{arrivals}
+use Rattle.poa_history.specs.Stages.{is_unadmitted}
+use Rattle.arrival_tables.specs.Numbers.{Ascends}
+use Rattle.arrival_tables.specs.Queued.{is_waiting}
+use Rattle.arrival_tables.proofs.Numbers.{ascending}
 use Rattle.arrival_tables.proofs.Queueing.{admits}
 use Rattle.arrival_tables.proofs.queue.admit.Goals as goal
 
 pub returns : goal.returns
-returns c = λ config run limit past w v may is. admits config run limit past w c.args.arrival v c.args.queue.now _ may is c.remove.ensures c.remove-2.ensures refl
+returns c = λ config run limit past w v may is.
+    admits config run limit past w c.args.arrival v c.args.queue.now _ may is
+    (c.remove.ensures (subst Ascends (sym is.unadmitted_are) (ascending (is_unadmitted past) (arrivals past))))
+    (c.remove-2.ensures (subst Ascends (sym is.messages_are) (ascending (is_waiting past) (arrivals past)))) refl

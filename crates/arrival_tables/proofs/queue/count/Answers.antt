@@ -5,4 +5,4 @@ use Rattle.arrival_tables.proofs.Numbers.{counted}
 use Rattle.arrival_tables.proofs.queue.count.Goals as goal
 
 pub returns : goal.returns
-returns c = λ h is. ap length (c.as_slice.ensures.value ∙ is.unadmitted_are) ∙ sym (counted (is_unadmitted h) (arrivals h))
+returns c = λ h is. (c.len.ensures ∙ c.args.queue.now.unadmitted.ok.0) ∙ (ap length is.unadmitted_are ∙ sym (counted (is_unadmitted h) (arrivals h)))

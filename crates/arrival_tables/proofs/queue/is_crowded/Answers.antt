@@ -9,6 +9,5 @@ use Rattle.arrival_tables.proofs.queue.is_crowded.Goals as goal
 
 pub returns : goal.returns
 returns c = λ h is.
-    (let same = c.deref.ensures.value ∙ is.crowded_are in
-    c.has.ensures (subst Ascends (sym same) (ascending (situations.is_crowded h) (arrivals h)))
-    ∙ (ap (list_any (λ x. x == c.args.arrival)) same ∙ crowded_told h c.args.arrival))
+    c.has.ensures (subst Ascends (sym is.crowded_are) (ascending (situations.is_crowded h) (arrivals h)))
+    ∙ (ap (list_any (λ x. x == c.args.arrival)) is.crowded_are ∙ crowded_told h c.args.arrival)

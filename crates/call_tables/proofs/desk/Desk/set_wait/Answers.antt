@@ -1,0 +1,9 @@
+use Rattle.std.proofs.Common.{map, sym, ap, ◌∙◌}
+use Rattle.call_tables.specs.Desk.{set_wait}
+use Rattle.call_tables.proofs.NoneWaits.{unset, none_given}
+use Rattle.call_tables.proofs.desk.Desk.set_wait.Goals as goal
+
+pub returns-else-is_some-clause-owing : goal.returns-else-is_some-clause-owing
+returns-else-is_some-clause-owing c =
+    sym (ap (λ wait. map (set_wait c.args.arrival wait) c.args.self.now.owing.items) (none_given c.args.wait (sym c.is_some.ensures ∙ c.if-is_some.false))
+    ∙ unset c.args.arrival c.args.self.now.owing.items (sym c.args.self.now.waits_is ∙ c.if-self.false))

@@ -1,0 +1,182 @@
+-- What a message says is decided: each says something.
+use Rattle.std.proofs.Common.{◌≡◌, ℕ, List, Option, Result, Ok, Err, refl, arith, inl, inr}
+use Rattle.cdr_core.specs.Field.{ulong}
+use Rattle.cdr_core.specs.Cursor.{Cursor, Reads}
+use Rattle.cdr_core.proofs.OneReading.{one_ulong_read}
+use Rattle.poa_base.specs.declared.Call.{Call}
+use Rattle.poa_base.specs.declared.Call.TheVariants.{Request, Locate, Line}
+use Rattle.giop_frame.specs.Part.{is_little}
+use Rattle.giop_msg.specs.declared.incoming.Incoming.{Incoming}
+use Rattle.giop_msg.specs.declared.incoming.Incoming.TheVariants as incoming
+use Rattle.giop_msg.specs.declared.fault.MsgFault.{MsgFault}
+use Rattle.giop_msg.specs.declared.fault.MsgFault.TheVariants.{Malformed, NotForServer}
+use Rattle.giop_msg.specs.declared.kind.TheConstants.{REQUEST, REPLY, CANCEL_REQUEST, LOCATE_REQUEST, LOCATE_REPLY, CLOSE_CONNECTION, MESSAGE_ERROR}
+use Rattle.giop_msg.specs.Call.{MakesCall, Asks, CallOf}
+use Rattle.giop_msg.specs.Fields.{fields_start}
+use Rattle.giop_msg.specs.Header.{message_type, IsForClient}
+use Rattle.giop_msg.specs.Laws.{EachSays}
+use Rattle.giop_msg.specs.Locate.{locate_head}
+use Rattle.giop_msg.specs.Request.{body_at, request_head, IsClosing}
+use Rattle.giop_msg.specs.Target.{IsTarget}
+use Rattle.giop_msg.proofs.Addressing.{target_decided}
+use Rattle.giop_msg.proofs.Targets.{one_target}
+use Rattle.giop_msg.proofs.Deciding.{Decided, decided_as, decided_then, is_decided, Stands, StandsThen}
+use Rattle.giop_msg.proofs.Numbers.{ulong_decided}
+use Rattle.giop_msg.proofs.Parts.{Opening, opened_once, opening_decided, closing_decided}
+
+-- a Request: an opening, a target and a closing
+abbrev TargetThen : Cursor → Type 0
+TargetThen c = StandsThen (Option (List ℕ)) IsTarget (λ (t : Option (List ℕ)) (a : Cursor). Stands (List ℕ) IsClosing a) c
+
+abbrev OpeningThen : Cursor → Type 0
+OpeningThen c = StandsThen (ℕ × ℕ) Opening (λ (v : ℕ × ℕ) (a : Cursor). TargetThen a) c
+
+target_then : (c : Cursor) → Decided (TargetThen c)
+target_then c =
+    decided_then (Option (List ℕ)) IsTarget (λ (t : Option (List ℕ)) (a : Cursor). Stands (List ℕ) IsClosing a) c (λ t u a b p q. one_target t u c a b p q)
+    (λ t a. closing_decided a) (target_decided c)
+
+opening_then : (c : Cursor) → Decided (OpeningThen c)
+opening_then c =
+    decided_then (ℕ × ℕ) Opening (λ (v : ℕ × ℕ) (a : Cursor). TargetThen a) c (opened_once c) (λ v a. target_then a) (opening_decided c)
+
+-- a call that the message makes
+abbrev SomeCall : List ℕ → Type 0
+SomeCall bytes = (call : Call) × MakesCall bytes call
+
+request_there : (bytes : List ℕ) → message_type bytes ≡ REQUEST → OpeningThen (fields_start bytes) → SomeCall bytes
+request_there bytes kind s =
+    let target = s.3 in
+    let closing = target.3 in
+    let head = request_head s.0.0 s.0.1 (is_little bytes) in (
+      Request head target.0 closing.0 (body_at closing.1),
+      (
+        kind,
+        record {
+          behind_opening = s.1;
+          behind_target = target.1;
+          behind = closing.1;
+          opening = s.2;
+          addressed = target.2;
+          closing = closing.2;
+          is_head = refl;
+          is_body = refl;
+        },
+      ),
+    )
+
+request_back : (bytes : List ℕ) (call : Call) → message_type bytes ≡ REQUEST → MakesCall bytes call → OpeningThen (fields_start bytes)
+request_back bytes (Request head t o body) kind makes =
+    let is = makes.1 in
+    ((head.id, head.flags), is.behind_opening, is.opening, (t, is.behind_target, is.addressed, (o, is.behind, is.closing)))
+request_back bytes (Locate head t) kind makes = absurd (omega (arith, kind, makes.0))
+request_back bytes (Line number command) kind makes = absurd makes
+
+-- a LocateRequest: an id and a target
+abbrev LocateThen : Cursor → Type 0
+LocateThen c = StandsThen ℕ (λ (n : ℕ). Reads (ulong n)) (λ (n : ℕ) (a : Cursor). Stands (Option (List ℕ)) IsTarget a) c
+
+locate_then : (c : Cursor) → Decided (LocateThen c)
+locate_then c =
+    decided_then ℕ (λ (n : ℕ). Reads (ulong n)) (λ (n : ℕ) (a : Cursor). Stands (Option (List ℕ)) IsTarget a) c (λ m n a b p q. one_ulong_read m n c a b p q)
+    (λ n a. target_decided a) (ulong_decided c)
+
+locate_there : (bytes : List ℕ) → message_type bytes ≡ LOCATE_REQUEST → LocateThen (fields_start bytes) → SomeCall bytes
+locate_there bytes kind s = (
+  Locate (locate_head s.0 (is_little bytes)) s.3.0,
+  (kind, record { behind_id = s.1; behind = s.3.1; id = s.2; addressed = s.3.2; is_head = refl }),
+)
+
+locate_back : (bytes : List ℕ) (call : Call) → message_type bytes ≡ LOCATE_REQUEST → MakesCall bytes call → LocateThen (fields_start bytes)
+locate_back bytes (Request head t o body) kind makes = absurd (omega (arith, kind, makes.0))
+locate_back bytes (Locate head t) kind makes = let is = makes.1 in (head.id, is.behind_id, is.id, (t, is.behind, is.addressed))
+locate_back bytes (Line number command) kind makes = absurd makes
+
+-- what the message asks
+abbrev SomeAsked : List ℕ → Type 0
+SomeAsked bytes = (asked : Incoming) × Asks bytes asked
+
+request_asked : (bytes : List ℕ) → message_type bytes ≡ REQUEST → Decided (SomeAsked bytes)
+request_asked bytes kind =
+    decided_as (OpeningThen (fields_start bytes)) (SomeAsked bytes)
+    (λ s. let made = request_there bytes kind s in (incoming.Call made.0, made.1))
+    (λ s. back s.0 s.1)
+    (opening_then (fields_start bytes))
+  where
+    back : (asked : Incoming) → Asks bytes asked → OpeningThen (fields_start bytes)
+    back (incoming.Call call) asks = request_back bytes call kind asks
+    back (incoming.Cancel id) asks = absurd (omega (arith, kind, asks.0))
+    back incoming.Closing asks = absurd (omega (arith, kind, asks))
+
+locate_asked : (bytes : List ℕ) → message_type bytes ≡ LOCATE_REQUEST → Decided (SomeAsked bytes)
+locate_asked bytes kind =
+    decided_as (LocateThen (fields_start bytes)) (SomeAsked bytes)
+    (λ s. let made = locate_there bytes kind s in (incoming.Call made.0, made.1))
+    (λ s. back s.0 s.1)
+    (locate_then (fields_start bytes))
+  where
+    back : (asked : Incoming) → Asks bytes asked → LocateThen (fields_start bytes)
+    back (incoming.Call call) asks = locate_back bytes call kind asks
+    back (incoming.Cancel id) asks = absurd (omega (arith, kind, asks.0))
+    back incoming.Closing asks = absurd (omega (arith, kind, asks))
+
+cancel_asked : (bytes : List ℕ) → message_type bytes ≡ CANCEL_REQUEST → Decided (SomeAsked bytes)
+cancel_asked bytes kind =
+    decided_as (Stands ℕ (λ (n : ℕ). Reads (ulong n)) (fields_start bytes)) (SomeAsked bytes)
+    (λ s. (incoming.Cancel s.0, (kind, record { behind = s.1; read = s.2 })))
+    (λ s. back s.0 s.1)
+    (ulong_decided (fields_start bytes))
+  where
+    call_id : (call : Call) → MakesCall bytes call → Stands ℕ (λ (n : ℕ). Reads (ulong n)) (fields_start bytes)
+    call_id (Request head t o body) makes = absurd (omega (arith, kind, makes.0))
+    call_id (Locate head t) makes = absurd (omega (arith, kind, makes.0))
+    call_id (Line number command) makes = absurd makes
+
+    back : (asked : Incoming) → Asks bytes asked → Stands ℕ (λ (n : ℕ). Reads (ulong n)) (fields_start bytes)
+    back (incoming.Call call) asks = call_id call asks
+    back (incoming.Cancel id) asks = (id, asks.1.behind, asks.1.read)
+    back incoming.Closing asks = absurd (omega (arith, kind, asks))
+
+-- other types ask nothing
+no_asked : (bytes : List ℕ) → (message_type bytes ≡ REQUEST → ⊥) → (message_type bytes ≡ LOCATE_REQUEST → ⊥) → (message_type bytes ≡ CANCEL_REQUEST → ⊥) → (message_type bytes ≡ CLOSE_CONNECTION → ⊥)
+    → (asked : Incoming) → Asks bytes asked → ⊥
+no_asked bytes request locate cancel closing (incoming.Call call) asks = by call asks
+  where
+    by : (made : Call) → MakesCall bytes made → ⊥
+    by (Request head t o body) makes = request makes.0
+    by (Locate head t) makes = locate makes.0
+    by (Line number command) makes = makes
+no_asked bytes request locate cancel closing (incoming.Cancel id) asks = cancel asks.0
+no_asked bytes request locate cancel closing incoming.Closing asks = closing asks
+
+asked_by : (bytes : List ℕ) → Decided (message_type bytes ≡ REQUEST) → Decided (message_type bytes ≡ LOCATE_REQUEST) → Decided (message_type bytes ≡ CANCEL_REQUEST)
+    → Decided (message_type bytes ≡ CLOSE_CONNECTION) → Decided (SomeAsked bytes)
+asked_by bytes (inl kind) locate cancel closing = request_asked bytes kind
+asked_by bytes (inr request) (inl kind) cancel closing = locate_asked bytes kind
+asked_by bytes (inr request) (inr locate) (inl kind) closing = cancel_asked bytes kind
+asked_by bytes (inr request) (inr locate) (inr cancel) (inl kind) = inl (incoming.Closing, kind)
+asked_by bytes (inr request) (inr locate) (inr cancel) (inr closing) = inr (λ s. no_asked bytes request locate cancel closing s.0 s.1)
+
+is_type : (bytes : List ℕ) (n : ℕ) → Decided (message_type bytes ≡ n)
+is_type bytes n = is_decided (message_type bytes) n
+
+for_client_by : (kind : ℕ) → Decided (kind ≡ REPLY) → Decided (kind ≡ LOCATE_REPLY) → Decided (kind ≡ MESSAGE_ERROR) → Decided (IsForClient kind)
+for_client_by kind (inl reply) locate error = inl (inl reply)
+for_client_by kind (inr reply) (inl locate) error = inl (inr (inl locate))
+for_client_by kind (inr reply) (inr locate) (inl error) = inl (inr (inr error))
+for_client_by kind (inr reply) (inr locate) (inr error) = inr no
+  where
+    no : IsForClient kind → ⊥
+    no (inl e) = reply e
+    no (inr (inl e)) = locate e
+    no (inr (inr e)) = error e
+
+says : (bytes : List ℕ) → Decided (IsForClient (message_type bytes)) → Decided (SomeAsked bytes) → (said : Result Incoming MsgFault) × CallOf bytes said
+says bytes (inl client) asked = (Err NotForServer, client)
+says bytes (inr server) (inl s) = (Ok s.0, s.1)
+says bytes (inr server) (inr none) = (Err Malformed, record { for_server = server; asks_nothing = λ asked asks. none (asked, asks) })
+
+pub each_says : EachSays
+each_says bytes =
+    says bytes (for_client_by (message_type bytes) (is_type bytes REPLY) (is_type bytes LOCATE_REPLY) (is_type bytes MESSAGE_ERROR))
+    (asked_by bytes (is_type bytes REQUEST) (is_type bytes LOCATE_REQUEST) (is_type bytes CANCEL_REQUEST) (is_type bytes CLOSE_CONNECTION))

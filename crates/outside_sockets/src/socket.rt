@@ -1,0 +1,149 @@
+//! A connected socket, and the waiting for it.
+ghost use Rattle.std.specs.Prelude.{◌≡◌, ◌<◌, ◌≤◌, length, IfSome};
+ghost use Rattle.outside.specs.Reading.{IsWithin};
+
+use crate::ears::{Ears, Heard};
+use mio::net::TcpStream;
+use outside::Took;
+use std::io::{ErrorKind, Read, Write};
+use std::net::Shutdown;
+use std::time::Duration;
+
+// How many seconds a read waits, and a write before it looks again.
+const PATIENCE: u64 = 1;
+
+// For so many times this patience a peer may take nothing.
+const SILENT_WAITS: u32 = 30;
+
+// How many pieces of input are thrown away at the end.
+const LAST_READS: u32 = 16;
+
+/// A socket with what hears it. What was heard while it waited for something else is kept.
+#[derive(Drop)]
+pub(crate) struct Socket {
+    stream: TcpStream,
+    ears: Ears,
+    /// The last read found less than it asked for, and no input was heard since.
+    is_drained: bool,
+    /// The peer closed. Its close is heard only once, so nothing is waited for after it.
+    is_closing: bool,
+    /// The alarm was heard, and no read ended for it.
+    is_rung: bool,
+}
+
+impl Socket {
+    pub(crate) fn new(stream: TcpStream, ears: Ears) -> Self {
+        Socket {
+            stream,
+            ears,
+            is_drained: true,
+            is_closing: false,
+            is_rung: false,
+        }
+    }
+
+    pub(crate) fn ears(&self) -> &Ears {
+        &self.ears
+    }
+
+    /// Reads what is there. Where nothing is, it waits for input, the alarm or a second.
+    pub(crate) fn receive(&mut self, buf: &mut [u8]) -> Took
+        requires { 0 < length buf.old }
+        ensures { IsWithin result (length buf.old) }
+    {
+        if self.is_drained {
+            if !self.is_rung {
+                self.wait();
+            }
+            self.is_rung = false;
+            if self.is_drained {
+                return Took::Quiet;
+            }
+        }
+        match self.stream.read(buf) {
+            Ok(0) => Took::End,
+            Ok(count) => {
+                self.is_drained = count < buf.len() && !self.is_closing;
+                Took::Got(count)
+            }
+            Err(error) => self.unread(error.kind()),
+        }
+    }
+
+    // What an error of a read means.
+    fn unread(&mut self, kind: ErrorKind) -> Took
+        ensures { IsWithin result 0 }
+    {
+        match kind {
+            ErrorKind::WouldBlock => {
+                self.is_drained = true;
+                Took::Quiet
+            }
+            ErrorKind::Interrupted => Took::Quiet,
+            _ => Took::Failed,
+        }
+    }
+
+    /// Writes what there is room for, and answers how much. None where the connection is broken, or its peer takes
+    /// nothing for half a minute.
+    pub(crate) fn send(&mut self, piece: &[u8]) -> Option<usize>
+        requires { 0 < length piece.now }
+        ensures some { IfSome result (λ count. 0 < count) }
+        ensures within { IfSome result (λ count. count ≤ length piece.now) }
+    {
+        let mut silent = 0u32;
+        for _ in 0..u64::MAX {
+            match self.stream.write(piece) {
+                Ok(0) => return None,
+                Ok(count) => return Some(count),
+                Err(error) if error.kind() == ErrorKind::WouldBlock => {
+                    if self.wait() {
+                        silent = silent.saturating_add(1);
+                    }
+                    if silent >= SILENT_WAITS {
+                        return None;
+                    }
+                }
+                Err(error) if error.kind() == ErrorKind::Interrupted => {}
+                Err(_) => return None,
+            }
+        }
+        None
+    }
+
+    // Waits until something is heard, and keeps it. Answers whether nothing was.
+    fn wait(&mut self) -> bool {
+        let Ok(heard) = self.ears.hear(Duration::from_secs(PATIENCE)) else {
+            // What can't be heard a read will show.
+            self.is_drained = false;
+            return true;
+        };
+        self.keep(heard);
+        heard.is_silence()
+    }
+
+    fn keep(&mut self, heard: Heard) {
+        self.is_closing |= heard.closing;
+        self.is_drained &= !heard.socket && !self.is_closing;
+        self.is_rung |= heard.alarm;
+    }
+
+    /// Closes the connection, and gives the ears back. Input that nobody read is thrown away first, since the
+    /// system would take back the last bytes written otherwise.
+    pub(crate) fn close(mut self) -> Ears {
+        let _ = self.stream.shutdown(Shutdown::Write);
+        let mut buf = [0; 4096];
+        for _ in 0..LAST_READS {
+            if !matches!(self.stream.read(&mut buf), Ok(1..)) {
+                break;
+            }
+        }
+        let Socket {
+            mut stream,
+            ears,
+            ..
+        } = self;
+        ears.detach(&mut stream);
+        ears
+    }
+}

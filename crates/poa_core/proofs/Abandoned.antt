@@ -1,0 +1,29 @@
+-- A worker gives the run up.
+use Rattle.std.proofs.Common.{◌≡◌, ℕ, ◌+◌, ◌<◌, Bool, true, false, if◌then◌else◌, refl, sym, ap, length, vec_len, vec_capacity}
+use Rattle.poa_base.specs.declared.Entry.TheVariants.{Abandon}
+use Rattle.poa_history.specs.Stages.{is_abandoned}
+use Rattle.poa_core.specs.declared.inside.Inside.{Inside}
+use Rattle.poa_core.specs.Agrees.{history}
+use Rattle.poa_core.specs.Answers.{Abandons}
+use Rattle.poa_core.specs.Life.{Life, with_entry}
+use Rattle.poa_core.specs.Noting.{HasRoomForEntry, IsNoted}
+use Rattle.poa_core.specs.Kept.{IsKept, IsQuiet, stay}
+use Rattle.poa_core.proofs.Connected.{some_room, less_one}
+use Rattle.poa_core.proofs.Space.{stay_abandoned, stay_going}
+use Rattle.poa_core.proofs.Keeping.{kept_then}
+
+module _ (w : ℕ) (i : Inside) (kept : IsKept i) (low : w < 16) (going : is_abandoned (history i) w ≡ false) where
+  pub abandoned_room : HasRoomForEntry (Abandon w) i
+  abandoned_room =
+      record {
+        entries = some_room (vec_len i.entries) (length i.desk.owing.items + length i.desk.outbox.items) (stay i.tables) (vec_capacity i.entries) (stay_going (history i) w i.tables low going kept.agrees.tables) kept.space;
+        calls = λ is. absurd (let e : false ≡ true = is in cc);
+        queue = λ is. absurd (let e : false ≡ true = is in cc);
+        tally = tt;
+        desk = kept.agrees.room;
+      }
+
+  pub abandoned_kept : (new : Inside) → IsNoted (Abandon w) i new → IsKept new
+  abandoned_kept new noted =
+      kept_then 0 (Abandon w) i new noted refl
+      (less_one (stay i.tables) (stay new.tables) (stay_abandoned (history i) w i.tables new.tables low going kept.agrees.tables noted.tables)) kept.space

@@ -1,0 +1,14 @@
+pub mod Adding
+pub mod Calls
+pub mod Heard
+pub mod Replies
+pub mod Written
+pub mod Taken
+pub mod Owed
+pub mod Talking
+pub mod Counted
+pub mod Ending
+pub mod Phases
+pub mod Stepping
+pub mod Entering
+pub mod Served

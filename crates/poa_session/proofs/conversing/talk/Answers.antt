@@ -1,0 +1,71 @@
+use Rattle.std.proofs.Common.{◌<◌, arith, rules, sym, subst, ap, le_trans, ◌∙◌}
+use Rattle.seat_lock.specs.Seats.{view}
+use Rattle.poa_session.specs.declared.flow.Flow.TheVariants.{Broke, Ends}
+use Rattle.poa_session.proofs.Counted.{rose_after, rose_before}
+use Rattle.poa_session.proofs.Talking.{sits_broken, sits_ended, sits_new, sits_on}
+use Rattle.poa_session.proofs.conversing.talk.Goals as goal
+
+pub loop-init : goal.loop-init
+loop-init g c = record {
+  ends = (tt, tt);
+  seat = search rules;
+  conn = c.requires.conn;
+  sits = λ givens given. sits_new givens c.args.peer c.args.conn (view c.args.seat.now) (g.L.Link.shown c.args.link.now) c.args.input.now c.requires.fresh c.requires.taken;
+  writes = omega arith;
+  buffer = c.requires.buffer;
+}
+
+pub loop-preserved : goal.loop-preserved
+loop-preserved g c = record {
+  ends = (tt, tt);
+  seat = c.in-On.ensures.seat;
+  conn = c.in-On.ensures.conn;
+  sits = λ givens given.
+      (let before = c.loop.invariant.sits givens given in
+      sits_on givens c.args.peer c.args.conn (view c.args.seat.now) (g.L.Link.shown c.args.link.now) (view c.loop.seat) (g.L.Link.shown c.loop.link) c.loop.input before (view c.round.new.seat) (g.L.Link.shown c.round.new.link) c.round.new.input
+      (c.in-On.ensures.rounds givens (before.adds.given ∙ given) c.args.peer));
+  writes = (let was = c.loop.invariant.writes in let more = c.in-On.ensures.written.later in omega (arith, was, more));
+  buffer = subst (λ n. 0 < n) (sym c.in-On.ensures.buffer) c.loop.invariant.buffer;
+}
+
+pub returns-in-Ends-clause-converses : goal.returns-in-Ends-clause-converses
+returns-in-Ends-clause-converses g c = λ givens given.
+    (let before = c.loop.invariant.sits givens given in
+    let went = c.in-Ends.ensures.rounds givens (before.adds.given ∙ given) c.args.peer in
+    sits_ended givens c.args.peer c.args.conn (view c.args.seat.now) (g.L.Link.shown c.args.link.now) (view c.loop.seat) (g.L.Link.shown c.loop.link) c.loop.input before (view c.round.new.seat) (g.L.Link.shown c.round.new.link) c.round.new.input
+    c.in-Ends.end c.settle.result (view c.settle.new.seat) (g.L.Link.shown c.settle.new.link) went (c.settle.ensures.settles givens (went.adds.given ∙ (before.adds.given ∙ given))))
+
+pub returns-in-Broke-clause-converses : goal.returns-in-Broke-clause-converses
+returns-in-Broke-clause-converses g c = λ givens given.
+    (let before = c.loop.invariant.sits givens given in
+    sits_broken givens c.args.peer c.args.conn (view c.args.seat.now) (g.L.Link.shown c.args.link.now) (view c.loop.seat) (g.L.Link.shown c.loop.link) c.loop.input before (view c.round.new.seat) (g.L.Link.shown c.round.new.link) c.round.new.input
+    c.in-Broke.end (c.in-Broke.ensures.rounds givens (before.adds.given ∙ given) c.args.peer))
+
+pub returns-in-Ends-clause-read : goal.returns-in-Ends-clause-read
+returns-in-Ends-clause-read g c = λ givens given.
+    (let before = c.loop.invariant.sits givens given in
+    let went = c.in-Ends.ensures.rounds givens (before.adds.given ∙ given) c.args.peer in
+    let cause = c.in-Ends.ensures.read givens (before.adds.given ∙ given) in
+    let moved = (c.settle.ensures.settles givens (went.adds.given ∙ (before.adds.given ∙ given))).moved in
+    record {
+      later = le_trans before.moved.read_faults (le_trans cause.later moved.read_faults);
+      rose = λ is. rose_before _ _ _ before.moved.read_faults (rose_after _ _ _ cause.later (cause.rose (ap Ends (c.settle.ensures.read is))) moved.read_faults);
+    })
+
+pub returns-in-Ends-clause-written : goal.returns-in-Ends-clause-written
+returns-in-Ends-clause-written g c =
+    (let was = c.loop.invariant.writes in
+    let more = c.in-Ends.ensures.written.later in
+    let last = c.settle.ensures.failed.later in
+    record { later = le_trans was (le_trans more last); rose = λ is. rose_before _ _ _ (le_trans was more) (c.settle.ensures.failed.rose is) })
+
+pub returns-in-Broke-clause-read : goal.returns-in-Broke-clause-read
+returns-in-Broke-clause-read g c = λ givens given.
+    (let before = c.loop.invariant.sits givens given in
+    let cause = c.in-Broke.ensures.read givens (before.adds.given ∙ given) in
+    record { later = le_trans before.moved.read_faults cause.later; rose = λ is. absurd (c.in-Broke.ensures.ends.1 (ap Broke is)) })
+
+pub returns-in-Broke-clause-written : goal.returns-in-Broke-clause-written
+returns-in-Broke-clause-written g c =
+    (let was = c.loop.invariant.writes in
+    record { later = le_trans was c.in-Broke.ensures.written.later; rose = λ is. rose_before _ _ _ was (c.in-Broke.ensures.written.rose (ap Broke is)) })

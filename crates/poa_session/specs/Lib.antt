@@ -1,0 +1,9 @@
+pub mod Growing
+pub mod Served
+pub mod Writing
+pub mod Stopping
+pub mod Listening
+pub mod Paying
+pub mod Taking
+pub mod Rounding
+pub mod Settling

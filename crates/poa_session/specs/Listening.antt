@@ -1,0 +1,58 @@
+-- What the reading of an input does.
+use Rattle.std.specs.Prelude.{◌≡◌, ℕ, List, [], ◌∷◌, None, Result, Ok, Err}
+use Rattle.poa_base.specs.declared.Call.{Call}
+use Rattle.poa_base.specs.declared.Entry.{Entry}
+use Rattle.poa_base.specs.declared.SessionEnd.{SessionEnd}
+use Rattle.seat_lock.specs.declared.view.View.{View}
+use Rattle.outside.specs.Link.{Shown}
+use Rattle.run_history.specs.declared.Givens.{Givens}
+use Rattle.poa_shared.specs.Seen.{past}
+use Rattle.session_laws.specs.declared.Peer.{Peer}
+use Rattle.session_laws.specs.Hearing.{Heard, over}
+use Rattle.session_laws.specs.Records.{arrived_by, filling_by}
+use Rattle.session_laws.specs.Sessions.{IsNext}
+use Rattle.session_laws.specs.Expecting.{Expects}
+use Rattle.session_input.specs.Hearing.{Intake, OfIntake}
+use Rattle.poa_session.specs.Growing.{Adds}
+use Rattle.poa_session.specs.Served.{DriesUp}
+use Rattle.poa_session.specs.declared.progress.Progress.{Progress}
+use Rattle.poa_session.specs.declared.progress.Progress.TheVariants as progress
+use Rattle.poa_session.specs.Stopping.{MayEnd}
+
+-- all calls that stand whole arrived, and so many bytes are left over; or the session ends so
+abbrev pub AsListened : Peer → ℕ → View Givens Entry → Intake → View Givens Entry → Intake → Result ℕ SessionEnd → Type 0
+AsListened peer c v i w j (Ok have) =
+    (filling_by (past w) c ≡ filling_by (past v) c) × OfIntake j [] [] (over have)
+    × ((text : List ℕ) → Expects peer (OfIntake i) text (arrived_by (past v) c) → Expects peer (OfIntake j) text (arrived_by (past w) c))
+AsListened peer c v i w j (Err end) =
+    (text : List ℕ) → filling_by (past v) c ≡ None → Expects peer (OfIntake i) text (arrived_by (past v) c)
+    → MayEnd peer c w text end × ((shown : Shown) → DriesUp peer text end shown)
+
+pub record Listens (g : Givens) (peer : Peer) (c : ℕ) (v : View Givens Entry) (i : Intake) (w : View Givens Entry) (j : Intake) (result : Result ℕ SessionEnd) : Type 0 where
+  pub calls : List Heard
+  pub adds : Adds g c v w calls []
+  pub heard : AsListened peer c v i w j result
+  pub taken : j.taken ≡ i.taken
+
+-- the call arrived; or it didn't, and the session may end so, where it was the next of what the peer sent
+abbrev pub AsArrived : Givens → ℕ → Call → ℕ → View Givens Entry → View Givens Entry → Progress → Type 0
+AsArrived g c call size v w progress.On = Adds g c v w (record { call = call; size = size } ∷ []) [] × (filling_by (past w) c ≡ filling_by (past v) c)
+AsArrived g c call size v w (progress.Waits have) = ⊥
+AsArrived g c call size v w (progress.Ends end) =
+    Adds g c v w [] []
+    × ((peer : Peer) (text : List ℕ) → filling_by (past v) c ≡ None → IsNext peer text (arrived_by (past v) c) size → MayEnd peer c w text end)
+    × ((peer : Peer) (text : List ℕ) (shown : Shown) → DriesUp peer text end shown)
+
+-- the input may say more
+abbrev pub AsHeard : Peer → ℕ → View Givens Entry → Intake → View Givens Entry → Intake → Progress → Type 0
+AsHeard peer c v i w j progress.On =
+    (filling_by (past w) c ≡ filling_by (past v) c)
+    × ((text : List ℕ) → Expects peer (OfIntake i) text (arrived_by (past v) c) → Expects peer (OfIntake j) text (arrived_by (past w) c))
+AsHeard peer c v i w j (progress.Waits have) = AsListened peer c v i w j (Ok have)
+AsHeard peer c v i w j (progress.Ends end) = AsListened peer c v i w j (Err end)
+
+pub record Hears (g : Givens) (peer : Peer) (c : ℕ) (v : View Givens Entry) (i : Intake) (w : View Givens Entry) (j : Intake) (result : Progress) : Type 0 where
+  pub calls : List Heard
+  pub adds : Adds g c v w calls []
+  pub heard : AsHeard peer c v i w j result
+  pub taken : j.taken ≡ i.taken

@@ -1,0 +1,101 @@
+//! A session from its entering to its end.
+ghost use Rattle.std.specs.Prelude.{◌≡◌, ◌<◌, [], Some, length};
+ghost use Rattle.seat_lock.specs.Seats.{view};
+ghost use Rattle.outside.specs.Cause.{HasCause};
+ghost use Rattle.run_history.specs.declared.Givens.{Givens};
+ghost use Rattle.poa_shared.specs.Seats.{IsIdle};
+ghost use Rattle.poa_shared.specs.Seen.{Holds};
+ghost use Rattle.session_laws.specs.Expecting.{Expects};
+ghost use Rattle.session_input.specs.Hearing.{OfIntake};
+ghost use Rattle.poa_session.specs.Settling.{Converses};
+
+use crate::closing::settle;
+use crate::flow::Flow;
+use crate::rounds::round;
+use outside::Link;
+use poa_base::{SessionEnd, WantMemory};
+use poa_shared::{Seat, Shared};
+use session_input::Input;
+use session_laws::Peer;
+use std::alloc::Global;
+use std::sync::Wait;
+
+/// How much a read takes at most.
+const PIECE: usize = 65_536;
+
+/// Serves a connection round by round, until one of the two sides ends the session. How it ended.
+pub(crate) fn converse<R: Wait, L: Link>(
+    rt: &R,
+    alloc: Global,
+    shared: &Shared,
+    seat: &mut Seat,
+    link: &mut L,
+    conn: u32,
+    peer: Peer,
+) -> SessionEnd
+    requires seat { IsIdle shared.now seat.old }
+    requires conn { Holds (view seat.old) conn }
+    ensures seat { IsIdle shared.now seat.new }
+    ensures conn { Holds (view seat.new) conn }
+    ensures converses { (g : Givens) → (view seat.old).givens ≡ Some g → Converses g peer conn (view seat.old) (L.shown link.old) (view seat.new) (L.shown link.new) result }
+    ensures read { (g : Givens) → (view seat.old).givens ≡ Some g → HasCause (L.shown link.old).read_faults (L.shown link.new).read_faults (result ≡ SessionEnd.ReadFault) }
+    ensures written { HasCause (L.shown link.old).write_faults (L.shown link.new).write_faults (result ≡ SessionEnd.WriteFault) }
+{
+    let mut input = Input::new(alloc, peer);
+    let Ok(mut buffer) = Vec::from_elem(alloc, 0u8, PIECE) else {
+        return SessionEnd::WantMemory;
+    };
+    if hang(rt, shared, link, conn).is_err() {
+        return SessionEnd::WantMemory;
+    }
+    talk(
+        rt,
+        alloc,
+        shared,
+        seat,
+        link,
+        &mut input,
+        buffer.as_mut_slice(),
+        conn,
+        peer,
+    )
+}
+
+// The same, where nothing has come yet.
+fn talk<R: Wait, L: Link>(
+    rt: &R,
+    alloc: Global,
+    shared: &Shared,
+    seat: &mut Seat,
+    link: &mut L,
+    input: &mut Input,
+    buffer: &mut [u8],
+    conn: u32,
+    peer: Peer,
+) -> SessionEnd
+    requires seat { IsIdle shared.now seat.old }
+    requires conn { Holds (view seat.old) conn }
+    requires fresh { Expects peer (OfIntake input.old) [] [] }
+    requires taken { input.old.taken ≡ 0 }
+    requires buffer { 0 < length buffer.old }
+    ensures seat { IsIdle shared.now seat.new }
+    ensures conn { Holds (view seat.new) conn }
+    ensures converses { (g : Givens) → (view seat.old).givens ≡ Some g → Converses g peer conn (view seat.old) (L.shown link.old) (view seat.new) (L.shown link.new) result }
+    ensures read { (g : Givens) → (view seat.old).givens ≡ Some g → HasCause (L.shown link.old).read_faults (L.shown link.new).read_faults (result ≡ SessionEnd.ReadFault) }
+    ensures written { HasCause (L.shown link.old).write_faults (L.shown link.new).write_faults (result ≡ SessionEnd.WriteFault) }
+{
+    for _ in rt.forever() {
+        match round(rt, alloc, shared, seat, link, input, buffer, conn) {
+            Flow::On => {}
+            Flow::Ends(end) => return settle(rt, alloc, shared, seat, link, conn, peer, end),
+            Flow::Broke(end) => return end,
+        }
+    }
+    unreachable!()
+}
+
+// From now on replies for the connection ring the link's alarm.
+fn hang<R: Wait, L: Link>(rt: &R, shared: &Shared, link: &L, conn: u32) -> Result<(), WantMemory> {
+    let alarm = link.alarm()?;
+    shared.hang(rt, conn, alarm)
+}

@@ -1,0 +1,18 @@
+//! The session of a connection: it enters, reads what its peer sends, lets each call arrive, and writes each reply that is
+//! decided, until one of the two sides ends it; then it leaves. What it is, by the way in which it ended, is in the specs
+//! of `session_laws`; that it was so, by the seat and the link, in `specs/Served.antt`.
+#![tactic(auto)]
+
+mod closing;
+mod collecting;
+mod conversing;
+mod flow;
+mod listening;
+mod paying;
+mod progress;
+mod rounds;
+mod serving;
+mod taking_in;
+mod writing;
+
+pub use serving::{serve_admin, serve_link};

@@ -1,0 +1,149 @@
+//! Calls that arrive.
+ghost use Rattle.std.specs.Prelude.{◌≡◌, ◌≢◌, Some, Err};
+ghost use Rattle.seat_lock.specs.Seats.{view, IsUnchanged};
+ghost use Rattle.run_history.specs.declared.Givens.{Givens};
+ghost use Rattle.session_laws.specs.declared.Peer.{Peer};
+ghost use Rattle.poa_shared.specs.Seats.{IsIdle};
+ghost use Rattle.poa_shared.specs.Seen.{Holds};
+ghost use Rattle.poa_session.specs.Listening.{AsArrived, Hears, Listens};
+ghost use Rattle.poa_history.specs.Legal.{IsSize};
+
+use crate::progress::Progress;
+use poa_base::{Call, SessionEnd};
+use poa_core::ArriveFault;
+use poa_shared::{Front, Seat, Shared};
+use session_input::{Input, Told};
+use std::alloc::Global;
+use std::sync::Wait;
+
+/// Lets each call arrive that stands whole in the input, under one hold of the front, and then wakes a worker where one did.
+/// How many bytes are left over behind them, or how the session ends.
+pub(crate) fn listen<R: Wait>(
+    rt: &R,
+    alloc: Global,
+    shared: &Shared,
+    seat: &mut Seat,
+    input: &mut Input,
+    conn: u32,
+) -> Result<u64, SessionEnd>
+    requires seat { IsIdle shared.now seat.old }
+    requires conn { Holds (view seat.old) conn }
+    ensures seat { IsIdle shared.now seat.new }
+    ensures conn { Holds (view seat.new) conn }
+    ensures listens { (g : Givens) → (view seat.old).givens ≡ Some g → (peer : Peer) → Listens g peer conn (view seat.old) input.old (view seat.new) input.new result }
+    ensures unwritten { (result ≢ Err SessionEnd.WriteFault) × (result ≢ Err SessionEnd.ReadFault) }
+{
+    let mut has_called = false;
+    let front = shared.front(rt);
+    let result = listen_within(
+        rt,
+        alloc,
+        shared,
+        &front,
+        seat,
+        input,
+        conn,
+        &mut has_called,
+    );
+    drop(front);
+    wake(shared, seat, has_called);
+    result
+}
+
+// Wakes a worker where a call arrived.
+fn wake(shared: &Shared, seat: &mut Seat, has_called: bool)
+    requires { IsIdle shared.now seat.old }
+    ensures { IsUnchanged seat.old seat.new }
+{
+    if has_called {
+        shared.wake_worker(seat);
+    }
+}
+
+// Lets each call arrive that stands whole in the input. The front is held.
+fn listen_within<R: Wait>(
+    rt: &R,
+    alloc: Global,
+    shared: &Shared,
+    front: &Front<'_>,
+    seat: &mut Seat,
+    input: &mut Input,
+    conn: u32,
+    has_called: &mut bool,
+) -> Result<u64, SessionEnd>
+    requires seat { IsIdle shared.now seat.old }
+    requires conn { Holds (view seat.old) conn }
+    ensures seat { IsIdle shared.now seat.new }
+    ensures conn { Holds (view seat.new) conn }
+    ensures listens { (g : Givens) → (view seat.old).givens ≡ Some g → (peer : Peer) → Listens g peer conn (view seat.old) input.old (view seat.new) input.new result }
+    ensures unwritten { (result ≢ Err SessionEnd.WriteFault) × (result ≢ Err SessionEnd.ReadFault) }
+{
+    for _ in rt.forever() {
+        match hear(rt, alloc, shared, front, seat, input, conn, has_called) {
+            Progress::On => {}
+            Progress::Waits { have } => return Ok(have),
+            Progress::Ends(end) => return Err(end),
+        }
+    }
+    unreachable!()
+}
+
+// Reads what stands next, and lets it arrive where it is a call.
+fn hear<R: Wait>(
+    rt: &R,
+    alloc: Global,
+    shared: &Shared,
+    front: &Front<'_>,
+    seat: &mut Seat,
+    input: &mut Input,
+    conn: u32,
+    has_called: &mut bool,
+) -> Progress
+    requires seat { IsIdle shared.now seat.old }
+    requires conn { Holds (view seat.old) conn }
+    ensures seat { IsIdle shared.now seat.new }
+    ensures conn { Holds (view seat.new) conn }
+    ensures hears { (g : Givens) → (view seat.old).givens ≡ Some g → (peer : Peer) → Hears g peer conn (view seat.old) input.old (view seat.new) input.new result }
+    ensures unwritten { (result ≢ Progress.Ends SessionEnd.WriteFault) × (result ≢ Progress.Ends SessionEnd.ReadFault) }
+{
+    let Ok(told) = input.next(alloc) else {
+        return Progress::Ends(SessionEnd::WantMemory);
+    };
+    match told {
+        Told::Call { call, size } => {
+            *has_called = true;
+            arrive(rt, shared, front, seat, conn, call, size)
+        }
+        Told::Nothing => Progress::On,
+        Told::More { have } => Progress::Waits { have },
+        Told::Closed => Progress::Ends(SessionEnd::Ended),
+        Told::Bad { at } => Progress::Ends(SessionEnd::Malformed { at }),
+    }
+}
+
+// A call of so many bytes arrives, or ends the session.
+fn arrive<R: Wait>(
+    rt: &R,
+    shared: &Shared,
+    front: &Front<'_>,
+    seat: &mut Seat,
+    conn: u32,
+    call: Call,
+    size: u64,
+) -> Progress
+    requires seat { IsIdle shared.now seat.old }
+    requires conn { Holds (view seat.old) conn }
+    requires size { IsSize size }
+    ensures seat { IsIdle shared.now seat.new }
+    ensures conn { Holds (view seat.new) conn }
+    ensures arrives { (g : Givens) → (view seat.old).givens ≡ Some g → AsArrived g conn call size (view seat.old) (view seat.new) result }
+    ensures unwritten { (result ≢ Progress.Ends SessionEnd.WriteFault) × (result ≢ Progress.Ends SessionEnd.ReadFault) }
+{
+    match shared.arrive_within(rt, front, seat, conn, call, size) {
+        Ok(_) => Progress::On,
+        Err(ArriveFault::Limit { arrivals, bytes }) => {
+            Progress::Ends(SessionEnd::Limit { arrivals, bytes })
+        }
+        Err(ArriveFault::WantMemory) => Progress::Ends(SessionEnd::WantMemory),
+    }
+}

@@ -1,0 +1,62 @@
+//! One round of a session.
+ghost use Rattle.std.specs.Prelude.{◌≡◌, ◌≢◌, ◌<◌, length, Some};
+ghost use Rattle.seat_lock.specs.Seats.{view};
+ghost use Rattle.outside.specs.Cause.{HasCause};
+ghost use Rattle.run_history.specs.declared.Givens.{Givens};
+ghost use Rattle.poa_base.specs.declared.SessionEnd.TheVariants as end;
+ghost use Rattle.session_laws.specs.declared.Peer.{Peer};
+ghost use Rattle.poa_shared.specs.Seats.{IsIdle};
+ghost use Rattle.poa_shared.specs.Seen.{Holds};
+ghost use Rattle.poa_session.specs.Rounding.{Rounds};
+
+use crate::collecting::collect_all;
+use crate::flow::Flow;
+use crate::listening::listen;
+use crate::paying::look;
+use crate::taking_in::take_in;
+use outside::Link;
+use poa_shared::{Seat, Shared};
+use session_input::Input;
+use std::alloc::Global;
+use std::sync::Wait;
+
+/// Lets arrive what was read, writes the replies that are decided, and then reads more: a read waits, where nothing is
+/// there, for input and for replies.
+pub(crate) fn round<R: Wait, L: Link>(
+    rt: &R,
+    alloc: Global,
+    shared: &Shared,
+    seat: &mut Seat,
+    link: &mut L,
+    input: &mut Input,
+    buffer: &mut [u8],
+    conn: u32,
+) -> Flow
+    requires seat { IsIdle shared.now seat.old }
+    requires conn { Holds (view seat.old) conn }
+    requires buffer { 0 < length buffer.old }
+    ensures seat { IsIdle shared.now seat.new }
+    ensures conn { Holds (view seat.new) conn }
+    ensures buffer { length buffer.new ≡ length buffer.old }
+    ensures rounds { (g : Givens) → (view seat.old).givens ≡ Some g → (peer : Peer) → Rounds g peer conn (view seat.old) (L.shown link.old) input.old (view seat.new) (L.shown link.new) input.new result }
+    ensures read { (g : Givens) → (view seat.old).givens ≡ Some g → HasCause (L.shown link.old).read_faults (L.shown link.new).read_faults (result ≡ Flow.Ends end.ReadFault) }
+    ensures written { HasCause (L.shown link.old).write_faults (L.shown link.new).write_faults (result ≡ Flow.Broke end.WriteFault) }
+    ensures ends { (result ≢ Flow.Ends end.WriteFault) × (result ≢ Flow.Broke end.ReadFault) }
+{
+    // Before it looks: what is decided or shut from here on ends the read that waits.
+    shared.attend(conn);
+    if let Some(end) = look(rt, shared, seat) {
+        return Flow::Ends(end);
+    }
+    let have = match listen(rt, alloc, shared, seat, input, conn) {
+        Ok(have) => have,
+        Err(end) => return Flow::Ends(end),
+    };
+    if let Err(end) = collect_all(rt, alloc, shared, seat, link, conn) {
+        return Flow::Broke(end);
+    }
+    match take_in(link, input, buffer, have) {
+        Some(end) => Flow::Ends(end),
+        None => Flow::On,
+    }
+}

@@ -1,0 +1,67 @@
+//! Bytes from a link.
+ghost use Rattle.std.specs.Prelude.{◌≡◌, ◌<◌, ◌≢◌, length, Some};
+ghost use Rattle.outside.specs.Cause.{HasCause};
+ghost use Rattle.outside.specs.Link.{IsRead};
+ghost use Rattle.outside.specs.Reading.{IsWithin};
+ghost use Rattle.poa_session.specs.Taking.{EndsAt, Takes};
+
+use outside::{Link, Took};
+use poa_base::SessionEnd;
+use session_input::Input;
+
+/// The most bytes that one session reads.
+const INPUT_LIMIT: u64 = 1 << 40;
+
+/// Takes in what the link has, where so many bytes are left over of what was taken in before. With an end, no more is read.
+pub(crate) fn take_in<L: Link>(
+    link: &mut L,
+    input: &mut Input,
+    buffer: &mut [u8],
+    have: u64,
+) -> Option<SessionEnd>
+    requires { 0 < length buffer.old }
+    ensures takes { Takes input.old input.new have (L.shown link.old) (L.shown link.new) result }
+    ensures failed { HasCause (L.shown link.old).read_faults (L.shown link.new).read_faults (result ≡ Some SessionEnd.ReadFault) }
+    ensures unwritten { result ≢ Some SessionEnd.WriteFault }
+    ensures buffer { length buffer.new ≡ length buffer.old }
+{
+    let taken = input.taken();
+    if taken == INPUT_LIMIT {
+        return Some(SessionEnd::InputLimit { taken });
+    }
+    match read_front(link, buffer, INPUT_LIMIT - taken) {
+        Took::Got(count) => {
+            if input.feed(&buffer[..count]).is_err() {
+                return Some(SessionEnd::WantMemory);
+            }
+            None
+        }
+        Took::Quiet => None,
+        Took::End => Some(ended(have)),
+        Took::Failed => Some(SessionEnd::ReadFault),
+    }
+}
+
+// Reads no more than `most` bytes into the front of the buffer.
+fn read_front<L: Link>(link: &mut L, buffer: &mut [u8], most: u64) -> Took
+    requires some { 0 < length buffer.old }
+    requires allowed { 0 < most }
+    ensures within { IsWithin result (length buffer.old) }
+    ensures most { IsWithin result most }
+    ensures bytes { IsRead result buffer.new (L.shown link.old) (L.shown link.new) }
+    ensures failed { HasCause (L.shown link.old).read_faults (L.shown link.new).read_faults (result ≡ Took.Failed) }
+    ensures buffer { length buffer.new ≡ length buffer.old }
+{
+    let room = most.min(buffer.len() as u64) as usize;
+    link.read(&mut buffer[..room])
+}
+
+// How a session ends at the end of its input, where so many bytes are left over.
+fn ended(have: u64) -> SessionEnd
+    ensures { EndsAt have result }
+{
+    match have {
+        0 => SessionEnd::Ended,
+        have => SessionEnd::Truncated { have },
+    }
+}

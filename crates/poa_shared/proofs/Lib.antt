@@ -1,0 +1,5 @@
+mod Places
+mod Holding
+mod Made
+mod Printed
+mod Taking

@@ -1,0 +1,25 @@
+-- One call is one event of the one history.
+use Rattle.std.specs.Prelude.{◌≡◌, ℕ, List, reverse, Result, Ok, Err, Some}
+use Rattle.std.specs.declared.alloc.AllocError.{AllocError}
+use Rattle.poa_base.specs.declared.Entry.{Entry}
+use Rattle.seat_lock.specs.declared.view.View.{View}
+use Rattle.run_history.specs.declared.givens.Givens.{Givens}
+use Rattle.poa_journal.specs.Journal.{journal_text}
+use Rattle.poa_core.specs.Answers.{Collects}
+use Rattle.poa_core.specs.Fits.{FitsItsCall}
+use Rattle.poa_core.specs.Life.{Life, life_at}
+use Rattle.poa_core.specs.declared.collected.Collected.{Collected}
+use Rattle.poa_shared.specs.Seen.{past, Turns}
+
+-- the call found the run as it stood at some history that goes on from what the seat had seen, and did to it what P says
+abbrev pub Event : (Life → Life → Type 0) → View Givens Entry → View Givens Entry → Type 0
+Event P v w = (g : Givens) → v.givens ≡ Some g → (h : List Entry) × Turns g v h w × P (life_at g h) (life_at g (past w))
+
+-- a connection is given its next reply, which fits its call
+abbrev pub CollectsFitting : ℕ → Collected → Life → Life → Type 0
+CollectsFitting conn result old new = Collects conn old result new × FitsItsCall old.history result
+
+-- the text of the journal is given
+abbrev pub PrintsJournal : Result (List ℕ) AllocError → Life → Life → Type 0
+PrintsJournal (Ok text) old new = (new ≡ old) × (text ≡ journal_text (record { run = old.run; opening = old.opening; entries = reverse old.history }))
+PrintsJournal (Err fault) old new = new ≡ old

@@ -1,0 +1,13 @@
+//! Laws of whose the entries of a run are.
+ghost use Rattle.std.specs.Prelude.{◌≡◌, ◌<◌, ℕ, List, Some};
+ghost use Rattle.poa_base.specs.declared.Entry.{Entry};
+ghost use Rattle.poa_tree.specs.Trees.{In};
+ghost use Rattle.poa_history.specs.Arrivals.{connections};
+ghost use Rattle.run_history.specs.declared.givens.Givens.{Givens};
+ghost use Rattle.run_history.specs.Runs.{IsHistory};
+ghost use Rattle.run_history.specs.Owners.{owner_of};
+
+/// Each entry of a connection is one of a connection that entered.
+pub fn owners_entered()
+    ensures { (g : Givens) (h : List Entry) → IsHistory g h → (e : Entry) → In e h → (conn : ℕ) → owner_of e ≡ Some conn → conn < connections h }
+{}

@@ -1,0 +1,98 @@
+//! What hears a peer.
+ghost use Rattle.std.specs.Prelude.{◌≡◌, ◌+◌, ◌++◌, ◌<◌, ◌≤◌, ◌^◌, ℕ, List, [], length, IfOk, OnOk, OnErr};
+ghost use Rattle.session_laws.specs.Hearing.{Heard, Stop, message_limit};
+ghost use Rattle.session_laws.specs.Expecting.{Expects, OfFramer, OfLines};
+ghost use Rattle.session_input.specs.Hearing.{AsTold, Asks, IsLimited, OfEar, reach_of};
+ghost use Rattle.giop_frame.specs.Framer.{reach};
+
+use crate::line_cutter::LineCutter;
+use crate::told::Told;
+use giop_frame::{Framer, Message, Next};
+use giop_msg::{Incoming, MsgFault, read_call};
+use poa_base::WantMemory;
+use session_laws::Peer;
+use std::alloc::Global;
+
+/// The largest size that a message may have, without its header.
+const MESSAGE_LIMIT: u32 = 1_048_576;
+
+/// What hears a peer.
+#[derive(Debug, Drop)]
+pub(crate) enum Ear {
+    /// The messages of a client.
+    Messages(Framer),
+    /// The lines of an administrator.
+    Lines(LineCutter),
+}
+
+impl Ear {
+    /// An ear that was fed nothing.
+    pub(crate) fn new(alloc: Global, peer: Peer) -> Ear
+        ensures expects { Expects peer (OfEar result) [] [] }
+        ensures limited { IsLimited result }
+        ensures reached { reach_of result ≡ 0 }
+    {
+        match peer {
+            Peer::Client => Ear::Messages(Framer::new(alloc, MESSAGE_LIMIT)),
+            Peer::Administrator => Ear::Lines(LineCutter::new(alloc)),
+        }
+    }
+
+    /// Puts a piece behind the bytes fed so far. Where no memory is left, nothing is fed.
+    pub(crate) fn feed(&mut self, piece: &[u8]) -> Result<(), WantMemory>
+        requires { reach_of self.old + length piece.now < 2 ^ 62 }
+        ensures fed { OnOk result ((next : List ℕ) (more : List Heard) (stop : Stop) → OfEar self.new next more stop → OfEar self.old (piece.now ++ next) more stop) }
+        ensures limited { IsLimited self.old → IsLimited self.new }
+        ensures reached { reach_of self.new ≤ reach_of self.old + length piece.now }
+        ensures refused { OnErr result (self.new ≡ self.old) }
+    {
+        match self {
+            Ear::Messages(framer) => framer.feed(piece),
+            Ear::Lines(lines) => lines.feed(piece),
+        }
+    }
+
+    /// What is heard next. Where no memory is left, it is lost.
+    pub(crate) fn next(&mut self, alloc: Global) -> Result<Told, WantMemory>
+        requires { IsLimited self.old }
+        ensures told { IfOk result (λ t. AsTold t (OfEar self.old) (OfEar self.new)) }
+        ensures limited { IsLimited self.new }
+        ensures reached { reach_of self.new ≤ reach_of self.old }
+    {
+        match self {
+            Ear::Messages(framer) => next_message(alloc, framer),
+            Ear::Lines(lines) => lines.next(alloc),
+        }
+    }
+}
+
+// What a client's messages say next.
+fn next_message(alloc: Global, framer: &mut Framer) -> Result<Told, WantMemory>
+    requires { framer.old.limit ≡ message_limit }
+    ensures told { IfOk result (λ t. AsTold t (OfFramer framer.old) (OfFramer framer.new)) }
+    ensures limited { framer.new.limit ≡ message_limit }
+    ensures reached { reach framer.new ≤ reach framer.old }
+{
+    match framer.next()? {
+        Next::Message(message) => read(alloc, &message),
+        Next::NeedMore { have } => Ok(Told::More { have }),
+        Next::Bad { at, .. } => Ok(Told::Bad { at }),
+    }
+}
+
+// What a message asks.
+fn read(alloc: Global, message: &Message) -> Result<Told, WantMemory>
+    requires { length message.now.bytes ≤ 1048588 }
+    ensures { IfOk result (Asks message.now) }
+{
+    match read_call(alloc, message) {
+        Ok(Incoming::Call(call)) => {
+            let size = message.bytes().len() as u64;
+            Ok(Told::Call { call, size })
+        }
+        Ok(Incoming::Cancel { .. }) => Ok(Told::Nothing),
+        Ok(Incoming::Closing) => Ok(Told::Closed),
+        Err(MsgFault::WantMemory) => Err(WantMemory),
+        Err(_) => Ok(Told::Bad { at: message.at() }),
+    }
+}

@@ -1,0 +1,9 @@
+pub mod Expected
+pub mod Messages
+pub mod Lines
+pub mod Others
+pub mod Own
+pub mod Paying
+pub mod Causes
+pub mod Ends
+pub mod Staying

@@ -1,0 +1,5 @@
+pub mod Hearing
+pub mod Lines
+pub mod Records
+pub mod Sessions
+pub mod Expecting

@@ -1,0 +1,14 @@
+//! The laws of sessions.
+ghost use Rattle.std.specs.Prelude.{ℕ, List, ◌++◌};
+ghost use Rattle.poa_base.specs.declared.Entry.{Entry};
+ghost use Rattle.poa_base.specs.declared.SessionEnd.{SessionEnd};
+ghost use Rattle.run_history.specs.declared.Givens.{Givens};
+ghost use Rattle.run_history.specs.Owners.{HasNone};
+ghost use Rattle.session_laws.specs.declared.peer.Peer.{Peer};
+ghost use Rattle.session_laws.specs.Sessions.{Session};
+
+/// A session stays what it is while others make entries.
+pub fn sessions_stay()
+    ensures { (g : Givens) (peer : Peer) (log more : List Entry) (c : ℕ) (text out : List ℕ) (end : SessionEnd)
+        → HasNone c more → Session g peer log c text out end → Session g peer (log ++ more) c text out end }
+{}

@@ -1,0 +1,11 @@
+//! What the session of a connection is: which calls its peer's bytes hold, which of them the history says arrived, which
+//! replies it says were given, and what was written, by the way in which the session ended.
+//!
+//! A history is taken in the journal's order here, the oldest entry first. The definitions are no code's: they say the
+//! same of every way to read, to wait and to write.
+#![tactic(auto)]
+
+pub mod laws;
+mod peer;
+
+pub use peer::Peer;

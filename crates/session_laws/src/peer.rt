@@ -1,0 +1,10 @@
+//! Who is served over a connection.
+
+/// Who is served over a connection.
+#[derive(Clone, Copy, Debug, PartialEq, Eq, Drop)]
+pub enum Peer {
+    /// It sends messages of GIOP.
+    Client,
+    /// It sends lines.
+    Administrator,
+}
