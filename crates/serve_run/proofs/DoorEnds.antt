@@ -15,8 +15,8 @@ use Rattle.poa_history.proofs.SettledKept.{or_first, or_second}
 use Rattle.run_history.specs.declared.givens.Givens.{Givens}
 use Rattle.run_tally.specs.Leaving.{is_shut, is_shut_by}
 use Rattle.run_tally.specs.Phases.{first_abandoned, phase_by, phase_of}
-use Rattle.run_tally.specs.declared.course.Phase.{Phase}
-use Rattle.run_tally.specs.declared.course.Phase.TheVariants.{Running}
+use Rattle.run_tally.specs.declared.phase.Phase.{Phase}
+use Rattle.run_tally.specs.declared.phase.Phase.TheVariants.{Running}
 use Rattle.std.specs.Option.{option_or}
 use Rattle.seat_lock.specs.declared.view.View.{View}
 use Rattle.seat_lock.specs.Histories.{IsPrefix}
