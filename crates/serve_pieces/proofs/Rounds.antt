@@ -6,8 +6,8 @@ use Rattle.poa_base.specs.declared.Entry.{Entry}
 use Rattle.poa_shared.specs.Events.{Event}
 use Rattle.run_history.specs.declared.givens.Givens.{Givens}
 use Rattle.run_tally.specs.Phases.{phase_of}
-use Rattle.run_tally.specs.declared.course.Phase.{Phase}
-use Rattle.run_tally.specs.declared.course.Phase.TheVariants.{Running, Full, Shut, Abandoned}
+use Rattle.run_tally.specs.declared.phase.Phase.{Phase}
+use Rattle.run_tally.specs.declared.phase.Phase.TheVariants.{Running, Full, Shut, Abandoned}
 use Rattle.run_tally.specs.declared.full.Full.{Full as FullNumbers}
 use Rattle.seat_lock.specs.declared.view.View.{View}
 use Rattle.session_laws.specs.declared.peer.Peer.{Peer}

@@ -7,8 +7,8 @@ use Rattle.outside.specs.Told.{IfTold}
 use Rattle.poa_base.specs.declared.Entry.{Entry}
 use Rattle.run_history.specs.declared.givens.Givens.{Givens}
 use Rattle.run_tally.specs.Phases.{phase_of}
-use Rattle.run_tally.specs.declared.course.Phase.{Phase}
-use Rattle.run_tally.specs.declared.course.Phase.TheVariants.{Running}
+use Rattle.run_tally.specs.declared.phase.Phase.{Phase}
+use Rattle.run_tally.specs.declared.phase.Phase.TheVariants.{Running}
 use Rattle.run_tally.specs.declared.full.Full.{Full}
 use Rattle.poa_shared.specs.Seen.{past}
 use Rattle.seat_lock.specs.declared.view.View.{View}

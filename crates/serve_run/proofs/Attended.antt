@@ -1,5 +1,5 @@
 -- The doors and the workers of a run, together.
-use Rattle.std.proofs.Common.{◌≡◌, ◌≢◌, ℕ, suc, ◌+◌, ◌≤◌, ◌<◌, Bool, true, false, ◌||◌, List, [], ◌∷◌, ◌++◌, length, Option, Some, None, is_some, refl, sym, ap, ap₂, ◌∙◌, subst, inl, inr, ⊎_elim, arith}
+use Rattle.std.proofs.Common.{◌≡◌, ℕ, ◌+◌, Bool, true, false, ◌||◌, [], ◌∷◌, Option, Some, None, is_some, refl, sym, ap, ◌∙◌, subst, inl, inr, ⊎_elim, arith}
 use mathlib.Core.Logic.{dite}
 use native.Mathlib.Decide.{ℕ_discrete}
 use Rattle.outside.specs.Accepting.{Standing}
@@ -20,12 +20,12 @@ use Rattle.serve_pieces.specs.declared.ran.PieceEnd.TheVariants.{DoorEnd, DoorFa
 use Rattle.serve_pieces.specs.declared.task.Task.{Task}
 use Rattle.serve_pieces.proofs.Places.{in_either, in_first, in_second}
 use Rattle.serve_run.specs.Attending.{AllServed, Attended, DoorsServed}
-use Rattle.serve_run.specs.Holding.{Holds, IsLast, IsWord}
+use Rattle.serve_run.specs.Holding.{Holds}
 use Rattle.serve_run.specs.Lanes.{AreServed, LanesServed}
-use Rattle.serve_run.specs.Outcomes.{any_failed, is_loss, least_in, short_of, with_door, with_loss}
+use Rattle.serve_run.specs.Outcomes.{is_loss, short_of, with_door, with_loss}
 use Rattle.serve_run.specs.Shutting.{Says}
 use Rattle.serve_run.specs.Starting.{IsJoined, IsKept, IsSameSeat}
-use Rattle.serve_run.specs.Tours.{Tour, Shift, conns_in, workers_in}
+use Rattle.serve_run.specs.Tours.{workers_in}
 use Rattle.serve_run.specs.declared.doors.Doors.{Doors}
 use Rattle.serve_run.specs.declared.outcome.Outcome.{Outcome}
 use Rattle.serve_run.specs.declared.outcome.Want.{Want}

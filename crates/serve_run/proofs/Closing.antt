@@ -1,7 +1,6 @@
 -- Where positions are closed in a history, they are closed in a longer one.
-use Rattle.std.proofs.Common.{◌≡◌, ℕ, ◌≤◌, ◌<◌, List, ◌++◌, length, sym, ap, ◌∙◌, subst, arith}
+use Rattle.std.proofs.Common.{◌≡◌, ℕ, ◌<◌, List, length, sym, ap, ◌∙◌, subst, arith}
 use Rattle.std.specs.Prelude.{Option}
-use lib.ListN.{get_elem?}
 use Rattle.seat_lock.specs.Histories.{Belongs, In, IsClosed, IsPrefix, entering}
 use Rattle.seat_lock.proofs.Histories.{entering_least, entering_stays}
 use Rattle.serve_pieces.proofs.Places.{stood_before}

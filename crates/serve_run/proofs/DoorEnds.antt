@@ -1,7 +1,6 @@
 -- How each door ended, by the whole journal.
-use Rattle.std.proofs.Common.{◌≡◌, ℕ, suc, ◌+◌, ◌≤◌, ◌<◌, Bool, true, false, not, ◌&&◌, ◌||◌, ◌==◌, List, [], ◌∷◌, ◌++◌, length, reverse, Option, Some, None, refl, sym, ap, ap₂, ◌∙◌, subst, inl, inr, ◌⊎◌, ⊎_elim, arith}
+use Rattle.std.proofs.Common.{◌≡◌, ℕ, ◌≤◌, Bool, true, false, not, ◌&&◌, ◌==◌, List, [], ◌∷◌, ◌++◌, length, reverse, Option, Some, None, refl, sym, ap, ap₂, ◌∙◌, subst, inl, inr}
 use Rattle.std.proofs.lemmas.Bool.{eqb-true, or_cases, true≢false}
-use Rattle.std.proofs.lemmas.List.{reverse-reverse}
 use mathlib.Core.Option.{some}
 use lib.ListN.{get_elem?}
 use Rattle.outside.specs.Accepting.{Standing}
@@ -16,8 +15,8 @@ use Rattle.poa_history.proofs.SettledKept.{or_first, or_second}
 use Rattle.run_history.specs.declared.givens.Givens.{Givens}
 use Rattle.run_tally.specs.Leaving.{is_shut, is_shut_by}
 use Rattle.run_tally.specs.Phases.{first_abandoned, phase_by, phase_of}
-use Rattle.run_tally.specs.declared.course.Phase.{Phase}
-use Rattle.run_tally.specs.declared.course.Phase.TheVariants.{Running, Full, Shut, Abandoned}
+use Rattle.run_tally.specs.declared.phase.Phase.{Phase}
+use Rattle.run_tally.specs.declared.phase.Phase.TheVariants.{Running}
 use Rattle.std.specs.Option.{option_or}
 use Rattle.seat_lock.specs.declared.view.View.{View}
 use Rattle.seat_lock.specs.Histories.{IsPrefix}

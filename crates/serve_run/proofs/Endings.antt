@@ -1,8 +1,8 @@
 -- Where every worker closed, the run is over.
-use Rattle.std.proofs.Common.{◌≡◌, ℕ, zero, suc, ◌+◌, ◌≤◌, ◌<◌, Bool, true, false, List, [], ◌∷◌, ◌++◌, length, reverse, Option, Some, None, refl, sym, ap, ◌∙◌, subst, inl, inr, ◌⊎◌, ⊎_elim, arith}
+use Rattle.std.proofs.Common.{◌≡◌, ℕ, ◌≤◌, ◌<◌, true, List, [], ◌∷◌, ◌++◌, length, reverse, Option, Some, None, refl, sym, ap, ◌∙◌, subst, ⊎_elim, arith}
 use Rattle.std.specs.Prelude.{MatchOption}
 use Rattle.std.proofs.lemmas.Bool.{cases_lt}
-use Rattle.std.proofs.lemmas.List.{append-nil, length-append, reverse-reverse}
+use Rattle.std.proofs.lemmas.List.{append-nil, reverse-reverse}
 use mathlib.Core.Logic.{dite}
 use mathlib.Core.Option.{some}
 use native.Mathlib.Decide.{ℕ_discrete}
@@ -14,14 +14,12 @@ use Rattle.poa_base.specs.declared.Entry.{Entry}
 use Rattle.poa_base.specs.declared.Entry.TheVariants.{Entered, Arrive}
 use Rattle.poa_history.specs.Arrivals.{arrivals, conn_of, connections}
 use Rattle.poa_history.specs.Changes.{standing}
-use Rattle.poa_history.specs.Ends.{is_over}
 use Rattle.poa_history.specs.Replies.{decided}
 use Rattle.poa_history.specs.Stages.{stage}
-use Rattle.poa_history.specs.declared.activation.Activation.{Activation}
 use Rattle.poa_history.specs.declared.stage.Stage.TheVariants.{Free}
 use Rattle.poa_session.specs.Served.{RefusedAs, ServedAs}
 use Rattle.poa_tree.specs.Trees.{In as IsAmong}
-use Rattle.run_endings.specs.Closing.{HasNoTurn, IsClosed, IsOver}
+use Rattle.run_endings.specs.Closing.{HasNoTurn, IsOver}
 use Rattle.run_endings.proofs.Freed.{freed}
 use Rattle.run_endings.proofs.LateCalls.{late}
 use Rattle.run_endings.proofs.Over.{closed_over, history_before}
@@ -31,19 +29,19 @@ use Rattle.run_history.specs.Runs.{IsHistory, IsLog}
 use Rattle.seat_lock.specs.declared.view.View.{View}
 use Rattle.seat_lock.specs.Histories.{times, Belongs, In, IsPrefix}
 use Rattle.seat_lock.proofs.Calls.{at_prefix}
-use Rattle.seat_lock.proofs.Histories.{prefix_shorter, prefix_self}
+use Rattle.seat_lock.proofs.Histories.{prefix_shorter}
 use Rattle.seat_lock.proofs.Lists.{at_longer}
 use Rattle.seat_lock.proofs.Totals.{at_below}
-use Rattle.session_laws.specs.Records.{arrived, is_late}
+use Rattle.session_laws.specs.Records.{is_late}
 use Rattle.session_laws.specs.declared.peer.Peer.{Peer}
 use Rattle.serve_pieces.specs.Visits.{Visit, Visited, EachVisited, conn_in, conns_of}
 use Rattle.serve_pieces.proofs.Entering.{entered_low, entered_once}
-use Rattle.serve_pieces.proofs.Places.{in_either, in_first, in_second, stood_before}
-use Rattle.serve_run.specs.Tours.{Tour, Shift, conns_in, workers_in, EachToured, EachWorked, HasToured, HasWorked, IsWorkersAt}
+use Rattle.serve_pieces.proofs.Places.{in_either, stood_before}
+use Rattle.serve_run.specs.Tours.{Tour, Shift, conns_in, workers_in, EachToured, EachWorked, HasWorked}
 use Rattle.serve_run.specs.Holding.{Holds}
 use Rattle.serve_run.specs.Served.{IsRunOver}
 use Rattle.serve_run.proofs.JoiningWorkers.{one_in}
-use Rattle.serve_run.proofs.Lasting.{all_behind, arrived_at, late_behind, no_turn_of, none_arrived, reversed_more, stage_stays, AllOf}
+use Rattle.serve_run.proofs.Lasting.{all_behind, arrived_at, late_behind, no_turn_of, none_arrived, reversed_more, stage_stays}
 use Rattle.serve_run.proofs.Sessions.{came_by_door, in_seen, made, works_here}
 use Rattle.serve_run.proofs.Whole.{IsWhole}
 
@@ -185,18 +183,18 @@ module _ {A L : Type 0} (g : Givens) (shown : L → Shown) (standing_of : A → 
           let low = quiet x (made_at x (Arrive c size call) at) (Arrive c size call, in_v, refl) in
           let stands = stood_before visited.closing.seen v.seen x (Arrive c size call) visited.later low in_v in
           let far : length stood ≤ told.place = ⊎_elim
-                (λ (before : told.place < length stood). absurd
-                  (let entered = at_prefix visited.closing.seen v.seen told.place (Entered c) visited.later told.entered in
-                  let old = stood_before stood v.seen told.place (Entered c) last.1.later before entered in
-                  let less = entered_low g.config g.run g.limit (reverse stood) told.place c (history_of stood last.1.later).legal (subst (λ l. get_elem? l told.place ≡ some (Entered c)) (sym (reverse-reverse stood)) old) in omega arith))
-                (λ (after : length stood ≤ told.place). after)
-                (cases_lt told.place (length stood)) in
+          (λ (before : told.place < length stood). absurd
+          (let entered = at_prefix visited.closing.seen v.seen told.place (Entered c) visited.later told.entered in
+          let old = stood_before stood v.seen told.place (Entered c) last.1.later before entered in
+          let less = entered_low g.config g.run g.limit (reverse stood) told.place c (history_of stood last.1.later).legal (subst (λ l. get_elem? l told.place ≡ some (Entered c)) (sym (reverse-reverse stood)) old) in omega arith))
+          (λ (after : length stood ≤ told.place). after)
+          (cases_lt told.place (length stood)) in
           let below = at_below visited.closing.seen told.place (Entered c) told.entered in
           let p : IsPrefix stood visited.closing.seen = prefix_shorter stood visited.closing.seen v.seen last.1.later visited.later (omega arith) in
           let back = reverse-reverse visited.closing.seen in
           let is_late_ : is_late c visited.closing.seen ≡ true = late_behind stood last.1.closed.shut (reverse visited.closing.seen) c told.place (subst (IsPrefix stood) (sym back) p) far
-                (subst (λ l. get_elem? l told.place ≡ some (Entered c)) (sym back) told.entered)
-                (λ z at'. entered_once g visited.closing.seen z told.place c visited.served.runs (subst (λ l. get_elem? l z ≡ some (Entered c)) back at') told.entered) in
+          (subst (λ l. get_elem? l told.place ≡ some (Entered c)) (sym back) told.entered)
+          (λ z at'. entered_once g visited.closing.seen z told.place c visited.served.runs (subst (λ l. get_elem? l z ≡ some (Entered c)) back at') told.entered) in
           none_arrived (reverse visited.closing.seen) c x size call (told.silent is_late_) (subst (λ l. get_elem? l x ≡ some (Arrive c size call)) (sym back) stands))
 
   answered : (k c : ℕ) → k < arrivals (reverse log) → conn_of (reverse log) k ≡ Some c → 0 < c → decided g.config g.run (reverse log) k ≡ true

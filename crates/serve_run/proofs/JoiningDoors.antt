@@ -1,30 +1,27 @@
 -- A door's seat is joined: the run's seat holds one tour more.
-use Rattle.std.proofs.Common.{◌≡◌, ℕ, ◌+◌, ◌≤◌, ◌<◌, List, [], ◌∷◌, ◌++◌, length, reverse, Option, Some, None, refl, sym, ap, ◌∙◌, subst, inl, inr, ◌⊎◌, ⊎_elim, arith}
-use mathlib.Core.Option.{some}
-use lib.ListN.{get_elem?}
+use Rattle.std.proofs.Common.{◌≡◌, ℕ, ◌+◌, List, [], ◌∷◌, ◌++◌, Option, Some, None, ap, ◌∙◌, subst, ⊎_elim, arith}
 use Rattle.outside.specs.Accepting.{Standing}
 use Rattle.outside.specs.Link.{Shown}
 use Rattle.poa_base.specs.declared.Entry.{Entry}
 use Rattle.poa_base.specs.declared.Entry.TheVariants.{Entered, Arrive, Filled, Left, Collect, Admit, Tried, Incarnated, Run, Done, TakeOut, Etherealized, Abandon}
-use Rattle.poa_shared.specs.Seen.{Owns, past}
 use Rattle.run_history.specs.declared.givens.Givens.{Givens}
 use Rattle.run_history.specs.Owners.{owner_of, worker_of}
 use Rattle.run_tally.specs.declared.full.Full.{Full}
 use Rattle.seat_lock.specs.declared.view.View.{View}
-use Rattle.seat_lock.specs.Histories.{times, Belongs, In, IsPrefix}
+use Rattle.seat_lock.specs.Histories.{times, Belongs, In}
 use Rattle.seat_lock.specs.Steps.{Unites}
 use Rattle.seat_lock.proofs.Calls.{at_prefix}
 use Rattle.seat_lock.proofs.Histories.{prefix_self, prefix_through}
 use Rattle.seat_lock.proofs.Totals.{one_at, times_both, times_here}
 use Rattle.session_laws.specs.declared.peer.Peer.{Peer}
 use Rattle.serve_pieces.specs.Doors.{DoorServed}
-use Rattle.serve_pieces.specs.Ledgers.{IsExplained, IsOfConns, IsOfWorkers, Ledger}
-use Rattle.serve_pieces.specs.Visits.{Visit, conns_of}
+use Rattle.serve_pieces.specs.Ledgers.{IsOfConns, IsOfWorkers}
+use Rattle.serve_pieces.specs.Visits.{conns_of}
 use Rattle.serve_pieces.specs.declared.ran.PieceEnd.{PieceEnd}
 use Rattle.serve_pieces.proofs.Growing.{each_later, Adds}
 use Rattle.serve_pieces.proofs.Places.{in_either, in_first, in_second, stood_before}
 use Rattle.serve_run.specs.Tours.{Tour, Shift, conns_in, workers_in, EachToured, EachWorked, HasToured, HasWorked, IsWorkersAt}
-use Rattle.serve_run.specs.Holding.{Holds, IsOwn}
+use Rattle.serve_run.specs.Holding.{Holds}
 use Rattle.serve_run.proofs.Uniting.{adds_one, adds_other, ledger_both, one_apart, other_apart}
 
 -- an entry of a connection is none of a worker
@@ -115,7 +112,7 @@ module _ {A L : Type 0} (g : Givens) (shown : L → Shown) (standing : A → Opt
         (0 ∷ conns_in (tour ∷ tours)) (workers_in shifts) ledger_count (λ w i. i) (λ w i. absurd (omega arith));
     tours_are = (
       toured_later u j v.mine adds' g shown standing faults tour apart'
-      (record { each = served.attends.each; passes = served.passes; refused_is = served.refused_is; later = prefix_self u.seen; cause = served.cause }),
+          (record { each = served.attends.each; passes = served.passes; refused_is = served.refused_is; later = prefix_self u.seen; cause = served.cause }),
       each_toured v j u.mine adds g shown standing faults tours (λ c i. apart c (in_second c (0 ∷ []) (conns_in tours) i)) holds.tours_are,
     );
     shifts_are = each_worked v j u.mine adds g shifts (λ w i. no_turns w) holds.shifts_are;

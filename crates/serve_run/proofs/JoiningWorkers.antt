@@ -1,9 +1,7 @@
 -- A worker's seat is joined: the run's seat holds one shift more.
-use Rattle.std.proofs.Common.{◌≡◌, ℕ, ◌+◌, ◌≤◌, ◌<◌, List, [], ◌∷◌, ◌++◌, length, reverse, Option, Some, None, refl, sym, ap, ◌∙◌, subst, inl, inr, ◌⊎◌, ⊎_elim, arith}
+use Rattle.std.proofs.Common.{◌≡◌, ℕ, List, [], ◌∷◌, ◌++◌, Option, Some, sym, ap, ◌∙◌, subst, inr, ⊎_elim, arith}
 use mathlib.Core.Logic.{dite}
-use mathlib.Core.Option.{some}
 use native.Mathlib.Decide.{ℕ_discrete}
-use lib.ListN.{get_elem?}
 use Rattle.outside.specs.Accepting.{Standing}
 use Rattle.outside.specs.Link.{Shown}
 use Rattle.poa_base.specs.declared.Entry.{Entry}
@@ -12,16 +10,15 @@ use Rattle.poa_worker.specs.declared.work_end.WorkEnd.TheVariants.{Closed}
 use Rattle.run_history.specs.declared.givens.Givens.{Givens}
 use Rattle.run_history.specs.Owners.{owner_of, worker_of}
 use Rattle.seat_lock.specs.declared.view.View.{View}
-use Rattle.seat_lock.specs.Histories.{times, Belongs, In, IsPrefix}
+use Rattle.seat_lock.specs.Histories.{Belongs, In}
 use Rattle.seat_lock.specs.Steps.{Unites}
 use Rattle.seat_lock.proofs.Calls.{at_prefix}
-use Rattle.seat_lock.proofs.Histories.{prefix_self}
 use Rattle.seat_lock.proofs.Totals.{one_at, times_else, times_here}
-use Rattle.serve_pieces.specs.Ledgers.{IsExplained, IsOfConns, IsOfWorkers, Ledger}
+use Rattle.serve_pieces.specs.Ledgers.{IsOfConns, IsOfWorkers, Ledger}
 use Rattle.serve_pieces.proofs.Growing.{Adds}
 use Rattle.serve_pieces.proofs.Places.{in_either, in_first, in_second, stood_before}
-use Rattle.serve_run.specs.Tours.{Tour, Shift, conns_in, workers_in, EachToured, EachWorked, HasToured, HasWorked, IsWorkersAt}
-use Rattle.serve_run.specs.Holding.{Holds, IsLast, IsOwn}
+use Rattle.serve_run.specs.Tours.{Tour, Shift, conns_in, workers_in, IsWorkersAt}
+use Rattle.serve_run.specs.Holding.{Holds, IsLast}
 use Rattle.serve_run.proofs.Closing.{belongs_before}
 use Rattle.serve_run.proofs.Uniting.{adds_other, ledger_both, other_apart}
 use Rattle.serve_run.proofs.JoiningDoors.{each_toured, each_worked, no_worker}

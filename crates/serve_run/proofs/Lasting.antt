@@ -1,6 +1,6 @@
 -- What is said of a whole history, by where its entries stand.
-use Rattle.std.proofs.Common.{◌≡◌, ℕ, zero, suc, ◌+◌, ◌≤◌, ◌<◌, Bool, true, false, ◌||◌, ◌==◌, if◌then◌else◌, List, [], ◌∷◌, ◌++◌, length, reverse, Option, Some, None, refl, sym, ap, ◌∙◌, subst, inl, inr, ◌⊎◌, ⊎_elim, arith}
-use Rattle.std.proofs.lemmas.Bool.{cond_both, eq-eqb, eqb-true, ne_eqb}
+use Rattle.std.proofs.Common.{◌≡◌, ℕ, ◌≤◌, true, ◌==◌, if◌then◌else◌, List, [], ◌∷◌, ◌++◌, length, reverse, Some, None, refl, sym, ap, ◌∙◌, subst, ⊎_elim, arith}
+use Rattle.std.proofs.lemmas.Bool.{cond_both, eq-eqb, ne_eqb}
 use Rattle.std.proofs.lemmas.List.{append_assoc, length-append, length-reverse, reverse-append, reverse-reverse}
 use mathlib.Core.List.{reverse-cons}
 use mathlib.Core.Logic.{dite}
@@ -12,14 +12,13 @@ use Rattle.poa_base.specs.declared.Entry.{Entry}
 use Rattle.poa_base.specs.declared.Entry.TheVariants.{Entered, Arrive, Filled, Left, Collect, Admit, Tried, Incarnated, Run, Done, TakeOut, Etherealized, Abandon}
 use Rattle.poa_history.specs.Arrivals.{arrivals, call_of, conn_of}
 use Rattle.poa_history.specs.Stages.{stage}
-use Rattle.poa_history.specs.declared.stage.Stage.TheVariants.{Free}
 use Rattle.poa_history.proofs.SettledKept.{or_second}
 use Rattle.poa_history.proofs.StagesFrom.{maker, stage_other}
 use Rattle.run_endings.specs.Closing.{HasNoTurn}
-use Rattle.run_history.specs.Owners.{owner_of, worker_of}
+use Rattle.run_history.specs.Owners.{worker_of}
 use Rattle.run_tally.specs.Leaving.{is_shut, is_shut_by}
 use Rattle.seat_lock.specs.Histories.{IsPrefix}
-use Rattle.seat_lock.proofs.Histories.{prefix_shorter, prefix_below}
+use Rattle.seat_lock.proofs.Histories.{prefix_shorter}
 use Rattle.seat_lock.proofs.Lists.{at_last, at_longer}
 use Rattle.seat_lock.proofs.Totals.{at_below}
 use Rattle.session_laws.specs.Hearing.{Heard}

@@ -8,6 +8,8 @@ pub mod Sessions
 pub mod Lasting
 pub mod Endings
 pub mod Opening
+pub mod Opened
 pub mod Touring
 pub mod Attended
 pub mod DoorEnds
+pub mod Finishing

@@ -1,5 +1,5 @@
 -- The run's own seat enters first, and says `shutdown` last.
-use Rattle.std.proofs.Common.{◌≡◌, ℕ, zero, suc, ◌+◌, ◌≤◌, ◌<◌, Bool, true, false, if◌then◌else◌, List, [], ◌∷◌, ◌++◌, length, reverse, Option, Some, None, Result, Ok, Err, refl, sym, ap, ◌∙◌, subst, inl, inr, ◌⊎◌, ⊎_elim, arith}
+use Rattle.std.proofs.Common.{◌≡◌, ℕ, suc, ◌≤◌, Bool, true, false, if◌then◌else◌, List, [], ◌∷◌, ◌++◌, length, reverse, Option, Some, None, Result, Ok, Err, refl, sym, ap, ◌∙◌, subst, inl, inr, ⊎_elim, arith}
 use Rattle.std.proofs.lemmas.List.{length-reverse, reverse-reverse}
 use mathlib.Core.Logic.{dite}
 use mathlib.Core.Option.{some}
@@ -11,8 +11,8 @@ use Rattle.poa_base.specs.declared.Call.TheVariants.{Line}
 use Rattle.poa_base.specs.declared.Command.TheVariants.{Shutdown}
 use Rattle.poa_base.specs.declared.Entry.{Entry}
 use Rattle.poa_base.specs.declared.Entry.TheVariants.{Entered, Arrive, Filled, Left}
-use Rattle.poa_core.specs.Answers.{Arrives, Enters}
-use Rattle.poa_core.specs.Life.{Life, life_at, with_entry}
+use Rattle.poa_core.specs.Answers.{Arrives}
+use Rattle.poa_core.specs.Life.{life_at, with_entry}
 use Rattle.poa_core.specs.declared.arrive_fault.ArriveFault.{ArriveFault}
 use Rattle.poa_core.specs.declared.arrive_fault.ArriveFault.TheVariants as arrive_fault
 use Rattle.poa_history.specs.Arrivals.{connections}
@@ -20,13 +20,12 @@ use Rattle.poa_history.specs.Legal.{is_filled}
 use Rattle.poa_shared.specs.Events.{Event}
 use Rattle.poa_shared.specs.Seen.{past, Turns, Holds as HoldsConnection}
 use Rattle.run_history.specs.declared.givens.Givens.{Givens}
-use Rattle.run_history.specs.Owners.{owner_of}
 use Rattle.seat_lock.specs.declared.view.View.{View}
-use Rattle.seat_lock.specs.Histories.{times, Belongs, In}
+use Rattle.seat_lock.specs.Histories.{times, In}
 use Rattle.seat_lock.proofs.Totals.{one_at, times_else, times_here}
 use Rattle.serve_pieces.proofs.Places.{in_first, newest_stands}
-use Rattle.serve_run.specs.Tours.{Tour, Shift, conns_in, workers_in}
-use Rattle.serve_run.specs.Holding.{Holds, IsLast, IsOwn, IsWord}
+use Rattle.serve_run.specs.Tours.{Tour, Shift, conns_in}
+use Rattle.serve_run.specs.Holding.{Holds, IsLast, IsWord}
 use Rattle.serve_run.proofs.JoiningWorkers.{here_in, one_in}
 use Rattle.serve_run.proofs.Staying.{holds_looked, holds_own, last_own}
 

@@ -1,5 +1,5 @@
 -- Which connections and sessions a run had, by the whole journal.
-use Rattle.std.proofs.Common.{◌≡◌, ℕ, zero, suc, ◌+◌, ◌≤◌, ◌<◌, Bool, true, false, List, [], ◌∷◌, ◌++◌, length, reverse, Option, Some, None, refl, sym, ap, ◌∙◌, subst, inl, inr, ◌⊎◌, ⊎_elim, arith}
+use Rattle.std.proofs.Common.{◌≡◌, ℕ, ◌≤◌, ◌<◌, Bool, true, false, List, [], ◌∷◌, ◌++◌, length, reverse, Option, Some, None, refl, sym, ap, ◌∙◌, subst, ⊎_elim, arith}
 use Rattle.std.specs.Prelude.{MatchOption}
 use Rattle.std.proofs.lemmas.Bool.{true≢false}
 use Rattle.std.proofs.lemmas.List.{append_assoc, length-append, reverse-reverse}
@@ -10,27 +10,24 @@ use lib.ListN.{get_elem?}
 use Rattle.outside.specs.Accepting.{Standing}
 use Rattle.outside.specs.Link.{Shown}
 use Rattle.poa_base.specs.declared.Entry.{Entry}
-use Rattle.poa_base.specs.declared.Entry.TheVariants.{Entered, Left, Abandon}
+use Rattle.poa_base.specs.declared.Entry.TheVariants.{Entered, Abandon}
 use Rattle.poa_base.specs.declared.SessionEnd.{SessionEnd}
-use Rattle.poa_history.specs.Arrivals.{connections}
 use Rattle.poa_history.specs.Stages.{is_abandoned}
 use Rattle.poa_session.specs.Served.{RefusedAs, ServedAs}
 use Rattle.run_history.specs.declared.givens.Givens.{Givens}
 use Rattle.run_history.specs.Owners.{owner_of, worker_of, HasNone}
-use Rattle.run_history.specs.Runs.{IsHistory, IsLog}
+use Rattle.run_history.specs.Runs.{IsLog}
 use Rattle.seat_lock.specs.declared.view.View.{View}
-use Rattle.seat_lock.specs.Histories.{times, Belongs, In, IsPrefix}
-use Rattle.seat_lock.proofs.Calls.{at_prefix}
-use Rattle.seat_lock.proofs.Histories.{prefix_through}
+use Rattle.seat_lock.specs.Histories.{Belongs, In, IsPrefix}
 use Rattle.seat_lock.proofs.Totals.{at_below, one_at, times_both, times_here}
 use Rattle.seat_lock.proofs.Lists.{at_last, at_longer}
 use Rattle.session_laws.specs.declared.peer.Peer.{Peer}
 use Rattle.session_laws.specs.Sessions.{Session}
-use Rattle.serve_pieces.specs.Ledgers.{IsOfConns, IsOfWorkers, Ledger}
-use Rattle.serve_pieces.specs.Visits.{Visit, Visited, EachVisited, conns_of}
+use Rattle.serve_pieces.specs.Ledgers.{IsOfConns, IsOfWorkers}
+use Rattle.serve_pieces.specs.Visits.{Visit, Visited, EachVisited}
 use Rattle.serve_pieces.proofs.Entering.{entered_low}
-use Rattle.serve_pieces.proofs.Places.{in_either, in_first, in_second, stood_before}
-use Rattle.serve_run.specs.Tours.{Tour, Shift, conns_in, workers_in, EachToured, EachWorked, HasWorked, IsWorkersAt}
+use Rattle.serve_pieces.proofs.Places.{in_either, in_second, stood_before}
+use Rattle.serve_run.specs.Tours.{Tour, Shift, conns_in, workers_in, EachToured, EachWorked, HasWorked}
 use Rattle.serve_run.specs.Holding.{Holds}
 use Rattle.serve_run.specs.Served.{AreConnections, EachDoor, EachSession, IsKept, IsSession, IsTurnedAway}
 use Rattle.serve_run.proofs.JoiningDoors.{no_worker}
@@ -115,7 +112,7 @@ module _ {A L : Type 0} (g : Givens) (shown : L → Shown) (standing : A → Opt
           let s = by_shift w at.0 (Abandon w) there refl in
           let stood : get_elem? s.0.stood at.0 ≡ some (Abandon w) = stood_before s.0.stood v.seen at.0 (Abandon w) s.2.later s.3 (in_seen at.0 (Abandon w) there) in
           let gave : is_abandoned (reverse s.0.stood) s.0.worker ≡ true = stands_abandoned (reverse s.0.stood) s.0.worker at.0
-              (subst (λ l. get_elem? l at.0 ≡ some (Abandon s.0.worker)) (sym (reverse-reverse s.0.stood)) (subst (λ k. get_elem? s.0.stood at.0 ≡ some (Abandon k)) (sym s.1) stood)) in
+          (subst (λ l. get_elem? l at.0 ≡ some (Abandon s.0.worker)) (sym (reverse-reverse s.0.stood)) (subst (λ k. get_elem? s.0.stood at.0 ≡ some (Abandon k)) (sym s.1) stood)) in
           true≢false (sym gave ∙ s.2.closed.going))
 
   -- the connections of the doors are those of the journal but the first
@@ -143,8 +140,8 @@ module _ {A L : Type 0} (g : Givens) (shown : L → Shown) (standing : A → Opt
     session_is peer x visited c is opening closing later quiet told =
         let grown : log ≡ closing.seen ++ later.0 = is_whole.seen ∙ later.1 in
         let none : HasNone c later.0 = none_after c closing.seen later.0 (λ k far b.
-            (let b' : Belongs owner_of v.seen k c = subst (λ l. Belongs owner_of l k c) (sym later.1) b in
-            let low = quiet k (is_whole.all k (at_below v.seen k b'.0 b'.1)) b' in omega arith)) in
+        (let b' : Belongs owner_of v.seen k c = subst (λ l. Belongs owner_of l k c) (sym later.1) b in
+        let low = quiet k (is_whole.all k (at_below v.seen k b'.0 b'.1)) b' in omega arith)) in
         record {
           text = told.text;
           out = told.out;

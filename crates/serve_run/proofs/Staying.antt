@@ -1,26 +1,23 @@
 -- The run's own seat sees more, or makes an entry of its own connection.
-use Rattle.std.proofs.Common.{◌≡◌, ℕ, ◌+◌, ◌≤◌, ◌<◌, List, [], ◌∷◌, ◌++◌, length, reverse, Option, Some, None, refl, sym, ap, ◌∙◌, subst, inl, inr, ◌⊎◌, ⊎_elim, arith}
-use Rattle.std.proofs.lemmas.List.{append-nil, length-append, length-reverse, reverse-append, reverse-reverse}
+use Rattle.std.proofs.Common.{◌≡◌, ℕ, ◌≤◌, List, [], ◌∷◌, ◌++◌, length, reverse, Option, Some, None, sym, ap, ◌∙◌, subst, inl, inr, ⊎_elim, arith}
+use Rattle.std.proofs.lemmas.List.{append-nil, length-reverse, reverse-append, reverse-reverse}
 use mathlib.Core.List.{reverse-cons}
 use mathlib.Core.Option.{some}
 use lib.ListN.{get_elem?}
 use Rattle.outside.specs.Accepting.{Standing}
 use Rattle.outside.specs.Link.{Shown}
 use Rattle.poa_base.specs.declared.Entry.{Entry}
-use Rattle.poa_base.specs.declared.Entry.TheVariants.{Entered}
-use Rattle.poa_shared.specs.Seen.{past, Owns, Turns}
+use Rattle.poa_shared.specs.Seen.{past, Turns}
 use Rattle.run_history.specs.declared.givens.Givens.{Givens}
 use Rattle.run_history.specs.Owners.{owner_of, worker_of}
 use Rattle.seat_lock.specs.declared.view.View.{View}
-use Rattle.seat_lock.specs.Histories.{times, Belongs, In, IsClosed, IsPrefix}
-use Rattle.seat_lock.proofs.Calls.{at_prefix}
+use Rattle.seat_lock.specs.Histories.{Belongs, In, IsClosed, IsPrefix}
 use Rattle.seat_lock.proofs.Histories.{prefix_below, prefix_longer}
 use Rattle.seat_lock.proofs.Lists.{at_last}
 use Rattle.seat_lock.proofs.Totals.{in_added, one_at, times_here}
-use Rattle.serve_pieces.specs.Ledgers.{IsExplained, Ledger}
 use Rattle.serve_pieces.proofs.Growing.{adds_behind, explained_more, owns_later, Adds}
-use Rattle.serve_pieces.proofs.Places.{in_first, in_second, stood_before}
-use Rattle.serve_run.specs.Tours.{Tour, Shift, conns_in, workers_in, EachToured, EachWorked, IsWorkersAt}
+use Rattle.serve_pieces.proofs.Places.{in_first, stood_before}
+use Rattle.serve_run.specs.Tours.{Tour, Shift, conns_in, workers_in, EachToured, IsWorkersAt}
 use Rattle.serve_run.specs.Holding.{AreBefore, Holds, IsLast, IsOwn}
 use Rattle.serve_run.proofs.Closing.{belongs_before, closed_longer}
 use Rattle.serve_run.proofs.JoiningDoors.{each_toured, each_worked, no_worker}
@@ -29,7 +26,7 @@ use Rattle.serve_run.proofs.JoiningWorkers.{here_in}
 some_pair : (k place : ℕ) (e d : Entry) → k ≡ place → e ≡ d → ◌≡◌ {A = Option (ℕ × Entry)} (Some (k, e)) (Some (place, d))
 some_pair k place e d p q = λ i. Some (p i, q i)
 
-place_of : (p q : ℕ × Entry) → Some p ≡ Some q → p.0 ≡ q.0
+pub place_of : (p q : ℕ × Entry) → Some p ≡ Some q → p.0 ≡ q.0
 place_of p q same = (let e : p ≡ q = cc in ap (λ r. r.0) e)
 
 module _ {A L : Type 0} (g : Givens) (shown : L → Shown) (standing : A → Option (Standing L)) (faults : A → ℕ) (tours : List (Tour A L)) (shifts : List Shift) where

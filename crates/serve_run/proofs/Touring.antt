@@ -1,34 +1,30 @@
 -- One door more is served, or isn't started.
-use Rattle.std.proofs.Common.{◌≡◌, ℕ, ◌+◌, ◌≤◌, ◌<◌, Bool, true, false, ◌||◌, List, [], ◌∷◌, ◌++◌, length, reverse, Option, Some, None, refl, sym, ap, ap₂, ◌∙◌, subst, arith}
+use Rattle.std.proofs.Common.{◌≡◌, ℕ, ◌+◌, Bool, true, false, ◌||◌, List, [], ◌∷◌, ◌++◌, length, Option, Some, None, refl, sym, ap, ap₂, ◌∙◌, subst, arith}
 use Rattle.std.proofs.lemmas.List.{append-nil}
 use Rattle.std.specs.Option.{IsSome}
 use Rattle.outside.specs.Accepting.{Standing}
 use Rattle.outside.specs.Link.{Shown}
 use Rattle.poa_base.specs.declared.Entry.{Entry}
-use Rattle.poa_core.specs.Life.{life_at}
-use Rattle.poa_shared.specs.Seen.{past, Holds as HoldsConnection}
 use Rattle.run_history.specs.declared.givens.Givens.{Givens}
 use Rattle.run_tally.specs.declared.full.Full.{Full}
 use Rattle.seat_lock.specs.declared.view.View.{View}
 use Rattle.seat_lock.specs.Histories.{IsPrefix}
-use Rattle.seat_lock.proofs.Histories.{prefix_self}
 use Rattle.session_laws.specs.declared.peer.Peer.{Peer}
 use Rattle.session_laws.specs.declared.peer.Peer.TheVariants.{Client}
 use Rattle.serve_pieces.specs.Doors.{DoorKept, DoorServed}
 use Rattle.serve_pieces.specs.Refusals.{earlier}
 use Rattle.serve_pieces.specs.declared.ran.PieceEnd.{PieceEnd}
-use Rattle.serve_pieces.specs.declared.ran.Ran.{Ran}
 use Rattle.serve_pieces.specs.declared.task.Task.{Task}
-use Rattle.serve_run.specs.Holding.{Holds, IsLast, IsWord}
-use Rattle.serve_run.specs.Lanes.{AreOf, AreServed, LanesServed, closed_doors, served_doors}
-use Rattle.serve_run.specs.Outcomes.{any_failed, good, is_failed, least_in, short_of, with_door}
+use Rattle.serve_run.specs.Holding.{Holds}
+use Rattle.serve_run.specs.Lanes.{AreServed, LanesServed}
+use Rattle.serve_run.specs.Outcomes.{good, is_failed, short_of, with_door}
 use Rattle.serve_run.specs.Shutting.{Says}
 use Rattle.serve_run.specs.Starting.{IsJoined, IsKept, IsSameSeat, task_door}
-use Rattle.serve_run.specs.Tours.{Tour, Shift, conns_in}
+use Rattle.serve_run.specs.Tours.{Tour, Shift}
 use Rattle.serve_run.specs.declared.outcome.Outcome.{Outcome}
 use Rattle.serve_run.specs.declared.outcome.Want.{Want}
 use Rattle.serve_run.proofs.JoiningDoors.{holds_door}
-use Rattle.serve_run.proofs.Opening.{connection_held, said, IsSaid}
+use Rattle.serve_run.proofs.Opening.{said, IsSaid}
 use Rattle.serve_run.proofs.Staying.{holds_looked, holds_same}
 
 empty : {X : Type 0} (l : List X) → length l ≡ 0 → l ≡ []

@@ -1,9 +1,7 @@
 -- Two seats are joined. What one of them made of its connections the other didn't touch.
-use Rattle.std.proofs.Common.{◌≡◌, ℕ, ◌+◌, ◌≤◌, ◌<◌, List, [], ◌∷◌, ◌++◌, length, Option, Some, None, refl, sym, ap, ◌∙◌, subst, inl, inr, ◌⊎◌, ⊎_elim, arith}
+use Rattle.std.proofs.Common.{◌≡◌, ℕ, ◌+◌, ◌<◌, List, ◌++◌, length, refl, sym, subst, inl, inr, ⊎_elim, arith}
 use mathlib.Core.Logic.{dite}
-use mathlib.Core.Option.{some}
 use native.Mathlib.Decide.{ℕ_discrete}
-use lib.ListN.{get_elem?}
 use Rattle.poa_base.specs.declared.Entry.{Entry}
 use Rattle.poa_base.specs.declared.Entry.TheVariants.{Entered}
 use Rattle.poa_shared.specs.Seen.{Owns}
@@ -14,11 +12,10 @@ use Rattle.seat_lock.specs.Histories.{times, Belongs, In, IsClosed, IsPrefix, en
 use Rattle.seat_lock.specs.Steps.{Unites}
 use Rattle.seat_lock.proofs.Calls.{at_prefix}
 use Rattle.seat_lock.proofs.Histories.{closed_both, prefix_below}
-use Rattle.seat_lock.proofs.Totals.{at_below}
-use Rattle.serve_pieces.specs.Ledgers.{IsExplained, Ledger}
+use Rattle.serve_pieces.specs.Ledgers.{Ledger}
 use Rattle.serve_pieces.proofs.Growing.{explained_more, owns_later, Adds}
 use Rattle.serve_pieces.proofs.Places.{in_either, in_first, in_second}
-use Rattle.serve_run.proofs.Closing.{belongs_before, closed_longer, entering_same}
+use Rattle.serve_run.proofs.Closing.{closed_longer}
 
 -- one of the two seats, and the place at which a connection of it entered
 module _ (v j : View Givens Entry) (grows : IsPrefix v.seen j.seen) (closed : IsClosed owner_of v.seen v.mine) (within : (x : ℕ) → In x v.mine → x < length v.seen) where

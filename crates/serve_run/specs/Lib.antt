@@ -6,4 +6,5 @@ pub mod Starting
 pub mod Shutting
 pub mod Lanes
 pub mod Attending
+pub mod Opened
 pub mod Running

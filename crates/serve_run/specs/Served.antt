@@ -1,5 +1,5 @@
 -- What a run of the server comes to, read on the journal of the core that is given back. A place is an index into the journal.
-use Rattle.std.specs.Prelude.{◌≡◌, ℕ, ◌<◌, ◌≤◌, ◌⊎◌, Bool, true, false, not, ◌&&◌, ◌||◌, List, [], ◌∷◌, ◌++◌, length, reverse, Option, Some, None, IfSome, MatchOption}
+use Rattle.std.specs.Prelude.{◌≡◌, ℕ, ◌<◌, ◌≤◌, ◌⊎◌, Bool, true, false, not, ◌&&◌, ◌||◌, List, [], ◌∷◌, ◌++◌, reverse, Option, Some, IfSome, MatchOption}
 use mathlib.Core.Option.{some}
 use lib.ListN.{get_elem?}
 use Rattle.outside.specs.Accepting.{Standing}
@@ -8,7 +8,6 @@ use Rattle.outside.specs.Told.{IfTold}
 use Rattle.outside.specs.Link.{Shown, Moves}
 use Rattle.poa_base.specs.declared.Entry.{Entry}
 use Rattle.poa_base.specs.declared.Entry.TheVariants.{Admit, Left}
-use Rattle.poa_base.specs.declared.Session.{Session as Ending}
 use Rattle.poa_base.specs.declared.SessionEnd.{SessionEnd}
 use Rattle.poa_base.specs.declared.SessionEnd.TheVariants.{ReadFault, WriteFault}
 use Rattle.poa_history.specs.Arrivals.{arrivals, call_of, conn_of, connections}
@@ -29,7 +28,7 @@ use Rattle.session_laws.specs.Sessions.{Cause, Session}
 use Rattle.serve_pieces.specs.Visits.{Visit, Passes}
 use Rattle.serve_pieces.specs.declared.ran.PieceEnd.TheVariants.{DoorFailed}
 use Rattle.serve_run.specs.Holding.{IsOwn, IsWord}
-use Rattle.serve_run.specs.Tours.{Tour, conns_in}
+use Rattle.serve_run.specs.Tours.{Tour}
 
 -- the connection's session by the whole journal, with its bytes of this call, and why it ended by what stood as it left
 pub record IsSession (g : Givens) (peer : Peer) (log : List Entry) (a b : Shown) (c : ℕ) (end : SessionEnd) : Type 0 where

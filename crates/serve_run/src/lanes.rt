@@ -51,8 +51,7 @@ where
     };
     match start::<T, R, A, G>(rt, alloc, shared, seat, crew, Task::Lane(lane)) {
         Ok(ticket) => {
-            let outcome =
-                serve_lanes::<T, R, A, G>(rt, alloc, shared, seat, crew, staff, lanes);
+            let outcome = serve_lanes::<T, R, A, G>(rt, alloc, shared, seat, crew, staff, lanes);
             let joined = join(shared, seat, crew, ticket);
             lanes.push_reserved(door_back(joined.door));
             outcome.with_door(joined.refused, &joined.end)

@@ -6,6 +6,7 @@ mod doors;
 mod joining;
 mod lanes;
 mod outcome;
+mod running;
 mod serving;
 mod shutting;
 mod starting;
@@ -13,4 +14,4 @@ mod working;
 
 pub use doors::Doors;
 pub use outcome::{Outcome, Want};
-pub use working::serve_workers;
+pub use running::{Run, Served, serve_core};

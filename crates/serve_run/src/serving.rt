@@ -50,8 +50,9 @@ where
     let Doors { admin, mut lanes } = doors;
     match start::<T, R, A, G>(rt, alloc, shared, seat, crew, Task::Admin(admin)) {
         Ok(ticket) => {
-            let outcome =
-                serve_lanes::<T, R, A, G>(rt, alloc, shared, seat, crew, staff, &mut lanes);
+            let outcome = serve_lanes::<T, R, A, G>(
+                rt, alloc, shared, seat, crew, staff, &mut lanes,
+            );
             let joined = join(shared, seat, crew, ticket);
             let admin = door_back(joined.door);
             (
@@ -95,8 +96,7 @@ where
     ensures given { HasGivens (view seat.new) }
     ensures served { (g : Givens) → (view seat.old).givens ≡ Some g → AllServed g A.Link.shown A.standing A.faults 0 doors result.0 result.1 (view seat.old) (view seat.new) }
 {
-    let (doors, outcome) =
-        serve_doors::<T, R, A, G>(rt, alloc, shared, seat, crew, staff, doors);
+    let (doors, outcome) = serve_doors::<T, R, A, G>(rt, alloc, shared, seat, crew, staff, doors);
     if outcome.short.is_some() {
         return (doors, outcome);
     }

@@ -67,7 +67,11 @@ where
     match crew.start(piece) {
         Ok(ticket) => Ok(ticket),
         Err(piece) => {
-            let Piece { seat: own, task, .. } = piece;
+            let Piece {
+                seat: own,
+                task,
+                ..
+            } = piece;
             shared.join(seat, own);
             Err(Unstarted {
                 task,

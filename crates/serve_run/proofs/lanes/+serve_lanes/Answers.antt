@@ -1,17 +1,10 @@
-use Rattle.std.proofs.Common.{◌≡◌, ◌++◌, ◌∷◌, [], rules, arith, length, refl, sym, ap, ap₂, ◌∙◌, subst, Some, None, false}
-use Rattle.std.proofs.lemmas.List.{append-nil}
-use Rattle.poa_base.specs.declared.Entry.{Entry}
-use Rattle.run_history.specs.declared.givens.Givens.{Givens}
+use Rattle.std.proofs.Common.{◌++◌, ◌∷◌, [], rules, refl, sym, ap, ◌∙◌, subst, None}
 use Rattle.seat_lock.specs.Seats.{view}
-use Rattle.seat_lock.specs.declared.view.View.{View}
-use Rattle.serve_pieces.specs.Doors.{DoorKept}
 use Rattle.serve_pieces.specs.declared.task.Task.TheVariants.{Lane}
 use Rattle.serve_pieces.specs.Promises.{Keeps}
-use Rattle.session_laws.specs.declared.peer.Peer.TheVariants.{Client}
 use Rattle.serve_run.specs.Lanes.{LanesServed}
-use Rattle.serve_run.specs.Outcomes.{short_of, with_door}
 use Rattle.serve_run.proofs.Opening.{connection_held}
-use Rattle.serve_run.proofs.Touring.{back_is, holds_kept, lanes_more, no_lanes, short_lanes, some_door, some_same}
+use Rattle.serve_run.proofs.Touring.{holds_kept, lanes_more, no_lanes, short_lanes, some_door, some_same}
 use Rattle.serve_run.proofs.lanes.+serve_lanes.Goals as goal
 
 pub returns-in_default-clause-served : goal.returns-in_default-clause-served

@@ -1,4 +1,4 @@
-use Rattle.std.proofs.Common.{◌≡◌, [], refl, rules, sym, ap, ◌∙◌, subst, Some, None}
+use Rattle.std.proofs.Common.{sym, ◌∙◌, subst}
 use Rattle.seat_lock.specs.Seats.{view}
 use Rattle.serve_run.specs.Attending.{AllServed}
 use Rattle.serve_run.proofs.Attended.{all_short, all_shut, conn_held, none_short, some_short}

@@ -1,4 +1,4 @@
-use Rattle.std.proofs.Common.{◌≡◌, [], refl, rules, sym, ap, ◌∙◌, subst, Some, None}
+use Rattle.std.proofs.Common.{[], refl, sym, ap, ◌∙◌, subst, None}
 use Rattle.seat_lock.specs.Seats.{view}
 use Rattle.serve_pieces.specs.declared.task.Task.TheVariants.{Admin}
 use Rattle.serve_pieces.specs.Promises.{Keeps}

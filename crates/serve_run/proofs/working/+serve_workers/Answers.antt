@@ -1,10 +1,9 @@
-use Rattle.std.proofs.Common.{◌≡◌, ◌+◌, ◌-◌, [], ℕ, refl, rules, arith, sym, ap, ◌∙◌, subst, Some, None}
+use Rattle.std.proofs.Common.{◌≡◌, ◌+◌, ◌-◌, [], refl, arith, sym, ap, ◌∙◌, subst, None}
 use Rattle.seat_lock.specs.Seats.{view}
 use Rattle.serve_pieces.specs.Promises.{Keeps}
 use Rattle.serve_run.specs.Attending.{AllServed}
 use Rattle.serve_run.specs.Outcomes.{is_loss, with_loss}
 use Rattle.serve_run.specs.declared.outcome.Want.TheVariants.{Memory}
-use Rattle.serve_run.specs.Starting.{IsKept}
 use Rattle.serve_run.proofs.Attended.{workers_more, workers_short}
 use Rattle.serve_run.proofs.Opening.{connection_held}
 use Rattle.serve_run.proofs.Touring.{holds_kept, kept_itself, short_served}
