@@ -13,6 +13,7 @@ const MOST_DIGITS: usize = 10;
 /// The number of one to ten digits within these bounds that a word is.
 pub(crate) fn number_in(word: &str, least: u32, most: u32) -> Result<u32, WordsFault>
     ensures ok { IfOk result (λ n. spec.number_in least most word.now ≡ Some n) }
+    ensures within { IfOk result (λ n. (least ≤ n) × (n ≤ most)) }
     ensures bad { result ≡ Err BadWords → spec.number_in least most word.now ≡ None }
 {
     let digits = word.as_bytes();

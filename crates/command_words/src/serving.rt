@@ -1,5 +1,5 @@
 //! The words of `serve`.
-ghost use Rattle.std.specs.Prelude.{◌≡◌, IfOk, Err, Some, None, map, string_bytes};
+ghost use Rattle.std.specs.Prelude.{◌≡◌, ◌≤◌, IfOk, Err, Some, None, map, string_bytes};
 ghost use Rattle.command_words.specs.declared.fault.WordsFault.TheVariants.{BadWords};
 ghost use Rattle.command_words.specs.Serving.{seen_serve, seen_setting, serve_in, serve_of};
 
@@ -19,6 +19,8 @@ const MOST_WORKERS: u32 = 16;
 /// in any place, each at most once, as `--lanes 4` or `--lanes=4`. Behind a `--` all words are arguments.
 pub fn serve_words<'a>(alloc: Global, words: &'a [String]) -> Result<ServeWords<'a>, WordsFault>
     ensures ok { IfOk result (λ serve. serve_in words.now ≡ Some (seen_serve serve)) }
+    ensures lanes { IfOk result (λ serve. (1 ≤ serve.lanes) × (serve.lanes ≤ 64)) }
+    ensures workers { IfOk result (λ serve. (1 ≤ serve.workers) × (serve.workers ≤ 16)) }
     ensures bad { result ≡ Err BadWords → serve_in words.now ≡ None }
 {
     match words {
@@ -36,6 +38,8 @@ pub fn serve_words<'a>(alloc: Global, words: &'a [String]) -> Result<ServeWords<
 // The same of the settings that the words behind the first give.
 fn serve_by<'a>(settings: &[Setting<'a>]) -> Result<ServeWords<'a>, WordsFault>
     ensures ok { IfOk result (λ serve. serve_of (map seen_setting settings.now) ≡ Some (seen_serve serve)) }
+    ensures lanes { IfOk result (λ serve. (1 ≤ serve.lanes) × (serve.lanes ≤ 64)) }
+    ensures workers { IfOk result (λ serve. (1 ≤ serve.workers) × (serve.workers ≤ 16)) }
     ensures bad { result ≡ Err BadWords → serve_of (map seen_setting settings.now) ≡ None }
 {
     let file = required(settings, "")?;

@@ -2,10 +2,10 @@
 //! the server on the doors that it is handed, and puts the journal where the words ask for it.
 #![tactic(auto)]
 
+mod beginning;
 mod ending;
-mod journal;
+mod putting;
 mod run;
-mod running;
 mod served;
 
 pub use run::run_serve;
