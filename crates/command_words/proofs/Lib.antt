@@ -2,3 +2,6 @@ pub mod Walking
 pub mod Standing
 pub mod One
 pub mod Two
+pub mod Found
+pub mod Digits
+pub mod Noting

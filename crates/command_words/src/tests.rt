@@ -98,3 +98,169 @@ fn other_words_are_no_command(rt: HostRuntime) -> Result<(), Fail> {
     }
     Ok(())
 }
+
+// The run of a server that the words ask for, as a text.
+fn served(alloc: Global, words: &[&str]) -> Result<String, Fail> {
+    let mut owned = Vec::new(alloc);
+    for word in words {
+        owned.push(format!(in alloc; "{word}")?)?;
+    }
+    let serve = match serve_words(alloc, owned.as_slice()) {
+        Ok(serve) => serve,
+        Err(WordsFault::BadWords) => return Ok(format!(in alloc; "bad")?),
+        Err(WordsFault::WantMemory) => return Ok(format!(in alloc; "memory")?),
+    };
+    let ServeWords {
+        file,
+        lanes,
+        workers,
+        run,
+        journal,
+    } = serve;
+    let journal = journal.unwrap_or("nowhere");
+    Ok(format!(in alloc; "{file} {lanes} {workers} {run} {journal}")?)
+}
+
+#[test]
+fn the_words_of_serve_stand_in_any_order(rt: HostRuntime) -> Result<(), Fail> {
+    let alloc = rt.alloc();
+    let cases: [(&[&str], &str); 6] = [
+        (
+            &[
+                "serve",
+                "a",
+                "--lanes",
+                "16",
+                "--workers",
+                "4",
+                "--run",
+                "1",
+            ],
+            "a 16 4 1 nowhere",
+        ),
+        (
+            &[
+                "serve",
+                "--run=0",
+                "--workers=1",
+                "--lanes=1",
+                "a",
+                "--journal=j",
+            ],
+            "a 1 1 0 j",
+        ),
+        (
+            &[
+                "serve",
+                "--lanes=64",
+                "--run",
+                "4294967295",
+                "--workers",
+                "16",
+                "--",
+                "-a",
+            ],
+            "-a 64 16 4294967295 nowhere",
+        ),
+        (
+            &[
+                "serve",
+                "--lanes",
+                "0000000007",
+                "--journal",
+                "a=b",
+                "--run=1",
+                "--workers=2",
+                "f",
+            ],
+            "f 7 2 1 a=b",
+        ),
+        (
+            &["serve", "a", "--lanes=1", "--workers=1", "--run=1", "--"],
+            "a 1 1 1 nowhere",
+        ),
+        (
+            &[
+                "serve",
+                "a=b",
+                "--lanes=1",
+                "--workers=1",
+                "--run=1",
+                "--journal=a=b",
+            ],
+            "a=b 1 1 1 a=b",
+        ),
+    ];
+    for (words, wanted) in &cases {
+        let text = served(alloc, *words)?;
+        assert_eq!(rt; text.as_str(), *wanted);
+    }
+    Ok(())
+}
+
+#[test]
+fn other_words_start_no_server(rt: HostRuntime) -> Result<(), Fail> {
+    let alloc = rt.alloc();
+    // Behind a whole command, each of these spoils it.
+    let spoiling: [&[&str]; 12] = [
+        &["b"],
+        &["-"],
+        &[""],
+        &["--run=1"],
+        &["--journal"],
+        &["--journal="],
+        &["--journal", "-j"],
+        &["--journal=-j"],
+        &["--journal=j", "--journal=j"],
+        &["--limit=5"],
+        &["--state", "s"],
+        &["--", "--journal=j"],
+    ];
+    for more in &spoiling {
+        let mut words = Vec::new(alloc);
+        for word in &["serve", "a", "--lanes=1", "--workers=1", "--run=1"] {
+            words.push(*word)?;
+        }
+        for word in *more {
+            words.push(*word)?;
+        }
+        let text = served(alloc, words.as_slice())?;
+        assert_eq!(rt; text.as_str(), "bad");
+    }
+    let numbers: [(&str, &str, &str); 9] = [
+        ("0", "1", "1"),
+        ("65", "1", "1"),
+        ("1", "0", "1"),
+        ("1", "17", "1"),
+        ("1", "1", "4294967296"),
+        ("1", "1", "00000000001"),
+        ("+1", "1", "1"),
+        ("1", "1x", "1"),
+        ("1", "1", "99999999999999999999999"),
+    ];
+    for (lanes, workers, run) in &numbers {
+        let words = [
+            "serve",
+            "a",
+            "--lanes",
+            lanes,
+            "--workers",
+            workers,
+            "--run",
+            run,
+        ];
+        let text = served(alloc, &words)?;
+        assert_eq!(rt; text.as_str(), "bad");
+    }
+    let short: [&[&str]; 4] = [
+        &["serve", "--lanes=1", "--workers=1", "--run=1"],
+        &["serve", "a", "--workers=1", "--run=1"],
+        &["serve", "a", "--lanes=1", "--run=1"],
+        &["serve", "a", "--lanes=1", "--workers=1"],
+    ];
+    for words in &short {
+        let text = served(alloc, *words)?;
+        assert_eq!(rt; text.as_str(), "bad");
+    }
+    Ok(())
+}

@@ -18,7 +18,7 @@ pub(crate) fn are_arguments(words: &[String]) -> bool
 }
 
 // Whether the word is an argument, where `marked` says that `--` came before.
-fn is_argument(word: &str, marked: bool) -> bool
+pub(crate) fn is_argument(word: &str, marked: bool) -> bool
     ensures { result ≡ is_some (spec.argument marked word.now) }
 {
     match word.as_bytes() {

@@ -24,3 +24,4 @@ mod turns;
 pub use host::Host;
 pub use run::run_words;
 pub use status::Status;
+pub use taking::take_config;

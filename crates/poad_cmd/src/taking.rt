@@ -18,18 +18,15 @@ pub(crate) const CONFIG_LIMIT: u64 = 1 << 20;
 /// The bytes that a script has at most.
 const SCRIPT_LIMIT: u64 = 67_108_864;
 
-/// The configuration in a file, or the status with which the command ends.
-pub(crate) fn take_config<F: Files>(
-    alloc: Global,
-    name: &str,
-    files: &mut F,
-) -> Result<Config, Status>
+/// The configuration in a file, or the status with which a command ends that can't take it.
+pub fn take_config<F: Files>(alloc: Global, name: &str, files: &mut F) -> Result<Config, Status>
     ensures taken { TakesConfig name.now result (F.contents files.old) (F.contents files.new) }
     ensures rules { IfOk result KeepsRules }
     ensures contents { IfTold (F.contents files.old) (F.contents files.new) HoldsStill }
     ensures file_fault { HasCause (F.take_faults files.old) (F.take_faults files.new) (result ≡ Err Status.FileFault) }
     ensures no_file { HasCause (F.absents files.old) (F.absents files.new) (result ≡ Err Status.NoFile) }
     ensures too_long { HasCause (F.long_ones files.old) (F.long_ones files.new) (result ≡ Err Status.FileTooLong) }
+    ensures puts { F.put_faults files.new ≡ F.put_faults files.old }
 {
     match take(name, CONFIG_LIMIT, files) {
         Ok(content) => config_of(alloc, content.as_slice()),
@@ -62,6 +59,7 @@ pub(crate) fn take<F: Files>(name: &str, limit: u64, files: &mut F) -> Result<By
     ensures file_fault { HasCause (F.take_faults files.old) (F.take_faults files.new) (result ≡ Err Status.FileFault) }
     ensures no_file { HasCause (F.absents files.old) (F.absents files.new) (result ≡ Err Status.NoFile) }
     ensures too_long { HasCause (F.long_ones files.old) (F.long_ones files.new) (result ≡ Err Status.FileTooLong) }
+    ensures puts { F.put_faults files.new ≡ F.put_faults files.old }
 {
     match files.take(name, limit) {
         Taken::Bytes(content) => Ok(content),

@@ -1,0 +1,36 @@
+//! The values of settings.
+ghost use Rattle.std.specs.Prelude.{◌≡◌, IfOk, Err, Some, None, map, option_map};
+ghost use Rattle.command_words.specs.declared.fault.WordsFault.TheVariants.{BadWords};
+ghost use Rattle.command_words.specs.Serving.{only, seen_setting, values_of};
+ghost use Rattle.command_words.specs.Words.{at_most_one};
+
+use crate::fault::WordsFault;
+use crate::setting::Setting;
+
+/// The only value of this name.
+pub(crate) fn required<'a>(settings: &[Setting<'a>], name: &str) -> Result<&'a str, WordsFault>
+    ensures ok { IfOk result (λ value. only name.now (map seen_setting settings.now) ≡ Some value.now) }
+    ensures bad { result ≡ Err BadWords → only name.now (map seen_setting settings.now) ≡ None }
+{
+    optional(settings, name)?.ok_or(WordsFault::BadWords)
+}
+
+/// The only value of this name, if there is one.
+pub(crate) fn optional<'a>(
+    settings: &[Setting<'a>],
+    name: &str,
+) -> Result<Option<&'a str>, WordsFault>
+    ensures ok { IfOk result (λ value. at_most_one (Some (values_of name.now (map seen_setting settings.now))) ≡ Some (option_map (λ v. v.now) value)) }
+    ensures bad { result ≡ Err BadWords → at_most_one (Some (values_of name.now (map seen_setting settings.now))) ≡ None }
+{
+    let mut found: Option<&'a str> = None;
+    for setting in settings {
+        if setting.name == name {
+            if found.is_some() {
+                return Err(WordsFault::BadWords);
+            }
+            found = Some(setting.value);
+        }
+    }
+    Ok(found)
+}

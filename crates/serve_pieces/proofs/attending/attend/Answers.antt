@@ -1,0 +1,40 @@
+use Rattle.std.proofs.Common.{◌∙◌, sym}
+use Rattle.seat_lock.specs.Seats.{view}
+use Rattle.serve_pieces.proofs.Rounds.{rounds_end, rounds_looked, rounds_more, rounds_none, rounds_stop}
+use Rattle.serve_pieces.proofs.attending.attend.Goals as goal
+
+pub loop-init : goal.loop-init
+loop-init g c = record {
+  ends = (tt, tt);
+  seat = c.requires.seat;
+  rounds = λ k given. rounds_none k c.args.peer g.A.Link.Link.shown g.A.Acceptor.standing g.A.Acceptor.faults (view c.args.seat.now) c.args.door.now c.requires.fresh;
+}
+
+pub returns-in-Some-ending-clause-served : goal.returns-in-Some-ending-clause-served
+returns-in-Some-ending-clause-served g c = λ k given.
+    rounds_end k c.args.peer g.A.Link.Link.shown g.A.Acceptor.standing g.A.Acceptor.faults (view c.args.seat.now) c.args.door.now (view c.loop.seat) (view c.receive-received.new.seat) c.loop.door c.receive-received.new.door c.loop.refused c.noted-refused.result c.receive-received.result c.in-Some-ending.end
+    (c.loop.invariant.rounds k given)
+    (λ visits so_far. c.receive-received.ensures.received k (view c.args.seat.now) c.args.door.now visits given so_far)
+    c.noted-refused.ensures (sym c.ending.ensures ∙ c.in-Some-ending.is)
+
+pub returns-in-Some-stop_in-clause-served : goal.returns-in-Some-stop_in-clause-served
+returns-in-Some-stop_in-clause-served g c = λ k given.
+    rounds_stop k c.args.peer g.A.Link.Link.shown g.A.Acceptor.standing g.A.Acceptor.faults (view c.args.seat.now) c.args.door.now (view c.receive-received.new.seat) (view c.phase-phase.new.seat) c.receive-received.new.door c.noted-refused.result
+    (rounds_more k c.args.peer g.A.Link.Link.shown g.A.Acceptor.standing g.A.Acceptor.faults (view c.args.seat.now) c.args.door.now (view c.loop.seat) (view c.receive-received.new.seat) c.loop.door c.receive-received.new.door c.loop.refused c.noted-refused.result c.receive-received.result
+    (c.loop.invariant.rounds k given)
+    (λ visits so_far. c.receive-received.ensures.received k (view c.args.seat.now) c.args.door.now visits given so_far)
+    c.noted-refused.ensures (sym c.ending.ensures ∙ c.in_default.is))
+    given c.phase-phase.result c.phase-phase.ensures.phase c.in-Some-stop_in.end (sym c.stop_in.ensures ∙ c.in-Some-stop_in.is)
+
+pub loop-preserved : goal.loop-preserved
+loop-preserved g c = record {
+  ends = (tt, tt);
+  seat = c.phase-phase.ensures.seat;
+  rounds = λ k given.
+      rounds_looked k c.args.peer g.A.Link.Link.shown g.A.Acceptor.standing g.A.Acceptor.faults (view c.args.seat.now) c.args.door.now (view c.receive-received.new.seat) (view c.phase-phase.new.seat) c.receive-received.new.door c.noted-refused.result
+      (rounds_more k c.args.peer g.A.Link.Link.shown g.A.Acceptor.standing g.A.Acceptor.faults (view c.args.seat.now) c.args.door.now (view c.loop.seat) (view c.receive-received.new.seat) c.loop.door c.receive-received.new.door c.loop.refused c.noted-refused.result c.receive-received.result
+      (c.loop.invariant.rounds k given)
+      (λ visits so_far. c.receive-received.ensures.received k (view c.args.seat.now) c.args.door.now visits given so_far)
+      c.noted-refused.ensures (sym c.ending.ensures ∙ c.in_default.is))
+      given c.phase-phase.result c.phase-phase.ensures.phase;
+}

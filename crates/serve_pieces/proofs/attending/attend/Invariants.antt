@@ -1,0 +1,13 @@
+use Rattle.std.proofs.Common.{◌≡◌, Some}
+use Rattle.poa_shared.specs.Seats.{IsIdle}
+use Rattle.run_history.specs.declared.givens.Givens.{Givens}
+use Rattle.seat_lock.specs.Seats.{view}
+use Rattle.serve_pieces.proofs.Rounds.{Rounds}
+use Rattle.serve_pieces.proofs.attending.attend.Given as goal
+
+abbrev pub invariant-loop : goal.invariant-loop
+invariant-loop g l = record {
+  ends : (goal.iterator-loop g).can_next l.iterator' × (goal.iterator-loop g).is_finite l.iterator';
+  seat : IsIdle l.shared l.seat;
+  rounds : (k : Givens) → (view l.fn.seat).givens ≡ Some k → Rounds {A = g.row.A.Denot} {L = g.row.A-Link.Denot} k l.peer g.A.Link.Link.shown g.A.Acceptor.standing g.A.Acceptor.faults (view l.fn.seat) l.fn.door (view l.seat) l.door l.refused;
+}

@@ -1,0 +1,19 @@
+use Rattle.std.proofs.Common.{◌≡◌, refl, ◌∙◌}
+use Rattle.outside.specs.declared.accepting.Door.TheVariants as door
+use Rattle.seat_lock.specs.Seats.{view}
+use Rattle.serve_pieces.specs.Visits.{Visit}
+use Rattle.serve_pieces.proofs.Passing.{passed_on}
+use Rattle.serve_pieces.proofs.Serving.{attends_more}
+use Rattle.serve_pieces.proofs.receiving.receive.Goals as goal
+
+pub returns-in-Link-clause-received : goal.returns-in-Link-clause-received
+returns-in-Link-clause-received g c = λ k first closed visits given so_far.
+    let x : Visit g.row.A-Link.Denot = record { before = c.in-Link.link; after = c.serve-session.new.link; session = c.serve-session.result } in (
+      x,
+      refl,
+      record {
+        attends = attends_more k c.args.peer g.A.Link.Link.shown visits first (view c.args.seat.now) (view c.serve-session.new.seat) so_far.attends x (c.serve-session.ensures.served k (so_far.attends.given ∙ given));
+        passes = passed_on visits x (g.A.Acceptor.standing closed) (g.A.Acceptor.standing c.args.door.now) (g.A.Acceptor.standing c.next.new.self) (g.A.Acceptor.standing c.give_back.new.self) so_far.passes c.in-Link.ensures.standing c.give_back.ensures.standing;
+        steady = c.give_back.ensures.faults ∙ (c.in-Link.ensures.counted (λ (q : door.Link c.in-Link.link ≡ door.Failed). cc) ∙ so_far.steady);
+      },
+    )

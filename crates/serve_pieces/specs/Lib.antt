@@ -1,0 +1,5 @@
+pub mod Ledgers
+pub mod Visits
+pub mod Refusals
+pub mod Doors
+pub mod Promises

@@ -1,0 +1,58 @@
+//! A piece of the running server.
+use crate::attending::serve_door;
+use crate::ran::{PieceEnd, Ran};
+use crate::task::Task;
+use outside::{Acceptor, Gate, Job};
+use poa_shared::{Seat, Shared};
+use poa_worker::work;
+use session_laws::Peer;
+use std::alloc::Global;
+use std::sync::{Arc, Wait};
+
+/// What runs in a thread of its own: its task, and the seat that was split for it, which has made nothing yet.
+#[derive(Drop)]
+pub struct Piece<R, A, G> {
+    pub rt: R,
+    pub alloc: Global,
+    pub shared: Arc<Shared, Global>,
+    pub seat: Seat,
+    pub task: Task<A, G>,
+}
+
+impl<R: Wait + Copy, A: Acceptor, G: Gate + Drop> Job for Piece<R, A, G> {
+    ghost use Rattle.std.specs.Prelude.{◌≡◌, Some};
+    ghost use Rattle.seat_lock.specs.Seats.{view};
+    ghost use Rattle.std.specs.Arc.{arc_value};
+    ghost use Rattle.run_history.specs.declared.givens.Givens.{Givens};
+    ghost use Rattle.poa_shared.specs.Seats.{IsIdle};
+    ghost use Rattle.serve_pieces.specs.Promises.{IsFresh, Keeps};
+
+    type Out = Ran<A>;
+
+    ghost condition = { λ piece. IsIdle (arc_value piece.shared) piece.seat × IsFresh piece.task (view piece.seat) };
+
+    ghost promise = { λ piece ran. IsIdle (arc_value piece.shared) ran.seat × ((g : Givens) → (view piece.seat).givens ≡ Some g → Keeps g A.Link.shown A.standing A.faults piece.task (view piece.seat) ran) };
+
+    fn work(self) -> Ran<A> {
+        let Piece {
+            rt,
+            alloc,
+            shared,
+            mut seat,
+            task,
+        } = self;
+        match task {
+            Task::Lane(door) => serve_door(&rt, alloc, &shared, seat, door, Peer::Client),
+            Task::Admin(door) => serve_door(&rt, alloc, &shared, seat, door, Peer::Administrator),
+            Task::Worker { worker, gate } => {
+                let end = work(&rt, &shared, &mut seat, worker, &*gate);
+                Ran {
+                    seat,
+                    door: None,
+                    refused: None,
+                    end: PieceEnd::Worked(end),
+                }
+            }
+        }
+    }
+}

@@ -1,0 +1,28 @@
+//! What comes of a piece.
+use poa_shared::Seat;
+use poa_worker::WorkEnd;
+use run_tally::{Full, Phase};
+
+/// How a piece ended.
+#[derive(Clone, Copy, Debug, PartialEq, Eq, Drop)]
+pub enum PieceEnd {
+    /// Its door said `End`.
+    DoorEnd,
+    /// Its door failed, and counted it.
+    DoorFailed,
+    /// The run took no more links: this was its phase.
+    NotRunning(Phase),
+    /// It was a worker, and ended so.
+    Worked(WorkEnd),
+}
+
+/// What a piece gives back.
+#[derive(Drop)]
+pub struct Ran<A> {
+    pub seat: Seat,
+    /// The door that it served.
+    pub door: Option<A>,
+    /// The least numbers with which a connection couldn't enter, where that came to pass.
+    pub refused: Option<Full>,
+    pub end: PieceEnd,
+}

@@ -1,0 +1,63 @@
+//! A door is asked for its next link, and that is served.
+ghost use Rattle.std.specs.Prelude.{◌≡◌, Some, List};
+ghost use Rattle.poa_base.specs.declared.Entry.{Entry};
+ghost use Rattle.seat_lock.specs.Seats.{view};
+ghost use Rattle.seat_lock.specs.declared.view.View.{View};
+ghost use Rattle.run_history.specs.declared.givens.Givens.{Givens};
+ghost use Rattle.poa_shared.specs.Seats.{IsIdle};
+ghost use Rattle.poa_session.specs.Served.{Served};
+ghost use Rattle.serve_pieces.specs.Visits.{Visit};
+ghost use Rattle.serve_pieces.specs.Doors.{AsReceived, Attending};
+
+use crate::received::Received;
+use outside::{Acceptor, Door, Link};
+use poa_base::Session;
+use poa_session::{serve_admin, serve_link};
+use poa_shared::{Seat, Shared};
+use session_laws::Peer;
+use std::alloc::Global;
+use std::sync::Wait;
+
+/// Serves one link, as its peer is.
+fn serve<R: Wait, L: Link>(
+    rt: &R,
+    alloc: Global,
+    shared: &Shared,
+    seat: &mut Seat,
+    link: &mut L,
+    peer: Peer,
+) -> Session
+    requires { IsIdle shared.now seat.old }
+    ensures seat { IsIdle shared.now seat.new }
+    ensures served { (g : Givens) → (view seat.old).givens ≡ Some g → Served g peer (view seat.old) (view seat.new) (L.shown link.old) (L.shown link.new) result }
+{
+    match peer {
+        Peer::Client => serve_link(rt, alloc, shared, seat, link),
+        Peer::Administrator => serve_admin(rt, alloc, shared, seat, link),
+    }
+}
+
+/// Asks the door for its next link, serves that, and gives it back with its session.
+pub fn receive<R: Wait, A: Acceptor>(
+    rt: &R,
+    alloc: Global,
+    shared: &Shared,
+    seat: &mut Seat,
+    door: &mut A,
+    peer: Peer,
+) -> Received
+    requires { IsIdle shared.now seat.old }
+    ensures seat { IsIdle shared.now seat.new }
+    ensures received { (g : Givens) (first : View Givens Entry) (closed : A) (visits : List (Visit A.Link)) → first.givens ≡ Some g → Attending g peer A.Link.shown A.standing A.faults first closed visits (view seat.old) door.old → AsReceived g peer A.Link.shown A.standing A.faults first closed visits result (view seat.new) door.new }
+{
+    match door.next() {
+        Door::Link(mut link) => {
+            let session = serve(rt, alloc, shared, seat, &mut link, peer);
+            door.give_back(link, session);
+            Received::Served(session)
+        }
+        Door::Quiet => Received::Nothing,
+        Door::End => Received::End,
+        Door::Failed => Received::Failed,
+    }
+}

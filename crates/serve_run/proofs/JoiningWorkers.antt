@@ -1,0 +1,113 @@
+-- A worker's seat is joined: the run's seat holds one shift more.
+use Rattle.std.proofs.Common.{◌≡◌, ℕ, List, [], ◌∷◌, ◌++◌, Option, Some, sym, ap, ◌∙◌, subst, inr, ⊎_elim, arith}
+use mathlib.Core.Logic.{dite}
+use native.Mathlib.Decide.{ℕ_discrete}
+use Rattle.outside.specs.Accepting.{Standing}
+use Rattle.outside.specs.Link.{Shown}
+use Rattle.poa_base.specs.declared.Entry.{Entry}
+use Rattle.poa_worker.specs.Worked.{Worked}
+use Rattle.poa_worker.specs.declared.work_end.WorkEnd.TheVariants.{Closed}
+use Rattle.run_history.specs.declared.givens.Givens.{Givens}
+use Rattle.run_history.specs.Owners.{owner_of, worker_of}
+use Rattle.seat_lock.specs.declared.view.View.{View}
+use Rattle.seat_lock.specs.Histories.{Belongs, In}
+use Rattle.seat_lock.specs.Steps.{Unites}
+use Rattle.seat_lock.proofs.Calls.{at_prefix}
+use Rattle.seat_lock.proofs.Totals.{one_at, times_else, times_here}
+use Rattle.serve_pieces.specs.Ledgers.{IsOfConns, IsOfWorkers, Ledger}
+use Rattle.serve_pieces.proofs.Growing.{Adds}
+use Rattle.serve_pieces.proofs.Places.{in_either, in_first, in_second, stood_before}
+use Rattle.serve_run.specs.Tours.{Tour, Shift, conns_in, workers_in, IsWorkersAt}
+use Rattle.serve_run.specs.Holding.{Holds, IsLast}
+use Rattle.serve_run.proofs.Closing.{belongs_before}
+use Rattle.serve_run.proofs.Uniting.{adds_other, ledger_both, other_apart}
+use Rattle.serve_run.proofs.JoiningDoors.{each_toured, each_worked, no_worker}
+
+-- of a list of one number
+pub one_in : (w k : ℕ) → In w (k ∷ []) → w ≡ k
+one_in w k there = dite (ℕ_discrete w k) (λ (same : w ≡ k). same) (λ (other : w ≡ k → ⊥). absurd (let none = times_else w k other in omega arith))
+
+pub here_in : (w : ℕ) → In w (w ∷ [])
+here_in w = (let one = times_here w in omega arith)
+
+module _ (g : Givens) (worker : ℕ) (first u : View Givens Entry) (fresh : first.mine ≡ []) (worked : Worked g worker first u Closed) where
+  mine_made : u.mine ≡ worked.made
+  mine_made = worked.mine ∙ ap (λ l. l ++ worked.made) fresh
+
+  -- a worker's seat made its turns alone
+  pub ledger_worked : Ledger [] (worker ∷ []) u
+  ledger_worked = record {
+    explained = λ place there. (let it = (worked.each place (subst (In place) mine_made there)).1 in
+        record { entry = it.entry; stands = it.stands; of = inr (worker, here_in worker, it.own) });
+    closed = worked.knows.closed;
+    within = worked.knows.within;
+    owned = λ c there. absurd (omega arith);
+    once = λ c. omega arith;
+  }
+
+module _ {A L : Type 0} (g : Givens) (shown : L → Shown) (standing : A → Option (Standing L)) (faults : A → ℕ) (own : Option (ℕ × Entry)) (tours : List (Tour A L)) (shifts : List Shift) (v u j : View Givens Entry) (holds : Holds {A = A} {L = L} g shown standing faults own tours shifts v)
+    (worker : ℕ) (new_one : In worker (workers_in shifts) → ⊥) (first : View Givens Entry) (fresh : first.mine ≡ []) (worked : Worked g worker first u Closed) (unites : Unites v u j) (mine : j.mine ≡ v.mine ++ u.mine) where
+  abbrev pub shift : Shift
+  shift = record { worker = worker; stood = u.seen }
+
+  other : Ledger [] (worker ∷ []) u
+  other = ledger_worked g worker first u fresh worked
+
+  adds : Adds v j u.mine
+  adds = adds_other v u j unites mine (0 ∷ conns_in tours) [] (workers_in shifts) (worker ∷ []) holds.ledger other
+
+  apart : (c : ℕ) → In c (0 ∷ conns_in tours) → (place : ℕ) → In place u.mine → Belongs owner_of j.seen place c → ⊥
+  apart c i = other_apart v u j unites mine (0 ∷ conns_in tours) [] (workers_in shifts) (worker ∷ []) holds.ledger other c (holds.ledger.owned c i)
+
+  -- its seat made no turn of another worker, and the run's seat made none of it
+  no_others : (w : ℕ) → In w (workers_in shifts) → (place : ℕ) → In place u.mine → IsWorkersAt w j.seen place → ⊥
+  no_others w i place there at =
+      let it = other.explained place there in
+      let same : it.entry ≡ at.entry = one_at j.seen place it.entry at.entry (at_prefix u.seen j.seen place it.entry unites.second it.stands) at.stands in
+      ⊎_elim
+      (λ (o : IsOfConns [] it.entry). (let none = o.1 in omega arith))
+      (λ (o : IsOfWorkers (worker ∷ []) it.entry).
+      (let e : Some o.0 ≡ Some w = sym o.2 ∙ (ap worker_of same ∙ at.own) in
+      let k : o.0 ≡ w = cc in
+      new_one (subst (λ x. In x (workers_in shifts)) (sym k ∙ one_in o.0 worker o.1) i)))
+      it.of
+
+  none_before : (place : ℕ) → In place v.mine → IsWorkersAt worker j.seen place → ⊥
+  none_before place there at =
+      let it = holds.ledger.explained place there in
+      let same : it.entry ≡ at.entry = one_at j.seen place it.entry at.entry (at_prefix v.seen j.seen place it.entry unites.first it.stands) at.stands in
+      ⊎_elim
+      (λ (o : IsOfConns (0 ∷ conns_in tours) it.entry). no_worker it.entry o.0 worker o.2 (ap worker_of same ∙ at.own))
+      (λ (o : IsOfWorkers (workers_in shifts) it.entry). (let e : Some o.0 ≡ Some worker = sym o.2 ∙ (ap worker_of same ∙ at.own) in let k : o.0 ≡ worker = cc in new_one (subst (λ x. In x (workers_in shifts)) k o.1)))
+      it.of
+
+  pub holds_worker : Holds {A = A} {L = L} g shown standing faults own tours (shift ∷ shifts) j
+  holds_worker = record {
+    ledger = ledger_both v u j unites mine (0 ∷ conns_in tours) [] (workers_in shifts) (worker ∷ []) holds.ledger other
+        (0 ∷ conns_in tours) (workers_in (shift ∷ shifts)) (λ c. omega arith) (λ w i. in_second w (worker ∷ []) (workers_in shifts) i) (λ w i. in_first w (worker ∷ []) (workers_in shifts) i);
+    tours_are = each_toured v j u.mine adds g shown standing faults tours (λ c i. apart c (in_second c (0 ∷ []) (conns_in tours) i)) holds.tours_are;
+    shifts_are = (
+      record {
+        later = unites.second;
+        quiet = λ place there at. ⊎_elim
+            (λ (i : In place v.mine). absurd (none_before place i at))
+            (λ (i : In place u.mine). worked.knows.within place i)
+            (in_either place v.mine u.mine (subst (In place) mine there));
+        closed = worked.cause;
+      },
+      each_worked v j u.mine adds g shifts no_others holds.shifts_are,
+    );
+    own_is = λ place e there stands is. ⊎_elim
+        (λ (i : In place v.mine). holds.own_is place e i (stood_before v.seen j.seen place e unites.first (holds.ledger.within place i) stands) is)
+        (λ (i : In place u.mine). absurd (apart 0 (in_first 0 (0 ∷ []) (conns_in tours) (here_in 0)) place i (e, stands, is)))
+        (in_either place v.mine u.mine (subst (In place) mine there));
+  }
+
+  pub last_worker : IsLast {A = A} {L = L} own tours v → IsLast {A = A} {L = L} own tours j
+  last_worker last = record {
+    ended = last.ended;
+    left = λ place e is k c there i b. ⊎_elim
+        (λ (old : In k v.mine). last.left place e is k c old i (belongs_before owner_of v.seen j.seen unites.first k c (holds.ledger.within k old) b))
+        (λ (new : In k u.mine). absurd (apart c (in_second c (0 ∷ []) (conns_in tours) i) k new b))
+        (in_either k v.mine u.mine (subst (In k) mine there));
+  }

@@ -1,0 +1,15 @@
+pub mod Closing
+pub mod Uniting
+pub mod JoiningDoors
+pub mod JoiningWorkers
+pub mod Staying
+pub mod Whole
+pub mod Sessions
+pub mod Lasting
+pub mod Endings
+pub mod Opening
+pub mod Opened
+pub mod Touring
+pub mod Attended
+pub mod DoorEnds
+pub mod Finishing

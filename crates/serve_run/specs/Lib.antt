@@ -1,0 +1,10 @@
+pub mod Tours
+pub mod Holding
+pub mod Served
+pub mod Outcomes
+pub mod Starting
+pub mod Shutting
+pub mod Lanes
+pub mod Attending
+pub mod Opened
+pub mod Running

@@ -1,0 +1,65 @@
+//! The lanes are served.
+ghost use Rattle.std.specs.Prelude.{◌≡◌, ◌≤◌, None, Some, vec_len, vec_capacity, []};
+ghost use Rattle.std.specs.Arc.{arc_value};
+ghost use Rattle.poa_shared.specs.Seats.{IsIdle};
+ghost use Rattle.run_history.specs.declared.givens.Givens.{Givens};
+ghost use Rattle.seat_lock.specs.Seats.{view};
+ghost use Rattle.serve_run.specs.Holding.{Holds};
+ghost use Rattle.serve_run.specs.Lanes.{HasGivens, LanesServed};
+
+use crate::joining::{door_back, door_in, join};
+use crate::outcome::Outcome;
+use crate::shutting::{Staff, shut_down};
+use crate::starting::start;
+use outside::{Acceptor, Gate, ThreadCrew};
+use poa_shared::{Seat, Shared};
+use serve_pieces::Task;
+use std::alloc::Global;
+use std::sync::{Arc, Wait};
+use std::thread::Threads;
+
+/// Serves the lanes, each in a thread of its own, the last one first, until all have ended. Where one can't be started,
+/// those in front of it aren't either, and the run's end is called for at once.
+pub fn serve_lanes<T, R, A, G>(
+    rt: &R,
+    alloc: Global,
+    shared: &Arc<Shared, Global>,
+    seat: &mut Seat,
+    crew: &mut ThreadCrew<T>,
+    staff: Staff,
+    lanes: &mut Vec<A>,
+) -> Outcome
+where
+    T: Threads + Wait + Drop,
+    R: Wait + Copy + Send + Drop + 'static,
+    A: Acceptor + Send + Drop + 'static,
+    A::Link: Send + 'static,
+    G: Gate + Send + Sync + Drop + 'static,
+    requires seat { IsIdle (arc_value shared.now) seat.old }
+    requires given { HasGivens (view seat.old) }
+    requires room { vec_len lanes.old ≤ (view seat.old).room }
+    requires staff { staff.end ≤ 16 }
+    requires begun { (g : Givens) → (view seat.old).givens ≡ Some g → Holds g A.Link.shown A.standing A.faults None [] [] (view seat.old) }
+    ensures seat { IsIdle (arc_value shared.now) seat.new }
+    ensures given { HasGivens (view seat.new) }
+    ensures len { vec_len lanes.new ≡ vec_len lanes.old }
+    ensures capacity { vec_capacity lanes.new ≡ vec_capacity lanes.old }
+    ensures served { (g : Givens) → (view seat.old).givens ≡ Some g → LanesServed g A.Link.shown A.standing A.faults lanes.old.items lanes.new.items result (view seat.old) (view seat.new) }
+{
+    let Some(lane) = lanes.pop() else {
+        return Outcome::good();
+    };
+    match start::<T, R, A, G>(rt, alloc, shared, seat, crew, Task::Lane(lane)) {
+        Ok(ticket) => {
+            let outcome = serve_lanes::<T, R, A, G>(rt, alloc, shared, seat, crew, staff, lanes);
+            let joined = join(shared, seat, crew, ticket);
+            lanes.push_reserved(door_back(joined.door));
+            outcome.with_door(joined.refused, &joined.end)
+        }
+        Err(unstarted) => {
+            lanes.push_reserved(door_in(unstarted.task));
+            let lost = shut_down(rt, shared, seat, staff);
+            Outcome::short_of(unstarted.want, lost)
+        }
+    }
+}

@@ -1,0 +1,82 @@
+//! A piece is started.
+ghost use Rattle.std.specs.Prelude.{◌≡◌, ◌+◌, ◌<◌, IfOk, IfErr, OnOk, OnErr};
+ghost use Rattle.std.specs.Arc.{arc_value};
+ghost use Rattle.poa_shared.specs.Seats.{IsIdle};
+ghost use Rattle.seat_lock.specs.Seats.{view};
+ghost use Rattle.serve_pieces.specs.Promises.{IsNumbered};
+ghost use Rattle.serve_run.specs.Starting.{IsKept, IsStarted};
+
+use crate::outcome::Want;
+use outside::{Acceptor, Gate, ThreadCrew, Ticket};
+use poa_shared::{Seat, Shared};
+use serve_pieces::{Piece, Task};
+use std::alloc::Global;
+use std::sync::{Arc, Wait};
+use std::thread::Threads;
+
+/// The task of a piece that wasn't started, and for want of what.
+#[derive(Drop)]
+pub struct Unstarted<A, G> {
+    pub task: Task<A, G>,
+    pub want: Want,
+}
+
+/// Starts a piece with this task on a new seat. Where it can't be started, its task is handed back, and its seat is joined.
+pub fn start<T, R, A, G>(
+    rt: &R,
+    alloc: Global,
+    shared: &Arc<Shared, Global>,
+    seat: &mut Seat,
+    crew: &mut ThreadCrew<T>,
+    task: Task<A, G>,
+) -> Result<Ticket<Piece<R, A, G>>, Unstarted<A, G>>
+where
+    T: Threads + Wait + Drop,
+    R: Wait + Copy + Send + Drop + 'static,
+    A: Acceptor + Send + Drop + 'static,
+    A::Link: Send + 'static,
+    G: Gate + Send + Sync + Drop + 'static,
+    requires seat { IsIdle (arc_value shared.now) seat.old }
+    requires room { 0 < (view seat.old).room }
+    requires numbered { IsNumbered task }
+    ensures seat { IsIdle (arc_value shared.now) seat.new }
+    ensures kept { IsKept (view seat.old) (view seat.new) }
+    ensures taken { OnOk result ((view seat.new).room + 1 ≡ (view seat.old).room) }
+    ensures same { OnErr result ((view seat.new).room ≡ (view seat.old).room) }
+    ensures started { IfOk result (λ ticket. IsStarted (arc_value shared.now) task (view seat.old) ticket.promise.job.value) }
+    ensures back { IfErr result (λ it. it.task ≡ task) }
+{
+    let own = shared.split(seat);
+    let shared_too = match Arc::try_clone(shared) {
+        Ok(too) => too,
+        Err(_) => {
+            shared.join(seat, own);
+            return Err(Unstarted {
+                task,
+                want: Want::Memory,
+            });
+        }
+    };
+    let piece = Piece {
+        rt: *rt,
+        alloc,
+        shared: shared_too,
+        seat: own,
+        task,
+    };
+    match crew.start(piece) {
+        Ok(ticket) => Ok(ticket),
+        Err(piece) => {
+            let Piece {
+                seat: own,
+                task,
+                ..
+            } = piece;
+            shared.join(seat, own);
+            Err(Unstarted {
+                task,
+                want: Want::Thread,
+            })
+        }
+    }
+}
