@@ -1,4 +1,6 @@
 //! The ports of a server, and the doors to them.
+ghost use Rattle.std.specs.Prelude.{◌≡◌, IfOk, vec_len};
+
 use outside_sockets::{Ears, MioDoor, listen};
 use poa_base::Config;
 use poad_cmd::Status;
@@ -40,10 +42,12 @@ impl Ports {
     }
 
     /// The doors to these ports, with so many lanes.
-    pub(crate) fn doors(&self, rt: &HostRuntime, count: u32) -> Result<Doors<MioDoor>, Status> {
+    pub(crate) fn doors(&self, rt: &HostRuntime, count: u32) -> Result<Doors<MioDoor>, Status>
+        ensures { IfOk result (λ doors. vec_len doors.lanes ≡ count) }
+    {
         let alloc = rt.alloc();
         let mut lanes = Vec::new(alloc);
-        for _ in 0..count {
+        while lanes.len() < count as usize {
             let lane = door(rt, &self.clients).map_err(status_of)?;
             lanes.push(lane).map_err(|_| Status::WantMemory)?;
         }

@@ -30,12 +30,18 @@ where
         Err(status) => return status,
     };
     let ports = open(rt, plan, &config);
-    let lanes = plan.map_or(0, |plan| plan.lanes);
+    let lanes = match plan {
+        Some(plan) => plan.lanes,
+        None => 0,
+    };
     let doors = match ports.doors(rt, lanes) {
         Ok(doors) => doors,
         Err(status) => return status,
     };
-    let gate_ms = config.map_or(0, |config| config.gate_ms);
+    let gate_ms = match config {
+        Some(config) => config.gate_ms,
+        None => 0,
+    };
     let Ok(gate) = Arc::new(alloc, WaitingGate::new(*rt, gate_ms)) else {
         return Status::WantMemory;
     };

@@ -1,5 +1,5 @@
-use Rattle.std.proofs.Common.{◌≡◌, ◌∙◌, ◌++◌, Option, Some, List, ap, sym, map, option_map, string_bytes, drop, arith, rules, ◌+◌}
-use Rattle.command_words.specs.Serving.{Setting, seen_place, seen_setting, seen_step, settings_of, word_at}
+use Rattle.std.proofs.Common.{◌≡◌, ◌∙◌, ◌++◌, Some, List, ap, map, option_map, string_bytes, drop, arith, rules, ◌+◌}
+use Rattle.command_words.specs.Serving.{Setting, seen_place, seen_setting, settings_of, word_at}
 use Rattle.command_words.proofs.Noting.{noted_next}
 use Rattle.command_words.proofs.settings.read_settings.Goals as goal
 
