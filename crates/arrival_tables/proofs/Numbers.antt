@@ -1,38 +1,20 @@
 -- What a test keeps of the numbers below a bound.
-use Rattle.std.specs.Prelude.{slice_index_or, is_ok, Result, Ok, Err, ◌≡◌, ℕ, zero, suc, ◌+◌, ◌<◌, ◌≤◌, Bool, true, false, not, ◌&&◌, ◌||◌, ◌==◌, nat_lt, cond, if◌then◌else◌, List, [], ◌∷◌, ◌++◌, length, filter, find, Option, Some, None, refl}
+use Rattle.std.specs.Prelude.{slice_index_or, is_ok, Result, Ok, Err, ◌≡◌, ℕ, zero, suc, ◌+◌, ◌<◌, ◌≤◌, Bool, true, false, not, ◌&&◌, ◌||◌, ◌==◌, nat_lt, cond, if◌then◌else◌, List, [], ◌∷◌, ◌++◌, length, filter, Option, Some, None, refl}
 use Rattle.std.specs.List.{insert, list_any}
 use Rattle.std.specs.List.Sorted.{IsBinarySearchResult}
 use Rattle.std.specs.Ordering.{nat_cmp}
 use Rattle.std.proofs.lemmas.List.Sorted.{searched}
 use Rattle.std.specs.Option.{option_or}
-use Rattle.std.proofs.Common.{inl, inr, sym, subst, ap, ap₂, ◌∙◌, arith, length-append}
+use Rattle.std.proofs.Common.{inl, inr, sym, subst, ap, ap₂, ◌∙◌, arith}
 use Rattle.std.proofs.lemmas.Bool.{cases_Bool, cond_both, true≢false, eqb-true, eq-eqb, ltb-true, ltb-false, lt-ltb, false_from_ne_true}
 use Rattle.std.proofs.lemmas.List.{append-nil}
 use Rattle.std.proofs.lemmas.List.Elements.{filter-append}
-use Rattle.poa_history.specs.Searches.{least, first_given, count_below}
+use Rattle.poa_history.specs.Searches.{first_given}
 use Rattle.poa_tree.specs.Trees.{In}
-use Rattle.poa_tree.proofs.Members.{in_front, in_back, in_either, in_kept, kept_in, any_in}
-use Rattle.arrival_tables.specs.Numbers.{below, Ascends, inserted, without, first_in}
-
--- exactly the numbers below the bound stand there
-pub in_below : (k n : ℕ) → In k (below n) → k < n
-in_below k zero is = absurd is
-in_below k (suc n) is = elim (in_either k n (below n) is) [ inl before ↦ (let less = in_below k n before in omega (arith, less)) | inr same ↦ (let e : k ≡ n = same in omega (arith, e)) ]
-
-pub below_in : (k n : ℕ) → k < n → In k (below n)
-below_in k zero less = absurd (omega (arith, less))
-below_in k (suc n) less =
-    elim (cases_Bool (k == n)) [
-      | inl same ↦ subst (λ x. In x (below n ++ n ∷ [])) (sym (eqb-true k n same)) (in_back n (below n))
-      | inr other ↦ in_front k n (below n) (below_in k n (lower k n less other))
-    ]
-  where
-    lower : (k n : ℕ) → k < suc n → (k == n) ≡ false → k < n
-    lower k n less other =
-        elim (cases_Bool (nat_lt k n)) [
-          | inl low ↦ ltb-true k n low
-          | inr high ↦ absurd (true≢false (sym (eq-eqb k n (let above = ltb-false k n high in omega (arith, above, less))) ∙ other))
-        ]
+use Rattle.poa_tree.proofs.Members.{in_kept, kept_in, any_in}
+use Rattle.standing_queries.specs.Numbers.{below, Ascends}
+use Rattle.standing_queries.proofs.Numbers.{in_below, below_in, filter_twice}
+use Rattle.arrival_tables.specs.Numbers.{inserted, without, first_in}
 
 -- tests that agree below the bound keep the same
 pub same_below : (p q : ℕ → Bool) (n : ℕ) → ((k : ℕ) → k < n → p k ≡ q k) → filter p (below n) ≡ filter q (below n)
@@ -41,54 +23,9 @@ same_below p q (suc n) same =
     filter-append p (below n) (n ∷ [])
     ∙ (ap₂ (λ xs b. xs ++ cond b (n ∷ []) []) (same_below p q n (λ k less. same k (omega (arith, less)))) (same n (omega arith)) ∙ sym (filter-append q (below n) (n ∷ [])))
 
--- how many pass
-pub counted : (p : ℕ → Bool) (n : ℕ) → count_below p n ≡ length (filter p (below n))
-counted p zero = refl
-counted p (suc n) =
-    ap (λ m. m + (if p n then 1 else 0)) (counted p n)
-    ∙ (ap (λ m. length (filter p (below n)) + m) (cond_both (p n) (n ∷ []) [] (λ xs. (if p n then 1 else 0) ≡ length xs) (λ passes. ap (λ b. if b then 1 else 0) passes) (λ fails. ap (λ b. if b then 1 else 0) fails))
-    ∙ sym (ap length (filter-append p (below n) (n ∷ [])) ∙ length-append (filter p (below n)) (cond (p n) (n ∷ []) [])))
-
--- the least that passes
-find_append : (p : ℕ → Bool) (xs ys : List ℕ) → find p (xs ++ ys) ≡ option_or (find p xs) (find p ys)
-find_append p [] ys = refl
-find_append p (x ∷ xs) ys =
-    elim (p x) as (λ b. cond b (Some x) (find p (xs ++ ys)) ≡ option_or (cond b (Some x) (find p xs)) (find p ys)) [ true ↦ refl | false ↦ find_append p xs ys ]
-
-pub least_found : (p : ℕ → Bool) (n : ℕ) → least p n ≡ find p (below n)
-least_found p zero = refl
-least_found p (suc n) = ap (λ o. option_or o (if p n then Some n else None)) (least_found p n) ∙ sym (find_append p (below n) (n ∷ []))
-
--- what is kept stands in order, each number once
-ascends_push : (xs : List ℕ) (y : ℕ) → Ascends xs → ((x : ℕ) → In x xs → x < y) → Ascends (xs ++ y ∷ [])
-ascends_push [] y up less = ((λ z none. absurd none), tt)
-ascends_push (x ∷ xs) y up less = (
-  (λ z is. elim (in_either z y xs is) [ inl before ↦ up.0 z before | inr same ↦ subst (λ v. x < v) (sym same) (less x (inl refl)) ]),
-  ascends_push xs y up.1 (λ z is. less z (inr is)),
-)
-
-pub ascending : (p : ℕ → Bool) (n : ℕ) → Ascends (filter p (below n))
-ascending p zero = tt
-ascending p (suc n) =
-    subst Ascends (sym (filter-append p (below n) (n ∷ [])))
-    (cond_both (p n) (n ∷ []) [] (λ ys. Ascends (filter p (below n) ++ ys))
-    (λ _. ascends_push (filter p (below n)) n (ascending p n) (λ x is. in_below x n (in_kept p x (below n) is).0))
-    (λ _. subst Ascends (sym (append-nil (filter p (below n)))) (ascending p n)))
-
-pub ascends_once : (x : ℕ) (xs : List ℕ) → Ascends (x ∷ xs) → In x xs → ⊥
-ascends_once x xs up again = (let less = up.0 x again in omega (arith, less))
-
 -- a number less
-filter_both : (p q : ℕ → Bool) (xs : List ℕ) → filter q (filter p xs) ≡ filter (λ k. p k && q k) xs
-filter_both p q [] = refl
-filter_both p q (x ∷ xs) =
-    elim (p x) as (λ b. filter q (cond b (x ∷ filter p xs) (filter p xs)) ≡ cond (b && q x) (x ∷ filter (λ k. p k && q k) xs) (filter (λ k. p k && q k) xs)) [
-      | true ↦ ap (λ ys. cond (q x) (x ∷ ys) ys) (filter_both p q xs)
-      | false ↦ filter_both p q xs
-    ]
-
 pub one_less : (p q : ℕ → Bool) (n r : ℕ) → ((k : ℕ) → k < n → q k ≡ (p k && not (k == r))) → filter q (below n) ≡ without r (filter p (below n))
-one_less p q n r less = same_below q (λ k. p k && not (k == r)) n less ∙ sym (filter_both p (λ k. not (k == r)) (below n))
+one_less p q n r less = same_below q (λ k. p k && not (k == r)) n less ∙ sym (filter_twice p (λ k. not (k == r)) (below n))
 
 -- a number more
 all_pass : (p : ℕ → Bool) (xs : List ℕ) → ((x : ℕ) → In x xs → p x ≡ true) → filter p xs ≡ xs

@@ -22,10 +22,12 @@ use Rattle.poa_history.specs.Situations.{is_crowded, waiting_messages}
 use Rattle.poa_history.specs.Stages.{stage, arrival_in, is_at, admitted, is_unadmitted}
 use Rattle.poa_history.proofs.IdsFew.{call_kept}
 use Rattle.poa_history.proofs.TurnTells.{admission_is}
-use Rattle.arrival_tables.specs.Numbers.{below, inserted, without}
+use Rattle.standing_queries.specs.Numbers.{below}
+use Rattle.arrival_tables.specs.Numbers.{inserted, without}
 use Rattle.arrival_tables.specs.Queued.{IsQueue, is_waiting}
 use Rattle.arrival_tables.specs.declared.queue.Queue.{Queue}
-use Rattle.arrival_tables.proofs.Numbers.{same_below, counted, one_less, one_more, any_kept}
+use Rattle.standing_queries.proofs.Numbers.{counted}
+use Rattle.arrival_tables.proofs.Numbers.{same_below, one_less, one_more, any_kept}
 
 -- the newest number passes, or not
 newest : (p q : ℕ → Bool) (n : ℕ) (b : Bool) → ((k : ℕ) → k < n → q k ≡ p k) → q n ≡ b → filter q (below (suc n)) ≡ (if b then filter p (below n) ++ n ∷ [] else filter p (below n))

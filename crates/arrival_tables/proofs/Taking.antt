@@ -9,7 +9,8 @@ use Rattle.std.proofs.lemmas.List.Sorted.{searched}
 use Rattle.std.proofs.Common.{inl, inr, sym, ap₂, arith}
 use Rattle.std.proofs.lemmas.Bool.{cases_Bool, eqb-true, eq-eqb, false_from_ne_true, ltb-true, ltb-false}
 use Rattle.poa_tree.specs.Trees.{In}
-use Rattle.arrival_tables.specs.Numbers.{Ascends, without}
+use Rattle.standing_queries.specs.Numbers.{Ascends}
+use Rattle.arrival_tables.specs.Numbers.{without}
 use Rattle.arrival_tables.proofs.Numbers.{rises, in_get}
 
 -- one that isn't there takes none away

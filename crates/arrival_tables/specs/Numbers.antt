@@ -1,18 +1,7 @@
--- The numbers below a bound, and lists that have them in order.
-use Rattle.std.specs.Prelude.{ℕ, zero, suc, ◌<◌, not, nat_lt, ◌==◌, List, [], ◌∷◌, ◌++◌, length, filter, Option, None}
+-- Lists of numbers in order: with one more, without one, and the first value that they give.
+use Rattle.std.specs.Prelude.{ℕ, not, nat_lt, ◌==◌, List, [], ◌∷◌, length, filter, Option, None}
 use Rattle.std.specs.List.{insert}
 use Rattle.std.specs.Option.{option_or}
-use Rattle.poa_tree.specs.Trees.{In}
-
--- the numbers below the bound
-abbrev pub below : ℕ → List ℕ
-below zero = []
-below (suc k) = below k ++ k ∷ []
-
--- each number is less than all after it, so none stands twice
-abbrev pub Ascends : List ℕ → Type 0
-Ascends [] = Unit {0}
-Ascends (x ∷ xs) = ((y : ℕ) → In y xs → x < y) × Ascends xs
 
 -- with a number more, behind all that are less
 abbrev pub inserted : ℕ → List ℕ → List ℕ

@@ -8,7 +8,7 @@ use Rattle.poa_base.specs.declared.Attempt.TheVariants.{Yes}
 use Rattle.poa_history.specs.Arrivals.{arrivals, call_of, is_message}
 use Rattle.poa_history.specs.Stages.{stage, arrival_in, admitted, is_unadmitted}
 use Rattle.poa_history.specs.Situations.{is_crowded}
-use Rattle.arrival_tables.specs.Numbers.{below}
+use Rattle.standing_queries.specs.Numbers.{below}
 use Rattle.arrival_tables.specs.declared.queue.Queue.{Queue}
 
 -- a request or a locate that wasn't admitted

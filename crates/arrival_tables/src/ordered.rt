@@ -2,7 +2,8 @@
 ghost use Rattle.std.specs.Prelude.{◌≡◌, ◌==◌, ◌≤◌, ◌<◌, [], ◌∷◌, ◌++◌, length, filter, nat_lt, if◌then◌else◌};
 ghost use Rattle.std.specs.VecDeque.{deque_len, deque_capacity};
 ghost use Rattle.std.specs.List.{list_any};
-ghost use Rattle.arrival_tables.specs.Numbers.{Ascends, inserted, without};
+ghost use Rattle.standing_queries.specs.Numbers.{Ascends};
+ghost use Rattle.arrival_tables.specs.Numbers.{inserted, without};
 
 use std::collections::VecDeque;
 

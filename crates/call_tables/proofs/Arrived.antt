@@ -17,7 +17,7 @@ use Rattle.poa_history.proofs.StagesFrom.{arrival_before}
 use Rattle.poa_history.proofs.TurnTells.{admission_is}
 use Rattle.poa_tree.specs.Trees.{In}
 use Rattle.poa_tree.proofs.Members.{in_kept}
-use Rattle.call_tables.specs.Numbers.{below}
+use Rattle.standing_queries.specs.Numbers.{below}
 use Rattle.call_tables.specs.Decided.{is_answered_by, answered}
 use Rattle.call_tables.proofs.Deciding.{stays_decided}
 use Rattle.call_tables.proofs.Given.{within_is}

@@ -15,7 +15,7 @@ use Rattle.call_tables.specs.declared.owing.Owing.{Owing}
 use Rattle.call_tables.specs.declared.wait.Wait.{Wait}
 use Rattle.call_tables.specs.declared.wait.Ordered.{Ordered}
 use Rattle.call_tables.specs.Waits.{ordered_by}
-use Rattle.call_tables.specs.Numbers.{Ascends}
+use Rattle.standing_queries.specs.Numbers.{Ascends}
 use Rattle.call_tables.specs.Owed.{AreOwed, arrivals_of}
 use Rattle.call_tables.specs.Decided.{AreFiled}
 use Rattle.call_tables.specs.Desk.{is_decided, file, set_wait, waited, waited_by, WaitIs, Comes, AreOwedBefore, AreLeft, IsAlone}

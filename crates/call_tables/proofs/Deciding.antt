@@ -13,12 +13,13 @@ use Rattle.poa_tree.proofs.Members.{in_kept}
 use Rattle.call_tables.specs.declared.owing.Owing.{Owing}
 use Rattle.call_tables.specs.declared.wait.Wait.{Wait}
 use Rattle.call_tables.specs.declared.wait.Ordered.{Ordered}
-use Rattle.call_tables.specs.Numbers.{below}
+use Rattle.standing_queries.specs.Numbers.{below}
 use Rattle.call_tables.specs.Waits.{wait_in, has_come}
 use Rattle.call_tables.specs.Owed.{is_owed, head_of}
 use Rattle.call_tables.specs.Decided.{is_answered_by}
 use Rattle.call_tables.specs.Desk.{is_decided}
-use Rattle.call_tables.proofs.Lists.{filter_agrees, filter_twice, filter_mapped, below_is}
+use Rattle.standing_queries.proofs.Numbers.{filter_twice, in_below}
+use Rattle.call_tables.proofs.Lists.{filter_agrees, filter_mapped}
 use Rattle.call_tables.proofs.Waiting.{comes, IsOvertaken, settles_is}
 
 -- what was decided stays so
@@ -56,7 +57,7 @@ module _ (c : Config) (run : ℕ) (past : List Entry) (e : Entry) (ordered : Opt
   pub row_owed : (o : Owing) → In o os → (o.arrival < arrivals past) × (is_owed c run past o.arrival ≡ true)
   row_owed o there =
       let its = in_kept (is_owed c run past) o.arrival (below (arrivals past)) (subst (In o.arrival) rows.which (image o os there)) in
-      (below_is o.arrival (arrivals past) its.0, its.1)
+      (in_below o.arrival (arrivals past) its.0, its.1)
     where
       image : (x : Owing) (xs : List Owing) → In x xs → In x.arrival (map (λ y. y.arrival) xs)
       image x [] is = absurd is
@@ -110,7 +111,7 @@ module _ (c : Config) (run : ℕ) (past : List Entry) (e : Entry) (ordered : Opt
         ∙ filter_agrees (λ r. is_owed c run past r && not (decided c run (e ∷ past) r)) (is_owed c run (e ∷ past)) (below (arrivals past))
         (λ r there.
         by_tests (asks (call_of past r)) (decided c run past r) (decided c run (e ∷ past) r) (stays_decided c run past e r)
-        ∙ ap (λ call. asks call && not (decided c run (e ∷ past) r)) (sym (call_kept e past r (below_is r (arrivals past) there))))
+        ∙ ap (λ call. asks call && not (decided c run (e ∷ past) r)) (sym (call_kept e past r (in_below r (arrivals past) there))))
       where
         by_tests : (a b d : Bool) → (b ≡ true → d ≡ true) → ((a && not b) && not d) ≡ (a && not d)
         by_tests false b d more = refl

@@ -23,17 +23,17 @@ use Rattle.poa_tree.specs.Trees.{In}
 use Rattle.poa_tree.proofs.Members.{in_kept, image_in}
 use Rattle.call_tables.specs.declared.filed.Filed.{Filed as FiledRow}
 use Rattle.call_tables.specs.declared.owing.Owing.{Owing}
-use Rattle.call_tables.specs.Numbers.{below, Ascends}
+use Rattle.standing_queries.specs.Numbers.{below, Ascends}
 use Rattle.call_tables.specs.Waits.{wait_of, wait_in, ordered_by}
 use Rattle.call_tables.specs.Owed.{is_owed, head_of, AreOwed, Owes, IsCurrent, arrivals_of}
 use Rattle.call_tables.specs.Decided.{answered, AreFiled, IsFiled, Decides}
 use Rattle.call_tables.specs.Desk.{is_decided, file, waited, IsAlone}
-use Rattle.call_tables.proofs.Lists.{below_is}
+use Rattle.standing_queries.proofs.Numbers.{in_below}
 use Rattle.call_tables.proofs.Deciding.{AreRows, owed_which}
 use Rattle.call_tables.proofs.FiledAfter.{row_stays, filed_after, each_filed}
 use Rattle.call_tables.proofs.RowsNext.{TriesNone, rows_next}
 use Rattle.call_tables.proofs.Arrived.{decided_arrived, admitted_arrived, next_decided, collected_decided, at_is}
-use Rattle.call_tables.proofs.Rising.{ascending}
+use Rattle.standing_queries.proofs.Numbers.{ascending}
 use Rattle.call_tables.proofs.Removed.{Distinct, distinct_below, distinct_kept}
 
 -- where no arrival stands twice, the target stands in one row at most
@@ -101,7 +101,7 @@ module _ (c : Config) (run limit : ℕ) (opened : Stored) (past : List Entry) (e
 
   rows_arrived : (o : Owing) → In o os → o.arrival < arrivals past
   rows_arrived o there =
-      below_is o.arrival (arrivals past) (in_kept (is_owed c run past) o.arrival (below (arrivals past)) (subst (In o.arrival) owed.which (image_in (λ x. x.arrival) o os there))).0
+      in_below o.arrival (arrivals past) (in_kept (is_owed c run past) o.arrival (below (arrivals past)) (subst (In o.arrival) owed.which (image_in (λ x. x.arrival) o os there))).0
 
   pub rows_after : AreRows c run past e (ordered_by c past e) (map (waited c run past e) os)
   rows_after = rows_next c run past e os (tries_none c run limit past e manned legal) rows_arrived owed

@@ -21,12 +21,12 @@ use Rattle.call_tables.specs.declared.owing.Owing.{Owing}
 use Rattle.call_tables.specs.declared.wait.Wait.{Wait}
 use Rattle.call_tables.specs.declared.wait.Wait.TheVariants.{Nothing, Quiet, Off, Gone}
 use Rattle.call_tables.specs.declared.wait.Ordered.{Ordered}
-use Rattle.call_tables.specs.Numbers.{below}
+use Rattle.standing_queries.specs.Numbers.{below}
 use Rattle.call_tables.specs.Waits.{is_overtaking, has_come}
 use Rattle.call_tables.specs.Owed.{head_of, Owes, IsCurrent}
 use Rattle.call_tables.specs.Decided.{is_answered_by, answered, IsFiled, Decides}
 use Rattle.call_tables.specs.Desk.{is_decided, file}
-use Rattle.call_tables.proofs.Lists.{below_is}
+use Rattle.standing_queries.proofs.Numbers.{in_below}
 use Rattle.call_tables.proofs.Waiting.{IsOvertaken}
 use Rattle.call_tables.proofs.Deciding.{AreRows, row_owed, row_fresh, row_decided, filed_which}
 use Rattle.call_tables.proofs.Kept.{conn_arrived, conn_kept, replied_decided, reply_kept, reply_fixed}
@@ -113,7 +113,7 @@ module _ (c : Config) (run : ℕ) (opened : Stored) (past : List Entry) (e : Ent
       ∙ ap₂ (λ xs ys. xs ++ ys) which
       (filed_arrivals target reply (filter now os) ∙ filed_which c run past e ordered os rows target decides.target_is
       ∙ sym (all_kept stands news (λ r there. (let its = in_kept (is_answered_by c run e past) r (below (arrivals past)) there in
-      fresh_stand r (below_is r (arrivals past) its.0) (third (asks (call_of past r)) (decided c run (e ∷ past) r) (decided c run past r) its.1)))))
+      fresh_stand r (in_below r (arrivals past) its.0) (third (asks (call_of past r)) (decided c run (e ∷ past) r) (decided c run past r) its.1)))))
       ∙ sym (filter-append stands (answered c run past) news)
     where
       third : (a b d : Bool) → (a && (b && not d)) ≡ true → d ≡ false

@@ -12,10 +12,11 @@ use Rattle.poa_history.specs.States.{Stored}
 use Rattle.poa_history.proofs.IdsFew.{call_kept, arrivals_kept}
 use Rattle.call_tables.specs.declared.filed.Filed.{Filed as FiledRow}
 use Rattle.call_tables.specs.declared.owing.Owing.{Owing}
-use Rattle.call_tables.specs.Numbers.{below}
+use Rattle.standing_queries.specs.Numbers.{below}
 use Rattle.call_tables.specs.Owed.{is_owed, AreOwed}
 use Rattle.call_tables.specs.Decided.{is_answered_by, answered, AreFiled}
-use Rattle.call_tables.proofs.Lists.{filter_agrees, filter_twice, filter_mapped, find_kept, find_agrees, find_mapped, least_found, counted, below_is}
+use Rattle.standing_queries.proofs.Numbers.{filter_twice, least_found, counted, in_below}
+use Rattle.call_tables.proofs.Lists.{filter_agrees, filter_mapped, find_kept, find_agrees, find_mapped}
 
 -- a reply of the connection that isn't collected
 abbrev stands_for : List Entry → ℕ → ℕ → Bool
@@ -31,7 +32,7 @@ within_is c run whole conn (e ∷ past) same =
     ap₂ option_or (within_is c run whole conn past earlier)
     (least_found (is_newly_decided c run whole conn e past) (arrivals past)
     ∙ find_agrees (is_newly_decided c run whole conn e past) (λ r. is_answered_by c run e past r && stands_for whole conn r) (below (arrivals past))
-    (λ r there. ap (λ call. (is_at conn (conn_of whole r) && asks call) && (not (is_collected whole r) && (decided c run (e ∷ past) r && not (decided c run past r)))) (earlier r (below_is r (arrivals past) there))
+    (λ r there. ap (λ call. (is_at conn (conn_of whole r) && asks call) && (not (is_collected whole r) && (decided c run (e ∷ past) r && not (decided c run past r)))) (earlier r (in_below r (arrivals past) there))
     ∙ moved (is_at conn (conn_of whole r)) (asks (call_of past r)) (not (is_collected whole r)) (decided c run (e ∷ past) r && not (decided c run past r)))
     ∙ sym (find_kept (is_answered_by c run e past) (stands_for whole conn) (below (arrivals past))))
     ∙ sym (find-append (stands_for whole conn) (answered c run past) (filter (is_answered_by c run e past) (below (arrivals past))))

@@ -12,10 +12,11 @@ use Rattle.poa_history.specs.States.{Stored}
 use Rattle.poa_tree.specs.Trees.{In}
 use Rattle.poa_tree.proofs.Members.{in_kept}
 use Rattle.call_tables.specs.declared.filed.Filed.{Filed as FiledRow}
-use Rattle.call_tables.specs.Numbers.{below}
+use Rattle.standing_queries.specs.Numbers.{below}
 use Rattle.call_tables.specs.Decided.{is_answered_by, answered, AreFiled}
 use Rattle.call_tables.specs.Desk.{without_first}
-use Rattle.call_tables.proofs.Lists.{filter_agrees, filter_twice, below_is}
+use Rattle.standing_queries.proofs.Numbers.{filter_twice, in_below}
+use Rattle.call_tables.proofs.Lists.{filter_agrees}
 use Rattle.call_tables.proofs.Arrived.{answered_decided}
 
 -- no element twice
@@ -42,7 +43,7 @@ distinct_both (x ∷ xs) ys one two apart =
 pub distinct_below : (n : ℕ) → Distinct (below n)
 distinct_below zero = tt
 distinct_below (suc n) =
-    distinct_both (below n) (n ∷ []) (distinct_below n) ((λ none. none), tt) (λ x a b. elim b [ inl same ↦ (let less = below_is x n a in let e : x ≡ n = same in absurd (omega (arith, less, e))) | inr none ↦ none ])
+    distinct_both (below n) (n ∷ []) (distinct_below n) ((λ none. none), tt) (λ x a b. elim b [ inl same ↦ (let less = in_below x n a in let e : x ≡ n = same in absurd (omega (arith, less, e))) | inr none ↦ none ])
 
 -- no arrival is answered twice
 answered_distinct : (c : Config) (run : ℕ) (h : List Entry) → Distinct (answered c run h)

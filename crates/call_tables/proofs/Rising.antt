@@ -1,36 +1,17 @@
 -- Rows in the order of their arriving, and the one row of a target among them.
-use Rattle.std.proofs.Common.{◌≡◌, ℕ, ◌<◌, ◌≤◌, zero, suc, Bool, true, false, not, List, [], ◌∷◌, ◌++◌, filter, length, get_or, cond, nat_lt, Some, Ok, Err, inl, inr, refl, sym, ap, ap₂, subst, ◌∙◌, arith}
+use Rattle.std.proofs.Common.{◌≡◌, ℕ, ◌<◌, ◌≤◌, zero, suc, Bool, true, false, not, List, [], ◌∷◌, filter, length, get_or, cond, nat_lt, Some, Ok, Err, inl, inr, refl, sym, ap, ap₂, ◌∙◌, arith}
 use Rattle.std.specs.List.{remove}
 use Rattle.std.specs.List.Sorted.{IsBinarySearchResult}
 use Rattle.std.specs.Ordering.{nat_cmp}
-use Rattle.std.proofs.lemmas.Bool.{cases_Bool, cond_both, eqb-true, eq-eqb, false_from_ne_true, ltb-true, ltb-false}
+use Rattle.std.proofs.lemmas.Bool.{cases_Bool, eqb-true, eq-eqb, false_from_ne_true, ltb-true, ltb-false}
 use Rattle.std.proofs.lemmas.Bool.Decides.{nat_tests}
 use Rattle.std.proofs.lemmas.Cmp.{ranked}
-use Rattle.std.proofs.lemmas.List.{append-nil}
-use Rattle.std.proofs.lemmas.List.Elements.{filter-append}
 use Rattle.poa_history.specs.Stages.{is_at}
 use Rattle.poa_tree.specs.Trees.{In}
-use Rattle.poa_tree.proofs.Members.{in_either, in_kept, image_in}
+use Rattle.poa_tree.proofs.Members.{image_in}
 use Rattle.call_tables.specs.declared.owing.Owing.{Owing}
-use Rattle.call_tables.specs.Numbers.{below, Ascends}
+use Rattle.standing_queries.specs.Numbers.{Ascends}
 use Rattle.call_tables.specs.Owed.{arrivals_of}
-use Rattle.call_tables.proofs.Lists.{below_is}
-
--- what is kept of the numbers below a bound stands in order
-ascends_push : (xs : List ℕ) (y : ℕ) → Ascends xs → ((x : ℕ) → In x xs → x < y) → Ascends (xs ++ y ∷ [])
-ascends_push [] y up less = ((λ z none. absurd none), tt)
-ascends_push (x ∷ xs) y up less = (
-  (λ z is. elim (in_either z y xs is) [ inl before ↦ up.0 z before | inr same ↦ subst (λ v. x < v) (sym same) (less x (inl refl)) ]),
-  ascends_push xs y up.1 (λ z is. less z (inr is)),
-)
-
-pub ascending : (p : ℕ → Bool) (n : ℕ) → Ascends (filter p (below n))
-ascending p zero = tt
-ascending p (suc n) =
-    subst Ascends (sym (filter-append p (below n) (n ∷ [])))
-    (cond_both (p n) (n ∷ []) [] (λ ys. Ascends (filter p (below n) ++ ys))
-    (λ _. ascends_push (filter p (below n)) n (ascending p n) (λ x is. below_is x n (in_kept p x (below n) is).0))
-    (λ _. subst Ascends (sym (append-nil (filter p (below n)))) (ascending p n)))
 
 get_in : (os : List Owing) (i : ℕ) (d : Owing) → i < length os → In (get_or os i d) os
 get_in [] i d low = absurd (omega (arith, low))

@@ -11,7 +11,7 @@ use Rattle.poa_history.specs.Stages.{is_at}
 use Rattle.poa_history.specs.States.{Stored}
 use Rattle.poa_tree.specs.Trees.{In}
 use Rattle.call_tables.specs.declared.filed.Filed.{Filed}
-use Rattle.call_tables.specs.Numbers.{below}
+use Rattle.standing_queries.specs.Numbers.{below}
 use Rattle.call_tables.specs.Owed.{head_of}
 
 -- the entry decides the arrival, which asks a reply

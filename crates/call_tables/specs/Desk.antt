@@ -22,7 +22,7 @@ use Rattle.call_tables.specs.declared.filed.Filed.{Filed}
 use Rattle.call_tables.specs.declared.owing.Owing.{Owing}
 use Rattle.call_tables.specs.declared.wait.Ordered.{Ordered}
 use Rattle.call_tables.specs.declared.wait.Wait.{Wait}
-use Rattle.call_tables.specs.Numbers.{below}
+use Rattle.standing_queries.specs.Numbers.{below}
 use Rattle.call_tables.specs.Owed.{is_owed, Owes, AreOwed}
 use Rattle.call_tables.specs.Decided.{answered, IsFiled, Decides}
 use Rattle.call_tables.specs.Waits.{wait_begun, has_come, ordered_by}

@@ -1,4 +1,3 @@
-pub mod Numbers
 pub mod Waits
 pub mod Owed
 pub mod Decided

@@ -12,7 +12,7 @@ use Rattle.poa_tree.specs.Trees.{In}
 use Rattle.call_tables.specs.declared.owing.Owing.{Owing}
 use Rattle.call_tables.specs.declared.wait.Wait.{Wait}
 use Rattle.call_tables.specs.declared.wait.Wait.TheVariants.{Quiet}
-use Rattle.call_tables.specs.Numbers.{below}
+use Rattle.standing_queries.specs.Numbers.{below}
 use Rattle.call_tables.specs.Waits.{wait_in}
 
 -- a line of an administrator has none

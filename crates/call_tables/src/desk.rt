@@ -32,7 +32,7 @@ impl Desk {
     ghost use Rattle.standing_queries.specs.Seen.{seen};
     ghost use Rattle.call_tables.specs.Desk as desks;
     ghost use Rattle.call_tables.specs.Desk.{IsAlone, HasRoom};
-    ghost use Rattle.call_tables.specs.Numbers.{Ascends};
+    ghost use Rattle.standing_queries.specs.Numbers.{Ascends};
     ghost use Rattle.call_tables.specs.Owed.{arrivals_of};
 
     /// Nobody is owed a reply. Takes no memory.

@@ -6,7 +6,7 @@ ghost use Rattle.poa_history.specs.Stages as begun;
 ghost use Rattle.standing_queries.specs.Seen.{seen};
 ghost use Rattle.call_tables.specs.Desk as desks;
 ghost use Rattle.call_tables.specs.Desk.{IsAlone, HasRoom};
-ghost use Rattle.call_tables.specs.Numbers.{Ascends};
+ghost use Rattle.standing_queries.specs.Numbers.{Ascends};
 ghost use Rattle.call_tables.specs.Owed.{arrivals_of, has_wait};
 
 use crate::filed::Filed;

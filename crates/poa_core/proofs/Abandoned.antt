@@ -5,7 +5,7 @@ use Rattle.poa_history.specs.Stages.{is_abandoned}
 use Rattle.poa_core.specs.declared.inside.Inside.{Inside}
 use Rattle.poa_core.specs.Agrees.{history}
 use Rattle.poa_core.specs.Answers.{Abandons}
-use Rattle.poa_core.specs.Life.{Life, with_entry}
+use Rattle.run_history.specs.Life.{Life, with_entry}
 use Rattle.poa_core.specs.Noting.{HasRoomForEntry, IsNoted}
 use Rattle.poa_core.specs.Kept.{IsKept, IsQuiet, stay}
 use Rattle.poa_core.proofs.Connected.{some_room, less_one}

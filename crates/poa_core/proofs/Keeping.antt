@@ -17,7 +17,7 @@ use Rattle.call_tables.specs.Decided.{AreFiled}
 use Rattle.adapter_state.specs.declared.coming.Coming.{Coming}
 use Rattle.adapter_state.specs.State.{is_turn}
 use Rattle.poa_core.specs.declared.inside.Inside.{Inside}
-use Rattle.poa_core.specs.Life.{Life}
+use Rattle.run_history.specs.Life.{Life}
 use Rattle.poa_core.specs.Agrees.{Agrees, KnowsTables, history, opened_in}
 use Rattle.poa_core.specs.Turning.{IsAsked, is_ending}
 use Rattle.poa_core.specs.Noting.{IsNoted}

@@ -21,7 +21,7 @@ use Rattle.arrival_tables.specs.Begun.{worker_of, only_ends}
 use Rattle.arrival_tables.proofs.Staging.{worker_stage}
 use Rattle.adapter_state.specs.State.{is_turn}
 use Rattle.poa_core.specs.Turning.{is_ending}
-use Rattle.poa_core.specs.Life.{Life}
+use Rattle.run_history.specs.Life.{Life}
 use Rattle.poa_core.specs.Answers.{Steps}
 use Rattle.poa_core.specs.declared.step_out.StepOut.{StepOut}
 

@@ -9,7 +9,7 @@ use Rattle.standing_queries.specs.Seen.{seen}
 use Rattle.call_tables.specs.Desk.{Comes}
 use Rattle.poa_core.specs.declared.inside.Inside.{Inside}
 use Rattle.poa_core.specs.declared.turning.Brought.{Brought}
-use Rattle.poa_core.specs.Life.{Life, with_entry}
+use Rattle.run_history.specs.Life.{Life, with_entry}
 use Rattle.poa_core.specs.Agrees.{opened_in}
 use Rattle.poa_core.specs.Noting.{IsHalfway}
 use Rattle.poa_core.proofs.Turned.{manned_before}

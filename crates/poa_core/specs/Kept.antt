@@ -13,7 +13,7 @@ use Rattle.arrival_tables.specs.Begun.{only_ends}
 use Rattle.arrival_tables.specs.Queued.{HasPlace}
 use Rattle.poa_core.specs.declared.inside.Inside.{Inside}
 use Rattle.poa_core.specs.declared.tables.Tables.{Tables}
-use Rattle.poa_core.specs.Life.{Life}
+use Rattle.run_history.specs.Life.{Life}
 use Rattle.call_tables.specs.Owed.{AreOwed}
 use Rattle.adapter_state.specs.State.{IsState, is_turn}
 use Rattle.poa_core.specs.Agrees.{Agrees, KnowsTables, history, opened_in}

@@ -1,4 +1,3 @@
-pub mod Life
 pub mod Answers
 pub mod Agrees
 pub mod Turning

@@ -14,7 +14,7 @@ use Rattle.run_tally.specs.Tallies.{HasRoomFor}
 use Rattle.adapter_state.specs.State.{IsState}
 use Rattle.poa_core.specs.declared.inside.Inside.{Inside}
 use Rattle.poa_core.specs.declared.turning.Brought.{Brought}
-use Rattle.poa_core.specs.Life.{with_entry}
+use Rattle.run_history.specs.Life.{with_entry}
 use Rattle.poa_core.specs.Agrees.{KnowsTables, opened_in, history}
 use Rattle.poa_core.specs.Kept.{life}
 use Rattle.poa_core.specs.Turning.{IsBrought}

@@ -13,7 +13,7 @@ ghost use Rattle.poa_history.specs.Lifetime.{HasLifetime};
 ghost use Rattle.poa_history.specs.States.{stored};
 ghost use Rattle.poa_tree.specs.Nodes.{node_at};
 ghost use Rattle.poa_base.specs.declared.Entry.TheVariants.{Left};
-ghost use Rattle.poa_core.specs.Life.{begun, opened, with_entry};
+ghost use Rattle.run_history.specs.Life.{begun, opened, with_entry};
 ghost use Rattle.poa_core.specs.Answers as answers;
 ghost use Rattle.poa_core.specs.Fits.{FitsItsCall};
 
@@ -29,7 +29,7 @@ use history_openings::laws::{lifetimes_are_kept, runs_last};
 use poa_base::{Call, Config, Entry, Path, Store, WantMemory};
 use poa_tree::nodes;
 use run_history::Givens;
-use run_tally::Phase;
+use run_tally::{Full, Phase};
 use seat_lock::Chronicle;
 use std::alloc::Global;
 use std::collections::VecDeque;
@@ -45,7 +45,7 @@ pub struct Core {
 impl Model for Core {
     ghost use Rattle.std.specs.Coded.{codes};
     ghost use Rattle.poa_base.specs.contracts.store.Store as store;
-    ghost use Rattle.poa_core.specs.Life.{Life};
+    ghost use Rattle.run_history.specs.Life.{Life};
     ghost use Rattle.poa_core.specs.Kept.{IsKept, life};
 
     ghost Value = { Life };
@@ -65,7 +65,7 @@ impl Chronicle for Core {
 
     ghost use Rattle.std.specs.Prelude.{reverse};
     ghost use Rattle.run_history.specs.Owners.{owner_of};
-    ghost use Rattle.poa_core.specs.Life.{givens_of};
+    ghost use Rattle.run_history.specs.Life.{givens_of};
 
     ghost givens = { givens_of };
 
@@ -150,6 +150,13 @@ impl Core {
         ensures { result ≡ phase_of self.now.history }
     {
         run_tally::phase_of(&self.inside.tables.tally)
+    }
+
+    /// How many calls, and bytes of calls, stood when the run took no more, if it came to that.
+    pub fn filled(&self) -> Option<Full>
+        ensures { option_map (λ f. (f.arrivals, f.bytes)) result ≡ answers.filled_at self.now.history }
+    {
+        run_tally::filled(&self.inside.tables.tally)
     }
 
     /// The decided replies that aren't collected, in the order in which they are given.

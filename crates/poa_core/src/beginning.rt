@@ -1,7 +1,7 @@
 //! A run begins.
 ghost use Rattle.std.specs.Prelude.{◌≡◌, ◌≤◌, IfOk};
 ghost use Rattle.conf_rules.specs.Rules.{KeepsRules};
-ghost use Rattle.poa_core.specs.Life as lives;
+ghost use Rattle.run_history.specs.Life as lives;
 ghost use Rattle.poa_core.specs.Kept.{IsKept, life};
 
 use crate::inside::Inside;

@@ -3,7 +3,7 @@ ghost use Rattle.std.specs.Prelude.{◌≡◌, ◌∷◌, true, IsOk, OnOk, OnEr
 ghost use Rattle.history_openings.specs.Runs.{IsRun};
 ghost use Rattle.standing_of.specs.Entries.{stage_at};
 ghost use Rattle.adapter_state.specs.State.{is_turn};
-ghost use Rattle.poa_core.specs.Life.{with_entry};
+ghost use Rattle.run_history.specs.Life.{with_entry};
 ghost use Rattle.poa_core.specs.Agrees.{history};
 ghost use Rattle.poa_core.specs.Kept.{IsKept, life};
 ghost use Rattle.poa_core.specs.Turning.{is_ending};

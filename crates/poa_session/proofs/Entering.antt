@@ -14,7 +14,7 @@ use Rattle.run_history.specs.declared.Givens.{Givens}
 use Rattle.run_history.specs.Owners.{owner_of, HasNone}
 use Rattle.run_history.proofs.Owned.{owners_low}
 use Rattle.poa_core.specs.Answers as answers
-use Rattle.poa_core.specs.Life.{Life, life_at}
+use Rattle.run_history.specs.Life.{Life, life_at}
 use Rattle.poa_shared.specs.Seen.{Turns, past}
 use Rattle.session_laws.specs.Records.{arrived_by, joined_by, filling_by, places_by}
 use Rattle.session_laws.proofs.Others.{arrived_others, filling_others, joined_others, places_others}

@@ -16,7 +16,7 @@ use Rattle.outside.specs.Cause.{Rose}
 use Rattle.outside.specs.Link.{Shown}
 use Rattle.run_history.specs.declared.Givens.{Givens}
 use Rattle.poa_core.specs.Answers as answers
-use Rattle.poa_core.specs.Life.{Life, life_at}
+use Rattle.run_history.specs.Life.{Life, life_at}
 use Rattle.poa_core.specs.declared.EnterFault.{EnterFault}
 use Rattle.poa_core.specs.declared.EnterFault.TheVariants as enter_fault
 use Rattle.poa_shared.specs.Seen.{Owns, Turns, past}

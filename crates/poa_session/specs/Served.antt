@@ -23,13 +23,13 @@ use Rattle.session_laws.specs.Records.{arrived, places, is_late}
 use Rattle.session_laws.specs.Sessions.{Cause, Hears, Session, closing}
 
 -- a CloseConnection was read
-abbrev pub IsClosed : Peer → List ℕ → Type 0
-IsClosed peer text = (calls : List Heard) × Hears peer text calls closed
+abbrev pub HasClosing : Peer → List ℕ → Type 0
+HasClosing peer text = (calls : List Heard) × Hears peer text calls closed
 
 -- after Truncated, and after Ended without a CloseConnection, the link had nothing left
 abbrev pub DriesUp : Peer → List ℕ → SessionEnd → Shown → Type 0
 DriesUp peer text (Truncated have) shown = IsDry shown
-DriesUp peer text Ended shown = IsClosed peer text ⊎ IsDry shown
+DriesUp peer text Ended shown = HasClosing peer text ⊎ IsDry shown
 DriesUp peer text end shown = Unit {0}
 
 -- the connection c entered by the seat and has left: what was read and written is its session by all that the seat has seen,

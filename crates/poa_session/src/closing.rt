@@ -5,7 +5,7 @@ ghost use Rattle.outside.specs.Cause.{HasCause};
 ghost use Rattle.run_history.specs.declared.Givens.{Givens};
 ghost use Rattle.session_laws.specs.Sessions.{closing, closing_message, is_settling as is_settling_end};
 ghost use Rattle.poa_shared.specs.Seats.{IsIdle};
-ghost use Rattle.poa_shared.specs.Seen.{Holds};
+ghost use Rattle.poa_shared.specs.Seen.{HoldsConnection};
 ghost use Rattle.poa_session.specs.Settling.{Settles};
 ghost use Rattle.poa_session.specs.Writing.{Writes};
 
@@ -32,10 +32,10 @@ pub(crate) fn settle<R: Wait, L: Link>(
     end: SessionEnd,
 ) -> SessionEnd
     requires seat { IsIdle shared.now seat.old }
-    requires conn { Holds (view seat.old) conn }
+    requires conn { HoldsConnection (view seat.old) conn }
     requires end { end ≢ SessionEnd.WriteFault }
     ensures seat { IsIdle shared.now seat.new }
-    ensures conn { Holds (view seat.new) conn }
+    ensures conn { HoldsConnection (view seat.new) conn }
     ensures settles { (g : Givens) → (view seat.old).givens ≡ Some g → Settles g peer conn (view seat.old) (L.shown link.old) (view seat.new) (L.shown link.new) end result }
     ensures read { result ≡ SessionEnd.ReadFault → end ≡ SessionEnd.ReadFault }
     ensures failed { HasCause (L.shown link.old).write_faults (L.shown link.new).write_faults (result ≡ SessionEnd.WriteFault) }

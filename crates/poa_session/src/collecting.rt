@@ -6,7 +6,7 @@ ghost use Rattle.run_history.specs.declared.Givens.{Givens};
 ghost use Rattle.giop_msg.specs.Reply.{AnswersHead};
 ghost use Rattle.session_laws.specs.Records.{told};
 ghost use Rattle.poa_shared.specs.Seats.{IsIdle};
-ghost use Rattle.poa_shared.specs.Seen.{Holds, Owns};
+ghost use Rattle.poa_shared.specs.Seen.{HoldsConnection, Owns};
 ghost use Rattle.poa_session.specs.Paying.{Gathers, NextGathered, Pays, PutsOn};
 
 use crate::writing::write_all;
@@ -30,9 +30,9 @@ pub(crate) fn collect_all<R: Wait, L: Link>(
     conn: u32,
 ) -> Result<u64, SessionEnd>
     requires seat { IsIdle shared.now seat.old }
-    requires conn { Holds (view seat.old) conn }
+    requires conn { HoldsConnection (view seat.old) conn }
     ensures seat { IsIdle shared.now seat.new }
-    ensures conn { Holds (view seat.new) conn }
+    ensures conn { HoldsConnection (view seat.new) conn }
     ensures pays { (g : Givens) → (view seat.old).givens ≡ Some g → Pays g conn (view seat.old) (L.shown link.old) (view seat.new) (L.shown link.new) result }
     ensures failed { HasCause (L.shown link.old).write_faults (L.shown link.new).write_faults (result ≡ Err SessionEnd.WriteFault) }
     ensures unread { result ≢ Err SessionEnd.ReadFault }
@@ -57,9 +57,9 @@ fn gather<R: Wait>(
     replies: &mut Vec<u8>,
 ) -> Result<u64, WantMemory>
     requires seat { IsIdle shared.now seat.old }
-    requires conn { Holds (view seat.old) conn }
+    requires conn { HoldsConnection (view seat.old) conn }
     ensures seat { IsIdle shared.now seat.new }
-    ensures conn { Holds (view seat.new) conn }
+    ensures conn { HoldsConnection (view seat.new) conn }
     ensures gathers { (g : Givens) → (view seat.old).givens ≡ Some g → Gathers g conn (view seat.old) (view seat.new) replies.old.items replies.new.items result }
 {
     let front = shared.front(rt);
@@ -85,9 +85,9 @@ fn collect_next<R: Wait>(
     replies: &mut Vec<u8>,
 ) -> Result<Option<u64>, WantMemory>
     requires seat { IsIdle shared.now seat.old }
-    requires conn { Holds (view seat.old) conn }
+    requires conn { HoldsConnection (view seat.old) conn }
     ensures seat { IsIdle shared.now seat.new }
-    ensures conn { Holds (view seat.new) conn }
+    ensures conn { HoldsConnection (view seat.new) conn }
     ensures next { (g : Givens) → (view seat.old).givens ≡ Some g → NextGathered g conn (view seat.old) (view seat.new) replies.old.items replies.new.items result }
 {
     let collected = shared.collect_within(rt, front, seat, conn);

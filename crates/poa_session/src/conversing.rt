@@ -4,7 +4,7 @@ ghost use Rattle.seat_lock.specs.Seats.{view};
 ghost use Rattle.outside.specs.Cause.{HasCause};
 ghost use Rattle.run_history.specs.declared.Givens.{Givens};
 ghost use Rattle.poa_shared.specs.Seats.{IsIdle};
-ghost use Rattle.poa_shared.specs.Seen.{Holds};
+ghost use Rattle.poa_shared.specs.Seen.{HoldsConnection};
 ghost use Rattle.session_laws.specs.Expecting.{Expects};
 ghost use Rattle.session_input.specs.Hearing.{OfIntake};
 ghost use Rattle.poa_session.specs.Settling.{Converses};
@@ -34,9 +34,9 @@ pub(crate) fn converse<R: Wait, L: Link>(
     peer: Peer,
 ) -> SessionEnd
     requires seat { IsIdle shared.now seat.old }
-    requires conn { Holds (view seat.old) conn }
+    requires conn { HoldsConnection (view seat.old) conn }
     ensures seat { IsIdle shared.now seat.new }
-    ensures conn { Holds (view seat.new) conn }
+    ensures conn { HoldsConnection (view seat.new) conn }
     ensures converses { (g : Givens) → (view seat.old).givens ≡ Some g → Converses g peer conn (view seat.old) (L.shown link.old) (view seat.new) (L.shown link.new) result }
     ensures read { (g : Givens) → (view seat.old).givens ≡ Some g → HasCause (L.shown link.old).read_faults (L.shown link.new).read_faults (result ≡ SessionEnd.ReadFault) }
     ensures written { HasCause (L.shown link.old).write_faults (L.shown link.new).write_faults (result ≡ SessionEnd.WriteFault) }
@@ -74,12 +74,12 @@ fn talk<R: Wait, L: Link>(
     peer: Peer,
 ) -> SessionEnd
     requires seat { IsIdle shared.now seat.old }
-    requires conn { Holds (view seat.old) conn }
+    requires conn { HoldsConnection (view seat.old) conn }
     requires fresh { Expects peer (OfIntake input.old) [] [] }
     requires taken { input.old.taken ≡ 0 }
     requires buffer { 0 < length buffer.old }
     ensures seat { IsIdle shared.now seat.new }
-    ensures conn { Holds (view seat.new) conn }
+    ensures conn { HoldsConnection (view seat.new) conn }
     ensures converses { (g : Givens) → (view seat.old).givens ≡ Some g → Converses g peer conn (view seat.old) (L.shown link.old) (view seat.new) (L.shown link.new) result }
     ensures read { (g : Givens) → (view seat.old).givens ≡ Some g → HasCause (L.shown link.old).read_faults (L.shown link.new).read_faults (result ≡ SessionEnd.ReadFault) }
     ensures written { HasCause (L.shown link.old).write_faults (L.shown link.new).write_faults (result ≡ SessionEnd.WriteFault) }

@@ -4,7 +4,7 @@ ghost use Rattle.seat_lock.specs.Seats.{view, IsUnchanged};
 ghost use Rattle.run_history.specs.declared.Givens.{Givens};
 ghost use Rattle.session_laws.specs.declared.Peer.{Peer};
 ghost use Rattle.poa_shared.specs.Seats.{IsIdle};
-ghost use Rattle.poa_shared.specs.Seen.{Holds};
+ghost use Rattle.poa_shared.specs.Seen.{HoldsConnection};
 ghost use Rattle.poa_session.specs.Listening.{AsArrived, Hears, Listens};
 ghost use Rattle.poa_history.specs.Legal.{IsSize};
 
@@ -27,9 +27,9 @@ pub(crate) fn listen<R: Wait>(
     conn: u32,
 ) -> Result<u64, SessionEnd>
     requires seat { IsIdle shared.now seat.old }
-    requires conn { Holds (view seat.old) conn }
+    requires conn { HoldsConnection (view seat.old) conn }
     ensures seat { IsIdle shared.now seat.new }
-    ensures conn { Holds (view seat.new) conn }
+    ensures conn { HoldsConnection (view seat.new) conn }
     ensures listens { (g : Givens) → (view seat.old).givens ≡ Some g → (peer : Peer) → Listens g peer conn (view seat.old) input.old (view seat.new) input.new result }
     ensures unwritten { (result ≢ Err SessionEnd.WriteFault) × (result ≢ Err SessionEnd.ReadFault) }
 {
@@ -72,9 +72,9 @@ fn listen_within<R: Wait>(
     has_called: &mut bool,
 ) -> Result<u64, SessionEnd>
     requires seat { IsIdle shared.now seat.old }
-    requires conn { Holds (view seat.old) conn }
+    requires conn { HoldsConnection (view seat.old) conn }
     ensures seat { IsIdle shared.now seat.new }
-    ensures conn { Holds (view seat.new) conn }
+    ensures conn { HoldsConnection (view seat.new) conn }
     ensures listens { (g : Givens) → (view seat.old).givens ≡ Some g → (peer : Peer) → Listens g peer conn (view seat.old) input.old (view seat.new) input.new result }
     ensures unwritten { (result ≢ Err SessionEnd.WriteFault) × (result ≢ Err SessionEnd.ReadFault) }
 {
@@ -100,9 +100,9 @@ fn hear<R: Wait>(
     has_called: &mut bool,
 ) -> Progress
     requires seat { IsIdle shared.now seat.old }
-    requires conn { Holds (view seat.old) conn }
+    requires conn { HoldsConnection (view seat.old) conn }
     ensures seat { IsIdle shared.now seat.new }
-    ensures conn { Holds (view seat.new) conn }
+    ensures conn { HoldsConnection (view seat.new) conn }
     ensures hears { (g : Givens) → (view seat.old).givens ≡ Some g → (peer : Peer) → Hears g peer conn (view seat.old) input.old (view seat.new) input.new result }
     ensures unwritten { (result ≢ Progress.Ends SessionEnd.WriteFault) × (result ≢ Progress.Ends SessionEnd.ReadFault) }
 {
@@ -132,10 +132,10 @@ fn arrive<R: Wait>(
     size: u64,
 ) -> Progress
     requires seat { IsIdle shared.now seat.old }
-    requires conn { Holds (view seat.old) conn }
+    requires conn { HoldsConnection (view seat.old) conn }
     requires size { IsSize size }
     ensures seat { IsIdle shared.now seat.new }
-    ensures conn { Holds (view seat.new) conn }
+    ensures conn { HoldsConnection (view seat.new) conn }
     ensures arrives { (g : Givens) → (view seat.old).givens ≡ Some g → AsArrived g conn call size (view seat.old) (view seat.new) result }
     ensures unwritten { (result ≢ Progress.Ends SessionEnd.WriteFault) × (result ≢ Progress.Ends SessionEnd.ReadFault) }
 {

@@ -4,7 +4,7 @@ ghost use Rattle.seat_lock.specs.Seats.{view};
 ghost use Rattle.outside.specs.Cause.{HasCause};
 ghost use Rattle.run_history.specs.declared.Givens.{Givens};
 ghost use Rattle.poa_shared.specs.Seats.{IsIdle};
-ghost use Rattle.poa_shared.specs.Seen.{Holds};
+ghost use Rattle.poa_shared.specs.Seen.{HoldsConnection};
 ghost use Rattle.poa_session.specs.Paying.{PaysAll};
 ghost use Rattle.poa_session.specs.Stopping.{Looks};
 
@@ -26,9 +26,9 @@ pub(crate) fn pay<R: Wait, L: Link>(
     conn: u32,
 ) -> Result<(), SessionEnd>
     requires seat { IsIdle shared.now seat.old }
-    requires conn { Holds (view seat.old) conn }
+    requires conn { HoldsConnection (view seat.old) conn }
     ensures seat { IsIdle shared.now seat.new }
-    ensures conn { Holds (view seat.new) conn }
+    ensures conn { HoldsConnection (view seat.new) conn }
     ensures pays { (g : Givens) → (view seat.old).givens ≡ Some g → PaysAll g conn (view seat.old) (L.shown link.old) (view seat.new) (L.shown link.new) result }
     ensures failed { HasCause (L.shown link.old).write_faults (L.shown link.new).write_faults (result ≡ Err SessionEnd.WriteFault) }
     ensures unread { result ≢ Err SessionEnd.ReadFault }
@@ -67,7 +67,7 @@ pub(crate) fn look<R: Wait>(rt: &R, shared: &Shared, seat: &mut Seat) -> Option<
     requires seat { IsIdle shared.now seat.old }
     ensures seat { IsIdle shared.now seat.new }
     ensures looks { (g : Givens) → (view seat.old).givens ≡ Some g → Looks g (view seat.old) (view seat.new) result }
-    ensures holds { (c : ℕ) → Holds (view seat.old) c → Holds (view seat.new) c }
+    ensures holds { (c : ℕ) → HoldsConnection (view seat.old) c → HoldsConnection (view seat.new) c }
     ensures unfaulted { (result ≢ Some SessionEnd.WriteFault) × (result ≢ Some SessionEnd.ReadFault) }
 {
     match shared.phase(rt, seat) {

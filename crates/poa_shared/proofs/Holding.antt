@@ -18,7 +18,7 @@ use Rattle.run_history.specs.declared.givens.Givens.{Givens}
 use Rattle.run_history.specs.Owners.{owner_of}
 use Rattle.run_history.specs.Runs.{IsHistory}
 use Rattle.run_history.proofs.Owned.{owners_low}
-use Rattle.poa_shared.specs.Seen.{GoesOn, Holds, Owns}
+use Rattle.poa_shared.specs.Seen.{GoesOn, HoldsConnection, Owns}
 use Rattle.poa_shared.proofs.Places.{at_reversed, at_shorter, none_behind, reversed_at}
 
 -- a connection that has left left by an entry
@@ -65,7 +65,7 @@ module _ (v : View Givens Entry) (h : List Entry) (k : Knows owner_of v (reverse
     pub owned_entered : (c : ℕ) → Owns v c → c < connections h
     owned_entered c owns = owners_low g.config g.run g.limit h runs.legal (Entered c) (at_reversed h owns.place (Entered c) (entered_here c owns)) c refl
 
-    pub held_open : (c : ℕ) → Holds v c → IsOpen h c
+    pub held_open : (c : ℕ) → HoldsConnection v c → IsOpen h c
     held_open c holds =
         record {
           entered = owned_entered c holds.owns;

@@ -15,7 +15,7 @@ use Rattle.seat_lock.specs.Steps.{Knows}
 use Rattle.run_history.specs.declared.givens.Givens.{Givens}
 use Rattle.run_history.specs.Owners.{owner_of}
 use Rattle.run_history.specs.Runs.{IsHistory}
-use Rattle.poa_core.specs.Life.{Life, givens_of, with_entry}
+use Rattle.run_history.specs.Life.{Life, givens_of, with_entry}
 use Rattle.poa_core.specs.Answers.{Enters, Arrives, Steps, Collects, Abandons}
 use Rattle.poa_core.specs.declared.enter_fault.EnterFault.{EnterFault}
 use Rattle.poa_core.specs.declared.enter_fault.EnterFault.TheVariants as enter_fault

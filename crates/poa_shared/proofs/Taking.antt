@@ -21,9 +21,9 @@ use Rattle.seat_lock.proofs.Totals.{at_below, at_push, in_added, in_last}
 use Rattle.run_history.specs.declared.givens.Givens.{Givens}
 use Rattle.run_history.specs.Owners.{owner_of}
 use Rattle.run_history.specs.Runs.{IsHistory}
-use Rattle.poa_core.specs.Life.{Life, givens_of, life_at, with_entry}
+use Rattle.run_history.specs.Life.{Life, givens_of, life_at, with_entry}
 use Rattle.poa_shared.specs.Events.{Event}
-use Rattle.poa_shared.specs.Seen.{Holds, Owns, Turns, past}
+use Rattle.poa_shared.specs.Seen.{HoldsConnection, Owns, Turns, past}
 use Rattle.poa_shared.proofs.Holding.{goes_on}
 use Rattle.poa_shared.proofs.Made.{IsMade}
 use Rattle.poa_shared.proofs.Places.{at_reversed, at_shorter, reverse_more}
@@ -56,7 +56,7 @@ module _ (v : View Givens Entry) (x y : Life) (made : IsMade v x y) where
         }
 
     -- an own position of the new history is an old one, or that of the new entry
-    held_after : (c : ℕ) → Holds v c → (past (after v n x y) ≡ Left c ∷ x.history → ⊥) → Holds (after v n x y) c
+    held_after : (c : ℕ) → HoldsConnection v c → (past (after v n x y) ≡ Left c ∷ x.history → ⊥) → HoldsConnection (after v n x y) c
     held_after c holds stays =
         record {
           owns = owned_after c holds.owns;
@@ -120,17 +120,17 @@ module _ (v u : View Givens Entry) (n : ℕ) (x y : Life) (took : u ≡ turned_t
         subst (Event P v) is_after
         (is_event v x y made n taken.1 (subst (λ t. Knows owner_of t (reverse y.history)) (sym is_after) known) runs P taken.0 p)
 
-    pub holds_after : (c : ℕ) → Knows owner_of v (reverse x.history) → Holds v c → (y ≡ with_entry (Left c) x → ⊥) → Holds w c
+    pub holds_after : (c : ℕ) → Knows owner_of v (reverse x.history) → HoldsConnection v c → (y ≡ with_entry (Left c) x → ⊥) → HoldsConnection w c
     holds_after c k holds stays =
-        subst (λ t. Holds t c) is_after (held_after v x y made n k c holds (λ is. stays (gone is)))
+        subst (λ t. HoldsConnection t c) is_after (held_after v x y made n k c holds (λ is. stays (gone is)))
       where
         gone : reverse (reverse y.history) ≡ Left c ∷ x.history → y ≡ with_entry (Left c) x
         gone is = ap₂ life_at (same_givens v x y made) (sym (reverse-reverse y.history) ∙ is)
 
     -- a connection that enters is held
-    pub enters_hold : (r : Result ℕ EnterFault) → Knows owner_of v (reverse x.history) → IsHistory (givens_of x) x.history → Enters x r y → IfOk r (Holds w)
+    pub enters_hold : (r : Result ℕ EnterFault) → Knows owner_of v (reverse x.history) → IsHistory (givens_of x) x.history → Enters x r y → IfOk r (HoldsConnection w)
     enters_hold (Ok conn) k runs s =
-        subst (λ t. Holds t conn) is_after
+        subst (λ t. HoldsConnection t conn) is_after
         (record {
           owns = record {
             place = length (reverse x.history);

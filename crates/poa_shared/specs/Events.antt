@@ -7,7 +7,7 @@ use Rattle.run_history.specs.declared.givens.Givens.{Givens}
 use Rattle.poa_journal.specs.Journal.{journal_text}
 use Rattle.poa_core.specs.Answers.{Collects}
 use Rattle.poa_core.specs.Fits.{FitsItsCall}
-use Rattle.poa_core.specs.Life.{Life, life_at}
+use Rattle.run_history.specs.Life.{Life, life_at}
 use Rattle.poa_core.specs.declared.collected.Collected.{Collected}
 use Rattle.poa_shared.specs.Seen.{past, Turns}
 

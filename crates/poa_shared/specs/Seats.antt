@@ -4,7 +4,7 @@ use Rattle.run_history.specs.declared.givens.Givens.{Givens}
 use Rattle.seat_lock.specs.Seats.{IsFree, IsSeatOf, Seat}
 use Rattle.seat_lock.specs.declared.view.View.{View}
 use Rattle.std.specs.Prelude.{Option}
-use Rattle.poa_core.specs.Life.{Life}
+use Rattle.run_history.specs.Life.{Life}
 use Rattle.poa_shared.specs.declared.shared.Shared.{Shared}
 
 -- the seat is one of this shared core, and holds nothing

@@ -22,7 +22,7 @@ pub record Owns (v : View Givens Entry) (c : ℕ) : Type 0 where
   pub entered : get_elem? v.seen place ≡ some (Entered c)
 
 -- and didn't leave by it
-pub record Holds (v : View Givens Entry) (c : ℕ) : Type 0 where
+pub record HoldsConnection (v : View Givens Entry) (c : ℕ) : Type 0 where
   pub owns : Owns v c
   pub staying : (x : ℕ) → In x v.mine → get_elem? v.seen x ≡ some (Left c) → ⊥
 
@@ -43,4 +43,4 @@ pub record Turns (g : Givens) (v : View Givens Entry) (h : List Entry) (w : View
   pub base : w.base ≡ v.base
   pub room : w.room ≡ v.room
   pub owned : (c : ℕ) → Owns v c → Owns w c
-  pub kept : (c : ℕ) → Holds v c → (past w ≡ Left c ∷ h → ⊥) → Holds w c
+  pub kept : (c : ℕ) → HoldsConnection v c → (past w ≡ Left c ∷ h → ⊥) → HoldsConnection w c

@@ -5,7 +5,7 @@ ghost use Rattle.seat_lock.specs.Seats.{view};
 ghost use Rattle.poa_core.specs.Answers as answers;
 ghost use Rattle.poa_shared.specs.Events.{Event};
 ghost use Rattle.poa_shared.specs.Seats.{IsIdle};
-ghost use Rattle.poa_shared.specs.Seen.{Holds};
+ghost use Rattle.poa_shared.specs.Seen.{HoldsConnection};
 
 use crate::shared::{Front, Seat, Shared};
 use poa_base::Call;
@@ -23,11 +23,11 @@ impl Shared {
         size: u64,
     ) -> Result<u64, ArriveFault>
         requires seat { IsIdle self.now seat.old }
-        requires conn { Holds (view seat.old) conn }
+        requires conn { HoldsConnection (view seat.old) conn }
         requires size { IsSize size }
         ensures seat { IsIdle self.now seat.new }
         ensures arrived { Event (λ old new. answers.Arrives conn call size old result new) (view seat.old) (view seat.new) }
-        ensures holds { Holds (view seat.new) conn }
+        ensures holds { HoldsConnection (view seat.new) conn }
     {
         let front = self.front(rt);
         let result = self.arrive_within(rt, &front, seat, conn, call, size);
@@ -47,11 +47,11 @@ impl Shared {
         size: u64,
     ) -> Result<u64, ArriveFault>
         requires seat { IsIdle self.now seat.old }
-        requires conn { Holds (view seat.old) conn }
+        requires conn { HoldsConnection (view seat.old) conn }
         requires size { IsSize size }
         ensures seat { IsIdle self.now seat.new }
         ensures arrived { Event (λ old new. answers.Arrives conn call size old result new) (view seat.old) (view seat.new) }
-        ensures holds { Holds (view seat.new) conn }
+        ensures holds { HoldsConnection (view seat.new) conn }
     {
         let mut core = self.lock.take(rt, seat);
         core.is_legal();

@@ -4,7 +4,7 @@ ghost use Rattle.seat_lock.specs.Seats.{view};
 ghost use Rattle.poa_core.specs.Answers as answers;
 ghost use Rattle.poa_shared.specs.Events.{CollectsFitting, Event};
 ghost use Rattle.poa_shared.specs.Seats.{IsIdle};
-ghost use Rattle.poa_shared.specs.Seen.{Holds, Owns};
+ghost use Rattle.poa_shared.specs.Seen.{HoldsConnection, Owns};
 
 use crate::shared::{Front, Seat, Shared};
 use poa_core::Collected;
@@ -17,7 +17,7 @@ impl Shared {
         requires conn { Owns (view seat.old) conn }
         ensures seat { IsIdle self.now seat.new }
         ensures collected { Event (CollectsFitting conn result) (view seat.old) (view seat.new) }
-        ensures holds { (c : ℕ) → Holds (view seat.old) c → Holds (view seat.new) c }
+        ensures holds { (c : ℕ) → HoldsConnection (view seat.old) c → HoldsConnection (view seat.new) c }
     {
         let front = self.front(rt);
         self.collect_within(rt, &front, seat, conn)
@@ -35,7 +35,7 @@ impl Shared {
         requires conn { Owns (view seat.old) conn }
         ensures seat { IsIdle self.now seat.new }
         ensures collected { Event (CollectsFitting conn result) (view seat.old) (view seat.new) }
-        ensures holds { (c : ℕ) → Holds (view seat.old) c → Holds (view seat.new) c }
+        ensures holds { (c : ℕ) → HoldsConnection (view seat.old) c → HoldsConnection (view seat.new) c }
     {
         let mut core = self.lock.take(rt, seat);
         core.is_legal();

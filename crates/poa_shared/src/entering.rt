@@ -4,10 +4,10 @@ ghost use Rattle.poa_base.specs.declared.Entry.TheVariants.{Left};
 ghost use Rattle.seat_lock.specs.Seats.{view};
 ghost use Rattle.run_tally.specs.Phases.{phase_of};
 ghost use Rattle.poa_core.specs.Answers as answers;
-ghost use Rattle.poa_core.specs.Life.{with_entry};
+ghost use Rattle.run_history.specs.Life.{with_entry};
 ghost use Rattle.poa_shared.specs.Events.{Event};
 ghost use Rattle.poa_shared.specs.Seats.{IsIdle};
-ghost use Rattle.poa_shared.specs.Seen.{Holds};
+ghost use Rattle.poa_shared.specs.Seen.{HoldsConnection};
 
 use crate::shared::{Seat, Shared};
 use poa_core::{EnterFault, Phase};
@@ -19,7 +19,7 @@ impl Shared {
         requires seat { IsIdle self.now seat.old }
         ensures seat { IsIdle self.now seat.new }
         ensures entered { Event (λ old new. answers.Enters old result new) (view seat.old) (view seat.new) }
-        ensures holds { IfOk result (Holds (view seat.new)) }
+        ensures holds { IfOk result (HoldsConnection (view seat.new)) }
     {
         let _front = self.front(rt);
         let mut core = self.lock.take(rt, seat);
@@ -33,7 +33,7 @@ impl Shared {
     /// A connection that the seat holds leaves. Workers are woken, since the run may be over.
     pub fn leave<R: Wait>(&self, rt: &R, seat: &mut Seat, conn: u32)
         requires seat { IsIdle self.now seat.old }
-        requires conn { Holds (view seat.old) conn }
+        requires conn { HoldsConnection (view seat.old) conn }
         ensures seat { IsIdle self.now seat.new }
         ensures left { Event (λ old new. new ≡ with_entry (Left conn) old) (view seat.old) (view seat.new) }
     {
@@ -69,7 +69,7 @@ impl Shared {
         requires { IsIdle self.now seat.old }
         ensures seat { IsIdle self.now seat.new }
         ensures phase { Event (λ old new. (new ≡ old) × (result ≡ phase_of old.history)) (view seat.old) (view seat.new) }
-        ensures holds { (c : ℕ) → Holds (view seat.old) c → Holds (view seat.new) c }
+        ensures holds { (c : ℕ) → HoldsConnection (view seat.old) c → HoldsConnection (view seat.new) c }
     {
         let _front = self.front(rt);
         let core = self.lock.take(rt, seat);

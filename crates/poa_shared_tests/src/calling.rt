@@ -2,7 +2,7 @@
 ghost use Rattle.std.specs.Prelude.{◌≡◌};
 ghost use Rattle.seat_lock.specs.Seats.{view};
 ghost use Rattle.poa_shared.specs.Seats.{IsIdle};
-ghost use Rattle.poa_shared.specs.Seen.{Holds};
+ghost use Rattle.poa_shared.specs.Seen.{HoldsConnection};
 
 use crate::asking;
 use poa_base::{Call, Reply, WantMemory};
@@ -17,9 +17,9 @@ const SIZE: u64 = 72;
 /// Awaits the next reply of a connection.
 fn await_reply<R: Wait>(rt: &R, shared: &Shared, seat: &mut Seat, conn: u32) -> Reply
     requires seat { IsIdle shared.now seat.old }
-    requires conn { Holds (view seat.old) conn }
+    requires conn { HoldsConnection (view seat.old) conn }
     ensures seat { IsIdle shared.now seat.new }
-    ensures conn { Holds (view seat.new) conn }
+    ensures conn { HoldsConnection (view seat.new) conn }
 {
     for _ in rt.forever() {
         let heard = shared.listen(seat, Bell::Connection(conn));
@@ -34,9 +34,9 @@ fn await_reply<R: Wait>(rt: &R, shared: &Shared, seat: &mut Seat, conn: u32) -> 
 /// Asks a call and awaits its reply; none where it isn't taken.
 fn ask<R: Wait>(rt: &R, shared: &Shared, seat: &mut Seat, conn: u32, call: Call) -> Option<Reply>
     requires seat { IsIdle shared.now seat.old }
-    requires conn { Holds (view seat.old) conn }
+    requires conn { HoldsConnection (view seat.old) conn }
     ensures seat { IsIdle shared.now seat.new }
-    ensures conn { Holds (view seat.new) conn }
+    ensures conn { HoldsConnection (view seat.new) conn }
 {
     match shared.arrive(rt, seat, conn, call, SIZE) {
         Ok(_) => Some(await_reply(rt, shared, seat, conn)),
@@ -55,9 +55,9 @@ fn ask_all<R: Wait>(
     calls: u32,
 ) -> Result<Vec<Reply>, WantMemory>
     requires seat { IsIdle shared.now seat.old }
-    requires conn { Holds (view seat.old) conn }
+    requires conn { HoldsConnection (view seat.old) conn }
     ensures seat { IsIdle shared.now seat.new }
-    ensures conn { Holds (view seat.new) conn }
+    ensures conn { HoldsConnection (view seat.new) conn }
 {
     let mut replies = Vec::new(alloc);
     for number in 0..calls {

@@ -18,11 +18,11 @@ use Rattle.run_tally.specs.Leaving.{is_shut, is_staying, are_gone, staying}
 use Rattle.run_endings.specs.Closing.{IsClosed}
 use Rattle.run_history.specs.declared.givens.Givens.{Givens}
 use Rattle.poa_core.specs.Answers.{Abandons, Steps, unadmitted, is_run_over}
-use Rattle.poa_core.specs.Life.{with_entry}
+use Rattle.run_history.specs.Life.{with_entry}
 use Rattle.poa_core.specs.declared.step_out.StepOut.TheVariants as step_out
 use Rattle.poa_shared.specs.Seen.{past, Turns}
 use Rattle.poa_shared.specs.Events.{Event}
-use Rattle.poa_core.specs.Life.{life_at}
+use Rattle.run_history.specs.Life.{life_at}
 use Rattle.poa_worker.specs.declared.work_end.WorkEnd.TheVariants as work_end
 use Rattle.poa_worker.specs.Worked.{Worked}
 use Rattle.poa_worker.specs.Pauses.{HasSeenAll, IsPaused, MakesTurns, Pauses}

@@ -6,7 +6,7 @@ use Rattle.poa_base.specs.declared.Point.{Point}
 use Rattle.poa_base.specs.declared.Reply.{Reply}
 use Rattle.giop_msg.specs.Reply.{reply_bytes}
 use Rattle.poa_history.specs.Legal.{IsOpen}
-use Rattle.poa_core.specs.Life.{Life, with_entry}
+use Rattle.run_history.specs.Life.{Life, with_entry}
 use Rattle.poa_core.specs.Answers.{Steps, Collects, is_taken}
 use Rattle.poa_core.specs.declared.StepOut.{StepOut}
 use Rattle.poad_cmd.specs.declared.stop.Stop.{Stop}

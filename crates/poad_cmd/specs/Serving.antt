@@ -11,7 +11,7 @@ use Rattle.giop_msg.specs.Reply.{reply_bytes}
 use Rattle.poa_history.specs.Legal.{IsLegal}
 use Rattle.poa_history.specs.Lifetime.{HasLifetime}
 use Rattle.history_laws.specs.Lasting.{KeepsUpdates, LeavesNothing}
-use Rattle.poa_core.specs.Life.{Life, with_entry, opened}
+use Rattle.run_history.specs.Life.{Life, with_entry, opened}
 use Rattle.poa_core.specs.Answers.{is_taken}
 use Rattle.replay_run.specs.Working.{IsIdle, Makes}
 use Rattle.replay_run.specs.Talking.{CollectsAll}

@@ -9,7 +9,7 @@ use Rattle.poa_base.specs.Store.{Slots, stored as stored_in}
 use Rattle.poa_history.specs.Lifetime.{HasLifetime}
 use Rattle.history_openings.specs.Runs.{IsRun}
 use Rattle.history_laws.specs.Lasting.{KeepsUpdates, LeavesNothing}
-use Rattle.poa_core.specs.Life.{Life, with_entry, opened}
+use Rattle.run_history.specs.Life.{Life, with_entry, opened}
 use Rattle.replay_script.specs.declared.ScriptStep.{ScriptStep}
 use Rattle.replay_script.specs.declared.Step.{Step}
 use Rattle.replay_script.specs.declared.Step.TheVariants as step

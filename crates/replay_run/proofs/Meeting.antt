@@ -3,7 +3,7 @@ use Rattle.std.proofs.Common.{◌≡◌, ℕ, zero, suc, Bool, true, false, List
 use Rattle.std.specs.Option.{option_or}
 use Rattle.poa_base.specs.declared.Entry.TheVariants.{Entered}
 use Rattle.poa_history.specs.Arrivals.{arrivals, arrived_bytes, connections}
-use Rattle.poa_core.specs.Life.{Life, with_entry}
+use Rattle.run_history.specs.Life.{Life, with_entry}
 use Rattle.poa_core.specs.Answers.{filled_at}
 use Rattle.replay_run.specs.declared.channel.Channel.{Channel}
 use Rattle.replay_run.specs.declared.played.Full.{Full}

@@ -1,6 +1,6 @@
 -- What was done so far, with whatever follows, is the whole.
 use Rattle.std.proofs.Common.{◌≡◌, ℕ, Bool, true, false, List, [], ◌∷◌, ◌++◌, refl, sym, ap, ◌∙◌, subst, append_assoc, append-nil}
-use Rattle.poa_core.specs.Life.{Life}
+use Rattle.run_history.specs.Life.{Life}
 use Rattle.replay_run.specs.declared.channel.Channel.{Channel}
 use Rattle.replay_run.specs.declared.player.Player.{Player}
 use Rattle.replay_run.specs.World.{World, Talk}

@@ -9,7 +9,7 @@ use Rattle.poa_base.specs.declared.Reply.{Reply}
 use Rattle.poa_history.specs.Arrivals.{connections}
 use Rattle.poa_history.specs.Legal.{has_left, is_filled}
 use Rattle.poa_history.specs.Stages.{is_abandoned}
-use Rattle.poa_core.specs.Life.{Life, with_entry}
+use Rattle.run_history.specs.Life.{Life, with_entry}
 use Rattle.poa_core.specs.Answers.{filled_at, filled_by, is_taken}
 use Rattle.giop_frame.specs.Stream.{Framed}
 use Rattle.giop_msg.specs.declared.Incoming.{Incoming}

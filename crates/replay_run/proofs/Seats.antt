@@ -8,7 +8,7 @@ use Rattle.poa_base.specs.declared.Entry.{Entry}
 use Rattle.poa_base.specs.declared.Entry.TheVariants.{Arrive, Entered, Left, Filled}
 use Rattle.poa_history.specs.Arrivals.{connections}
 use Rattle.poa_history.specs.Legal.{has_left, is_filled, IsOpen}
-use Rattle.poa_core.specs.Life.{Life, with_entry}
+use Rattle.run_history.specs.Life.{Life, with_entry}
 use Rattle.poa_core.specs.declared.ArriveFault.{ArriveFault}
 use Rattle.poa_core.specs.declared.ArriveFault.TheVariants as arrive_fault
 use Rattle.poa_core.specs.Answers.{filled_at, filled_by, is_taken, Arrives}

@@ -10,7 +10,7 @@ use Rattle.poa_base.specs.declared.Reply.{Reply}
 use Rattle.poa_history.specs.Arrivals.{arrivals, arrived_bytes, call_of, connections}
 use Rattle.poa_history.specs.Replies.{next_reply, reply_of}
 use Rattle.poa_history.specs.Legal.{has_left, IsOpen}
-use Rattle.poa_core.specs.Life.{Life, with_entry, opened}
+use Rattle.run_history.specs.Life.{Life, with_entry, opened}
 use Rattle.poa_core.specs.Answers.{filled_at, head_of}
 use Rattle.replay_run.specs.declared.channel.Channel.{Channel}
 use Rattle.replay_run.specs.declared.player.Player.{Player}

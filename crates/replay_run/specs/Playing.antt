@@ -11,7 +11,7 @@ use Rattle.history_laws.specs.Undone.{IsAllDone}
 use Rattle.history_laws.specs.Lasting.{KeepsUpdates, LeavesNothing}
 use Rattle.poa_history.specs.States.{stored}
 use Rattle.poa_journal.specs.Journal.{journal_text, store_text}
-use Rattle.poa_core.specs.Life.{Life, begun, opened}
+use Rattle.run_history.specs.Life.{Life, begun, opened}
 use Rattle.poa_core.specs.Answers.{filled_at, unadmitted}
 use Rattle.replay_script.specs.declared.Script.{Script}
 use Rattle.replay_script.specs.declared.ScriptStep.{ScriptStep}

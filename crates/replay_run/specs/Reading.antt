@@ -11,7 +11,7 @@ use Rattle.giop_msg.specs.declared.Incoming.{Incoming}
 use Rattle.giop_msg.specs.declared.Incoming.TheVariants as incoming
 use Rattle.giop_msg.specs.declared.MsgFault.{MsgFault}
 use Rattle.giop_msg.specs.Call.{CallOf}
-use Rattle.poa_core.specs.Life.{Life, with_entry}
+use Rattle.run_history.specs.Life.{Life, with_entry}
 use Rattle.poa_core.specs.Answers.{is_taken, filled_by}
 use Rattle.replay_run.specs.World.{Talk}
 use Rattle.replay_run.specs.Lines.{limit_line, bad_line}

@@ -8,7 +8,7 @@ use Rattle.poa_base.specs.declared.Reply.{Reply}
 use Rattle.poa_history.specs.Arrivals.{arrivals, arrived_bytes, call_of, connections}
 use Rattle.poa_history.specs.Replies.{next_reply, reply_of}
 use Rattle.admin_line.specs.Reading.{command_of_line}
-use Rattle.poa_core.specs.Life.{Life, with_entry, opened}
+use Rattle.run_history.specs.Life.{Life, with_entry, opened}
 use Rattle.poa_core.specs.Answers.{head_of}
 use Rattle.replay_run.specs.declared.channel.Channel.{Channel}
 use Rattle.replay_run.specs.declared.line.Line.{Line as LineData}

@@ -5,7 +5,7 @@ ghost use Rattle.poa_history.specs.Legal.{IsLegal};
 ghost use Rattle.poa_history.specs.Lifetime.{HasLifetime};
 ghost use Rattle.history_laws.specs.Lasting.{KeepsUpdates, LeavesNothing};
 ghost use Rattle.history_openings.specs.Runs.{IsRun};
-ghost use Rattle.poa_core.specs.Life.{opened};
+ghost use Rattle.run_history.specs.Life.{opened};
 ghost use Rattle.poa_core.specs.Answers.{unadmitted};
 ghost use Rattle.conf_rules.specs.Rules.{KeepsRules};
 ghost use Rattle.replay_run.specs.Playing.{IsPlayed, Plays, PlaysAll};

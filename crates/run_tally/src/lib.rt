@@ -14,5 +14,5 @@ mod tests;
 pub use full::Full;
 pub use moves::{advance, is_shutdown};
 pub use phase::Phase;
-pub use queries::{connections, is_open, is_run_over, is_taken, phase_of};
+pub use queries::{connections, filled, is_open, is_run_over, is_taken, phase_of};
 pub use tally::{Tally, none, reserve};

@@ -1,5 +1,5 @@
 //! What a tally answers, without memory.
-ghost use Rattle.std.specs.Prelude.{◌≡◌, ◌↔◌, ◌+◌, ◌^◌, ◌&&◌, ◌==◌, IsTrue, List, length, nat_le, nat_lt, not, None};
+ghost use Rattle.std.specs.Prelude.{◌≡◌, ◌↔◌, ◌+◌, ◌^◌, ◌&&◌, ◌==◌, IsTrue, List, length, nat_le, nat_lt, not, None, option_map};
 ghost use Rattle.poa_base.specs.declared.Entry.{Entry};
 ghost use Rattle.poa_history.specs.Arrivals as calls;
 ghost use Rattle.poa_history.specs.Legal as legal;
@@ -8,6 +8,7 @@ ghost use Rattle.run_tally.specs.Leaving as leaving;
 ghost use Rattle.run_tally.specs.Phases as phases;
 ghost use Rattle.run_tally.specs.Tallies.{IsTally, flag_of};
 
+use crate::full::Full;
 use crate::moves::is_shutdown;
 use crate::phase::Phase;
 use crate::tally::Tally;
@@ -80,6 +81,13 @@ pub fn is_run_over(tally: &Tally, unadmitted: u64) -> bool
     ensures { (h : List Entry) → IsTally h tally.now → result ≡ (leaving.is_shut h && (leaving.are_gone h (calls.connections h) && (unadmitted == 0))) }
 {
     tally.shut && tally.staying == 0 && unadmitted == 0
+}
+
+/// How many calls, and bytes of calls, stood when a run took no more, if it came to that.
+pub fn filled(tally: &Tally) -> Option<Full>
+    ensures { (h : List Entry) → IsTally h tally.now → option_map (λ f. (f.arrivals, f.bytes)) result ≡ limits.filled_at h }
+{
+    tally.filled
 }
 
 /// How far a run has come that no worker gave up.

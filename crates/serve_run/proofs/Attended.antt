@@ -5,7 +5,7 @@ use native.Mathlib.Decide.{ℕ_discrete}
 use Rattle.outside.specs.Accepting.{Standing}
 use Rattle.outside.specs.Link.{Shown}
 use Rattle.poa_base.specs.declared.Entry.{Entry}
-use Rattle.poa_shared.specs.Seen.{Holds as HoldsConnection}
+use Rattle.poa_shared.specs.Seen.{HoldsConnection}
 use Rattle.poa_worker.specs.Worked.{Worked as WorkedAs}
 use Rattle.poa_worker.specs.declared.work_end.WorkEnd.{WorkEnd}
 use Rattle.poa_worker.specs.declared.work_end.WorkEnd.TheVariants.{Closed, Stopped, WantMemory}

@@ -25,7 +25,7 @@ use Rattle.serve_pieces.specs.declared.ran.PieceEnd.{PieceEnd}
 use Rattle.serve_pieces.specs.declared.ran.PieceEnd.TheVariants.{DoorEnd, DoorFailed, NotRunning, Worked}
 use Rattle.serve_pieces.proofs.Places.{earlier_stands}
 use Rattle.serve_run.specs.Holding.{AreBefore}
-use Rattle.serve_run.specs.Served.{EachEnded, EachPassed, IsEnded, IsKept, is_shut_by_others}
+use Rattle.serve_run.specs.Served.{EachEnded, EachPassed, IsEnded, NoneGaveUp, is_shut_by_others}
 use Rattle.serve_run.specs.Tours.{Tour, EachToured, HasToured}
 use Rattle.serve_run.proofs.Lasting.{arrived_at, reversed_more}
 use Rattle.serve_run.proofs.Whole.{abandoned_now, abandoned_still}
@@ -148,7 +148,7 @@ why_stopped h phase is other = by_facts (first_abandoned h) (is_shut h) (is_fill
     by_facts None false true gave shut filled at = by_filled filled
     by_facts None false false gave shut filled at = absurd (other at)
 
-module _ {A L : Type 0} (g : Givens) (shown : L → Shown) (standing_of : A → Option (Standing L)) (faults : A → ℕ) (v : View Givens Entry) (log : List Entry) (seen : log ≡ v.seen) (going : IsKept log) where
+module _ {A L : Type 0} (g : Givens) (shown : L → Shown) (standing_of : A → Option (Standing L)) (faults : A → ℕ) (v : View Givens Entry) (log : List Entry) (seen : log ≡ v.seen) (going : NoneGaveUp log) where
   module _ (t : Tour A L) (none : NoneSaid (reverse t.stood)) (it : HasToured {A = A} {L = L} g shown standing_of faults t v) where
     p : IsPrefix t.stood log
     p = subst (IsPrefix t.stood) (sym seen) it.later

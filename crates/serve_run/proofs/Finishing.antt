@@ -9,7 +9,7 @@ use Rattle.poa_base.specs.declared.Call.{Call}
 use Rattle.poa_base.specs.declared.Config.{Config}
 use Rattle.poa_base.specs.declared.Entry.{Entry}
 use Rattle.poa_base.specs.declared.Entry.TheVariants.{Entered, Arrive}
-use Rattle.poa_core.specs.Life.{Life, givens_of}
+use Rattle.run_history.specs.Life.{Life, givens_of}
 use Rattle.poa_history.specs.Lifetime.{HasLifetime}
 use Rattle.poa_shared.specs.Events.{Event}
 use Rattle.poa_shared.specs.Seen.{past, Turns}

@@ -29,7 +29,7 @@ use Rattle.serve_pieces.proofs.Entering.{entered_low}
 use Rattle.serve_pieces.proofs.Places.{in_either, in_second, stood_before}
 use Rattle.serve_run.specs.Tours.{Tour, Shift, conns_in, workers_in, EachToured, EachWorked, HasWorked}
 use Rattle.serve_run.specs.Holding.{Holds}
-use Rattle.serve_run.specs.Served.{AreConnections, EachDoor, EachSession, IsKept, IsSession, IsTurnedAway}
+use Rattle.serve_run.specs.Served.{AreConnections, EachDoor, EachSession, NoneGaveUp, IsSession, IsTurnedAway}
 use Rattle.serve_run.proofs.JoiningDoors.{no_worker}
 use Rattle.serve_run.proofs.JoiningWorkers.{one_in}
 use Rattle.serve_run.proofs.Whole.{abandoned_at, entered_at, stands_abandoned, IsWhole}
@@ -101,7 +101,7 @@ module _ {A L : Type 0} (g : Givens) (shown : L → Shown) (standing : A → Opt
       (s.0, s.1, s.2, s.2.quiet x (made x e at) (record { entry = e; stands = in_seen x e at; own = works ∙ ap Some (sym s.1) }))
 
   -- nobody gave the run up
-  pub none_abandoned : IsKept log
+  pub none_abandoned : NoneGaveUp log
   none_abandoned w = by_bool (is_abandoned (reverse log) w) refl
     where
       by_bool : (b : Bool) → is_abandoned (reverse log) w ≡ b → b ≡ false

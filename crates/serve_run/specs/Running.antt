@@ -3,13 +3,13 @@ use Rattle.std.specs.Prelude.{◌≡◌, ℕ, false, List, reverse, Option, None
 use Rattle.outside.specs.Accepting.{Standing}
 use Rattle.outside.specs.Link.{Shown}
 use Rattle.poa_base.specs.declared.Entry.{Entry}
-use Rattle.poa_core.specs.Life.{Life, givens_of}
+use Rattle.run_history.specs.Life.{Life, givens_of}
 use Rattle.poa_history.specs.Lifetime.{HasLifetime}
 use Rattle.run_history.specs.declared.givens.Givens.{Givens}
 use Rattle.run_history.specs.Runs.{IsHistory}
 use Rattle.serve_run.specs.Attending.{Attended}
 use Rattle.serve_run.specs.Outcomes.{any_failed, least_in}
-use Rattle.serve_run.specs.Served.{AreConnections, EachDoor, EachEnded, EachPassed, IsFirst, IsKept, IsLastWord, IsRunOver}
+use Rattle.serve_run.specs.Served.{AreConnections, EachDoor, EachEnded, EachPassed, IsFirst, NoneGaveUp, IsLastWord, IsRunOver}
 use Rattle.serve_run.specs.Tours.{Tour, conns_in}
 use Rattle.serve_run.specs.declared.doors.Doors.{Doors}
 use Rattle.serve_run.specs.declared.outcome.Outcome.{Outcome}
@@ -17,7 +17,7 @@ use Rattle.serve_run.specs.declared.outcome.Outcome.{Outcome}
 module _ {A L : Type 0} (g : Givens) (shown : L → Shown) (standing : A → Option (Standing L)) (faults : A → ℕ) where
   -- nobody gave the run up, and these links were served over these doors
   pub record IsKeptRun (tours : List (Tour A L)) (last : Option (ℕ × Entry)) (log : List Entry) : Type 0 where
-    pub going : IsKept log
+    pub going : NoneGaveUp log
     pub first : IsFirst last log
     pub connections : AreConnections (conns_in tours) log
     pub sessions : EachDoor g shown log tours

@@ -67,8 +67,8 @@ pub record AreConnections (conns : List ℕ) (log : List Entry) : Type 0 where
   pub once : (c : ℕ) → times c conns ≤ 1
 
 -- no worker gave the run up
-abbrev pub IsKept : List Entry → Type 0
-IsKept log = (w : ℕ) → is_abandoned (reverse log) w ≡ false
+abbrev pub NoneGaveUp : List Entry → Type 0
+NoneGaveUp log = (w : ℕ) → is_abandoned (reverse log) w ≡ false
 
 -- the run is over: every activation is void or finished, and every call of a connection but the first is decided
 pub record IsRunOver (g : Givens) (log : List Entry) : Type 0 where

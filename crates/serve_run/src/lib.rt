@@ -14,4 +14,4 @@ mod working;
 
 pub use doors::Doors;
 pub use outcome::{Outcome, Want};
-pub use running::{Run, Served, serve_core};
+pub use running::{Finished, Run, serve_core};

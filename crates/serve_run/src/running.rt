@@ -1,7 +1,7 @@
 //! A run from its beginning to its end.
 ghost use Rattle.std.specs.Prelude.{◌≡◌, ◌≤◌, [], None, Some, vec_len, IfSome, IfNone, ℕ, Ok};
 ghost use Rattle.std.specs.Arc.{arc_value};
-ghost use Rattle.poa_core.specs.Life.{givens_of};
+ghost use Rattle.run_history.specs.Life.{givens_of};
 ghost use Rattle.poa_shared.specs.Seats.{IsIdle};
 ghost use Rattle.seat_lock.specs.Seats.{view};
 ghost use Rattle.serve_run.specs.Opened.{IsOpened};
@@ -28,7 +28,7 @@ pub struct Run {
 
 /// The doors, and the run; no run where memory was wanting before the first piece was started.
 #[derive(Drop)]
-pub struct Served<A> {
+pub struct Finished<A> {
     pub doors: Doors<A>,
     pub run: Option<Run>,
 }
@@ -61,7 +61,7 @@ pub fn serve_core<T, R, A, G>(
     workers: u32,
     crew: &mut ThreadCrew<T>,
     gate: &Arc<G, Global>,
-) -> Served<A>
+) -> Finished<A>
 where
     T: Threads + Wait + Drop,
     R: Wait + Copy + Send + Drop + 'static,
@@ -75,7 +75,7 @@ where
     ensures served { IfSome result.run (λ run. IsServedRun (givens_of core) A.Link.shown A.standing A.faults doors result.doors run.outcome run.core) }
 {
     let Some((shared, mut seat)) = open(rt, alloc, core) else {
-        return Served { doors, run: None };
+        return Finished { doors, run: None };
     };
     let (doors, outcome) = serve_workers::<T, R, A, G>(
         rt, alloc, &shared, &mut seat, crew, gate, workers, workers, doors,
@@ -84,7 +84,7 @@ where
     let core = shared.finish(rt, seat);
     lifetimes_are_kept();
     sessions_stay();
-    Served {
+    Finished {
         doors,
         run: Some(Run { core, outcome }),
     }

@@ -1,7 +1,7 @@
 //! The end of a run is called for.
 ghost use Rattle.std.specs.Prelude.{◌≡◌, ◌≤◌, ◌<◌, false, Some};
 ghost use Rattle.poa_shared.specs.Seats.{IsIdle};
-ghost use Rattle.poa_shared.specs.Seen.{Holds};
+ghost use Rattle.poa_shared.specs.Seen.{HoldsConnection};
 ghost use Rattle.run_history.specs.declared.givens.Givens.{Givens};
 ghost use Rattle.seat_lock.specs.Seats.{view};
 ghost use Rattle.serve_run.specs.Shutting.{Says};
@@ -40,7 +40,7 @@ fn give_up<R: Wait>(rt: &R, shared: &Shared, seat: &mut Seat, staff: Staff)
 /// workers are given up; the answer says whether they were.
 pub fn shut_down<R: Wait>(rt: &R, shared: &Shared, seat: &mut Seat, staff: Staff) -> bool
     requires seat { IsIdle shared.now seat.old }
-    requires conn { Holds (view seat.old) 0 }
+    requires conn { HoldsConnection (view seat.old) 0 }
     requires staff { staff.end ≤ 16 }
     ensures seat { IsIdle shared.now seat.new }
     ensures same { (g : Givens) → (view seat.old).givens ≡ Some g → IsSameSeat (view seat.old) (view seat.new) }

@@ -1,2 +1,3 @@
 pub mod KeysRead
 pub mod Onward
+pub mod Numbers

@@ -2,9 +2,9 @@ use Rattle.std.specs.Prelude.{refl}
 use Rattle.std.proofs.Common.{sym, subst}
 use Rattle.poa_history.specs.Arrivals.{arrivals}
 use Rattle.poa_history.specs.Stages.{is_unadmitted}
-use Rattle.arrival_tables.specs.Numbers.{Ascends}
+use Rattle.standing_queries.specs.Numbers.{Ascends}
 use Rattle.arrival_tables.specs.Queued.{is_waiting}
-use Rattle.arrival_tables.proofs.Numbers.{ascending}
+use Rattle.standing_queries.proofs.Numbers.{ascending}
 use Rattle.arrival_tables.proofs.Queueing.{admits}
 use Rattle.arrival_tables.proofs.queue.admit.Goals as goal
 

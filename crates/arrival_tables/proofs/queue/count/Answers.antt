@@ -1,7 +1,7 @@
 use Rattle.std.proofs.Common.{length, sym, ap, ◌∙◌}
 use Rattle.poa_history.specs.Arrivals.{arrivals}
 use Rattle.poa_history.specs.Stages.{is_unadmitted}
-use Rattle.arrival_tables.proofs.Numbers.{counted}
+use Rattle.standing_queries.proofs.Numbers.{counted}
 use Rattle.arrival_tables.proofs.queue.count.Goals as goal
 
 pub returns : goal.returns

@@ -2,8 +2,8 @@ use Rattle.std.proofs.Common.{◌==◌, sym, subst, ap, ◌∙◌}
 use Rattle.std.specs.List.{list_any}
 use Rattle.poa_history.specs.Arrivals.{arrivals}
 use Rattle.poa_history.specs.Situations as situations
-use Rattle.arrival_tables.specs.Numbers.{Ascends}
-use Rattle.arrival_tables.proofs.Numbers.{ascending}
+use Rattle.standing_queries.specs.Numbers.{Ascends}
+use Rattle.standing_queries.proofs.Numbers.{ascending}
 use Rattle.arrival_tables.proofs.Queueing.{crowded_told}
 use Rattle.arrival_tables.proofs.queue.is_crowded.Goals as goal
 

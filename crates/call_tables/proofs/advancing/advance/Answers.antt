@@ -2,7 +2,7 @@ use Rattle.std.proofs.Common.{◌∙◌, ◌+◌, ◌<◌, ◌++◌, not, filter
 use Rattle.std.specs.VecDeque.{deque_len, deque_capacity}
 use Rattle.standing_queries.specs.Seen.{seen}
 use Rattle.call_tables.specs.Desk as desks
-use Rattle.call_tables.specs.Numbers.{Ascends}
+use Rattle.standing_queries.specs.Numbers.{Ascends}
 use Rattle.call_tables.specs.Owed.{arrivals_of}
 use Rattle.call_tables.proofs.Coming.{alone_then, ascend_then, before_then, owed_then, filed_after_all, as_many_then, spare_then}
 use Rattle.call_tables.proofs.advancing.advance.Goals as goal

@@ -2,7 +2,7 @@ use Rattle.std.proofs.Common.{◌≡◌, Some}
 use Rattle.seat_lock.specs.Seats.{view}
 use Rattle.run_history.specs.declared.Givens.{Givens}
 use Rattle.poa_shared.specs.Seats.{IsIdle}
-use Rattle.poa_shared.specs.Seen.{Holds}
+use Rattle.poa_shared.specs.Seen.{HoldsConnection}
 use Rattle.poa_session.proofs.Replies.{GathersOn}
 use Rattle.poa_session.proofs.collecting.gather.Given as goal
 
@@ -10,6 +10,6 @@ abbrev pub invariant-loop : goal.invariant-loop
 invariant-loop g l = record {
   ends : (goal.iterator-loop g).can_next l.iterator' × (goal.iterator-loop g).is_finite l.iterator';
   seat : IsIdle l.shared l.seat;
-  conn : Holds (view l.seat) l.conn;
+  conn : HoldsConnection (view l.seat) l.conn;
   gathers : (givens : Givens) → (view l.initial.seat).givens ≡ Some givens → GathersOn givens l.conn (view l.initial.seat) (view l.seat) l.initial.replies.items l.replies.items;
 }

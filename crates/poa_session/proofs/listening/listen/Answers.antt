@@ -1,11 +1,11 @@
 use Rattle.std.proofs.Common.{ap, subst, sym}
 use Rattle.seat_lock.specs.Seats.{view}
-use Rattle.poa_shared.specs.Seen.{Holds}
+use Rattle.poa_shared.specs.Seen.{HoldsConnection}
 use Rattle.poa_session.specs.Listening.{Listens}
 use Rattle.poa_session.proofs.listening.listen.Goals as goal
 
 pub returns-clause-conn : goal.returns-clause-conn
-returns-clause-conn g c = subst (λ v. Holds v c.args.conn) (sym (ap (λ m. m.0) c.wake.ensures.2)) c.listen_within-result.ensures.conn
+returns-clause-conn g c = subst (λ v. HoldsConnection v c.args.conn) (sym (ap (λ m. m.0) c.wake.ensures.2)) c.listen_within-result.ensures.conn
 
 pub returns-clause-listens : goal.returns-clause-listens
 returns-clause-listens g c = λ givens given peer.

@@ -3,7 +3,7 @@ use Rattle.seat_lock.specs.Seats.{view}
 use Rattle.run_history.specs.declared.Givens.{Givens}
 use Rattle.session_laws.specs.declared.Peer.{Peer}
 use Rattle.poa_shared.specs.Seats.{IsIdle}
-use Rattle.poa_shared.specs.Seen.{Holds}
+use Rattle.poa_shared.specs.Seen.{HoldsConnection}
 use Rattle.poa_session.specs.Listening.{Hears}
 use Rattle.poa_session.specs.declared.progress.Progress.TheVariants.{On}
 use Rattle.poa_session.proofs.listening.listen_within.Given as goal
@@ -12,6 +12,6 @@ abbrev pub invariant-loop : goal.invariant-loop
 invariant-loop g l = record {
   ends : (goal.iterator-loop g).can_next l.iterator' × (goal.iterator-loop g).is_finite l.iterator';
   seat : IsIdle l.shared l.seat;
-  conn : Holds (view l.seat) l.conn;
+  conn : HoldsConnection (view l.seat) l.conn;
   hears : (givens : Givens) → (view l.initial.seat).givens ≡ Some givens → (peer : Peer) → Hears givens peer l.conn (view l.initial.seat) l.initial.input (view l.seat) l.input On;
 }

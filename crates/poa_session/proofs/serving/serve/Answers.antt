@@ -1,6 +1,6 @@
 use Rattle.std.proofs.Common.{ap, refl, ◌∙◌}
 use Rattle.seat_lock.specs.Seats.{view}
-use Rattle.poa_core.specs.Life.{Life}
+use Rattle.run_history.specs.Life.{Life}
 use Rattle.poa_session.proofs.Entering.{begun}
 use Rattle.poa_session.proofs.Served.{refused, served}
 use Rattle.poa_session.proofs.serving.serve.Goals as goal

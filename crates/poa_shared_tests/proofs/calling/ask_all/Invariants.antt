@@ -1,7 +1,7 @@
 use Rattle.seat_lock.specs.Seats.{view}
 use Rattle.poa_shared.specs.Seats.{IsIdle}
-use Rattle.poa_shared.specs.Seen.{Holds}
+use Rattle.poa_shared.specs.Seen.{HoldsConnection}
 use Rattle.poa_shared_tests.proofs.calling.ask_all.Given as goal
 
 abbrev pub invariant-loop-number : goal.invariant-loop-number
-invariant-loop-number g l = IsIdle l.shared l.seat × Holds (view l.seat) l.conn
+invariant-loop-number g l = IsIdle l.shared l.seat × HoldsConnection (view l.seat) l.conn

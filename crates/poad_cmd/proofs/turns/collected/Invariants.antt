@@ -1,7 +1,7 @@
 use Rattle.std.proofs.Common.{List, ℕ, ◌++◌}
 use Rattle.giop_msg.specs.Reply.{reply_bytes}
 use Rattle.poa_history.specs.Legal.{IsOpen}
-use Rattle.poa_core.specs.Life.{Life}
+use Rattle.run_history.specs.Life.{Life}
 use Rattle.replay_run.specs.Talking.{CollectsAll}
 use Rattle.poad_cmd.proofs.turns.collected.Given as goal
 

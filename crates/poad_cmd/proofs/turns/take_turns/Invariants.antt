@@ -1,5 +1,5 @@
 use Rattle.poa_history.specs.Legal.{IsOpen}
-use Rattle.poa_core.specs.Life.{Life}
+use Rattle.run_history.specs.Life.{Life}
 use Rattle.poad_cmd.specs.Serving.{Works}
 use Rattle.poad_cmd.proofs.turns.take_turns.Given as goal
 
