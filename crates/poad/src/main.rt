@@ -2,15 +2,21 @@
 //! to standard error, and ends with the status' number.
 #![tactic(auto)]
 
+mod ports;
+mod serving;
+
+use crate::serving::serve;
 use outside::{StandardInput, StandardOutput, SystemFiles};
 use poad_cmd::{Host, Status, run_words};
 use std::env;
 use std::io::ErrorKind;
 use std::process::ExitCode;
+use std::sync::Wait;
+use std::thread::Threads;
 
 fn main(rt: HostRuntime) -> ExitCode {
     let status = match words(&rt) {
-        Ok(words) => run(&rt, words.as_slice()),
+        Ok(words) => run(&rt, &rt, words.as_slice()),
         Err(status) => status,
     };
     if status != Status::Ok {
@@ -30,13 +36,20 @@ fn words(rt: &HostRuntime) -> Result<Vec<String>, Status> {
     all.collect(rt.alloc()).map_err(|_| Status::WantMemory)
 }
 
-// Does what the words say over standard input and output and the files of the system.
-fn run(rt: &HostRuntime, words: &[String]) -> Status {
+// Does what the words say over standard input and output, the files of the system, and its sockets.
+fn run<R: Threads + Wait + Copy + Send + Drop + 'static>(
+    rt: &HostRuntime,
+    threads: &R,
+    words: &[String],
+) -> Status {
     let alloc = rt.alloc();
     let mut host = Host {
         source: StandardInput::new(rt.stdin()),
         sink: StandardOutput::new(rt.stdout()),
         files: SystemFiles::new(alloc, *rt),
     };
-    run_words(alloc, words, &mut host)
+    match words {
+        [first, ..] if first.as_str() == "serve" => serve(rt, threads, words, &mut host),
+        _ => run_words(alloc, words, &mut host),
+    }
 }

@@ -157,14 +157,15 @@ module _ {A L : Type 0} (g : Givens) (shown : L → Shown) (standing_of : A → 
     whole_is = reversed_more t.stood log p.0 p.1
 
     by_end : (end : PieceEnd) → t.end ≡ end → DoorHasCause end (standing_of t.served) (faults t.closed) (faults t.served) (reverse t.stood) → IsEnded {A = A} {L = L} standing_of faults log t
-    by_end DoorEnd is cause = record { why = inl cause.0; steady = λ _. cause.1 }
-    by_end DoorFailed is cause = record { why = inr (inl cause); steady = λ other. absurd (other is) }
+    by_end DoorEnd is cause = record { why = inl cause.0; failed = λ other. absurd (let e : DoorEnd ≡ DoorFailed = sym is ∙ other in cc); steady = λ _. cause.1 }
+    by_end DoorFailed is cause = record { why = inr (inl cause); failed = λ _. cause; steady = λ other. absurd (other is) }
     by_end (NotRunning phase) is cause = record {
       why = elim (why_stopped (reverse t.stood) phase cause.0 cause.1) [
         | by_abandon w gave ↦ absurd (true≢false (sym (ap (λ l. is_abandoned l w) whole_is ∙ abandoned_since w (reverse p.0) (reverse t.stood) gave) ∙ going w))
         | by_shut shut ↦ inr (inr (inr (ap is_shut_by_others whole_is ∙ shut_since (reverse p.0) (reverse t.stood) (shut_by_others (reverse t.stood) none shut))))
         | by_filled filled ↦ inr (inr (inl (ap is_filled whole_is ∙ filled_since (reverse p.0) (reverse t.stood) filled)))
       ];
+      failed = λ other. absurd (let e : NotRunning phase ≡ DoorFailed = sym is ∙ other in cc);
       steady = λ _. cause.2;
     }
     by_end (Worked end) is cause = absurd cause

@@ -8,3 +8,4 @@ pub mod Lanes
 pub mod Attending
 pub mod Opened
 pub mod Running
+pub mod Threads

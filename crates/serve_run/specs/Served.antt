@@ -100,6 +100,7 @@ module _ {A L : Type 0} (standing_of : A → Option (Standing L)) (faults : A �
   -- a connection but the first had it shut down. Where it didn't fail, it counted no fault
   pub record IsEnded (log : List Entry) (t : Tour A L) : Type 0 where
     pub why : IfSome (standing_of t.served) (λ s. s.left ≡ []) ⊎ Rose (faults t.closed) (faults t.served) ⊎ (is_filled (reverse log) ≡ true) ⊎ (is_shut_by_others (reverse log) ≡ true)
+    pub failed : t.end ≡ DoorFailed → Rose (faults t.closed) (faults t.served)
     pub steady : (t.end ≡ DoorFailed → ⊥) → faults t.served ≡ faults t.closed
 
   abbrev pub EachEnded : List Entry → List (Tour A L) → Type 0

@@ -6,6 +6,7 @@ ghost use Rattle.run_history.specs.declared.givens.Givens.{Givens};
 ghost use Rattle.seat_lock.specs.Seats.{view};
 ghost use Rattle.serve_run.specs.Holding.{Holds};
 ghost use Rattle.serve_run.specs.Lanes.{HasGivens, LanesServed};
+ghost use Rattle.serve_run.specs.Threads.{CountsThreads};
 
 use crate::joining::{door_back, door_in, join};
 use crate::outcome::Outcome;
@@ -45,6 +46,7 @@ where
     ensures len { vec_len lanes.new ≡ vec_len lanes.old }
     ensures capacity { vec_capacity lanes.new ≡ vec_capacity lanes.old }
     ensures served { (g : Givens) → (view seat.old).givens ≡ Some g → LanesServed g A.Link.shown A.standing A.faults lanes.old.items lanes.new.items result (view seat.old) (view seat.new) }
+    ensures threads { CountsThreads crew.old.faults crew.new.faults result.short }
 {
     let Some(lane) = lanes.pop() else {
         return Outcome::good();

@@ -6,6 +6,7 @@ ghost use Rattle.poa_shared.specs.Seats.{IsIdle};
 ghost use Rattle.seat_lock.specs.Seats.{view};
 ghost use Rattle.serve_run.specs.Opened.{IsOpened};
 ghost use Rattle.serve_run.specs.Running.{IsServedRun};
+ghost use Rattle.serve_run.specs.Threads.{CountsThreads};
 
 use crate::doors::Doors;
 use crate::outcome::Outcome;
@@ -72,7 +73,9 @@ where
     requires workers { (1 ≤ workers) × (workers ≤ 16) }
     requires lanes { vec_len doors.lanes ≤ 64 }
     ensures unserved { IfNone result.run (result.doors ≡ doors) }
+    ensures unstarted { IfNone result.run (crew.new.faults ≡ crew.old.faults) }
     ensures served { IfSome result.run (λ run. IsServedRun (givens_of core) A.Link.shown A.standing A.faults doors result.doors run.outcome run.core) }
+    ensures threads { IfSome result.run (λ run. CountsThreads crew.old.faults crew.new.faults run.outcome.short) }
 {
     let Some((shared, mut seat)) = open(rt, alloc, core) else {
         return Finished { doors, run: None };

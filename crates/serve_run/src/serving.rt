@@ -7,6 +7,7 @@ ghost use Rattle.seat_lock.specs.Seats.{view};
 ghost use Rattle.serve_run.specs.Attending.{DoorsServed, AllServed};
 ghost use Rattle.serve_run.specs.Holding.{Holds};
 ghost use Rattle.serve_run.specs.Lanes.{HasGivens};
+ghost use Rattle.serve_run.specs.Threads.{CountsThreads};
 
 use crate::doors::Doors;
 use crate::joining::{door_back, door_in, join};
@@ -46,6 +47,7 @@ where
     ensures seat { IsIdle (arc_value shared.now) seat.new }
     ensures given { HasGivens (view seat.new) }
     ensures served { (g : Givens) → (view seat.old).givens ≡ Some g → DoorsServed g A.Link.shown A.standing A.faults doors result.0 result.1 (view seat.old) (view seat.new) }
+    ensures threads { CountsThreads crew.old.faults crew.new.faults result.1.short }
 {
     let Doors { admin, mut lanes } = doors;
     match start::<T, R, A, G>(rt, alloc, shared, seat, crew, Task::Admin(admin)) {
@@ -95,6 +97,7 @@ where
     ensures seat { IsIdle (arc_value shared.now) seat.new }
     ensures given { HasGivens (view seat.new) }
     ensures served { (g : Givens) → (view seat.old).givens ≡ Some g → AllServed g A.Link.shown A.standing A.faults 0 doors result.0 result.1 (view seat.old) (view seat.new) }
+    ensures threads { CountsThreads crew.old.faults crew.new.faults result.1.short }
 {
     let (doors, outcome) = serve_doors::<T, R, A, G>(rt, alloc, shared, seat, crew, staff, doors);
     if outcome.short.is_some() {

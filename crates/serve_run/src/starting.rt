@@ -1,10 +1,11 @@
 //! A piece is started.
-ghost use Rattle.std.specs.Prelude.{◌≡◌, ◌+◌, ◌<◌, IfOk, IfErr, OnOk, OnErr};
+ghost use Rattle.std.specs.Prelude.{◌≡◌, ◌+◌, ◌<◌, IfOk, IfErr, OnOk, OnErr, Some};
 ghost use Rattle.std.specs.Arc.{arc_value};
 ghost use Rattle.poa_shared.specs.Seats.{IsIdle};
 ghost use Rattle.seat_lock.specs.Seats.{view};
 ghost use Rattle.serve_pieces.specs.Promises.{IsNumbered};
 ghost use Rattle.serve_run.specs.Starting.{IsKept, IsStarted};
+ghost use Rattle.serve_run.specs.Threads.{CountsThreads};
 
 use crate::outcome::Want;
 use outside::{Acceptor, Gate, ThreadCrew, Ticket};
@@ -45,6 +46,8 @@ where
     ensures same { OnErr result ((view seat.new).room ≡ (view seat.old).room) }
     ensures started { IfOk result (λ ticket. IsStarted (arc_value shared.now) task (view seat.old) ticket.promise.job.value) }
     ensures back { IfErr result (λ it. it.task ≡ task) }
+    ensures counted { OnOk result (crew.new.faults ≡ crew.old.faults) }
+    ensures threads { IfErr result (λ it. CountsThreads crew.old.faults crew.new.faults (Some it.want)) }
 {
     let own = shared.split(seat);
     let shared_too = match Arc::try_clone(shared) {

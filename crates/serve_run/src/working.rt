@@ -8,6 +8,7 @@ ghost use Rattle.serve_run.specs.Attending.{AllServed};
 ghost use Rattle.serve_run.specs.Holding.{Holds};
 ghost use Rattle.serve_run.specs.Lanes.{HasGivens};
 ghost use Rattle.serve_run.specs.Outcomes.{is_loss};
+ghost use Rattle.serve_run.specs.Threads.{CountsThreads};
 
 use crate::doors::Doors;
 use crate::joining::join;
@@ -58,6 +59,7 @@ where
     ensures seat { IsIdle (arc_value shared.now) seat.new }
     ensures given { HasGivens (view seat.new) }
     ensures served { (g : Givens) → (view seat.old).givens ≡ Some g → AllServed g A.Link.shown A.standing A.faults count doors result.0 result.1 (view seat.old) (view seat.new) }
+    ensures threads { CountsThreads crew.old.faults crew.new.faults result.1.short }
 {
     let staff = Staff {
         first: count,

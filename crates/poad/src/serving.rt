@@ -1,0 +1,83 @@
+//! `serve` over sockets and threads.
+use crate::ports::Ports;
+use command_words::{Plan, plan_of};
+use outside::{Files, ThreadCrew};
+use outside_sockets::WaitingGate;
+use poa_base::Config;
+use poad_cmd::{Host, Status, take_config};
+use poad_serve::run_serve;
+use std::sync::{Arc, Wait};
+use std::thread::Threads;
+
+/// Serves clients and administrators at the ports of the configuration that the words name, until an administrator
+/// says `shutdown`. Where there are no ports, since the words or the configuration are refused, no door has one.
+pub(crate) fn serve<R, S, K, F>(
+    rt: &HostRuntime,
+    threads: &R,
+    words: &[String],
+    host: &mut Host<S, K, F>,
+) -> Status
+where
+    R: Threads + Wait + Copy + Send + Drop + 'static,
+    F: Files,
+{
+    let alloc = rt.alloc();
+    let Ok(plan) = plan_of(alloc, words) else {
+        return Status::WantMemory;
+    };
+    let config = match planned_config(rt, plan, &mut host.files) {
+        Ok(config) => config,
+        Err(status) => return status,
+    };
+    let ports = open(rt, plan, &config);
+    let lanes = match plan {
+        Some(plan) => plan.lanes,
+        None => 0,
+    };
+    let doors = match ports.doors(rt, lanes) {
+        Ok(doors) => doors,
+        Err(status) => return status,
+    };
+    let gate_ms = match config {
+        Some(config) => config.gate_ms,
+        None => 0,
+    };
+    let Ok(gate) = Arc::new(alloc, WaitingGate::new(*rt, gate_ms)) else {
+        return Status::WantMemory;
+    };
+    let mut crew = ThreadCrew::new(alloc, *threads, Vec::new(alloc));
+    run_serve(threads, alloc, words, host, doors, &mut crew, &gate).status
+}
+
+// The configuration of the plan. None where there is no plan, or its file holds no configuration: `run_serve` tells
+// that.
+fn planned_config<F: Files>(
+    rt: &HostRuntime,
+    plan: Option<Plan<'_>>,
+    files: &mut F,
+) -> Result<Option<Config>, Status> {
+    let Some(plan) = plan else {
+        return Ok(None);
+    };
+    match take_config(rt.alloc(), plan.file, files) {
+        Ok(config) => Ok(Some(config)),
+        Err(Status::WantMemory) => Err(Status::WantMemory),
+        Err(_) => Ok(None),
+    }
+}
+
+// Opens the ports, and says on standard error which they are. None where one can't be had: `run_serve` tells that.
+fn open(rt: &HostRuntime, plan: Option<Plan<'_>>, config: &Option<Config>) -> Ports {
+    let (Some(plan), Some(config)) = (plan, config) else {
+        return Ports::none();
+    };
+    let Ok(ports) = Ports::open(rt, config) else {
+        return Ports::none();
+    };
+    let host = std::str::from_utf8(config.host.as_slice()).unwrap_or("");
+    let _ = eprintln!(rt;
+        "poad: serving {host} {}, administrators {}, {} lanes, {} workers",
+        config.port, config.admin_port, plan.lanes, plan.workers
+    );
+    ports
+}

@@ -1,0 +1,93 @@
+-- What a status tells of a run that was served.
+use Rattle.std.proofs.Common.{◌≡◌, ℕ, Bool, true, false, ◌||◌, List, [], ◌∷◌, reverse, Option, Some, None, option_map, Result, refl, sym, ap, ◌∙◌, subst, inl, inr}
+use Rattle.std.specs.Prelude.{◌≢◌}
+use Rattle.std.specs.declared.alloc.AllocError.{AllocError}
+use Rattle.std.proofs.lemmas.Bool.{or_cases, true≢false}
+use Rattle.outside.specs.Accepting.{Standing}
+use Rattle.outside.specs.Link.{Shown}
+use Rattle.outside.specs.declared.keeping.Put.{Put}
+use Rattle.poa_base.specs.declared.Entry.{Entry}
+use Rattle.poad_cmd.specs.declared.status.Status.{Status}
+use Rattle.poad_cmd.specs.declared.status.Status.TheVariants.{Ok as Fine, WantMemory, NoThread, ListenFault, Limit}
+use Rattle.poad_serve.specs.Ending.{AnyRose, EachSteady, IsLimit, is_failed, is_for_memory, is_short, is_textless, or_else, status_of, wants_memory}
+use Rattle.poad_serve.specs.Serving.{Tells}
+use Rattle.poad_serve.proofs.Statuses.{IsWell, fine_told, limit_is, limit_told, listen_told, no_memory_wanted, none_full, none_short, not_lost, not_short}
+use Rattle.run_history.specs.Life.{Life}
+use Rattle.run_history.specs.declared.givens.Givens.{Givens}
+use Rattle.run_tally.specs.Limits.{filled_at}
+use Rattle.run_tally.specs.declared.full.Full.{Full}
+use Rattle.serve_pieces.specs.declared.ran.PieceEnd.{PieceEnd}
+use Rattle.serve_pieces.specs.declared.ran.PieceEnd.TheVariants.{DoorEnd, DoorFailed, NotRunning, Worked}
+use Rattle.serve_run.specs.Outcomes.{any_failed, is_failed as is_door_failed, least_in}
+use Rattle.serve_run.specs.Running.{IsKeptRun, IsServedRun, IsWholeRun}
+use Rattle.serve_run.specs.Served.{EachEnded}
+use Rattle.serve_run.specs.Tours.{Tour}
+use Rattle.serve_run.specs.declared.doors.Doors.{Doors}
+use Rattle.serve_run.specs.declared.outcome.Outcome.{Outcome}
+
+failed_is : (end : PieceEnd) → is_door_failed end ≡ true → end ≡ DoorFailed
+failed_is DoorFailed is = refl
+failed_is DoorEnd is = absurd (true≢false (sym is))
+failed_is (NotRunning phase) is = absurd (true≢false (sym is))
+failed_is (Worked end) is = absurd (true≢false (sym is))
+
+not_failed : (end : PieceEnd) → is_door_failed end ≡ false → end ≢ DoorFailed
+not_failed end is at = true≢false (sym (ap is_door_failed at) ∙ is)
+
+both_false : (a b : Bool) → a || b ≡ false → (a ≡ false) × (b ≡ false)
+both_false true b is = absurd (true≢false is)
+both_false false b is = (refl, is)
+
+module _ {A L : Type 0} (standing : A → Option (Standing L)) (faults : A → ℕ) (log : List Entry) where
+  pub any_rose : (tours : List (Tour A L)) → any_failed tours ≡ true → EachEnded {A = A} {L = L} standing faults log tours → AnyRose {A = A} {L = L} faults tours
+  any_rose [] is ended = absurd (true≢false (sym is))
+  any_rose (t ∷ more) is ended =
+      elim (or_cases (any_failed more) (is_door_failed t.end) is) [
+        | inl there ↦ inr (any_rose more there ended.1)
+        | inr here ↦ inl (ended.0.failed (failed_is t.end here))
+      ]
+
+  pub each_steady : (tours : List (Tour A L)) → any_failed tours ≡ false → EachEnded {A = A} {L = L} standing faults log tours → EachSteady {A = A} {L = L} faults tours
+  each_steady [] is ended = tt
+  each_steady (t ∷ more) is ended = (let both = both_false (any_failed more) (is_door_failed t.end) is in (ended.0.steady (not_failed t.end both.1), each_steady more both.0 ended.1))
+
+module _ {A L : Type 0} (g : Givens) (shown : L → Shown) (standing : A → Option (Standing L)) (faults : A → ℕ) (old new : Doors A) (outcome : Outcome) (life : Life)
+    (ran : IsServedRun {A = A} {L = L} g shown standing faults old new outcome life)
+    (journal : Result Put AllocError) (filled : Option Full) (filled_is : option_map (λ f. (f.arrivals, f.bytes)) filled ≡ filled_at life.history)
+    (status : Status) (status_is : status ≡ status_of outcome journal filled) where
+  m : Bool
+  m = wants_memory outcome || is_textless journal
+
+  s : Bool
+  s = is_short outcome.short
+
+  u : Bool
+  u = is_failed journal
+
+  l : Option Full
+  l = or_else filled outcome.refused
+
+  kept_run : m ≡ false → IsKeptRun {A = A} {L = L} g shown standing faults ran.tours ran.last (reverse life.history)
+  kept_run none = ran.kept (not_lost outcome.lost outcome.short (is_textless journal) none)
+
+  whole_run : m ≡ false → s ≡ false → IsWholeRun {A = A} {L = L} g standing faults ran.tours ran.last (reverse life.history)
+  whole_run none all = ran.calm (not_short outcome.short all) (not_lost outcome.lost outcome.short (is_textless journal) none)
+
+  pub tells : Tells {A = A} {L = L} shown standing faults g ran.tours ran.last status life
+  tells = record {
+    sessions = λ other. kept_run (no_memory_wanted m s u outcome.failed l (λ is. other (status_is ∙ is)));
+    end = λ other more. whole_run (no_memory_wanted m s u outcome.failed l (λ is. other (status_is ∙ is)))
+        (none_short m s u outcome.failed l (λ is. other (status_is ∙ is)) (λ is. more (status_is ∙ is)));
+    listen_fault = λ is. (let told = listen_told m s u outcome.failed l (sym status_is ∙ is) in
+        any_rose standing faults (reverse life.history) ran.tours (sym ran.failed_is ∙ told.2) (whole_run told.0 told.1).ended);
+    limit = λ calls bytes is. (let told = limit_told m s u outcome.failed l calls bytes (sym status_is ∙ is) in
+        subst (λ at. IsLimit at (least_in ran.tours) calls bytes) filled_is
+        (subst (λ r. IsLimit (option_map (λ f. (f.arrivals, f.bytes)) filled) r calls bytes) ran.refused_is
+        (limit_is filled outcome.refused told.0 calls bytes told.1 told.2 told.3)));
+    fine = λ is. (let well = fine_told m s u outcome.failed l (sym status_is ∙ is) in
+        let none = none_full filled outcome.refused well.taken in (
+          sym filled_is ∙ ap (option_map (λ f. (f.arrivals, f.bytes))) none.0,
+          sym ran.refused_is ∙ none.1,
+          each_steady standing faults (reverse life.history) ran.tours (sym ran.failed_is ∙ well.doors) (whole_run well.memory well.started).ended,
+        ));
+  }

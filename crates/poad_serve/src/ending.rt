@@ -1,0 +1,59 @@
+//! How a run ended.
+ghost use Rattle.std.specs.Prelude.{◌≡◌};
+ghost use Rattle.poad_serve.specs.Ending as spec;
+
+use outside::Put;
+use poa_base::WantMemory;
+use poad_cmd::Status;
+use run_tally::Full;
+use serve_run::{Outcome, Want};
+
+/// The status of a run by how it came off, what came of putting its journal, and when it took no more calls. Of
+/// several the first of want of memory, of a thread, a fault of the files, of a door, and the limit is told.
+pub(crate) fn status_of(
+    outcome: &Outcome,
+    journal: &Result<Put, WantMemory>,
+    filled: Option<Full>,
+) -> Status
+    ensures { result ≡ spec.status_of outcome.now journal.now filled }
+{
+    if wants_memory(outcome) || journal.is_err() {
+        return Status::WantMemory;
+    }
+    if outcome.short.is_some() {
+        return Status::NoThread;
+    }
+    if is_failed(journal) {
+        return Status::FileFault;
+    }
+    if outcome.failed {
+        return Status::ListenFault;
+    }
+    limit_at(filled.or(outcome.refused))
+}
+
+// Memory was wanting for a piece of the run, or for its end.
+fn wants_memory(outcome: &Outcome) -> bool
+    ensures { result ≡ spec.wants_memory outcome.now }
+{
+    outcome.lost || matches!(outcome.short, Some(Want::Memory))
+}
+
+fn is_failed(journal: &Result<Put, WantMemory>) -> bool
+    ensures { result ≡ spec.is_failed journal.now }
+{
+    matches!(journal, Ok(Put::Failed))
+}
+
+// The status of a run that took all calls, or no more than so many.
+fn limit_at(full: Option<Full>) -> Status
+    ensures { result ≡ spec.limit_at full }
+{
+    match full {
+        Some(full) => Status::Limit {
+            arrivals: full.arrivals,
+            bytes: full.bytes,
+        },
+        None => Status::Ok,
+    }
+}

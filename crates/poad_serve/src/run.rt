@@ -1,0 +1,109 @@
+//! `serve` by the words of a command line.
+ghost use Rattle.std.specs.Prelude.{◌≡◌, ◌≢◌, [], Some, None, vec_len};
+ghost use Rattle.command_words.specs.Serving.{Serve, seen_serve, serve_in};
+ghost use Rattle.outside.specs.Cause.{HasCause, Rose};
+ghost use Rattle.poad_serve.specs.Serving.{Ends, ServesOn};
+ghost use Rattle.poad_serve.specs.Beginning.{IsInRange};
+
+use crate::beginning::{Beginning, begin};
+use crate::ending::status_of;
+use crate::putting::put_journal;
+use crate::served::Served;
+use outside::{Acceptor, Files, Gate, ThreadCrew};
+use poad_cmd::{Host, Status};
+use serve_run::{Doors, Finished, Run, serve_core};
+use std::alloc::Global;
+use std::sync::{Arc, Wait};
+use std::thread::Threads;
+
+/// Serves clients and administrators over these doors, by the words `serve FILE --lanes L --workers W --run N
+/// [--journal NAME]`: the configuration is the one in FILE, and there are as many doors for clients as the words say.
+/// When the run is over, its journal is put into the file NAME.
+///
+/// How it ends, the first of these that is so:
+/// - `BadWords`: the words are none of `serve`. Nothing was begun.
+/// - `NoFile`, `FileTooLong`, `FileFault`, `ConfigRefused`: FILE isn't there, is longer than a configuration may be, couldn't
+///   be read, or holds none. Nothing was begun.
+/// - `WantMemory`: no memory was left.
+/// - `NoThread`: a thread couldn't be started; what ran by then came to its end.
+/// - `FileFault`: the journal couldn't be put.
+/// - `ListenFault`: a door failed.
+/// - `Limit`: a call or a connection was refused for the limits of the run.
+/// - `Ok`: an administrator said `shutdown`, or each door ended.
+///
+/// No other status comes.
+pub fn run_serve<T, R, S, K, F, A, G>(
+    rt: &R,
+    alloc: Global,
+    words: &[String],
+    host: &mut Host<S, K, F>,
+    doors: Doors<A>,
+    crew: &mut ThreadCrew<T>,
+    gate: &Arc<G, Global>,
+) -> Served<A>
+where
+    T: Threads + Wait + Drop,
+    R: Wait + Copy + Send + Drop + 'static,
+    F: Files,
+    A: Acceptor + Send + Drop + 'static,
+    A::Link: Send + 'static,
+    G: Gate + Send + Sync + Drop + 'static,
+    requires lanes { (serve : Serve) → serve_in words.now ≡ Some serve → vec_len doors.lanes ≡ serve.lanes }
+    ensures ends { Ends A.Link.shown A.standing A.faults (serve_in words.now) result.status doors result.doors result.core (F.contents host.old.files) (F.contents host.new.files) }
+    ensures source { host.new.source ≡ host.old.source }
+    ensures sink { host.new.sink ≡ host.old.sink }
+    ensures no_file { HasCause (F.absents host.old.files) (F.absents host.new.files) (result.status ≡ Status.NoFile) }
+    ensures too_long { HasCause (F.long_ones host.old.files) (F.long_ones host.new.files) (result.status ≡ Status.FileTooLong) }
+    ensures taken { HasCause (F.take_faults host.old.files) (F.take_faults host.new.files) ((result.status ≡ Status.FileFault) × (result.core ≡ None)) }
+    ensures put { HasCause (F.put_faults host.old.files) (F.put_faults host.new.files) ((result.status ≡ Status.FileFault) × (result.core ≢ None)) }
+    ensures all_put { result.status ≡ Status.Ok → F.put_faults host.new.files ≡ F.put_faults host.old.files }
+    ensures no_thread { result.status ≡ Status.NoThread → Rose crew.old.faults crew.new.faults }
+    ensures all_started { result.status ≡ Status.Ok → crew.new.faults ≡ crew.old.faults }
+{
+    match begin(alloc, words, &mut host.files) {
+        Ok(beginning) => serve_by(rt, alloc, beginning, &mut host.files, doors, crew, gate),
+        Err(status) => Served::refused(status, doors),
+    }
+}
+
+// Serves on the core, and puts its journal.
+fn serve_by<T, R, F, A, G>(
+    rt: &R,
+    alloc: Global,
+    beginning: Beginning<'_>,
+    files: &mut F,
+    doors: Doors<A>,
+    crew: &mut ThreadCrew<T>,
+    gate: &Arc<G, Global>,
+) -> Served<A>
+where
+    T: Threads + Wait + Drop,
+    R: Wait + Copy + Send + Drop + 'static,
+    F: Files,
+    A: Acceptor + Send + Drop + 'static,
+    A::Link: Send + 'static,
+    G: Gate + Send + Sync + Drop + 'static,
+    requires ranges { IsInRange beginning.words }
+    requires lanes { vec_len doors.lanes ≡ beginning.words.lanes }
+    requires fresh { beginning.core.history ≡ [] }
+    ensures serves { ServesOn A.Link.shown A.standing A.faults (seen_serve beginning.words) beginning.core result.status doors result.doors result.core (F.contents files.old) (F.contents files.new) }
+    ensures put { HasCause (F.put_faults files.old) (F.put_faults files.new) ((result.status ≡ Status.FileFault) × (result.core ≢ None)) }
+    ensures all_put { result.status ≡ Status.Ok → F.put_faults files.new ≡ F.put_faults files.old }
+    ensures no_thread { result.status ≡ Status.NoThread → Rose crew.old.faults crew.new.faults }
+    ensures all_started { result.status ≡ Status.Ok → crew.new.faults ≡ crew.old.faults }
+    ensures takes { F.take_faults files.new ≡ F.take_faults files.old }
+    ensures absents { F.absents files.new ≡ F.absents files.old }
+    ensures long_ones { F.long_ones files.new ≡ F.long_ones files.old }
+{
+    let Beginning { words, core } = beginning;
+    let Finished { doors, run } = serve_core(rt, alloc, core, doors, words.workers, crew, gate);
+    let Some(Run { core, outcome }) = run else {
+        return Served::refused(Status::WantMemory, doors);
+    };
+    let journal = put_journal(alloc, words.journal, &core, files);
+    Served {
+        status: status_of(&outcome, &journal, core.filled()),
+        doors,
+        core: Some(core),
+    }
+}
