@@ -7,6 +7,7 @@ use Rattle.poad_cmd.specs.declared.status.Status.TheVariants.{Ok as Fine, WantMe
 use Rattle.poad_serve.specs.Ending.{IsLimit, is_for_memory, is_short, or_else, status_by}
 use Rattle.run_tally.specs.declared.full.Full.{Full}
 use Rattle.serve_run.specs.declared.outcome.Want.{Want}
+use Rattle.serve_run.specs.declared.outcome.Want.TheVariants.{Memory, Thread}
 
 pub no_memory_wanted : (m s u d : Bool) (l : Option Full) → status_by m s u d l ≢ WantMemory → m ≡ false
 no_memory_wanted true s u d l other = absurd (other refl)
@@ -84,3 +85,9 @@ limit_is None None f calls bytes is a b = absurd (let e : None ≡ Some f = is i
 pub none_full : (filled refused : Option Full) → or_else filled refused ≡ None → (filled ≡ None) × (refused ≡ None)
 none_full (Some x) refused is = absurd (let e : Some x ≡ None = is in cc)
 none_full None refused is = (refl, is)
+
+pub thread_short : (lost : Bool) (short : Option Want) (textless : Bool) → (lost || is_for_memory short) || textless ≡ false → is_short short ≡ true → short ≡ Some Thread
+thread_short lost None textless none is = absurd (true≢false (sym is))
+thread_short true (Some Memory) textless none is = absurd (true≢false none)
+thread_short false (Some Memory) textless none is = absurd (true≢false none)
+thread_short lost (Some Thread) textless none is = refl

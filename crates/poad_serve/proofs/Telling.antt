@@ -3,15 +3,18 @@ use Rattle.std.proofs.Common.{◌≡◌, ℕ, Bool, true, false, ◌||◌, List,
 use Rattle.std.specs.Prelude.{◌≢◌}
 use Rattle.std.specs.declared.alloc.AllocError.{AllocError}
 use Rattle.std.proofs.lemmas.Bool.{or_cases, true≢false}
+use Rattle.command_words.specs.Serving.{Serve}
 use Rattle.outside.specs.Accepting.{Standing}
+use Rattle.outside.specs.Keeping.{Contents}
 use Rattle.outside.specs.Link.{Shown}
 use Rattle.outside.specs.declared.keeping.Put.{Put}
 use Rattle.poa_base.specs.declared.Entry.{Entry}
 use Rattle.poad_cmd.specs.declared.status.Status.{Status}
 use Rattle.poad_cmd.specs.declared.status.Status.TheVariants.{Ok as Fine, WantMemory, NoThread, ListenFault, Limit}
 use Rattle.poad_serve.specs.Ending.{AnyRose, EachSteady, IsLimit, is_failed, is_for_memory, is_short, is_textless, or_else, status_of, wants_memory}
-use Rattle.poad_serve.specs.Serving.{Tells}
-use Rattle.poad_serve.proofs.Statuses.{IsWell, fine_told, limit_is, limit_told, listen_told, no_memory_wanted, none_full, none_short, not_lost, not_short}
+use Rattle.poad_serve.specs.Beginning.{IsBegun}
+use Rattle.poad_serve.specs.Serving.{Ends, ServesOn, Tells}
+use Rattle.poad_serve.proofs.Statuses.{IsWell, fine_told, limit_is, limit_told, listen_told, no_memory_wanted, none_full, none_short, not_lost, not_short, thread_short, thread_told}
 use Rattle.run_history.specs.Life.{Life}
 use Rattle.run_history.specs.declared.givens.Givens.{Givens}
 use Rattle.run_tally.specs.Limits.{filled_at}
@@ -24,6 +27,7 @@ use Rattle.serve_run.specs.Served.{EachEnded}
 use Rattle.serve_run.specs.Tours.{Tour}
 use Rattle.serve_run.specs.declared.doors.Doors.{Doors}
 use Rattle.serve_run.specs.declared.outcome.Outcome.{Outcome}
+use Rattle.serve_run.specs.declared.outcome.Want.TheVariants.{Thread}
 
 failed_is : (end : PieceEnd) → is_door_failed end ≡ true → end ≡ DoorFailed
 failed_is DoorFailed is = refl
@@ -55,22 +59,22 @@ module _ {A L : Type 0} (g : Givens) (shown : L → Shown) (standing : A → Opt
     (ran : IsServedRun {A = A} {L = L} g shown standing faults old new outcome life)
     (journal : Result Put AllocError) (filled : Option Full) (filled_is : option_map (λ f. (f.arrivals, f.bytes)) filled ≡ filled_at life.history)
     (status : Status) (status_is : status ≡ status_of outcome journal filled) where
-  m : Bool
+  abbrev m : Bool
   m = wants_memory outcome || is_textless journal
 
-  s : Bool
+  abbrev s : Bool
   s = is_short outcome.short
 
-  u : Bool
+  abbrev u : Bool
   u = is_failed journal
 
-  l : Option Full
+  abbrev l : Option Full
   l = or_else filled outcome.refused
 
   kept_run : m ≡ false → IsKeptRun {A = A} {L = L} g shown standing faults ran.tours ran.last (reverse life.history)
   kept_run none = ran.kept (not_lost outcome.lost outcome.short (is_textless journal) none)
 
-  whole_run : m ≡ false → s ≡ false → IsWholeRun {A = A} {L = L} g standing faults ran.tours ran.last (reverse life.history)
+  whole_run : m ≡ false → s ≡ false → IsWholeRun {A = A} {L = L} g shown standing faults ran.tours ran.last (reverse life.history)
   whole_run none all = ran.calm (not_short outcome.short all) (not_lost outcome.lost outcome.short (is_textless journal) none)
 
   pub tells : Tells {A = A} {L = L} shown standing faults g ran.tours ran.last status life
@@ -91,3 +95,12 @@ module _ {A L : Type 0} (g : Givens) (shown : L → Shown) (standing : A → Opt
           each_steady standing faults (reverse life.history) ran.tours (sym ran.failed_is ∙ well.doors) (whole_run well.memory well.started).ended,
         ));
   }
+
+  pub no_thread : status ≡ NoThread → outcome.short ≡ Some Thread
+  no_thread is = (let told = thread_told m s u outcome.failed l (sym status_is ∙ is) in thread_short outcome.lost outcome.short (is_textless journal) told.0 told.1)
+
+module _ {A L : Type 0} (shown : L → Shown) (standing : A → Option (Standing L)) (faults : A → ℕ) (asked : Option Serve) (serve : Serve) (begun : Life) (status : Status) (old new : Doors A)
+    (files between after : Option Contents) (asked_is : asked ≡ Some serve) (begins : IsBegun serve begun files between) where
+  pub ends : (core : Option Life) → ServesOn {A = A} {L = L} shown standing faults serve begun status old new core between after → Ends {A = A} {L = L} shown standing faults asked status old new core files after
+  ends None is = (is.0, inr is.1)
+  ends (Some life) is = (serve, asked_is, record { begun = begun; between = between; begins = begins; served = is })

@@ -30,7 +30,7 @@ module _ {A L : Type 0} (shown : L → Shown) (standing : A → Option (Standing
     pub sessions : status ≢ WantMemory → IsKeptRun g shown standing faults tours last (reverse life.history)
     -- unless a thread was, too, the run came to its end: every activation is over, every call of a client is decided, and
     -- each door ended for a cause
-    pub end : status ≢ WantMemory → status ≢ NoThread → IsWholeRun g standing faults tours last (reverse life.history)
+    pub end : status ≢ WantMemory → status ≢ NoThread → IsWholeRun g shown standing faults tours last (reverse life.history)
     pub listen_fault : status ≡ ListenFault → AnyRose faults tours
     pub limit : (calls bytes : ℕ) → status ≡ Limit calls bytes → IsLimit (filled_at life.history) (least_in tours) calls bytes
     pub fine : status ≡ Fine → (filled_at life.history ≡ None) × (least_in tours ≡ None) × EachSteady faults tours

@@ -86,7 +86,7 @@ where
     requires ranges { IsInRange beginning.words }
     requires lanes { vec_len doors.lanes ≡ beginning.words.lanes }
     requires fresh { beginning.core.history ≡ [] }
-    ensures serves { ServesOn A.Link.shown A.standing A.faults (seen_serve beginning.words) beginning.core result.status doors result.doors result.core (F.contents files.old) (F.contents files.new) }
+    ensures serves { ServesOn A.Link.shown A.standing A.faults (seen_serve beginning.entry.words) beginning.entry.core result.status doors result.doors result.core (F.contents files.old) (F.contents files.new) }
     ensures put { HasCause (F.put_faults files.old) (F.put_faults files.new) ((result.status ≡ Status.FileFault) × (result.core ≢ None)) }
     ensures all_put { result.status ≡ Status.Ok → F.put_faults files.new ≡ F.put_faults files.old }
     ensures no_thread { result.status ≡ Status.NoThread → Rose crew.old.faults crew.new.faults }
