@@ -10,11 +10,11 @@ use Rattle.outside.specs.Link.{Shown}
 use Rattle.outside.specs.declared.keeping.Put.{Put}
 use Rattle.poa_base.specs.declared.Entry.{Entry}
 use Rattle.poad_cmd.specs.declared.status.Status.{Status}
-use Rattle.poad_cmd.specs.declared.status.Status.TheVariants.{Ok as Fine, WantMemory, NoThread, ListenFault, Limit}
-use Rattle.poad_serve.specs.Ending.{AnyRose, EachSteady, IsLimit, is_failed, is_for_memory, is_short, is_textless, or_else, status_of, wants_memory}
+use Rattle.poad_cmd.specs.declared.status.Status.TheVariants.{NoThread}
+use Rattle.poad_serve.specs.Ending.{AnyRose, EachSteady, IsLimit, is_failed, is_short, is_textless, or_else, status_of, wants_memory}
 use Rattle.poad_serve.specs.Beginning.{IsBegun}
 use Rattle.poad_serve.specs.Serving.{Ends, ServesOn, Tells}
-use Rattle.poad_serve.proofs.Statuses.{IsWell, fine_told, limit_is, limit_told, listen_told, no_memory_wanted, none_full, none_short, not_lost, not_short, thread_short, thread_told}
+use Rattle.poad_serve.proofs.Statuses.{fine_told, limit_is, limit_told, listen_told, no_memory_wanted, none_full, none_short, not_lost, not_short, thread_short, thread_told}
 use Rattle.run_history.specs.Life.{Life}
 use Rattle.run_history.specs.declared.givens.Givens.{Givens}
 use Rattle.run_tally.specs.Limits.{filled_at}
