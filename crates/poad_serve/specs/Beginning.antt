@@ -5,6 +5,7 @@ use Rattle.command_words.specs.declared.server.ServeWords.{ServeWords}
 use Rattle.outside.specs.Keeping.{Contents}
 use Rattle.std.specs.FinMap.{empty}
 use Rattle.poa_base.specs.declared.Config.{Config}
+use Rattle.poa_base.specs.declared.limits.TheConstants.{CALLS}
 use Rattle.run_history.specs.Life.{Life, begun}
 use Rattle.poad_cmd.specs.Taking.{TakesConfig}
 use Rattle.poad_cmd.specs.declared.status.Status.{Status}
@@ -28,7 +29,7 @@ pub record IsInRange (words : ServeWords) : Type 0 where
 pub record IsBegun (serve : Serve) (life : Life) (old new : Option Contents) : Type 0 where
   pub config : Config
   pub taken : TakesConfig serve.file (Ok config) old new
-  pub is : life ≡ begun config serve.run 4000000 empty
+  pub is : life ≡ begun config serve.run CALLS empty
 
 -- no run can begin, for this reason: the words ask for none, the file has no configuration, or memory is wanting
 abbrev pub IsRefused : Option Serve → Status → Option Contents → Option Contents → Type 0
