@@ -47,6 +47,8 @@ impl MemLink {
     pub fn new(alloc: Global, bytes: Vec<u8>, pieces: Vec<usize>) -> Self
         ensures left { result.left ≡ Some bytes.items }
         ensures held { result.held ≡ Some [] }
+        ensures faults { (result.read_faults ≡ 0) × (result.write_faults ≡ 0) }
+        ensures quiets { result.quiets ≡ 0 }
     {
         MemLink {
             source: SteadySource::new(bytes, pieces),

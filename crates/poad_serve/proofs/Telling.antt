@@ -7,8 +7,10 @@ use Rattle.command_words.specs.Serving.{Serve}
 use Rattle.outside.specs.Accepting.{Standing}
 use Rattle.outside.specs.Keeping.{Contents}
 use Rattle.outside.specs.Link.{Shown}
+use Rattle.outside.specs.Told.{IfTold}
 use Rattle.outside.specs.declared.keeping.Put.{Put}
 use Rattle.poa_base.specs.declared.Entry.{Entry}
+use Rattle.poad_cmd.specs.Taking.{HoldsStill}
 use Rattle.poad_cmd.specs.declared.status.Status.{Status}
 use Rattle.poad_cmd.specs.declared.status.Status.TheVariants.{NoThread}
 use Rattle.poad_serve.specs.Ending.{AnyRose, EachSteady, IsLimit, is_failed, is_short, is_textless, or_else, status_of, wants_memory}
@@ -55,8 +57,8 @@ module _ {A L : Type 0} (standing : A → Option (Standing L)) (faults : A → �
   each_steady [] is ended = tt
   each_steady (t ∷ more) is ended = (let both = both_false (any_failed more) (is_door_failed t.end) is in (ended.0.steady (not_failed t.end both.1), each_steady more both.0 ended.1))
 
-module _ {A L : Type 0} (g : Givens) (shown : L → Shown) (standing : A → Option (Standing L)) (faults : A → ℕ) (old new : Doors A) (outcome : Outcome) (life : Life)
-    (ran : IsServedRun {A = A} {L = L} g shown standing faults old new outcome life)
+module _ {A L : Type 0} (g : Givens) (shown : L → Shown) (standing : A → Option (Standing L)) (faults : A → ℕ) (workers : ℕ) (old new : Doors A) (outcome : Outcome) (life : Life)
+    (ran : IsServedRun {A = A} {L = L} g shown standing faults workers old new outcome life)
     (journal : Result Put AllocError) (filled : Option Full) (filled_is : option_map (λ f. (f.arrivals, f.bytes)) filled ≡ filled_at life.history)
     (status : Status) (status_is : status ≡ status_of outcome journal filled) where
   abbrev m : Bool
@@ -71,13 +73,13 @@ module _ {A L : Type 0} (g : Givens) (shown : L → Shown) (standing : A → Opt
   abbrev l : Option Full
   l = or_else filled outcome.refused
 
-  kept_run : m ≡ false → IsKeptRun {A = A} {L = L} g shown standing faults ran.tours ran.last (reverse life.history)
+  kept_run : m ≡ false → IsKeptRun {A = A} {L = L} g shown standing faults workers ran.tours ran.last (reverse life.history)
   kept_run none = ran.kept (not_lost outcome.lost outcome.short (is_textless journal) none)
 
   whole_run : m ≡ false → s ≡ false → IsWholeRun {A = A} {L = L} g shown standing faults ran.tours ran.last (reverse life.history)
   whole_run none all = ran.calm (not_short outcome.short all) (not_lost outcome.lost outcome.short (is_textless journal) none)
 
-  pub tells : Tells {A = A} {L = L} shown standing faults g ran.tours ran.last status life
+  pub tells : Tells {A = A} {L = L} shown standing faults g workers ran.tours ran.last status life
   tells = record {
     sessions = λ other. kept_run (no_memory_wanted m s u outcome.failed l (λ is. other (status_is ∙ is)));
     end = λ other more. whole_run (no_memory_wanted m s u outcome.failed l (λ is. other (status_is ∙ is)))
@@ -100,7 +102,7 @@ module _ {A L : Type 0} (g : Givens) (shown : L → Shown) (standing : A → Opt
   no_thread is = (let told = thread_told m s u outcome.failed l (sym status_is ∙ is) in thread_short outcome.lost outcome.short (is_textless journal) told.0 told.1)
 
 module _ {A L : Type 0} (shown : L → Shown) (standing : A → Option (Standing L)) (faults : A → ℕ) (asked : Option Serve) (serve : Serve) (begun : Life) (status : Status) (old new : Doors A)
-    (files between after : Option Contents) (asked_is : asked ≡ Some serve) (begins : IsBegun serve begun files between) where
+    (files between after : Option Contents) (asked_is : asked ≡ Some serve) (begins : IsBegun serve begun files between) (still : IfTold files between HoldsStill) where
   pub ends : (core : Option Life) → ServesOn {A = A} {L = L} shown standing faults serve begun status old new core between after → Ends {A = A} {L = L} shown standing faults asked status old new core files after
-  ends None is = (is.0, inr is.1)
-  ends (Some life) is = (serve, asked_is, record { begun = begun; between = between; begins = begins; served = is })
+  ends None is = (is.0, subst (λ now. IfTold files now HoldsStill) (sym is.2) still, inr is.1)
+  ends (Some life) is = (serve, asked_is, record { begun = begun; between = between; still = still; begins = begins; served = is })

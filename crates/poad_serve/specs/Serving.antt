@@ -5,8 +5,10 @@ use Rattle.command_words.specs.Serving.{Serve}
 use Rattle.outside.specs.Accepting.{Standing}
 use Rattle.outside.specs.Keeping.{Contents}
 use Rattle.outside.specs.Link.{Shown}
+use Rattle.outside.specs.Told.{IfTold}
 use Rattle.outside.specs.declared.keeping.Put.{Put}
 use Rattle.poa_base.specs.declared.Entry.{Entry}
+use Rattle.poad_cmd.specs.Taking.{HoldsStill}
 use Rattle.poad_cmd.specs.declared.status.Status.{Status}
 use Rattle.poad_cmd.specs.declared.status.Status.TheVariants.{Ok as Fine, WantMemory, NoThread, ListenFault, Limit}
 use Rattle.poad_serve.specs.Beginning.{IsBegun, IsRefused}
@@ -23,11 +25,11 @@ use Rattle.serve_run.specs.declared.doors.Doors.{Doors}
 use Rattle.serve_run.specs.declared.outcome.Outcome.{Outcome}
 
 module _ {A L : Type 0} (shown : L → Shown) (standing : A → Option (Standing L)) (faults : A → ℕ) where
-  -- What a status tells of a run with these doors served, of which this came last on its own connection
-  pub record Tells (g : Givens) (tours : List (Tour A L)) (last : Option (ℕ × Entry)) (status : Status) (life : Life) : Type 0 where
+  -- What a status tells of a run with so many workers and these doors served, of which this came last on its own connection
+  pub record Tells (g : Givens) (workers : ℕ) (tours : List (Tour A L)) (last : Option (ℕ × Entry)) (status : Status) (life : Life) : Type 0 where
     -- unless memory was wanting, nobody gave the run up, each connection but the first came by one link, and each link has
     -- its session by the whole journal
-    pub sessions : status ≢ WantMemory → IsKeptRun g shown standing faults tours last (reverse life.history)
+    pub sessions : status ≢ WantMemory → IsKeptRun g shown standing faults workers tours last (reverse life.history)
     -- unless a thread was, too, the run came to its end: every activation is over, every call of a client is decided, and
     -- each door ended for a cause
     pub end : status ≢ WantMemory → status ≢ NoThread → IsWholeRun g shown standing faults tours last (reverse life.history)
@@ -38,13 +40,13 @@ module _ {A L : Type 0} (shown : L → Shown) (standing : A → Option (Standing
   -- a run that was begun so was served over these doors, its journal was put, and it ended with this status
   pub record HasServed (serve : Serve) (begun : Life) (status : Status) (old new : Doors A) (life : Life) (files_old files_new : Option Contents) : Type 0 where
     pub outcome : Outcome
-    pub ran : IsServedRun (givens_of begun) shown standing faults old new outcome life
+    pub ran : IsServedRun (givens_of begun) shown standing faults serve.workers old new outcome life
     pub journal : Result Put AllocError
     pub puts : PutsJournal serve.journal life journal files_old files_new
     pub filled : Option Full
     pub filled_is : option_map (λ f. (f.arrivals, f.bytes)) filled ≡ filled_at life.history
     pub status_is : status ≡ status_of outcome journal filled
-    pub tells : Tells (givens_of begun) ran.tours ran.last status life
+    pub tells : Tells (givens_of begun) serve.workers ran.tours ran.last status life
 
   -- the same; without a core memory was wanting before the first piece was started
   abbrev pub ServesOn : Serve → Life → Status → Doors A → Doors A → Option Life → Option Contents → Option Contents → Type 0
@@ -55,10 +57,13 @@ module _ {A L : Type 0} (shown : L → Shown) (standing : A → Option (Standing
   pub record Serves (serve : Serve) (status : Status) (old new : Doors A) (life : Life) (files_old files_new : Option Contents) : Type 0 where
     pub begun : Life
     pub between : Option Contents
+    -- reading the configuration changed no file
+    pub still : IfTold files_old between HoldsStill
     pub begins : IsBegun serve begun files_old between
     pub served : HasServed serve begun status old new life between files_new
 
-  -- a core is given back where a run was served; else no run could begin, and the doors are as they were
+  -- a core is given back where a run was served; else no run could begin, the doors are as they were, and no file changed
   abbrev pub Ends : Option Serve → Status → Doors A → Doors A → Option Life → Option Contents → Option Contents → Type 0
-  Ends asked status old new None files_old files_new = (new ≡ old) × (IsRefused asked status files_old files_new ⊎ (status ≡ WantMemory))
+  Ends asked status old new None files_old files_new =
+      (new ≡ old) × IfTold files_old files_new HoldsStill × (IsRefused asked status files_old files_new ⊎ (status ≡ WantMemory))
   Ends asked status old new (Some life) files_old files_new = (serve : Serve) × (asked ≡ Some serve) × Serves serve status old new life files_old files_new

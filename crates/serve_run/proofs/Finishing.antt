@@ -32,7 +32,7 @@ use Rattle.serve_run.specs.declared.doors.Doors.{Doors}
 use Rattle.serve_run.specs.declared.outcome.Outcome.{Outcome}
 use Rattle.serve_run.proofs.DoorEnds.{each_ended, each_passed}
 use Rattle.serve_run.proofs.Endings.{run_over}
-use Rattle.serve_run.proofs.Sessions.{came_by_door, connections_are, in_seen, made, none_abandoned, sessions_are, Stays}
+use Rattle.serve_run.proofs.Sessions.{came_by_door, connections_are, in_seen, made, none_abandoned, sessions_are, works_here, Stays}
 use Rattle.serve_run.proofs.Staying.{holds_looked, last_same, place_of, same_seen}
 use Rattle.serve_run.proofs.Whole.{whole, IsWhole}
 
@@ -67,9 +67,10 @@ module _ {A L : Type 0} (g : Givens) (shown : L → Shown) (standing : A → Opt
         (λ (same : own ≡ Some (x, Arrive 0 size call)). (let f : Some said ≡ Some (x, Arrive 0 size call) = sym is ∙ same in let e = place_of said (x, Arrive 0 size call) f in let low = (said_at t p x size call at).0 in omega arith))
         (said_at t p x size call at).1) holds.tours_are
 
-    pub kept_run : Stays g → (word : IsWord own) → IsKeptRun {A = A} {L = L} g shown standing faults tours own log
-    kept_run stays word = record {
+    pub kept_run : Stays g → (word : IsWord own) (workers : ℕ) → ((w : ℕ) → In w (workers_in shifts) → w < workers) → IsKeptRun {A = A} {L = L} g shown standing faults workers tours own log
+    kept_run stays word workers below = record {
       going = none_abandoned g shown standing faults own tours shifts w holds log is_whole runs;
+      worked = λ place k e at works. below k (works_here g shown standing faults own tours shifts w holds log is_whole runs k place e at works);
       first = record {
         word = word;
         own = λ place e at of. holds.own_is place e (made g shown standing faults own tours shifts w holds log is_whole runs place e at) (in_seen g shown standing faults own tours shifts w holds log is_whole runs place e at) of;
@@ -107,7 +108,7 @@ module _ {A L : Type 0} (g : Givens) (shown : L → Shown) (standing : A → Opt
     holds_now : outcome.lost ≡ false → Holds {A = A} {L = L} g shown standing faults served.own served.tours served.shifts w
     holds_now kept = holds_looked g shown standing faults served.tours served.shifts v w event.0 event.1 served.own event.2 (served.holds kept)
 
-    pub served_run : IsServedRun {A = A} {L = L} g shown standing faults old new outcome life
+    pub served_run : IsServedRun {A = A} {L = L} g shown standing faults count old new outcome life
     served_run = record {
       given = (let e : Some (givens_of life) ≡ Some g = sym given_life ∙ (event.1.given ∙ (served.same.given ∙ given)) in cc);
       legal = legal;
@@ -117,7 +118,7 @@ module _ {A L : Type 0} (g : Givens) (shown : L → Shown) (standing : A → Opt
       failed_is = served.failed_is;
       refused_is = served.refused_is;
       last = served.own;
-      kept = λ kept. kept_run served.own served.tours served.shifts w (holds_now kept) (reverse life.history) is_whole runs stays served.word;
+      kept = λ kept. kept_run served.own served.tours served.shifts w (holds_now kept) (reverse life.history) is_whole runs stays served.word count served.below;
       calm = λ calm kept. whole_run served.own served.tours served.shifts w (holds_now kept) (reverse life.history) is_whole runs
           (last_same g shown standing faults served.tours served.shifts served.own v w (same_seen g shown standing faults served.tours served.shifts v w event.0 event.1 event.2) (event.1.none_made event.2) (served.holds kept) (served.last calm kept))
           (served.worked calm kept 0 some_workers);

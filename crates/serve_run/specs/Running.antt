@@ -9,15 +9,16 @@ use Rattle.run_history.specs.declared.givens.Givens.{Givens}
 use Rattle.run_history.specs.Runs.{IsHistory}
 use Rattle.serve_run.specs.Attending.{Attended}
 use Rattle.serve_run.specs.Outcomes.{any_failed, least_in}
-use Rattle.serve_run.specs.Served.{AreConnections, EachDoor, EachEnded, EachPassed, IsFirst, NoneGaveUp, IsLastWord, IsRunOver}
+use Rattle.serve_run.specs.Served.{AreConnections, EachDoor, EachEnded, EachPassed, IsFirst, NoneGaveUp, IsLastWord, IsRunOver, WorkedBelow}
 use Rattle.serve_run.specs.Tours.{Tour, conns_in}
 use Rattle.serve_run.specs.declared.doors.Doors.{Doors}
 use Rattle.serve_run.specs.declared.outcome.Outcome.{Outcome}
 
 module _ {A L : Type 0} (g : Givens) (shown : L → Shown) (standing : A → Option (Standing L)) (faults : A → ℕ) where
-  -- nobody gave the run up, and these links were served over these doors
-  pub record IsKeptRun (tours : List (Tour A L)) (last : Option (ℕ × Entry)) (log : List Entry) : Type 0 where
+  -- nobody gave the run up, and these links were served over these doors, by so many workers at most
+  pub record IsKeptRun (workers : ℕ) (tours : List (Tour A L)) (last : Option (ℕ × Entry)) (log : List Entry) : Type 0 where
     pub going : NoneGaveUp log
+    pub worked : WorkedBelow workers log
     pub first : IsFirst last log
     pub connections : AreConnections (conns_in tours) log
     pub sessions : EachDoor g shown log tours
@@ -29,7 +30,7 @@ module _ {A L : Type 0} (g : Givens) (shown : L → Shown) (standing : A → Opt
     pub over : IsRunOver g log
     pub ended : EachEnded standing faults log tours
 
-  pub record IsServedRun (old new : Doors A) (outcome : Outcome) (life : Life) : Type 0 where
+  pub record IsServedRun (workers : ℕ) (old new : Doors A) (outcome : Outcome) (life : Life) : Type 0 where
     pub given : givens_of life ≡ g
     pub legal : IsHistory g life.history
     pub lifetime : HasLifetime g.config g.run life.history
@@ -38,5 +39,5 @@ module _ {A L : Type 0} (g : Givens) (shown : L → Shown) (standing : A → Opt
     pub failed_is : outcome.failed ≡ any_failed tours
     pub refused_is : outcome.refused ≡ least_in tours
     pub last : Option (ℕ × Entry)
-    pub kept : outcome.lost ≡ false → IsKeptRun tours last (reverse life.history)
+    pub kept : outcome.lost ≡ false → IsKeptRun workers tours last (reverse life.history)
     pub calm : outcome.short ≡ None → outcome.lost ≡ false → IsWholeRun tours last (reverse life.history)

@@ -20,7 +20,7 @@ use Rattle.poa_history.specs.declared.activation.Activation.{Activation}
 use Rattle.poa_session.specs.Served.{DriesUp, TurnedAway}
 use Rattle.poa_tree.specs.Trees.{In as IsAmong}
 use Rattle.run_history.specs.declared.givens.Givens.{Givens}
-use Rattle.run_history.specs.Owners.{owner_of}
+use Rattle.run_history.specs.Owners.{owner_of, worker_of}
 use Rattle.seat_lock.specs.Histories.{times, Belongs, In, IsPrefix}
 use Rattle.run_tally.specs.Leaving.{is_shut_by}
 use Rattle.session_laws.specs.declared.peer.Peer.{Peer}
@@ -69,6 +69,10 @@ pub record AreConnections (conns : List ℕ) (log : List Entry) : Type 0 where
 -- no worker gave the run up
 abbrev pub NoneGaveUp : List Entry → Type 0
 NoneGaveUp log = (w : ℕ) → is_abandoned (reverse log) w ≡ false
+
+-- no workers but those below this number made entries
+abbrev pub WorkedBelow : ℕ → List Entry → Type 0
+WorkedBelow workers log = (place w : ℕ) (e : Entry) → get_elem? log place ≡ some e → worker_of e ≡ Some w → w < workers
 
 -- the run is over: every activation is void or finished, and every call of a connection but the first is decided
 pub record IsRunOver (g : Givens) (log : List Entry) : Type 0 where
