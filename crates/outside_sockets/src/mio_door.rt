@@ -34,12 +34,15 @@ impl MioDoor {
         }
     }
 
-    // The next connection, without delay of its small writes.
+    // The next connection, without delay of its small writes. One that was reset before it came in is told as aborted.
     fn accept(&self) -> io::Result<TcpStream> {
         let Some(listener) = &self.listener else {
             return Err(io::Error::from(ErrorKind::NotConnected));
         };
         let (stream, _) = listener.accept()?;
+        if stream.take_error()?.is_some() {
+            return Err(io::Error::from(ErrorKind::ConnectionAborted));
+        }
         stream.set_nonblocking(true)?;
         stream.set_nodelay(true)?;
         Ok(TcpStream::from_std(stream))
