@@ -4,75 +4,38 @@ Then it says `shutdown` under load.
 
 hostile.py PID LANES"""
 import os
-import socket
-import struct
 import sys
 import threading
 import time
 
+import giop
+
 PID, LANES = map(int, sys.argv[1:])
-CLIENTS, ADMINISTRATORS = 2809, 2810
-COUNTER = b"POA\x01\x01\x01\x03map\x00\x04main"
-ECHO = b"POA\x01\x01\x01\x04echo\x00\x01a"
-REPLY, CLOSE_CONNECTION, MESSAGE_ERROR = 1, 5, 6
-
-# What the journal has to keep since the server was looked at last.
-calls = 0
-connections = 0
 
 
-def request(number, key=COUNTER, operation=b"get\0", octets=None):
-    """A GIOP 1.2 request, little-endian, with a sequence of octets if there are any."""
-    global calls
-    calls += 1
-    body = struct.pack("<IB3xHxxI", number, 3, 0, len(key)) + key
-    body += b"\0" * (-len(body) % 4) + struct.pack("<I", len(operation)) + operation
-    body += b"\0" * (-len(body) % 4) + struct.pack("<I", 0)
-    if octets is not None:
-        body += b"\0" * (-(len(body) + 12) % 8) + struct.pack("<I", len(octets)) + octets
-    return b"GIOP\x01\x02\x01\x00" + struct.pack("<I", len(body)) + body
+class Kept:
+    """What came to the server, and stays in its journal."""
+
+    calls = connections = octets = 0
 
 
-def exactly(link, count):
-    got = b""
-    while len(got) < count:
-        more = link.recv(count - len(got))
-        if not more:
-            raise EOFError
-        got += more
-    return got
+def connect(port=giop.CLIENTS, receive=None):
+    Kept.connections += 1
+    return giop.connect(port, receive)
 
 
-def next_kind(link):
-    """Reads the next message, and answers its kind."""
-    head = exactly(link, 12)
-    exactly(link, struct.unpack("<I" if head[6] & 1 else ">I", head[8:])[0])
-    return head[7]
+def request(number, key=giop.COUNTER, operation=b"get", octets=None):
+    Kept.calls += 1
+    # As the request has them, and its reply.
+    Kept.octets += 2 * len(octets or b"")
+    return giop.request(number, key, operation, octets)
 
 
-def connect(port=CLIENTS, receive=None):
-    global connections
-    connections += 1
-    link = socket.socket()
-    link.settimeout(60)
-    if receive:
-        link.setsockopt(socket.SOL_SOCKET, socket.SO_RCVBUF, receive)
-    link.connect(("127.0.0.1", port))
-    return link
-
-
-def ask(link, number=1):
-    """One request and its reply."""
-    link.sendall(request(number))
-    kind = next_kind(link)
-    assert kind == REPLY, kind
-
-
-def ask_many(link, count):
+def ask(link, count=1):
     """So many requests in one piece, and their replies."""
     link.sendall(b"".join(map(request, range(count))))
     for _ in range(count):
-        assert next_kind(link) == REPLY
+        assert giop.next_kind(link) == giop.REPLY
 
 
 def fresh_client():
@@ -81,11 +44,6 @@ def fresh_client():
     with connect() as link:
         ask(link)
     return time.time() - start
-
-
-def reset(link):
-    link.setsockopt(socket.SOL_SOCKET, socket.SO_LINGER, struct.pack("ii", 1, 0))
-    link.close()
 
 
 def is_silent(link, seconds):
@@ -98,19 +56,8 @@ def is_silent(link, seconds):
         link.settimeout(60)
 
 
-def descriptors():
-    return len(os.listdir(f"/proc/{PID}/fd"))
-
-
-def memory():
-    """The server's memory in bytes."""
-    with open(f"/proc/{PID}/status") as lines:
-        return next(int(it.split()[1]) << 10 for it in lines if it.startswith("VmRSS"))
-
-
 def silent_links():
-    """All lanes but one are taken by links that send nothing: the last one serves. Where that is taken too, who comes
-    next waits until one of them goes."""
+    """64 links send nothing. As long as a lane is left, it serves; who comes when all are taken waits until one goes."""
     links = [connect() for _ in range(LANES - 1)]
     time.sleep(1)
     assert fresh_client() < 1
@@ -120,32 +67,32 @@ def silent_links():
         waiting.sendall(request(1))
         assert is_silent(waiting, 2)
         links.pop().close()
-        assert next_kind(waiting) == REPLY
+        assert giop.next_kind(waiting) == giop.REPLY
     for link in links:
         link.close()
 
 
 def connects_and_resets():
     for _ in range(10000):
-        reset(connect())
+        giop.reset(connect())
 
 
-def resets_of_calls():
+def calls_and_resets():
     for _ in range(1000):
         link = connect()
         link.sendall(request(1))
-        reset(link)
+        giop.reset(link)
 
 
 def byte_a_second():
-    """The last bytes of a request come so, and it is answered."""
+    """A request whose last bytes come so is answered."""
     with connect() as link:
         message = request(1)
         link.sendall(message[:-10])
         for byte in message[-10:]:
             time.sleep(1)
             link.sendall(bytes([byte]))
-        assert next_kind(link) == REPLY
+        assert giop.next_kind(link) == giop.REPLY
 
 
 def half_a_message():
@@ -155,21 +102,22 @@ def half_a_message():
 
 
 def garbage():
+    """A mebibyte of it is answered by a MessageError."""
     with connect() as link:
         try:
             link.sendall(bytes(range(256)) * 4096)
         except OSError:
             pass
-        assert next_kind(link) == MESSAGE_ERROR
+        assert giop.next_kind(link) == giop.MESSAGE_ERROR
 
 
 def never_reads():
     """A peer that takes none of 10,000 replies of a kilobyte is cut off after half a minute."""
+    asked = b"".join(request(it, giop.ECHO, b"echo", b"x" * 1000) for it in range(10000))
+    end = time.time() + 60
     with connect(receive=4096) as link:
         link.settimeout(1)
-        asked = b"".join(request(it, ECHO, b"echo\0", b"x" * 1000) for it in range(10000))
-        start = time.time()
-        while time.time() - start < 60:
+        while time.time() < end:
             try:
                 asked = asked[link.send(asked) :]
             except TimeoutError:
@@ -180,18 +128,18 @@ def never_reads():
 
 
 def hundred_lines():
-    with connect(ADMINISTRATORS) as link:
+    with connect(giop.ADMINISTRATORS) as link:
         link.sendall(b"bogus\n" * 100)
-        answers = link.makefile("rb")
+        answers = link.makefile()
         for number in range(1, 101):
             line = answers.readline()
-            assert line == b"%d no BadWord 1\n" % number, line
+            assert line == f"{number} no BadWord 1\n", line
 
 
 ABUSES = (
     silent_links,
     connects_and_resets,
-    resets_of_calls,
+    calls_and_resets,
     byte_a_second,
     half_a_message,
     garbage,
@@ -200,49 +148,64 @@ ABUSES = (
 )
 
 
+def descriptors():
+    return len(os.listdir(f"/proc/{PID}/fd"))
+
+
+def memory():
+    """The server's memory in bytes."""
+    with open(f"/proc/{PID}/status") as lines:
+        return next(int(it.split()[1]) << 10 for it in lines if it.startswith("VmRSS"))
+
+
+def settle(count):
+    """Waits until the server has no more than so many descriptors, a minute at most."""
+    end = time.time() + 60
+    while descriptors() > count and time.time() < end:
+        time.sleep(0.1)
+
+
 def take_all_lanes():
     """Each lane serves once, so that it has its buffers."""
     links = [connect() for _ in range(LANES)]
     for link in links:
-        ask_many(link, 100)
+        ask(link, 100)
     for link in links:
         link.close()
-
-
-def grown(work):
-    """By how many bytes the memory grows."""
-    time.sleep(1)
-    before = memory()
-    work()
-    time.sleep(1)
-    return max(0, memory() - before)
 
 
 def many_calls():
     with connect() as link:
         for _ in range(200):
-            ask_many(link, 100)
+            ask(link, 100)
 
 
 def many_connections():
     for _ in range(2000):
-        connect().close()
+        with connect() as link:
+            link.sendall(b"G")
+
+
+def grown(work, count):
+    """By how many bytes the memory grows."""
+    before = memory()
+    work()
+    settle(count)
+    return max(0, memory() - before)
 
 
 def look(abuse, kept_a_call, kept_a_connection):
     """Abuses the server, and answers whether it came off well."""
-    global calls, connections
-    calls = connections = 0
+    Kept.calls = Kept.connections = Kept.octets = 0
     count, held, start = descriptors(), memory(), time.time()
     abuse()
-    took = time.time() - start
-    waited = fresh_client()
-    time.sleep(1.5)
-    kept = calls * kept_a_call + connections * kept_a_connection
+    took, waited = time.time() - start, fresh_client()
+    settle(count)
+    kept = Kept.calls * kept_a_call + Kept.connections * kept_a_connection + Kept.octets
     fine = waited < 1 and descriptors() == count and memory() <= 1.1 * (held + kept)
     print(
         f"{abuse.__name__}: {took:.1f} s; a fresh client waits {waited * 1000:.1f} ms; {descriptors()} descriptors;"
-        f" memory {held >> 10} KiB, then {memory() >> 10}, the journal's part up to {int(kept) >> 10}:"
+        f" memory {held >> 10} KiB, then {memory() >> 10}, up to {int(kept) >> 10} of it for the journal:"
         f" {'ok' if fine else 'FAILED'}",
         flush=True,
     )
@@ -250,43 +213,39 @@ def look(abuse, kept_a_call, kept_a_connection):
 
 
 def ask_until_closed(ends):
-    """Asks 16 calls at a time, until the server closes."""
-    try:
-        with connect() as link:
-            while True:
-                ask_many(link, 16)
-    except AssertionError:
-        ends.append("CloseConnection")
-    except (EOFError, OSError) as end:
-        ends.append(type(end).__name__)
+    """Asks without end, 16 calls ahead of the replies, and tells what comes behind the replies."""
+    with giop.connect() as link:
+        link.sendall(b"".join(map(giop.request, range(16))))
+        while (kind := giop.next_kind(link)) == giop.REPLY:
+            link.sendall(giop.request(16))
+    ends.append(kind)
 
 
 def shutdown_under_load():
+    """Each of eight clients reads its replies and then a CloseConnection."""
     ends = []
     asking = [threading.Thread(target=ask_until_closed, args=[ends]) for _ in range(8)]
     for it in asking:
         it.start()
     time.sleep(2)
-    with connect(ADMINISTRATORS) as link:
-        link.sendall(b"shutdown\n")
-        answer = link.makefile("rb").readline()
+    answer = giop.say("shutdown")
     for it in asking:
         it.join()
-    fine = answer == b"1 ok\n" and ends == ["CloseConnection"] * 8
-    print(f"shutdown_under_load: answered {answer.decode().strip()}; the clients read {', '.join(ends)}:", end=" ")
-    print("ok" if fine else "FAILED", flush=True)
+    fine = answer == "1 ok" and ends == [giop.CLOSE_CONNECTION] * 8
+    print(f"shutdown_under_load: {answer}; {len(ends)} clients were closed: {'ok' if fine else 'FAILED'}", flush=True)
     return fine
 
 
 def main():
+    count = descriptors()
     take_all_lanes()
-    kept_a_call = grown(many_calls) / 20000
-    kept_a_connection = grown(many_connections) / 2000
-    print(f"a call keeps {kept_a_call:.0f} bytes, a connection {kept_a_connection:.0f}; {descriptors()} descriptors")
+    settle(count)
+    kept_a_call = grown(many_calls, count) / 20000
+    kept_a_connection = grown(many_connections, count) / 2000
+    print(f"a call keeps {kept_a_call:.0f} bytes, a connection {kept_a_connection:.0f}; {count} descriptors", flush=True)
     fine = [look(abuse, kept_a_call, kept_a_connection) for abuse in ABUSES]
     fine.append(shutdown_under_load())
     return not all(fine)
 
 
-if __name__ == "__main__":
-    sys.exit(main())
+sys.exit(main())
