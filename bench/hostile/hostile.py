@@ -212,12 +212,20 @@ def look(abuse, kept_a_call, kept_a_connection):
     return fine
 
 
+def send(link, message):
+    """Sends a message to a server that may have closed."""
+    try:
+        link.sendall(message)
+    except OSError:
+        pass
+
+
 def ask_until_closed(ends):
     """Asks without end, 16 calls ahead of the replies, and tells what comes behind the replies."""
     with giop.connect() as link:
-        link.sendall(b"".join(map(giop.request, range(16))))
+        send(link, b"".join(map(giop.request, range(16))))
         while (kind := giop.next_kind(link)) == giop.REPLY:
-            link.sendall(giop.request(16))
+            send(link, giop.request(16))
     ends.append(kind)
 
 
