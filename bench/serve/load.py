@@ -12,14 +12,15 @@ from giop import connect, exactly, request
 
 PID = int(sys.argv[1])
 REPLY_BYTES = 32
-TICKS = os.sysconf("SC_CLK_TCK")
 
 
 def processor():
-    """How many seconds of processors the server took so far."""
-    with open(f"/proc/{PID}/stat") as line:
-        words = line.read().rsplit(")")[1].split()
-    return (int(words[11]) + int(words[12])) / TICKS
+    """How many seconds of processors the server's threads took so far."""
+    taken = 0
+    for thread in os.listdir(f"/proc/{PID}/task"):
+        with open(f"/proc/{PID}/task/{thread}/schedstat") as line:
+            taken += int(line.read().split()[0])
+    return taken / 1e9
 
 
 def descriptors():
@@ -44,14 +45,15 @@ def ask_anew(count):
 def measure(name, clients, work, words, count):
     """Lets so many clients work, each in a process of its own, and tells what it came to."""
     start, taken = time.time(), processor()
-    workers = [multiprocessing.Process(target=work, args=words) for _ in range(clients)]
-    for it in workers:
+    asking = [multiprocessing.Process(target=work, args=words) for _ in range(clients)]
+    for it in asking:
         it.start()
-    for it in workers:
+    for it in asking:
         it.join()
     took, taken = time.time() - start, processor() - taken
-    assert not any(it.exitcode for it in workers)
-    print(f"{name}: {clients * count / took:,.0f} a second, {1e6 * taken / clients / count:.1f} us of the server each", flush=True)
+    assert not any(it.exitcode for it in asking)
+    requests = clients * count
+    print(f"{name}: {requests / took:,.0f} a second, {1e6 * taken / requests:.1f} us of a processor each", flush=True)
 
 
 def main():

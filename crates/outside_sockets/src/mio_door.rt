@@ -13,7 +13,7 @@ use std::net::TcpListener;
 use std::sync::Arc;
 
 /// One of the doors to a listening socket, which share it: each gives a link at a time, with the ears that came
-/// back with the last one. It tells no content. Where nobody comes for a fifth of a second it says `Quiet`. Where
+/// back with the last one. It tells no content. Where nobody comes for a second it says `Quiet`. Where
 /// the port couldn't be had, or a link is out, each `next` fails.
 #[derive(Drop)]
 pub struct MioDoor {
