@@ -1,89 +1,98 @@
-"""Abuses a server of desk.toml over its ports, and looks after each abuse whether a fresh client is served within a
-second, how many descriptors the server has, and how much memory.
+"""Abuses a server of desk.toml over its ports. After each abuse it looks whether a fresh client is served within a
+second, the descriptors are as before, and the memory has grown by no more than the journal, and a tenth beside it.
+Then it says `shutdown` under load.
 
-hostile.py PID [PORT ADMIN_PORT]"""
-import socket
-import struct
+hostile.py PID LANES"""
+import os
 import sys
 import threading
 import time
 
-PID = int(sys.argv[1])
-PORT, ADMIN = (int(it) for it in (sys.argv[2:4] or (2809, 2810)))
-KEY = b"POA\x01\x01\x01\x03map\x00\x04main"
+import giop
+
+PID, LANES = map(int, sys.argv[1:])
 
 
-def request(number, operation=b"get", argument=b""):
-    """A GIOP 1.2 request of the register, little-endian."""
-    body = struct.pack("<IB3xHxxI", number, 3, 0, len(KEY)) + KEY
-    body += b"\0" * (-len(body) % 4)
-    body += struct.pack("<I", len(operation) + 1) + operation + b"\0"
-    body += b"\0" * (-len(body) % 4) + struct.pack("<I", 0)
-    if argument:
-        body += b"\0" * (-(len(body) + 12) % 8) + argument
-    return b"GIOP\x01\x02\x01\x00" + struct.pack("<I", len(body)) + body
+class Kept:
+    """What came to the server, and stays in its journal."""
+
+    calls = connections = octets = 0
 
 
-def exactly(link, count):
-    got = b""
-    while len(got) < count:
-        more = link.recv(count - len(got))
-        if not more:
-            raise EOFError
-        got += more
-    return got
+def connect(port=giop.CLIENTS, receive=None):
+    Kept.connections += 1
+    return giop.connect(port, receive)
 
 
-def reply(link):
-    """The kind of the next message, and its body."""
-    head = exactly(link, 12)
-    order = "<" if head[6] & 1 else ">"
-    return head[7], exactly(link, struct.unpack(order + "I", head[8:12])[0])
+def request(number, key=giop.COUNTER, operation=b"get", octets=None):
+    Kept.calls += 1
+    # As the request has them, and its reply.
+    Kept.octets += 2 * len(octets or b"")
+    return giop.request(number, key, operation, octets)
 
 
-def connect(port=PORT):
-    return socket.create_connection(("127.0.0.1", port), timeout=10)
+def ask(link, count=1):
+    """So many requests in one piece, and their replies."""
+    link.sendall(b"".join(map(request, range(count))))
+    for _ in range(count):
+        assert giop.next_kind(link) == giop.REPLY
 
 
 def fresh_client():
     """How long a new client waits for its first reply."""
     start = time.time()
     with connect() as link:
-        link.sendall(request(1))
-        kind, _ = reply(link)
-        assert kind == 1, kind
+        ask(link)
     return time.time() - start
 
 
-def standing():
-    """The server's descriptors, and its memory in KiB."""
-    import os
-
-    count = len(os.listdir(f"/proc/{PID}/fd"))
-    with open(f"/proc/{PID}/status") as lines:
-        memory = next(int(it.split()[1]) for it in lines if it.startswith("VmRSS"))
-    return count, memory
+def is_silent(link, seconds):
+    link.settimeout(seconds)
+    try:
+        return not link.recv(1)
+    except TimeoutError:
+        return True
+    finally:
+        link.settimeout(60)
 
 
 def silent_links():
-    links = [connect() for _ in range(64)]
-    time.sleep(2)
+    """64 links send nothing. As long as a lane is left, it serves; who comes when all are taken waits until one goes."""
+    links = [connect() for _ in range(LANES - 1)]
+    time.sleep(1)
+    assert fresh_client() < 1
+    links.append(connect())
+    time.sleep(1)
+    with connect() as waiting:
+        waiting.sendall(request(1))
+        assert is_silent(waiting, 2)
+        links.pop().close()
+        assert giop.next_kind(waiting) == giop.REPLY
     for link in links:
         link.close()
 
 
-def resets():
+def connects_and_resets():
     for _ in range(10000):
+        giop.reset(connect())
+
+
+def calls_and_resets():
+    for _ in range(1000):
         link = connect()
-        link.setsockopt(socket.SOL_SOCKET, socket.SO_LINGER, struct.pack("ii", 1, 0))
-        link.close()
+        link.sendall(request(1))
+        giop.reset(link)
 
 
 def byte_a_second():
+    """A request whose last bytes come so is answered."""
     with connect() as link:
-        for byte in request(1)[:8]:
-            link.sendall(bytes([byte]))
+        message = request(1)
+        link.sendall(message[:-10])
+        for byte in message[-10:]:
             time.sleep(1)
+            link.sendall(bytes([byte]))
+        assert giop.next_kind(link) == giop.REPLY
 
 
 def half_a_message():
@@ -93,81 +102,158 @@ def half_a_message():
 
 
 def garbage():
+    """A mebibyte of it is answered by a MessageError."""
     with connect() as link:
         try:
             link.sendall(bytes(range(256)) * 4096)
-            while link.recv(65536):
-                pass
         except OSError:
             pass
+        assert giop.next_kind(link) == giop.MESSAGE_ERROR
 
 
 def never_reads():
-    with connect() as link:
-        link.settimeout(5)
-        try:
-            link.sendall(b"".join(request(it) for it in range(10000)))
-        except OSError:
-            pass
-        time.sleep(1)
+    """A peer that takes none of 10,000 replies of a kilobyte is cut off after half a minute."""
+    asked = b"".join(request(it, giop.ECHO, b"echo", b"x" * 1000) for it in range(10000))
+    end = time.time() + 60
+    with connect(receive=4096) as link:
+        link.settimeout(1)
+        while time.time() < end:
+            try:
+                asked = asked[link.send(asked) :]
+            except TimeoutError:
+                pass
+            except OSError:
+                return
+    assert False, "the peer wasn't cut off"
 
 
 def hundred_lines():
-    with connect(ADMIN) as link:
+    with connect(giop.ADMINISTRATORS) as link:
         link.sendall(b"bogus\n" * 100)
-        answers = link.makefile("rb")
+        answers = link.makefile()
         for number in range(1, 101):
             line = answers.readline()
-            assert line == b"%d no BadWord 1\n" % number, line
+            assert line == f"{number} no BadWord 1\n", line
+
+
+ABUSES = (
+    silent_links,
+    connects_and_resets,
+    calls_and_resets,
+    byte_a_second,
+    half_a_message,
+    garbage,
+    never_reads,
+    hundred_lines,
+)
+
+
+def descriptors():
+    return len(os.listdir(f"/proc/{PID}/fd"))
+
+
+def memory():
+    """The server's memory in bytes."""
+    with open(f"/proc/{PID}/status") as lines:
+        return next(int(it.split()[1]) << 10 for it in lines if it.startswith("VmRSS"))
+
+
+def settle(count):
+    """Waits until the server has no more than so many descriptors, a minute at most."""
+    end = time.time() + 60
+    while descriptors() > count and time.time() < end:
+        time.sleep(0.1)
+
+
+def take_all_lanes():
+    """Each lane serves once, so that it has its buffers."""
+    links = [connect() for _ in range(LANES)]
+    for link in links:
+        ask(link, 100)
+    for link in links:
+        link.close()
+
+
+def many_calls():
+    with connect() as link:
+        for _ in range(200):
+            ask(link, 100)
+
+
+def many_connections():
+    for _ in range(2000):
+        with connect() as link:
+            link.sendall(b"G")
+
+
+def grown(work, count):
+    """By how many bytes the memory grows."""
+    before = memory()
+    work()
+    settle(count)
+    return max(0, memory() - before)
+
+
+def look(abuse, kept_a_call, kept_a_connection):
+    """Abuses the server, and answers whether it came off well."""
+    Kept.calls = Kept.connections = Kept.octets = 0
+    count, held, start = descriptors(), memory(), time.time()
+    abuse()
+    took, waited = time.time() - start, fresh_client()
+    settle(count)
+    kept = Kept.calls * kept_a_call + Kept.connections * kept_a_connection + Kept.octets
+    fine = waited < 1 and descriptors() == count and memory() <= 1.1 * (held + kept)
+    print(
+        f"{abuse.__name__}: {took:.1f} s; a fresh client waits {waited * 1000:.1f} ms; {descriptors()} descriptors;"
+        f" memory {held >> 10} KiB, then {memory() >> 10}, up to {int(kept) >> 10} of it for the journal:"
+        f" {'ok' if fine else 'FAILED'}",
+        flush=True,
+    )
+    return fine
+
+
+def send(link, message):
+    """Sends a message to a server that may have closed."""
+    try:
+        link.sendall(message)
+    except OSError:
+        pass
+
+
+def ask_until_closed(ends):
+    """Asks without end, 16 calls ahead of the replies, and tells what comes behind the replies."""
+    with giop.connect() as link:
+        send(link, b"".join(map(giop.request, range(16))))
+        while (kind := giop.next_kind(link)) == giop.REPLY:
+            send(link, giop.request(16))
+    ends.append(kind)
 
 
 def shutdown_under_load():
+    """Each of eight clients reads its replies and then a CloseConnection."""
     ends = []
-
-    def ask():
-        try:
-            with connect() as link:
-                for number in range(1000000):
-                    link.sendall(request(number))
-                    kind, _ = reply(link)
-                    if kind == 5:
-                        ends.append("CloseConnection")
-                        return
-        except (EOFError, OSError) as end:
-            ends.append(type(end).__name__)
-
-    asking = [threading.Thread(target=ask) for _ in range(8)]
+    asking = [threading.Thread(target=ask_until_closed, args=[ends]) for _ in range(8)]
     for it in asking:
         it.start()
     time.sleep(2)
-    with connect(ADMIN) as link:
-        link.sendall(b"shutdown\n")
-        print("answer:", link.makefile("rb").readline().decode().strip())
+    answer = giop.say("shutdown")
     for it in asking:
         it.join()
-    print("the clients saw:", ", ".join(sorted(ends)))
+    fine = answer == "1 ok" and ends == [giop.CLOSE_CONNECTION] * 8
+    print(f"shutdown_under_load: {answer}; {len(ends)} clients were closed: {'ok' if fine else 'FAILED'}", flush=True)
+    return fine
 
 
 def main():
-    first, _ = standing()
-    print(f"at first: {first} descriptors, {standing()[1]} KiB; fresh client {fresh_client() * 1000:.1f} ms")
-    bad = 0
-    for abuse in (silent_links, resets, byte_a_second, half_a_message, garbage, never_reads, hundred_lines):
-        start = time.time()
-        abuse()
-        took = time.time() - start
-        waited = fresh_client()
-        time.sleep(1.5)
-        count, memory = standing()
-        fine = waited < 1 and count == first
-        bad += not fine
-        print(
-            f"{abuse.__name__}: {took:.1f} s; fresh client {waited * 1000:.1f} ms; {count} descriptors, {memory} KiB:"
-            f" {'ok' if fine else 'BAD'}",
-            flush=True,
-        )
-    shutdown_under_load()
-    return bad != 0
+    count = descriptors()
+    take_all_lanes()
+    settle(count)
+    kept_a_call = grown(many_calls, count) / 20000
+    kept_a_connection = grown(many_connections, count) / 2000
+    print(f"a call keeps {kept_a_call:.0f} bytes, a connection {kept_a_connection:.0f}; {count} descriptors", flush=True)
+    fine = [look(abuse, kept_a_call, kept_a_connection) for abuse in ABUSES]
+    fine.append(shutdown_under_load())
+    return not all(fine)
 
 
 sys.exit(main())

@@ -5,10 +5,10 @@ use std::os::fd::{AsFd, OwnedFd};
 use std::time::Duration;
 
 // How many milliseconds a door waits for somebody.
-const PATIENCE: u64 = 200;
+const PATIENCE: u64 = 1000;
 
 /// A socket that listens at the first address of the host which can be had, with as many connections waiting as the
-/// system lets wait. Its `accept` waits a fifth of a second at most, and then says `WouldBlock`.
+/// system lets wait. Its `accept` waits a second at most, and then says `WouldBlock`.
 pub fn listen<N: Net>(net: &N, host: &str, port: u16) -> io::Result<TcpListener> {
     let mut refused = io::Error::from(io::ErrorKind::NotFound);
     for address in (host, port).to_socket_addrs(net)? {

@@ -13,7 +13,7 @@ use std::net::TcpListener;
 use std::sync::Arc;
 
 /// One of the doors to a listening socket, which share it: each gives a link at a time, with the ears that came
-/// back with the last one. It tells no content. Where nobody comes for a fifth of a second it says `Quiet`. Where
+/// back with the last one. It tells no content. Where nobody comes for a second it says `Quiet`. Where
 /// the port couldn't be had, or a link is out, each `next` fails.
 #[derive(Drop)]
 pub struct MioDoor {
@@ -34,12 +34,15 @@ impl MioDoor {
         }
     }
 
-    // The next connection, without delay of its small writes.
+    // The next connection, without delay of its small writes. One that was reset before it came in is told as aborted.
     fn accept(&self) -> io::Result<TcpStream> {
         let Some(listener) = &self.listener else {
             return Err(io::Error::from(ErrorKind::NotConnected));
         };
         let (stream, _) = listener.accept()?;
+        if stream.take_error()?.is_some() {
+            return Err(io::Error::from(ErrorKind::ConnectionAborted));
+        }
         stream.set_nonblocking(true)?;
         stream.set_nodelay(true)?;
         Ok(TcpStream::from_std(stream))
