@@ -1,5 +1,6 @@
 //! The lines of a case.
 use crate::case::Case;
+use crate::door_case::DoorCase;
 use crate::link_case::LinkCase;
 use crate::words::{Messages, bytes_of, filling, number, texts};
 use anyhow::{Result, bail};
@@ -9,9 +10,15 @@ impl Case {
     pub fn ask(&mut self, messages: &Messages, line: &[u8], words: &[&[u8]]) -> Result<()> {
         match words {
             [b"words", rest @ ..] => self.words = texts(self.alloc, rest)?,
-            [b"lane"] => self.begin_lane()?,
+            [b"lane"] => {
+                self.is_at_administrators = false;
+                self.lanes.push(DoorCase::new(self.alloc))?;
+            }
             [b"administrators"] => self.is_at_administrators = true,
-            [b"link"] => self.begin_link()?,
+            [b"link"] => {
+                let link = LinkCase::new(self.alloc);
+                self.door()?.links.push(link)?;
+            }
             [b"fails", kind, calls @ ..] => self.add_failures(kind, calls)?,
             [b"holds", length] => self.held_for = Some(number(length)? as usize),
             [b"together"] => self.is_together = true,

@@ -55,26 +55,12 @@ impl Case {
         }
     }
 
-    /// Begins the next lane.
-    pub fn begin_lane(&mut self) -> Result<()> {
-        self.is_at_administrators = false;
-        self.lanes.push(DoorCase::new(self.alloc))?;
-        Ok(())
-    }
-
     /// The door in work.
     pub fn door(&mut self) -> Result<&mut DoorCase> {
         if self.is_at_administrators {
             return Ok(&mut self.administrators);
         }
         self.lanes.last_mut().context("no door yet")
-    }
-
-    /// Begins the next link at the door in work.
-    pub fn begin_link(&mut self) -> Result<()> {
-        let link = LinkCase::new(self.alloc);
-        self.door()?.links.push(link)?;
-        Ok(())
     }
 
     /// The link in work.

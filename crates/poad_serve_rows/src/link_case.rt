@@ -54,12 +54,6 @@ impl LinkCase {
     /// Whether these bytes may be all that was written, in a session that ended so.
     pub fn is_due(&self, written: &[u8], end: SessionEnd) -> bool {
         let is_cut = matches!(end, SessionEnd::ReadFault | SessionEnd::WriteFault);
-        self.due.iter().any(|due| {
-            if is_cut {
-                due.as_slice().starts_with(written)
-            } else {
-                due.as_slice() == written
-            }
-        })
+        self.due.iter().any(|due| due.as_slice() == written || is_cut && due.starts_with(written))
     }
 }

@@ -69,8 +69,7 @@ where
         let number = place.saturating_add(1);
         let ready = table.line(line).context(format_args!("line {number}"))?;
         if let Some(case) = ready {
-            let (served, files) = serve(rt, alloc, &case, table.files())?;
-            report.put_case(&case, &served, &files)?;
+            report.put_case(&case, &serve(rt, alloc, &case, table.files())?)?;
         }
     }
     Ok(())

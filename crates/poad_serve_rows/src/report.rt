@@ -1,10 +1,8 @@
 //! What is printed of the cases.
 use crate::case::Case;
+use crate::serving::Ran;
 use anyhow::Result;
-use outside::MemFiles;
-use outside_memory::MemDoor;
 use poad_cmd::Status;
-use poad_serve::Served;
 use std::alloc::Global;
 
 /// What is printed of the cases so far.
@@ -36,12 +34,7 @@ impl Report {
     }
 
     /// Prints what came of a case: its doors, its journal and its status.
-    pub fn put_case(
-        &mut self,
-        case: &Case,
-        served: &Served<MemDoor>,
-        files: &MemFiles,
-    ) -> Result<()> {
+    pub fn put_case(&mut self, case: &Case, (served, files): &Ran) -> Result<()> {
         self.put_line(&case.title)?;
         self.put_doors(case, &served.doors)?;
         match &served.core {

@@ -12,13 +12,11 @@ use std::sync::{Arc, Wait};
 use std::thread::Threads;
 use std::time::Clock;
 
-/// Runs the server by the words of a case, over its doors and these files. Gives what came of it, and the files then.
-pub fn serve<R>(
-    rt: &R,
-    alloc: Global,
-    case: &Case,
-    files: &[File],
-) -> Result<(Served<MemDoor>, MemFiles)>
+/// What came of a run, and the files then.
+pub type Ran = (Served<MemDoor>, MemFiles);
+
+/// Runs the server by the words of a case, over its doors and these files.
+pub fn serve<R>(rt: &R, alloc: Global, case: &Case, files: &[File]) -> Result<Ran>
 where
     R: Threads + Wait + Clock + Copy + Send + Sync + Drop + 'static,
 {
@@ -41,7 +39,7 @@ fn serve_past<R, G>(
     files: &[File],
     signal: Option<&Signal>,
     gate: &Arc<G, Global>,
-) -> Result<(Served<MemDoor>, MemFiles)>
+) -> Result<Ran>
 where
     R: Threads + Wait + Copy + Send + Drop + 'static,
     G: Gate + Send + Sync + Drop + 'static,

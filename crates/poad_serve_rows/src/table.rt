@@ -36,28 +36,31 @@ impl Table {
 
     /// Reads a line. Gives the case that is to be run now.
     pub fn line(&mut self, line: &[u8]) -> Result<Option<Case>> {
-        if line == b"run".as_slice() {
-            return Ok(Some(self.case.take().context("no case yet")?));
-        }
         if let Some(content) = line.strip_prefix(b"  ".as_slice()) {
             self.fill_file(content)?;
             self.fill_file(b"\n")?;
-        } else if !line.is_empty() && !line.starts_with(b"#") {
-            self.read(line)?;
+            return Ok(None);
+        }
+        let words = loose_words(self.alloc, line)?;
+        match words.as_slice() {
+            [b"run"] => return Ok(Some(self.case.take().context("no case yet")?)),
+            [b"file", names @ ..] => self.begin_file(names)?,
+            [b"message", name, digits @ ..] => self.add_message(name, digits)?,
+            [b"case", ..] => self.begin_case(line)?,
+            [first, ..] if !first.starts_with(b"#") => self.ask(line, &words)?,
+            _ => (),
         }
         Ok(None)
     }
 
-    fn read(&mut self, line: &[u8]) -> Result<()> {
-        let words = loose_words(self.alloc, line)?;
-        match words.as_slice() {
-            [b"file", names @ ..] => self.begin_file(names),
-            [b"message", name, digits @ ..] => self.add_message(name, digits),
-            [b"case", ..] => self.begin_case(line),
-            words => match &mut self.case {
-                Some(case) => case.ask(&self.messages, line, words),
-                None => self.fill(words),
-            },
+    /// Does a line of the case in work, or fills the last file.
+    fn ask(&mut self, line: &[u8], words: &[&[u8]]) -> Result<()> {
+        match (&mut self.case, words) {
+            (Some(case), _) => case.ask(&self.messages, line, words),
+            (None, [b"fill", value, count]) => {
+                self.fill_file(&filling(self.alloc, value, count)?)
+            }
+            _ => bail!("no case yet"),
         }
     }
 
@@ -73,14 +76,6 @@ impl Table {
         let (_, content) = self.files.last_mut().context("no file yet")?;
         content.extend_from_slice(bytes)?;
         Ok(())
-    }
-
-    fn fill(&mut self, words: &[&[u8]]) -> Result<()> {
-        let [b"fill", value, count] = words else {
-            bail!("no case yet");
-        };
-        let bytes = filling(self.alloc, value, count)?;
-        self.fill_file(&bytes)
     }
 
     fn add_message(&mut self, name: &[u8], digits: &[&[u8]]) -> Result<()> {
