@@ -1,0 +1,57 @@
+//! What is printed of a journal.
+use crate::case::Case;
+use crate::report::Report;
+use anyhow::Result;
+use model_legal::first_illegal;
+use outside::MemFiles;
+use poa_base::limits::CALLS;
+use poa_core::Core;
+use poa_journal::{print_parts, print_store, read};
+use std::alloc::Global;
+
+/// How many entries a journal may have that is looked over: with some hundreds in flight that takes minutes.
+const LOOKED_OVER: usize = 250;
+
+impl Report {
+    /// Prints whether the journal reads back, whether it was put into its file, whether it is legal, and what else the case
+    /// asks of it.
+    pub fn put_journal(&mut self, case: &Case, core: &Core, files: &MemFiles) -> Result<()> {
+        let text = print_parts(self.alloc, core.run(), core.opening(), core.entries())?;
+        let is_put = files.content("journal") == Some(text.as_slice());
+        let read = if is_read(self.alloc, core, text.as_slice()) {
+            "read"
+        } else {
+            "unread"
+        };
+        let put = if is_put { "put" } else { "unput" };
+        let judged = judgement(self.alloc, core)?;
+        let line = format!(in self.alloc; "journal {read} {put} {judged}")?;
+        self.put_line(line.as_bytes())?;
+        self.put_kinds(case, text.as_slice())?;
+        if case.has_store {
+            self.put(print_store(self.alloc, core.store())?.as_slice())?;
+        }
+        Ok(())
+    }
+}
+
+/// Whether the text of a core's journal reads as that journal.
+fn is_read(alloc: Global, core: &Core, text: &[u8]) -> bool {
+    match read(alloc, text) {
+        Ok(journal) => journal.run == core.run() && journal.entries.as_slice() == core.entries(),
+        Err(_) => false,
+    }
+}
+
+/// Whether a journal is legal, where it isn't too long to be looked over.
+fn judgement(alloc: Global, core: &Core) -> Result<String> {
+    let entries = core.entries();
+    if entries.len() > LOOKED_OVER {
+        return Ok(String::from_str(alloc, "long")?);
+    }
+    let (config, opening) = (core.config(), core.opening());
+    match first_illegal(alloc, config, core.run(), CALLS, opening, entries)? {
+        Some(place) => Ok(format!(in alloc; "illegal {place}")?),
+        None => Ok(String::from_str(alloc, "legal")?),
+    }
+}
