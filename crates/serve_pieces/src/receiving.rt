@@ -4,6 +4,7 @@ ghost use Rattle.poa_base.specs.declared.Entry.{Entry};
 ghost use Rattle.seat_lock.specs.Seats.{view};
 ghost use Rattle.seat_lock.specs.declared.view.View.{View};
 ghost use Rattle.run_history.specs.declared.givens.Givens.{Givens};
+ghost use Rattle.outside.specs.Cause.{HasCause};
 ghost use Rattle.poa_shared.specs.Seats.{IsIdle};
 ghost use Rattle.poa_session.specs.Served.{Served};
 ghost use Rattle.serve_pieces.specs.Visits.{Visit};
@@ -49,6 +50,7 @@ pub fn receive<R: Wait, A: Acceptor>(
     requires { IsIdle shared.now seat.old }
     ensures seat { IsIdle shared.now seat.new }
     ensures received { (g : Givens) (first : View Givens Entry) (closed : A) (visits : List (Visit A.Link)) → first.givens ≡ Some g → Attending g peer A.Link.shown A.standing A.faults first closed visits (view seat.old) door.old → AsReceived g peer A.Link.shown A.standing A.faults first closed visits result (view seat.new) door.new }
+    ensures nobody { HasCause (A.quiets door.old) (A.quiets door.new) (result ≡ Received.Nothing) }
 {
     match door.next() {
         Door::Link(mut link) => {
