@@ -1,5 +1,6 @@
 //! A door to a listening socket.
-ghost use Rattle.std.specs.Prelude.{◌≡◌, None};
+ghost use Rattle.std.specs.Prelude.{◌≡◌, ◌≢◌, None};
+ghost use Rattle.outside.specs.Cause.{HasCause};
 
 use crate::ears::Ears;
 use crate::mio_link::MioLink;
@@ -13,7 +14,7 @@ use std::net::TcpListener;
 use std::sync::Arc;
 
 /// One of the doors to a listening socket, which share it: each gives a link at a time, with the ears that came
-/// back with the last one. It tells no content. Where nobody comes for a second it says `Quiet`. Where
+/// back with the last one. It tells no content, and never ends. Where nobody comes for a second it says `Quiet`. Where
 /// the port couldn't be had, or a link is out, each `next` fails.
 #[derive(Drop)]
 pub struct MioDoor {
@@ -76,7 +77,12 @@ impl Acceptor for MioDoor {
 
     ghost quiets = { λ d. d.quiets };
 
-    fn next(&mut self) -> Door<MioLink> {
+    fn next(&mut self) -> Door<MioLink>
+        ensures failed { HasCause self.old.faults self.new.faults (result ≡ Door.Failed) }
+        ensures counted { result ≢ Door.Failed → self.new.faults ≡ self.old.faults }
+        ensures quiet { HasCause self.old.quiets self.new.quiets (result ≡ Door.Quiet) }
+        ensures endless { result ≢ Door.End }
+    {
         match self.link() {
             Ok(link) => Door::Link(link),
             Err(error) if is_passing(error.kind()) => {
