@@ -9,7 +9,7 @@ use poa_core::Core;
 use poa_journal::{print_parts, print_store, read};
 use std::alloc::Global;
 
-/// How many entries a journal may have that is looked over: with some hundreds in flight that takes minutes.
+/// How many entries a journal may have that is looked over; to do that with some hundreds takes minutes.
 const LOOKED_OVER: usize = 250;
 
 impl Report {
