@@ -2,7 +2,7 @@
 use crate::case::Case;
 use crate::door_case::DoorCase;
 use crate::link_case::LinkCase;
-use crate::words::{Messages, bytes_of, filling, number, texts};
+use crate::words::{Messages, bytes_of, filling, number, numbers, texts};
 use anyhow::{Result, bail};
 
 impl Case {
@@ -32,17 +32,15 @@ impl Case {
 
     /// Adds calls of this kind that fail.
     fn add_failures(&mut self, kind: &[u8], calls: &[&[u8]]) -> Result<()> {
-        let failing = match kind {
-            b"read" => &mut self.link()?.failing_reads,
-            b"write" => &mut self.link()?.failing_writes,
-            b"next" => &mut self.door()?.failing,
-            b"take" => &mut self.failing_takes,
-            b"put" => &mut self.failing_puts,
-            b"start" => &mut self.failing_starts,
+        let failing = numbers(self.alloc, calls)?;
+        match kind {
+            b"read" => self.link()?.failing_reads.extend_from_slice(&failing)?,
+            b"write" => self.link()?.failing_writes.extend_from_slice(&failing)?,
+            b"next" => self.door()?.failing.extend_from_slice(&failing)?,
+            b"take" => self.failing_takes.extend_from_slice(&failing)?,
+            b"put" => self.failing_puts.extend_from_slice(&failing)?,
+            b"start" => self.failing_starts.extend_from_slice(&failing)?,
             _ => bail!("no such call"),
-        };
-        for call in calls {
-            failing.push(number(call)?)?;
         }
         Ok(())
     }

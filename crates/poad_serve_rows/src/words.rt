@@ -12,6 +12,15 @@ pub fn number(word: &[u8]) -> Result<u64> {
     number64(word).ok().context("no number")
 }
 
+/// The numbers that words write.
+pub fn numbers(alloc: Global, words: &[&[u8]]) -> Result<Vec<u64>> {
+    let mut all = Vec::new(alloc);
+    for word in words {
+        all.push(number(word)?)?;
+    }
+    Ok(all)
+}
+
 /// Words as texts.
 pub fn texts(alloc: Global, words: &[&[u8]]) -> Result<Vec<String>> {
     let mut all = Vec::new(alloc);
