@@ -7,6 +7,7 @@ import os
 import sys
 import threading
 import time
+import traceback
 
 import giop
 
@@ -57,7 +58,7 @@ def is_silent(link, seconds):
 
 
 def silent_links():
-    """64 links send nothing. As long as a lane is left, it serves; who comes when all are taken waits until one goes."""
+    """Links that send nothing. As long as a lane is left, it serves; who comes when all are taken waits until one goes."""
     links = [connect() for _ in range(LANES - 1)]
     time.sleep(1)
     assert fresh_client() < 1
@@ -132,8 +133,17 @@ def hundred_lines():
         link.sendall(b"bogus\n" * 100)
         answers = link.makefile()
         for number in range(1, 101):
-            line = answers.readline()
-            assert line == f"{number} no BadWord 1\n", line
+            assert answers.readline() == f"{number} no BadWord 1\n"
+
+
+def hundred_administrators():
+    """Each says a line at once, and is answered when those before it have left."""
+    links = [connect(giop.ADMINISTRATORS) for _ in range(100)]
+    for link in links:
+        link.sendall(b"bogus\n")
+    for link in links:
+        assert link.makefile().readline() == "1 no BadWord 1\n"
+        link.close()
 
 
 ABUSES = (
@@ -145,6 +155,7 @@ ABUSES = (
     garbage,
     never_reads,
     hundred_lines,
+    hundred_administrators,
 )
 
 
@@ -194,15 +205,25 @@ def grown(work, count):
     return max(0, memory() - before)
 
 
+def is_as_meant(abuse):
+    """Abuses the server, and answers whether it did what it is to do meanwhile."""
+    try:
+        abuse()
+    except (AssertionError, EOFError, OSError):
+        traceback.print_exc()
+        return False
+    return True
+
+
 def look(abuse, kept_a_call, kept_a_connection):
     """Abuses the server, and answers whether it came off well."""
     Kept.calls = Kept.connections = Kept.octets = 0
     count, held, start = descriptors(), memory(), time.time()
-    abuse()
+    fine = is_as_meant(abuse)
     took, waited = time.time() - start, fresh_client()
     settle(count)
     kept = Kept.calls * kept_a_call + Kept.connections * kept_a_connection + Kept.octets
-    fine = waited < 1 and descriptors() == count and memory() <= 1.1 * (held + kept)
+    fine = fine and waited < 1 and descriptors() == count and memory() <= 1.1 * (held + kept)
     print(
         f"{abuse.__name__}: {took:.1f} s; a fresh client waits {waited * 1000:.1f} ms; {descriptors()} descriptors;"
         f" memory {held >> 10} KiB, then {memory() >> 10}, up to {int(kept) >> 10} of it for the journal:"
@@ -250,7 +271,7 @@ def main():
     settle(count)
     kept_a_call = grown(many_calls, count) / 20000
     kept_a_connection = grown(many_connections, count) / 2000
-    print(f"a call keeps {kept_a_call:.0f} bytes, a connection {kept_a_connection:.0f}; {count} descriptors", flush=True)
+    print(f"a call keeps {kept_a_call:.0f} bytes, a connection {kept_a_connection:.0f}; {count} descriptors")
     fine = [look(abuse, kept_a_call, kept_a_connection) for abuse in ABUSES]
     fine.append(shutdown_under_load())
     return not all(fine)

@@ -56,7 +56,8 @@ def locate(words, size):
 
 
 def line(words, size):
-    """An administrator's line of this size: an id in the shorter spelling where it had that, and spaces before the last word."""
+    """An administrator's line of this size: an id in the shorter spelling where it had that, and spaces in front of the
+    last word."""
     if words[0] == "bad":
         return "?" * size
     if len(" ".join(words)) > size:
