@@ -47,6 +47,8 @@ fn a_door_gives_links_over_sockets(rt: HostRuntime) -> Result<(), Fail> {
     assert_eq!(rt; link.read(&mut buf), Took::End);
     door.give_back(link, ENDED);
     assert_eq!(rt; peer.read(&mut buf)?, 0);
+    let _second = TcpStream::connect(&rt, address)?;
+    assert!(rt; matches!(door.next(), Door::Link(_)));
     Ok(())
 }
 
