@@ -26,7 +26,8 @@ use Rattle.serve_run.specs.declared.outcome.Outcome.{Outcome}
 
 module _ {A L : Type 0} (shown : L → Shown) (standing : A → Option (Standing L)) (faults : A → ℕ) where
   -- What a status tells of a run with so many workers and these doors served, of which this came last on its own connection
-  pub record Tells (g : Givens) (workers : ℕ) (tours : List (Tour A L)) (last : Option (ℕ × Entry)) (status : Status) (life : Life) : Type 0 where
+  pub record Tells (g : Givens) (workers : ℕ) (tours : List (Tour A L)) (last : Option (ℕ × Entry)) (status : Status) (life : Life)
+      : Type 0 where
     -- unless memory was wanting, nobody gave the run up, each connection but the first came by one link, and each link has
     -- its session by the whole journal
     pub sessions : status ≢ WantMemory → IsKeptRun g shown standing faults workers tours last (reverse life.history)

@@ -49,13 +49,16 @@ where
     A::Link: Send + 'static,
     G: Gate + Send + Sync + Drop + 'static,
     requires lanes { (serve : Serve) → serve_in words.now ≡ Some serve → vec_len doors.lanes ≡ serve.lanes }
-    ensures ends { Ends A.Link.shown A.standing A.faults (serve_in words.now) result.status doors result.doors result.core (F.contents host.old.files) (F.contents host.new.files) }
+    ensures ends { Ends A.Link.shown A.standing A.faults (serve_in words.now) result.status doors result.doors result.core
+        (F.contents host.old.files) (F.contents host.new.files) }
     ensures source { host.new.source ≡ host.old.source }
     ensures sink { host.new.sink ≡ host.old.sink }
     ensures no_file { HasCause (F.absents host.old.files) (F.absents host.new.files) (result.status ≡ Status.NoFile) }
     ensures too_long { HasCause (F.long_ones host.old.files) (F.long_ones host.new.files) (result.status ≡ Status.FileTooLong) }
-    ensures taken { HasCause (F.take_faults host.old.files) (F.take_faults host.new.files) ((result.status ≡ Status.FileFault) × (result.core ≡ None)) }
-    ensures put { HasCause (F.put_faults host.old.files) (F.put_faults host.new.files) ((result.status ≡ Status.FileFault) × (result.core ≢ None)) }
+    ensures taken { HasCause (F.take_faults host.old.files) (F.take_faults host.new.files)
+        ((result.status ≡ Status.FileFault) × (result.core ≡ None)) }
+    ensures put { HasCause (F.put_faults host.old.files) (F.put_faults host.new.files)
+        ((result.status ≡ Status.FileFault) × (result.core ≢ None)) }
     ensures all_put { result.status ≡ Status.Ok → F.put_faults host.new.files ≡ F.put_faults host.old.files }
     ensures no_thread { result.status ≡ Status.NoThread → Rose crew.old.faults crew.new.faults }
     ensures all_started { result.status ≡ Status.Ok → crew.new.faults ≡ crew.old.faults }
@@ -86,7 +89,8 @@ where
     requires ranges { IsInRange beginning.words }
     requires lanes { vec_len doors.lanes ≡ beginning.words.lanes }
     requires fresh { beginning.core.history ≡ [] }
-    ensures serves { ServesOn A.Link.shown A.standing A.faults (seen_serve beginning.entry.words) beginning.entry.core result.status doors result.doors result.core (F.contents files.old) (F.contents files.new) }
+    ensures serves { ServesOn A.Link.shown A.standing A.faults (seen_serve beginning.entry.words) beginning.entry.core result.status
+        doors result.doors result.core (F.contents files.old) (F.contents files.new) }
     ensures put { HasCause (F.put_faults files.old) (F.put_faults files.new) ((result.status ≡ Status.FileFault) × (result.core ≢ None)) }
     ensures all_put { result.status ≡ Status.Ok → F.put_faults files.new ≡ F.put_faults files.old }
     ensures no_thread { result.status ≡ Status.NoThread → Rose crew.old.faults crew.new.faults }

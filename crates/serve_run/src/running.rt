@@ -74,7 +74,8 @@ where
     requires lanes { vec_len doors.lanes ≤ 64 }
     ensures unserved { IfNone result.run (result.doors ≡ doors) }
     ensures unstarted { IfNone result.run (crew.new.faults ≡ crew.old.faults) }
-    ensures served { IfSome result.run (λ run. IsServedRun (givens_of core) A.Link.shown A.standing A.faults workers doors result.doors run.outcome run.core) }
+    ensures served { IfSome result.run (λ run.
+        IsServedRun (givens_of core) A.Link.shown A.standing A.faults workers doors result.doors run.outcome run.core) }
     ensures threads { IfSome result.run (λ run. CountsThreads crew.old.faults crew.new.faults run.outcome.short) }
 {
     let Some((shared, mut seat)) = open(rt, alloc, core) else {
