@@ -8,6 +8,3 @@ mod answer;
 mod fixed;
 
 pub use answer::{put_answer, read_answer};
-
-#[cfg(test)]
-mod tests;

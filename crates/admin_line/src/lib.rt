@@ -13,6 +13,3 @@ mod writing;
 pub use line::{command_text, read_line, write_answer, write_line};
 pub use place::Wrong;
 pub use reading::{Source, read_words};
-
-#[cfg(test)]
-mod tests;

@@ -14,8 +14,6 @@ mod server;
 mod serving;
 mod setting;
 mod settings;
-#[cfg(test)]
-mod tests;
 mod values;
 mod words;
 

@@ -12,6 +12,3 @@ pub use counting::counts;
 pub use objects::references;
 pub use poa_base::WantMemory;
 pub use printing::{Asked, print_config};
-
-#[cfg(test)]
-mod tests;

@@ -9,6 +9,3 @@ mod settings;
 
 pub use conf_fields::ConfFault;
 pub use configuration::read_config;
-
-#[cfg(test)]
-mod tests;

@@ -6,6 +6,3 @@ mod reference;
 
 pub use poa_base::WantMemory;
 pub use reference::write_reference;
-
-#[cfg(test)]
-mod tests;

@@ -9,6 +9,3 @@ mod reference;
 
 pub use poa_base::WantMemory;
 pub use reference::show;
-
-#[cfg(test)]
-mod tests;

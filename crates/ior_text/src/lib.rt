@@ -13,6 +13,3 @@ pub use ior_profile::key_of;
 pub use law::one_answer;
 pub use reading::read_ior;
 pub use writing::write_ior;
-
-#[cfg(test)]
-mod tests;

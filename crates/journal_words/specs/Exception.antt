@@ -1,10 +1,10 @@
 -- System exceptions in a journal: the standard name, and the minor in eight hexadecimal digits.
 use Rattle.std.specs.Prelude.{◌≡◌, ℕ, ◌==◌, List, [], ◌∷◌, Option, None, if◌then◌else◌}
 use Rattle.poa_base.specs.declared.minors.TheConstants.{FAULT_SERVANT}
-use Rattle.poa_base.specs.declared.ExcName.{ExcName}
-use Rattle.poa_base.specs.declared.SysExc.{SysExc}
-use Rattle.poa_base.specs.declared.Completion.{Completion}
-use Rattle.poa_base.specs.declared.Completion.TheVariants.{Maybe, No}
+use Rattle.poa_names.specs.declared.ExcName.{ExcName}
+use Rattle.poa_names.specs.declared.SysExc.{SysExc}
+use Rattle.poa_names.specs.declared.Completion.{Completion}
+use Rattle.poa_names.specs.declared.Completion.TheVariants.{Maybe, No}
 use Rattle.std.specs.Option.{option_map}
 use Rattle.text_words.specs.Chain.{◌>>=◌}
 use Rattle.text_words.specs.Keyword.{named_in}

@@ -4,7 +4,7 @@ use Rattle.std.specs.Prelude.{All}
 use Rattle.std.proofs.lemmas.List.{take_more}
 use Rattle.std.proofs.lemmas.List.Elements.{All-more, All-head, All-tail}
 use Rattle.std.proofs.lemmas.Grind.{flat_map-append}
-use Rattle.poa_base.specs.Limits.{IsName}
+use Rattle.poa_names.specs.Limits.{IsName}
 use Rattle.object_key.specs.Spelling.{name_bytes}
 use Rattle.object_key.specs.Reading.{KeyReads, ReadsNone, AreNames, names_bytes}
 use Rattle.object_key.proofs.OneReading.{one_name}

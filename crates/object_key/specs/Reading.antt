@@ -1,7 +1,7 @@
 -- What a reader of one part of a key finds at the front of a text.
 use Rattle.std.specs.Prelude.{◌≡◌, ℕ, List, ◌++◌, length, All, Result, IfErr}
 use Rattle.std.specs.List.{flat_map}
-use Rattle.poa_base.specs.Limits.{IsName}
+use Rattle.poa_names.specs.Limits.{IsName}
 use Rattle.object_key.specs.Spelling.{name_bytes}
 use Rattle.object_key.specs.declared.fault.KeyFault.{KeyFault}
 use Rattle.object_key.specs.declared.fault.KeyFault.TheVariants.{BadKey}

@@ -13,6 +13,3 @@ pub use fault::KeyFault;
 pub use law::one_spelling;
 pub use reading::read_key;
 pub use writing::write_key;
-
-#[cfg(test)]
-mod tests;

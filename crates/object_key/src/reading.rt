@@ -1,7 +1,7 @@
 //! From octets to a key.
 ghost use Rattle.std.specs.Prelude.{◌≡◌, ◌≢◌, ◌++◌, ℕ, List, IfOk, OnOk, MatchResult};
-ghost use Rattle.poa_base.specs.declared.Key.{Key};
-ghost use Rattle.poa_base.specs.Limits.{IsName, IsOid};
+ghost use Rattle.poa_names.specs.declared.Key.{Key};
+ghost use Rattle.poa_names.specs.Limits.{IsName, IsOid};
 ghost use Rattle.object_key.specs.Spelling.{key_mark, stamp_bytes, name_bytes, path_bytes, oid_bytes, key_spelling, IsStamp, ArePathNames, IsKey};
 ghost use Rattle.object_key.specs.Reading.{OnBadKey, KeyReads, ReadsNone, AreNames, names_bytes};
 

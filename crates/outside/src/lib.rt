@@ -19,8 +19,6 @@ mod standard_input;
 mod standard_output;
 mod steady_source;
 mod system_files;
-#[cfg(test)]
-mod tests;
 mod thread_crew;
 mod working;
 mod writing;

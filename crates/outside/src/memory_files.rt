@@ -43,7 +43,9 @@ impl Model for MemFiles {
 impl MemFiles {
     /// No files. The lists name the takes and the puts that fail, counted from 0.
     pub fn new(alloc: Global, failing_takes: Vec<u64>, failing_puts: Vec<u64>) -> Self
-        ensures { (name : List ℕ) → content_of result.files name ≡ None }
+        ensures empty { (name : List ℕ) → content_of result.files name ≡ None }
+        ensures faults { (result.take_faults ≡ 0) × (result.put_faults ≡ 0) }
+        ensures counts { (result.absents ≡ 0) × (result.long_ones ≡ 0) }
     {
         MemFiles {
             alloc,

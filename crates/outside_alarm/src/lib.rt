@@ -2,7 +2,5 @@
 #![tactic(auto)]
 
 mod alarm;
-#[cfg(test)]
-mod tests;
 
 pub use alarm::Alarm;

@@ -7,8 +7,6 @@ mod hold_gate;
 mod memory_door;
 mod memory_link;
 mod signal;
-#[cfg(test)]
-mod tests;
 
 pub use hold_gate::HoldGate;
 pub use memory_door::MemDoor;

@@ -7,8 +7,6 @@ mod listening;
 mod mio_door;
 mod mio_link;
 mod socket;
-#[cfg(test)]
-mod tests;
 mod waiting_gate;
 
 pub use ears::Ears;

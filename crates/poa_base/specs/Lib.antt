@@ -1,5 +1,3 @@
-pub mod Limits
-pub mod Policies
 pub mod Rows
 pub mod Shelves
 pub mod Store

@@ -1,7 +1,5 @@
 //! The answers to an administrator's commands.
-use crate::bytes::Bytes;
-use crate::copy::TryClone;
-use crate::oid::Oid;
+use poa_names::{Bytes, Oid, TryClone};
 use std::alloc::AllocError;
 
 /// The answer to a command.

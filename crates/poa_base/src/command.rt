@@ -1,9 +1,5 @@
 //! The administrator's commands.
-use crate::copy::TryClone;
-use crate::endpoint::Endpoint;
-use crate::name::Name;
-use crate::oid::Oid;
-use crate::path::Path;
+use poa_names::{Endpoint, Name, Oid, Path, TryClone};
 use std::alloc::AllocError;
 
 /// What a manager is told to do.

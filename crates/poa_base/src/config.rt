@@ -1,15 +1,7 @@
 //! A configuration, with its names turned into numbers.
-use crate::bytes::Bytes;
-use crate::copy::TryClone;
-use crate::endpoint::Endpoint;
-use crate::exception::SysExc;
-use crate::items::Items;
-use crate::manager::ManagerState;
-use crate::name::Name;
-use crate::oid::Oid;
-use crate::path::Path;
-use crate::policy::PolicySet;
-use crate::servant::State;
+use poa_names::{
+    Bytes, Endpoint, Items, ManagerState, Name, Oid, Path, PolicySet, State, SysExc, TryClone,
+};
 use std::alloc::AllocError;
 
 /// What a server is configured with. Manager 0 is `root`, and the configured managers follow from 1

@@ -1,7 +1,6 @@
 //! The calls that come in: requests and locates of GIOP, and an administrator's lines.
-use crate::bytes::Bytes;
 use crate::command::Command;
-use crate::copy::TryClone;
+use poa_names::{Bytes, TryClone};
 use std::alloc::AllocError;
 
 /// What a reply needs of the message that it answers: CORBA 3.3 Part 2, chapter 9.

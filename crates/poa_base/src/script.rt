@@ -1,10 +1,6 @@
 //! The lines of a script that is replayed.
-use crate::bytes::Bytes;
-use crate::copy::TryClone;
 use crate::invocation::Datum;
-use crate::name::Name;
-use crate::oid::Oid;
-use crate::path::Path;
+use poa_names::{Bytes, Name, Oid, Path, TryClone};
 use std::alloc::AllocError;
 
 /// A line of a script.

@@ -8,8 +8,6 @@ mod laws;
 mod missing;
 mod refusals;
 mod table;
-#[cfg(test)]
-mod tests;
 
 pub use facts::{Choice, Facts, KeyFact, Located, MapFact, WaitFacts, WalkFact};
 pub use laws::{locates_run_nothing, servants_run_where_active};

@@ -15,6 +15,3 @@ pub use fault::JournalFault;
 pub use reading::read;
 pub use store_text::{print_store, read_store};
 pub use writing::{print, print_entry, print_parts};
-
-#[cfg(test)]
-mod tests;

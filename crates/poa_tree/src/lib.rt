@@ -6,8 +6,6 @@ mod found;
 mod node;
 pub mod nodes;
 pub mod paths;
-#[cfg(test)]
-mod tests;
 pub mod walks;
 
 pub use found::Found;

@@ -18,6 +18,3 @@ mod traffic;
 pub use fault::ScriptFault;
 pub use script::{Script, read_script};
 pub use step::{ScriptStep, Step};
-
-#[cfg(test)]
-mod tests;

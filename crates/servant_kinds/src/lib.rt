@@ -15,6 +15,3 @@ mod type_ids;
 pub use poa_base::WantMemory;
 pub use servant::Servant;
 pub use type_ids::type_id;
-
-#[cfg(test)]
-mod tests;

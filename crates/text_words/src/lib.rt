@@ -29,6 +29,3 @@ pub use object_id::{any_identity, identity, identity_text};
 pub use writing::{
     put_identity, put_minor, put_number, put_octets, put_path, put_signed, put_word,
 };
-
-#[cfg(test)]
-mod tests;
