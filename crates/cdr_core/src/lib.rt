@@ -7,8 +7,6 @@ mod fault;
 mod gap;
 pub mod laws;
 mod reader;
-#[cfg(test)]
-mod tests;
 mod writer;
 
 pub use fault::CdrFault;

@@ -34,8 +34,9 @@ pub fn frame(alloc: Global, limit: u32, pieces: &[&[u8]]) -> Result<Frames, Want
     Ok(Frames { messages, last })
 }
 
-/// Takes the messages that are whole, and gives what is said after them.
-pub(crate) fn drain(framer: &mut Framer, messages: &mut Vec<Message>) -> Result<Next, WantMemory>
+/// Takes the messages that are whole, and gives what is said after them: that more bytes are
+/// needed, or what is bad. It takes no bytes from outside.
+pub fn drain(framer: &mut Framer, messages: &mut Vec<Message>) -> Result<Next, WantMemory>
     ensures given { IfOk result (λ last. (limit : ℕ) (fed : List ℕ) → HasGiven limit fed messages.old.items framer.old
         → HasGiven limit fed messages.new.items framer.new × Closes limit fed messages.new.items last) }
     ensures reached { reach framer.new ≡ reach framer.old }

@@ -11,13 +11,11 @@ mod next;
 mod open_messages;
 mod opened;
 mod rules;
-#[cfg(test)]
-mod tests;
 mod unread;
 mod why;
 
 pub use framer::Framer;
-pub use frames::{Frames, frame};
+pub use frames::{Frames, drain, frame};
 pub use laws::{a_framer_goes_on, each_text_has_one_stream};
 pub use message::Message;
 pub use next::Next;

@@ -1,5 +1,5 @@
 -- Service contexts, one behind the other.
-use Rattle.std.proofs.Common.{◌≡◌, ℕ, ◌+◌, ◌<◌, List, [], ◌∷◌, ◌++◌, length, refl, sym, ap, ◌∙◌, subst, arith, length-append, ◌⊎◌, inl, inr}
+use Rattle.std.proofs.Common.{◌≡◌, ℕ, ◌+◌, ◌<◌, List, [], ◌∷◌, ◌++◌, length, refl, sym, ap, ◌∙◌, subst, arith, length-append}
 use Rattle.cdr_core.specs.declared.CdrFault.{CdrFault}
 use Rattle.cdr_core.specs.Kind.{Text, ULong, Octets}
 use Rattle.cdr_core.specs.Field.{Field, ulong, octets, text}
@@ -104,8 +104,3 @@ pub no_data : (n : ℕ) (a b : Cursor) (fault : CdrFault) → Reads (ulong n) a 
 no_data n a b fault id_read refused after is =
     let id = one_ulong_read n is.context.0 a b is.read.0 id_read is.read.1.0 in
     none_where_refused (octets is.context.1) b is.read.1.1.0 fault refused (subst (λ (z : Cursor). Reads (octets is.context.1) z is.read.1.1.0) (sym id.1) is.read.1.1.1.0)
-
--- a refusal, or want of memory, is handed on
-pub or_else : {A P Q : Type 0} → A ⊎ P → (P → Q) → A ⊎ Q
-or_else (inl a) f = inl a
-or_else (inr p) f = inr (f p)

@@ -1,8 +1,7 @@
 -- Fields that are read one behind the other: there is one reading of given kinds, and none through a refused field.
-use Rattle.std.proofs.Common.{◌≡◌, ◌≢◌, inl, inr, List, [], ◌∷◌, ◌++◌, refl, sym, ap, ◌∙◌, subst}
+use Rattle.std.proofs.Common.{◌≡◌, List, [], ◌∷◌, ◌++◌, refl, sym, ap, ◌∙◌, subst}
 use Rattle.cdr_core.specs.declared.CdrFault.{CdrFault}
-use Rattle.cdr_core.specs.declared.CdrFault.TheVariants.{WantMemory}
-use Rattle.cdr_core.specs.Kind.{Kind, Octet, UShort, ULong, LongLong, Boolean, Text, Octets}
+use Rattle.cdr_core.specs.Kind.{Kind}
 use Rattle.cdr_core.specs.Field.{Field, kind_of}
 use Rattle.cdr_core.specs.Cursor.{Cursor}
 use Rattle.cdr_core.specs.Refusal.{Refuses}
@@ -45,20 +44,6 @@ one_reading_of_all (x ∷ xs) (y ∷ ys) before a b same here there =
 pub reads_append : (xs ys : List Field) (a b c : Cursor) → ReadsAll xs a b → ReadsAll ys b c → ReadsAll (xs ++ ys) a c
 reads_append [] ys a b c first next = subst (λ (x : Cursor). ReadsAll ys x c) first next
 reads_append (x ∷ xs) ys a b c first next = (first.0, (first.1.0, reads_append xs ys first.0 b c first.1.1 next))
-
--- a refusal is no want of memory
-pub not_memory : (kind : Kind) (c : Cursor) (fault : CdrFault) → Refuses kind c fault → fault ≢ WantMemory
-not_memory Octet c fault refused memory = cc (refused.1, memory)
-not_memory UShort c fault refused memory = cc (refused.1, memory)
-not_memory ULong c fault refused memory = cc (refused.1, memory)
-not_memory LongLong c fault refused memory = cc (refused.1, memory)
-not_memory Boolean c fault (inl refused) memory = cc (refused.1, memory)
-not_memory Boolean c fault (inr refused) memory = cc (refused.told, memory)
-not_memory Text c fault (inl refused) memory = cc (refused.1, memory)
-not_memory Text c fault (inr (inl refused)) memory = cc (refused.told, memory)
-not_memory Text c fault (inr (inr refused)) memory = cc (refused.told, memory)
-not_memory Octets c fault (inl refused) memory = cc (refused.1, memory)
-not_memory Octets c fault (inr refused) memory = cc (refused.told, memory)
 
 -- and part again
 pub reads_split : (xs ys : List Field) (a c : Cursor) → ReadsAll (xs ++ ys) a c → (b : Cursor) × (ReadsAll xs a b × ReadsAll ys b c)

@@ -1,6 +1,5 @@
 pub mod Fields
 pub mod Contexts
-pub mod Lacking
 pub mod Targets
 pub mod Locates
 pub mod Places
@@ -19,3 +18,4 @@ pub mod Written
 pub mod Headers
 pub mod Asking
 pub mod Answering
+pub mod Lending

@@ -1,36 +1,29 @@
 -- What is left of a message behind the fields that were read.
-use Rattle.std.proofs.Common.{◌≡◌, ℕ, ◌+◌, ◌≤◌, List, [], ◌∷◌, ◌++◌, Option, length, drop, refl, sym, ap, ◌∙◌, subst, arith, length-append}
-use Rattle.std.proofs.lemmas.List.{length-drop, drop-drop}
-use Rattle.std.proofs.Math.Seq.{drop-append_seam}
+use Rattle.std.proofs.Common.{◌≡◌, ℕ, ◌≤◌, List, [], ◌∷◌, Option, length, drop, refl, sym, ap, ◌∙◌, subst}
 use Rattle.cdr_core.specs.Field.{Field, ushort, ulong, text, octets}
 use Rattle.cdr_core.specs.Cursor.{Cursor, Reads}
 use Rattle.cdr_core.proofs.OneReading.{same_cursor}
-use Rattle.poa_base.specs.declared.Profile.{Profile}
+use Rattle.cdr_view.specs.Part.{StandsIn}
+use Rattle.cdr_view.proofs.Slices.{stands_behind}
+use Rattle.poa_names.specs.declared.Profile.{Profile}
 use Rattle.giop_frame.specs.Part.{is_little}
 use Rattle.ior_profile.specs.Tagged.{ReadsProfile, ReadsProfiles}
 use Rattle.giop_msg.specs.declared.kind.TheConstants.{HEADER}
 use Rattle.giop_msg.specs.Fields.{ReadsAll, fields_start}
 use Rattle.giop_msg.specs.Target.{Target, by_key, by_profile, by_reference, ReadsAddress, IsTarget}
 
--- the cursor stands in the message
+-- the cursor stands in the message, in its byte order
 pub record IsWithin (bytes : List ℕ) (c : Cursor) : Type 0 where
   pub order : c.little ≡ is_little bytes
-  pub place : c.place ≤ length bytes
-  pub rest : c.rest ≡ drop c.place bytes
+  pub stands : StandsIn bytes c
 
 pub start_within : (bytes : List ℕ) → HEADER ≤ length bytes → IsWithin bytes (fields_start bytes)
-start_within bytes whole = record { order = refl; place = whole; rest = refl }
-
--- what is left behind bytes that were passed
-passed : (bytes front rest : List ℕ) (place : ℕ) → drop place bytes ≡ front ++ rest → rest ≡ drop (place + length front) bytes
-passed bytes front rest place split =
-    sym (sym (drop-drop (length front) place bytes) ∙ (ap (λ (l : List ℕ). drop (length front) l) split ∙ drop-append_seam front rest))
+start_within bytes whole = record { order = refl; stands = record { place = whole; rest = refl } }
 
 pub field_within : (bytes : List ℕ) (f : Field) (a b : Cursor) → IsWithin bytes a → Reads f a b → IsWithin bytes b
 field_within bytes f a b within read = record {
   order = read.passed.order ∙ within.order;
-  place = omega (arith, read.passed.moved, ap (λ (l : List ℕ). length l) (sym within.rest ∙ read.passed.split), length-drop a.place bytes, length-append read.bytes b.rest, within.place);
-  rest = subst (λ (n : ℕ). b.rest ≡ drop n bytes) (sym read.passed.moved) (passed bytes read.bytes b.rest a.place (sym within.rest ∙ read.passed.split));
+  stands = stands_behind bytes f a b within.stands read;
 }
 
 pub fields_within : (bytes : List ℕ) (fs : List Field) (a b : Cursor) → IsWithin bytes a → ReadsAll fs a b → IsWithin bytes b
@@ -38,11 +31,11 @@ fields_within bytes [] a b within read = subst (IsWithin bytes) (sym read) withi
 fields_within bytes (f ∷ fs) a b within read =
     fields_within bytes fs read.0 b (field_within bytes f a read.0 within read.1.0) read.1.1
 
-profile_within : (bytes : List ℕ) (p : Profile) (a b : Cursor) → IsWithin bytes a → ReadsProfile p a b → IsWithin bytes b
+pub profile_within : (bytes : List ℕ) (p : Profile) (a b : Cursor) → IsWithin bytes a → ReadsProfile p a b → IsWithin bytes b
 profile_within bytes p a b within read =
     field_within bytes (octets p.bytes) read.tagged b (field_within bytes (ulong p.tag) a read.tagged within read.tag) read.bytes
 
-profiles_within : (bytes : List ℕ) (ps : List Profile) (a b : Cursor) → IsWithin bytes a → ReadsProfiles ps a b → IsWithin bytes b
+pub profiles_within : (bytes : List ℕ) (ps : List Profile) (a b : Cursor) → IsWithin bytes a → ReadsProfiles ps a b → IsWithin bytes b
 profiles_within bytes [] a b within read = subst (IsWithin bytes) (sym read) within
 profiles_within bytes (p ∷ ps) a b within read =
     profiles_within bytes ps read.0 b (profile_within bytes p a read.0 within read.1) read.2
@@ -61,6 +54,8 @@ target_within bytes t a b within is =
     address_within bytes is.address.object is.behind b (field_within bytes (ushort is.disposition) a is.behind within is.told) is.address.read
 
 -- a cursor of the message is told by its place
-pub by_place : (bytes : List ℕ) (c : Cursor) (place : ℕ) → IsWithin bytes c → place ≡ c.place → record { little = is_little bytes; place = place; rest = drop place bytes } ≡ c
+pub by_place :
+    (bytes : List ℕ) (c : Cursor) (place : ℕ) → IsWithin bytes c → place ≡ c.place →
+    record { little = is_little bytes; place = place; rest = drop place bytes } ≡ c
 by_place bytes c place within same =
-    same_cursor (record { little = is_little bytes; place = place; rest = drop place bytes }) c (sym within.order) same (ap (λ (n : ℕ). drop n bytes) same ∙ sym within.rest)
+    same_cursor (record { little = is_little bytes; place = place; rest = drop place bytes }) c (sym within.order) same (ap (λ (n : ℕ). drop n bytes) same ∙ sym within.stands.rest)

@@ -1,5 +1,6 @@
 -- Why a target can't be read, and that it is read in one way.
-use Rattle.std.proofs.Common.{◌≡◌, ℕ, ◌≤◌, List, Option, sym, ap, ap₂, ◌∙◌, subst, arith}
+use Rattle.std.proofs.Common.{◌≡◌, ℕ, ◌≤◌, List, Option, Some, None, refl, sym, ap, ap₂, ◌∙◌, subst, arith}
+use Rattle.std.specs.Prelude.{option_map}
 use Rattle.cdr_core.specs.declared.CdrFault.{CdrFault}
 use Rattle.cdr_core.specs.Kind.{ULong, Octets}
 use Rattle.cdr_core.specs.Field.{ushort, ulong, octets}
@@ -7,11 +8,14 @@ use Rattle.cdr_core.specs.Cursor.{Cursor, Reads}
 use Rattle.cdr_core.specs.Refusal.{Refuses}
 use Rattle.cdr_core.proofs.OneReading.{one_ushort_read, one_ulong_read, one_octets_read}
 use Rattle.cdr_core.proofs.Refusals.{none_where_refused}
+use Rattle.poa_names.specs.declared.Profile.{Profile}
 use Rattle.ior_profile.specs.Tagged.{ProfileBreaks}
 use Rattle.ior_profile.specs.Reference.{ReadsIor, IorBreaks}
-use Rattle.ior_profile.specs.Key.{TellsKey, HasKey}
+use Rattle.ior_profile.specs.Key.{TellsKey, HasKey, IsKeyOr}
 use Rattle.ior_profile.proofs.OneReading.{one_profile, one_ior, profile_stands, ior_stands}
-use Rattle.ior_profile.proofs.Keys.{one_told_key, one_key, one_found}
+use Rattle.ior_profile.proofs.Keys.{one_told_key, one_key, one_found, found_at}
+use Rattle.profile_view.specs.declared.ProfileView.{ProfileView}
+use Rattle.profile_view.specs.Seen.{seen_profile, SeesProfile}
 use Rattle.giop_msg.specs.declared.target.TheConstants.{KEY_ADDRESS, PROFILE_ADDRESS, REFERENCE_ADDRESS}
 use Rattle.giop_msg.specs.Target.{Target, by_key, by_profile, by_reference, disposition_of, ReadsAddress, GivesKey, IsAddress, IsTarget}
 use Rattle.giop_msg.specs.Reading.{NoTarget, NoAddress}
@@ -106,3 +110,28 @@ other_disposition n a above target after is = at is.object is.is
     at (by_key key) same = omega (arith, same, above)
     at (by_profile profile) same = omega (arith, same, above)
     at (by_reference index ior) same = omega (arith, same, above)
+
+-- the key of the profile at the index that was read, or none
+pub key_in_reference :
+    (n : ℕ) (found : Option ProfileView) (profile : ProfileView) (key : Option (List ℕ)) (a b after : Cursor) →
+    Reads (ulong n) a b → SeesProfile n (option_map seen_profile found) b after → found ≡ Some profile →
+    IsKeyOr (TellsKey (seen_profile profile)) key → IsAddress REFERENCE_ADDRESS key a after
+key_in_reference n found profile key a b after told sees is tells = record {
+  object = by_reference n sees.ior;
+  is = refl;
+  read = (b, (told, sees.read));
+  gives = found_at sees.ior n (seen_profile profile) (sym sees.is ∙ ap (option_map seen_profile) is) key tells;
+}
+
+pub none_in_reference :
+    (n : ℕ) (found : Option ProfileView) (a b after : Cursor) → Reads (ulong n) a b →
+    SeesProfile n (option_map seen_profile found) b after → found ≡ None → IsAddress REFERENCE_ADDRESS None a after
+none_in_reference n found a b after told sees is = record {
+  object = by_reference n sees.ior;
+  is = refl;
+  read = (b, (told, sees.read));
+  gives = λ key has. nothing (ap (option_map seen_profile) (sym is) ∙ sees.is ∙ has.stands);
+}
+  where
+    nothing : {profile : Profile} → None ≡ Some profile → ⊥
+    nothing e = cc

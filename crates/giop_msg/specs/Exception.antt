@@ -1,9 +1,9 @@
 -- System exceptions: CORBA 3.3 Part 1, A.5, and Part 2, 9.4.3.2.
 use Rattle.std.specs.Prelude.{ℕ, ◌==◌, if◌then◌else◌, List, [], ◌∷◌, codes}
 use Rattle.cdr_core.specs.Field.{Field, ulong, text}
-use Rattle.poa_base.specs.declared.ExcName.{ExcName}
-use Rattle.poa_base.specs.declared.ExcName.TheVariants.{ObjectNotExist, Transient, ObjAdapter, BadOperation, Marshal, Unknown}
-use Rattle.poa_base.specs.declared.SysExc.{SysExc}
+use Rattle.poa_names.specs.declared.ExcName.{ExcName}
+use Rattle.poa_names.specs.declared.ExcName.TheVariants.{ObjectNotExist, Transient, ObjAdapter, BadOperation, Marshal, Unknown}
+use Rattle.poa_names.specs.declared.SysExc.{SysExc}
 use Rattle.poa_base.specs.declared.minors.TheConstants.{FAULT_SERVANT}
 use Rattle.giop_msg.specs.declared.exception.TheConstants.{COMPLETED_NO, COMPLETED_MAYBE}
 

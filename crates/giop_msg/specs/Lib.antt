@@ -5,6 +5,8 @@ pub mod Request
 pub mod Locate
 pub mod Call
 pub mod Reading
+pub mod Seen
+pub mod Lent
 pub mod Outgoing
 pub mod Exception
 pub mod Reply

@@ -1,5 +1,5 @@
 //! Why a message asks nothing.
-use cdr_core::CdrFault;
+use crate::view_fault::ViewFault;
 use std::alloc::AllocError;
 use std::error::Error;
 use std::fmt;
@@ -26,16 +26,16 @@ impl From<AllocError> for MsgFault {
     }
 }
 
-impl From<CdrFault> for MsgFault {
+impl From<ViewFault> for MsgFault {
     ghost use Rattle.std.specs.Prelude.{◌≡◌};
-    ghost use Rattle.giop_msg.specs.Reading.{fault_of};
+    ghost use Rattle.giop_msg.specs.Seen.{told_by};
 
-    ghost from_gives = { λ refused fault. fault ≡ fault_of refused };
+    ghost from_gives = { λ seen fault. fault ≡ told_by seen };
 
-    fn from(refused: CdrFault) -> MsgFault {
-        match refused {
-            CdrFault::WantMemory => MsgFault::WantMemory,
-            _ => MsgFault::Malformed,
+    fn from(seen: ViewFault) -> MsgFault {
+        match seen {
+            ViewFault::Malformed => MsgFault::Malformed,
+            ViewFault::NotForServer => MsgFault::NotForServer,
         }
     }
 }

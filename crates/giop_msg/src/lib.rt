@@ -1,5 +1,5 @@
-//! Messages of GIOP (CORBA 3.3 Part 2, 9.4): the call that a message makes, and the bytes of the messages that
-//! are written: replies, requests, and those that end a connection.
+//! Messages of GIOP (CORBA 3.3 Part 2, 9.4): the call that a message makes, seen where it lies or with a copy of
+//! its parts; and the bytes of the messages that are written: replies, requests, and those that end a connection.
 #![tactic(auto)]
 
 mod ask;
@@ -15,8 +15,11 @@ mod outgoing;
 mod reading;
 mod reply;
 mod request;
+mod seen;
 mod status;
 mod target;
+mod view_fault;
+mod viewing;
 
 pub use ask::write_request;
 pub use closing::{write_closing, write_error};
@@ -25,3 +28,6 @@ pub use incoming::Incoming;
 pub use poa_base::WantMemory;
 pub use reading::read_call;
 pub use reply::write_reply;
+pub use seen::Seen;
+pub use view_fault::ViewFault;
+pub use viewing::view_call;

@@ -1,26 +1,27 @@
 //! The call of a LocateRequest: CORBA 3.3 Part 2, 9.4.5.
-ghost use Rattle.std.specs.Prelude.{◌≡◌, ◌≤◌, length, IfOk, IfErr};
+ghost use Rattle.std.specs.Prelude.{◌≡◌, ◌≤◌, length, IfOk, OnErr};
 ghost use Rattle.giop_msg.specs.Header.{message_type};
-ghost use Rattle.giop_msg.specs.Call.{MakesCall};
-ghost use Rattle.giop_msg.specs.Reading.{Lacks, NoCall};
+ghost use Rattle.giop_msg.specs.Call.{Asks};
+ghost use Rattle.giop_msg.specs.Reading.{NoCall};
+ghost use Rattle.giop_msg.specs.Seen.{asked_by};
 
-use crate::fault::MsgFault;
 use crate::kind::{HEADER, LOCATE_REQUEST, MINOR};
-use crate::reading::{enter, is_little};
-use crate::target::read_target;
-use poa_base::{Call, Head};
-use std::alloc::Global;
+use crate::seen::Seen;
+use crate::target::view_target;
+use crate::view_fault::Unreadable;
+use crate::viewing::{enter, is_little};
+use poa_base::Head;
 
 /// The call that a LocateRequest makes.
-pub(crate) fn read_locate(alloc: Global, bytes: &[u8]) -> Result<Call, MsgFault>
+pub(crate) fn view_locate<'a>(bytes: &'a [u8]) -> Result<Seen<'a>, Unreadable>
     requires whole { HEADER ≤ length bytes.now }
     requires locate { message_type bytes.now ≡ LOCATE_REQUEST }
-    ensures ok { IfOk result (λ call. MakesCall bytes.now call) }
-    ensures bad { IfErr result (λ fault. Lacks (NoCall bytes.now) fault) }
+    ensures ok { IfOk result (λ seen. Asks bytes.now (asked_by seen)) }
+    ensures bad { OnErr result (NoCall bytes.now) }
 {
-    let mut reader = enter(bytes);
-    let id = reader.ulong()?;
-    let target = read_target(alloc, &mut reader)?;
+    let mut view = enter(bytes);
+    let id = view.ulong()?;
+    let target = view_target(&mut view)?;
     let head = Head {
         id,
         minor: MINOR,
@@ -28,5 +29,5 @@ pub(crate) fn read_locate(alloc: Global, bytes: &[u8]) -> Result<Call, MsgFault>
         flags: 0,
         locate: true,
     };
-    Ok(Call::Locate { head, target })
+    Ok(Seen::Locate { head, target })
 }

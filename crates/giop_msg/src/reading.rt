@@ -1,32 +1,23 @@
-//! The call of a message.
-ghost use Rattle.std.specs.Prelude.{◌≡◌, ◌⊎◌, ◌≤◌, ℕ, Result, Ok, Err, IfOk, IfErr, length};
+//! The call of a message, which outlives the message.
+ghost use Rattle.std.specs.Prelude.{◌≡◌, ◌⊎◌, Result, Ok, Err, IfOk, IfErr, option_map};
 ghost use Rattle.poa_base.specs.declared.Ask.{Ask};
-ghost use Rattle.giop_frame.specs.Part.{is_little as little_flag};
-ghost use Rattle.giop_frame.specs.Message.{IsMessage};
 ghost use Rattle.giop_msg.specs.declared.incoming.Incoming.{Incoming as IncomingData};
 ghost use Rattle.giop_msg.specs.declared.fault.MsgFault.{MsgFault as MsgFaultData};
-ghost use Rattle.giop_msg.specs.Fields.{fields_start};
-ghost use Rattle.giop_msg.specs.Call.{CallOf, HasId};
+ghost use Rattle.giop_msg.specs.Call.{CallOf};
 ghost use Rattle.giop_msg.specs.Ask.{request_bytes, call_of, IsAsk};
+ghost use Rattle.giop_msg.specs.Seen.{asked_by};
 
 use crate::fault::MsgFault;
 use crate::incoming::Incoming;
-use crate::kind::{CANCEL_REQUEST, CLOSE_CONNECTION, HEADER, LOCATE_REQUEST, REQUEST};
-use crate::locate::read_locate;
-use crate::request::read_request;
-use cdr_core::Reader;
+use crate::seen::Seen;
+use crate::viewing::view_call;
 use giop_frame::Message;
+use poa_base::{Body, Bytes, Call, WantMemory};
 use std::alloc::Global;
 
-/// What a message asks of a server: the call of a Request or a LocateRequest, the id of a CancelRequest, or a
-/// CloseConnection. A call whose target is told by a profile or by a reference from which no key can be read
-/// has no target.
+/// What a message asks of a server, as `view_call` gives it, with one copy of each part.
 ///
-/// `Malformed` where the fields of a Request, LocateRequest or CancelRequest can't be read: the id; of the two
-/// calls the target; and of a Request the response flags, the operation and the service contexts.
-/// `NotForServer` for a Reply, a LocateReply or a MessageError. `WantMemory` where no memory was left. What
-/// stands behind the target of a LocateRequest, behind the id of a CancelRequest, or behind the header of a
-/// CloseConnection, is ignored.
+/// `Malformed` and `NotForServer` where `view_call` answers so. `WantMemory` where no memory was left.
 pub fn read_call(alloc: Global, message: &Message) -> Result<Incoming, MsgFault>
     ensures call { IfOk result (λ asked. CallOf message.now.bytes (Ok asked)) }
     ensures fault { IfErr result (λ fault. (fault ≡ MsgFault.WantMemory) ⊎ CallOf message.now.bytes (Err fault)) }
@@ -37,53 +28,62 @@ pub fn read_call(alloc: Global, message: &Message) -> Result<Incoming, MsgFault>
     ensures back { (ask : Ask) → IsAsk ask → message.now.bytes ≡ request_bytes ask
         → (result ≡ Ok (Incoming.Call (call_of ask))) ⊎ (result ≡ Err MsgFault.WantMemory) }
 {
-    read_message(alloc, message.bytes())
+    read_message(alloc, message)
 }
 
-// What a message of these bytes asks.
-fn read_message(alloc: Global, bytes: &[u8]) -> Result<Incoming, MsgFault>
-    requires { IsMessage bytes.now }
-    ensures call { IfOk result (λ asked. CallOf bytes.now (Ok asked)) }
-    ensures fault { IfErr result (λ fault. (fault ≡ MsgFault.WantMemory) ⊎ CallOf bytes.now (Err fault)) }
+// What a message asks, with one copy of each part.
+fn read_message(alloc: Global, message: &Message) -> Result<Incoming, MsgFault>
+    ensures call { IfOk result (λ asked. CallOf message.now.bytes (Ok asked)) }
+    ensures fault { IfErr result (λ fault. (fault ≡ MsgFault.WantMemory) ⊎ CallOf message.now.bytes (Err fault)) }
 {
-    match bytes[7] {
-        REQUEST => Ok(Incoming::Call(read_request(alloc, bytes)?)),
-        CANCEL_REQUEST => Ok(Incoming::Cancel {
-            id: read_id(bytes)?,
-        }),
-        LOCATE_REQUEST => Ok(Incoming::Call(read_locate(alloc, bytes)?)),
-        CLOSE_CONNECTION => Ok(Incoming::Closing),
-        _ => Err(MsgFault::NotForServer),
+    let seen = view_call(message)?;
+    let asked = copy_seen(alloc, seen)?;
+    Ok(asked)
+}
+
+// What is seen, with one copy of each part.
+fn copy_seen(alloc: Global, seen: Seen<'_>) -> Result<Incoming, WantMemory>
+    ensures { IfOk result (λ asked. asked ≡ asked_by seen.entry) }
+{
+    match seen {
+        Seen::Request {
+            head,
+            target,
+            operation,
+            body,
+            base,
+        } => Ok(Incoming::Call(Call::Request {
+            head,
+            target: copy_key(alloc, target)?,
+            operation: copy_part(alloc, operation)?,
+            body: Body {
+                bytes: copy_part(alloc, body)?,
+                little: head.little,
+                base,
+            },
+        })),
+        Seen::Locate { head, target } => Ok(Incoming::Call(Call::Locate {
+            head,
+            target: copy_key(alloc, target)?,
+        })),
+        Seen::Cancel { id } => Ok(Incoming::Cancel { id }),
+        Seen::Closing => Ok(Incoming::Closing),
     }
 }
 
-// The id with which the fields of a message begin.
-fn read_id(bytes: &[u8]) -> Result<u32, MsgFault>
-    requires { HEADER ≤ length bytes.now }
-    ensures ok { IfOk result (λ id. HasId id bytes.now) }
-    ensures bad { IfErr result (λ fault. (fault ≡ MsgFault.Malformed) × ((id : ℕ) → HasId id bytes.now → ⊥)) }
+// A copy of a key, where there is one.
+fn copy_key(alloc: Global, key: Option<&[u8]>) -> Result<Option<Bytes>, WantMemory>
+    ensures { IfOk result (λ copy. copy ≡ option_map (λ k. k.now) key.entry) }
 {
-    let mut reader = enter(bytes);
-    match reader.ulong() {
-        Ok(id) => Ok(id),
-        Err(_) => Err(MsgFault::Malformed),
+    match key {
+        Some(key) => Ok(Some(copy_part(alloc, key)?)),
+        None => Ok(None),
     }
 }
 
-/// A reader of the fields behind the header, in the message's byte order.
-pub(crate) fn enter(bytes: &[u8]) -> Reader<'_>
-    requires { HEADER ≤ length bytes.now }
-    ensures { result ≡ fields_start bytes.now }
+// A copy of a part.
+fn copy_part(alloc: Global, part: &[u8]) -> Result<Bytes, WantMemory>
+    ensures { IfOk result (λ copy. copy ≡ part.now) }
 {
-    let (_, fields) = bytes.split_at(HEADER as usize);
-    Reader::new(fields, is_little(bytes), HEADER)
-}
-
-/// Whether the message is little-endian: bit 0 of its flags.
-#[tactic(auto, unfolding(giop_frame::specs::Part::is_little))]
-pub(crate) fn is_little(bytes: &[u8]) -> bool
-    requires { HEADER ≤ length bytes.now }
-    ensures { result ≡ little_flag bytes.now }
-{
-    bytes[6] & 1 == 1
+    Ok(Bytes::from_vec(Vec::from_slice(alloc, part)?))
 }

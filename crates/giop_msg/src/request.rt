@@ -1,20 +1,22 @@
 //! The call of a Request: CORBA 3.3 Part 2, 9.4.2.
-ghost use Rattle.std.specs.Prelude.{◌≡◌, ◌≢◌, ◌⊎◌, ◌≤◌, ◌+◌, ◌<◌, ◌^◌, ℕ, List, [], drop, length, IfOk, IfErr, OnOk};
+ghost use Rattle.std.specs.Prelude.{◌≡◌, ◌≤◌, ℕ, List, drop, length, IfOk, OnErr, OnOk};
 ghost use Rattle.cdr_core.specs.Cursor.{Cursor};
+ghost use Rattle.poa_base.specs.declared.Body.{Body};
 ghost use Rattle.giop_frame.specs.Part.{is_little as little_flag};
 ghost use Rattle.giop_msg.specs.Header.{message_type};
 ghost use Rattle.giop_msg.specs.declared.kind.TheConstants.{REQUEST};
 ghost use Rattle.giop_msg.specs.Request.{body_at as body_behind, IsOpening, IsClosing};
-ghost use Rattle.giop_msg.specs.Call.{MakesCall};
-ghost use Rattle.giop_msg.specs.Reading.{IsContext, HasContexts, Lacks, NoCall};
+ghost use Rattle.giop_msg.specs.Call.{Asks};
+ghost use Rattle.giop_msg.specs.Reading.{IsContext, HasContexts, NoCall};
+ghost use Rattle.giop_msg.specs.Seen.{asked_by};
 
-use crate::fault::MsgFault;
 use crate::kind::{HEADER, MINOR};
-use crate::reading::{enter, is_little};
-use crate::target::read_target;
-use cdr_core::{CdrFault, Reader};
-use poa_base::{Body, Bytes, Call, Head};
-use std::alloc::{AllocError, Global};
+use crate::seen::Seen;
+use crate::target::view_target;
+use crate::view_fault::Unreadable;
+use crate::viewing::{enter, is_little};
+use cdr_view::{PartFault, View};
+use poa_base::Head;
 
 /// The first fields of a Request.
 #[derive(Drop)]
@@ -23,92 +25,96 @@ struct Opening {
     flags: u8,
 }
 
+/// The body of a Request, and the place at which it begins.
+#[derive(Drop)]
+struct BodyView<'a> {
+    bytes: &'a [u8],
+    base: u64,
+}
+
 /// The call that a Request makes.
-pub(crate) fn read_request(alloc: Global, bytes: &[u8]) -> Result<Call, MsgFault>
+pub(crate) fn view_request<'a>(bytes: &'a [u8]) -> Result<Seen<'a>, Unreadable>
     requires whole { HEADER ≤ length bytes.now }
     requires request { message_type bytes.now ≡ REQUEST }
-    ensures ok { IfOk result (λ call. MakesCall bytes.now call) }
-    ensures bad { IfErr result (λ fault. Lacks (NoCall bytes.now) fault) }
+    ensures ok { IfOk result (λ seen. Asks bytes.now (asked_by seen)) }
+    ensures bad { OnErr result (NoCall bytes.now) }
 {
-    let mut reader = enter(bytes);
-    let opening = read_opening(&mut reader)?;
-    let target = read_target(alloc, &mut reader)?;
-    let operation = read_closing(alloc, &mut reader)?;
-    let body = body_at(alloc, bytes, reader.place())?;
+    let mut view = enter(bytes);
+    let opening = view_opening(&mut view)?;
+    let target = view_target(&mut view)?;
+    let operation = view_closing(&mut view)?;
+    let body = body_at(bytes, view.place());
     let head = Head {
         id: opening.id,
         minor: MINOR,
-        little: body.little,
+        little: is_little(bytes),
         flags: opening.flags,
         locate: false,
     };
-    Ok(Call::Request {
+    Ok(Seen::Request {
         head,
         target,
         operation,
-        body,
+        body: body.bytes,
+        base: body.base,
     })
 }
 
 // The id, the response flags and three octets that are reserved.
-fn read_opening(reader: &mut Reader<'_>) -> Result<Opening, CdrFault>
-    ensures ok { IfOk result (λ opening. IsOpening opening.id opening.flags reader.old reader.new) }
-    ensures bad { IfErr result (λ fault. (fault ≢ CdrFault.WantMemory) × ((id flags : ℕ) (after : Cursor) → IsOpening id flags reader.old after → ⊥)) }
+fn view_opening(view: &mut View<'_>) -> Result<Opening, PartFault>
+    ensures ok { IfOk result (λ opening. IsOpening opening.id opening.flags view.old view.new) }
+    ensures bad { OnErr result ((id flags : ℕ) (after : Cursor) → IsOpening id flags view.old after → ⊥) }
 {
-    let id = reader.ulong()?;
-    let flags = reader.octet()?;
-    reader.octet()?;
-    reader.octet()?;
-    reader.octet()?;
+    let id = view.ulong()?;
+    let flags = view.octet()?;
+    view.octet()?;
+    view.octet()?;
+    view.octet()?;
     Ok(Opening { id, flags })
 }
 
 // The operation, and behind it the service contexts, which aren't kept.
-fn read_closing(alloc: Global, reader: &mut Reader<'_>) -> Result<Bytes, CdrFault>
-    ensures ok { IfOk result (λ operation. IsClosing operation reader.old reader.new) }
-    ensures bad { IfErr result (λ fault. (fault ≡ CdrFault.WantMemory) ⊎ ((operation : List ℕ) (after : Cursor) → IsClosing operation reader.old after → ⊥)) }
+fn view_closing<'a>(view: &mut View<'a>) -> Result<&'a [u8], PartFault>
+    ensures ok { IfOk result (λ operation. IsClosing operation.now view.old view.new) }
+    ensures bad { OnErr result ((operation : List ℕ) (after : Cursor) → IsClosing operation view.old after → ⊥) }
 {
-    let operation = reader.text(alloc)?;
-    let count = reader.ulong()?;
-    skip_contexts(alloc, reader, count)?;
-    Ok(Bytes::from_vec(operation))
+    let operation = view.text()?;
+    let count = view.ulong()?;
+    pass_contexts(view, count)?;
+    Ok(operation)
 }
 
 // So many service contexts.
-fn skip_contexts(alloc: Global, reader: &mut Reader<'_>, count: u32) -> Result<(), CdrFault>
-    ensures ok { OnOk result (HasContexts count reader.old reader.new) }
-    ensures bad { IfErr result (λ fault. (fault ≡ CdrFault.WantMemory) ⊎ ((after : Cursor) → HasContexts count reader.old after → ⊥)) }
+fn pass_contexts(view: &mut View<'_>, count: u32) -> Result<(), PartFault>
+    ensures ok { OnOk result (HasContexts count view.old view.new) }
+    ensures bad { OnErr result ((after : Cursor) → HasContexts count view.old after → ⊥) }
 {
     for _ in 0..count {
-        skip_context(alloc, reader)?;
+        pass_context(view)?;
     }
     Ok(())
 }
 
 // One service context: its id and its data.
-fn skip_context(alloc: Global, reader: &mut Reader<'_>) -> Result<(), CdrFault>
-    ensures ok { OnOk result (IsContext reader.old reader.new) }
-    ensures bad { IfErr result (λ fault. (fault ≡ CdrFault.WantMemory) ⊎ ((after : Cursor) → IsContext reader.old after → ⊥)) }
+fn pass_context(view: &mut View<'_>) -> Result<(), PartFault>
+    ensures ok { OnOk result (IsContext view.old view.new) }
+    ensures bad { OnErr result ((after : Cursor) → IsContext view.old after → ⊥) }
 {
-    reader.ulong()?;
-    reader.octets(alloc)?;
+    view.ulong()?;
+    view.octets()?;
     Ok(())
 }
 
 // The body behind the fields that end at `place`: it begins at the next multiple of 8, or, where the message
 // ends before that, it is empty and has the message's end as its place.
-fn body_at(alloc: Global, bytes: &[u8], place: u64) -> Result<Body, AllocError>
+fn body_at<'a>(bytes: &'a [u8], place: u64) -> BodyView<'a>
     requires header { HEADER ≤ length bytes.now }
     requires within { place ≤ length bytes.now }
-    ensures { IfOk result (λ body. body ≡ body_behind (record { little = little_flag bytes.now; place = place; rest = drop place bytes.now })) }
+    ensures { record { bytes = result.bytes.now; little = little_flag bytes.now; base = result.base } ≡ body_behind (record { little = little_flag bytes.now; place = place; rest = drop place bytes.now }) }
 {
     let padding = (8 - place % 8) % 8;
     let left = bytes.len() as u64 - place;
     let base = place + padding.min(left);
-    let (_, body) = bytes.split_at(base as usize);
-    Ok(Body {
-        bytes: Bytes::from_vec(Vec::from_slice(alloc, body)?),
-        little: is_little(bytes),
-        base,
-    })
+    let (_, bytes) = bytes.split_at(base as usize);
+    BodyView { bytes, base }
 }

@@ -1,13 +1,11 @@
 //! The target of a request or a locate: CORBA 3.3 Part 2, 9.4.2.1.
-ghost use Rattle.std.specs.Prelude.{◌≡◌, ◌⊎◌, IfOk, IfErr};
+ghost use Rattle.std.specs.Prelude.{◌≡◌, IfOk, OnErr, option_map};
 ghost use Rattle.giop_msg.specs.Target.{IsTarget, IsAddress};
-ghost use Rattle.giop_msg.specs.Reading.{Lacks, NoTarget, NoAddress};
+ghost use Rattle.giop_msg.specs.Reading.{NoTarget, NoAddress};
 
-use crate::fault::MsgFault;
-use cdr_core::{CdrFault, Reader};
-use ior_profile::{key_of, read_key, read_profile, read_reference};
-use poa_base::Bytes;
-use std::alloc::Global;
+use crate::view_fault::Unreadable;
+use cdr_view::{PartFault, View};
+use profile_view::{view_key, view_profile, view_reference};
 
 /// How a target is told: by its key, by a profile, or by a reference.
 pub(crate) const KEY_ADDRESS: u16 = 0;
@@ -17,50 +15,46 @@ pub(crate) const PROFILE_ADDRESS: u16 = 1;
 pub(crate) const REFERENCE_ADDRESS: u16 = 2;
 
 /// The key that a target gives; none where it is told by a profile or by a reference from which no key can be
-/// read. `Malformed` where the target's fields can't be read, or it is told in another way.
-pub(crate) fn read_target(alloc: Global, reader: &mut Reader<'_>) -> Result<Option<Bytes>, MsgFault>
-    ensures ok { IfOk result (λ target. IsTarget target reader.old reader.new) }
-    ensures bad { IfErr result (λ fault. Lacks (NoTarget reader.old) fault) }
+/// read. Unreadable where the target's fields can't be read, or it is told in another way.
+pub(crate) fn view_target<'a>(view: &mut View<'a>) -> Result<Option<&'a [u8]>, Unreadable>
+    ensures ok { IfOk result (λ target. IsTarget (option_map (λ k. k.now) target) view.old view.new) }
+    ensures bad { OnErr result (NoTarget view.old) }
 {
-    let disposition = reader.ushort()?;
-    let target = read_address(alloc, reader, disposition)?;
+    let disposition = view.ushort()?;
+    let target = view_address(view, disposition)?;
     Ok(target)
 }
 
 // What stands behind the disposition.
-fn read_address(
-    alloc: Global,
-    reader: &mut Reader<'_>,
-    disposition: u16,
-) -> Result<Option<Bytes>, MsgFault>
-    ensures ok { IfOk result (λ target. IsAddress disposition target reader.old reader.new) }
-    ensures bad { IfErr result (λ fault. Lacks (NoAddress disposition reader.old) fault) }
+fn view_address<'a>(view: &mut View<'a>, disposition: u16) -> Result<Option<&'a [u8]>, Unreadable>
+    ensures ok { IfOk result (λ target. IsAddress disposition (option_map (λ k. k.now) target) view.old view.new) }
+    ensures bad { OnErr result (NoAddress disposition view.old) }
 {
     match disposition {
-        KEY_ADDRESS => Ok(Some(Bytes::from_vec(reader.octets(alloc)?))),
-        PROFILE_ADDRESS => Ok(by_profile(alloc, reader)?),
-        REFERENCE_ADDRESS => Ok(by_reference(alloc, reader)?),
-        _ => Err(MsgFault::Malformed),
+        KEY_ADDRESS => Ok(Some(view.octets()?)),
+        PROFILE_ADDRESS => Ok(by_profile(view)?),
+        REFERENCE_ADDRESS => Ok(by_reference(view)?),
+        _ => Err(Unreadable),
     }
 }
 
 // The key that a profile tells.
-fn by_profile(alloc: Global, reader: &mut Reader<'_>) -> Result<Option<Bytes>, CdrFault>
-    ensures ok { IfOk result (λ target. IsAddress PROFILE_ADDRESS target reader.old reader.new) }
-    ensures bad { IfErr result (λ fault. (fault ≡ CdrFault.WantMemory) ⊎ NoAddress PROFILE_ADDRESS reader.old) }
+fn by_profile<'a>(view: &mut View<'a>) -> Result<Option<&'a [u8]>, PartFault>
+    ensures ok { IfOk result (λ target. IsAddress PROFILE_ADDRESS (option_map (λ k. k.now) target) view.old view.new) }
+    ensures bad { OnErr result (NoAddress PROFILE_ADDRESS view.old) }
 {
-    let profile = read_profile(alloc, reader)?;
-    let key = read_key(alloc, &profile)?;
-    Ok(key)
+    let profile = view_profile(view)?;
+    Ok(view_key(&profile))
 }
 
 // The key that the profile at an index tells, of a reference.
-fn by_reference(alloc: Global, reader: &mut Reader<'_>) -> Result<Option<Bytes>, CdrFault>
-    ensures ok { IfOk result (λ target. IsAddress REFERENCE_ADDRESS target reader.old reader.new) }
-    ensures bad { IfErr result (λ fault. (fault ≡ CdrFault.WantMemory) ⊎ NoAddress REFERENCE_ADDRESS reader.old) }
+fn by_reference<'a>(view: &mut View<'a>) -> Result<Option<&'a [u8]>, PartFault>
+    ensures ok { IfOk result (λ target. IsAddress REFERENCE_ADDRESS (option_map (λ k. k.now) target) view.old view.new) }
+    ensures bad { OnErr result (NoAddress REFERENCE_ADDRESS view.old) }
 {
-    let index = reader.ulong()?;
-    let ior = read_reference(alloc, reader)?;
-    let key = key_of(alloc, &ior, index)?;
-    Ok(key)
+    let index = view.ulong()?;
+    match view_reference(view, index)? {
+        Some(profile) => Ok(view_key(&profile)),
+        None => Ok(None),
+    }
 }

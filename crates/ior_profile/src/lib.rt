@@ -7,8 +7,6 @@ mod encapsulation;
 mod key;
 mod profile;
 mod reference;
-#[cfg(test)]
-mod tests;
 
 pub use body::{ProfileBody, read_body};
 pub use encapsulation::enter;

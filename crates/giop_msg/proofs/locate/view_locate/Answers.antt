@@ -1,0 +1,26 @@
+-- The id was read, and the target behind it.
+use Rattle.std.proofs.Common.{Bool, ap, subst}
+use Rattle.cdr_core.specs.Field.{ulong}
+use Rattle.cdr_core.specs.Cursor.{Cursor, Reads}
+use Rattle.profile_view.proofs.Refused.{on_err}
+use Rattle.giop_msg.specs.Locate.{locate_head}
+use Rattle.giop_msg.proofs.Locates.{no_target}
+use Rattle.giop_msg.proofs.locate.view_locate.Goals as goal
+
+pub returns-in_err-target-clause-bad : goal.returns-in_err-target-clause-bad
+returns-in_err-target-clause-bad c =
+    on_err _ (no_target c.args.bytes.now _ _ c.requires.locate
+    (subst (λ (z : Cursor). Reads (ulong c.in_ok-id.id) z c.ulong.new.self) c.enter-view.ensures c.in_ok-id.ensures.ok)
+    c.in_err-target.ensures.bad)
+
+pub returns-clause-ok : goal.returns-clause-ok
+returns-clause-ok c = (
+  c.requires.locate,
+  record {
+    behind_id = c.ulong.new.self;
+    behind = c.view_target.new.view;
+    id = subst (λ (z : Cursor). Reads (ulong c.in_ok-id.id) z c.ulong.new.self) c.enter-view.ensures c.in_ok-id.ensures.ok;
+    addressed = c.in_ok-target.ensures.ok;
+    is_head = ap (λ (little : Bool). locate_head c.in_ok-id.id little) c.is_little.ensures;
+  },
+)

@@ -1,5 +1,0 @@
-use Rattle.giop_msg.specs.Reading.{HasContexts}
-use Rattle.giop_msg.proofs.request.skip_contexts.Given as goal
-
-abbrev pub invariant-loop : goal.invariant-loop
-invariant-loop l = HasContexts l.counter l.fn.reader l.reader

@@ -1,0 +1,4 @@
+pub mod Refused
+pub mod Lying
+pub mod Fields
+pub mod Lists
