@@ -3,7 +3,7 @@ use Rattle.history_laws.proofs.Workers.{goes_with, is_turn, own_or_other}
 use Rattle.poa_base.specs.declared.Config.{Config}
 use Rattle.poa_base.specs.declared.Entry.{Entry}
 use Rattle.poa_base.specs.declared.Entry.TheVariants.{Done, Incarnated, Run, Tried}
-use Rattle.poa_base.specs.declared.Key.{Key}
+use Rattle.poa_names.specs.declared.Key.{Key}
 use Rattle.poa_base.specs.declared.Verdict.{Verdict}
 use Rattle.poa_base.specs.declared.Verdict.TheVariants.{Addressing, Answer as AnswerNow, Forward, Here, Incarnate, Locator, Preset, Refuse, Serve, Try, Unknown, Wait}
 use Rattle.poa_history.proofs.FlightsFrom.{begins, flew, flight_for, flight_from}

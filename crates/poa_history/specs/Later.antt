@@ -1,7 +1,7 @@
 -- What never goes back.
 use Rattle.std.specs.Prelude.{◌≡◌, true}
 use Rattle.poa_base.specs.declared.Config.{Config}
-use Rattle.poa_base.specs.declared.Sid.{Sid}
+use Rattle.poa_names.specs.declared.Sid.{Sid}
 use Rattle.poa_history.specs.declared.activation.Activation.{Activation}
 use Rattle.poa_history.specs.declared.activation.Phase.TheVariants.{Complete, Void}
 use Rattle.poa_history.specs.Standings.{Standing}

@@ -8,8 +8,6 @@ mod moves;
 mod phase;
 mod queries;
 mod tally;
-#[cfg(test)]
-mod tests;
 
 pub use full::Full;
 pub use moves::{advance, is_shutdown};

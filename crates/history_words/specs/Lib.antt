@@ -1,0 +1,4 @@
+pub mod Creations
+pub mod Servants
+pub mod Flags
+pub mod Ordinals
