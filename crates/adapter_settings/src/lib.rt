@@ -8,8 +8,6 @@ mod managers;
 mod presets;
 mod settings;
 mod states;
-#[cfg(test)]
-mod tests;
 
 pub use endpoints::{EndpointRow, Endpoints, endpoint_of, forward_of};
 pub use managers::Managers;

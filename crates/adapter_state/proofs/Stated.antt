@@ -12,12 +12,16 @@ use Rattle.poa_history.specs.declared.stage.Stage.{Stage}
 use Rattle.poa_history.specs.Changes.{standing}
 use Rattle.poa_history.specs.Logs.{is_accepted, command_in, command_done}
 use Rattle.poa_history.specs.Stages.{stage}
+use Rattle.poa_history.specs.Standings.{Standing as Stood}
 use Rattle.poa_history.specs.States.{Stored, call_run}
 use Rattle.history_openings.specs.Runs.{IsRun}
 use Rattle.history_openings.proofs.Opened.{given, alone, within}
 use Rattle.standing_queries.specs.declared.standing.Standing.{Standing}
+use Rattle.standing_queries.specs.Answers.{AnswersAs}
+use Rattle.standing_queries.specs.Kept.{StandsFor, StandsAfter}
 use Rattle.standing_queries.specs.Seen.{seen}
 use Rattle.standing_of.specs.Entries.{stage_at, call_admitted}
+use Rattle.standing_kept.proofs.Answering.{answers}
 use Rattle.adapter_settings.specs.declared.settings.Settings.{Settings}
 use Rattle.adapter_settings.specs.Told.{Tells, may_grow}
 use Rattle.servant_states.specs.Holds.{Holds}
@@ -35,7 +39,7 @@ ok_then (Err x) f p = tt
 
 -- no servant acts, comes or leaves
 pub quiet_state : (c : Config) (run limit : ℕ) (opened : Stored) (past : List Entry) (e : Entry) (s : State) (stands : Standing) (set : Settings) → IsRun c run limit (e ∷ past) → is_quiet e ≡ true
-    → Holds c run opened past (kept_in s.servants) → seen stands ≡ standing c run (e ∷ past) → Tells c (e ∷ past) set → IsState c run opened (e ∷ past) (record { standing = stands; settings = set; servants = s.servants })
+    → Holds c run opened past (kept_in s.servants) → StandsAfter c run (e ∷ past) (seen stands) → Tells c (e ∷ past) set → IsState c run opened (e ∷ past) (record { standing = stands; settings = set; servants = s.servants })
 quiet_state c run limit opened past e s stands set follows quiet held stands_is tells =
     record {
       stands = stands_is;
@@ -55,9 +59,13 @@ admitted_is past e call w r v is spoken = subst (λ x. call ≡ call_spoken past
 pub admits_quietly : (e : Entry) (w r : ℕ) (v : Verdict) → e ≡ Admit w r v → is_quiet e ≡ true
 admits_quietly e w r v is = ap is_quiet is
 
-pub growing_stays : (c : Config) (run : ℕ) (past : List Entry) (e : Entry) (w r : ℕ) (v : Verdict) → e ≡ Admit w r v → may_grow (command_done past e) ≡ true → standing c run past ≡ standing c run (e ∷ past)
-growing_stays c run past e w r v is =
-    subst (λ x. may_grow (command_done past x) ≡ true → standing c run past ≡ standing c run (x ∷ past)) (sym is) (λ grows. sym (growing_stands c run past w r v grows))
+-- an entry that changes nothing that stands leaves what is kept of it
+pub kept_still : (c : Config) (run : ℕ) (past : List Entry) (e : Entry) (t : Stood) → standing c run (e ∷ past) ≡ standing c run past → StandsAfter c run past t → StandsAfter c run (e ∷ past) t
+kept_still c run past e t still kept = record { stands = subst (λ s. StandsFor c s t) (sym still) kept.stands; few = kept.few }
+
+pub growing_stays : (c : Config) (run : ℕ) (past : List Entry) (e : Entry) (w r : ℕ) (v : Verdict) → e ≡ Admit w r v → may_grow (command_done past e) ≡ true → (t : Stood) → StandsAfter c run past t → StandsAfter c run (e ∷ past) t
+growing_stays c run past e w r v is grows t =
+    kept_still c run past e t (subst (λ x. may_grow (command_done past x) ≡ true → standing c run (x ∷ past) ≡ standing c run past) (sym is) (growing_stands c run past w r v) grows)
 
 pub tries_quietly : (e : Entry) (w : ℕ) (a : Attempt) → e ≡ Tried w a → is_quiet e ≡ true
 tries_quietly e w a is = ap is_quiet is
@@ -108,6 +116,13 @@ begun_there past w = by_serving (λ e. worker_of e ≡ Some w → stage_at past 
 pub begun_by_worker : (past : List Entry) (e : Entry) (begun : Stage) (w : ℕ) → serves e ≡ true → begun ≡ stage_at past e → worker_of e ≡ Some w → begun ≡ stage past w
 begun_by_worker past e begun w is at by = at ∙ begun_there past w e is by
 
+-- what is kept answers as what stands
+pub answers_state : (c : Config) (run limit : ℕ) (opened : Stored) (h : List Entry) (s : State) → IsRun c run limit h → IsState c run opened h s → AnswersAs c run h (seen s.standing)
+answers_state c run limit opened h s runs state = answers c run limit h (given c run limit h runs) (alone c run limit h runs) (within c run limit h runs) runs.legal (seen s.standing) state.stands
+
+pub earlier : (c : Config) (run limit : ℕ) (past : List Entry) (e : Entry) → IsRun c run limit (e ∷ past) → IsRun c run limit past
+earlier c run limit past e runs = record { accepted = runs.accepted; numbered = runs.numbered; limited = runs.limited; legal = runs.legal.1 }
+
 -- such an entry comes to the servants
 abbrev pub comes : (c : Config) (run limit : ℕ) (opened : Stored) (past : List Entry) (k : Coming) (s : State) → IsNext c run limit opened past k s → serves k.entry.now ≡ true
     → Comes c k.entry.now k.stage (option_copied k.call) k.runs (seen s.standing) (kept_in s.servants)
@@ -121,7 +136,7 @@ comes c run limit opened past k s next kind =
       alone = alone c run limit (e ∷ past) next.follows;
       within = within c run limit (e ∷ past) next.follows;
       legal = next.follows.legal;
-      stands = next.state.stands;
+      stands = answers_state c run limit opened past s (earlier c run limit past e next.follows) next.state;
       at_stage = λ w by. begun_by_worker past e k.stage w kind next.begun_is by;
       call_is = runs_call past e k.stage (option_copied k.call) kind next.begun_is next.call_is;
       servant_is = next.servant_is;

@@ -6,9 +6,9 @@ use Rattle.poa_base.specs.declared.Outcome.{Outcome}
 use Rattle.poa_base.specs.declared.Entry.{Entry}
 use Rattle.poa_base.specs.declared.Entry.TheVariants.{Admit, Tried, Incarnated, Run, Done, TakeOut, Etherealized}
 use Rattle.poa_history.specs.Arrivals.{call_of}
-use Rattle.poa_history.specs.Changes.{standing}
 use Rattle.poa_history.specs.States.{Stored, call_run, servant_run}
 use Rattle.history_openings.specs.Runs.{IsRun}
+use Rattle.standing_queries.specs.Kept.{StandsAfter}
 use Rattle.standing_queries.specs.Seen.{seen}
 use Rattle.standing_of.specs.Entries.{stage_at}
 use Rattle.adapter_settings.specs.Told.{Tells}
@@ -19,7 +19,8 @@ use Rattle.adapter_state.specs.declared.coming.Coming.{Coming}
 use Rattle.adapter_state.specs.declared.state.State.{State}
 
 pub record IsState (c : Config) (run : ℕ) (opened : Stored) (h : List Entry) (s : State) : Type 0 where
-  pub stands : seen s.standing ≡ standing c run h
+  -- what stands, where activations that are over may be forgotten
+  pub stands : StandsAfter c run h (seen s.standing)
   pub set : Tells c h s.settings
   pub held : Holds c run opened h (kept_in s.servants)
 

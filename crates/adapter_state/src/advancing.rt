@@ -53,7 +53,7 @@ fn admit(
     if grows(command) {
         return apply(config, command, &mut state.settings);
     }
-    standing_of::advance(
+    standing_of::advance_kept(
         alloc,
         config,
         run,
@@ -77,7 +77,7 @@ fn tried(
     ensures ok { (limit : ℕ) (opened : Stored) (past : List Entry) → IsNext config.now run limit opened past coming.now state.old → OnOk result (IsState config.now run opened (coming.now.entry.now ∷ past) state.new) }
     ensures err { (opened : Stored) (past : List Entry) → IsState config.now run opened past state.old → OnErr result (IsState config.now run opened past state.new) }
 {
-    standing_of::advance(
+    standing_of::advance_kept(
         alloc,
         config,
         run,
@@ -114,7 +114,7 @@ fn served(
         &state.standing,
         &mut state.servants,
     )?;
-    standing_of::advance(
+    standing_of::advance_kept(
         alloc,
         config,
         run,

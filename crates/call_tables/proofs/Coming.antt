@@ -19,6 +19,8 @@ use Rattle.standing_queries.specs.Numbers.{Ascends}
 use Rattle.call_tables.specs.Owed.{AreOwed, arrivals_of}
 use Rattle.call_tables.specs.Decided.{AreFiled}
 use Rattle.call_tables.specs.Desk.{is_decided, file, set_wait, waited, waited_by, WaitIs, Comes, AreOwedBefore, AreLeft, IsAlone}
+use Rattle.call_tables.proofs.Lists.{filter_agrees}
+use Rattle.call_tables.proofs.Answered.{decided_same}
 use Rattle.call_tables.proofs.DeskAfter.{rows_alone, rows_ascend, owed_before, each_owed, owed_after, filed_then}
 
 map_same : {A : Type 0} (xs : List A) → map (λ x. x) xs ≡ xs
@@ -55,14 +57,14 @@ module _ (c : Config) (e : Entry) (standing : Standing) (target : Option ℕ) (r
   keeps : filter (λ o. not (is_decided c standing target ordered o)) (map (waited_by e wait) os)
       ≡ filter (λ o. not (is_decided c (stands_after c k.run (e ∷ k.past)) target (ordered_by c k.past e) o)) (map (waited c k.run k.past e) os)
   keeps =
-      ap (λ s. filter (λ o. not (is_decided c s target ordered o)) (map (waited_by e wait) os)) k.stands
+      filter_agrees _ _ (map (waited_by e wait) os) (λ o _. ap not (decided_same c k.run (e ∷ k.past) standing k.stands target ordered o))
       ∙ ap (λ r. filter (λ o. not (is_decided c (stands_after c k.run (e ∷ k.past)) target r o)) (map (waited_by e wait) os)) k.orders
       ∙ ap (filter (λ o. not (is_decided c (stands_after c k.run (e ∷ k.past)) target (ordered_by c k.past e) o))) rows
 
   files : filter (is_decided c standing target ordered) (map (waited_by e wait) os)
       ≡ filter (is_decided c (stands_after c k.run (e ∷ k.past)) target (ordered_by c k.past e)) (map (waited c k.run k.past e) os)
   files =
-      ap (λ s. filter (is_decided c s target ordered) (map (waited_by e wait) os)) k.stands
+      filter_agrees _ _ (map (waited_by e wait) os) (λ o _. decided_same c k.run (e ∷ k.past) standing k.stands target ordered o)
       ∙ ap (λ r. filter (is_decided c (stands_after c k.run (e ∷ k.past)) target r) (map (waited_by e wait) os)) k.orders
       ∙ ap (filter (is_decided c (stands_after c k.run (e ∷ k.past)) target (ordered_by c k.past e))) rows
 

@@ -10,6 +10,7 @@ pub mod Given
 pub mod Arrived
 pub mod Removed
 pub mod DeskAfter
+pub mod Answered
 pub mod Coming
 pub mod Rising
 pub mod NoneWaits

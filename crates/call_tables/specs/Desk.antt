@@ -9,7 +9,6 @@ use Rattle.poa_base.specs.declared.Reply.{Reply}
 use Rattle.poa_base.specs.declared.Reply.TheVariants.{Answer as AnswerReply}
 use Rattle.poa_base.specs.declared.Answer.TheVariants.{Good}
 use Rattle.poa_history.specs.Arrivals.{arrivals}
-use Rattle.poa_history.specs.Changes.{standing as stands_after}
 use Rattle.poa_history.specs.InFlight.{IsManned}
 use Rattle.poa_history.specs.Legal.{IsLegal}
 use Rattle.poa_history.specs.Replies.{is_collected}
@@ -22,6 +21,7 @@ use Rattle.call_tables.specs.declared.filed.Filed.{Filed}
 use Rattle.call_tables.specs.declared.owing.Owing.{Owing}
 use Rattle.call_tables.specs.declared.wait.Ordered.{Ordered}
 use Rattle.call_tables.specs.declared.wait.Wait.{Wait}
+use Rattle.standing_queries.specs.Answers.{AnswersAs}
 use Rattle.standing_queries.specs.Numbers.{below}
 use Rattle.call_tables.specs.Owed.{is_owed, Owes, AreOwed}
 use Rattle.call_tables.specs.Decided.{answered, IsFiled, Decides}
@@ -83,7 +83,7 @@ pub record Comes (c : Config) (e : Entry) (standing : Standing) (target : Option
   pub past : List Entry
   pub manned : IsManned c run past
   pub legal : IsLegal c run limit (e ∷ past)
-  pub stands : standing ≡ stands_after c run (e ∷ past)
+  pub stands : AnswersAs c run (e ∷ past) standing
   pub decides : Decides c run opened past e target reply
   pub waits : WaitIs c run past e wait
   pub orders : ordered ≡ ordered_by c past e

@@ -1,12 +1,12 @@
 //! What a command that waits is waiting for.
-ghost use Rattle.std.specs.Prelude.{◌≡◌, ◌==◌, ◌&&◌, ℕ, List, Some, None, if◌then◌else◌, false, not, option_copied, IfOk, IsOk};
+ghost use Rattle.std.specs.Prelude.{◌≡◌, ◌==◌, ◌&&◌, ℕ, List, Some, None, if◌then◌else◌, false, option_copied, IfOk, IsOk};
 ghost use Rattle.poa_base.specs.declared.Entry.{Entry as EntryOf};
-ghost use Rattle.poa_history.specs.Changes.{standing as stands_after};
 ghost use Rattle.poa_history.specs.Logs as logs;
 ghost use Rattle.poa_history.specs.Replies as replies;
 ghost use Rattle.call_tables.specs.Desk.{WaitIs};
 ghost use Rattle.call_tables.specs.Waits.{call_told};
 ghost use Rattle.call_tables.specs.Waits as waits;
+ghost use Rattle.standing_queries.specs.Answers.{AnswersAs};
 ghost use Rattle.standing_queries.specs.Seen.{seen};
 
 use poa_base::{Call, Command, Config, Entry, Name, Order, Verdict, WantMemory};
@@ -45,17 +45,17 @@ pub struct Ordered {
     pub manager: u32,
 }
 
-fn wait_for(manager: u32, standing: &Standing, order: Order) -> Wait
-    ensures { result ≡ waits.wait_for manager (seen standing.now) order }
+fn wait_for(manager: u32, standing: &Standing, order: Order) -> Result<Wait, WantMemory>
+    ensures { IfOk result (λ wait. wait ≡ waits.wait_for manager (seen standing.now) order) }
 {
     match order {
-        Order::Activate => Wait::Nothing,
-        Order::Hold { .. } | Order::Discard { .. } => Wait::Quiet { manager },
-        Order::Deactivate { etherealize, .. } => Wait::Off {
+        Order::Activate => Ok(Wait::Nothing),
+        Order::Hold { .. } | Order::Discard { .. } => Ok(Wait::Quiet { manager }),
+        Order::Deactivate { etherealize, .. } => Ok(Wait::Off {
             manager,
             etherealize,
-            begun: standing.activations.len(),
-        },
+            begun: standing.begun()? as usize,
+        }),
     }
 }
 
@@ -71,7 +71,7 @@ fn wait_for_order(
     match manager_number(config, manager) {
         Some(number) => {
             let number = u32::try_from(number).map_err(|_| WantMemory)?;
-            Ok(Some(wait_for(number, standing, order)))
+            Ok(Some(wait_for(number, standing, order)?))
         }
         None => Ok(None),
     }
@@ -167,7 +167,7 @@ pub fn wait_by(
     entry: &Entry,
     call: Option<&Call>,
 ) -> Result<Option<Wait>, WantMemory>
-    ensures waits { (run : ℕ) (past : List EntryOf) → seen standing.now ≡ stands_after config.now run past → option_copied call.entry ≡ call_told past entry.now → IfOk result (λ wait. WaitIs config.now run past entry.now wait) }
+    ensures waits { (run : ℕ) (past : List EntryOf) → AnswersAs config.now run past (seen standing.now) → option_copied call.entry ≡ call_told past entry.now → IfOk result (λ wait. WaitIs config.now run past entry.now wait) }
     ensures ends { waits.admits entry.now ≡ false → IsOk result }
 {
     match entry {

@@ -8,8 +8,6 @@ mod follow;
 pub mod laws;
 mod legal;
 mod same;
-#[cfg(test)]
-mod tests;
 
 pub use follow::may_follow;
 pub use legal::first_illegal;

@@ -13,10 +13,10 @@ use crate::servants::{call_run, servant_run};
 use crate::stored_state::StoredState;
 use poa_base::{Call, Config, Entry, Incarnation, Sid, State, Store, WantMemory};
 use poa_history::{Activation, Phase, Stage};
-use poa_verdicts::activation_numbered;
 use servant_states::{kind_brought, restored};
 use standing_of::standing_of;
 use standing_queries::Standing;
+use standing_queries::searches::activation_numbered;
 use standing_queries::workers::stage;
 use std::alloc::Global;
 

@@ -14,8 +14,6 @@ mod reply;
 mod servant_state;
 mod servants;
 mod stored_state;
-#[cfg(test)]
-mod tests;
 
 pub use deciding::decided;
 pub use next_reply::slow_next_reply;

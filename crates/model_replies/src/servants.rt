@@ -5,10 +5,10 @@ ghost use Rattle.standing_queries.specs.Seen.{seen};
 
 use poa_base::{Call, Config, Entry, Name, Sid, Verdict, WantMemory};
 use poa_history::{Activation, Phase, Stage};
-use poa_verdicts::activation_numbered;
 use standing_of::standing_of;
 use standing_queries::Standing;
 use standing_queries::calls::call_of;
+use standing_queries::searches::activation_numbered;
 use standing_queries::templates::servant_number;
 use standing_queries::workers::admitted;
 use std::alloc::Global;

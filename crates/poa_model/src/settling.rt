@@ -72,10 +72,10 @@ fn order_holds(
         ),
         Order::Deactivate { etherealize, .. } => {
             let before = standing_of(alloc, config, run, before_admit(history, arrival))?;
+            let begun = before.begun()? as usize;
             Ok(
                 is_quiet(config, &standing, manager)
-                    && (!etherealize
-                        || are_ended(config, &standing, manager, before.activations.len())),
+                    && (!etherealize || are_ended(config, &standing, manager, begun)),
             )
         }
     }

@@ -1,1 +1,3 @@
-pub mod FactsAre
+mod FactsAre
+mod CommandsAre
+pub mod GoingOn

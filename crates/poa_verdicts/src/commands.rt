@@ -29,11 +29,12 @@ use poa_tree::Node;
 use poa_tree::nodes::node_at;
 use poa_tree::paths::parent_path;
 use standing_queries::Standing;
-use standing_queries::activations::{is_active, is_in_map, is_of};
+use standing_queries::activations::{is_active, is_of};
 use standing_queries::commands::{is_implicit, live_at, referred};
 use standing_queries::ends::is_over;
 use standing_queries::flights::is_tried;
 use standing_queries::ids::{made_id, next};
+use standing_queries::searches::is_in_map;
 use standing_queries::templates::{has_template, manager_number, policies_at, servant_number};
 use std::alloc::Global;
 
@@ -146,7 +147,7 @@ fn is_taken(config: &Config, standing: &Standing, node: &Node, servant: u32) -> 
     ensures { result ≡ rows.is_taken config.now (seen standing.now) node.now servant }
 {
     policies_at(config, node.path.as_slice()).is_unique()
-        && is_in_map(&standing.activations, node.number, Sid::Named(servant))
+        && is_in_map(standing, node.number, Sid::Named(servant))
 }
 
 /// The answer with a new system-made id.
@@ -215,14 +216,20 @@ fn is_active_of(adapter: u32, oid: &Oid, activation: &Activation) -> bool
     is_of(adapter, oid, activation) && is_active(activation)
 }
 
-/// Whether the id has an activation that is active.
-fn has_active(standing: &Standing, adapter: u32, oid: &Oid) -> bool
-    ensures { result ≡ list_any (λ a. stands.is_of adapter oid.now a && stands.is_active a) standing.now.activations.items }
+/// Whether one of them is of the id and active.
+fn is_any_active(activations: &[Activation], adapter: u32, oid: &Oid) -> bool
+    ensures { result ≡ list_any (λ a. stands.is_of adapter oid.now a && stands.is_active a) activations.now }
 {
-    standing
-        .activations
+    activations
         .iter()
         .any(|activation| is_active_of(adapter, oid, activation))
+}
+
+/// Whether the id has an activation that is active.
+fn has_active(standing: &Standing, adapter: u32, oid: &Oid) -> bool
+    ensures { result ≡ list_any (λ a. stands.is_of adapter oid.now a && stands.is_active a) (seen standing.now).activations }
+{
+    is_any_active(&standing.activations, adapter, oid)
 }
 
 /// Whether the activation is of the id, and not over.
@@ -232,14 +239,20 @@ fn is_kept_of(config: &Config, adapter: u32, oid: &Oid, activation: &Activation)
     is_of(adapter, oid, activation) && !is_over(config, activation)
 }
 
-/// Whether the id has an activation that isn't over.
-fn has_kept(config: &Config, standing: &Standing, adapter: u32, oid: &Oid) -> bool
-    ensures { result ≡ list_any (λ a. stands.is_of adapter oid.now a && not (ends.is_over config.now a)) standing.now.activations.items }
+/// Whether one of them is of the id and not over.
+fn is_any_kept(config: &Config, activations: &[Activation], adapter: u32, oid: &Oid) -> bool
+    ensures { result ≡ list_any (λ a. stands.is_of adapter oid.now a && not (ends.is_over config.now a)) activations.now }
 {
-    standing
-        .activations
+    activations
         .iter()
         .any(|activation| is_kept_of(config, adapter, oid, activation))
+}
+
+/// Whether the id has an activation that isn't over.
+fn has_kept(config: &Config, standing: &Standing, adapter: u32, oid: &Oid) -> bool
+    ensures { result ≡ list_any (λ a. stands.is_of adapter oid.now a && not (ends.is_over config.now a)) (seen standing.now).activations }
+{
+    is_any_kept(config, &standing.activations, adapter, oid)
 }
 
 /// What is answered where the id isn't a bad one. One that is on its way in or out holds.
@@ -250,8 +263,8 @@ fn id_row(
     oid: &Oid,
     servant: u32,
 ) -> Option<Verdict>
-    ensures { result ≡ (if list_any (λ a. stands.is_of node.now.number oid.now a && stands.is_active a) standing.now.activations.items then rows.refusal Reason.ObjectAlreadyActive
-        else if list_any (λ a. stands.is_of node.now.number oid.now a && not (ends.is_over config.now a)) standing.now.activations.items then None
+    ensures { result ≡ (if list_any (λ a. stands.is_of node.now.number oid.now a && stands.is_active a) (seen standing.now).activations then rows.refusal Reason.ObjectAlreadyActive
+        else if list_any (λ a. stands.is_of node.now.number oid.now a && not (ends.is_over config.now a)) (seen standing.now).activations then None
         else if rows.is_taken config.now (seen standing.now) node.now servant then rows.refusal Reason.ServantAlreadyActive
         else rows.good) }
 {

@@ -3,10 +3,10 @@ ghost use Rattle.std.specs.Prelude.{◌≡◌, ◌==◌, ◌&&◌, ℕ, List, So
 ghost use Rattle.poa_base.specs.declared.Entry.{Entry};
 ghost use Rattle.poa_choose.specs.declared.KeyFact.TheVariants.{OtherRun, Persistent, Transient};
 ghost use Rattle.poa_history.specs.Arrivals as calls;
-ghost use Rattle.poa_history.specs.Changes.{standing as stands_after};
 ghost use Rattle.poa_history.specs.Situations as situations;
 ghost use Rattle.poa_history.specs.Ends as ends;
 ghost use Rattle.poa_history.specs.Standings as stands;
+ghost use Rattle.standing_queries.specs.Answers.{AnswersAs};
 ghost use Rattle.standing_queries.specs.Seen.{seen};
 ghost use Rattle.poa_tree.specs.Walks.{place_met as place_is};
 ghost use Rattle.adapter_settings.specs.Told.{Tells};
@@ -116,8 +116,8 @@ fn kept_of<'a>(
         .find(|activation| is_kept_of(config, adapter, oid, activation))
 }
 
-/// What the active object map has for an id.
-fn slot_of(config: &Config, activations: &[Activation], adapter: u32, oid: &Oid) -> MapFact
+/// What they are for an id.
+fn slot_among(config: &Config, activations: &[Activation], adapter: u32, oid: &Oid) -> MapFact
     ensures { result ≡ situations.slot_of config.now activations.now adapter oid.now }
 {
     match active_of(activations, adapter, oid) {
@@ -127,6 +127,13 @@ fn slot_of(config: &Config, activations: &[Activation], adapter: u32, oid: &Oid)
             None => MapFact::Free,
         },
     }
+}
+
+/// What the active object map has for an id.
+fn slot_of(config: &Config, standing: &Standing, adapter: u32, oid: &Oid) -> MapFact
+    ensures { result ≡ situations.slot_of config.now (seen standing.now).activations adapter oid.now }
+{
+    slot_among(config, &standing.activations, adapter, oid)
 }
 
 /// Whether its incarnation or etherealization hasn't ended.
@@ -143,13 +150,20 @@ fn is_changing_in(config: &Config, adapter: u32, activation: &Activation) -> boo
     activation.adapter == adapter && is_unfinished(config, activation)
 }
 
-/// Whether an incarnation or etherealization is unfinished in the adapter.
-pub fn is_changing(config: &Config, activations: &[Activation], adapter: u32) -> bool
+/// Whether one of them is unfinished in the adapter.
+fn is_any_changing(config: &Config, activations: &[Activation], adapter: u32) -> bool
     ensures { result ≡ situations.is_changing config.now activations.now adapter }
 {
     activations
         .iter()
         .any(|activation| is_changing_in(config, adapter, activation))
+}
+
+/// Whether an incarnation or etherealization is unfinished in the adapter.
+pub fn is_changing(config: &Config, standing: &Standing, adapter: u32) -> bool
+    ensures { result ≡ situations.is_changing config.now (seen standing.now).activations adapter }
+{
+    is_any_changing(config, &standing.activations, adapter)
 }
 
 /// What is set, as the facts about a key ask it.
@@ -223,12 +237,12 @@ fn facts_met(
         differs: differs(config, key, adapter),
         policies: policies_at(config, path),
         running: is_running(&standing.flights, adapter),
-        slot: slot_of(config, &standing.activations, adapter, &key.oid),
+        slot: slot_of(config, standing, adapter, &key.oid),
         bad_id: is_bad_id(config, run, standing.made, path, key.oid.as_slice()),
         preset: set.preset,
         rules: !rules_at(config, path).is_empty(),
-        busy: is_changing(config, &standing.activations, adapter),
-        next: u32::try_from(standing.activations.len()).map_err(|_| WantMemory)?,
+        busy: is_changing(config, standing, adapter),
+        next: standing.begun()?,
         located: located(config, path, &key.oid)?,
     })
 }
@@ -258,7 +272,7 @@ pub fn facts_of(
     crowded: bool,
     call: &Call,
 ) -> Result<Facts, WantMemory>
-    ensures { (past : List Entry) (r : ℕ) → seen standing.now ≡ stands_after config.now run past → Tells config.now past settings.now → crowded ≡ situations.is_crowded past r → calls.call_of past r ≡ Some call.now
+    ensures { (past : List Entry) (r : ℕ) → AnswersAs config.now run past (seen standing.now) → Tells config.now past settings.now → crowded ≡ situations.is_crowded past r → calls.call_of past r ≡ Some call.now
         → IfOk result (λ facts. facts ≡ situations.facts_of config.now run past r) }
 {
     let key = key_or_none(alloc, key_in(alloc, Some(call))?)?;

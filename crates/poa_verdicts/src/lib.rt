@@ -4,11 +4,13 @@
 
 mod commands;
 mod facts;
+mod looks;
 mod references;
 mod rules;
 mod turns;
 mod verdicts;
 
+pub use looks::{Look, look_at};
 pub use rules::{brought, rule_for};
-pub use turns::{activation_numbered, attempt, going_on, removal};
+pub use turns::{attempt, flight_of, going_on, removal};
 pub use verdicts::verdict_on;

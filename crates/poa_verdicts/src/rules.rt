@@ -13,7 +13,7 @@ use poa_base::{
 use poa_choose::Located;
 use poa_history::Activation;
 use standing_queries::Standing;
-use standing_queries::activations::is_in_map;
+use standing_queries::searches::is_in_map;
 use standing_queries::templates::{policies_at, rules_at, servant_name};
 
 /// The id isn't active.
@@ -60,11 +60,7 @@ fn named_or_double(
     ensures { IfOk result (λ answer. answer ≡ rules.named_or_double config.now (seen standing.now) activation.now servant) }
 {
     if policies_at(config, activation.path.as_slice()).is_unique()
-        && is_in_map(
-            &standing.activations,
-            activation.adapter,
-            Sid::Named(servant),
-        )
+        && is_in_map(standing, activation.adapter, Sid::Named(servant))
     {
         Ok(Incarnation::Double)
     } else {

@@ -17,26 +17,17 @@ use poa_tree::nodes::node_numbered;
 use standing_queries::Standing;
 use standing_queries::activations::{is_complete, is_ending};
 use standing_queries::flights::is_used;
+use standing_queries::searches::activation_numbered;
 use standing_queries::templates::{children_at, has_activator, has_template};
 
 /// What is in flight for an arrival.
-fn flight_of(standing: &Standing, arrival: u64) -> Option<&Flight>
+pub fn flight_of(standing: &Standing, arrival: u64) -> Option<&Flight>
     ensures { option_copied result ≡ turns.flight_of (seen standing.now) arrival }
 {
     standing
         .flights
         .iter()
         .find(|flight| flight.arrival == arrival)
-}
-
-/// The activation of a number.
-pub fn activation_numbered(standing: &Standing, number: u32) -> Option<&Activation>
-    ensures { option_copied result ≡ turns.activation_numbered (seen standing.now) number }
-{
-    standing
-        .activations
-        .iter()
-        .find(|activation| activation.number == number)
 }
 
 /// What an adapter activator answers for a child, where its parent lives.
@@ -190,24 +181,10 @@ fn is_due(config: &Config, standing: &Standing, activation: &Activation) -> bool
 {
     is_told(config, activation)
         && (!is_used(&standing.flights, activation.number)
-            && !is_changing(config, &standing.activations, activation.adapter))
+            && !is_changing(config, standing, activation.adapter))
 }
 
-/// The least activation that is due is taken out. Takes no memory.
-pub fn removal(config: &Config, standing: &Standing, worker: u32) -> Option<Entry>
-    ensures { result ≡ turns.removal config.now (seen standing.now) worker }
-{
-    match first_due(config, standing) {
-        Some(activation) => Some(Entry::TakeOut {
-            worker,
-            activation: activation.number,
-            etherealize: !activation.quiet,
-        }),
-        None => None,
-    }
-}
-
-/// The least activation that is due.
+/// The first that is due of those that are kept.
 fn first_due<'a>(config: &Config, standing: &'a Standing) -> Option<&'a Activation>
     ensures { option_copied result ≡ find (turns.is_due config.now (seen standing.now)) standing.now.activations.items }
 {
@@ -215,4 +192,25 @@ fn first_due<'a>(config: &Config, standing: &'a Standing) -> Option<&'a Activati
         .activations
         .iter()
         .find(|activation| is_due(config, standing, activation))
+}
+
+/// The least activation that is due.
+fn least_due<'a>(config: &Config, standing: &'a Standing) -> Option<&'a Activation>
+    ensures { option_copied result ≡ find (turns.is_due config.now (seen standing.now)) (seen standing.now).activations }
+{
+    first_due(config, standing)
+}
+
+/// The least activation that is due is taken out. Takes no memory.
+pub fn removal(config: &Config, standing: &Standing, worker: u32) -> Option<Entry>
+    ensures { result ≡ turns.removal config.now (seen standing.now) worker }
+{
+    match least_due(config, standing) {
+        Some(activation) => Some(Entry::TakeOut {
+            worker,
+            activation: activation.number,
+            etherealize: !activation.quiet,
+        }),
+        None => None,
+    }
 }

@@ -2,9 +2,9 @@
 ghost use Rattle.std.specs.Prelude.{◌≡◌, ℕ, List, Some, true, IfOk};
 ghost use Rattle.poa_base.specs.declared.Entry.{Entry};
 ghost use Rattle.poa_history.specs.Arrivals.{call_of, is_message};
-ghost use Rattle.poa_history.specs.Changes.{standing as stands_after};
 ghost use Rattle.poa_history.specs.Situations.{is_crowded};
 ghost use Rattle.poa_history.specs.Verdicts as verdicts;
+ghost use Rattle.standing_queries.specs.Answers.{AnswersAs};
 ghost use Rattle.standing_queries.specs.Seen.{seen};
 ghost use Rattle.adapter_settings.specs.Told.{Tells};
 
@@ -41,7 +41,7 @@ pub fn verdict_on(
     call: &Call,
     worker: u32,
 ) -> Result<Option<Verdict>, WantMemory>
-    ensures { (past : List Entry) (r : ℕ) → seen standing.now ≡ stands_after config.now run past → Tells config.now past settings.now
+    ensures { (past : List Entry) (r : ℕ) → AnswersAs config.now run past (seen standing.now) → Tells config.now past settings.now
         → (is_message (Some call.now) ≡ true → crowded ≡ is_crowded past r) → call_of past r ≡ Some call.now
         → IfOk result (λ verdict. verdict ≡ verdicts.verdict config.now run past r worker) }
 {

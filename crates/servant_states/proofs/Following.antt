@@ -5,12 +5,13 @@ use Rattle.std.proofs.lemmas.Result.{IfOk-weaker}
 use Rattle.poa_base.specs.declared.Config.{Config}
 use Rattle.poa_base.specs.declared.Call.{Call}
 use Rattle.poa_base.specs.declared.Outcome.{Outcome}
-use Rattle.poa_base.specs.declared.Sid.{Sid}
+use Rattle.poa_names.specs.declared.Sid.{Sid}
 use Rattle.poa_base.specs.declared.Entry.{Entry}
 use Rattle.poa_base.specs.declared.Entry.TheVariants.{Entered, Arrive, Filled, Left, Collect, Admit, Tried, Incarnated, Run, Done, TakeOut, Etherealized, Abandon}
 use Rattle.poa_base.specs.declared.Incarnation.{Incarnation}
 use Rattle.poa_base.specs.declared.Incarnation.TheVariants.{Fresh, Named, Double, Forward, Raise}
 use Rattle.poa_history.specs.declared.stage.Stage.{Stage}
+use Rattle.poa_history.specs.declared.stage.Stage.TheVariants.{Free, Trying, Incarnating, Serving, Ran, Removing}
 use Rattle.poa_history.specs.Changes.{standing}
 use Rattle.poa_history.specs.Legal.{IsLegal}
 use Rattle.poa_history.specs.Stages.{stage}
@@ -19,10 +20,11 @@ use Rattle.poa_history.specs.States.{acted, call_run, servant_run, state_of}
 use Rattle.servant_states.specs.Comes.{Comes, HoldsThen, TellsThen, outcome_told, worker_of}
 use Rattle.servant_states.specs.Holds.{Holds}
 use Rattle.servant_states.specs.Kept.{Kept}
-use Rattle.servant_states.specs.Steps.{IsActed, Incarnates, Etherealizes, HasRoom, removed, outcome_in}
+use Rattle.standing_queries.specs.Answers.{works_on}
+use Rattle.servant_states.specs.Steps.{Brings, IsActed, Incarnates, Etherealizes, HasRoom, removed, removed_of, outcome_in}
 use Rattle.servant_states.proofs.QuietHolds.{is_quiet, quiet_holds}
 use Rattle.servant_states.proofs.RunHolds.{run_holds, run_tells}
-use Rattle.servant_states.proofs.BroughtHolds.{brought_holds}
+use Rattle.servant_states.proofs.BroughtHolds.{IsOf, is_of_it, brought_holds}
 use Rattle.servant_states.proofs.StoredHolds.{ended_holds, room_held}
 
 -- an entry that runs, incarnates and etherealizes nothing is quiet
@@ -67,17 +69,32 @@ module _ (c : Config) (e : Entry) (begun : Stage) (call : Option Call) (runs : O
   pub told_then : {E : Type 0} (r : Result (Option Outcome) E) (w : ℕ) → e ≡ Run w → IfOk r (λ outcome. outcome ≡ outcome_in runs call old) → IfOk r (λ outcome. TellsThen c e begun call runs s old outcome)
   told_then r w is = IfOk-weaker r (λ outcome. outcome ≡ outcome_in runs call old) (λ outcome. TellsThen c e begun call runs s old outcome) (λ outcome told. run_tells_then w is outcome told)
 
+  its : (w m : ℕ) (is : e ≡ Incarnated w (Fresh m)) (k : Comes c e begun call runs s old) → IsOf c k.run k.limit k.opened k.past w m k.given k.alone k.within (subst (λ x. IsLegal c k.run k.limit (x ∷ k.past)) is k.legal)
+  its w m is k = is_of_it c k.run k.limit k.opened k.past w m k.given k.alone k.within (subst (λ x. IsLegal c k.run k.limit (x ∷ k.past)) is k.legal)
+
+  -- the worker brings the servant of the activation that it is at
+  brought_of : (w m : ℕ) (is : e ≡ Incarnated w (Fresh m)) (k : Comes c e begun call runs s old) → stage k.past w ≡ Incarnating (its w m is k).arrival m
+  brought_of w m is k = (its w m is k).begun_
+
   pub incarnated_then : (w : ℕ) (answer : Incarnation) → e ≡ Incarnated w answer → (new : Kept) → Incarnates c answer s old new → HoldsThen c e begun call runs s old new
   incarnated_then w (Fresh m) is new brings = λ k.
       subst (λ x. Holds c k.run k.opened (x ∷ k.past) new) (sym is)
-      (brought_holds c k.run k.limit k.opened k.past w m k.given k.alone k.within (subst (λ x. IsLegal c k.run k.limit (x ∷ k.past)) is k.legal) old new k.holds (subst (λ x. Incarnates c (Fresh m) x old new) k.stands brings))
+      (brought_holds c k.run k.limit k.opened k.past w m k.given k.alone k.within (subst (λ x. IsLegal c k.run k.limit (x ∷ k.past)) is k.legal) old new k.holds (subst (λ o. Brings c m o old new) (k.stands.worked w m (ap works_on (brought_of w m is k))) brings))
   incarnated_then w (Named name) is new same = subst (HoldsThen c e begun call runs s old) (sym same) (quiet_then (ap is_quiet is))
   incarnated_then w Double is new same = subst (HoldsThen c e begun call runs s old) (sym same) (quiet_then (ap is_quiet is))
   incarnated_then w (Forward x) is new same = subst (HoldsThen c e begun call runs s old) (sym same) (quiet_then (ap is_quiet is))
   incarnated_then w (Raise x) is new same = subst (HoldsThen c e begun call runs s old) (sym same) (quiet_then (ap is_quiet is))
 
   removed_at : (w : ℕ) (cleanup remaining : Bool) → e ≡ Etherealized w cleanup remaining → (k : Comes c e begun call runs s old) → removed s begun ≡ removed (standing c k.run k.past) (stage k.past w)
-  removed_at w cleanup remaining is k = ap (λ x. removed x begun) k.stands ∙ ap (removed (standing c k.run k.past)) (k.at_stage w (ap worker_of is))
+  removed_at w cleanup remaining is k = ap (removed s) (k.at_stage w (ap worker_of is)) ∙ removed_same (stage k.past w) refl
+    where
+      removed_same : (b : Stage) → stage k.past w ≡ b → removed s b ≡ removed (standing c k.run k.past) b
+      removed_same (Removing n) at = ap removed_of (k.stands.worked w n (ap works_on at))
+      removed_same Free at = refl
+      removed_same (Trying r) at = refl
+      removed_same (Incarnating r n) at = refl
+      removed_same (Serving r) at = refl
+      removed_same (Ran r) at = refl
 
   pub room_then : (w : ℕ) (cleanup remaining : Bool) → e ≡ Etherealized w cleanup remaining → Comes c e begun call runs s old → HasRoom (removed s begun) old
   room_then w cleanup remaining is k =

@@ -3,18 +3,18 @@ use Rattle.std.specs.Prelude.{◌≡◌, ℕ, Bool, true, false, List, ◌∷◌
 use Rattle.poa_base.specs.declared.Config.{Config}
 use Rattle.poa_base.specs.declared.Call.{Call}
 use Rattle.poa_base.specs.declared.Outcome.{Outcome}
-use Rattle.poa_base.specs.declared.Sid.{Sid}
+use Rattle.poa_names.specs.declared.Sid.{Sid}
 use Rattle.poa_base.specs.declared.Entry.{Entry}
 use Rattle.poa_base.specs.declared.Entry.TheVariants.{Admit, Tried, Incarnated, Run, Done, TakeOut, Etherealized, Abandon}
 use Rattle.poa_history.specs.declared.stage.Stage.{Stage}
 use Rattle.poa_history.specs.Alone.{IsGivenAlone}
 use Rattle.poa_history.specs.Bounds.{IsWithinLimits}
-use Rattle.poa_history.specs.Changes.{standing}
 use Rattle.poa_history.specs.Legal.{IsLegal}
 use Rattle.poa_history.specs.Sound.{IsGiven}
 use Rattle.poa_history.specs.Stages.{stage}
 use Rattle.poa_history.specs.Standings.{Standing}
 use Rattle.poa_history.specs.States.{Stored, acted, call_run, servant_run, state_of}
+use Rattle.standing_queries.specs.Answers.{AnswersAs}
 use Rattle.servant_states.specs.Holds.{Holds}
 use Rattle.servant_states.specs.Kept.{Kept}
 use Rattle.servant_states.specs.Steps.{is_new}
@@ -42,7 +42,7 @@ pub record Comes (c : Config) (e : Entry) (begun : Stage) (call : Option Call) (
   pub alone : IsGivenAlone c run
   pub within : IsWithinLimits c limit
   pub legal : IsLegal c run limit (e ∷ past)
-  pub stands : s ≡ standing c run past
+  pub stands : AnswersAs c run past s
   pub at_stage : (w : ℕ) → worker_of e ≡ Some w → begun ≡ stage past w
   pub call_is : call ≡ call_run past begun
   pub servant_is : runs ≡ servant_run c run past begun

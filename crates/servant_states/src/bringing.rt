@@ -1,5 +1,5 @@
 //! A fresh servant is brought.
-ghost use Rattle.std.specs.Prelude.{◌≡◌, ◌==◌, true, OnOk, OnErr, find, option_copied};
+ghost use Rattle.std.specs.Prelude.{◌≡◌, true, OnOk, OnErr};
 ghost use Rattle.poa_history.specs.Turns as turns;
 ghost use Rattle.standing_queries.specs.Seen.{seen};
 ghost use Rattle.servant_states.specs.Kept.{kept_in};
@@ -11,16 +11,8 @@ use poa_base::{Config, Incarnation, WantMemory};
 use poa_history::Activation;
 use servant_kinds::Servant;
 use standing_queries::Standing;
+use standing_queries::searches::activation_numbered;
 use std::alloc::Global;
-
-/// The activation of a number.
-pub fn activation_numbered(activations: &[Activation], number: u32) -> Option<&Activation>
-    ensures { option_copied result ≡ find (λ a. a.number == number) activations.now }
-{
-    activations
-        .iter()
-        .find(|activation| activation.number == number)
-}
 
 /// Brings a fresh servant of an activation.
 fn bring_for(
@@ -57,7 +49,7 @@ pub fn bring(
     ensures ok { OnOk result (Brings config.now number (turns.activation_numbered (seen standing.now) number) (kept_in servants.old) (kept_in servants.new)) }
     ensures err { OnErr result (IsUnchanged (kept_in servants.old) (kept_in servants.new)) }
 {
-    match activation_numbered(&standing.activations, number) {
+    match activation_numbered(standing, number) {
         Some(activation) => bring_for(alloc, config, number, activation, servants),
         None => Ok(()),
     }

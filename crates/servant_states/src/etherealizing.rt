@@ -4,11 +4,11 @@ ghost use Rattle.standing_queries.specs.Seen.{seen};
 ghost use Rattle.servant_states.specs.Kept.{kept_in};
 ghost use Rattle.servant_states.specs.Steps as steps;
 
-use crate::bringing::activation_numbered;
 use crate::servants::Servants;
 use poa_base::Sid;
 use poa_history::{Activation, Phase, Stage};
 use standing_queries::Standing;
+use standing_queries::searches::activation_numbered;
 
 /// The number of the fresh servant of an activation.
 fn fresh_number(phase: Phase) -> Option<u32>
@@ -38,10 +38,7 @@ fn removed(standing: &Standing, stage: Stage) -> Option<(&Activation, u32)>
     ensures { option_map (λ r. (r.0.now, r.1)) result ≡ steps.removed (seen standing.now) stage }
 {
     match stage {
-        Stage::Removing(activation) => removed_of(activation_numbered(
-            &standing.activations,
-            activation,
-        )),
+        Stage::Removing(activation) => removed_of(activation_numbered(standing, activation)),
         Stage::Free
         | Stage::Trying(_)
         | Stage::Incarnating(_, _)

@@ -12,8 +12,6 @@ pub mod laws;
 mod servants;
 mod serving;
 mod starting;
-#[cfg(test)]
-mod tests;
 
 pub use acting::act;
 pub use advancing::advance;

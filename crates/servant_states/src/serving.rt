@@ -4,10 +4,10 @@ ghost use Rattle.poa_history.specs.States as states;
 ghost use Rattle.poa_history.specs.Turns as turns;
 ghost use Rattle.standing_queries.specs.Seen.{seen};
 
-use crate::bringing::activation_numbered;
 use poa_base::{Config, Name, Sid, Verdict, WantMemory};
 use poa_history::{Activation, Phase};
 use standing_queries::Standing;
+use standing_queries::searches::activation_numbered;
 use standing_queries::templates::servant_number;
 
 /// The servant of an activation.
@@ -27,7 +27,7 @@ fn servant_of(activation: Option<&Activation>) -> Option<Sid>
 fn servant_at(standing: &Standing, number: u32) -> Option<Sid>
     ensures { result ≡ states.servant_of_activation (turns.activation_numbered (seen standing.now) number) }
 {
-    servant_of(activation_numbered(&standing.activations, number))
+    servant_of(activation_numbered(standing, number))
 }
 
 /// The configured servant of a name.

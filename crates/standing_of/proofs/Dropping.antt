@@ -14,6 +14,7 @@ use Rattle.poa_history.specs.declared.flight.Flight.{Flight}
 use Rattle.poa_history.specs.Ends.{is_over, is_clear, is_done_with}
 use Rattle.poa_history.specs.Standings.{Standing}
 use Rattle.poa_history.proofs.SettledKept.{none_by, not_true}
+use Rattle.standing_queries.proofs.Kept.{any_kept}
 
 -- the elements up to a place, and of the others those that are kept
 abbrev pub kept_from : {A : Type 0} → (A → Bool) → ℕ → List A → List A
@@ -24,14 +25,6 @@ any_alike test other [] alike = refl
 any_alike test other (x ∷ xs) alike = ap₂ (λ a b. a || b) (alike x (inl refl)) (any_alike test other xs (λ y is. alike y (inr is)))
 
 -- where what isn't kept fails the test, the test finds the same
-any_kept : {A : Type 0} (keeps test : A → Bool) (xs : List A) → ((x : A) → In x xs → keeps x ≡ false → test x ≡ false) → list_any test (filter keeps xs) ≡ list_any test xs
-any_kept keeps test [] fails = refl
-any_kept keeps test (x ∷ xs) fails =
-    let rest : list_any test (filter keeps xs) ≡ list_any test xs = any_kept keeps test xs (λ y is. fails y (inr is)) in
-    cond_both (keeps x) (x ∷ filter keeps xs) (filter keeps xs) (λ ys. list_any test ys ≡ (test x || list_any test xs))
-    (λ _. ap (λ b. test x || b) rest)
-    (λ goes. rest ∙ ap (λ b. b || list_any test xs) (sym (fails x (inl refl) goes)))
-
 any_from : {A : Type 0} (keeps test : A → Bool) (k : ℕ) (xs : List A) → ((x : A) → In x xs → keeps x ≡ false → test x ≡ false) → list_any test (kept_from keeps k xs) ≡ list_any test xs
 any_from keeps test zero xs fails = any_kept keeps test xs fails
 any_from keeps test (suc k) [] fails = refl

@@ -33,6 +33,11 @@ takes_no_memory (Admit w r verdict) = false
 takes_no_memory (Tried w (Yes number)) = false
 takes_no_memory e = true
 
+-- a command or a request may begin an activation when it is admitted
+abbrev pub may_begin : Entry → Bool
+may_begin (Admit w r verdict) = true
+may_begin e = false
+
 -- the servant activator brings a configured servant, whose number is looked up
 abbrev pub names_servant : Entry → Bool
 names_servant (Incarnated w (Named name)) = true

@@ -1,5 +1,5 @@
 //! What stands before the first entry, and how adapters and activations are added.
-ghost use Rattle.std.specs.Prelude.{◌≡◌, ◌&&◌, suc, false, not, IfOk, OnOk, OnErr};
+ghost use Rattle.std.specs.Prelude.{◌≡◌, ◌≤◌, ◌&&◌, false, not, length, IfOk, OnOk, OnErr};
 ghost use Rattle.poa_tree.specs.Paths.{is_root};
 ghost use Rattle.poa_history.specs.Opening as opens;
 ghost use Rattle.standing_queries.specs.Seen.{seen};
@@ -31,7 +31,7 @@ pub fn add_node(standing: &mut Standing, path: &Path) -> Result<(), WantMemory>
 
 /// An activation that has begun.
 pub fn begun(
-    number: usize,
+    number: u32,
     adapter: u32,
     path: &Path,
     oid: &Oid,
@@ -40,7 +40,7 @@ pub fn begun(
     ensures { IfOk result (λ activation. activation ≡ record { number = number; adapter = adapter; path = path.now; oid = oid.now; phase = phase; ending = false; quiet = false; out = false; cleanup = false; remaining = false; etherealized = false }) }
 {
     Ok(Activation {
-        number: u32::try_from(number).map_err(|_| WantMemory)?,
+        number,
         adapter,
         path: path.clone()?,
         oid: oid.clone()?,
@@ -65,7 +65,7 @@ pub fn add_activation(
     ensures ok { OnOk result (seen standing.new ≡ opens.with_activation adapter path.now oid.now phase (seen standing.old)) }
     ensures err { OnErr result (seen standing.new ≡ seen standing.old) }
 {
-    let activation = begun(standing.activations.len(), adapter, path, oid, phase)?;
+    let activation = begun(standing.begun()?, adapter, path, oid, phase)?;
     standing.activations.push(activation)?;
     Ok(())
 }
@@ -87,6 +87,7 @@ fn root_alone(alloc: Global) -> Result<Standing, WantMemory>
         count: 0,
         made: 0,
         flights: Vec::new(alloc),
+        forgotten: 0,
         activations: Vec::new(alloc),
     };
     add_node(&mut standing, &Path::root(alloc))?;
@@ -153,10 +154,12 @@ fn add_objects(
 /// What stands before the first entry: the root, the adapters created at opening and the configured objects.
 /// Fails for want of memory, or of a number of 32 bits.
 pub fn opening(alloc: Global, config: &Config, run: u32) -> Result<Standing, WantMemory>
-    ensures { IfOk result (λ standing. seen standing ≡ opens.opening config.now run) }
+    ensures stands { IfOk result (λ standing. seen standing ≡ opens.opening config.now run) }
+    ensures few { IfOk result (λ standing. length (seen standing).activations ≤ 4294967296) }
 {
     let mut standing = root_alone(alloc)?;
     add_boots(config.adapters.as_slice(), &mut standing)?;
     add_objects(alloc, run, config.objects.as_slice(), &mut standing)?;
+    standing.begun()?;
     Ok(standing)
 }

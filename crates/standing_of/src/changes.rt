@@ -1,16 +1,20 @@
 //! What an entry changes, and so what stands after a history.
-ghost use Rattle.std.specs.Prelude.{◌≡◌, ◌∷◌, ◌≤◌, ◌^◌, ℕ, List, None, false, true, if◌then◌else◌, length, reverse, option_copied, IfOk, IsOk, OnOk, OnErr};
+ghost use Rattle.std.specs.Prelude.{◌≡◌, ◌∷◌, ◌≤◌, ◌<◌, ◌^◌, ℕ, List, None, false, true, if◌then◌else◌, length, reverse, option_copied, IfOk, IsOk, OnOk, OnErr};
+ghost use Rattle.std.specs.List.{list_any};
 ghost use Rattle.poa_base.specs.declared.Entry.{Entry};
 ghost use Rattle.poa_base.specs.declared.Entry.TheVariants.{Incarnated, Tried};
 ghost use Rattle.poa_history.specs.Changes as changes;
+ghost use Rattle.poa_history.specs.Ends.{is_over};
 ghost use Rattle.poa_history.specs.Keys as keys;
 ghost use Rattle.poa_history.specs.Logs.{command_in as command_of, is_accepted as accepts};
 ghost use Rattle.standing_of.specs.Entries as entries;
+ghost use Rattle.standing_queries.specs.Kept.{StandsAfter};
 ghost use Rattle.standing_queries.specs.Seen.{seen};
 
 use crate::beginning::{add_node, opening};
 use crate::commands::{command, servant_of};
 use crate::flying::{admit, child_tried, end_flight};
+use crate::forgetting::forget;
 use crate::lives::{complete, etherealize, take_out};
 use crate::settling::settle;
 use poa_base::{Attempt, Call, Config, Entry, Incarnation, Path, Sid, Verdict, WantMemory};
@@ -74,18 +78,14 @@ fn incarnated(
     };
     match answer {
         Incarnation::Fresh(_) => {
-            complete(
-                &mut standing.activations,
-                number,
-                Phase::Complete(Sid::Fresh(number)),
-            );
+            complete(standing, number, Phase::Complete(Sid::Fresh(number)));
         }
         Incarnation::Named(name) => {
             let phase = servant_of(config, name)?;
-            complete(&mut standing.activations, number, phase);
+            complete(standing, number, phase);
         }
         Incarnation::Double | Incarnation::Forward(_) | Incarnation::Raise(_) => {
-            complete(&mut standing.activations, number, Phase::Void);
+            complete(standing, number, Phase::Void);
             end_flight(standing, Some(arrival));
         }
     }
@@ -97,7 +97,7 @@ fn etherealized(stage: Stage, standing: &mut Standing)
     ensures { seen standing.new ≡ changes.with_etherealized stage (seen standing.old) }
 {
     if let Stage::Removing(number) = stage {
-        etherealize(&mut standing.activations, number);
+        etherealize(standing, number);
     }
 }
 
@@ -147,7 +147,7 @@ fn change(
         Entry::Tried { answer, .. } => tried(arrival_in(stage), *answer, standing)?,
         Entry::Incarnated { answer, .. } => incarnated(config, stage, answer, standing)?,
         Entry::Done { .. } => end_flight(standing, arrival_in(stage)),
-        Entry::TakeOut { activation, .. } => take_out(&mut standing.activations, *activation),
+        Entry::TakeOut { activation, .. } => take_out(standing, *activation),
         Entry::Etherealized { .. } => etherealized(stage, standing),
         _ => {}
     }
@@ -190,6 +190,55 @@ pub fn advance(
     change(alloc, config, run, entry, stage, call, standing)?;
     if may_end(entry) {
         settle(config, standing);
+    }
+    Ok(())
+}
+
+/// Whether an entry may begin an activation.
+fn may_begin(entry: &Entry) -> bool
+    ensures { result ≡ entries.may_begin entry.now }
+{
+    match entry {
+        Entry::Admit { .. } => true,
+        _ => false,
+    }
+}
+
+/// Whether there is a number of 32 bits for the activation that an entry may begin.
+fn has_number(entry: &Entry, standing: &Standing) -> Result<(), WantMemory>
+    ensures few { OnOk result (entries.may_begin entry.now ≡ true → length (seen standing.now).activations < 4294967296) }
+    ensures ends { entries.may_begin entry.now ≡ false → IsOk result }
+{
+    if may_begin(entry) {
+        standing.begun()?;
+    }
+    Ok(())
+}
+
+/// An entry is made after those before it, what has ended goes, and those of the activations that are over then are
+/// forgotten. It is given, and fails, as `advance`.
+pub fn advance_kept(
+    alloc: Global,
+    config: &Config,
+    run: u32,
+    entry: &Entry,
+    stage: Stage,
+    call: Option<&Call>,
+    standing: &mut Standing,
+) -> Result<(), WantMemory>
+    ensures ok { (past : List Entry) → StandsAfter config.now run past (seen standing.old) → stage ≡ entries.stage_at past entry.now → option_copied call.entry ≡ entries.call_admitted past entry.now
+        → OnOk result (StandsAfter config.now run (entry.now ∷ past) (seen standing.new)) }
+    ensures forgets { (past : List Entry) → StandsAfter config.now run past (seen standing.old) → stage ≡ entries.stage_at past entry.now → option_copied call.entry ≡ entries.call_admitted past entry.now
+        → entries.may_end entry.now ≡ true → OnOk result (list_any (is_over config.now) standing.new.activations.items ≡ false) }
+    ensures err { OnErr result (seen standing.new ≡ seen standing.old) }
+    ensures ends { entries.takes_no_memory entry.now ≡ true → entries.names_servant entry.now ≡ false → IsOk result }
+    ensures named { entries.takes_no_memory entry.now ≡ true → length config.now.servants ≤ 2 ^ 32 → IsOk result }
+{
+    has_number(entry, standing)?;
+    change(alloc, config, run, entry, stage, call, standing)?;
+    if may_end(entry) {
+        settle(config, standing);
+        forget(config, standing);
     }
     Ok(())
 }

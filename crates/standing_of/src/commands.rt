@@ -88,7 +88,7 @@ fn off(config: &Config, manager: &Name, standing: &mut Standing)
     ensures { seen standing.new ≡ elim (number_of_manager config.now manager.now) [ Some m ↦ changes.with_manager_off config.now m (seen standing.old) | None ↦ seen standing.old ] }
 {
     if let Some(number) = manager_number(config, manager) {
-        turn_off(config, &mut standing.activations, number);
+        turn_off(config, standing, number);
     }
 }
 
@@ -130,7 +130,7 @@ pub fn command(
         }
         Command::Deactivate { path, oid } => {
             let adapter = number_at(standing, path.as_slice());
-            deactivate(&mut standing.activations, adapter, oid);
+            deactivate(standing, adapter, oid);
         }
         Command::Reference { path, servant } => {
             add_reference(alloc, config, run, path, servant, standing)?

@@ -48,9 +48,9 @@ fn end_all_under(
     }
 }
 
-/// The adapter of the path and those below it are destroyed.
-pub fn destroy(standing: &mut Standing, path: &[Name], etherealize: bool)
-    ensures { seen standing.new ≡ changes.with_destroyed path.now etherealize (seen standing.old) }
+/// What is active in the adapters that stand at the path or below it is ending.
+fn end_below(standing: &mut Standing, path: &[Name], etherealize: bool)
+    ensures { seen standing.new ≡ changes.with_activations (λ a. if tree.stands_under standing.old.nodes.items path.now a.adapter then changes.ended_by_destroy etherealize a else a) (seen standing.old) }
 {
     end_all_under(
         &standing.nodes,
@@ -58,6 +58,13 @@ pub fn destroy(standing: &mut Standing, path: &[Name], etherealize: bool)
         etherealize,
         &mut standing.activations,
     );
+}
+
+/// The adapter of the path and those below it are destroyed.
+pub fn destroy(standing: &mut Standing, path: &[Name], etherealize: bool)
+    ensures { seen standing.new ≡ changes.with_destroyed path.now etherealize (seen standing.old) }
+{
+    end_below(standing, path, etherealize);
     mark(&mut standing.nodes, path);
 }
 
@@ -78,14 +85,21 @@ fn end_activators(config: &Config, manager: usize, activation: &mut Activation)
     }
 }
 
-/// The manager's activations that have a servant activator are ending.
+/// Those of the activations that are the manager's, with a servant activator, are ending.
 #[tactic(auto, using(poa_tree::proofs::InPlace::mapped_one))]
-pub fn turn_off(config: &Config, activations: &mut Vec<Activation>, manager: usize)
+fn end_all_activators(config: &Config, activations: &mut Vec<Activation>, manager: usize)
     ensures { activations.new.items ≡ map (λ a. if configured.has_activator config.now a.path && (configured.manager_at config.now a.path == manager) then changes.ended_by_destroy true a else a) activations.old.items }
 {
     for activation in activations.iter_mut() {
         end_activators(config, manager, activation);
     }
+}
+
+/// The manager's activations that have a servant activator are ending.
+pub fn turn_off(config: &Config, standing: &mut Standing, manager: usize)
+    ensures { seen standing.new ≡ changes.with_manager_off config.now manager (seen standing.old) }
+{
+    end_all_activators(config, &mut standing.activations, manager);
 }
 
 /// An activation is ending where it is of the id.
@@ -97,12 +111,19 @@ fn end_of_id(adapter: u32, oid: &Oid, activation: &mut Activation)
     }
 }
 
-/// The activations of the id are ending.
+/// Those of the activations that are of the id are ending.
 #[tactic(auto, using(poa_tree::proofs::InPlace::mapped_one))]
-pub fn deactivate(activations: &mut Vec<Activation>, adapter: u32, oid: &Oid)
+fn end_all_of_id(activations: &mut Vec<Activation>, adapter: u32, oid: &Oid)
     ensures { activations.new.items ≡ map (λ a. if stands.is_of adapter oid.now a then record a { ending = true } else a) activations.old.items }
 {
     for activation in activations.iter_mut() {
         end_of_id(adapter, oid, activation);
     }
+}
+
+/// The activations of the id are ending.
+pub fn deactivate(standing: &mut Standing, adapter: u32, oid: &Oid)
+    ensures { seen standing.new ≡ changes.with_deactivated adapter oid.now (seen standing.old) }
+{
+    end_all_of_id(&mut standing.activations, adapter, oid);
 }

@@ -82,7 +82,7 @@ fn add_incarnation(
 {
     let adapter = adapter_met(walk(&standing.nodes, key.path.as_slice()));
     let activation = begun(
-        standing.activations.len(),
+        standing.begun()?,
         adapter,
         &key.path,
         &key.oid,

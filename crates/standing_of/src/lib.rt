@@ -7,11 +7,10 @@ mod changes;
 mod commands;
 mod ending;
 mod flying;
+mod forgetting;
 pub mod laws;
 mod lives;
 mod settling;
-#[cfg(test)]
-mod tests;
 
 pub use beginning::opening;
-pub use changes::{advance, standing_of};
+pub use changes::{advance, advance_kept, standing_of};

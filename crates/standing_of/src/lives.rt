@@ -1,11 +1,13 @@
 //! How far an activation has come: its incarnation, its leaving of the map, its etherealization. Each change is
 //! made in place and takes no memory.
-ghost use Rattle.std.specs.Prelude.{◌≡◌, ◌==◌, ◌&&◌, Some, None, false, true, not, map, vec_len};
+ghost use Rattle.std.specs.Prelude.{◌≡◌, ◌==◌, ◌&&◌, false, true, not, map};
 ghost use Rattle.poa_history.specs.declared.activation.Phase.TheVariants.{Begun, Complete, Void};
 ghost use Rattle.poa_history.specs.Changes as changes;
 ghost use Rattle.poa_history.specs.Standings as stands;
+ghost use Rattle.standing_queries.specs.Seen.{seen};
 
 use poa_history::{Activation, Phase};
+use standing_queries::Standing;
 use standing_queries::activations::{has_servant, is_begun, is_mapped};
 
 /// An activation of this number that is being incarnated has come so far.
@@ -17,14 +19,21 @@ fn bring(number: u32, phase: Phase, activation: &mut Activation)
     }
 }
 
-/// The activation that is being incarnated has come so far.
+/// Of these activations that of the number, which is being incarnated, has come so far.
 #[tactic(auto, using(poa_tree::proofs::InPlace::mapped_one))]
-pub fn complete(activations: &mut Vec<Activation>, number: u32, phase: Phase)
+fn bring_numbered(activations: &mut Vec<Activation>, number: u32, phase: Phase)
     ensures { activations.new.items ≡ map (changes.at_number number (changes.come_to phase)) activations.old.items }
 {
     for activation in activations.iter_mut() {
         bring(number, phase, activation);
     }
+}
+
+/// The activation that is being incarnated has come so far.
+pub fn complete(standing: &mut Standing, number: u32, phase: Phase)
+    ensures { seen standing.new ≡ changes.with_activations (changes.at_number number (changes.come_to phase)) (seen standing.old) }
+{
+    bring_numbered(&mut standing.activations, number, phase);
 }
 
 /// Whether the activation has the servant of another.
@@ -71,15 +80,22 @@ fn remains(activations: &[Activation], number: u32, activation: &Activation) -> 
     activation.number == number && is_elsewhere(activations, activation)
 }
 
-/// The activation of this number is taken out of the map. Those that are out already don't bear on whether its
-/// servant remains.
-pub fn take_out(activations: &mut Vec<Activation>, number: u32)
+/// Of these activations that of the number is taken out of the map. Those that are out already don't bear on
+/// whether its servant remains.
+fn take_numbered(activations: &mut Vec<Activation>, number: u32)
     ensures { activations.new.items ≡ map (changes.at_number number (λ a. record a { out = true; remaining = changes.is_elsewhere activations.old.items a })) activations.old.items }
 {
     for i in 0..activations.len() {
         let remaining = remains(activations, number, &activations[i]);
         let_go(number, remaining, &mut activations[i]);
     }
+}
+
+/// The activation of this number is taken out of the map.
+pub fn take_out(standing: &mut Standing, number: u32)
+    ensures { seen standing.new ≡ changes.with_takeout number (seen standing.old) }
+{
+    take_numbered(&mut standing.activations, number);
 }
 
 /// An activation of this number is etherealized.
@@ -91,12 +107,19 @@ fn end(number: u32, activation: &mut Activation)
     }
 }
 
-/// The servant of the activation that was taken out is etherealized.
+/// Of these activations that of the number is etherealized.
 #[tactic(auto, using(poa_tree::proofs::InPlace::mapped_one))]
-pub fn etherealize(activations: &mut Vec<Activation>, number: u32)
+fn end_numbered(activations: &mut Vec<Activation>, number: u32)
     ensures { activations.new.items ≡ map (changes.at_number number (λ a. record a { etherealized = true })) activations.old.items }
 {
     for activation in activations.iter_mut() {
         end(number, activation);
     }
+}
+
+/// The servant of the activation that was taken out is etherealized.
+pub fn etherealize(standing: &mut Standing, number: u32)
+    ensures { seen standing.new ≡ changes.with_activations (changes.at_number number (λ a. record a { etherealized = true })) (seen standing.old) }
+{
+    end_numbered(&mut standing.activations, number);
 }

@@ -43,6 +43,13 @@ fn let_all_out(config: &Config, flights: &[Flight], activations: &mut Vec<Activa
     }
 }
 
+/// What is to leave the map does.
+fn let_out_ended(config: &Config, standing: &mut Standing)
+    ensures { seen standing.new ≡ record (seen standing.old) { activations = map (ends.let_out config.now (seen standing.old)) (seen standing.old).activations } }
+{
+    let_all_out(config, &standing.flights, &mut standing.activations);
+}
+
 /// The adapters that are gone are dropped, from the last one down. The others are asked of those that are
 /// left, which makes no difference: nothing that hasn't ended is in one that is gone.
 fn drop_gone(config: &Config, standing: &mut Standing)
@@ -59,6 +66,6 @@ fn drop_gone(config: &Config, standing: &mut Standing)
 pub fn settle(config: &Config, standing: &mut Standing)
     ensures { seen standing.new ≡ ends.settled config.now (seen standing.old) }
 {
-    let_all_out(config, &standing.flights, &mut standing.activations);
+    let_out_ended(config, standing);
     drop_gone(config, standing);
 }

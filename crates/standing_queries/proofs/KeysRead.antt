@@ -1,6 +1,6 @@
 -- The key that a target spells is the one that is read of it.
 use Rattle.std.proofs.Common.{◌≡◌, ◌≢◌, ℕ, List, Some, None, refl, subst}
-use Rattle.poa_base.specs.declared.Key.{Key}
+use Rattle.poa_names.specs.declared.Key.{Key}
 use Rattle.object_key.specs.Spelling.{key_spelling, IsKey}
 use Rattle.poa_history.specs.Keys.{key_of}
 use Rattle.poa_history.proofs.KeysSpelled.{key_spelled, spelling_found}

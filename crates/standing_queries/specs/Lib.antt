@@ -1,2 +1,4 @@
 pub mod Seen
+pub mod Kept
+pub mod Answers
 pub mod Numbers

@@ -88,19 +88,3 @@ pub fn is_of(adapter: u32, oid: &Oid, activation: &Activation) -> bool
 {
     activation.adapter == adapter && activation.oid == *oid
 }
-
-/// Whether the servant is in the map of the adapter by this activation.
-fn is_by(adapter: u32, servant: Sid, activation: &Activation) -> bool
-    ensures { result ≡ (activation.now.adapter == adapter) && (stands.is_mapped activation.now && stands.has_servant servant activation.now) }
-{
-    activation.adapter == adapter && (is_mapped(activation) && has_servant(servant, activation))
-}
-
-/// Whether the servant is in the map of the adapter.
-pub fn is_in_map(activations: &[Activation], adapter: u32, servant: Sid) -> bool
-    ensures { result ≡ stands.is_in_map activations.now adapter servant }
-{
-    activations
-        .iter()
-        .any(|activation| is_by(adapter, servant, activation))
-}

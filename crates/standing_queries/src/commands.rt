@@ -1,15 +1,13 @@
 //! The commands that were done, and the adapters and activations that they name.
-ghost use Rattle.std.specs.Prelude.{◌≡◌, ◌==◌, ◌&&◌, None, if◌then◌else◌, find, option_copied, reverse};
-ghost use Rattle.poa_base.specs.declared.Sid.TheVariants.{Named};
+ghost use Rattle.std.specs.Prelude.{◌≡◌, None, if◌then◌else◌, option_copied, reverse};
 ghost use Rattle.poa_history.specs.Commands as rows;
 ghost use Rattle.poa_history.specs.Arrivals as calls;
 ghost use Rattle.poa_history.specs.Logs as logs;
 ghost use Rattle.poa_history.specs.Opening as opens;
-ghost use Rattle.poa_history.specs.Standings as stands;
 ghost use Rattle.standing_queries.specs.Seen.{seen};
 
-use crate::activations::{has_servant, is_mapped};
 use crate::calls::call_of;
+use crate::searches::mapped;
 use crate::standing::Standing;
 use crate::templates::policies_at;
 use poa_base::{Answer, Call, Command, Config, Entry, Name, Sid, Verdict};
@@ -83,23 +81,6 @@ pub fn number_at(standing: &Standing, path: &[Name]) -> u32
     }
 }
 
-/// Whether the servant is in the map of the adapter by this activation.
-fn is_by(adapter: u32, servant: u32, activation: &Activation) -> bool
-    ensures { result ≡ (activation.now.adapter == adapter) && (stands.is_mapped activation.now && stands.has_servant (Named servant) activation.now) }
-{
-    activation.adapter == adapter
-        && (is_mapped(activation) && has_servant(Sid::Named(servant), activation))
-}
-
-/// The activation by which the servant is in the map of the adapter.
-fn mapped<'a>(activations: &'a [Activation], adapter: u32, servant: u32) -> Option<&'a Activation>
-    ensures { option_copied result ≡ find (λ a. (a.adapter == adapter) && (stands.is_mapped a && stands.has_servant (Named servant) a)) activations.now }
-{
-    activations
-        .iter()
-        .find(|activation| is_by(adapter, servant, activation))
-}
-
 /// The activation by which a servant has its one reference.
 pub fn referred<'a>(
     config: &Config,
@@ -111,7 +92,7 @@ pub fn referred<'a>(
 {
     let policies = policies_at(config, node.path.as_slice());
     if policies.retains() && policies.is_unique() {
-        mapped(&standing.activations, node.number, servant)
+        mapped(standing, node.number, Sid::Named(servant))
     } else {
         None
     }

@@ -44,16 +44,25 @@ fn lives_under(config: &Config, nodes: &[Node], path: &[Name], activation: &Acti
     !is_over(config, activation) && nodes::stands_under(nodes, path, activation.adapter)
 }
 
+/// Whether one of the activations isn't over, and is of an adapter at the path or below it.
+fn are_lived_under(
+    config: &Config,
+    nodes: &[Node],
+    path: &[Name],
+    activations: &[Activation],
+) -> bool
+    ensures { result ≡ list_any (λ a. not (ends.is_over config.now a) && stands_under nodes.now path.now a.adapter) activations.now }
+{
+    activations
+        .iter()
+        .any(|activation| lives_under(config, nodes, path, activation))
+}
+
 /// Whether an activation at the path or below it isn't over.
 fn is_lived_under(config: &Config, standing: &Standing, path: &[Name]) -> bool
-    ensures { result ≡ list_any (λ a. not (ends.is_over config.now a) && stands_under standing.now.nodes.items path.now a.adapter) standing.now.activations.items }
+    ensures { result ≡ list_any (λ a. not (ends.is_over config.now a) && stands_under standing.now.nodes.items path.now a.adapter) (seen standing.now).activations }
 {
-    standing.activations.iter().any(|activation| lives_under(
-        config,
-        &standing.nodes,
-        path,
-        activation,
-    ))
+    are_lived_under(config, &standing.nodes, path, &standing.activations)
 }
 
 /// Whether an adapter is being destroyed, with nothing left to end in it or below it.

@@ -1,6 +1,6 @@
 //! What an order to a manager waits for.
 ghost use Rattle.std.specs.Prelude.{◌≡◌, ◌==◌, ◌&&◌, ◌||◌, not, nat_lt};
-ghost use Rattle.std.specs.List.{list_any};
+ghost use Rattle.std.specs.List.{list_all, list_any};
 ghost use Rattle.poa_history.specs.Ends as ends;
 ghost use Rattle.poa_history.specs.Settling as settling;
 ghost use Rattle.poa_history.specs.Templates as configured;
@@ -60,12 +60,18 @@ fn is_ended(config: &Config, manager: u32, begun: usize, activation: &Activation
             || !(has_activator(config, path) && manager_at(config, path) == manager))
 }
 
+/// Whether those of the activations that a deactivation of the manager ends are over.
+fn all_ended(config: &Config, manager: u32, begun: usize, activations: &[Activation]) -> bool
+    ensures { result ≡ list_all (λ a. ends.is_over config.now a || (not (nat_lt a.number begun) || not (configured.has_activator config.now a.path && (configured.manager_at config.now a.path == manager)))) activations.now }
+{
+    activations
+        .iter()
+        .all(|activation| is_ended(config, manager, begun, activation))
+}
+
 /// Whether the activations begun by then in the manager's adapters with an activator are over.
 pub fn are_ended(config: &Config, standing: &Standing, manager: u32, begun: usize) -> bool
     ensures { result ≡ settling.are_ended config.now (seen standing.now) manager begun }
 {
-    standing
-        .activations
-        .iter()
-        .all(|activation| is_ended(config, manager, begun, activation))
+    all_ended(config, manager, begun, &standing.activations)
 }

@@ -14,7 +14,7 @@ returns-in_err-outcome-clause-err c = λ opened past state.
 pub returns-clause-ok : goal.returns-clause-ok
 returns-clause-ok c = λ limit opened past next.
     record {
-      stands = c.in_ok-advance.ensures.ok past next.state.stands next.begun_is (serves_no_call past c.args.coming.now.entry.now c.requires.kind);
+      stands = c.in_ok-advance_kept.ensures.ok past next.state.stands next.begun_is (serves_no_call past c.args.coming.now.entry.now c.requires.kind);
       set = c.in_ok-apply.ensures.ok past c.args.coming.now.entry.now next.state.set (serves_no_command past c.args.coming.now.entry.now c.requires.kind);
       held = c.in_ok-outcome.ensures.ok (comes c.args.config.now c.args.run limit opened past c.args.coming.now c.args.state.now next c.requires.kind);
     }

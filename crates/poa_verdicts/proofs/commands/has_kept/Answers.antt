@@ -1,0 +1,14 @@
+use Rattle.std.proofs.Common.{◌∙◌, not, ◌&&◌, ap, sym, refl}
+use Rattle.std.specs.List.{list_any}
+use Rattle.poa_history.specs.Ends.{is_over}
+use Rattle.poa_history.specs.Standings.{is_of}
+use Rattle.standing_queries.specs.Seen.{forgotten}
+use Rattle.standing_queries.proofs.Behind.{any_behind, second_fails}
+use Rattle.poa_verdicts.proofs.commands.has_kept.Goals as goal
+
+pub returns : goal.returns
+returns c =
+    (let s = c.args.standing.now in
+    c.is_any_kept.ensures
+    ∙ ap (list_any (λ a. is_of c.args.adapter c.args.oid.now a && not (is_over c.args.config.now a))) c.deref.ensures.value
+    ∙ sym (any_behind (λ a. is_of c.args.adapter c.args.oid.now a && not (is_over c.args.config.now a)) (second_fails (is_of c.args.adapter c.args.oid.now forgotten) _ refl) s.forgotten s.activations.items))

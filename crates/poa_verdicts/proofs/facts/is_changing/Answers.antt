@@ -1,0 +1,12 @@
+use Rattle.std.proofs.Common.{◌∙◌, ◌==◌, ◌&&◌, ap, sym, refl}
+use Rattle.poa_history.specs.Situations.{is_changing, is_unfinished}
+use Rattle.standing_queries.specs.Seen.{forgotten}
+use Rattle.standing_queries.proofs.Behind.{any_behind, second_fails}
+use Rattle.poa_verdicts.proofs.facts.is_changing.Goals as goal
+
+pub returns : goal.returns
+returns c =
+    (let s = c.args.standing.now in
+    c.is_any_changing.ensures
+    ∙ ap (λ as'. is_changing c.args.config.now as' c.args.adapter) c.deref.ensures.value
+    ∙ sym (any_behind (λ a. (a.adapter == c.args.adapter) && is_unfinished c.args.config.now a) (second_fails (forgotten.adapter == c.args.adapter) _ refl) s.forgotten s.activations.items))

@@ -1,0 +1,20 @@
+use Rattle.std.proofs.Common.{◌∙◌, not, ◌&&◌, Some, None, ap, ap₂, sym, refl}
+use Rattle.poa_choose.specs.declared.MapFact.TheVariants.{Active, Busy, Free}
+use Rattle.poa_history.specs.Ends.{is_over}
+use Rattle.poa_history.specs.Situations.{slot_of}
+use Rattle.poa_history.specs.Standings.{is_active, is_of}
+use Rattle.standing_queries.specs.Seen.{forgotten}
+use Rattle.standing_queries.proofs.Behind.{find_behind, second_fails}
+use Rattle.poa_verdicts.proofs.facts.slot_of.Goals as goal
+
+pub returns : goal.returns
+returns c =
+    (let s = c.args.standing.now in
+    let config = c.args.config.now in
+    let adapter = c.args.adapter in
+    let oid = c.args.oid.now in
+    c.slot_among.ensures
+    ∙ ap (λ as'. slot_of config as' adapter oid) c.deref.ensures.value
+    ∙ ap₂ (λ o p. elim o [ Some a ↦ Active a.number | None ↦ elim p [ Some a ↦ Busy a.number | None ↦ Free ] ])
+    (sym (find_behind (λ a. is_of adapter oid a && is_active a) (second_fails (is_of adapter oid forgotten) _ refl) s.forgotten s.activations.items))
+    (sym (find_behind (λ a. is_of adapter oid a && not (is_over config a)) (second_fails (is_of adapter oid forgotten) _ refl) s.forgotten s.activations.items)))

@@ -1,0 +1,3 @@
+mod OverTests
+mod WorkedOn
+pub mod Answering

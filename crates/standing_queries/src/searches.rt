@@ -1,0 +1,65 @@
+//! The activations that stand, searched.
+ghost use Rattle.std.specs.Prelude.{◌≡◌, ◌==◌, ◌&&◌, find, option_copied};
+ghost use Rattle.poa_history.specs.Standings as stands;
+ghost use Rattle.poa_history.specs.Turns as turns;
+ghost use Rattle.standing_queries.specs.Seen.{seen};
+
+use crate::activations::{has_servant, is_mapped};
+use crate::standing::Standing;
+use poa_base::Sid;
+use poa_history::Activation;
+
+/// The first of them that has the number.
+fn first_numbered(activations: &[Activation], number: u32) -> Option<&Activation>
+    ensures { option_copied result ≡ find (λ a. a.number == number) activations.now }
+{
+    activations
+        .iter()
+        .find(|activation| activation.number == number)
+}
+
+/// The activation of a number, where it isn't forgotten.
+pub fn activation_numbered(standing: &Standing, number: u32) -> Option<&Activation>
+    ensures { option_copied result ≡ turns.activation_numbered (seen standing.now) number }
+{
+    first_numbered(&standing.activations, number)
+}
+
+/// Whether the servant is in the map of the adapter by this activation.
+fn is_by(adapter: u32, servant: Sid, activation: &Activation) -> bool
+    ensures { result ≡ (activation.now.adapter == adapter) && (stands.is_mapped activation.now && stands.has_servant servant activation.now) }
+{
+    activation.adapter == adapter && (is_mapped(activation) && has_servant(servant, activation))
+}
+
+/// The first of them by which the servant is in the map of the adapter.
+fn first_mapped(activations: &[Activation], adapter: u32, servant: Sid) -> Option<&Activation>
+    ensures { option_copied result ≡ find (λ a. (a.adapter == adapter) && (stands.is_mapped a && stands.has_servant servant a)) activations.now }
+{
+    activations
+        .iter()
+        .find(|activation| is_by(adapter, servant, activation))
+}
+
+/// The first activation by which the servant is in the map of the adapter.
+pub fn mapped(standing: &Standing, adapter: u32, servant: Sid) -> Option<&Activation>
+    ensures { option_copied result ≡ find (λ a. (a.adapter == adapter) && (stands.is_mapped a && stands.has_servant servant a)) (seen standing.now).activations }
+{
+    first_mapped(&standing.activations, adapter, servant)
+}
+
+/// Whether the servant is in the map of the adapter by one of them.
+fn is_any_by(activations: &[Activation], adapter: u32, servant: Sid) -> bool
+    ensures { result ≡ stands.is_in_map activations.now adapter servant }
+{
+    activations
+        .iter()
+        .any(|activation| is_by(adapter, servant, activation))
+}
+
+/// Whether the servant is in the map of the adapter.
+pub fn is_in_map(standing: &Standing, adapter: u32, servant: Sid) -> bool
+    ensures { result ≡ stands.is_in_map (seen standing.now).activations adapter servant }
+{
+    is_any_by(&standing.activations, adapter, servant)
+}
