@@ -3,3 +3,6 @@ pub mod Placing
 pub mod Staging
 pub mod Queueing
 pub mod Taking
+mod Firsts
+mod Asking
+mod FreesAs

@@ -13,7 +13,7 @@ use Rattle.poa_history.proofs.IdsFew.{call_kept}
 use Rattle.arrival_tables.specs.Placed.{IsPlaceOf, KnowsCalls, entry_of, call_in, conn_in, arrives}
 
 -- beyond the arrivals there is no call
-call_beyond : (h : List Entry) (r : ℕ) → arrivals h ≤ r → call_of h r ≡ None
+pub call_beyond : (h : List Entry) (r : ℕ) → arrivals h ≤ r → call_of h r ≡ None
 call_beyond [] r beyond = refl
 call_beyond (Arrive conn size call ∷ past) r beyond =
     cond_both (r == arrivals past) (Some call) (call_of past r) (λ o. o ≡ None)

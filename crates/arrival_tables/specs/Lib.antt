@@ -1,5 +1,7 @@
 pub mod Numbers
+pub mod Firsts
 pub mod Placed
 pub mod Queued
 pub mod Begun
 pub mod Told
+pub mod Answered

@@ -4,14 +4,14 @@
 #![tactic(auto)]
 
 pub mod calls;
+mod freeing;
 mod known;
 mod ordered;
 pub mod queue;
-#[cfg(test)]
-mod tests;
 pub mod workers;
 
 pub use calls::Calls;
+pub use freeing::freed_by;
 pub use known::Known;
 pub use queue::Queue;
 pub use workers::Workers;

@@ -13,7 +13,8 @@ ghost use Rattle.poa_history.specs.Searches.{count_below};
 ghost use Rattle.poa_history.specs.Situations as situations;
 ghost use Rattle.poa_history.specs.Stages as begun;
 ghost use Rattle.standing_of.specs.Entries.{stage_at};
-ghost use Rattle.arrival_tables.specs.Queued.{IsQueue, HasPlace, call_tried, may_queue};
+ghost use Rattle.arrival_tables.specs.Queued.{IsQueue, HasPlace, call_tried};
+ghost use Rattle.held_queue.specs.Waiting.{is_waiting, may_queue};
 
 use crate::ordered::{has, insert, insert_if, push_if, remove};
 use poa_base::limits::UNADMITTED;
@@ -24,12 +25,13 @@ use standing_queries::workers::arrival_in;
 use std::alloc::Global;
 use std::collections::VecDeque;
 
-/// The arrivals that aren't admitted, in order; those of them that are requests or locates; and the arrivals
-/// that came when too many of these waited.
+/// The arrivals that aren't admitted, in order; those of them that are requests or locates, and those that are lines;
+/// and the arrivals that came when too many requests and locates waited.
 #[derive(Drop)]
 pub struct Queue {
     pub unadmitted: VecDeque<u64>,
     pub messages: VecDeque<u64>,
+    pub lines: VecDeque<u64>,
     pub crowded: VecDeque<u64>,
 }
 
@@ -40,6 +42,7 @@ pub fn empty(alloc: Global) -> Queue
     Queue {
         unadmitted: VecDeque::new(alloc),
         messages: VecDeque::new(alloc),
+        lines: VecDeque::new(alloc),
         crowded: VecDeque::new(alloc),
     }
 }
@@ -58,16 +61,25 @@ pub fn is_crowded(queue: &Queue, arrival: u64) -> bool
     has(&queue.crowded, arrival)
 }
 
+/// Whether a request or a locate waits to be admitted.
+pub fn waits(queue: &Queue, arrival: u64) -> bool
+    ensures { (h : List Entry) → IsQueue h queue.now → result ≡ is_waiting h arrival }
+{
+    has(&queue.messages, arrival)
+}
+
 /// Makes room for one call more.
 pub fn reserve(queue: &mut Queue) -> Result<(), WantMemory>
     ensures unadmitted { queue.new.unadmitted.items ≡ queue.old.unadmitted.items }
     ensures messages { queue.new.messages.items ≡ queue.old.messages.items }
+    ensures lines { queue.new.lines.items ≡ queue.old.lines.items }
     ensures crowded { queue.new.crowded.items ≡ queue.old.crowded.items }
     ensures kept { (h : List Entry) → IsQueue h queue.old → IsQueue h queue.new }
     ensures room { OnOk result (HasPlace queue.new) }
 {
     queue.unadmitted.reserve(1)?;
     queue.messages.reserve(1)?;
+    queue.lines.reserve(1)?;
     queue.crowded.reserve(1)?;
     Ok(())
 }
@@ -79,7 +91,9 @@ fn arrive(call: &Call, arrival: u64, queue: &mut Queue)
 {
     let crowded = queue.messages.len() as u64 >= UNADMITTED;
     queue.unadmitted.push_back_reserved(arrival);
-    push_if(is_message(Some(call)), &mut queue.messages, arrival);
+    let message = is_message(Some(call));
+    push_if(message, &mut queue.messages, arrival);
+    push_if(!message, &mut queue.lines, arrival);
     push_if(crowded, &mut queue.crowded, arrival);
 }
 
@@ -90,6 +104,7 @@ fn admit(arrival: u64, queue: &mut Queue)
 {
     remove(&mut queue.unadmitted, arrival);
     remove(&mut queue.messages, arrival);
+    remove(&mut queue.lines, arrival);
 }
 
 /// An arrival for which a child was made goes back to its place.
@@ -99,7 +114,9 @@ fn put_back(call: Option<&Call>, arrival: u64, queue: &mut Queue)
         → IsQueue past queue.old → IsQueue (entry_kinds.Tried w (attempt_kinds.Yes n) ∷ past) queue.new }
 {
     insert(&mut queue.unadmitted, arrival);
-    insert_if(is_message(call), &mut queue.messages, arrival);
+    let message = is_message(call);
+    insert_if(message, &mut queue.messages, arrival);
+    insert_if(!message, &mut queue.lines, arrival);
 }
 
 /// A trial made the child.

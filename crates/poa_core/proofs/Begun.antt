@@ -17,7 +17,7 @@ pub record IsNew (i : Inside) : Type 0 where
   pub numbered : i.run < 2 ^ 32
   pub limited : i.limit ≤ 4000000
   pub state : IsState i.config i.run (opened_in i) [] i.state
-  pub tables : KnowsTables [] i.tables
+  pub tables : KnowsTables i.config i.run [] i.tables
   pub owing : i.desk.owing.items ≡ []
   pub outbox : i.desk.outbox.items ≡ []
   pub room : HasRoom i.desk

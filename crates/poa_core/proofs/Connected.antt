@@ -54,6 +54,7 @@ left_room conn i kept open_ =
       entries = some_room (vec_len i.entries) (length i.desk.owing.items + length i.desk.outbox.items) (stay i.tables) (vec_capacity i.entries) (stay_open (history i) conn i.tables open_ kept.agrees.tables) kept.space;
       calls = λ is. absurd (let e : false ≡ true = is in cc);
       queue = λ is. absurd (let e : false ≡ true = is in cc);
+      held = λ is. absurd (let e : false ≡ true = is in cc);
       tally = tt;
       desk = kept.agrees.room;
     }

@@ -72,6 +72,7 @@ module _ (conn size : ℕ) (i : Inside) (kept : IsKept i) (unfilled : is_filled 
         entries = some_room (vec_len i.entries) (length i.desk.owing.items + length i.desk.outbox.items) (stay i.tables) (vec_capacity i.entries) (stay_unfilled (history i) i.tables unfilled kept.agrees.tables) kept.space;
         calls = λ is. absurd (let e : false ≡ true = is in cc);
         queue = λ is. absurd (let e : false ≡ true = is in cc);
+        held = λ is. absurd (let e : false ≡ true = is in cc);
         tally = tt;
         desk = kept.agrees.room;
       }

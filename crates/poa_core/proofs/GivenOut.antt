@@ -70,6 +70,7 @@ module _ (conn : ℕ) (i : Inside) (kept : IsKept i) (desk : Desk) (given : IsGi
           entries = some_room (vec_len i.entries) (length desk.owing.items + length desk.outbox.items) (stay i.tables) (vec_capacity i.entries) space_for_one;
           calls = λ is. absurd (let e : false ≡ true = is in cc);
           queue = λ is. absurd (let e : false ≡ true = is in cc);
+          held = λ is. absurd (let e : false ≡ true = is in cc);
           tally = tt;
           desk = given.room;
         }

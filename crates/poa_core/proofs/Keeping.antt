@@ -1,13 +1,14 @@
 -- The core is kept after an entry is noted.
-use Rattle.std.proofs.Common.{◌≡◌, ℕ, ◌+◌, ◌≤◌, true, false, if◌then◌else◌, List, ◌∷◌, length, refl, reverse, sym, ap, subst, vec_len, vec_capacity, arith}
+use Rattle.std.proofs.Common.{◌≡◌, ℕ, ◌+◌, ◌≤◌, true, false, if◌then◌else◌, List, ◌∷◌, length, refl, reverse, sym, ap, subst, ◌∙◌, vec_len, vec_capacity, arith}
 use Rattle.std.specs.Prelude.{option_copied}
 use Rattle.poa_base.specs.declared.Entry.{Entry}
 use Rattle.poa_base.specs.declared.Entry.TheVariants.{Entered, Arrive, Filled, Left, Collect, Admit, Tried, Incarnated, Run, Done, TakeOut, Etherealized, Abandon}
 use Rattle.poa_history.specs.declared.stage.Stage.{Stage}
 use Rattle.poa_history.specs.Arrivals.{arrivals}
-use Rattle.poa_history.specs.Changes.{standing}
+use Rattle.poa_history.specs.Stages.{stage}
 use Rattle.poa_history.specs.States.{servant_run}
 use Rattle.history_openings.specs.Runs.{IsRun}
+use Rattle.standing_queries.specs.Answers.{AnswersAs}
 use Rattle.standing_queries.specs.Seen.{seen}
 use Rattle.standing_of.specs.Entries.{stage_at}
 use Rattle.arrival_tables.specs.Placed.{KnowsCalls}
@@ -22,6 +23,7 @@ use Rattle.poa_core.specs.Agrees.{Agrees, KnowsTables, history, opened_in}
 use Rattle.poa_core.specs.Turning.{IsAsked, is_ending}
 use Rattle.poa_core.specs.Noting.{IsNoted}
 use Rattle.poa_core.specs.Kept.{IsKept, HasSpace, life, needed, stay}
+use Rattle.adapter_state.proofs.Stated.{answers_state}
 use Rattle.poa_core.proofs.Space.{stay_turned, stay_ended, turns_arrive_none}
 
 -- the history goes on by the entry
@@ -49,7 +51,7 @@ kept_then k e old new noted same less space =
 pub at_most : (a b k : ℕ) → a ≡ b → 1 ≤ k → a + 1 ≤ b + k
 at_most a b k is some = omega (arith, is, some)
 
-pub turn_kept : (e : Entry) (old new : Inside) → IsNoted e old new → is_turn e ≡ true → KnowsTables (history old) old.tables → HasSpace (needed e) old → IsKept new
+pub turn_kept : (e : Entry) (old new : Inside) → IsNoted e old new → is_turn e ≡ true → KnowsTables old.config old.run (history old) old.tables → HasSpace (needed e) old → IsKept new
 turn_kept e old new noted turn tables =
     elim (is_ending e) as (λ b. is_ending e ≡ b → HasSpace (if b then 0 else 2) old → IsKept new) [
       | true ↦ (λ ends space. kept_then 0 e old new noted (turns_arrive_none (history old) e turn)
@@ -71,11 +73,27 @@ runs_still e old new same = subst (λ (l : Life). IsRun l.config l.run l.limit (
 pub begun_still : (e : Entry) (begun : Stage) (old new : Inside) → life new ≡ life old → begun ≡ stage_at (history old) e → begun ≡ stage_at (history new) e
 begun_still e begun old new same = subst (λ (l : Life). begun ≡ stage_at l.history e) (sym same)
 
+-- what the worker of a turn had begun
+turn_stage : (past : List Entry) (e : Entry) → is_turn e ≡ true → (w : ℕ) × (stage_at past e ≡ stage past w)
+turn_stage past (Admit w r v) is = (w, refl)
+turn_stage past (Tried w a) is = (w, refl)
+turn_stage past (Incarnated w a) is = (w, refl)
+turn_stage past (Run w) is = (w, refl)
+turn_stage past (Done w) is = (w, refl)
+turn_stage past (TakeOut w n x) is = (w, refl)
+turn_stage past (Etherealized w x y) is = (w, refl)
+turn_stage past (Entered conn) is = absurd (let e : false ≡ true = is in cc)
+turn_stage past (Arrive conn size call) is = absurd (let e : false ≡ true = is in cc)
+turn_stage past (Filled conn size) is = absurd (let e : false ≡ true = is in cc)
+turn_stage past (Left conn) is = absurd (let e : false ≡ true = is in cc)
+turn_stage past (Collect conn a) is = absurd (let e : false ≡ true = is in cc)
+turn_stage past (Abandon w) is = absurd (let e : false ≡ true = is in cc)
+
 -- it comes with what the journal and the tables say of it
 pub asked_then : (old mid : Inside) (k : Coming) (es es' : List Entry) → es ≡ mid.entries.items → es' ≡ mid.entries.items → Agrees (history mid) mid → life mid ≡ life old
     → IsRun old.config old.run old.limit (k.entry.now ∷ history old) → is_turn k.entry.now ≡ true → k.stage ≡ stage_at (history old) k.entry.now
     → (KnowsCalls (reverse es) mid.tables.calls.places.items → k.stage ≡ stage_at (reverse es) k.entry.now → option_copied k.call ≡ call_at (reverse es) k.entry.now)
-    → (seen mid.state.standing ≡ standing mid.config mid.run (reverse es') → k.runs ≡ servant_run mid.config mid.run (reverse es') k.stage)
+    → ((w : ℕ) → AnswersAs mid.config mid.run (reverse es') (seen mid.state.standing) → k.stage ≡ stage (reverse es') w → k.runs ≡ servant_run mid.config mid.run (reverse es') k.stage)
     → IsAsked mid.config mid.run mid.limit (opened_in mid) (history mid) k mid.state
 asked_then old mid k es es' same same' agrees life_is follows turn begun_is called served =
     (let begun = begun_still k.entry.now k.stage old mid life_is begun_is in record {
@@ -83,7 +101,9 @@ asked_then old mid k es es' same same' agrees life_is follows turn begun_is call
       turn = turn;
       begun_is = begun;
       call_is = subst (λ (xs : List Entry). KnowsCalls (reverse xs) mid.tables.calls.places.items → k.stage ≡ stage_at (reverse xs) k.entry.now → option_copied k.call ≡ call_at (reverse xs) k.entry.now) same called agrees.tables.calls begun;
-      servant_is = subst (λ (xs : List Entry). seen mid.state.standing ≡ standing mid.config mid.run (reverse xs) → k.runs ≡ servant_run mid.config mid.run (reverse xs) k.stage) same' served agrees.state.stands;
+      servant_is = (let by = turn_stage (history mid) k.entry.now turn in
+          subst (λ (xs : List Entry). (w : ℕ) → AnswersAs mid.config mid.run (reverse xs) (seen mid.state.standing) → k.stage ≡ stage (reverse xs) w → k.runs ≡ servant_run mid.config mid.run (reverse xs) k.stage) same' served by.0
+          (answers_state mid.config mid.run mid.limit (opened_in mid) (history mid) mid.state agrees.runs agrees.state) (begun ∙ by.1));
       state = agrees.state;
     })
 

@@ -7,6 +7,7 @@ use Rattle.poa_base.specs.declared.Entry.{Entry}
 use Rattle.poa_history.specs.declared.stage.Stage.{Stage}
 use Rattle.standing_queries.specs.Seen.{seen}
 use Rattle.call_tables.specs.Desk.{Comes}
+use Rattle.adapter_state.proofs.Stated.{answers_state}
 use Rattle.poa_core.specs.declared.inside.Inside.{Inside}
 use Rattle.poa_core.specs.declared.turning.Brought.{Brought}
 use Rattle.run_history.specs.Life.{Life, with_entry}
@@ -23,7 +24,7 @@ desk_comes h e begun b i half =
       past = h;
       manned = manned_before i.config i.run i.limit h e half.follows;
       legal = half.follows.legal;
-      stands = half.state.stands;
+      stands = answers_state i.config i.run i.limit (opened_in i) (e ∷ h) i.state half.follows half.state;
       decides = half.brought.decides;
       waits = half.brought.waits;
       orders = half.brought.orders;

@@ -1,5 +1,5 @@
 -- An entry that is no turn of a worker changes nothing that stands, and decides nothing by itself.
-use Rattle.std.proofs.Common.{◌≡◌, ℕ, true, false, List, ◌∷◌, None, refl, sym, ◌∙◌}
+use Rattle.std.proofs.Common.{◌≡◌, ℕ, true, false, List, ◌∷◌, None, refl}
 use Rattle.poa_base.specs.declared.Call.{Call}
 use Rattle.poa_base.specs.declared.Config.{Config}
 use Rattle.poa_base.specs.declared.Reply.TheVariants.{Addressing}
@@ -9,6 +9,8 @@ use Rattle.poa_history.specs.declared.stage.Stage.TheVariants.{Free}
 use Rattle.poa_history.specs.States.{Stored}
 use Rattle.history_openings.specs.Runs.{IsRun}
 use Rattle.history_openings.proofs.Opened.{given, within}
+use Rattle.standing_queries.specs.Seen.{seen}
+use Rattle.history_holds.specs.Frees.{nothing, freed_by}
 use Rattle.standing_of.specs.Entries.{stage_at, changes_nothing}
 use Rattle.standing_of.proofs.Settled.{nothing_changed}
 use Rattle.adapter_settings.specs.declared.settings.Settings.{Settings}
@@ -20,6 +22,7 @@ use Rattle.call_tables.specs.Desk.{WaitIs}
 use Rattle.call_tables.specs.Waits.{ordered_by}
 use Rattle.adapter_state.specs.declared.state.State.{State}
 use Rattle.adapter_state.specs.State.{IsState, is_turn}
+use Rattle.adapter_state.proofs.Stated.{kept_still}
 use Rattle.poa_core.specs.declared.inside.Inside.{Inside}
 use Rattle.poa_core.specs.Agrees.{opened_in}
 use Rattle.poa_core.specs.Noting.{IsHalfway}
@@ -64,22 +67,25 @@ waits_none c run h = by_still (λ e. WaitIs c run h e None) (λ _. tt) (λ _ _ _
 orders_none : (c : Config) (h : List Entry) (e : Entry) → is_turn e ≡ false → None ≡ ordered_by c h e
 orders_none c h = by_still (λ e. None ≡ ordered_by c h e) (λ _. refl) (λ _ _ _. refl) (λ _ _. refl) (λ _. refl) (λ _ _. refl) (λ _. refl)
 
+frees_none : (c : Config) (run : ℕ) (h : List Entry) (e : Entry) → is_turn e ≡ false → nothing ≡ freed_by c run h e
+frees_none c run h = by_still (λ e. nothing ≡ freed_by c run h e) (λ _. refl) (λ _ _ _. refl) (λ _ _. refl) (λ _. refl) (λ _ _. refl) (λ _. refl)
+
 pub quiet_state : (c : Config) (run limit : ℕ) (opened : Stored) (h : List Entry) (e : Entry) (s : State) → IsRun c run limit (e ∷ h) → is_turn e ≡ false → IsState c run opened h s → IsState c run opened (e ∷ h) s
 quiet_state c run limit opened h e s follows still state =
     record {
-      stands = state.stands ∙ sym (nothing_changed c run h e (nothing_by e still));
+      stands = kept_still c run h e (seen s.standing) (nothing_changed c run h e (nothing_by e still)) state.stands;
       set = same_set c h e s.settings still state.set;
       held = quiet_holds c run limit opened h e (given c run limit (e ∷ h) follows) (within c run limit (e ∷ h) follows) follows.legal (quiet_by e still) (kept_in s.servants) state.held;
     }
 
 -- it comes to be noted
-pub quiet_halfway : (h : List Entry) (e : Entry) (i : Inside) → IsQuiet h e i → IsHalfway h e Free (record { decision = record { target = None; reply = Addressing }; wait = None; ordered = None }) i
+pub quiet_halfway : (h : List Entry) (e : Entry) (i : Inside) → IsQuiet h e i → IsHalfway h e Free (record { decision = record { target = None; reply = Addressing }; wait = None; ordered = None; freed = nothing }) i
 quiet_halfway h e i quiet =
     record {
       follows = quiet.follows;
       begun_is = begins_free h e quiet.still;
       state = quiet_state i.config i.run i.limit (opened_in i) h e i.state quiet.follows quiet.still quiet.state;
-      brought = record { decides = decides_none i.config i.run (opened_in i) h e quiet.still; waits = waits_none i.config i.run h e quiet.still; orders = orders_none i.config h e quiet.still };
+      brought = record { decides = decides_none i.config i.run (opened_in i) h e quiet.still; waits = waits_none i.config i.run h e quiet.still; orders = orders_none i.config h e quiet.still; frees = frees_none i.config i.run h e quiet.still };
       tables = quiet.tables;
       owed = quiet.owed;
       left = quiet.left;

@@ -19,8 +19,8 @@ use Rattle.poa_core.proofs.Space.{stay_is, stay_ending}
 -- one that only ends what was begun has had its room since then
 pub ending_room : (e : Entry) (i : Inside) → IsKept i → IsRun i.config i.run i.limit (e ∷ history i) → is_ending e ≡ true → HasRoomForEntry e i
 ending_room e i kept follows ends =
-    by_ending (λ x. vec_len i.entries < vec_capacity i.entries → HasRoomForEntry x i) (λ w some. record { entries = some; calls = none_ _; queue = none_ _; tally = tt; desk = kept.agrees.room })
-    (λ w x y some. record { entries = some; calls = none_ _; queue = none_ _; tally = tt; desk = kept.agrees.room }) e ends
+    by_ending (λ x. vec_len i.entries < vec_capacity i.entries → HasRoomForEntry x i) (λ w some. record { entries = some; calls = none_ _; queue = none_ _; held = none_ _; tally = tt; desk = kept.agrees.room })
+    (λ w x y some. record { entries = some; calls = none_ _; queue = none_ _; held = none_ _; tally = tt; desk = kept.agrees.room }) e ends
     (some_room (vec_len i.entries) (length i.desk.owing.items + length i.desk.outbox.items) (stay i.tables) (vec_capacity i.entries)
     (stay_ending i.config i.run i.limit (history i) e i.tables follows.legal.0 ends kept.agrees.tables) kept.space)
   where
@@ -34,7 +34,7 @@ pub ready_space : (e : Entry) (i : Inside) → is_ending e ≡ false → HasSpac
 ready_space e i begins = subst (λ b. HasSpace (if b then 0 else 2) i) (sym begins)
 
 -- what is kept stays so where tables and desk have more room, and the journal as much at least
-pub kept_again : (i : Inside) (t : Tables) (d : Desk) → IsKept i → ((h : List Entry) → KnowsTables h i.tables → KnowsTables h t)
+pub kept_again : (i : Inside) (t : Tables) (d : Desk) → IsKept i → ((h : List Entry) → KnowsTables i.config i.run h i.tables → KnowsTables i.config i.run h t)
     → d.owing.items ≡ i.desk.owing.items → d.outbox.items ≡ i.desk.outbox.items → HasRoom d → IsKept (record i { tables = t; desk = d })
 kept_again i t d kept same owing outbox room =
     (let a = kept.agrees in let tables = same (history i) a.tables in record {

@@ -137,17 +137,17 @@ tally_unfilled : (h : List Entry) (t : Tally) → is_filled h ≡ false → IsTa
 tally_unfilled h t fresh old = (let a = tally_is h t old in let less : unless (is_filled h) ≡ 1 = ap unless fresh in omega (arith, a, less))
 
 -- what is kept for workers, as entries follow
-workers_same : (h : List Entry) (e : Entry) (t u : Tables) → is_conn e ≡ true → KnowsTables h t → KnowsTables (e ∷ h) u → by_workers u.workers ≡ by_workers t.workers
+workers_same : {c c' : Config} {run run' : ℕ} (h : List Entry) (e : Entry) (t u : Tables) → is_conn e ≡ true → KnowsTables c run h t → KnowsTables c' run' (e ∷ h) u → by_workers u.workers ≡ by_workers t.workers
 workers_same h e t u conn old new = workers_is (e ∷ h) u.workers new.workers ∙ conns_keep h e conn ∙ sym (workers_is h t.workers old.workers)
 
-pub stay_is : (h : List Entry) (t : Tables) → KnowsTables h t → stay t ≡ conns_of h + by_history h
+pub stay_is : {c : Config} {run : ℕ} (h : List Entry) (t : Tables) → KnowsTables c run h t → stay t ≡ conns_of h + by_history h
 stay_is h t is = ap₂ (λ a b. a + b) (tally_is h t.tally is.tally) (workers_is h t.workers is.workers)
 
 -- a call that arrives, and a reply that is collected, leave all else
-pub stay_after : (h : List Entry) (e : Entry) (t u : Tables) → keeps_conns e ≡ true → is_conn e ≡ true → KnowsTables h t → KnowsTables (e ∷ h) u → stay u ≡ stay t
+pub stay_after : {c c' : Config} {run run' : ℕ} (h : List Entry) (e : Entry) (t u : Tables) → keeps_conns e ≡ true → is_conn e ≡ true → KnowsTables c run h t → KnowsTables c' run' (e ∷ h) u → stay u ≡ stay t
 stay_after h e t u keeps conn old new = ap₂ (λ a b. a + b) (tally_after h e t.tally u.tally keeps old.tally new.tally) (workers_same h e t u conn old new)
 
-pub stay_entered : (h : List Entry) (conn : ℕ) (t u : Tables) → KnowsTables h t → KnowsTables (Entered conn ∷ h) u → stay u ≤ stay t + 1
+pub stay_entered : {c c' : Config} {run run' : ℕ} (h : List Entry) (conn : ℕ) (t u : Tables) → KnowsTables c run h t → KnowsTables c' run' (Entered conn ∷ h) u → stay u ≤ stay t + 1
 stay_entered h conn t u old new =
     sums _ _ _ _ (tally_entered h conn t.tally u.tally old.tally new.tally) (workers_same h (Entered conn) t u refl old new)
   where
@@ -160,24 +160,24 @@ less_by a b c d less same = omega (arith, less, same)
 some_of : (a b : ℕ) → 1 ≤ a → 1 ≤ a + b
 some_of a b some = omega (arith, some)
 
-pub stay_filled : (h : List Entry) (conn size : ℕ) (t u : Tables) → is_filled h ≡ false → KnowsTables h t → KnowsTables (Filled conn size ∷ h) u → stay u + 1 ≡ stay t
+pub stay_filled : {c c' : Config} {run run' : ℕ} (h : List Entry) (conn size : ℕ) (t u : Tables) → is_filled h ≡ false → KnowsTables c run h t → KnowsTables c' run' (Filled conn size ∷ h) u → stay u + 1 ≡ stay t
 stay_filled h conn size t u fresh old new =
     less_by (by_connections u.tally) (by_connections t.tally) (by_workers u.workers) (by_workers t.workers)
     (tally_filled h conn size t.tally u.tally fresh old.tally new.tally) (workers_same h (Filled conn size) t u refl old new)
 
-pub stay_left : (h : List Entry) (conn : ℕ) (t u : Tables) → IsOpen h conn → KnowsTables h t → KnowsTables (Left conn ∷ h) u → stay u + 1 ≡ stay t
+pub stay_left : {c c' : Config} {run run' : ℕ} (h : List Entry) (conn : ℕ) (t u : Tables) → IsOpen h conn → KnowsTables c run h t → KnowsTables c' run' (Left conn ∷ h) u → stay u + 1 ≡ stay t
 stay_left h conn t u open_ old new =
     less_by (by_connections u.tally) (by_connections t.tally) (by_workers u.workers) (by_workers t.workers)
     (tally_left h conn t.tally u.tally open_ old.tally new.tally) (workers_same h (Left conn) t u refl old new)
 
-pub stay_open : (h : List Entry) (conn : ℕ) (t : Tables) → IsOpen h conn → KnowsTables h t → 1 ≤ stay t
+pub stay_open : {c : Config} {run : ℕ} (h : List Entry) (conn : ℕ) (t : Tables) → IsOpen h conn → KnowsTables c run h t → 1 ≤ stay t
 stay_open h conn t open_ old = some_of (by_connections t.tally) (by_workers t.workers) (tally_open h conn t.tally open_ old.tally)
 
-pub stay_unfilled : (h : List Entry) (t : Tables) → is_filled h ≡ false → KnowsTables h t → 1 ≤ stay t
+pub stay_unfilled : {c : Config} {run : ℕ} (h : List Entry) (t : Tables) → is_filled h ≡ false → KnowsTables c run h t → 1 ≤ stay t
 stay_unfilled h t fresh old = some_of (by_connections t.tally) (by_workers t.workers) (tally_unfilled h t.tally fresh old.tally)
 
 -- a worker's entry begins at most what takes one entry to end
-pub stay_turned : (h : List Entry) (e : Entry) (t u : Tables) → is_turn e ≡ true → KnowsTables h t → KnowsTables (e ∷ h) u → stay u ≤ stay t + 1
+pub stay_turned : {c c' : Config} {run run' : ℕ} (h : List Entry) (e : Entry) (t u : Tables) → is_turn e ≡ true → KnowsTables c run h t → KnowsTables c' run' (e ∷ h) u → stay u ≤ stay t + 1
 stay_turned h e t u turn old new =
     sums _ _ _ _ _ _ (tally_after h e t.tally u.tally (turns_keep e turn) old.tally new.tally) (workers_is h t.workers old.workers) (workers_is (e ∷ h) u.workers new.workers) (turns_add h e turn)
   where
@@ -185,14 +185,14 @@ stay_turned h e t u turn old new =
     sums a b c d c' d' same old new more = omega (arith, same, old, new, more)
 
 -- one that only ends something takes the room that was kept for it
-pub stay_ended : (c : Config) (run limit : ℕ) (h : List Entry) (e : Entry) (t u : Tables) → MayFollow c run limit h e → is_turn e ≡ true → is_ending e ≡ true → KnowsTables h t → KnowsTables (e ∷ h) u → stay u + 1 ≡ stay t
+pub stay_ended : {d d' : Config} {r r' : ℕ} (c : Config) (run limit : ℕ) (h : List Entry) (e : Entry) (t u : Tables) → MayFollow c run limit h e → is_turn e ≡ true → is_ending e ≡ true → KnowsTables d r h t → KnowsTables d' r' (e ∷ h) u → stay u + 1 ≡ stay t
 stay_ended c run limit h e t u may turn ends old new =
     sums _ _ _ _ _ _ (tally_after h e t.tally u.tally (turns_keep e turn) old.tally new.tally) (workers_is h t.workers old.workers) (workers_is (e ∷ h) u.workers new.workers) (endings_take c run limit h e may ends)
   where
     sums : (a b c d c' d' : ℕ) → a ≡ b → d ≡ d' → c ≡ c' → c' + 1 ≡ d' → a + c + 1 ≡ b + d
     sums a b c d c' d' same old new less = omega (arith, same, old, new, less)
 
-pub stay_ending : (c : Config) (run limit : ℕ) (h : List Entry) (e : Entry) (t : Tables) → MayFollow c run limit h e → is_ending e ≡ true → KnowsTables h t → 1 ≤ stay t
+pub stay_ending : {d : Config} {r : ℕ} (c : Config) (run limit : ℕ) (h : List Entry) (e : Entry) (t : Tables) → MayFollow c run limit h e → is_ending e ≡ true → KnowsTables d r h t → 1 ≤ stay t
 stay_ending c run limit h e t may ends old =
     sums _ _ _ (by_connections t.tally) (workers_is h t.workers old.workers) (endings_take c run limit h e may ends)
   where
@@ -200,14 +200,14 @@ stay_ending c run limit h e t may ends old =
     sums w w' v a same less = omega (arith, same, less)
 
 -- a worker that gives up takes the room that was kept for that
-pub stay_abandoned : (h : List Entry) (v : ℕ) (t u : Tables) → v < 16 → is_abandoned h v ≡ false → KnowsTables h t → KnowsTables (Abandon v ∷ h) u → stay u + 1 ≡ stay t
+pub stay_abandoned : {c c' : Config} {run run' : ℕ} (h : List Entry) (v : ℕ) (t u : Tables) → v < 16 → is_abandoned h v ≡ false → KnowsTables c run h t → KnowsTables c' run' (Abandon v ∷ h) u → stay u + 1 ≡ stay t
 stay_abandoned h v t u low going old new =
     sums _ _ _ _ _ _ (tally_after h (Abandon v) t.tally u.tally refl old.tally new.tally) (workers_is h t.workers old.workers) (workers_is (Abandon v ∷ h) u.workers new.workers) (abandon_takes h v low going)
   where
     sums : (a b c d c' d' : ℕ) → a ≡ b → d ≡ d' → c ≡ c' → c' + 1 ≡ d' → a + c + 1 ≡ b + d
     sums a b c d c' d' same old new less = omega (arith, same, old, new, less)
 
-pub stay_going : (h : List Entry) (v : ℕ) (t : Tables) → v < 16 → is_abandoned h v ≡ false → KnowsTables h t → 1 ≤ stay t
+pub stay_going : {c : Config} {run : ℕ} (h : List Entry) (v : ℕ) (t : Tables) → v < 16 → is_abandoned h v ≡ false → KnowsTables c run h t → 1 ≤ stay t
 stay_going h v t low going old =
     sums _ _ _ (by_connections t.tally) (workers_is h t.workers old.workers) (abandon_takes h v low going)
   where

@@ -16,6 +16,8 @@ use Rattle.poa_history.proofs.MannedKept.{all_manned}
 use Rattle.poa_history.proofs.TurnTells.{trial_is, incarnation_is, run_is, done_is, takeout_is, removal_is}
 use Rattle.history_openings.specs.Runs.{IsRun}
 use Rattle.history_openings.proofs.Opened.{given, alone, within}
+use Rattle.standing_queries.specs.Answers.{AnswersAs}
+use Rattle.standing_queries.specs.Seen.{seen}
 use Rattle.standing_of.specs.Entries.{stage_at}
 use Rattle.adapter_settings.specs.declared.settings.Settings.{Settings}
 use Rattle.adapter_settings.specs.Told.{Tells as SettingsTell}
@@ -25,6 +27,7 @@ use Rattle.call_replies.specs.Comes.{Comes, HasOutcome, call_at}
 use Rattle.adapter_state.specs.declared.coming.Coming.{Coming}
 use Rattle.adapter_state.specs.State.{IsNext, call_spoken, is_turn, outcome_of}
 use Rattle.adapter_state.specs.declared.state.State.{State}
+use Rattle.adapter_state.proofs.Stated.{answers_state, earlier}
 use Rattle.poa_core.specs.Turning.{IsAsked, call_in, is_run}
 
 pub at_ok : {T E : Type 0} {P : Type 0} (r : Result T E) → P → OnOk r P
@@ -87,6 +90,10 @@ told_before : (c : Config) (past : List Entry) (w : ℕ) (settings : Settings) �
 told_before c past w settings is = record { managed = is.managed; states = is.states; presets = is.presets; endpoints = is.endpoints }
 
 module _ (c : Config) (run limit : ℕ) (opened : Stored) (past : List Entry) (k : Coming) (s : State) (asked : IsAsked c run limit opened past k s) where
+  -- what is kept before it answers as what stands
+  pub asked_answers : AnswersAs c run past (seen s.standing)
+  asked_answers = answers_state c run limit opened past s (earlier c run limit past k.entry.now asked.follows) asked.state
+
   -- what the entry changes comes next, with the call that it admits or runs
   pub next_with : (x : Option (Bor Call)) → option_copied x ≡ call_in k.entry.now (option_copied k.call) → IsNext c run limit opened past (record k { call = x }) s
   next_with x is =

@@ -1,11 +1,13 @@
 -- What the core keeps says what its history says.
-use Rattle.std.specs.Prelude.{List, reverse}
+use Rattle.std.specs.Prelude.{ℕ, List, reverse}
 use Rattle.poa_base.specs.Store.{stored as stored_in}
+use Rattle.poa_base.specs.declared.Config.{Config}
 use Rattle.poa_base.specs.declared.Entry.{Entry}
 use Rattle.poa_history.specs.States.{Stored}
 use Rattle.history_openings.specs.Runs.{IsRun}
 use Rattle.arrival_tables.specs.Placed.{KnowsCalls}
 use Rattle.arrival_tables.specs.Queued.{IsQueue}
+use Rattle.held_queue.specs.Held.{AreHeld}
 use Rattle.arrival_tables.specs.Begun.{KnowsWorkers}
 use Rattle.run_tally.specs.Tallies.{IsTally}
 use Rattle.call_tables.specs.Owed.{AreOwed}
@@ -15,9 +17,10 @@ use Rattle.adapter_state.specs.State.{IsState}
 use Rattle.poa_core.specs.declared.tables.Tables.{Tables}
 use Rattle.poa_core.specs.declared.inside.Inside.{Inside}
 
-pub record KnowsTables (h : List Entry) (t : Tables) : Type 0 where
+pub record KnowsTables (c : Config) (run : ℕ) (h : List Entry) (t : Tables) : Type 0 where
   pub calls : KnowsCalls h t.calls.places.items
   pub queue : IsQueue h t.queue
+  pub held : AreHeld c run h t.held
   pub workers : KnowsWorkers h t.workers
   pub tally : IsTally h t.tally
 
@@ -27,7 +30,7 @@ opened_in i = stored_in i.opening
 pub record Agrees (h : List Entry) (i : Inside) : Type 0 where
   pub runs : IsRun i.config i.run i.limit h
   pub state : IsState i.config i.run (opened_in i) h i.state
-  pub tables : KnowsTables h i.tables
+  pub tables : KnowsTables i.config i.run h i.tables
   pub owed : AreOwed i.config i.run h i.desk.owing.items
   pub filed : AreFiled i.config i.run (opened_in i) h i.desk.outbox.items
   pub room : HasRoom i.desk

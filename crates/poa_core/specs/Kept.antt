@@ -11,6 +11,7 @@ use Rattle.call_tables.specs.Desk.{AreLeft, HasRoomForOne}
 use Rattle.arrival_tables.specs.declared.workers.Workers.{Workers}
 use Rattle.arrival_tables.specs.Begun.{only_ends}
 use Rattle.arrival_tables.specs.Queued.{HasPlace}
+use Rattle.held_queue.specs.Numbers.{HasRoom as HasRoomForCall}
 use Rattle.poa_core.specs.declared.inside.Inside.{Inside}
 use Rattle.poa_core.specs.declared.tables.Tables.{Tables}
 use Rattle.run_history.specs.Life.{Life}
@@ -58,6 +59,7 @@ pub record IsReady (i : Inside) : Type 0 where
   pub space : HasSpace 2 i
   pub calls : vec_len i.tables.calls.places + 1 ≤ vec_capacity i.tables.calls.places
   pub queue : HasPlace i.tables.queue
+  pub held : HasRoomForCall i.tables.held.ready.heap
   pub tally : HasRoomForConnection i.tables.tally
   pub desk : HasRoomForOne i.desk
 
@@ -79,6 +81,6 @@ pub record IsQuiet (h : List Entry) (e : Entry) (i : Inside) : Type 0 where
   pub follows : IsRun i.config i.run i.limit (e ∷ h)
   pub still : is_turn e ≡ false
   pub state : IsState i.config i.run (opened_in i) h i.state
-  pub tables : KnowsTables h i.tables
+  pub tables : KnowsTables i.config i.run h i.tables
   pub owed : AreOwed i.config i.run h i.desk.owing.items
   pub left : AreLeft i.config i.run (opened_in i) h e i.desk.outbox.items

@@ -9,7 +9,9 @@ use Rattle.poa_history.specs.Arrivals.{arrivals}
 use Rattle.call_tables.specs.Decided.{AreFiled}
 use Rattle.call_tables.specs.Desk.{AreLeft, AreOwedBefore, HasRoom, HasRoomForOne}
 use Rattle.arrival_tables.specs.Placed.{arrives}
-use Rattle.arrival_tables.specs.Queued.{HasPlace, may_queue}
+use Rattle.arrival_tables.specs.Queued.{HasPlace}
+use Rattle.held_queue.specs.Numbers.{HasRoom as HasRoomForCall}
+use Rattle.held_queue.specs.Waiting.{may_queue}
 use Rattle.run_tally.specs.Tallies.{HasRoomFor}
 use Rattle.adapter_state.specs.State.{IsState}
 use Rattle.poa_core.specs.declared.inside.Inside.{Inside}
@@ -24,6 +26,7 @@ pub record HasRoomForEntry (e : Entry) (i : Inside) : Type 0 where
   pub entries : vec_len i.entries < vec_capacity i.entries
   pub calls : arrives e ≡ true → vec_len i.tables.calls.places < vec_capacity i.tables.calls.places
   pub queue : may_queue e ≡ true → HasPlace i.tables.queue
+  pub held : may_queue e ≡ true → HasRoomForCall i.tables.held.ready.heap
   pub tally : HasRoomFor e i.tables.tally
   pub desk : HasRoom i.desk
 
@@ -33,7 +36,7 @@ pub record IsHalfway (h : List Entry) (e : Entry) (begun : Stage) (b : Brought) 
   pub begun_is : begun ≡ stage_at h e
   pub state : IsState i.config i.run (opened_in i) (e ∷ h) i.state
   pub brought : IsBrought i.config i.run (opened_in i) h e b
-  pub tables : KnowsTables h i.tables
+  pub tables : KnowsTables i.config i.run h i.tables
   pub owed : AreOwed i.config i.run h i.desk.owing.items
   pub left : AreLeft i.config i.run (opened_in i) h e i.desk.outbox.items
 
@@ -41,7 +44,7 @@ pub record IsHalfway (h : List Entry) (e : Entry) (begun : Stage) (b : Brought) 
 pub record IsNoted (e : Entry) (old new : Inside) : Type 0 where
   pub runs : IsRun new.config new.run new.limit (e ∷ history old)
   pub state : IsState new.config new.run (opened_in new) (e ∷ history old) new.state
-  pub tables : KnowsTables (e ∷ history old) new.tables
+  pub tables : KnowsTables new.config new.run (e ∷ history old) new.tables
   pub before : AreOwedBefore new.config new.run (history old) e new.desk.owing.items
   pub owed : arrivals (e ∷ history old) ≡ arrivals (history old) → AreOwed new.config new.run (e ∷ history old) new.desk.owing.items
   pub filed : AreFiled new.config new.run (opened_in new) (e ∷ history old) new.desk.outbox.items

@@ -7,6 +7,7 @@ use Rattle.poa_base.specs.declared.Entry.TheVariants.{Admit, Run, Done, Ethereal
 use Rattle.poa_history.specs.States.{Stored, servant_run}
 use Rattle.history_openings.specs.Runs.{IsRun}
 use Rattle.standing_of.specs.Entries.{stage_at}
+use Rattle.history_holds.specs.Frees.{freed_by}
 use Rattle.call_tables.specs.Decided.{Decides}
 use Rattle.call_tables.specs.Desk.{WaitIs}
 use Rattle.call_tables.specs.Waits.{ordered_by}
@@ -46,3 +47,4 @@ pub record IsBrought (c : Config) (run : ℕ) (opened : Stored) (past : List Ent
   pub decides : Decides c run opened past e b.decision.target b.decision.reply
   pub waits : WaitIs c run past e b.wait
   pub orders : b.ordered ≡ ordered_by c past e
+  pub frees : b.freed ≡ freed_by c run past e

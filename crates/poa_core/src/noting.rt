@@ -18,6 +18,7 @@ pub fn note(inside: &mut Inside, entry: Entry, stage: Stage, brought: Brought)
         decision,
         wait,
         ordered,
+        freed,
     } = brought;
     call_tables::advance(
         &inside.config,
@@ -29,6 +30,6 @@ pub fn note(inside: &mut Inside, entry: Entry, stage: Stage, brought: Brought)
         ordered,
         &mut inside.desk,
     );
-    tables::advance(&entry, &inside.entries, stage, &mut inside.tables);
+    tables::advance(&entry, &inside.entries, stage, freed, &mut inside.tables);
     inside.entries.push_reserved(entry);
 }

@@ -7,6 +7,7 @@ use crate::inside::Inside;
 use crate::noting::note;
 use crate::turning::Brought;
 use call_replies::Decision;
+use history_holds::Freed;
 use poa_base::{Entry, Reply};
 use poa_history::Stage;
 
@@ -23,6 +24,7 @@ pub fn quiet(inside: &mut Inside, entry: Entry)
         },
         wait: None,
         ordered: None,
+        freed: Freed::nothing(),
     };
     note(inside, entry, Stage::Free, brought);
 }

@@ -28,11 +28,13 @@ fn point_of(stage: Stage) -> Point
 }
 
 /// The entry that a worker makes next.
-fn next(inside: &Inside, worker: u32) -> Result<Option<Entry>, WantMemory>
-    requires kept { IsKept inside.now }
+fn next(inside: &mut Inside, worker: u32) -> Result<Option<Entry>, WantMemory>
+    requires kept { IsKept inside.old }
     requires worker { worker < 16 }
-    ensures next { IfOk result (λ entry. entry ≡ turn inside.now.config inside.now.run (history inside.now) worker) }
-    ensures ends { only_ends (begun.stage (history inside.now) worker) ≡ true → IsOk result }
+    ensures next { IfOk result (λ entry. entry ≡ turn inside.new.config inside.new.run (history inside.new) worker) }
+    ensures ends { only_ends (begun.stage (history inside.new) worker) ≡ true → IsOk result }
+    ensures kept { IsKept inside.new }
+    ensures same { life inside.new ≡ life inside.old }
 {
     let known = Known {
         config: &inside.config,
@@ -43,7 +45,12 @@ fn next(inside: &Inside, worker: u32) -> Result<Option<Entry>, WantMemory>
         standing: &inside.state.standing,
         settings: &inside.state.settings,
     };
-    known.next(inside.alloc, &inside.tables.workers, worker)
+    known.next(
+        inside.alloc,
+        &inside.tables.workers,
+        worker,
+        &mut inside.tables.held,
+    )
 }
 
 /// A worker below 16 makes its next entry; or nothing changes. What was begun can always be ended.

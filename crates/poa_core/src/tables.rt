@@ -5,32 +5,39 @@ ghost use Rattle.poa_base.specs.declared.Entry.{Entry as EntryOf};
 ghost use Rattle.history_openings.specs.Runs.{IsRun};
 ghost use Rattle.standing_of.specs.Entries.{stage_at};
 ghost use Rattle.arrival_tables.specs.Placed.{arrives};
-ghost use Rattle.arrival_tables.specs.Queued.{HasPlace, may_queue};
+ghost use Rattle.arrival_tables.specs.Queued.{HasPlace};
+ghost use Rattle.history_holds.specs.Frees.{freed_by};
+ghost use Rattle.held_queue.specs.Numbers.{HasRoom};
+ghost use Rattle.held_queue.specs.Waiting.{may_queue};
 ghost use Rattle.run_tally.specs.Tallies.{HasRoomFor, HasRoomForOne};
 ghost use Rattle.poa_core.specs.Agrees.{KnowsTables};
 
 use arrival_tables::{Calls, Queue, Workers, calls, queue, workers};
+use held_queue::HeldQueue;
+use history_holds::Freed;
 use poa_base::{Entry, WantMemory};
 use poa_history::Stage;
 use run_tally::Tally;
 use std::alloc::Global;
 
-/// Where each call arrived, which calls wait, what each worker has begun, and what was counted.
+/// Where each call arrived, which calls wait and what holds them, what each worker has begun, and what was counted.
 #[derive(Drop)]
 pub struct Tables {
     pub calls: Calls,
     pub queue: Queue,
+    pub held: HeldQueue,
     pub workers: Workers,
     pub tally: Tally,
 }
 
 /// The tables of a run that hasn't begun.
 pub fn none(alloc: Global) -> Result<Tables, WantMemory>
-    ensures { IfOk result (λ tables. KnowsTables [] tables) }
+    ensures { (c : Config) (run : ℕ) → IfOk result (λ tables. KnowsTables c run [] tables) }
 {
     Ok(Tables {
         calls: calls::none(alloc),
         queue: queue::empty(alloc),
+        held: HeldQueue::empty(alloc),
         workers: workers::all_free(alloc)?,
         tally: run_tally::none(alloc),
     })
@@ -38,29 +45,33 @@ pub fn none(alloc: Global) -> Result<Tables, WantMemory>
 
 /// Makes room for a connection or a call; all else is as it was.
 pub fn reserve(tables: &mut Tables) -> Result<(), WantMemory>
-    ensures same { (h : List EntryOf) → KnowsTables h tables.old → KnowsTables h tables.new }
+    ensures same { (c : Config) (run : ℕ) (h : List EntryOf) → KnowsTables c run h tables.old → KnowsTables c run h tables.new }
     ensures calls { OnOk result (vec_len tables.new.calls.places < vec_capacity tables.new.calls.places) }
     ensures queue { OnOk result (HasPlace tables.new.queue) }
+    ensures held { OnOk result (HasRoom tables.new.held.ready.heap) }
     ensures tally { OnOk result (HasRoomForOne tables.new.tally) }
 {
     calls::reserve(&mut tables.calls)?;
     queue::reserve(&mut tables.queue)?;
+    tables.held.reserve()?;
     run_tally::reserve(&mut tables.tally)
 }
 
-/// An entry comes behind the journal's, for which there is room.
-pub fn advance(entry: &Entry, entries: &[Entry], stage: Stage, tables: &mut Tables)
+/// An entry comes behind the journal's, for which there is room. It is given what the entry frees.
+pub fn advance(entry: &Entry, entries: &[Entry], stage: Stage, freed: Freed, tables: &mut Tables)
     requires calls { arrives entry.now ≡ true → vec_len tables.old.calls.places < vec_capacity tables.old.calls.places }
     requires queue { may_queue entry.now ≡ true → HasPlace tables.old.queue }
+    requires held { may_queue entry.now ≡ true → HasRoom tables.old.held.ready.heap }
     requires tally { HasRoomFor entry.now tables.old.tally }
     ensures { (c : Config) (run limit : ℕ) → IsRun c run limit (entry.now ∷ reverse entries.now) → stage ≡ stage_at (reverse entries.now) entry.now
-        → KnowsTables (reverse entries.now) tables.old → KnowsTables (entry.now ∷ reverse entries.now) tables.new }
+        → freed ≡ freed_by c run (reverse entries.now) entry.now → KnowsTables c run (reverse entries.now) tables.old → KnowsTables c run (entry.now ∷ reverse entries.now) tables.new }
 {
     let arrivals = tables.tally.arrivals;
     let admitted = calls::call_admitted(entries, &tables.calls, entry);
     run_tally::advance(entry, admitted, &mut tables.tally);
     let tried = calls::call_tried(entries, &tables.calls, entry, stage);
     queue::advance(entry, arrivals, stage, tried, &mut tables.queue);
+    tables.held.advance(entry, arrivals, stage, freed);
     workers::advance(entry, &mut tables.workers);
     calls::advance(entry, entries.len(), &mut tables.calls);
 }

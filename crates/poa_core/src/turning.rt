@@ -1,8 +1,9 @@
 //! The entries that workers make.
 ghost use Rattle.std.specs.Prelude.{◌≡◌, ◌∷◌, ℕ, true, false, List, reverse, option_copied, IfOk, IsOk, OnOk, OnErr};
-ghost use Rattle.poa_history.specs.Changes.{standing as stands_after};
+ghost use Rattle.poa_history.specs.Stages as begun;
 ghost use Rattle.poa_history.specs.States.{Stored, servant_run};
 ghost use Rattle.standing_of.specs.Entries.{stage_at};
+ghost use Rattle.standing_queries.specs.Answers.{AnswersAs};
 ghost use Rattle.standing_queries.specs.Seen.{seen};
 ghost use Rattle.arrival_tables.specs.Begun.{only_ends};
 ghost use Rattle.arrival_tables.specs.Placed.{KnowsCalls};
@@ -15,9 +16,10 @@ ghost use Rattle.poa_core.specs.Turning as turning;
 ghost use Rattle.poa_core.specs.Turning.{IsAsked, IsBrought};
 
 use adapter_state::{Coming, State};
-use arrival_tables::{Calls, calls};
+use arrival_tables::{Calls, calls, freed_by};
 use call_replies::{Decision, decision_of};
 use call_tables::{Ordered, Wait, ordered_by, wait_by};
+use history_holds::Freed;
 use poa_base::{Call, Config, Entry, Sid, WantMemory};
 use poa_history::Stage;
 use servant_states::servant_by;
@@ -31,6 +33,8 @@ pub struct Brought {
     pub decision: Decision,
     pub wait: Option<Wait>,
     pub ordered: Option<Ordered>,
+    /// What it frees of what holds calls.
+    pub freed: Freed,
 }
 
 /// The call of which an entry speaks: that of the arrival that it admits, or that its worker is at.
@@ -69,7 +73,7 @@ fn call_admitted<'a>(coming: &Coming<'a>) -> Option<&'a Call>
     }
 }
 
-/// The servant of a request that runs. `WantMemory` stands for a number that doesn't fit 32 bits, and is never
+/// The servant of a request that a worker runs. `WantMemory` stands for a number that doesn't fit 32 bits, and is never
 /// answered where what was begun is only to be ended.
 pub fn servant_in(
     config: &Config,
@@ -77,7 +81,7 @@ pub fn servant_in(
     entries: &[Entry],
     stage: Stage,
 ) -> Result<Option<Sid>, WantMemory>
-    ensures servant { (run : ℕ) → seen standing.now ≡ stands_after config.now run (reverse entries.now) → IfOk result (λ servant. servant ≡ servant_run config.now run (reverse entries.now) stage) }
+    ensures servant { (run worker : ℕ) → AnswersAs config.now run (reverse entries.now) (seen standing.now) → stage ≡ begun.stage (reverse entries.now) worker → IfOk result (λ servant. servant ≡ servant_run config.now run (reverse entries.now) stage) }
     ensures ends { only_ends stage ≡ true → IsOk result }
 {
     match stage {
@@ -184,10 +188,12 @@ pub fn bring(
     let admits = call_admitted(coming);
     let wait = wait_by(config, &state.standing, coming.entry, admits)?;
     let ordered = ordered_by(config, coming.entry, admits)?;
+    let freed = freed_by(&state.standing, coming.stage, coming.entry);
     let decision = decide(alloc, config, run, coming, state)?;
     Ok(Brought {
         decision,
         wait,
         ordered,
+        freed,
     })
 }

@@ -3,7 +3,8 @@ use Rattle.std.proofs.Common.{sym, subst}
 use Rattle.poa_history.specs.Arrivals.{arrivals}
 use Rattle.poa_history.specs.Stages.{is_unadmitted}
 use Rattle.standing_queries.specs.Numbers.{Ascends}
-use Rattle.arrival_tables.specs.Queued.{is_waiting}
+use Rattle.arrival_tables.specs.Queued.{is_waiting_line}
+use Rattle.held_queue.specs.Waiting.{is_waiting}
 use Rattle.standing_queries.proofs.Numbers.{ascending}
 use Rattle.arrival_tables.proofs.Queueing.{admits}
 use Rattle.arrival_tables.proofs.queue.admit.Goals as goal
@@ -12,4 +13,5 @@ pub returns : goal.returns
 returns c = λ config run limit past w v may is.
     admits config run limit past w c.args.arrival v c.args.queue.now _ may is
     (c.remove.ensures (subst Ascends (sym is.unadmitted_are) (ascending (is_unadmitted past) (arrivals past))))
-    (c.remove-2.ensures (subst Ascends (sym is.messages_are) (ascending (is_waiting past) (arrivals past)))) refl
+    (c.remove-2.ensures (subst Ascends (sym is.messages_are) (ascending (is_waiting past) (arrivals past))))
+    (c.remove-3.ensures (subst Ascends (sym is.lines_are) (ascending (is_waiting_line past) (arrivals past)))) refl

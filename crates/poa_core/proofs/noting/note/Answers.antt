@@ -1,6 +1,7 @@
 use Rattle.std.proofs.Common.{◌≡◌, ◌∷◌, List, reverse, subst}
 use Rattle.poa_base.specs.declared.Entry.{Entry}
 use Rattle.history_openings.specs.Runs.{IsRun}
+use Rattle.history_holds.specs.Frees.{freed_by}
 use Rattle.standing_of.specs.Entries.{stage_at}
 use Rattle.poa_core.specs.Agrees.{KnowsTables, history}
 use Rattle.poa_core.proofs.Noted.{desk_comes, life_longer}
@@ -19,8 +20,8 @@ returns c =
       state = half.state;
       tables =
           subst (λ (es : List Entry). IsRun old.config old.run old.limit (c.args.entry ∷ reverse es) → c.args.stage ≡ stage_at (reverse es) c.args.entry
-          → KnowsTables (reverse es) old.tables → KnowsTables (c.args.entry ∷ reverse es) c.advance-2.new.tables)
-          c.deref.ensures.value (c.advance-2.ensures old.config old.run old.limit) half.follows half.begun_is half.tables;
+          → c.args.brought.freed ≡ freed_by old.config old.run (reverse es) c.args.entry → KnowsTables old.config old.run (reverse es) old.tables → KnowsTables old.config old.run (c.args.entry ∷ reverse es) c.advance-2.new.tables)
+          c.deref.ensures.value (c.advance-2.ensures old.config old.run old.limit) half.follows half.begun_is half.brought.frees half.tables;
       before = c.advance.ensures.before comes;
       owed = c.advance.ensures.owed comes;
       filed = c.advance.ensures.filed comes half.left;

@@ -16,7 +16,7 @@ bring-requires c =
     )
 
 pub note-requires-clause-room : goal.note-requires-clause-room
-note-requires-clause-room c = (let room = c.in_ok-make_room_for.ensures.room in record { entries = room.entries; calls = room.calls; queue = room.queue; tally = room.tally; desk = room.desk })
+note-requires-clause-room c = (let room = c.in_ok-make_room_for.ensures.room in record { entries = room.entries; calls = room.calls; queue = room.queue; held = room.held; tally = room.tally; desk = room.desk })
 
 pub note-requires-clause-halfway : goal.note-requires-clause-halfway
 note-requires-clause-halfway c =

@@ -1,14 +1,18 @@
-use Rattle.std.proofs.Common.{◌≡◌, sym, subst, ap, ◌∙◌}
-use Rattle.std.specs.Prelude.{IfOk}
-use Rattle.poa_history.specs.Arrivals.{arrivals}
-use Rattle.poa_history.specs.Stages.{is_unadmitted}
-use Rattle.arrival_tables.specs.Numbers.{first_in}
-use Rattle.arrival_tables.specs.Told.{history, ready}
-use Rattle.arrival_tables.proofs.Numbers.{first_kept}
+use Rattle.std.proofs.Common.{◌≡◌, sym, ap, ◌∙◌}
+use Rattle.std.specs.Prelude.{option_map}
+use Rattle.poa_base.specs.declared.Entry.TheVariants.{Admit}
+use Rattle.arrival_tables.specs.Told.{history}
+use Rattle.arrival_tables.proofs.Asking.{admission_is}
 use Rattle.arrival_tables.proofs.known.Known.admission.Goals as goal
 
-pub returns : goal.returns
-returns c =
-    let h = history c.args.self.now in
-    let give = ready c.args.self.now c.args.worker in
-    subst (λ o. IfOk c.first_ready.result (λ entry. entry ≡ o)) (ap (first_in give) c.requires.queued.unadmitted_are ∙ sym (first_kept (is_unadmitted h) give (arrivals h))) c.first_ready.ensures
+pub returns-in-Some-clause-admission : goal.returns-in-Some-clause-admission
+returns-in-Some-clause-admission c =
+    (let known = c.args.self.now in
+    sym (admission_is known.config.now known.run (history known) c.args.worker c.in_ok-line.line c.in_ok-message.message c.in_ok-line.ensures c.in_ok-message.ensures.first
+    ∙ ap (λ o. option_map (λ x. Admit c.args.worker x.0 x.1) o) (sym c.earlier.ensures ∙ c.in-Some.is)))
+
+pub returns-in-None-clause-admission : goal.returns-in-None-clause-admission
+returns-in-None-clause-admission c =
+    (let known = c.args.self.now in
+    sym (admission_is known.config.now known.run (history known) c.args.worker c.in_ok-line.line c.in_ok-message.message c.in_ok-line.ensures c.in_ok-message.ensures.first
+    ∙ ap (λ o. option_map (λ x. Admit c.args.worker x.0 x.1) o) (sym c.earlier.ensures ∙ c.in-None.is)))

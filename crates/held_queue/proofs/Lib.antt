@@ -1,0 +1,3 @@
+pub mod Least
+pub mod RowsChanged
+pub mod Entering

@@ -1,0 +1,40 @@
+-- What the rows know of the calls that wait.
+use Rattle.std.specs.Prelude.{◌≡◌, ℕ, ◌<◌, Bool, true, ◌||◌, List}
+use Rattle.poa_base.specs.declared.Config.{Config}
+use Rattle.poa_base.specs.declared.Entry.{Entry}
+use Rattle.poa_history.specs.Arrivals.{arrivals}
+use Rattle.poa_history.specs.Situations.{facts_of}
+use Rattle.poa_tree.specs.Trees.{In}
+use Rattle.history_holds.specs.Blocks.{Blocks, TakesTurn}
+use Rattle.held_queue.specs.Numbers.{Heap, has}
+use Rattle.held_queue.specs.Rows.{in_rows, IsSettledRow}
+use Rattle.held_queue.specs.Waiting.{is_waiting}
+use Rattle.held_queue.specs.declared.grip.Grip.{Grip}
+use Rattle.held_queue.specs.declared.grip.Grip.TheVariants.{Held, Turn, Loose}
+use Rattle.held_queue.specs.declared.row.Row.{Row}
+use Rattle.held_queue.specs.declared.queue.HeldQueue.{HeldQueue}
+
+-- the call is held as its row is
+abbrev pub IsGripped : Config → ℕ → List Entry → ℕ → Grip → Type 0
+IsGripped c run h r (Held hold) = Blocks (facts_of c run h r) hold
+IsGripped c run h r (Turn k) = TakesTurn k (facts_of c run h r)
+IsGripped c run h r Loose = Unit {0}
+
+-- the calls of a row arrived, and are held as it is
+abbrev pub IsRow : Config → ℕ → List Entry → Row → Type 0
+IsRow c run h row = (r : ℕ) → has row.calls.heap r ≡ true → (r < arrivals h) × IsGripped c run h r row.grip
+
+-- each call that waits is ready to be asked, or in a row of calls that are held
+pub record KnowsCalls (c : Config) (run : ℕ) (h : List Entry) (ready : Heap) (rows : List Row) : Type 0 where
+  pub covered : (r : ℕ) → r < arrivals h → is_waiting h r ≡ true → (has ready r || in_rows rows r) ≡ true
+  pub held : (row : Row) → In row rows → IsRow c run h row
+
+abbrev pub AreHeld : Config → ℕ → List Entry → HeldQueue → Type 0
+AreHeld c run h q = KnowsCalls c run h q.ready.heap q.rows.items
+
+-- of the calls that the worker asks, the least is ready
+abbrev pub AreSettled : ℕ → Heap → List Row → Type 0
+AreSettled w ready rows = (row : Row) → In row rows → IsSettledRow w ready row
+
+abbrev pub IsSettled : ℕ → HeldQueue → Type 0
+IsSettled w q = AreSettled w q.ready.heap q.rows.items

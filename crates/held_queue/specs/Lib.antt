@@ -1,0 +1,4 @@
+pub mod Numbers
+pub mod Waiting
+pub mod Rows
+pub mod Held

@@ -1,0 +1,13 @@
+//! How a row of calls is held.
+use history_holds::Hold;
+
+/// How the calls of a row are held.
+#[derive(Clone, Copy, Debug, PartialEq, Eq, Drop)]
+pub enum Grip {
+    /// Each is held by this.
+    Held(Hold),
+    /// Each takes its turn in this adapter, where nobody may have it.
+    Turn(u32),
+    /// Each is to be asked.
+    Loose,
+}
