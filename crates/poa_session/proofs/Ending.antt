@@ -67,9 +67,9 @@ module _ (peer : Peer) (text : List ℕ) (calls : List Heard) (begins : Begins p
   fronted before due done rest joined all front = all ∙ (ap (λ ds. before ++ ds) front ∙ sym (append_assoc before done rest))
 
   break_output : (h : List Entry) (before due done joined : List ℕ) (Paid : Type 0) (end : SessionEnd) → BreaksOff h end due done → joined ≡ before ++ due
-      → Output peer text calls joined Paid (before ++ done) end
-  break_output h before due done joined Paid WriteFault breaks all = short_of_replies peer text calls joined Paid (before ++ done) begins breaks.0 (fronted before due done breaks.0 joined all breaks.1)
-  break_output h before due done joined Paid WantMemory breaks all = short_of_replies peer text calls joined Paid (before ++ done) begins breaks.0 (fronted before due done breaks.0 joined all breaks.1)
+      → Output peer h text calls joined Paid (before ++ done) end
+  break_output h before due done joined Paid WriteFault breaks all = short_of_replies peer h text calls joined Paid (before ++ done) begins breaks.0 (fronted before due done breaks.0 joined all breaks.1)
+  break_output h before due done joined Paid WantMemory breaks all = short_of_replies peer h text calls joined Paid (before ++ done) begins breaks.0 (fronted before due done breaks.0 joined all breaks.1)
   break_output h before due done joined Paid (Abandoned worker) breaks all = ap (λ ds. before ++ ds) breaks.0 ∙ sym all
   break_output h before due done joined Paid Ended breaks all = absurd breaks
   break_output h before due done joined Paid Shut breaks all = absurd breaks
@@ -123,7 +123,7 @@ module _ (g : Givens) (peer : Peer) (c : ℕ) (v : View Givens Entry) (a : Shown
     settled = λ text ran may dry. record {
       session = record {
         input = may.input;
-        output = output_now peer text (arrived_by (past v) c) (joined_by g (past v) c) (IsPaidBy (past v) c) (joined_by g (past v) c ++ []) end now
+        output = output_now peer (past v) text (arrived_by (past v) c) (joined_by g (past v) c) (IsPaidBy (past v) c) (joined_by g (past v) c ++ []) end now
             (input_begins peer text (arrived_by (past v) c) end may.input) (append-nil (joined_by g (past v) c));
         filled = may.filled;
       };
@@ -174,7 +174,7 @@ module _ (g : Givens) (peer : Peer) (c : ℕ) (v : View Givens Entry) (a : Shown
         settled = λ text ran may dry. record {
           session = record {
             input = input_later text end may.input;
-            output = output_settled peer text (arrived_by (past w) c) (joined_by g (past w) c) (IsPaidBy (past w) c) (joined_by g (past v) c ++ (due ++ closing peer end)) end settling paid
+            output = output_settled peer (past w) text (arrived_by (past w) c) (joined_by g (past w) c) (IsPaidBy (past w) c) (joined_by g (past v) c ++ (due ++ closing peer end)) end settling paid
                 (sym (append_assoc (joined_by g (past v) c) due (closing peer end)) ∙ ap (λ rs. rs ++ closing peer end) (sym adds.joined_is));
             filled = filled_later text may.filled;
           };
@@ -193,7 +193,7 @@ module _ (g : Givens) (peer : Peer) (c : ℕ) (v : View Givens Entry) (a : Shown
         settled = λ text ran may dry. record {
           session = record {
             input = begins_later text may.input;
-            output = short_of_closing peer text (arrived_by (past w) c) (joined_by g (past w) c) (IsPaidBy (past w) c) (joined_by g (past v) c ++ (due ++ done)) end (input_later text end may.input) paid rest
+            output = short_of_closing peer (past w) text (arrived_by (past w) c) (joined_by g (past w) c) (IsPaidBy (past w) c) (joined_by g (past v) c ++ (due ++ done)) end (input_later text end may.input) (cause_now text ran may.cause) paid rest
                 (ap (λ cs. joined_by g (past w) c ++ cs) front
                 ∙ (ap (λ rs. rs ++ (done ++ rest)) adds.joined_is
                 ∙ (sym (append_assoc (joined_by g (past v) c ++ due) done rest) ∙ ap (λ rs. rs ++ rest) (append_assoc (joined_by g (past v) c) due done))));

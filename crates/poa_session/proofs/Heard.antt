@@ -69,7 +69,7 @@ module _ (g : Givens) (peer : Peer) (c : ℕ) (v : View Givens Entry) (i j : Int
     adds = adds_same g c v;
     heard = λ text unfilled expected.
         (let heard = expects_stop peer (OfIntake i) text (arrived_by (past v) c) expected closed tells in
-        (record { input = inl heard; cause = tt; filled = none_filled text unfilled }, λ shown. inl (arrived_by (past v) c, heard)));
+        (record { input = inl heard; cause = inl (arrived_by (past v) c, heard); filled = none_filled text unfilled }, λ shown. inl (arrived_by (past v) c, heard)));
     taken = taken;
   }
 

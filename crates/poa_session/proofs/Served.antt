@@ -32,8 +32,11 @@ use Rattle.poa_session.proofs.Adding.{adds_both, adds_one, found_arrived}
 use Rattle.poa_session.proofs.Entering.{Begun, seen_front}
 
 -- what a history says of the connection isn't changed by its leaving
-session_left : (g : Givens) (peer : Peer) (c : ℕ) (h : List Entry) (text out : List ℕ) (end : SessionEnd) → SessionBy g peer h c text out end → SessionBy g peer (Left c ∷ h) c text out end
-session_left g peer c h text out end s = session_same g peer c text out end h (Left c ∷ h) refl refl refl (λ paid. paid) s
+session_left : (g : Givens) (peer : Peer) (c : ℕ) (h : List Entry) (text out : List ℕ) (end : SessionEnd) → IsLegal g.config g.run g.limit (Left c ∷ h)
+    → SessionBy g peer h c text out end → SessionBy g peer (Left c ∷ h) c text out end
+session_left g peer c h text out end legal s =
+    session_same g peer c text out end h (Left c ∷ h) refl refl refl (λ paid. paid)
+    (λ calls due. cause_since g.config g.run g.limit (Left c ∷ []) h legal peer calls text due) s
 
 module _ (g : Givens) (peer : Peer) (c : ℕ) (v : View Givens Entry) (found : List Entry) (u w : View Givens Entry) (h : List Entry) (z : View Givens Entry) (a b : Shown) (end : SessionEnd)
     (entered : Turns g v found u) (begun : Begun g c v u) (talked : Converses g peer c u a w b end) (owns : Owns w c) (leaves : Turns g w h z) (gone : past z ≡ Left c ∷ h) where
@@ -46,19 +49,22 @@ module _ (g : Givens) (peer : Peer) (c : ℕ) (v : View Givens Entry) (found : L
   settled : Settled g peer c w talked.text talked.out end b
   settled = talked.settled entered.runs begun.calls begun.replies begun.filling
 
-  legal : IsLegal g.config g.run g.limit h
-  legal = (subst (IsLegal g.config g.run g.limit) gone leaves.runs.legal).1
+  all_legal : IsLegal g.config g.run g.limit (Left c ∷ h)
+  all_legal = subst (IsLegal g.config g.run g.limit) gone leaves.runs.legal
+
+  legal : IsLegal g.config g.run g.limit (leaves.goes_on.more ++ past w)
+  legal = subst (IsLegal g.config g.run g.limit) leaves.goes_on.is all_legal.1
 
   found_session : SessionBy g peer h c talked.text talked.out end
   found_session =
       subst (λ k. SessionBy g peer k c talked.text talked.out end) (sym leaves.goes_on.is)
-      (session_others g peer c talked.text talked.out end (past w) leaves.goes_on.more (leaves.goes_on.alone c owns) settled.session)
+      (session_others g peer c talked.text talked.out end (past w) leaves.goes_on.more legal (leaves.goes_on.alone c owns) settled.session)
 
   found_cause : CauseBy peer h (arrived_by h c) talked.text end
   found_cause =
       subst (λ calls. CauseBy peer h calls talked.text end) (sym (found_arrived g c w h z leaves owns))
       (subst (λ k. CauseBy peer k (arrived_by (past w) c) talked.text end) (sym leaves.goes_on.is)
-      (cause_since g.config g.run g.limit leaves.goes_on.more (past w) (subst (IsLegal g.config g.run g.limit) leaves.goes_on.is legal) peer (arrived_by (past w) c) talked.text end settled.cause))
+      (cause_since g.config g.run g.limit leaves.goes_on.more (past w) legal peer (arrived_by (past w) c) talked.text end settled.cause))
 
   later_seen : z.seen ≡ u.seen ++ reverse all_adds.more
   later_seen = seen_front u z all_adds.more all_adds.since
@@ -76,7 +82,7 @@ module _ (g : Givens) (peer : Peer) (c : ℕ) (v : View Givens Entry) (found : L
     left = sym (reverse-reverse z.seen) ∙ (ap reverse gone ∙ reverse-append (Left c ∷ []) h);
     moved = talked.moved;
     few = talked.few;
-    session = subst (λ k. SessionBy g peer k c talked.text talked.out end) (sym gone) (session_left g peer c h talked.text talked.out end found_session);
+    session = subst (λ k. SessionBy g peer k c talked.text talked.out end) (sym gone) (session_left g peer c h talked.text talked.out end all_legal found_session);
     cause = subst (λ k. CauseBy peer k (arrived_by k c) talked.text end) (sym (reverse-reverse h)) found_cause;
     read_fault = read;
     write_fault = written;

@@ -177,19 +177,33 @@ module _ (g : Givens) (peer : Peer) (c : ℕ) (v : View Givens Entry) (a : Shown
         counted_few : (piece : List ℕ) → (j.taken ≤ 2 ^ 40 → j.taken + length piece ≤ 2 ^ 40) → i.taken ≤ 2 ^ 40 → i.taken + length piece ≤ 2 ^ 40
         counted_few piece took few = subst (λ n. n + length piece ≤ 2 ^ 40) listened.taken (took (subst (λ n. n ≤ 2 ^ 40) (sym listened.taken) few))
 
+        -- where nothing more came, the text is as long as what was taken in
+        length_read : (text piece : List ℕ) → length text ≡ i.taken → piece ≡ [] → length (text ++ piece) ≡ j.taken
+        length_read text piece counted none = ap (λ p. length (text ++ p)) none ∙ (ap length (append-nil text) ∙ (counted ∙ sym listened.taken))
+
+        read_fewer : (text piece : List ℕ) → length text ≡ i.taken → piece ≡ [] → j.taken < 2 ^ 40 → length (text ++ piece) < 2 ^ 40
+        read_fewer text piece counted none fewer = subst (λ n. n < 2 ^ 40) (sym (length_read text piece counted none)) fewer
+
+        stops_over : (text : List ℕ) (bytes : ℕ) → Expects peer (OfIntake j) text (arrived_by (past w) c) → have ≡ bytes → HearsAll peer text (arrived_by (past w) c) (over bytes)
+        stops_over text bytes expected is = expects_stop peer (OfIntake j) text (arrived_by (past w) c) expected (over bytes) (subst (λ n. OfIntake j [] [] (over n)) is listened.heard.1)
+
         -- the input ends the session
         takes_may : (text piece : List ℕ) (end : SessionEnd) → length text ≡ i.taken → AsTaken j k have piece z (Some end) → Expects peer (OfIntake j) text (arrived_by (past w) c)
             → (Input peer (text ++ piece) (arrived_by (past w) c) end) × CauseBy peer (past w) (arrived_by (past w) c) (text ++ piece) end × DriesUp peer (text ++ piece) end z
         takes_may text piece Ended counted took expected =
-            subst (λ p. Input peer (text ++ p) (arrived_by (past w) c) Ended × Unit {0} × DriesUp peer (text ++ p) Ended z) (sym took.0)
-            (inr (nothing_behind (λ t. HearsAll peer t (arrived_by (past w) c) (over 0)) text (expects_stop peer (OfIntake j) text (arrived_by (past w) c) expected (over 0) (subst (λ n. OfIntake j [] [] (over n)) took.1 listened.heard.1))), tt, inr took.2)
+            subst (λ p. Input peer (text ++ p) (arrived_by (past w) c) Ended × CauseBy peer (past w) (arrived_by (past w) c) (text ++ p) Ended × DriesUp peer (text ++ p) Ended z) (sym took.0)
+            (inr (nothing_behind (λ t. HearsAll peer t (arrived_by (past w) c) (over 0)) text (stops_over text 0 expected took.2)), inr (read_fewer text [] counted refl took.1), inr took.3)
         takes_may text piece (Truncated bytes) counted took expected =
-            subst (λ p. Input peer (text ++ p) (arrived_by (past w) c) (Truncated bytes) × Unit {0} × DriesUp peer (text ++ p) (Truncated bytes) z) (sym took.0)
-            ((nothing_behind (λ t. HearsAll peer t (arrived_by (past w) c) (over bytes)) text (expects_stop peer (OfIntake j) text (arrived_by (past w) c) expected (over bytes) (subst (λ n. OfIntake j [] [] (over n)) (sym took.1) listened.heard.1)), subst (λ n. 0 < n) (sym took.1) took.2), tt, took.3)
-        takes_may text piece ReadFault counted took expected = (expects_front peer (OfIntake j) text (arrived_by (past w) c) expected piece (intake_goes_on j piece), tt, tt)
+            subst (λ p. Input peer (text ++ p) (arrived_by (past w) c) (Truncated bytes) × (length (text ++ p) < 2 ^ 40) × DriesUp peer (text ++ p) (Truncated bytes) z) (sym took.0) (
+              (nothing_behind (λ t. HearsAll peer t (arrived_by (past w) c) (over bytes)) text (stops_over text bytes expected (sym took.2)), subst (λ n. 0 < n) (sym took.2) took.3),
+              read_fewer text [] counted refl took.1,
+              took.4,
+            )
+        takes_may text piece ReadFault counted took expected =
+            (expects_front peer (OfIntake j) text (arrived_by (past w) c) expected piece (intake_goes_on j piece), read_fewer text piece counted took.0 took.1, tt)
         takes_may text piece (InputLimit taken) counted took expected = (
           expects_front peer (OfIntake j) text (arrived_by (past w) c) expected piece (intake_goes_on j piece),
-          (took.2, ap (λ p. length (text ++ p)) took.0 ∙ (ap length (append-nil text) ∙ (counted ∙ (sym listened.taken ∙ sym took.1)))),
+          (took.2, length_read text piece counted took.0 ∙ sym took.1),
           tt,
         )
         takes_may text piece WantMemory counted took expected = (expects_front peer (OfIntake j) text (arrived_by (past w) c) expected piece (intake_goes_on j piece), tt, tt)

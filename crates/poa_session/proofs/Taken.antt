@@ -1,5 +1,5 @@
 -- A piece of a link's input is taken in.
-use Rattle.std.proofs.Common.{◌≡◌, ℕ, ◌+◌, ◌^◌, ◌≤◌, List, [], ◌++◌, length, refl, arith}
+use Rattle.std.proofs.Common.{◌≡◌, ℕ, ◌+◌, ◌^◌, ◌≤◌, ◌<◌, List, [], ◌++◌, length, refl, arith}
 use Rattle.std.specs.Prelude.{Some, None}
 use Rattle.poa_base.specs.declared.SessionEnd.{SessionEnd}
 use Rattle.poa_base.specs.declared.SessionEnd.TheVariants.{Ended, Shut, ReadFault, WriteFault, Malformed, Truncated, InputLimit, Limit, Abandoned, WantMemory}
@@ -20,20 +20,20 @@ module _ (i j : Intake) (have : ℕ) (a b : Shown) where
   pub takes_lost : (piece : List ℕ) → Moves a b piece [] → i.taken + length piece ≤ 2 ^ 40 → Takes i j have a b (Some WantMemory)
   takes_lost piece moved few = record { piece = piece; moved = moved; few = λ _. few; taken = tt }
 
-  pub takes_failed : Moves a b [] [] → Takes i j have a b (Some ReadFault)
-  takes_failed moved = record { piece = []; moved = moved; few = few_nothing; taken = refl }
+  pub takes_failed : Moves a b [] [] → i.taken < 2 ^ 40 → Takes i j have a b (Some ReadFault)
+  takes_failed moved fewer = record { piece = []; moved = moved; few = few_nothing; taken = (refl, fewer) }
 
-  pub takes_end : (end : SessionEnd) → Moves a b [] [] → IsDry b → EndsAt have end → Takes i j have a b (Some end)
-  takes_end Ended moved dry ends = record { piece = []; moved = moved; few = few_nothing; taken = (refl, ends, dry) }
-  takes_end (Truncated bytes) moved dry ends = record { piece = []; moved = moved; few = few_nothing; taken = (refl, ends.0, ends.1, dry) }
-  takes_end Shut moved dry ends = absurd ends
-  takes_end ReadFault moved dry ends = absurd ends
-  takes_end WriteFault moved dry ends = absurd ends
-  takes_end (Malformed at) moved dry ends = absurd ends
-  takes_end (InputLimit taken) moved dry ends = absurd ends
-  takes_end (Limit many bytes) moved dry ends = absurd ends
-  takes_end (Abandoned worker) moved dry ends = absurd ends
-  takes_end WantMemory moved dry ends = absurd ends
+  pub takes_end : (end : SessionEnd) → Moves a b [] [] → IsDry b → i.taken < 2 ^ 40 → EndsAt have end → Takes i j have a b (Some end)
+  takes_end Ended moved dry fewer ends = record { piece = []; moved = moved; few = few_nothing; taken = (refl, fewer, ends, dry) }
+  takes_end (Truncated bytes) moved dry fewer ends = record { piece = []; moved = moved; few = few_nothing; taken = (refl, fewer, ends.0, ends.1, dry) }
+  takes_end Shut moved dry fewer ends = absurd ends
+  takes_end ReadFault moved dry fewer ends = absurd ends
+  takes_end WriteFault moved dry fewer ends = absurd ends
+  takes_end (Malformed at) moved dry fewer ends = absurd ends
+  takes_end (InputLimit taken) moved dry fewer ends = absurd ends
+  takes_end (Limit many bytes) moved dry fewer ends = absurd ends
+  takes_end (Abandoned worker) moved dry fewer ends = absurd ends
+  takes_end WantMemory moved dry fewer ends = absurd ends
 
 -- nothing was there
 pub takes_nothing : (i : Intake) (have : ℕ) (a b : Shown) → Moves a b [] [] → Takes i i have a b None

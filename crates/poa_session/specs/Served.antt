@@ -18,13 +18,8 @@ use Rattle.run_history.specs.declared.Givens.{Givens}
 use Rattle.run_history.specs.Owners.{owner_of}
 use Rattle.run_history.specs.Runs.{IsLog}
 use Rattle.session_laws.specs.declared.Peer.{Peer}
-use Rattle.session_laws.specs.Hearing.{Heard, closed}
 use Rattle.session_laws.specs.Records.{arrived, places, is_late}
-use Rattle.session_laws.specs.Sessions.{Cause, Hears, Session, closing}
-
--- a CloseConnection was read
-abbrev pub HasClosing : Peer → List ℕ → Type 0
-HasClosing peer text = (calls : List Heard) × Hears peer text calls closed
+use Rattle.session_laws.specs.Sessions.{Cause, HasClosing, Session, closing}
 
 -- after Truncated, and after Ended without a CloseConnection, the link had nothing left
 abbrev pub DriesUp : Peer → List ℕ → SessionEnd → Shown → Type 0

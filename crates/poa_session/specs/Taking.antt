@@ -12,14 +12,15 @@ EndsAt have Ended = have ≡ 0
 EndsAt have (Truncated bytes) = (bytes ≡ have) × (0 < have)
 EndsAt have end = ⊥
 
--- a piece was taken in; or the session ends so, where so many bytes were left over before
+-- a piece was taken in; or the session ends so, where so many bytes were left over before. Once it has read 2^40 bytes, no
+-- read is made
 abbrev pub AsTaken : Intake → Intake → ℕ → List ℕ → Shown → Option SessionEnd → Type 0
 AsTaken i j have piece shown None =
     (j.taken ≡ i.taken + length piece)
     × ((next : List ℕ) (more : List Heard) (stop : Stop) → OfIntake j next more stop → OfIntake i (piece ++ next) more stop)
-AsTaken i j have piece shown (Some Ended) = (piece ≡ []) × (have ≡ 0) × IsDry shown
-AsTaken i j have piece shown (Some (Truncated bytes)) = (piece ≡ []) × (bytes ≡ have) × (0 < have) × IsDry shown
-AsTaken i j have piece shown (Some ReadFault) = piece ≡ []
+AsTaken i j have piece shown (Some Ended) = (piece ≡ []) × (i.taken < 2 ^ 40) × (have ≡ 0) × IsDry shown
+AsTaken i j have piece shown (Some (Truncated bytes)) = (piece ≡ []) × (i.taken < 2 ^ 40) × (bytes ≡ have) × (0 < have) × IsDry shown
+AsTaken i j have piece shown (Some ReadFault) = (piece ≡ []) × (i.taken < 2 ^ 40)
 AsTaken i j have piece shown (Some (InputLimit taken)) = (piece ≡ []) × (taken ≡ i.taken) × (taken ≡ 2 ^ 40)
 AsTaken i j have piece shown (Some WantMemory) = Unit {0}
 AsTaken i j have piece shown (Some end) = ⊥

@@ -58,6 +58,17 @@ impl Shared {
         }
     }
 
+    /// Wakes another worker than this one, where one sleeps: this one is about to wait elsewhere than at its bell. What it
+    /// was rung for, and what came with that, may still be there.
+    pub fn wake_another(&self, seat: &mut Seat, worker: u32)
+        requires { IsIdle self.now seat.old }
+        ensures { IsUnchanged seat.old seat.new }
+    {
+        // While its own mark stands, a ring would stop there.
+        self.lock.ring(seat, Bell::Worker(worker).number());
+        self.wake_worker(seat);
+    }
+
     /// Wakes all workers that sleep.
     pub fn wake_workers(&self, seat: &mut Seat)
         requires { IsIdle self.now seat.old }

@@ -9,15 +9,16 @@ use native.Mathlib.Decide.{ℕ_discrete}
 use lib.ListN.{get_elem?}
 use Rattle.poa_base.specs.declared.Entry.{Entry}
 use Rattle.poa_base.specs.declared.Entry.TheVariants.{Abandon}
+use Rattle.poa_base.specs.declared.Point.{Point}
 use Rattle.poa_history.specs.Arrivals.{arrivals, connections}
 use Rattle.poa_history.specs.Legal.{has_left}
 use Rattle.poa_history.specs.Searches.{count_below}
-use Rattle.poa_history.specs.Stages.{is_abandoned, is_unadmitted}
+use Rattle.poa_history.specs.Stages.{is_abandoned, is_unadmitted, stage}
 use Rattle.poa_history.specs.Turns.{turn}
 use Rattle.run_tally.specs.Leaving.{is_shut, is_staying, are_gone, staying}
 use Rattle.run_endings.specs.Closing.{IsClosed}
 use Rattle.run_history.specs.declared.givens.Givens.{Givens}
-use Rattle.poa_core.specs.Answers.{Abandons, Steps, unadmitted, is_run_over}
+use Rattle.poa_core.specs.Answers.{Abandons, Steps, point_of, unadmitted, is_run_over}
 use Rattle.run_history.specs.Life.{with_entry}
 use Rattle.poa_core.specs.declared.step_out.StepOut.TheVariants as step_out
 use Rattle.poa_shared.specs.Seen.{past, Turns}
@@ -72,13 +73,17 @@ seen_all g v w h t = record { runs = t.runs; knows = t.knows }
 
 module _ (worker : ℕ) (g : Givens) (v w : View Givens Entry) (given : v.givens ≡ Some g) where
   -- what the answers of a step say where it makes no turn
-  pub step_idle : (over : Bool) → Event (λ old new. Steps worker old (Ok (step_out.Idle over)) new) v w → HasSeenAll g w × (over ≡ true → IsClosed g worker (past w))
+  pub step_idle : (over : Bool) → Event (λ old new. Steps worker old (Ok (step_out.Idle over)) new) v w → HasSeenAll g w × (turn g.config g.run (past w) worker ≡ None) × (over ≡ true → IsClosed g worker (past w))
   step_idle over ev =
       let it = ev g given in
       let same : past w ≡ it.0 = ap (λ l. l.history) it.2.3 in (
         seen_all g v w it.0 it.1,
+        subst (λ h. turn g.config g.run h worker ≡ None) (sym same) it.2.1,
         λ is. subst (IsClosed g worker) (sym same) (closed_by worker g it.0 it.2.0 it.2.1 (sym it.2.2 ∙ is)),
       )
+
+  pub step_did : (point : Point) → Event (λ old new. Steps worker old (Ok (step_out.Did point)) new) v w → HasSeenAll g w × (point ≡ point_of (stage (past w) worker))
+  step_did point ev = (let it = ev g given in (seen_all g v w it.0 it.1, it.2.1))
 
   pub step_stopped : Event (λ old new. Steps worker old (Ok step_out.Stopped) new) v w → HasSeenAll g w × (is_abandoned (past w) worker ≡ true)
   step_stopped ev =
@@ -186,7 +191,7 @@ module _ (worker : ℕ) (u v v' w : View Givens Entry) (so_far : (g : Givens) �
   closes is g given =
       let it = paused g given in
       let idle = subst (λ x. IsPaused g worker x w) is it.1 in
-      ends_closed worker g u w it.0 idle.0 (idle.1 refl)
+      ends_closed worker g u w it.0 idle.0 (idle.2 refl)
 
   pub stops : r ≡ Ok pause.Stopped → (g : Givens) → u.givens ≡ Some g → Worked g worker u w (work_end.Stopped worker)
   stops is g given =

@@ -1,8 +1,10 @@
 -- What a worker has done so far, while it goes on.
-use Rattle.std.specs.Prelude.{◌≡◌, ℕ, ◌≤◌, true, List, ◌++◌, length, Result, Ok, Err}
+use Rattle.std.specs.Prelude.{◌≡◌, ℕ, ◌≤◌, true, List, ◌++◌, length, None, Result, Ok, Err}
 use Rattle.std.specs.declared.alloc.AllocError.{AllocError}
 use Rattle.poa_base.specs.declared.Entry.{Entry}
-use Rattle.poa_history.specs.Stages.{is_abandoned}
+use Rattle.poa_core.specs.Answers.{point_of}
+use Rattle.poa_history.specs.Stages.{is_abandoned, stage}
+use Rattle.poa_history.specs.Turns.{turn}
 use Rattle.run_history.specs.declared.givens.Givens.{Givens}
 use Rattle.run_history.specs.Runs.{IsLog}
 use Rattle.run_history.specs.Owners.{owner_of}
@@ -30,10 +32,12 @@ pub record HasSeenAll (g : Givens) (v : View Givens Entry) : Type 0 where
   pub runs : IsLog g v.seen
   pub knows : Knows owner_of v v.seen
 
+-- at a point the worker stands there; where it is idle, it has no next entry
 abbrev pub IsPaused : Givens → ℕ → Result Pause AllocError → View Givens Entry → Type 0
-IsPaused g worker (Ok (pause.At point)) v = Unit {0}
+IsPaused g worker (Ok (pause.At point)) v = HasSeenAll g v × (point ≡ point_of (stage (past v) worker))
 IsPaused g worker (Ok pause.Later) v = Unit {0}
-IsPaused g worker (Ok (pause.Idle over)) v = HasSeenAll g v × (over ≡ true → IsClosed g worker (past v))
+IsPaused g worker (Ok (pause.Idle over)) v =
+    HasSeenAll g v × (turn g.config g.run (past v) worker ≡ None) × (over ≡ true → IsClosed g worker (past v))
 IsPaused g worker (Ok pause.Stopped) v = HasSeenAll g v × (is_abandoned (past v) worker ≡ true)
 IsPaused g worker (Err fault) v = Unit {0}
 

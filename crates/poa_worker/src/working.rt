@@ -14,7 +14,7 @@ use poa_shared::{Bell, Seat, Shared};
 use std::sync::Wait;
 
 /// Works as a worker below 16 until the run is over. Between the stages of what it has begun it passes the gate, outside
-/// every lock. Where there is nothing to do it sleeps at its bell.
+/// every lock, and leaves what else there is to another. Where there is nothing to do it sleeps at its bell.
 pub fn work<R: Wait, G: Gate>(
     rt: &R,
     shared: &Shared,
@@ -30,11 +30,14 @@ pub fn work<R: Wait, G: Gate>(
     for _ in rt.forever() {
         let heard = shared.listen(seat, Bell::Worker(worker));
         match take_turns(rt, shared, seat, worker, gate.is_open()) {
-            Ok(Pause::At(point)) => gate.pass(point),
+            Ok(Pause::At(point)) => {
+                shared.wake_another(seat, worker);
+                gate.pass(point);
+            }
             Ok(Pause::Idle { over: true }) => return WorkEnd::Closed,
             Ok(Pause::Idle { over: false }) => {
                 shared.sleep(rt, Bell::Worker(worker), heard);
-            },
+            }
             Ok(Pause::Stopped) => return WorkEnd::Stopped { worker },
             Ok(Pause::Later) => (),
             Err(WantMemory) => {

@@ -2,8 +2,9 @@
 use Rattle.std.proofs.Common.{◌≡◌, ℕ, Bool, true, false, ◌||◌, Option, Some, None, option_map, refl, sym, ap, ap₂, ◌∙◌}
 use Rattle.std.specs.Prelude.{◌≢◌}
 use Rattle.std.proofs.lemmas.Bool.{true≢false}
-use Rattle.poad_cmd.specs.declared.status.Status.TheVariants.{Ok as Fine, WantMemory, NoThread, FileFault, ListenFault, Limit}
-use Rattle.poad_serve.specs.Ending.{IsLimit, is_for_memory, is_short, or_else, status_by}
+use Rattle.poad_files.specs.declared.status.Status.TheVariants.{Ok as Fine, WantMemory, NoThread, FileFault, ListenFault, Limit}
+use Rattle.std.specs.Option.{is_some, option_or}
+use Rattle.poad_serve.specs.Ending.{IsLimit, is_for_memory, status_by}
 use Rattle.run_tally.specs.declared.full.Full.{Full}
 use Rattle.serve_run.specs.declared.outcome.Want.{Want}
 use Rattle.serve_run.specs.declared.outcome.Want.TheVariants.{Memory, Thread}
@@ -71,21 +72,21 @@ pub not_lost : (lost : Bool) (short : Option Want) (textless : Bool) → (lost |
 not_lost true short textless is = absurd (true≢false is)
 not_lost false short textless is = refl
 
-pub not_short : (short : Option Want) → is_short short ≡ false → short ≡ None
+pub not_short : (short : Option Want) → is_some short ≡ false → short ≡ None
 not_short None is = refl
 not_short (Some want) is = absurd (true≢false is)
 
-pub limit_is : (filled refused : Option Full) (f : Full) (calls bytes : ℕ) → or_else filled refused ≡ Some f → f.arrivals ≡ calls → f.bytes ≡ bytes
+pub limit_is : (filled refused : Option Full) (f : Full) (calls bytes : ℕ) → option_or filled refused ≡ Some f → f.arrivals ≡ calls → f.bytes ≡ bytes
     → IsLimit (option_map (λ x. (x.arrivals, x.bytes)) filled) refused calls bytes
 limit_is (Some x) refused f calls bytes is a b = (let e : Some x ≡ Some f = is in let same : x ≡ f = cc in ap₂ (λ m n. (m, n)) (ap (λ y. y.arrivals) same ∙ a) (ap (λ y. y.bytes) same ∙ b))
 limit_is None (Some x) f calls bytes is a b = (let e : Some x ≡ Some f = is in let same : x ≡ f = cc in (ap (λ y. y.arrivals) same ∙ a, ap (λ y. y.bytes) same ∙ b))
 limit_is None None f calls bytes is a b = absurd (let e : None ≡ Some f = is in cc)
 
-pub none_full : (filled refused : Option Full) → or_else filled refused ≡ None → (filled ≡ None) × (refused ≡ None)
+pub none_full : (filled refused : Option Full) → option_or filled refused ≡ None → (filled ≡ None) × (refused ≡ None)
 none_full (Some x) refused is = absurd (let e : Some x ≡ None = is in cc)
 none_full None refused is = (refl, is)
 
-pub thread_short : (lost : Bool) (short : Option Want) (textless : Bool) → (lost || is_for_memory short) || textless ≡ false → is_short short ≡ true → short ≡ Some Thread
+pub thread_short : (lost : Bool) (short : Option Want) (textless : Bool) → (lost || is_for_memory short) || textless ≡ false → is_some short ≡ true → short ≡ Some Thread
 thread_short lost None textless none is = absurd (true≢false (sym is))
 thread_short true (Some Memory) textless none is = absurd (true≢false none)
 thread_short false (Some Memory) textless none is = absurd (true≢false none)

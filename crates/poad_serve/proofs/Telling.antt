@@ -10,10 +10,12 @@ use Rattle.outside.specs.Link.{Shown}
 use Rattle.outside.specs.Told.{IfTold}
 use Rattle.outside.specs.declared.keeping.Put.{Put}
 use Rattle.poa_base.specs.declared.Entry.{Entry}
-use Rattle.poad_cmd.specs.Taking.{HoldsStill}
-use Rattle.poad_cmd.specs.declared.status.Status.{Status}
-use Rattle.poad_cmd.specs.declared.status.Status.TheVariants.{NoThread}
-use Rattle.poad_serve.specs.Ending.{AnyRose, EachSteady, IsLimit, is_failed, is_short, is_textless, or_else, status_of, wants_memory}
+use Rattle.poad_files.specs.Taking.{HoldsStill}
+use Rattle.poad_files.specs.declared.status.Status.{Status}
+use Rattle.poad_files.specs.declared.status.Status.TheVariants.{NoThread}
+use Rattle.std.specs.Option.{is_some, option_or}
+use Rattle.std.specs.Result.{is_err}
+use Rattle.poad_serve.specs.Ending.{AnyRose, EachSteady, IsLimit, is_unput, status_of, wants_memory}
 use Rattle.poad_serve.specs.Beginning.{IsBegun}
 use Rattle.poad_serve.specs.Serving.{Ends, ServesOn, Tells}
 use Rattle.poad_serve.proofs.Statuses.{fine_told, limit_is, limit_told, listen_told, no_memory_wanted, none_full, none_short, not_lost, not_short, thread_short, thread_told}
@@ -23,7 +25,7 @@ use Rattle.run_tally.specs.Limits.{filled_at}
 use Rattle.run_tally.specs.declared.full.Full.{Full}
 use Rattle.serve_pieces.specs.declared.ran.PieceEnd.{PieceEnd}
 use Rattle.serve_pieces.specs.declared.ran.PieceEnd.TheVariants.{DoorEnd, DoorFailed, NotRunning, Worked}
-use Rattle.serve_run.specs.Outcomes.{any_failed, is_failed as is_door_failed, least_in}
+use Rattle.serve_run.specs.Outcomes.{any_failed, is_failed, least_in}
 use Rattle.serve_run.specs.Running.{IsKeptRun, IsServedRun, IsWholeRun}
 use Rattle.serve_run.specs.Served.{EachEnded}
 use Rattle.serve_run.specs.Tours.{Tour}
@@ -31,14 +33,14 @@ use Rattle.serve_run.specs.declared.doors.Doors.{Doors}
 use Rattle.serve_run.specs.declared.outcome.Outcome.{Outcome}
 use Rattle.serve_run.specs.declared.outcome.Want.TheVariants.{Thread}
 
-failed_is : (end : PieceEnd) → is_door_failed end ≡ true → end ≡ DoorFailed
+failed_is : (end : PieceEnd) → is_failed end ≡ true → end ≡ DoorFailed
 failed_is DoorFailed is = refl
 failed_is DoorEnd is = absurd (true≢false (sym is))
 failed_is (NotRunning phase) is = absurd (true≢false (sym is))
 failed_is (Worked end) is = absurd (true≢false (sym is))
 
-not_failed : (end : PieceEnd) → is_door_failed end ≡ false → end ≢ DoorFailed
-not_failed end is at = true≢false (sym (ap is_door_failed at) ∙ is)
+not_failed : (end : PieceEnd) → is_failed end ≡ false → end ≢ DoorFailed
+not_failed end is at = true≢false (sym (ap is_failed at) ∙ is)
 
 both_false : (a b : Bool) → a || b ≡ false → (a ≡ false) × (b ≡ false)
 both_false true b is = absurd (true≢false is)
@@ -48,36 +50,36 @@ module _ {A L : Type 0} (standing : A → Option (Standing L)) (faults : A → �
   pub any_rose : (tours : List (Tour A L)) → any_failed tours ≡ true → EachEnded {A = A} {L = L} standing faults log tours → AnyRose {A = A} {L = L} faults tours
   any_rose [] is ended = absurd (true≢false (sym is))
   any_rose (t ∷ more) is ended =
-      elim (or_cases (any_failed more) (is_door_failed t.end) is) [
+      elim (or_cases (any_failed more) (is_failed t.end) is) [
         | inl there ↦ inr (any_rose more there ended.1)
         | inr here ↦ inl (ended.0.failed (failed_is t.end here))
       ]
 
   pub each_steady : (tours : List (Tour A L)) → any_failed tours ≡ false → EachEnded {A = A} {L = L} standing faults log tours → EachSteady {A = A} {L = L} faults tours
   each_steady [] is ended = tt
-  each_steady (t ∷ more) is ended = (let both = both_false (any_failed more) (is_door_failed t.end) is in (ended.0.steady (not_failed t.end both.1), each_steady more both.0 ended.1))
+  each_steady (t ∷ more) is ended = (let both = both_false (any_failed more) (is_failed t.end) is in (ended.0.steady (not_failed t.end both.1), each_steady more both.0 ended.1))
 
 module _ {A L : Type 0} (g : Givens) (shown : L → Shown) (standing : A → Option (Standing L)) (faults : A → ℕ) (workers : ℕ) (old new : Doors A) (outcome : Outcome) (life : Life)
     (ran : IsServedRun {A = A} {L = L} g shown standing faults workers old new outcome life)
     (journal : Result Put AllocError) (filled : Option Full) (filled_is : option_map (λ f. (f.arrivals, f.bytes)) filled ≡ filled_at life.history)
     (status : Status) (status_is : status ≡ status_of outcome journal filled) where
   abbrev m : Bool
-  m = wants_memory outcome || is_textless journal
+  m = wants_memory outcome || is_err journal
 
   abbrev s : Bool
-  s = is_short outcome.short
+  s = is_some outcome.short
 
   abbrev u : Bool
-  u = is_failed journal
+  u = is_unput journal
 
   abbrev l : Option Full
-  l = or_else filled outcome.refused
+  l = option_or filled outcome.refused
 
   kept_run : m ≡ false → IsKeptRun {A = A} {L = L} g shown standing faults workers ran.tours ran.last (reverse life.history)
-  kept_run none = ran.kept (not_lost outcome.lost outcome.short (is_textless journal) none)
+  kept_run none = ran.kept (not_lost outcome.lost outcome.short (is_err journal) none)
 
   whole_run : m ≡ false → s ≡ false → IsWholeRun {A = A} {L = L} g shown standing faults ran.tours ran.last (reverse life.history)
-  whole_run none all = ran.calm (not_short outcome.short all) (not_lost outcome.lost outcome.short (is_textless journal) none)
+  whole_run none all = ran.calm (not_short outcome.short all) (not_lost outcome.lost outcome.short (is_err journal) none)
 
   pub tells : Tells {A = A} {L = L} shown standing faults g workers ran.tours ran.last status life
   tells = record {
@@ -99,7 +101,7 @@ module _ {A L : Type 0} (g : Givens) (shown : L → Shown) (standing : A → Opt
   }
 
   pub no_thread : status ≡ NoThread → outcome.short ≡ Some Thread
-  no_thread is = (let told = thread_told m s u outcome.failed l (sym status_is ∙ is) in thread_short outcome.lost outcome.short (is_textless journal) told.0 told.1)
+  no_thread is = (let told = thread_told m s u outcome.failed l (sym status_is ∙ is) in thread_short outcome.lost outcome.short (is_err journal) told.0 told.1)
 
 module _ {A L : Type 0} (shown : L → Shown) (standing : A → Option (Standing L)) (faults : A → ℕ) (asked : Option Serve) (serve : Serve) (begun : Life) (status : Status) (old new : Doors A)
     (files between after : Option Contents) (asked_is : asked ≡ Some serve) (begins : IsBegun serve begun files between) (still : IfTold files between HoldsStill) where

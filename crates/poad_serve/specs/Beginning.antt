@@ -7,9 +7,9 @@ use Rattle.std.specs.FinMap.{empty}
 use Rattle.poa_base.specs.declared.Config.{Config}
 use Rattle.poa_base.specs.declared.limits.TheConstants.{CALLS}
 use Rattle.run_history.specs.Life.{Life, begun}
-use Rattle.poad_cmd.specs.Taking.{TakesConfig}
-use Rattle.poad_cmd.specs.declared.status.Status.{Status}
-use Rattle.poad_cmd.specs.declared.status.Status.TheVariants.{BadWords, WantMemory}
+use Rattle.poad_files.specs.Taking.{TakesConfig}
+use Rattle.poad_files.specs.declared.status.Status.{Status}
+use Rattle.poad_files.specs.declared.status.Status.TheVariants.{BadWords, WantMemory}
 use Rattle.poad_serve.specs.declared.beginning.Beginning.{Beginning}
 
 -- what the words ask for, or why they ask for no run

@@ -8,9 +8,9 @@ use Rattle.outside.specs.Link.{Shown}
 use Rattle.outside.specs.Told.{IfTold}
 use Rattle.outside.specs.declared.keeping.Put.{Put}
 use Rattle.poa_base.specs.declared.Entry.{Entry}
-use Rattle.poad_cmd.specs.Taking.{HoldsStill}
-use Rattle.poad_cmd.specs.declared.status.Status.{Status}
-use Rattle.poad_cmd.specs.declared.status.Status.TheVariants.{Ok as Fine, WantMemory, NoThread, ListenFault, Limit}
+use Rattle.poad_files.specs.Taking.{HoldsStill}
+use Rattle.poad_files.specs.declared.status.Status.{Status}
+use Rattle.poad_files.specs.declared.status.Status.TheVariants.{Ok as Fine, WantMemory, NoThread, ListenFault, Limit}
 use Rattle.poad_serve.specs.Beginning.{IsBegun, IsRefused}
 use Rattle.poad_serve.specs.Ending.{AnyRose, EachSteady, IsLimit, status_of}
 use Rattle.poad_serve.specs.Putting.{PutsJournal}

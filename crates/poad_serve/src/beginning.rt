@@ -3,7 +3,7 @@ ghost use Rattle.std.specs.Prelude.{◌≡◌, Err, IfOk};
 ghost use Rattle.outside.specs.Cause.{HasCause};
 ghost use Rattle.outside.specs.Told.{IfTold};
 ghost use Rattle.command_words.specs.Serving.{serve_in};
-ghost use Rattle.poad_cmd.specs.Taking.{HoldsStill};
+ghost use Rattle.poad_files.specs.Taking.{HoldsStill};
 ghost use Rattle.poad_serve.specs.Beginning.{Begins, BeginsBy, IsAsked, IsInRange};
 
 use command_words::{ServeWords, WordsFault, serve_words};
@@ -11,7 +11,7 @@ use outside::Files;
 use poa_base::Store;
 use poa_base::limits::CALLS;
 use poa_core::Core;
-use poad_cmd::{Status, take_config};
+use poad_files::{Status, take_config};
 use std::alloc::Global;
 
 /// What a run is made of.

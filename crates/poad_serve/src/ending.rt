@@ -4,7 +4,7 @@ ghost use Rattle.poad_serve.specs.Ending as spec;
 
 use outside::Put;
 use poa_base::WantMemory;
-use poad_cmd::Status;
+use poad_files::Status;
 use run_tally::Full;
 use serve_run::{Outcome, Want};
 
@@ -23,7 +23,7 @@ pub(crate) fn status_of(
     if outcome.short.is_some() {
         return Status::NoThread;
     }
-    if is_failed(journal) {
+    if is_unput(journal) {
         return Status::FileFault;
     }
     if outcome.failed {
@@ -39,8 +39,8 @@ fn wants_memory(outcome: &Outcome) -> bool
     outcome.lost || matches!(outcome.short, Some(Want::Memory))
 }
 
-fn is_failed(journal: &Result<Put, WantMemory>) -> bool
-    ensures { result ≡ spec.is_failed journal.now }
+fn is_unput(journal: &Result<Put, WantMemory>) -> bool
+    ensures { result ≡ spec.is_unput journal.now }
 {
     matches!(journal, Ok(Put::Failed))
 }

@@ -10,7 +10,7 @@ use crate::ending::status_of;
 use crate::putting::put_journal;
 use crate::served::Served;
 use outside::{Acceptor, Files, Gate, ThreadCrew};
-use poad_cmd::{Host, Status};
+use poad_files::{Host, Status};
 use serve_run::{Doors, Finished, Run, serve_core};
 use std::alloc::Global;
 use std::sync::{Arc, Wait};

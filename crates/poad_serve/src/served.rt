@@ -2,7 +2,7 @@
 ghost use Rattle.std.specs.Prelude.{◌≡◌, None};
 
 use poa_core::Core;
-use poad_cmd::Status;
+use poad_files::Status;
 use serve_run::Doors;
 
 /// What comes of `serve`.

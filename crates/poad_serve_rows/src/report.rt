@@ -2,7 +2,7 @@
 use crate::case::Case;
 use crate::serving::Ran;
 use anyhow::Result;
-use poad_cmd::Status;
+use poad_files::Status;
 use std::alloc::Global;
 
 /// What is printed of the cases so far.

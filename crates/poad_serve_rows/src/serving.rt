@@ -5,7 +5,7 @@ use anyhow::{Result, ensure};
 use command_words::plan_of;
 use outside::{Gate, MemFiles, MemSink, MemSource, OpenGate, ThreadCrew};
 use outside_memory::{HoldGate, MemDoor, Signal};
-use poad_cmd::Host;
+use poad_files::Host;
 use poad_serve::{Served, run_serve};
 use std::alloc::Global;
 use std::sync::{Arc, Wait};

@@ -53,9 +53,9 @@ none_after c short (e ∷ rest) none = (
     at_next : get_elem? (short ++ e ∷ rest) (length short) ≡ some e
     at_next = subst (λ l. get_elem? l (length short) ≡ some e) (append_assoc short (e ∷ []) rest) (at_longer (short ++ e ∷ []) rest (length short) e (at_last short e (length short) refl))
 
--- a session stays what it is while others make entries
+-- a session stays what it is while others make entries of the run
 abbrev pub Stays : Givens → Type 0
-Stays g = (peer : Peer) (log more : List Entry) (c : ℕ) (text out : List ℕ) (end : SessionEnd) → HasNone c more → Session g peer log c text out end → Session g peer (log ++ more) c text out end
+Stays g = (peer : Peer) (log more : List Entry) (c : ℕ) (text out : List ℕ) (end : SessionEnd) → IsLog g (log ++ more) → HasNone c more → Session g peer log c text out end → Session g peer (log ++ more) c text out end
 
 module _ {A L : Type 0} (g : Givens) (shown : L → Shown) (standing : A → Option (Standing L)) (faults : A → ℕ) (own : Option (ℕ × Entry)) (tours : List (Tour A L)) (shifts : List Shift) (v : View Givens Entry) (holds : Holds {A = A} {L = L} g shown standing faults own tours shifts v)
     (log : List Entry) (is_whole : IsWhole v log) (runs : IsLog g log) where
@@ -146,7 +146,8 @@ module _ {A L : Type 0} (g : Givens) (shown : L → Shown) (standing : A → Opt
           text = told.text;
           out = told.out;
           moved = told.moved;
-          session = subst (λ l. Session g peer l c told.text told.out x.session.end) (sym grown) (stays peer closing.seen later.0 c told.text told.out x.session.end none told.session);
+          few = told.few;
+          session = subst (λ l. Session g peer l c told.text told.out x.session.end) (sym grown) (stays peer closing.seen later.0 c told.text told.out x.session.end (subst (IsLog g) grown runs) none told.session);
           stood = told.stood;
           left = subst (λ l. IsPrefix l log) told.left (later.0, grown);
           cause = told.cause;

@@ -1,5 +1,5 @@
 -- What a run of the server comes to, read on the journal of the core that is given back. A place is an index into the journal.
-use Rattle.std.specs.Prelude.{◌≡◌, ℕ, ◌<◌, ◌≤◌, ◌⊎◌, Bool, true, false, not, ◌&&◌, ◌||◌, List, [], ◌∷◌, ◌++◌, reverse, Option, Some, IfSome, MatchOption}
+use Rattle.std.specs.Prelude.{◌≡◌, ℕ, ◌^◌, ◌<◌, ◌≤◌, ◌⊎◌, Bool, true, false, not, ◌&&◌, ◌||◌, List, [], ◌∷◌, ◌++◌, length, reverse, Option, Some, IfSome, MatchOption}
 use mathlib.Core.Option.{some}
 use lib.ListN.{get_elem?}
 use Rattle.outside.specs.Accepting.{Standing}
@@ -35,6 +35,7 @@ pub record IsSession (g : Givens) (peer : Peer) (log : List Entry) (a b : Shown)
   pub text : List ℕ
   pub out : List ℕ
   pub moved : Moves a b text out
+  pub few : length text ≤ 2 ^ 40
   pub session : Session g peer log c text out end
   pub stood : List Entry
   pub left : IsPrefix (stood ++ Left c ∷ []) log

@@ -1,5 +1,5 @@
 -- What is read of a peer, piece by piece.
-use Rattle.std.specs.Prelude.{◌≡◌, ℕ, ◌+◌, List, [], ◌∷◌, length, Ok, Err}
+use Rattle.std.specs.Prelude.{◌≡◌, ℕ, ◌+◌, ◌<◌, List, [], ◌∷◌, length, Ok, Err}
 use Rattle.giop_frame.specs.Stream.{Framed}
 use Rattle.giop_msg.specs.declared.Incoming.TheVariants as incoming
 use Rattle.giop_msg.specs.declared.MsgFault.{MsgFault}
@@ -23,6 +23,11 @@ OfEar (Lines lines) = OfLines lines
 abbrev pub reach_of : Ear → ℕ
 reach_of (Messages framer) = reach framer
 reach_of (Lines lines) = lines.place + length lines.unread
+
+-- how many bytes it was fed and hasn't read
+abbrev pub unread_of : Ear → ℕ
+unread_of (Messages framer) = length framer.unread
+unread_of (Lines lines) = length lines.unread
 
 -- a client's messages are no longer than a message may be
 abbrev pub IsLimited : Ear → Type 0
@@ -50,6 +55,12 @@ AsTold told.Nothing P Q = StillHears P Q
 AsTold (told.More have) P Q = StillHears P Q × Q [] [] (over have)
 AsTold told.Closed P Q = P [] [] closed
 AsTold (told.Bad at) P Q = P [] [] (bad at)
+
+-- a message and a line take unread bytes away, so that a loop over what is told ends
+abbrev pub TakesBytes : Told → ℕ → ℕ → Type 0
+TakesBytes (told.Call call size) before now = now < before
+TakesBytes told.Nothing before now = now < before
+TakesBytes other before now = Unit {0}
 
 -- what an answer says of a message
 abbrev pub Asks : Framed → Told → Type 0

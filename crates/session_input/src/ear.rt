@@ -2,7 +2,7 @@
 ghost use Rattle.std.specs.Prelude.{◌≡◌, ◌+◌, ◌++◌, ◌<◌, ◌≤◌, ◌^◌, ℕ, List, [], length, IfOk, OnOk, OnErr};
 ghost use Rattle.session_laws.specs.Hearing.{Heard, Stop, message_limit};
 ghost use Rattle.session_laws.specs.Expecting.{Expects, OfFramer, OfLines};
-ghost use Rattle.session_input.specs.Hearing.{AsTold, Asks, IsLimited, OfEar, reach_of};
+ghost use Rattle.session_input.specs.Hearing.{AsTold, Asks, IsLimited, OfEar, TakesBytes, reach_of, unread_of};
 ghost use Rattle.giop_frame.specs.Framer.{reach};
 
 use crate::line_cutter::LineCutter;
@@ -56,6 +56,7 @@ impl Ear {
     pub(crate) fn next(&mut self, alloc: Global) -> Result<Told, WantMemory>
         requires { IsLimited self.old }
         ensures told { IfOk result (λ t. AsTold t (OfEar self.old) (OfEar self.new)) }
+        ensures shorter { IfOk result (λ t. TakesBytes t (unread_of self.old) (unread_of self.new)) }
         ensures limited { IsLimited self.new }
         ensures reached { reach_of self.new ≤ reach_of self.old }
     {
@@ -70,6 +71,7 @@ impl Ear {
 fn next_message(alloc: Global, framer: &mut Framer) -> Result<Told, WantMemory>
     requires { framer.old.limit ≡ message_limit }
     ensures told { IfOk result (λ t. AsTold t (OfFramer framer.old) (OfFramer framer.new)) }
+    ensures shorter { IfOk result (λ t. TakesBytes t (length framer.old.unread) (length framer.new.unread)) }
     ensures limited { framer.new.limit ≡ message_limit }
     ensures reached { reach framer.new ≤ reach framer.old }
 {

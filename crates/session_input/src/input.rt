@@ -2,7 +2,7 @@
 ghost use Rattle.std.specs.Prelude.{◌≡◌, ◌+◌, ◌++◌, ◌≤◌, ◌^◌, ℕ, List, [], length, IfOk, OnOk, OnErr};
 ghost use Rattle.session_laws.specs.Hearing.{Heard, Stop};
 ghost use Rattle.session_laws.specs.Expecting.{Expects};
-ghost use Rattle.session_input.specs.Hearing.{AsTold, OfIntake};
+ghost use Rattle.session_input.specs.Hearing.{AsTold, OfIntake, TakesBytes, unread_of};
 
 use crate::ear::Ear;
 use crate::told::Told;
@@ -64,6 +64,7 @@ impl Input {
     /// What the bytes say next. Where no memory is left for it, it is lost.
     pub fn next(&mut self, alloc: Global) -> Result<Told, WantMemory>
         ensures told { IfOk result (λ t. AsTold t (OfIntake self.old) (OfIntake self.new)) }
+        ensures shorter { IfOk result (λ t. TakesBytes t (unread_of self.old.ear) (unread_of self.new.ear)) }
         ensures taken { self.new.taken ≡ self.old.taken }
     {
         self.ear.next(alloc)

@@ -4,7 +4,7 @@ ghost use Rattle.text_words.specs.Cuts.{lacks};
 ghost use Rattle.session_laws.specs.Hearing.{Heard, Stop};
 ghost use Rattle.session_laws.specs.Lines.{is_long as is_long_line, is_spoken as is_spoken_line, without_return as without_return_of};
 ghost use Rattle.session_laws.specs.Expecting.{OfLines};
-ghost use Rattle.session_input.specs.Hearing.{AsTold, Speaks};
+ghost use Rattle.session_input.specs.Hearing.{AsTold, Speaks, TakesBytes};
 
 use crate::told::Told;
 use admin_line::read_line;
@@ -66,6 +66,7 @@ impl LineCutter {
     /// What the next line says. A line that is too long is told as soon as so many bytes are there.
     pub(crate) fn next(&mut self, alloc: Global) -> Result<Told, WantMemory>
         ensures told { IfOk result (λ t. AsTold t (OfLines self.old) (OfLines self.new)) }
+        ensures shorter { IfOk result (λ t. TakesBytes t (length self.old.unread) (length self.new.unread)) }
         ensures reached { self.new.place + length self.new.unread ≤ self.old.place + length self.old.unread }
     {
         let unread = self.unread();

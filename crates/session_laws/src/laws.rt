@@ -4,11 +4,12 @@ ghost use Rattle.poa_base.specs.declared.Entry.{Entry};
 ghost use Rattle.poa_base.specs.declared.SessionEnd.{SessionEnd};
 ghost use Rattle.run_history.specs.declared.Givens.{Givens};
 ghost use Rattle.run_history.specs.Owners.{HasNone};
+ghost use Rattle.run_history.specs.Runs.{IsLog};
 ghost use Rattle.session_laws.specs.declared.peer.Peer.{Peer};
 ghost use Rattle.session_laws.specs.Sessions.{Session};
 
-/// A session stays what it is while others make entries.
+/// A session stays what it is while others make entries of the run.
 pub fn sessions_stay()
     ensures { (g : Givens) (peer : Peer) (log more : List Entry) (c : ℕ) (text out : List ℕ) (end : SessionEnd)
-        → HasNone c more → Session g peer log c text out end → Session g peer (log ++ more) c text out end }
+        → IsLog g (log ++ more) → HasNone c more → Session g peer log c text out end → Session g peer (log ++ more) c text out end }
 {}

@@ -4,7 +4,7 @@ use Rattle.poa_core.specs.declared.step_out.StepOut.TheVariants as step_out
 use Rattle.poa_shared.specs.Events.{Event}
 use Rattle.poa_core.specs.Answers.{Steps}
 use Rattle.poa_worker.specs.Pauses.{IsPaused}
-use Rattle.poa_worker.proofs.Ending.{step_idle, step_stopped}
+use Rattle.poa_worker.proofs.Ending.{step_did, step_idle, step_stopped}
 use Rattle.poa_worker.proofs.Steps.{steps_on}
 use Rattle.seat_lock.specs.Seats.{view}
 use Rattle.poa_worker.proofs.turning.turns_within.Goals as goal
@@ -17,7 +17,13 @@ returns-in_err-step_within-clause-turned g c = λ k given.
     )
 
 pub returns-then-not-is_open-clause-turned : goal.returns-then-not-is_open-clause-turned
-returns-then-not-is_open-clause-turned g c = λ k given. (steps_on c.args.worker c.step_within.result (view c.args.seat.now) (view c.loop.seat) (view c.step_within.new.seat) c.loop.invariant.so_far c.step_within.ensures.stepped k given, tt)
+returns-then-not-is_open-clause-turned g c = λ k given.
+    let is : c.step_within.result ≡ Ok (step_out.Did c.in-Did.point) = cc in
+    let so_far = c.loop.invariant.so_far k given in (
+      steps_on c.args.worker c.step_within.result (view c.args.seat.now) (view c.loop.seat) (view c.step_within.new.seat) c.loop.invariant.so_far c.step_within.ensures.stepped k given,
+      step_did c.args.worker k (view c.loop.seat) (view c.step_within.new.seat) (so_far.given ∙ given) c.in-Did.point
+          (subst (λ r. Event (λ old new. Steps c.args.worker old r new) (view c.loop.seat) (view c.step_within.new.seat)) is c.step_within.ensures.stepped),
+    )
 
 pub returns-in-Idle-clause-turned : goal.returns-in-Idle-clause-turned
 returns-in-Idle-clause-turned g c = λ k given.

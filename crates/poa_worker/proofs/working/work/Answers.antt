@@ -1,5 +1,6 @@
-use Rattle.std.proofs.Common.{◌≡◌, ap, true, Ok}
+use Rattle.std.proofs.Common.{◌≡◌, ap, rules, subst, sym, true, Ok}
 use Rattle.poa_worker.specs.declared.pause.Pause.TheVariants as pause
+use Rattle.poa_worker.specs.Pauses.{MakesTurns}
 use Rattle.poa_worker.proofs.Ending.{closes, gives_it_up, goes_further, stops}
 use Rattle.seat_lock.specs.Seats.{view}
 use Rattle.poa_worker.proofs.working.work.Goals as goal
@@ -7,8 +8,10 @@ use Rattle.poa_worker.proofs.working.work.Goals as goal
 pub loop-preserved-in-Ok-At : goal.loop-preserved-in-Ok-At
 loop-preserved-in-Ok-At g c = record {
   ends = (tt, tt);
-  seat = c.take_turns.ensures.seat;
-  so_far = goes_further c.args.worker (view c.args.seat.now) (view c.loop.seat) (view c.listen-heard.new.seat) (view c.take_turns.new.seat) c.loop.invariant.so_far (ap (λ m. m.0) c.listen-heard.ensures.same.2) c.take_turns.result c.take_turns.ensures.turned;
+  seat = search rules;
+  so_far = λ k given.
+      subst (λ v. MakesTurns c.args.worker (view c.args.seat.now) v) (sym (ap (λ m. m.0) c.wake_another.ensures.2))
+      (goes_further c.args.worker (view c.args.seat.now) (view c.loop.seat) (view c.listen-heard.new.seat) (view c.take_turns.new.seat) c.loop.invariant.so_far (ap (λ m. m.0) c.listen-heard.ensures.same.2) c.take_turns.result c.take_turns.ensures.turned k given);
 }
 
 pub loop-preserved-in-Ok-Idle-false : goal.loop-preserved-in-Ok-Idle-false
