@@ -7,7 +7,8 @@ mod serving;
 
 use crate::serving::serve;
 use outside::{StandardInput, StandardOutput, SystemFiles};
-use poad_cmd::{Host, Status, run_words};
+use poad_cmd::run_words;
+use poad_files::{Host, Status};
 use std::env;
 use std::io::ErrorKind;
 use std::process::ExitCode;

@@ -3,7 +3,7 @@ ghost use Rattle.std.specs.Prelude.{◌≡◌, IfOk, vec_len};
 
 use outside_sockets::{Ears, MioDoor, listen};
 use poa_base::Config;
-use poad_cmd::Status;
+use poad_files::Status;
 use serve_run::Doors;
 use std::alloc::Global;
 use std::io;

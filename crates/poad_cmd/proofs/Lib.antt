@@ -1,9 +1,2 @@
-pub mod Told
-pub mod Causes
-pub mod Delivered
-pub mod Serving
-pub mod Pieces
-pub mod Worked
-pub mod Running
-pub mod Files
-pub mod Named
+pub mod Played
+pub mod Commanded

@@ -1,11 +1,2 @@
-pub mod Serving
-pub mod Stop
-pub mod Run
-pub mod Showing
-pub mod Filing
-pub mod Taking
-pub mod Answering
 pub mod Playing
-pub mod Service
-pub mod Delivery
-pub mod Piece
+pub mod Commands

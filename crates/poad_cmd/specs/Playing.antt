@@ -1,17 +1,17 @@
 -- What `replay` writes, and its status.
-use Rattle.std.specs.Prelude.{◌≡◌, ◌≢◌, ℕ, ◌<◌, List, ◌++◌, Option, None, Some, Ok as OkResult, Err, take, ⊤}
+use Rattle.std.specs.Prelude.{◌≡◌, ℕ, ◌<◌, List, ◌++◌, Option, None, Some, Ok as OkResult, Err, take}
 use Rattle.outside.specs.Keeping.{Contents}
 use Rattle.outside.specs.Told.{IfTold}
 use Rattle.poa_base.specs.declared.Config.{Config}
 use Rattle.poa_base.specs.declared.limits.TheConstants.{CALLS}
 use Rattle.replay_script.specs.declared.Script.{Script}
-use Rattle.replay_run.specs.declared.Full.{Full}
+use Rattle.replay_player.specs.declared.full.Full.{Full}
 use Rattle.replay_run.specs.declared.Played.{Played}
 use Rattle.replay_run.specs.Playing.{IsPlayed}
-use Rattle.poad_cmd.specs.Showing.{GainsNothing}
-use Rattle.poad_cmd.specs.Taking.{TakesConfig, TakesScript, Refused, config_limit, script_limit}
-use Rattle.poad_cmd.specs.declared.status.Status.{Status}
-use Rattle.poad_cmd.specs.declared.status.Status.TheVariants.{Ok, ConfigRefused, ScriptRefused, WriteFault, FileFault, WantMemory, NoFile, FileTooLong, Held, Limit}
+use Rattle.poad_files.specs.Showing.{GainsNothing}
+use Rattle.poad_files.specs.Taking.{TakesConfig, TakesScript}
+use Rattle.poad_files.specs.declared.status.Status.{Status}
+use Rattle.poad_files.specs.declared.status.Status.TheVariants.{Ok, ConfigRefused, ScriptRefused, WriteFault, FileFault, WantMemory, NoFile, FileTooLong, Held, Limit}
 
 -- the status behind the last line: a limit was met, or calls are held, or neither
 abbrev pub EndsPlay : Status → ℕ → Option Full → Type 0

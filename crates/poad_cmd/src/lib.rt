@@ -4,24 +4,7 @@
 //! print what a configuration has.
 #![tactic(auto)]
 
-mod answering;
-mod delivery;
-mod fault_line;
-mod filing;
-mod host;
-mod naming;
 mod playing;
 mod run;
-mod service;
-mod showing;
-mod status;
-mod stop;
-mod taking;
-#[cfg(test)]
-mod tests;
-mod turns;
 
-pub use host::Host;
 pub use run::run_words;
-pub use status::Status;
-pub use taking::take_config;

@@ -3,16 +3,15 @@ ghost use Rattle.std.specs.Prelude.{◌≡◌};
 ghost use Rattle.outside.specs.Cause.{HasCause};
 ghost use Rattle.outside.specs.Told.{IfTold};
 ghost use Rattle.conf_rules.specs.Rules.{KeepsRules};
-ghost use Rattle.poad_cmd.specs.Taking.{HoldsStill};
+ghost use Rattle.poad_files.specs.Taking.{HoldsStill};
 ghost use Rattle.poad_cmd.specs.Playing.{EndsPlay, PlaysFiles, PlaysScript};
 
-use crate::delivery::deliver;
-use crate::status::Status;
-use crate::taking::{take_config, take_script};
 use outside::{Files, Sink};
 use poa_base::Config;
 use poa_base::limits::CALLS;
-use replay_run::{Full, replay};
+use poad_files::{Status, deliver, take_config, take_script};
+use replay_player::Full;
+use replay_run::replay;
 use replay_script::Script;
 use std::alloc::Global;
 

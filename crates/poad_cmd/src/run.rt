@@ -1,25 +1,23 @@
 //! A command over a source, a sink and files.
-ghost use Rattle.std.specs.Prelude.{◌≡◌, ◌⊎◌, ℕ, List, Option, Some, None, false};
+ghost use Rattle.std.specs.Prelude.{◌≡◌, ◌≢◌, ◌⊎◌, ℕ, List, Option, Some, None, false};
 ghost use Rattle.outside.specs.Cause.{HasCause};
 ghost use Rattle.outside.specs.Told.{IfTold};
 ghost use Rattle.command_words.specs.Words as spec;
-ghost use Rattle.command_words.specs.Words.{command_in};
+ghost use Rattle.command_words.specs.Words.{command_in, seen};
 ghost use Rattle.conf_print.specs.declared.Asked.TheVariants.{Counts, References};
-ghost use Rattle.poad_cmd.specs.Answering.{AnswersBy};
+ghost use Rattle.poad_answer.specs.Answering.{AnswersBy};
+ghost use Rattle.poad_cmd.specs.Commands.{Does};
 ghost use Rattle.poad_cmd.specs.Playing.{PlaysFiles};
-ghost use Rattle.poad_cmd.specs.Showing.{Tells};
-ghost use Rattle.poad_cmd.specs.Filing.{Filed};
-ghost use Rattle.poad_cmd.specs.Taking.{HoldsStill};
+ghost use Rattle.poad_files.specs.Showing.{Tells};
+ghost use Rattle.poad_files.specs.Filing.{Filed};
+ghost use Rattle.poad_files.specs.Taking.{HoldsStill};
 
-use crate::filing::print_file;
-use crate::host::Host;
-use crate::naming::answer_by;
 use crate::playing::play_files;
-use crate::showing::show_text;
-use crate::status::Status;
 use command_words::{Command, WordsFault, command_of};
 use conf_print::Asked;
 use outside::{Files, Sink, Source};
+use poad_answer::answer_by;
+use poad_files::{Host, Status, print_file, show_text};
 use std::alloc::Global;
 
 /// Does what the words say.
@@ -84,7 +82,31 @@ pub fn run_words<S: Source, K: Sink, F: Files>(
     ensures too_long { HasCause (F.long_ones host.old.files) (F.long_ones host.new.files) (result ≡ Status.FileTooLong) }
 {
     match command_of(alloc, words) {
-        Ok(Command::Answer(name)) => {
+        Ok(command) => run_command(alloc, command, host),
+        Err(WordsFault::BadWords) => Status::BadWords,
+        Err(WordsFault::WantMemory) => Status::WantMemory,
+    }
+}
+
+// Does what a command asks.
+fn run_command<S: Source, K: Sink, F: Files>(
+    alloc: Global,
+    command: Command<'_>,
+    host: &mut Host<S, K, F>,
+) -> Status
+    requires patient { S.is_waiting host.old.source ≡ false }
+    ensures does { Does (seen command.entry) result (F.contents host.old.files) (F.contents host.new.files) (S.left host.old.source) (S.left host.new.source)
+        (K.held host.old.sink) (K.held host.new.sink) host.old.source host.new.source host.old.files host.new.files }
+    ensures is_command { result ≢ Status.BadWords }
+    ensures contents { IfTold (F.contents host.old.files) (F.contents host.new.files) HoldsStill }
+    ensures read_fault { HasCause (S.read_faults host.old.source) (S.read_faults host.new.source) (result ≡ Status.ReadFault) }
+    ensures write_fault { HasCause (K.write_faults host.old.sink) (K.write_faults host.new.sink) (result ≡ Status.WriteFault) }
+    ensures file_fault { HasCause (F.take_faults host.old.files) (F.take_faults host.new.files) (result ≡ Status.FileFault) }
+    ensures no_file { HasCause (F.absents host.old.files) (F.absents host.new.files) (result ≡ Status.NoFile) }
+    ensures too_long { HasCause (F.long_ones host.old.files) (F.long_ones host.new.files) (result ≡ Status.FileTooLong) }
+{
+    match command {
+        Command::Answer(name) => {
             answer_by(
                 alloc,
                 name,
@@ -93,14 +115,14 @@ pub fn run_words<S: Source, K: Sink, F: Files>(
                 &mut host.sink,
             )
         }
-        Ok(Command::Replay { config, script }) => {
+        Command::Replay { config, script } => {
             play_files(alloc, config, script, &mut host.files, &mut host.sink)
         }
-        Ok(Command::Show(text)) => show_text(alloc, text.as_bytes(), &mut host.sink),
-        Ok(Command::Check(name)) => {
+        Command::Show(text) => show_text(alloc, text.as_bytes(), &mut host.sink),
+        Command::Check(name) => {
             print_file(alloc, Asked::Counts, name, &mut host.files, &mut host.sink)
         }
-        Ok(Command::Iors(name)) => {
+        Command::Iors(name) => {
             print_file(
                 alloc,
                 Asked::References,
@@ -109,7 +131,5 @@ pub fn run_words<S: Source, K: Sink, F: Files>(
                 &mut host.sink,
             )
         }
-        Err(WordsFault::BadWords) => Status::BadWords,
-        Err(WordsFault::WantMemory) => Status::WantMemory,
     }
 }

@@ -3,7 +3,8 @@ use crate::fault::Fault;
 use crate::limited::play_limited;
 use crate::shelf::Shelf;
 use outside::{MemFiles, MemSink, MemSource};
-use poad_cmd::{Host, Status, run_words};
+use poad_cmd::run_words;
+use poad_files::{Host, Status};
 use std::alloc::Global;
 
 /// How many bytes a read gives where the case doesn't say.

@@ -8,7 +8,7 @@ use crate::shelf::Shelf;
 use conf_toml::read_config;
 use poa_base::Config;
 use poa_base::limits::CALLS;
-use poad_cmd::Status;
+use poad_files::Status;
 use replay_run::{Played, replay};
 use replay_script::read_script;
 use std::alloc::Global;

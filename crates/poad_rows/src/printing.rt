@@ -2,7 +2,7 @@
 ghost use Rattle.std.specs.Prelude.{◌≤◌, length};
 
 use crate::fault::Fault;
-use poad_cmd::Status;
+use poad_files::Status;
 use std::alloc::Global;
 use text_words::{put_number, put_octets};
 

@@ -1,13 +1,9 @@
-pub mod Turning
-pub mod Same
-pub mod Idle
-pub mod Seats
 pub mod Onward
-pub mod Turned
+pub mod Seats
+pub mod Idle
 pub mod Listed
 pub mod Read
-pub mod Collected
+pub mod Told
 pub mod Meeting
-pub mod Given
+pub mod Steps
 pub mod Whole
-pub mod Asked

@@ -1,18 +1,19 @@
 -- Lists walked from the front.
-use Rattle.std.proofs.Common.{◌≡◌, ℕ, zero, suc, ◌+◌, ◌<◌, ◌≤◌, List, [], ◌∷◌, ◌++◌, take, drop, length, Option, Some, None, slice_get, refl, sym, ap, ◌∙◌, subst, append_assoc, append-nil, arith, add-one, ◌⊎◌, inl, inr, get_or, drop-cons}
+use Rattle.std.proofs.Common.{◌≡◌, ℕ, zero, suc, ◌+◌, ◌<◌, ◌≤◌, List, [], ◌∷◌, ◌++◌, take, drop, length, Some, None, slice_get, refl, sym, ap, ◌∙◌, subst, append_assoc, append-nil, arith, add-one, ◌⊎◌, inl, inr, get_or, drop-cons}
 use Rattle.std.proofs.lemmas.List.{take_more}
 use Rattle.std.proofs.lemmas.Grind.{common_steps}
 use Rattle.poa_history.specs.Arrivals.{connections}
 use Rattle.run_history.specs.Life.{Life}
 use Rattle.replay_script.specs.declared.ScriptStep.{ScriptStep}
 use Rattle.replay_run.specs.declared.channel.Channel.{Channel}
-use Rattle.replay_run.specs.declared.player.Player.{Player}
-use Rattle.replay_run.specs.World.{World}
-use Rattle.replay_run.specs.Working.{Then}
+use Rattle.replay_player.specs.declared.player.Player.{Player}
 use Rattle.replay_run.specs.Playing.{AreFresh, IsFresh, CollectsEach, CollectsOf, Plays, PlaysAll}
-use Rattle.replay_run.specs.Keeping.{AllEntered, IsNew, IsCounted, Works, Shows, world}
-use Rattle.replay_run.proofs.Same.{Still}
-use Rattle.replay_run.proofs.Onward.{works_join, shows_join}
+use Rattle.replay_run.specs.Keeping.{AllEntered, IsNew, IsCounted, Shows, world}
+use Rattle.replay_player.specs.Effects.{Works}
+use Rattle.replay_player.proofs.Same.{Still}
+use Rattle.replay_player.proofs.Onward.{works_join}
+use Rattle.replay_run.proofs.Onward.{shows_join}
+use Rattle.replay_player.specs.Working.{Then}
 
 -- one connection more
 pub fresh_more : (names : List (List ℕ)) (channels : List Channel) (name : List ℕ) (channel : Channel) → AreFresh names channels → IsFresh name channel

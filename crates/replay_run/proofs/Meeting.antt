@@ -1,18 +1,17 @@
 -- A line comes to a connection.
-use Rattle.std.proofs.Common.{◌≡◌, ℕ, zero, suc, Bool, true, false, List, [], ◌∷◌, ◌++◌, Option, Some, None, option_map, slice_get, slice_set, refl, sym, ap, ◌∙◌, subst, append-nil}
+use Rattle.std.proofs.Common.{◌≡◌, ℕ, zero, suc, Bool, true, false, List, [], ◌∷◌, ◌++◌, Option, Some, None, slice_get, slice_set, refl, sym, ap, ◌∙◌, subst, append-nil}
 use Rattle.std.specs.Option.{option_or}
 use Rattle.poa_base.specs.declared.Entry.TheVariants.{Entered}
 use Rattle.poa_history.specs.Arrivals.{arrivals, arrived_bytes, connections}
 use Rattle.run_history.specs.Life.{Life, with_entry}
-use Rattle.poa_core.specs.Answers.{filled_at}
 use Rattle.replay_run.specs.declared.channel.Channel.{Channel}
-use Rattle.replay_run.specs.declared.played.Full.{Full}
-use Rattle.replay_run.specs.declared.player.Player.{Player}
+use Rattle.replay_player.specs.declared.full.Full.{Full}
+use Rattle.replay_player.specs.declared.player.Player.{Player}
 use Rattle.replay_run.specs.World.{World, Talk}
-use Rattle.replay_run.specs.Lines.{limit_line}
-use Rattle.replay_run.specs.Talking.{Carries, Enters, OnChannel, OnPlace, OnLine, entered, turned_away, numbered, has_room}
-use Rattle.replay_run.specs.Keeping.{Keeps, KnowsFilled, Meets, knows, enters, refuses, Shows, Tells, talk, world}
-use Rattle.replay_run.proofs.Same.{Still, still_life}
+use Rattle.replay_lines.specs.Lines.{limit_line}
+use Rattle.replay_run.specs.Talking.{Enters, OnChannel, OnPlace, OnLine, entered, turned_away, numbered, has_room, Carries}
+use Rattle.replay_run.specs.Keeping.{Keeps, Meets, knows, enters, refuses, Shows, Tells, talk, world}
+use Rattle.replay_player.proofs.Same.{Still, still_life}
 use Rattle.replay_run.proofs.Seats.{keeps_still}
 
 -- a place that is set to what it has

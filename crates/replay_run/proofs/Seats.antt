@@ -1,46 +1,54 @@
 -- How the player keeps what it knows of connections.
-use Rattle.std.proofs.Common.{◌≡◌, ◌≢◌, ℕ, zero, suc, ◌+◌, ◌≤◌, ◌<◌, Bool, true, false, ◌||◌, not, List, [], ◌∷◌, length, Option, Some, None, Ok, Err, Result, refl, sym, ap, ◌∙◌, subst, slice_get, slice_set, option_map, if◌then◌else◌, arith, ◌⊎◌, inl, inr}
+use Rattle.std.proofs.Common.{◌≡◌, ◌≢◌, ℕ, zero, suc, ◌+◌, ◌≤◌, ◌<◌, Bool, true, false, if◌then◌else◌, ◌||◌, not, List, [], ◌∷◌, length, Some, None, Ok, Err, Result, refl, sym, ap, ◌∙◌, subst, slice_get, slice_set, option_map, arith, ◌⊎◌, inl, inr}
 use Rattle.std.proofs.lemmas.Bool.Decides.{nat_tests}
 use Rattle.poa_base.specs.declared.Call.{Call}
 use Rattle.poa_base.specs.declared.Call.TheVariants.{Line}
 use Rattle.admin_line.specs.Reading.{command_of_line}
 use Rattle.poa_base.specs.declared.Entry.{Entry}
-use Rattle.poa_base.specs.declared.Entry.TheVariants.{Arrive, Entered, Left, Filled}
+use Rattle.poa_base.specs.declared.Entry.TheVariants.{Arrive, Entered, Filled, Left}
 use Rattle.poa_history.specs.Arrivals.{connections}
 use Rattle.poa_history.specs.Legal.{has_left, is_filled, IsOpen}
 use Rattle.run_history.specs.Life.{Life, with_entry}
-use Rattle.poa_core.specs.declared.ArriveFault.{ArriveFault}
-use Rattle.poa_core.specs.declared.ArriveFault.TheVariants as arrive_fault
-use Rattle.poa_core.specs.Answers.{filled_at, filled_by, is_taken, Arrives}
+use Rattle.poa_core.specs.Answers.{filled_at, filled_by, is_taken}
 use Rattle.giop_frame.specs.Stream.{Framed}
+use Rattle.giop_msg.specs.Call.{CallOf}
+use Rattle.giop_replies.specs.Calls.{Each, IsSaid}
+use Rattle.giop_replies.proofs.Answering.{message_headed}
+use Rattle.giop_replies.proofs.Calls.{each_more, each_same, headed_said}
 use Rattle.giop_msg.specs.declared.Incoming.{Incoming}
 use Rattle.giop_msg.specs.declared.Incoming.TheVariants as incoming
 use Rattle.giop_msg.specs.declared.MsgFault.{MsgFault}
 use Rattle.replay_run.specs.declared.channel.Channel.{Channel}
 use Rattle.replay_run.specs.declared.line.Line.{Line as LineData}
 use Rattle.replay_run.specs.declared.line.Line.TheVariants as line
-use Rattle.replay_run.specs.declared.player.Player.{Player}
+use Rattle.replay_player.specs.declared.player.Player.{Player}
 use Rattle.replay_run.specs.World.{Talk}
-use Rattle.replay_run.specs.Lines.{reply_line}
-use Rattle.replay_run.specs.Working.{Either, Stays}
-use Rattle.replay_run.specs.Reading.{after_call, did, dropped, with_stream, with_fed, Handles, ReadsOn, waits, fails, stops, reads_on, Feeds, ReadsBytes}
+use Rattle.replay_lines.specs.Lines.{reply_line}
+use Rattle.replay_player.specs.Working.{Either, Stays}
+use Rattle.replay_player.specs.Calling.{after_call}
+use Rattle.replay_run.specs.Reading.{did, dropped, with_stream, with_fed, Handles, ReadsOn, waits, fails, stops, reads_on, Feeds, ReadsBytes}
 use Rattle.replay_run.specs.Talking.{Commands, TakesLine, is_sized, TalkEnds, Leaves, left, Collects, Talks, numbered}
-use Rattle.replay_run.specs.Playing.{numbers}
-use Rattle.replay_run.specs.Keeping.{Keeps, IsSeated, IsCounted, KnowsFilled, Meets, knows, enters, refuses, talk}
-use Rattle.replay_run.proofs.Same.{Same, Still, Givens, same_givens, same_life, same_then, still_collects}
+use Rattle.replay_player.specs.Effects.{numbers, KnowsFilled}
+use Rattle.replay_run.specs.Keeping.{Keeps, IsSeated, IsCounted, Meets, knows, enters, refuses, talk}
+use Rattle.replay_player.proofs.Same.{Same, Still, Givens, same_givens, same_life, same_then, still_collects}
+use Rattle.replay_player.proofs.Arrived.{same_call}
 
--- a call changes neither the givens nor who is there
-same_filled : (b : Bool) (conn size : ℕ) (life : Life) → Same life (if b then life else with_entry (Filled conn size) life)
-same_filled true conn size life = same_life life
-same_filled false conn size life = record { config = refl; run = refl; limit = refl; opening = refl; entered = refl; left = λ n. refl; going = λ w. refl }
+-- what lets no call arrive
+pub said_still : (old new : Life) → Still old new → Each IsSaid old.history → Each IsSaid new.history
+said_still old new s said = each_same IsSaid old.history new.history s.calls said
 
-same_taken : (b : Bool) (conn : ℕ) (call : Call) (size : ℕ) (life : Life)
-    → Same life (if b then with_entry (Arrive conn size call) life else filled_by conn size life)
-same_taken true conn call size life = record { config = refl; run = refl; limit = refl; opening = refl; entered = refl; left = λ n. refl; going = λ w. refl }
-same_taken false conn call size life = same_filled (is_filled life.history) conn size life
+-- a call that is said arrives, or the run is full
+said_filled : (b : Bool) (conn size : ℕ) (life : Life) → Each IsSaid life.history → Each IsSaid (if b then life else with_entry (Filled conn size) life).history
+said_filled true conn size life said = said
+said_filled false conn size life said = each_same IsSaid life.history (Filled conn size ∷ life.history) (λ r. refl) said
 
-pub same_call : (conn : ℕ) (call : Call) (size : ℕ) (life : Life) → Same life (after_call conn call size life)
-same_call conn call size life = same_taken (is_taken life.limit life.history size call) conn call size life
+said_taken : (b : Bool) (conn : ℕ) (call : Call) (size : ℕ) (life : Life) → IsSaid call → Each IsSaid life.history
+    → Each IsSaid (if b then with_entry (Arrive conn size call) life else filled_by conn size life).history
+said_taken true conn call size life is said = each_more IsSaid conn size call life.history is said
+said_taken false conn call size life is said = said_filled (is_filled life.history) conn size life said
+
+said_called : (conn : ℕ) (call : Call) (size : ℕ) (life : Life) → IsSaid call → Each IsSaid life.history → Each IsSaid (after_call conn call size life).history
+said_called conn call size life is said = said_taken (is_taken life.limit life.history size call) conn call size life is said
 
 -- what a line of a connection may change: the connection, and whether it has left
 pub record Moves (conn : ℕ) (before after : Talk) : Type 0 where
@@ -49,18 +57,20 @@ pub record Moves (conn : ℕ) (before after : Talk) : Type 0 where
   pub entered : connections after.life.history ≡ connections before.life.history
   pub others : (n : ℕ) → n ≢ conn → has_left after.life.history n ≡ has_left before.life.history n
   pub own : after.channel.ended ≡ false → (before.channel.ended ≡ false) × (has_left after.life.history conn ≡ has_left before.life.history conn)
+  pub said : Each IsSaid before.life.history → Each IsSaid after.life.history
 
 -- a line by which the connection doesn't leave
 pub record Rests (before after : Talk) : Type 0 where
   pub same : Same before.life after.life
   pub number : after.channel.number ≡ before.channel.number
   pub ended : after.channel.ended ≡ before.channel.ended
+  pub said : Each IsSaid before.life.history → Each IsSaid after.life.history
 
 rests_talk : (talk : Talk) → Rests talk talk
-rests_talk talk = record { same = same_life talk.life; number = refl; ended = refl }
+rests_talk talk = record { same = same_life talk.life; number = refl; ended = refl; said = λ s. s }
 
 rests_then : (a b c : Talk) → Rests a b → Rests b c → Rests a c
-rests_then a b c p q = record { same = same_then a.life b.life c.life p.same q.same; number = q.number ∙ p.number; ended = q.ended ∙ p.ended }
+rests_then a b c p q = record { same = same_then a.life b.life c.life p.same q.same; number = q.number ∙ p.number; ended = q.ended ∙ p.ended; said = λ s. q.said (p.said s) }
 
 rests_at : (a b c : Talk) → c ≡ b → Rests a b → Rests a c
 rests_at a b c e r = subst (λ (x : Talk). Rests a x) (sym e) r
@@ -72,25 +82,27 @@ rests_move conn before after r = record {
   entered = r.same.entered;
   others = λ n _. r.same.left n;
   own = λ staying. (sym r.ended ∙ staying, r.same.left conn);
+  said = r.said;
 }
 
-rests_did : (conn : ℕ) (asked : Result Incoming MsgFault) (m : Framed) (talk : Talk) → Rests talk (did conn asked m talk)
-rests_did conn (Ok (incoming.Call call)) m talk = record { same = same_call conn call (length m.bytes) talk.life; number = refl; ended = refl }
-rests_did conn (Ok (incoming.Cancel id)) m talk = rests_talk talk
-rests_did conn (Ok incoming.Closing) m talk = record { same = same_life talk.life; number = refl; ended = refl }
-rests_did conn (Err fault) m talk = record { same = same_life talk.life; number = refl; ended = refl }
+rests_did : (conn : ℕ) (asked : Result Incoming MsgFault) (m : Framed) (talk : Talk) → CallOf m.bytes asked → Rests talk (did conn asked m talk)
+rests_did conn (Ok (incoming.Call call)) m talk reads =
+    record { same = same_call conn call (length m.bytes) talk.life; number = refl; ended = refl; said = said_called conn call (length m.bytes) talk.life (headed_said call (message_headed m.bytes call reads)) }
+rests_did conn (Ok (incoming.Cancel id)) m talk reads = rests_talk talk
+rests_did conn (Ok incoming.Closing) m talk reads = record { same = same_life talk.life; number = refl; ended = refl; said = λ s. s }
+rests_did conn (Err fault) m talk reads = record { same = same_life talk.life; number = refl; ended = refl; said = λ s. s }
 
 rests_handled : (conn : ℕ) (m : Framed) (before : Talk) (text : List ℕ) (after : Talk) → Handles conn m before text after → Rests before after
-rests_handled conn m before text after h = rests_at before (did conn h.asked m before) after h.became (rests_did conn h.asked m before)
+rests_handled conn m before text after h = rests_at before (did conn h.asked m before) after h.became (rests_did conn h.asked m before h.reads)
 
 rests_read : (conn : ℕ) (before : Talk) (text : List ℕ) (after : Talk) → ReadsOn conn before text after → Rests before after
-rests_read conn before text after (waits b have stream a) = record { same = same_life b.life; number = refl; ended = refl }
-rests_read conn before text after (fails b at why stream a) = record { same = same_life b.life; number = refl; ended = refl }
+rests_read conn before text after (waits b have stream a) = record { same = same_life b.life; number = refl; ended = refl; said = λ s. s }
+rests_read conn before text after (fails b at why stream a) = record { same = same_life b.life; number = refl; ended = refl; said = λ s. s }
 rests_read conn before text after (stops b e m stream said a h d) =
-    (let r : Rests (with_stream stream b) e = rests_handled conn m (with_stream stream b) said e h in record { same = r.same; number = r.number; ended = r.ended })
+    (let r : Rests (with_stream stream b) e = rests_handled conn m (with_stream stream b) said e h in record { same = r.same; number = r.number; ended = r.ended; said = r.said })
 rests_read conn before text after (reads_on b between e m stream front rest a h d more) =
     (let r : Rests (with_stream stream b) between = rests_handled conn m (with_stream stream b) front between h in
-    rests_then b between e (record { same = r.same; number = r.number; ended = r.ended }) (rests_read conn between rest e more))
+    rests_then b between e (record { same = r.same; number = r.number; ended = r.ended; said = r.said }) (rests_read conn between rest e more))
 
 rests_stay : (before : Talk) (text : List ℕ) (after : Talk) → Stays before text after → Rests before after
 rests_stay before text after s = rests_at before before after s.1 (rests_talk before)
@@ -100,19 +112,20 @@ rests_fed : (b : Bool) (bytes : List ℕ) (conn : ℕ) (before : Talk) (text : L
 rests_fed true bytes conn before text after s = rests_stay before text after s
 rests_fed false bytes conn before text after f =
     (let r : Rests (with_fed f.stream bytes before) after = rests_read conn (with_fed f.stream bytes before) text after f.reads in
-    record { same = r.same; number = r.number; ended = r.ended })
+    record { same = r.same; number = r.number; ended = r.ended; said = r.said })
 
 rests_commanded : (b : Bool) (words : List ℕ) (conn : ℕ) (before : Talk) (text : List ℕ) (after : Talk)
     → Either b Stays (TakesLine words conn) before text after → Rests before after
 rests_commanded true words conn before text after s = rests_stay before text after s
 rests_commanded false words conn before text after t = (let call : Call = Line (before.channel.lines + 1) (command_of_line words) in
     let next : Talk = record { life = after_call conn call (length words) before.life; channel = record before.channel { lines = before.channel.lines + 1 } } in
-    rests_at before next after t.became (record { same = same_call conn call (length words) before.life; number = refl; ended = refl }))
+    rests_at before next after t.became (record { same = same_call conn call (length words) before.life; number = refl; ended = refl; said = said_called conn call (length words) before.life tt }))
 
 rests_collected : (conn : ℕ) (before : Talk) (text : List ℕ) (after : Talk) → Collects conn before text after → Rests before after
 rests_collected conn before text after c =
     rests_at before (record before { life = c.life }) after c.became
-    (record { same = (still_collects (reply_line before.channel.name) conn before.life text c.life c.collects).same; number = refl; ended = refl })
+    (let still = still_collects (reply_line before.channel.name) conn before.life text c.life c.collects in
+    record { same = still.same; number = refl; ended = refl; said = said_still before.life c.life still })
 
 moves_at : (conn : ℕ) (a b c : Talk) → c ≡ b → Moves conn a b → Moves conn a c
 moves_at conn a b c e m = subst (λ (x : Talk). Moves conn a x) (sym e) m
@@ -129,6 +142,7 @@ moves_ended false conn before text after s = moves_at conn before (left conn bef
   entered = refl;
   others = λ n other. left_other conn n before.life.history other;
   own = λ staying. absurd (let e : true ≡ false = staying in cc);
+  said = λ s. each_same IsSaid before.life.history (left conn before).life.history (λ r. refl) s;
 })
 
 pub moves_talked : (l : LineData) (conn : ℕ) (before : Talk) (text : List ℕ) (after : Talk) → Talks l conn before text after → Moves conn before after
@@ -171,6 +185,7 @@ pub record Seat (conn : ℕ) (channels : List Channel) (place : ℕ) (old mid : 
   pub own : channel.ended ≡ false → has_left mid.core.history conn ≡ false
   pub other : (i n : ℕ) (a : Channel) → slice_get channels i ≡ Some a → i ≢ place → a.number ≡ Some n → n ≢ conn
   pub filled : KnowsFilled old → KnowsFilled mid
+  pub said : Each IsSaid mid.core.history
 
 some_is : (a b : ℕ) → Some a ≡ Some b → a ≡ b
 some_is a b e = cc
@@ -189,6 +204,7 @@ seat_known conn channels place old channel k at number =
       own = s.staying conn number;
       other = λ i n a there away is same. away (k.alone i place n a channel there at is (subst (λ m. channel.number ≡ Some m) (sym same) number));
       filled = λ f. f;
+      said = k.said;
     }
 
 -- one that enters
@@ -209,6 +225,7 @@ seat_entered channels place old mid channel k at life filled =
       own = λ _. same conn ∙ k.later conn (omega arith);
       other = λ i n a there away is same. (let less : n < conn = (k.seated i a there).entered n is in omega (arith, less, same));
       filled = λ f. ap (λ o. option_map numbers o) filled ∙ f ∙ sym (ap (λ (l : Life). filled_at l.history) life);
+      said = subst (λ (l : Life). Each IsSaid l.history) (sym life) (each_same IsSaid old.core.history (Entered conn ∷ old.core.history) (λ r. refl) k.said);
     }
 
 pub seat_met : (conn : ℕ) (channels : List Channel) (place : ℕ) (old mid : Player) (channel met : Channel) → Keeps old channels → slice_get channels place ≡ Some channel
@@ -273,6 +290,7 @@ module _ (conn : ℕ) (channels : List Channel) (place : ℕ) (old mid new : Pla
     ];
     alone = λ i j n a b there also is same. alone_by i j n a b (changed_by channels place last i a there) (changed_by channels place last j b also) is same;
     later = λ n more. left_still n (λ same. omega (arith, same, s.mine, m.entered, more)) ∙ k.later n (omega (arith, s.more, m.entered, more));
+    said = m.said s.said;
   }
 
 -- what the workers do
@@ -286,16 +304,5 @@ keeps_still old new channels k s filled = record {
   });
   alone = k.alone;
   later = λ n more. s.same.left n ∙ k.later n (omega (arith, s.same.entered, more));
+  said = said_still old.core new.core s k.said;
 }
-
--- a connection that is open stays so where none leaves
-pub open_still : (conn : ℕ) (old new : Life) → Same old new → IsOpen old.history conn → IsOpen new.history conn
-open_still conn old new s is = record {
-  entered = (let less : conn < connections old.history = is.entered in omega (arith, s.entered, less));
-  staying = s.left conn ∙ is.staying;
-}
-
-pub same_arrived : (conn : ℕ) (call : Call) (size : ℕ) (old new : Life) (answer : Result ℕ ArriveFault) → Arrives conn call size old answer new → Same old new
-same_arrived conn call size old new (Ok r) a = subst (λ (l : Life). Same old l) (sym a.2) (record { config = refl; run = refl; limit = refl; opening = refl; entered = refl; left = λ n. refl; going = λ w. refl })
-same_arrived conn call size old new (Err (arrive_fault.Limit calls bytes)) a = subst (λ (l : Life). Same old l) (sym a.1) (same_filled (is_filled old.history) conn size old)
-same_arrived conn call size old new (Err arrive_fault.WantMemory) a = subst (λ (l : Life). Same old l) (sym a.1) (same_life old)

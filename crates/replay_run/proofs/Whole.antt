@@ -1,5 +1,5 @@
 -- A script from its first line to its end.
-use Rattle.std.proofs.Common.{◌≡◌, ℕ, ◌≤◌, Bool, true, false, List, [], ◌∷◌, ◌++◌, Option, Some, None, Result, Ok, Err, OnOk, option_map, slice_get, slice_set, refl, sym, ap, ◌∙◌, subst}
+use Rattle.std.proofs.Common.{◌≡◌, ℕ, List, [], ◌∷◌, ◌++◌, Option, Some, None, Result, Ok, Err, OnOk, option_map, refl, sym, ap, ◌∙◌, subst}
 use Rattle.std.specs.Option.{option_or}
 use Rattle.poa_base.specs.declared.Config.{Config}
 use Rattle.poa_history.specs.Legal.{IsLegal, has_left}
@@ -8,7 +8,6 @@ use Rattle.run_history.specs.Life.{Life, opened}
 use Rattle.history_laws.specs.Lasting.{KeepsUpdates, LeavesNothing}
 use Rattle.poa_core.specs.Answers.{filled_at, unadmitted}
 use Rattle.replay_script.specs.declared.Script.{Script}
-use Rattle.replay_script.specs.declared.ScriptStep.{ScriptStep}
 use Rattle.replay_script.specs.declared.Step.{Step}
 use Rattle.replay_script.specs.declared.Step.TheVariants as step
 use Rattle.poa_base.specs.declared.Entry.{Entry}
@@ -19,22 +18,26 @@ use Rattle.poa_history.specs.Stages.{is_abandoned}
 use Rattle.poa_history.specs.Turns.{turn}
 use Rattle.replay_run.proofs.Idle.{idle_at_end}
 use Rattle.replay_run.specs.declared.channel.Channel.{Channel}
-use Rattle.replay_run.specs.declared.line.Line.{Line}
-use Rattle.replay_run.specs.declared.played.Full.{Full}
+use Rattle.replay_player.specs.declared.full.Full.{Full}
 use Rattle.replay_run.specs.declared.played.Played.{Played}
-use Rattle.replay_run.specs.declared.player.Player.{Player}
-use Rattle.replay_run.specs.Lines.{reply_line}
+use Rattle.replay_player.specs.declared.player.Player.{Player}
+use Rattle.replay_lines.specs.Lines.{reply_line}
 use Rattle.replay_run.specs.World.{World, Talk}
-use Rattle.replay_run.specs.Working.{Then, Stays, Rests, Turns, Runs, ByWorker}
-use Rattle.replay_run.specs.Talking.{CollectsAll, Carries, Enters, OnChannel, OnLine, Commands, TalkEnds, Collects, entered, turned_away, has_room}
-use Rattle.replay_run.specs.Playing.{AreFresh, CollectsEach, CollectsOf, IsOpening, IsPlayed, Outputs, OnLife, Plays, PlaysAll, full_of, life_at_first, numbers}
-use Rattle.replay_run.specs.Keeping.{IsAtFirst, IsNew, IsSeated, Keeps, KnowsFilled, PlayerPrints, Shows, Works, world}
+use Rattle.replay_player.specs.Working.{Then, Rests}
+use Rattle.replay_run.specs.Talking.{OnLine, entered, turned_away, Carries, Collects}
+use Rattle.replay_run.specs.Playing.{AreFresh, CollectsEach, CollectsOf, IsPlayed, OnLife, Plays, PlaysAll, IsOpening, Outputs}
+use Rattle.replay_player.specs.Opening.{life_at_first}
+use Rattle.replay_player.specs.Effects.{numbers, PlayerPrints, Works}
+use Rattle.replay_run.specs.Keeping.{IsAtFirst, IsNew, Keeps, Shows, world, IsSeated}
 use Rattle.poa_base.specs.declared.Datum.{Datum}
-use Rattle.replay_run.specs.Asking.{asked}
+use Rattle.replay_player.specs.Asking.{asked}
 use Rattle.replay_run.specs.Reading.{Feeds}
+use Rattle.giop_replies.specs.Calls.{Each, IsSaid}
+use Rattle.giop_replies.proofs.Calls.{each_none}
 use Rattle.replay_run.proofs.Seats.{keeps_still}
-use Rattle.replay_run.proofs.Given.{plays_givens, legal_for, run_for, lifetime_for, undone_for, updates_for}
-use Rattle.replay_run.proofs.Same.{Same, Still, Givens, givens_life, givens_then, same_givens, still_life, still_then, still_stays, still_settles, still_collects}
+use Rattle.replay_run.proofs.Steps.{plays_givens}
+use Rattle.replay_player.proofs.Given.{legal_for, run_for, lifetime_for, undone_for, updates_for}
+use Rattle.replay_player.proofs.Same.{Still, Givens, givens_then, same_givens, still_life, still_then, still_stays, still_settles, still_collects}
 
 -- a step of the workers
 pub life_shows : (P : Life → List ℕ → Life → Type 0) (old new : Player) (xs : List Channel) → Works P old new → Shows (OnLife P) old new xs xs
@@ -75,6 +78,7 @@ keeps_first c limit player channels first new = record {
   };
   alone = λ i j n a b at there is also. absurd (let e : None ≡ Some n = sym (new i a at).0 ∙ is in cc);
   later = λ n more. ap (λ (l : Life). has_left l.history n) first.life;
+  said = subst (λ (l : Life). Each IsSaid l.history) (sym first.life) (each_none IsSaid [] (λ r. refl));
 }
 
 pub still_of : (name : List ℕ) (number : Option ℕ) (a : Life) (text : List ℕ) (b : Life) → CollectsOf name number a text b → Still a b

@@ -1,25 +1,23 @@
 -- What the player keeps between two lines, and what its parts say. These words are for the contracts inside of this crate.
-use Rattle.std.specs.Prelude.{◌≡◌, ℕ, ◌+◌, ◌≤◌, ◌<◌, ◌++◌, Bool, true, false, List, [], Option, Some, None, option_map, slice_get, length}
+use Rattle.std.specs.Prelude.{◌≡◌, ℕ, ◌+◌, ◌≤◌, ◌<◌, ◌++◌, Bool, true, false, List, [], Option, Some, None, slice_get, length}
 use Rattle.std.specs.Option.{option_or}
 use Rattle.giop_frame.specs.declared.Next.TheVariants as next
 use Rattle.giop_frame.specs.Framer.{reach, FramerAnswers}
 use Rattle.poa_base.specs.declared.Config.{Config}
 use Rattle.poa_base.specs.declared.Entry.{Entry}
-use Rattle.poa_base.specs.declared.Entry.TheVariants.{Entered, Collect}
-use Rattle.poa_base.specs.declared.Reply.{Reply}
-use Rattle.poa_history.specs.Arrivals.{arrivals, arrived_bytes, call_of, connections}
-use Rattle.poa_history.specs.Replies.{next_reply, reply_of}
-use Rattle.poa_history.specs.Legal.{has_left, IsOpen}
-use Rattle.run_history.specs.Life.{Life, with_entry, opened}
-use Rattle.poa_core.specs.Answers.{filled_at, head_of}
+use Rattle.poa_base.specs.declared.Entry.TheVariants.{Entered}
+use Rattle.poa_history.specs.Arrivals.{arrivals, arrived_bytes, connections}
+use Rattle.poa_history.specs.Legal.{has_left}
+use Rattle.run_history.specs.Life.{with_entry}
+use Rattle.giop_replies.specs.Calls.{Each, IsSaid}
 use Rattle.replay_run.specs.declared.channel.Channel.{Channel}
-use Rattle.replay_run.specs.declared.player.Player.{Player}
+use Rattle.replay_player.specs.declared.player.Player.{Player}
 use Rattle.replay_run.specs.World.{World, Talk}
-use Rattle.replay_run.specs.Lines.{entry_line, limit_line, reply_line}
-use Rattle.replay_run.specs.Working.{Makes, IsIdle, Runs, AllIdle}
+use Rattle.replay_lines.specs.Lines.{limit_line}
 use Rattle.replay_run.specs.Reading.{ReadsOn, Handles, Grows, with_stream}
 use Rattle.replay_run.specs.Talking.{has_room, numbered}
-use Rattle.replay_run.specs.Playing.{life_at_first, numbers}
+use Rattle.replay_player.specs.Opening.{life_at_first}
+use Rattle.replay_player.specs.Effects.{KnowsFilled}
 use Rattle.giop_frame.specs.Stream.{Framed}
 use Rattle.giop_frame.specs.Framing.{Framing}
 
@@ -28,10 +26,6 @@ talk player channel = record { life = player.core; channel = channel }
 
 abbrev pub world : Player → List Channel → World
 world player channels = record { life = player.core; channels = channels; turned_away = player.turned_away }
-
--- the player knows when the run was filled
-abbrev pub KnowsFilled : Player → Type 0
-KnowsFilled player = option_map numbers player.filled ≡ filled_at player.core.history
 
 -- no more was fed than was counted, and no message is longer than one may be
 pub record IsCounted (channel : Channel) : Type 0 where
@@ -51,14 +45,8 @@ pub record Keeps (player : Player) (channels : List Channel) : Type 0 where
   pub alone : (i j n : ℕ) (a b : Channel) → slice_get channels i ≡ Some a → slice_get channels j ≡ Some b → a.number ≡ Some n → b.number ≡ Some n → i ≡ j
   -- who hasn't entered hasn't left
   pub later : (n : ℕ) → connections player.core.history ≤ n → has_left player.core.history n ≡ false
-
--- the player printed what `P` says, over the whole run
-pub record Works (P : Life → List ℕ → Life → Type 0) (old new : Player) : Type 0 where
-  pub text : List ℕ
-  pub printed : new.printed.items ≡ old.printed.items ++ text
-  pub does : P old.core text new.core
-  pub filled : new.filled ≡ old.filled
-  pub turned_away : new.turned_away ≡ old.turned_away
+  -- each call is one of a message, or a line
+  pub said : Each IsSaid player.core.history
 
 -- the same over one connection
 pub record Tells (P : Talk → List ℕ → Talk → Type 0) (old new : Player) (channel_old channel_new : Channel) : Type 0 where
@@ -74,24 +62,6 @@ pub record Shows (P : World → List ℕ → World → Type 0) (old new : Player
   pub printed : new.printed.items ≡ old.printed.items ++ text
   pub does : P (world old channels_old) text (world new channels_new)
 
--- a turn of a worker: whether it made an entry
-pub record MakesOne (w : ℕ) (old new : Player) : Type 0 where
-  pub entry : Entry
-  pub makes : Makes old.core w entry
-  pub printed : new.printed.items ≡ old.printed.items ++ entry_line entry
-  pub life : new.core ≡ with_entry entry old.core
-  pub filled : new.filled ≡ old.filled
-  pub turned_away : new.turned_away ≡ old.turned_away
-
-abbrev pub Takes : Bool → ℕ → Player → Player → Type 0
-Takes true w old new = MakesOne w old new
-Takes false w old new = IsIdle old.core w × (new ≡ old)
-
--- turns of a worker: whether it made an entry
-abbrev pub Moved : Bool → (Life → Type 0) → Player → Player → Type 0
-Moved true Idle old new = Unit {0}
-Moved false Idle old new = Idle old.core × (new ≡ old)
-
 -- what stands next was read: whether more may stand behind it
 pub record ReadsOne (conn : ℕ) (before : Talk) (text : List ℕ) (after : Talk) : Type 0 where
   pub message : Framed
@@ -104,34 +74,10 @@ abbrev pub ReadsNext : Bool → ℕ → Talk → List ℕ → Talk → Type 0
 ReadsNext true = ReadsOne
 ReadsNext false = ReadsOn
 
--- the player printed a text, and nothing else came
-pub record PlayerPrints (P : List ℕ → Type 0) (old new : Player) : Type 0 where
-  pub text : List ℕ
-  pub printed : new.printed.items ≡ old.printed.items ++ text
-  pub is : P text
-  pub core : new.core ≡ old.core
-  pub filled : new.filled ≡ old.filled
-  pub turned_away : new.turned_away ≡ old.turned_away
-
 -- bytes were put behind what was fed
 pub record Puts (bytes : List ℕ) (old new : Channel) : Type 0 where
   pub grows : Grows old.stream bytes new.stream
   pub became : new ≡ record old { stream = new.stream; fed = old.fed + length bytes }
-
--- a reply was collected and printed, or none was decided
-pub record CollectsOne (name : List ℕ) (conn : ℕ) (old new : Player) : Type 0 where
-  pub arrival : ℕ
-  pub reply : Reply
-  pub next : next_reply old.core.config old.core.run old.core.history conn ≡ Some arrival
-  pub is : reply_of old.core.config old.core.run (opened old.core) old.core.history arrival ≡ Some reply
-  pub printed : new.printed.items ≡ old.printed.items ++ reply_line name (head_of (call_of old.core.history arrival)) reply
-  pub life : new.core ≡ with_entry (Collect conn arrival) old.core
-  pub filled : new.filled ≡ old.filled
-  pub turned_away : new.turned_away ≡ old.turned_away
-
-abbrev pub CollectsNext : Bool → List ℕ → ℕ → Player → Player → Type 0
-CollectsNext true name conn old new = CollectsOne name conn old new
-CollectsNext false name conn old new = (next_reply old.core.config old.core.run old.core.history conn ≡ None) × (new ≡ old)
 
 -- nothing was printed, and no limit was met
 pub record Silent (old new : Player) : Type 0 where

@@ -1,50 +1,37 @@
 -- What a script prints.
-use Rattle.std.specs.Prelude.{◌≡◌, ℕ, false, List, [], ◌∷◌, ◌++◌, Option, Some, None, reverse, option_map}
+use Rattle.std.specs.Prelude.{◌≡◌, ℕ, false, List, [], ◌∷◌, ◌++◌, Option, Some, None, option_map}
 use Rattle.std.specs.Option.{option_or}
-use Rattle.std.specs.FinMap as finite
 use Rattle.poa_base.specs.declared.Config.{Config}
-use Rattle.poa_base.specs.Store.{Slots, stored as stored_in}
 use Rattle.giop_frame.specs.Framer.{HasGiven}
 use Rattle.poa_history.specs.Legal.{IsLegal}
 use Rattle.poa_history.specs.Lifetime.{HasLifetime}
 use Rattle.history_laws.specs.Undone.{IsAllDone}
 use Rattle.history_laws.specs.Lasting.{KeepsUpdates, LeavesNothing}
-use Rattle.poa_history.specs.States.{stored}
-use Rattle.poa_journal.specs.Journal.{journal_text, store_text}
-use Rattle.run_history.specs.Life.{Life, begun, opened}
+use Rattle.run_history.specs.Life.{Life, opened}
 use Rattle.poa_core.specs.Answers.{filled_at, unadmitted}
 use Rattle.replay_script.specs.declared.Script.{Script}
 use Rattle.replay_script.specs.declared.ScriptStep.{ScriptStep}
 use Rattle.replay_script.specs.declared.Step.{Step as StepData}
 use Rattle.replay_script.specs.declared.Step.TheVariants as step
 use Rattle.replay_run.specs.declared.channel.Channel.{Channel}
-use Rattle.replay_run.specs.declared.played.Full.{Full}
+use Rattle.replay_player.specs.declared.full.Full.{Full}
 use Rattle.replay_run.specs.declared.played.Played.{Played}
 use Rattle.replay_run.specs.World.{World}
-use Rattle.replay_run.specs.Lines.{reply_line}
-use Rattle.replay_run.specs.Working.{Turns, Runs, ByWorker, Then, Stays, Rests}
+use Rattle.replay_lines.specs.Lines.{reply_line}
+use Rattle.replay_player.specs.Working.{Turns, Runs, ByWorker, Then, Stays, Rests}
 use Rattle.replay_run.specs.Reading.{Feeds}
-use Rattle.replay_run.specs.Asking.{asked}
-use Rattle.replay_run.specs.Talking.{OnLine, Commands, TalkEnds, Collects, CollectsAll}
+use Rattle.replay_player.specs.Asking.{asked}
+use Rattle.replay_run.specs.Talking.{OnLine, Commands, TalkEnds, Collects}
+use Rattle.replay_player.specs.Collecting.{CollectsAll}
+use Rattle.replay_player.specs.Effects.{numbers}
+use Rattle.replay_player.specs.Showing.{IsStoreText, history_text}
+use Rattle.replay_player.specs.Opening.{life_at_first}
 
 -- what the workers do is done
 pub record OnLife (P : Life → List ℕ → Life → Type 0) (before : World) (text : List ℕ) (after : World) : Type 0 where
   pub life : Life
   pub does : P before.life text life
   pub became : after ≡ record before { life = life }
-
--- a store of what is stored
-abbrev pub Stores : Life → Slots → Type 0
-Stores life slots = (path : List (List ℕ)) (oid : List ℕ) → stored_in slots path oid ≡ stored life.config life.run (opened life) life.history path oid
-
-pub record IsStoreText (life : Life) (text : List ℕ) : Type 0 where
-  pub slots : Slots
-  pub stores : Stores life slots
-  pub told : text ≡ store_text slots
-
--- the text of the journal
-abbrev pub history_text : Life → List ℕ
-history_text life = journal_text (record { run = life.run; opening = life.opening; entries = reverse life.history })
 
 -- something is printed, and nothing changes
 abbrev pub WorldPrints : (Life → List ℕ → Type 0) → World → List ℕ → World → Type 0
@@ -82,10 +69,6 @@ AreFresh [] [] = Unit {0}
 AreFresh (name ∷ names) (channel ∷ channels) = IsFresh name channel × AreFresh names channels
 AreFresh names channels = ⊥
 
--- a run of the configuration's number, with nothing stored, that takes so many arrivals
-abbrev pub life_at_first : Config → ℕ → Life
-life_at_first c limit = begun c c.run limit finite.empty
-
 pub record IsOpening (c : Config) (limit : ℕ) (names : List (List ℕ)) (w : World) : Type 0 where
   pub life : w.life ≡ life_at_first c limit
   pub channels : AreFresh names w.channels
@@ -110,9 +93,6 @@ pub record Outputs (c : Config) (limit : ℕ) (script : Script) (text : List ℕ
   pub plays : PlaysAll script.steps opening front played
   pub finishes : Then Rests (CollectsEach played.channels) played.life rest last
   pub joined : text ≡ front ++ rest
-
-abbrev pub numbers : Full → ℕ × ℕ
-numbers full = (full.arrivals, full.bytes)
 
 -- the numbers of calls and of bytes of them at the first call that the run refused, or else at the first connection
 abbrev pub full_of : Life → Option Full → Option (ℕ × ℕ)

@@ -1,7 +1,6 @@
 -- What is read of the bytes that come over a connection, and which calls arrive.
-use Rattle.std.specs.Prelude.{◌≡◌, ℕ, ◌+◌, Bool, true, false, ◌||◌, if◌then◌else◌, List, [], ◌++◌, ◌↔◌, length, Result, Ok, Err}
+use Rattle.std.specs.Prelude.{◌≡◌, ℕ, ◌+◌, true, false, ◌||◌, List, [], ◌++◌, ◌↔◌, length, Result, Ok, Err}
 use Rattle.poa_base.specs.declared.Call.{Call}
-use Rattle.poa_base.specs.declared.Entry.TheVariants.{Arrive}
 use Rattle.giop_frame.specs.declared.Next.TheVariants as next
 use Rattle.giop_frame.specs.declared.Why.{Why}
 use Rattle.giop_frame.specs.Stream.{Framed, End}
@@ -11,20 +10,10 @@ use Rattle.giop_msg.specs.declared.Incoming.{Incoming}
 use Rattle.giop_msg.specs.declared.Incoming.TheVariants as incoming
 use Rattle.giop_msg.specs.declared.MsgFault.{MsgFault}
 use Rattle.giop_msg.specs.Call.{CallOf}
-use Rattle.run_history.specs.Life.{Life, with_entry}
-use Rattle.poa_core.specs.Answers.{is_taken, filled_by}
 use Rattle.replay_run.specs.World.{Talk}
-use Rattle.replay_run.specs.Lines.{limit_line, bad_line}
-use Rattle.replay_run.specs.Working.{Either, Stays}
-
--- a call of this size comes: it arrives, or the run is full
-abbrev pub after_call : ℕ → Call → ℕ → Life → Life
-after_call conn call size life =
-    if is_taken life.limit life.history size call then with_entry (Arrive conn size call) life else filled_by conn size life
-
--- a call that doesn't arrive is told
-abbrev pub call_text : List ℕ → Call → ℕ → Life → List ℕ
-call_text name call size life = if is_taken life.limit life.history size call then [] else limit_line name
+use Rattle.replay_lines.specs.Lines.{bad_line}
+use Rattle.replay_player.specs.Working.{Either, Stays}
+use Rattle.replay_player.specs.Calling.{after_call, call_text}
 
 -- no more bytes of the connection are read
 abbrev pub dropped : Talk → Talk

@@ -1,23 +1,21 @@
 -- What the lines of a connection do.
-use Rattle.std.specs.Prelude.{◌≡◌, ℕ, ◌+◌, nat_lt, nat_le, Bool, true, false, ◌||◌, ◌&&◌, not, List, [], ◌++◌, length, Option, Some, None, slice_get, slice_set}
+use Rattle.std.specs.Prelude.{◌≡◌, ℕ, ◌+◌, nat_lt, nat_le, Bool, true, false, ◌||◌, ◌&&◌, not, List, [], length, Option, Some, None, slice_get, slice_set}
 use Rattle.std.specs.Option.{option_or}
 use Rattle.poa_base.specs.declared.Call.TheVariants.{Line}
 use Rattle.poa_base.specs.declared.Entry.TheVariants.{Entered, Left, Collect}
-use Rattle.poa_base.specs.declared.Head.{Head}
-use Rattle.poa_base.specs.declared.Reply.{Reply}
-use Rattle.poa_history.specs.Arrivals.{arrivals, arrived_bytes, call_of, connections}
-use Rattle.poa_history.specs.Replies.{next_reply, reply_of}
+use Rattle.poa_history.specs.Arrivals.{arrivals, arrived_bytes, connections}
 use Rattle.admin_line.specs.Reading.{command_of_line}
-use Rattle.run_history.specs.Life.{Life, with_entry, opened}
-use Rattle.poa_core.specs.Answers.{head_of}
+use Rattle.run_history.specs.Life.{Life, with_entry}
 use Rattle.replay_run.specs.declared.channel.Channel.{Channel}
 use Rattle.replay_run.specs.declared.line.Line.{Line as LineData}
 use Rattle.replay_run.specs.declared.line.Line.TheVariants as line
-use Rattle.replay_run.specs.declared.played.Full.{Full}
+use Rattle.replay_player.specs.declared.full.Full.{Full}
 use Rattle.replay_run.specs.World.{World, Talk}
-use Rattle.replay_run.specs.Lines.{limit_line, reply_line}
-use Rattle.replay_run.specs.Working.{Either, Stays}
-use Rattle.replay_run.specs.Reading.{after_call, call_text, Feeds}
+use Rattle.replay_lines.specs.Lines.{limit_line, reply_line}
+use Rattle.replay_player.specs.Working.{Either, Stays}
+use Rattle.replay_player.specs.Calling.{after_call, call_text}
+use Rattle.replay_run.specs.Reading.{Feeds}
+use Rattle.replay_player.specs.Collecting.{CollectsAll}
 
 -- an administrator's line has so many bytes; a script has no other
 abbrev pub is_sized : List ℕ → Bool
@@ -44,14 +42,6 @@ Leaves conn before text after = (text ≡ []) × (after ≡ left conn before)
 
 abbrev pub TalkEnds : ℕ → Talk → List ℕ → Talk → Type 0
 TalkEnds conn before = Either before.channel.ended Stays (Leaves conn) before
-
--- the replies that the connection is owed are collected, and told so, until none is decided
-pub data CollectsAll (say : Head → Reply → List ℕ) (conn : ℕ) : Life → List ℕ → Life → Type 0 where
-  none_left : (life : Life) → next_reply life.config life.run life.history conn ≡ None → CollectsAll say conn life [] life
-  collects_on : (life last : Life) (r : ℕ) (reply : Reply) (text : List ℕ) → next_reply life.config life.run life.history conn ≡ Some r
-      → reply_of life.config life.run (opened life) life.history r ≡ Some reply
-      → CollectsAll say conn (with_entry (Collect conn r) life) text last
-      → CollectsAll say conn life (say (head_of (call_of life.history r)) reply ++ text) last
 
 pub record Collects (conn : ℕ) (before : Talk) (text : List ℕ) (after : Talk) : Type 0 where
   pub life : Life

@@ -1,8 +1,8 @@
 -- What stands between two lines of a script.
-use Rattle.std.specs.Prelude.{ℕ, List, Option}
+use Rattle.std.specs.Prelude.{List, Option}
 use Rattle.run_history.specs.Life.{Life}
 use Rattle.replay_run.specs.declared.channel.Channel.{Channel}
-use Rattle.replay_run.specs.declared.played.Full.{Full}
+use Rattle.replay_player.specs.declared.full.Full.{Full}
 
 pub record World : Type 0 where
   pub life : Life

@@ -1,5 +1,5 @@
 //! The connections of a script.
-ghost use Rattle.std.specs.Prelude.{◌≡◌, ◌++◌, IfOk, OnOk, take};
+ghost use Rattle.std.specs.Prelude.{IfOk};
 ghost use Rattle.replay_run.specs.Playing.{AreFresh, IsFresh};
 ghost use Rattle.replay_run.specs.Keeping.{IsCounted, IsNew};
 

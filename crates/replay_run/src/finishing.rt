@@ -1,44 +1,52 @@
 //! The end of a script.
 ghost use Rattle.std.specs.Prelude.{◌≡◌, ◌<◌, ℕ, OnOk};
 ghost use Rattle.poa_history.specs.Arrivals.{connections};
-ghost use Rattle.replay_run.specs.Working.{Rests, Then};
+ghost use Rattle.replay_player.specs.Working.{Rests, Then};
 ghost use Rattle.replay_run.specs.Playing.{CollectsEach, CollectsOf};
-ghost use Rattle.replay_run.specs.Keeping.{AllEntered, Keeps, Works};
+ghost use Rattle.giop_replies.specs.Calls.{Each, IsSaid};
+ghost use Rattle.replay_run.specs.Keeping.{AllEntered, Keeps};
+ghost use Rattle.replay_player.specs.Effects.{Works};
 
 use crate::channel::Channel;
-use crate::player::Player;
 use poa_base::WantMemory;
+use replay_player::Player;
 use std::alloc::Global;
 
-impl Player {
-    /// All workers run until none has anything to do, and then each connection's replies are collected.
-    pub(crate) fn finish(&mut self, alloc: Global, channels: &[Channel]) -> Result<(), WantMemory>
-        requires { Keeps self.old channels.now }
-        ensures { OnOk result (Works (Then Rests (CollectsEach channels.now)) self.old self.new) }
-    {
-        self.settle()?;
-        self.collect_each(alloc, channels)?;
-        Ok(())
-    }
+/// All workers run until none has anything to do, and then each connection's replies are collected.
+pub(crate) fn finish(
+    alloc: Global,
+    player: &mut Player,
+    channels: &[Channel],
+) -> Result<(), WantMemory>
+    requires { Keeps player.old channels.now }
+    ensures { OnOk result (Works (Then Rests (CollectsEach channels.now)) player.old player.new) }
+{
+    player.settle()?;
+    collect_each(alloc, player, channels)?;
+    Ok(())
+}
 
-    // Collects the replies of each connection, in their order.
-    fn collect_each(&mut self, alloc: Global, channels: &[Channel]) -> Result<(), WantMemory>
-        requires { AllEntered channels.now self.old.core.history }
-        ensures { OnOk result (Works (CollectsEach channels.now) self.old self.new) }
-    {
-        for channel in channels {
-            self.collect_of(alloc, channel)?;
-        }
-        Ok(())
+// Collects the replies of each connection, in their order.
+fn collect_each(alloc: Global, player: &mut Player, channels: &[Channel]) -> Result<(), WantMemory>
+    requires entered { AllEntered channels.now player.old.core.history }
+    requires said { Each IsSaid player.old.core.history }
+    ensures { OnOk result (Works (CollectsEach channels.now) player.old player.new) }
+{
+    for channel in channels {
+        channel.collect_of(alloc, player)?;
     }
+    Ok(())
+}
 
+impl Channel {
     // Collects the replies of a connection, if it entered.
-    fn collect_of(&mut self, alloc: Global, channel: &Channel) -> Result<(), WantMemory>
-        requires { (n : ℕ) → channel.now.number ≡ Some n → n < connections self.old.core.history }
-        ensures { OnOk result (Works (CollectsOf channel.now.name channel.now.number) self.old self.new) }
+    fn collect_of(&self, alloc: Global, player: &mut Player) -> Result<(), WantMemory>
+        requires entered { (n : ℕ) → self.now.number ≡ Some n → n < connections player.old.core.history }
+        requires said { Each IsSaid player.old.core.history }
+        ensures { OnOk result (Works (CollectsOf self.now.name self.now.number) player.old player.new) }
     {
-        match channel.number {
-            Some(conn) => self.collect_all(alloc, channel.name.as_slice(), conn),
+        match self.number {
+            Some(conn) => player.collect_all(alloc, self.name.as_slice(), conn),
             None => Ok(()),
         }
     }

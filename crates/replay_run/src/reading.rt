@@ -1,52 +1,49 @@
 //! The bytes that come over a connection, and the calls of their messages.
-ghost use Rattle.std.specs.Prelude.{◌≡◌, ◌≢◌, ◌++◌, ◌<◌, ◌≤◌, ◌^◌, IfOk, OnOk, length, false, Some};
-ghost use Rattle.poa_history.specs.Legal.{IsOpen, IsSize};
+ghost use Rattle.std.specs.Prelude.{◌≡◌, ◌≢◌, ◌<◌, ◌≤◌, IfOk, OnOk, length, false};
+ghost use Rattle.poa_history.specs.Legal.{IsOpen};
 ghost use Rattle.giop_msg.specs.declared.MsgFault.TheVariants as msg;
-ghost use Rattle.replay_run.specs.Lines.{bad_line};
-ghost use Rattle.replay_run.specs.Reading.{after_call, call_text, Handles, ReadsOn, Feeds};
-ghost use Rattle.replay_run.specs.Keeping.{IsCounted, KnowsFilled, Puts, ReadsNext, Tells};
+ghost use Rattle.replay_run.specs.Reading.{Handles, ReadsOn, Feeds};
+ghost use Rattle.replay_run.specs.Keeping.{IsCounted, Puts, ReadsNext, Tells};
 
 use crate::channel::Channel;
-use crate::played::Full;
-use crate::player::Player;
-use crate::printing::{print_bad, print_limit};
 use giop_frame::{Message, Next};
 use giop_msg::{Incoming, MsgFault, read_call};
-use poa_base::{Call, WantMemory};
-use poa_core::ArriveFault;
+use poa_base::WantMemory;
+use replay_lines::print_bad;
+use replay_player::Player;
 use std::alloc::Global;
 
-impl Player {
+impl Channel {
     /// Bytes come over a connection: the messages that they make whole are read.
     pub(crate) fn feed(
         &mut self,
         alloc: Global,
-        channel: &mut Channel,
+        player: &mut Player,
         conn: u32,
         bytes: &[u8],
     ) -> Result<(), WantMemory>
-        requires open_ { channel.old.ended ≡ false → IsOpen self.old.core.history conn }
-        requires counted { IsCounted channel.old }
-        ensures tells { OnOk result (Tells (Feeds bytes.now conn) self.old self.new channel.old channel.new) }
-        ensures counted { OnOk result (IsCounted channel.new) }
+        requires open_ { self.old.ended ≡ false → IsOpen player.old.core.history conn }
+        requires counted { IsCounted self.old }
+        ensures tells { OnOk result (Tells (Feeds bytes.now conn) player.old player.new self.old self.new) }
+        ensures counted { OnOk result (IsCounted self.new) }
     {
-        if channel.dropped || channel.ended {
+        if self.dropped || self.ended {
             return Ok(());
         }
-        put_bytes(channel, bytes)?;
-        self.read_on(alloc, channel, conn)
+        put_bytes(self, bytes)?;
+        self.read_on(alloc, player, conn)
     }
 
     // Reads the messages that stand whole.
-    fn read_on(&mut self, alloc: Global, channel: &mut Channel, conn: u32) -> Result<(), WantMemory>
-        requires open_ { IsOpen self.old.core.history conn }
-        requires counted { IsCounted channel.old }
-        ensures tells { OnOk result (Tells (ReadsOn conn) self.old self.new channel.old channel.new) }
-        ensures counted { IsCounted channel.old → IsCounted channel.new }
+    fn read_on(&mut self, alloc: Global, player: &mut Player, conn: u32) -> Result<(), WantMemory>
+        requires open_ { IsOpen player.old.core.history conn }
+        requires counted { IsCounted self.old }
+        ensures tells { OnOk result (Tells (ReadsOn conn) player.old player.new self.old self.new) }
+        ensures counted { IsCounted self.old → IsCounted self.new }
     {
         // No memory holds so many messages.
         for _ in 0..u64::MAX {
-            if !self.read_next(alloc, channel, conn)? {
+            if !self.read_next(alloc, player, conn)? {
                 return Ok(());
             }
         }
@@ -57,24 +54,24 @@ impl Player {
     fn read_next(
         &mut self,
         alloc: Global,
-        channel: &mut Channel,
+        player: &mut Player,
         conn: u32,
     ) -> Result<bool, WantMemory>
-        requires open_ { IsOpen self.old.core.history conn }
-        requires counted { IsCounted channel.old }
-        ensures tells { IfOk result (λ more. Tells (ReadsNext more conn) self.old self.new channel.old channel.new) }
-        ensures open_ { IsOpen self.new.core.history conn }
-        ensures counted { IsCounted channel.old → IsCounted channel.new }
+        requires open_ { IsOpen player.old.core.history conn }
+        requires counted { IsCounted self.old }
+        ensures tells { IfOk result (λ more. Tells (ReadsNext more conn) player.old player.new self.old self.new) }
+        ensures open_ { IsOpen player.new.core.history conn }
+        ensures counted { IsCounted self.old → IsCounted self.new }
     {
-        match channel.stream.next()? {
+        match self.stream.next()? {
             Next::Message(message) => {
-                self.message(alloc, channel, conn, &message)?;
-                Ok(!channel.dropped)
+                self.message(alloc, player, conn, &message)?;
+                Ok(!self.dropped)
             }
             Next::NeedMore { .. } => Ok(false),
             Next::Bad { at, .. } => {
-                channel.dropped = true;
-                print_bad(&mut self.printed, channel.name.as_slice(), at)?;
+                self.dropped = true;
+                print_bad(&mut player.printed, self.name.as_slice(), at)?;
                 Ok(false)
             }
         }
@@ -84,58 +81,31 @@ impl Player {
     fn message(
         &mut self,
         alloc: Global,
-        channel: &mut Channel,
+        player: &mut Player,
         conn: u32,
         message: &Message,
     ) -> Result<(), WantMemory>
-        requires open_ { IsOpen self.old.core.history conn }
+        requires open_ { IsOpen player.old.core.history conn }
         requires sized { length message.now.bytes ≤ 1048588 }
-        ensures tells { OnOk result (Tells (Handles conn message.now) self.old self.new channel.old channel.new) }
-        ensures open_ { IsOpen self.new.core.history conn }
-        ensures counted { IsCounted channel.old → IsCounted channel.new }
+        ensures tells { OnOk result (Tells (Handles conn message.now) player.old player.new self.old self.new) }
+        ensures open_ { IsOpen player.new.core.history conn }
+        ensures counted { IsCounted self.old → IsCounted self.new }
     {
         match read_call(alloc, message) {
             Ok(Incoming::Call(call)) => {
                 let size = message.bytes().len() as u64;
-                self.call(channel.name.as_slice(), conn, call, size)
+                player.call(self.name.as_slice(), conn, call, size)
             }
             Ok(Incoming::Cancel { .. }) => Ok(()),
             Ok(Incoming::Closing) => {
-                channel.dropped = true;
+                self.dropped = true;
                 Ok(())
             }
             Err(fault) => {
                 is_told(fault)?;
-                channel.dropped = true;
-                print_bad(&mut self.printed, channel.name.as_slice(), message.at())
+                self.dropped = true;
+                print_bad(&mut player.printed, self.name.as_slice(), message.at())
             }
-        }
-    }
-
-    /// A call of this size comes over a connection. Where it is refused for the limits of the run, that is
-    /// printed.
-    pub(crate) fn call(
-        &mut self,
-        name: &[u8],
-        conn: u32,
-        call: Call,
-        size: u64,
-    ) -> Result<(), WantMemory>
-        requires open_ { IsOpen self.old.core.history conn }
-        requires size { IsSize size }
-        ensures life { OnOk result (self.new.core ≡ after_call conn call size self.old.core) }
-        ensures printed { OnOk result (self.new.printed.items ≡ self.old.printed.items ++ call_text name.now call size self.old.core) }
-        ensures filled { OnOk result (KnowsFilled self.old → KnowsFilled self.new) }
-        ensures turned_away { self.new.turned_away ≡ self.old.turned_away }
-        ensures open_ { IsOpen self.new.core.history conn }
-    {
-        match self.core.arrive(conn, call, size) {
-            Ok(_) => Ok(()),
-            Err(ArriveFault::Limit { arrivals, bytes }) => {
-                self.filled = Some(Full { arrivals, bytes });
-                print_limit(&mut self.printed, name)
-            }
-            Err(ArriveFault::WantMemory) => Err(WantMemory),
         }
     }
 }

@@ -11,14 +11,15 @@ ghost use Rattle.conf_rules.specs.Rules.{KeepsRules};
 ghost use Rattle.replay_run.specs.Playing.{IsPlayed, Plays, PlaysAll};
 ghost use Rattle.replay_run.specs.Keeping.{Keeps, Shows, IsAtFirst};
 
-use crate::asking::request;
 use crate::channel::{Channel, channels_of};
+use crate::finishing::finish;
 use crate::line::Line;
 use crate::played::Played;
-use crate::player::Player;
+use crate::talking::take_line;
 use history_openings::laws::collecting_changes_no_turn;
 use poa_base::{Bytes, Config, Store, WantMemory};
 use poa_core::Core;
+use replay_player::{Player, request};
 use replay_script::{Script, ScriptStep, Step};
 use std::alloc::Global;
 
@@ -44,8 +45,8 @@ pub fn replay(
     collecting_changes_no_turn();
     let mut player = player_of(alloc, config, limit)?;
     let mut channels = channels_of(alloc, script.connections.as_slice())?;
-    player.play_all(alloc, &mut channels, script.steps.as_slice())?;
-    player.finish(alloc, &channels)?;
+    play_all(alloc, &mut player, &mut channels, script.steps.as_slice())?;
+    finish(alloc, &mut player, &channels)?;
     Ok(result_of(player))
 }
 
@@ -90,59 +91,81 @@ fn result_of(player: Player) -> Played
     }
 }
 
-impl Player {
-    // Plays steps one behind the other.
-    fn play_all(
-        &mut self,
-        alloc: Global,
-        channels: &mut Vec<Channel>,
-        steps: &[ScriptStep],
-    ) -> Result<(), WantMemory>
-        requires { Keeps self.old channels.old.items }
-        ensures shows { OnOk result (Shows (PlaysAll steps.now) self.old self.new channels.old.items channels.new.items) }
-        ensures keeps { OnOk result (Keeps self.new channels.new.items) }
-    {
-        for step in steps {
-            self.play(alloc, channels, &step.step)?;
-        }
-        Ok(())
+// Plays steps one behind the other.
+fn play_all(
+    alloc: Global,
+    player: &mut Player,
+    channels: &mut Vec<Channel>,
+    steps: &[ScriptStep],
+) -> Result<(), WantMemory>
+    requires { Keeps player.old channels.old.items }
+    ensures shows { OnOk result (Shows (PlaysAll steps.now) player.old player.new channels.old.items channels.new.items) }
+    ensures keeps { OnOk result (Keeps player.new channels.new.items) }
+{
+    for step in steps {
+        play(alloc, player, channels, &step.step)?;
     }
+    Ok(())
+}
 
-    // Plays a step.
-    fn play(
-        &mut self,
-        alloc: Global,
-        channels: &mut Vec<Channel>,
-        step: &Step,
-    ) -> Result<(), WantMemory>
-        requires { Keeps self.old channels.old.items }
-        ensures shows { OnOk result (Shows (Plays step.now) self.old self.new channels.old.items channels.new.items) }
-        ensures keeps { OnOk result (Keeps self.new channels.new.items) }
-    {
-        match step {
-            Step::Ask {
-                connection,
-                id,
-                path,
-                oid,
-                operation,
-                argument,
-            } => {
-                let bytes = request(alloc, &self.core, *id, path, oid, operation, argument)?;
-                self.line(alloc, channels, *connection, Line::Bytes(bytes.as_slice()))
-            }
-            Step::Feed { connection, bytes } => {
-                self.line(alloc, channels, *connection, Line::Bytes(bytes.as_slice()))
-            }
-            Step::End { connection } => self.line(alloc, channels, *connection, Line::End),
-            Step::Admin { connection, words } => {
-                self.line(alloc, channels, *connection, Line::Words(words.as_slice()))
-            }
-            Step::Step { worker } => self.step(*worker),
-            Step::Run { worker } => self.run(*worker),
-            Step::Collect { connection } => self.line(alloc, channels, *connection, Line::Collect),
-            Step::Store => self.show_store(alloc),
-            Step::Journal => self.show_journal(alloc),
+// Plays a step.
+fn play(
+    alloc: Global,
+    player: &mut Player,
+    channels: &mut Vec<Channel>,
+    step: &Step,
+) -> Result<(), WantMemory>
+    requires { Keeps player.old channels.old.items }
+    ensures shows { OnOk result (Shows (Plays step.now) player.old player.new channels.old.items channels.new.items) }
+    ensures keeps { OnOk result (Keeps player.new channels.new.items) }
+{
+    match step {
+        Step::Ask {
+            connection,
+            id,
+            path,
+            oid,
+            operation,
+            argument,
+        } => {
+            let bytes = request(alloc, &player.core, *id, path, oid, operation, argument)?;
+            take_line(
+                alloc,
+                player,
+                channels,
+                *connection,
+                Line::Bytes(bytes.as_slice()),
+            )
         }
+        Step::Feed { connection, bytes } => {
+            take_line(
+                alloc,
+                player,
+                channels,
+                *connection,
+                Line::Bytes(bytes.as_slice()),
+            )
+        }
+        Step::End { connection } => take_line(alloc, player, channels, *connection, Line::End),
+        Step::Admin { connection, words } => {
+            take_line(
+                alloc,
+                player,
+                channels,
+                *connection,
+                Line::Words(words.as_slice()),
+            )
+        }
+        Step::Step { worker } => player.step(*worker),
+        Step::Run { worker } => player.run(*worker),
+        Step::Collect { connection } => take_line(
+            alloc,
+            player,
+            channels,
+            *connection,
+            Line::Collect,
+        ),
+        Step::Store => player.show_store(alloc),
+        Step::Journal => player.show_journal(alloc),
     }
 }

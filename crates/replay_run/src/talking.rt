@@ -3,62 +3,62 @@ ghost use Rattle.std.specs.Prelude.{◌≡◌, ◌<◌, ◌+◌, false, None, If
 ghost use Rattle.poa_history.specs.Arrivals.{connections};
 ghost use Rattle.poa_history.specs.Legal.{IsOpen};
 ghost use Rattle.replay_run.specs.Talking.{Collects, Commands, TalkEnds, OnLine, Talks, is_sized as is_sized_line};
+ghost use Rattle.giop_replies.specs.Calls.{Each, IsSaid};
 ghost use Rattle.replay_run.specs.Keeping.{IsCounted, Keeps, Meets, Shows, Tells};
 
 use crate::channel::Channel;
 use crate::line::Line;
-use crate::played::Full;
-use crate::player::Player;
-use crate::printing::print_limit;
 use admin_line::read_line;
 use poa_base::{Call, WantMemory};
 use poa_core::EnterFault;
+use replay_lines::print_limit;
+use replay_player::{Full, Player};
 use std::alloc::Global;
 
 /// The most bytes that an administrator's line has.
 const LONGEST: usize = 4096;
 
-impl Player {
-    /// A line comes to the connection at this place, which enters where it is its first.
-    pub(crate) fn line(
-        &mut self,
-        alloc: Global,
-        channels: &mut Vec<Channel>,
-        place: usize,
-        line: Line<'_>,
-    ) -> Result<(), WantMemory>
-        requires { Keeps self.old channels.old.items }
-        ensures shows { OnOk result (Shows (OnLine (Talks line.entry) place) self.old self.new channels.old.items channels.new.items) }
-        ensures keeps { OnOk result (Keeps self.new channels.new.items) }
-    {
-        let Some(channel) = channels.get_mut(place) else {
-            return Ok(());
-        };
-        let Some(conn) = self.meet(channel)? else {
-            return Ok(());
-        };
-        self.talk(alloc, channel, conn, line)?;
-        Ok(())
-    }
+/// A line comes to the connection at this place, which enters where it is its first.
+pub(crate) fn take_line(
+    alloc: Global,
+    player: &mut Player,
+    channels: &mut Vec<Channel>,
+    place: usize,
+    line: Line<'_>,
+) -> Result<(), WantMemory>
+    requires { Keeps player.old channels.old.items }
+    ensures shows { OnOk result (Shows (OnLine (Talks line.entry) place) player.old player.new channels.old.items channels.new.items) }
+    ensures keeps { OnOk result (Keeps player.new channels.new.items) }
+{
+    let Some(channel) = channels.get_mut(place) else {
+        return Ok(());
+    };
+    let Some(conn) = channel.meet(player)? else {
+        return Ok(());
+    };
+    channel.talk(alloc, player, conn, line)?;
+    Ok(())
+}
 
+impl Channel {
     // The number of a connection to which a line comes. None, and that printed, where it can't enter.
-    fn meet(&mut self, channel: &mut Channel) -> Result<Option<u32>, WantMemory>
-        ensures { IfOk result (λ met. Meets met self.old self.new channel.old channel.new) }
+    fn meet(&mut self, player: &mut Player) -> Result<Option<u32>, WantMemory>
+        ensures { IfOk result (λ met. Meets met player.old player.new self.old self.new) }
     {
-        match channel.number {
+        match self.number {
             Some(conn) => Ok(Some(conn)),
-            None => self.let_in(channel),
+            None => self.let_in(player),
         }
     }
 
     // A connection enters.
-    fn let_in(&mut self, channel: &mut Channel) -> Result<Option<u32>, WantMemory>
-        requires { channel.old.number ≡ None }
-        ensures { IfOk result (λ met. Meets met self.old self.new channel.old channel.new) }
+    fn let_in(&mut self, player: &mut Player) -> Result<Option<u32>, WantMemory>
+        requires { self.old.number ≡ None }
+        ensures { IfOk result (λ met. Meets met player.old player.new self.old self.new) }
     {
-        match self.core.enter() {
+        match player.core.enter() {
             Ok(conn) => {
-                channel.number = Some(conn);
+                self.number = Some(conn);
                 Ok(Some(conn))
             }
             Err(
@@ -69,8 +69,8 @@ impl Player {
                 },
             ) => {
                 let full = Full { arrivals, bytes };
-                self.turned_away = self.turned_away.or(Some(full));
-                print_limit(&mut self.printed, channel.name.as_slice())?;
+                player.turned_away = player.turned_away.or(Some(full));
+                print_limit(&mut player.printed, self.name.as_slice())?;
                 Ok(None)
             }
             Err(EnterFault::WantMemory) => Err(WantMemory),
@@ -81,25 +81,26 @@ impl Player {
     fn talk(
         &mut self,
         alloc: Global,
-        channel: &mut Channel,
+        player: &mut Player,
         conn: u32,
         line: Line<'_>,
     ) -> Result<(), WantMemory>
-        requires entered { conn < connections self.old.core.history }
-        requires open_ { channel.old.ended ≡ false → IsOpen self.old.core.history conn }
-        requires counted { IsCounted channel.old }
-        ensures tells { OnOk result (Tells (Talks line.entry conn) self.old self.new channel.old channel.new) }
-        ensures counted { OnOk result (IsCounted channel.new) }
+        requires entered { conn < connections player.old.core.history }
+        requires said { Each IsSaid player.old.core.history }
+        requires open_ { self.old.ended ≡ false → IsOpen player.old.core.history conn }
+        requires counted { IsCounted self.old }
+        ensures tells { OnOk result (Tells (Talks line.entry conn) player.old player.new self.old self.new) }
+        ensures counted { OnOk result (IsCounted self.new) }
     {
         match line {
-            Line::Bytes(bytes) => self.feed(alloc, channel, conn, bytes),
-            Line::Words(words) => self.command(alloc, channel, conn, words),
+            Line::Bytes(bytes) => self.feed(alloc, player, conn, bytes),
+            Line::Words(words) => self.command(alloc, player, conn, words),
             Line::End => {
-                self.end(channel, conn);
+                self.end(player, conn);
                 Ok(())
             }
             Line::Collect => {
-                self.collect(alloc, channel, conn)?;
+                self.collect(alloc, player, conn)?;
                 Ok(())
             }
         }
@@ -109,46 +110,47 @@ impl Player {
     fn command(
         &mut self,
         alloc: Global,
-        channel: &mut Channel,
+        player: &mut Player,
         conn: u32,
         words: &[u8],
     ) -> Result<(), WantMemory>
-        requires open_ { channel.old.ended ≡ false → IsOpen self.old.core.history conn }
-        ensures tells { OnOk result (Tells (Commands words.now conn) self.old self.new channel.old channel.new) }
-        ensures counted { IsCounted channel.old → IsCounted channel.new }
+        requires open_ { self.old.ended ≡ false → IsOpen player.old.core.history conn }
+        ensures tells { OnOk result (Tells (Commands words.now conn) player.old player.new self.old self.new) }
+        ensures counted { IsCounted self.old → IsCounted self.new }
     {
-        if channel.ended || !is_sized(words) {
+        if self.ended || !is_sized(words) {
             return Ok(());
         }
         let command = read_line(alloc, words)?;
-        let number = next_number(channel.lines)?;
-        channel.lines = number;
+        let number = next_number(self.lines)?;
+        self.lines = number;
         let size = words.len() as u64;
         let call = Call::Line { number, command };
-        self.call(channel.name.as_slice(), conn, call, size)?;
+        player.call(self.name.as_slice(), conn, call, size)?;
         Ok(())
     }
 
     // The connection leaves.
-    fn end(&mut self, channel: &mut Channel, conn: u32)
-        requires open_ { channel.old.ended ≡ false → IsOpen self.old.core.history conn }
-        ensures tells { Tells (TalkEnds conn) self.old self.new channel.old channel.new }
-        ensures counted { IsCounted channel.old → IsCounted channel.new }
+    fn end(&mut self, player: &mut Player, conn: u32)
+        requires open_ { self.old.ended ≡ false → IsOpen player.old.core.history conn }
+        ensures tells { Tells (TalkEnds conn) player.old player.new self.old self.new }
+        ensures counted { IsCounted self.old → IsCounted self.new }
     {
-        if channel.ended {
+        if self.ended {
             return;
         }
-        channel.ended = true;
-        self.core.leave(conn);
+        self.ended = true;
+        player.core.leave(conn);
     }
 
     // The connection's replies are collected.
-    fn collect(&mut self, alloc: Global, channel: &mut Channel, conn: u32) -> Result<(), WantMemory>
-        requires entered { conn < connections self.old.core.history }
-        ensures tells { OnOk result (Tells (Collects conn) self.old self.new channel.old channel.new) }
-        ensures counted { IsCounted channel.old → IsCounted channel.new }
+    fn collect(&mut self, alloc: Global, player: &mut Player, conn: u32) -> Result<(), WantMemory>
+        requires entered { conn < connections player.old.core.history }
+        requires said { Each IsSaid player.old.core.history }
+        ensures tells { OnOk result (Tells (Collects conn) player.old player.new self.old self.new) }
+        ensures counted { IsCounted self.old → IsCounted self.new }
     {
-        self.collect_all(alloc, channel.name.as_slice(), conn)?;
+        player.collect_all(alloc, self.name.as_slice(), conn)?;
         Ok(())
     }
 }

@@ -1,4 +1,4 @@
-use Rattle.poad_cmd.proofs.Files.{plays_both}
+use Rattle.poad_cmd.proofs.Played.{plays_both}
 use Rattle.poad_cmd.proofs.playing.play_files.Goals as goal
 
 pub returns-in-Ok-take_script-clause-plays : goal.returns-in-Ok-take_script-clause-plays

@@ -1,10 +1,44 @@
-use Rattle.std.proofs.Common.{List, ℕ, Option, subst}
-use Rattle.command_words.specs.Words.{command_in}
-use Rattle.poad_cmd.specs.Answering.{AnswersBy}
-use Rattle.poad_cmd.proofs.Named.{answer_named}
+-- The words are a command, which is done, or none.
+use Rattle.command_words.specs.Words.{Meant, answer, show, check, iors, replay, command_in, seen}
+use Rattle.poad_cmd.specs.Commands.{Does}
+use Rattle.poad_cmd.proofs.Commanded.{as_meant, not_none}
 use Rattle.poad_cmd.proofs.run.run_words.Goals as goal
 
-pub returns-in-Ok-Answer-clause-answers : goal.returns-in-Ok-Answer-clause-answers
-returns-in-Ok-Answer-clause-answers g c name meant =
-    subst (λ (n : Option (List ℕ)). AnswersBy n c.answer_by.result (g.F.Files.contents c.args.host.now.files) (g.F.Files.contents c.answer_by.new.files) (g.S.Source.left c.args.host.now.source) (g.S.Source.left c.answer_by.new.source) (g.K.Sink.held c.args.host.now.sink) (g.K.Sink.held c.answer_by.new.sink))
-    (answer_named c.in-Ok-Answer.field-0 c.in-Ok-Answer.name (command_in c.args.words.now) name c.in-Ok-Answer.ensures.ok c.in-Ok-Answer.field-0-is meant) c.answer_by.ensures.answers
+pub returns-in-Ok-clause-bad_words : goal.returns-in-Ok-clause-bad_words
+returns-in-Ok-clause-bad_words g c bad = absurd (c.run_command.ensures.is_command bad)
+
+pub returns-in-Ok-clause-no_command : goal.returns-in-Ok-clause-no_command
+returns-in-Ok-clause-no_command g c none = absurd (not_none (seen c.in-Ok.command) (command_in c.args.words.now) c.in-Ok.ensures.ok none)
+
+pub returns-in-Ok-clause-untouched : goal.returns-in-Ok-clause-untouched
+returns-in-Ok-clause-untouched g c none = absurd (not_none (seen c.in-Ok.command) (command_in c.args.words.now) c.in-Ok.ensures.ok none)
+
+pub returns-in-Ok-clause-answers : goal.returns-in-Ok-clause-answers
+returns-in-Ok-clause-answers g c name meant = as_meant
+    (λ (m : Meant). Does m c.run_command.result (g.F.Files.contents c.args.host.now.files) (g.F.Files.contents c.run_command.new.host.files) (g.S.Source.left c.args.host.now.source) (g.S.Source.left c.run_command.new.host.source)
+    (g.K.Sink.held c.args.host.now.sink) (g.K.Sink.held c.run_command.new.host.sink) c.args.host.now.source c.run_command.new.host.source c.args.host.now.files c.run_command.new.host.files)
+    (seen c.in-Ok.command) (answer name) (command_in c.args.words.now) c.in-Ok.ensures.ok meant c.run_command.ensures.does
+
+pub returns-in-Ok-clause-plays : goal.returns-in-Ok-clause-plays
+returns-in-Ok-clause-plays g c file script meant = as_meant
+    (λ (m : Meant). Does m c.run_command.result (g.F.Files.contents c.args.host.now.files) (g.F.Files.contents c.run_command.new.host.files) (g.S.Source.left c.args.host.now.source) (g.S.Source.left c.run_command.new.host.source)
+    (g.K.Sink.held c.args.host.now.sink) (g.K.Sink.held c.run_command.new.host.sink) c.args.host.now.source c.run_command.new.host.source c.args.host.now.files c.run_command.new.host.files)
+    (seen c.in-Ok.command) (replay file script) (command_in c.args.words.now) c.in-Ok.ensures.ok meant c.run_command.ensures.does
+
+pub returns-in-Ok-clause-shows : goal.returns-in-Ok-clause-shows
+returns-in-Ok-clause-shows g c text meant = as_meant
+    (λ (m : Meant). Does m c.run_command.result (g.F.Files.contents c.args.host.now.files) (g.F.Files.contents c.run_command.new.host.files) (g.S.Source.left c.args.host.now.source) (g.S.Source.left c.run_command.new.host.source)
+    (g.K.Sink.held c.args.host.now.sink) (g.K.Sink.held c.run_command.new.host.sink) c.args.host.now.source c.run_command.new.host.source c.args.host.now.files c.run_command.new.host.files)
+    (seen c.in-Ok.command) (show text) (command_in c.args.words.now) c.in-Ok.ensures.ok meant c.run_command.ensures.does
+
+pub returns-in-Ok-clause-checks : goal.returns-in-Ok-clause-checks
+returns-in-Ok-clause-checks g c name meant = as_meant
+    (λ (m : Meant). Does m c.run_command.result (g.F.Files.contents c.args.host.now.files) (g.F.Files.contents c.run_command.new.host.files) (g.S.Source.left c.args.host.now.source) (g.S.Source.left c.run_command.new.host.source)
+    (g.K.Sink.held c.args.host.now.sink) (g.K.Sink.held c.run_command.new.host.sink) c.args.host.now.source c.run_command.new.host.source c.args.host.now.files c.run_command.new.host.files)
+    (seen c.in-Ok.command) (check name) (command_in c.args.words.now) c.in-Ok.ensures.ok meant c.run_command.ensures.does
+
+pub returns-in-Ok-clause-iors : goal.returns-in-Ok-clause-iors
+returns-in-Ok-clause-iors g c name meant = as_meant
+    (λ (m : Meant). Does m c.run_command.result (g.F.Files.contents c.args.host.now.files) (g.F.Files.contents c.run_command.new.host.files) (g.S.Source.left c.args.host.now.source) (g.S.Source.left c.run_command.new.host.source)
+    (g.K.Sink.held c.args.host.now.sink) (g.K.Sink.held c.run_command.new.host.sink) c.args.host.now.source c.run_command.new.host.source c.args.host.now.files c.run_command.new.host.files)
+    (seen c.in-Ok.command) (iors name) (command_in c.args.words.now) c.in-Ok.ensures.ok meant c.run_command.ensures.does

@@ -1,6 +1,4 @@
-use Rattle.std.proofs.Common.{List, ℕ, ◌∷◌, [], ◌++◌, rules, subst, sym, ap, ◌∙◌, ap, take}
-use Rattle.std.proofs.lemmas.List.{take_more}
-use Rattle.replay_run.specs.Playing.{AreFresh}
+use Rattle.std.proofs.Common.{rules, subst, sym, take}
 use Rattle.replay_run.specs.Keeping.{IsNew}
 use Rattle.replay_run.proofs.Listed.{fresh_more, fresh_at, new_more, next_name}
 use Rattle.replay_run.proofs.channel.channels_of.Goals as goal

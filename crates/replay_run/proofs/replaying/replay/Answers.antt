@@ -1,10 +1,10 @@
-use Rattle.std.proofs.Common.{◌≡◌, List, ℕ, rules, subst, ap}
-use Rattle.poa_base.specs.declared.Config.{Config}
+use Rattle.std.proofs.Common.{◌≡◌, List, ℕ, rules, subst}
 use Rattle.replay_script.specs.declared.ScriptStep.{ScriptStep}
 use Rattle.replay_run.specs.declared.channel.Channel.{Channel}
-use Rattle.replay_run.specs.Working.{Rests, Then}
+use Rattle.replay_player.specs.Working.{Rests, Then}
 use Rattle.replay_run.specs.Playing.{AreFresh, CollectsEach, PlaysAll}
-use Rattle.replay_run.specs.Keeping.{Shows, Works}
+use Rattle.replay_run.specs.Keeping.{Shows}
+use Rattle.replay_player.specs.Effects.{Works}
 use Rattle.replay_run.proofs.Whole.{keeps_first, is_played}
 use Rattle.replay_run.proofs.replaying.replay.Goals as goal
 
@@ -14,8 +14,8 @@ play_all-requires c = keeps_first c.args.config c.args.limit c.in_ok-player.play
 pub returns : goal.returns
 returns c =
     let p = c.in_ok-player.player in
-    let q = c.play_all.new.self in
-    let r = c.finish.new.self in
+    let q = c.play_all.new.player in
+    let r = c.finish.new.player in
     let xs = c.in_ok-channels.channels.items in
     let ys = c.play_all.new.channels.items in
     let fresh = subst (λ (names : List (List ℕ)). AreFresh names xs) c.as_slice.ensures c.in_ok-channels.ensures.fresh in

@@ -1,0 +1,22 @@
+//! A reply behind other bytes.
+ghost use Rattle.std.specs.Prelude.{◌≡◌, ◌++◌, OnOk};
+ghost use Rattle.giop_msg.specs.Reply.{reply_bytes};
+ghost use Rattle.giop_replies.specs.Calls.{IsReplyTo};
+
+use giop_msg::write_reply;
+use poa_base::{Head, Reply, WantMemory};
+use std::alloc::Global;
+
+/// Puts the message that answers a call, of which the head is kept, behind others: CORBA 3.3 Part 2, 9.4.3 and 9.4.6.
+pub fn put_reply(
+    alloc: Global,
+    out: &mut Vec<u8>,
+    head: &Head,
+    reply: &Reply,
+) -> Result<(), WantMemory>
+    requires { IsReplyTo head.now reply.now }
+    ensures { OnOk result (out.new.items ≡ out.old.items ++ reply_bytes head.now reply.now) }
+{
+    let bytes = write_reply(alloc, head, reply)?;
+    out.extend_from_slice(bytes.as_slice())
+}

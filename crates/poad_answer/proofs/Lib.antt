@@ -1,0 +1,4 @@
+pub mod Serving
+pub mod Pieces
+pub mod Worked
+pub mod Running

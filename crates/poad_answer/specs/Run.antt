@@ -1,0 +1,81 @@
+-- What a run of `answer` did, and its status.
+use Rattle.std.specs.Prelude.{◌≡◌, ℕ, ◌^◌, ◌<◌, List, [], ◌++◌, ◌⊎◌, Option, length, take, ⊤}
+use Rattle.outside.specs.Told.{IfTold}
+use Rattle.poa_base.specs.declared.Config.{Config}
+use Rattle.poa_base.specs.declared.Entry.TheVariants.{Entered}
+use Rattle.poa_history.specs.Legal.{IsLegal}
+use Rattle.poa_history.specs.Lifetime.{HasLifetime}
+use Rattle.history_laws.specs.Lasting.{KeepsUpdates, LeavesNothing}
+use Rattle.run_history.specs.Life.{Life, with_entry, opened}
+use Rattle.poa_core.specs.Answers.{unadmitted}
+use Rattle.replay_player.specs.Opening.{life_at_first}
+use Rattle.giop_frame.specs.Stream.{Framed}
+use Rattle.poad_files.specs.declared.status.Status.{Status}
+use Rattle.poad_files.specs.declared.status.Status.TheVariants.{Ok, Malformed, ReadFault, WriteFault, Truncated, Held, Limit, WantMemory, InputLimit}
+use Rattle.poad_answer.specs.declared.stop.Stop.{Stop}
+use Rattle.poad_answer.specs.declared.stop.Stop.TheVariants as stop
+use Rattle.poad_answer.specs.Serving.{MessageGives, Serves}
+use Rattle.poad_answer.specs.Stop.{StopsAt, last_words}
+
+-- nothing is left of the source
+abbrev pub IsDrained : Option (List ℕ) → Type 0
+IsDrained left = IfTold left left (λ old new. new ≡ [])
+
+-- no message is bad, and so many bytes belong to none
+abbrev pub IsWaiting : Stop → Type 0
+IsWaiting why = (have : ℕ) × (why ≡ stop.Waits have)
+
+-- fewer bytes were taken than a run takes at most
+abbrev pub IsBelowLimit : List ℕ → Type 0
+IsBelowLimit got = length got < 2 ^ 32
+
+-- the input was read to a CloseConnection, or to its end with nothing left over
+abbrev pub IsRead : Stop → List ℕ → Option (List ℕ) → Type 0
+IsRead why got left = (why ≡ stop.Closed) ⊎ ((why ≡ stop.Waits 0) × IsDrained left × IsBelowLimit got)
+
+-- why a run ends with a status: `got` was taken of the source, serving it stopped for this reason, and so many calls
+-- are unadmitted. Where no message ends the run, it is the limit of the input exactly where that was taken
+abbrev pub RunEnds : Status → Stop → ℕ → List ℕ → Option (List ℕ) → Type 0
+RunEnds Ok why held got left = IsRead why got left × (held ≡ 0)
+RunEnds (Held count) why held got left = IsRead why got left × (count ≡ held) × (0 < held)
+RunEnds (Truncated have) why held got left = (why ≡ stop.Waits have) × (0 < have) × IsDrained left × IsBelowLimit got
+RunEnds (Malformed at) why held got left = why ≡ stop.Refused at
+RunEnds (Limit calls bytes) why held got left = why ≡ stop.Full calls bytes
+RunEnds (InputLimit taken) why held got left = IsWaiting why × (taken ≡ length got) × (taken ≡ 2 ^ 32)
+RunEnds ReadFault why held got left = IsWaiting why × IsBelowLimit got
+RunEnds WriteFault why held got left = ⊤
+RunEnds WantMemory why held got left = ⊤
+RunEnds _ why held got left = ⊥
+
+-- the sink gained these bytes, or after a fault of writing or want of memory a front of them
+abbrev pub Gains : Status → List ℕ → List ℕ → List ℕ → Type 0
+Gains WriteFault bytes old new = (n : ℕ) × (new ≡ old ++ take n bytes)
+Gains WantMemory bytes old new = (n : ℕ) × (new ≡ old ++ take n bytes)
+Gains _ bytes old new = new ≡ old ++ bytes
+
+-- the run of a configuration, once its one connection has entered
+abbrev pub life_at_answer : Config → Life
+life_at_answer c = with_entry (Entered 0) (life_at_first c 4000000)
+
+-- the run is a legal one of the configuration, keeps the lifetimes of activations, leaves nothing undone and keeps the
+-- updates of objects; of want of memory nothing is said
+abbrev pub IsKeptBy : Status → Config → Life → Type 0
+IsKeptBy WantMemory c life = ⊤
+IsKeptBy status c life =
+    IsLegal c c.run 4000000 life.history × HasLifetime c c.run life.history × LeavesNothing c c.run life.history × KeepsUpdates c c.run (opened (life_at_first c 4000000)) life.history
+
+-- `answer` took bytes of the source, served the messages of their stream in order, up to one that it doesn't serve, and
+-- gave the sink their replies, and behind them MessageError where the next message is bad, or CloseConnection where the
+-- run refuses its call
+pub record RunAnswers (c : Config) (status : Status) (left_old left_new held_old held_new : Option (List ℕ)) : Type 0 where
+  pub got : List ℕ
+  pub took : IfTold left_old left_new (λ old new. old ≡ got ++ new)
+  pub messages : List Framed
+  pub replies : List ℕ
+  pub life : Life
+  pub served : Serves MessageGives (life_at_answer c) messages replies life
+  pub why : Stop
+  pub stops : StopsAt why life got messages
+  pub gave : IfTold held_old held_new (Gains status (replies ++ last_words why))
+  pub ends : RunEnds status why (unadmitted life.history) got left_new
+  pub kept : IsKeptBy status c life

@@ -1,0 +1,71 @@
+-- How far a server comes in a stream, and what stops it.
+use Rattle.std.specs.Prelude.{◌≡◌, ℕ, List, [], ◌∷◌, ◌++◌, ◌⊎◌, Some, Ok, Err, false, length}
+use Rattle.poa_base.specs.declared.Call.{Call}
+use Rattle.giop_frame.specs.declared.Why.{Why}
+use Rattle.giop_frame.specs.Stream.{Framed, End, Stream, left_over, bad_place}
+use Rattle.giop_msg.specs.declared.Incoming.TheVariants.{Closing, Call as IncomingCall}
+use Rattle.giop_msg.specs.declared.MsgFault.TheVariants as fault
+use Rattle.giop_msg.specs.Call.{CallOf}
+use Rattle.giop_msg.specs.Outgoing.{framed}
+use Rattle.run_history.specs.Life.{Life}
+use Rattle.poa_core.specs.Answers.{is_taken, filled_by, filled_at}
+use Rattle.poad_answer.specs.declared.stop.Stop.{Stop}
+use Rattle.poad_answer.specs.declared.stop.Stop.TheVariants.{Waits, Closed, Refused, Full, NoMemory}
+
+-- the size of a message is at most this
+abbrev pub message_limit : ℕ
+message_limit = 1048576
+
+-- the stream of the text begins with these messages
+pub record Begins (text : List ℕ) (messages : List Framed) : Type 0 where
+  pub more : List Framed
+  pub end : End
+  pub stream : Stream message_limit text (messages ++ more) end
+
+-- behind these messages of the stream such a message comes
+pub record Comes (text : List ℕ) (messages : List Framed) (IsSuch : Framed → Type 0) : Type 0 where
+  pub message : Framed
+  pub begins : Begins text (messages ++ message ∷ [])
+  pub is : IsSuch message
+
+-- behind these messages of the stream a place is bad
+pub record IsBadPlace (text : List ℕ) (messages : List Framed) (at : ℕ) : Type 0 where
+  pub why : Why
+  pub stream : Stream message_limit text messages (bad_place at why)
+
+-- a message of this place that can't be read, or isn't for a server
+abbrev pub IsBadMessage : ℕ → Framed → Type 0
+IsBadMessage at message = (message.at ≡ at) × (CallOf message.bytes (Err fault.Malformed) ⊎ CallOf message.bytes (Err fault.NotForServer))
+
+-- a CloseConnection
+abbrev pub IsClosing : Framed → Type 0
+IsClosing message = CallOf message.bytes (Ok Closing)
+
+-- a message whose call the run refuses: so many calls, and bytes of them, arrived before
+pub record IsRefused (life : Life) (calls bytes : ℕ) (message : Framed) : Type 0 where
+  pub call : Call
+  pub asks : CallOf message.bytes (Ok (IncomingCall call))
+  pub refused : is_taken life.limit life.history (length message.bytes) call ≡ false
+  pub filled : filled_at (filled_by 0 (length message.bytes) life).history ≡ Some (calls, bytes)
+
+-- a server that served these messages of the stream, which left this run, stops for this reason
+abbrev pub StopsAt : Stop → Life → List ℕ → List Framed → Type 0
+StopsAt (Waits have) life text messages = Stream message_limit text messages (left_over have)
+StopsAt Closed life text messages = Comes text messages IsClosing
+StopsAt (Refused at) life text messages = IsBadPlace text messages at ⊎ Comes text messages (IsBadMessage at)
+StopsAt (Full calls bytes) life text messages = Comes text messages (IsRefused life calls bytes)
+StopsAt NoMemory life text messages = Begins text messages
+
+-- MessageError (CORBA 3.3 Part 2, 9.4.8)
+abbrev pub message_error : List ℕ
+message_error = framed 2 6 false []
+
+-- CloseConnection (CORBA 3.3 Part 2, 9.4.7)
+abbrev pub close_connection : List ℕ
+close_connection = framed 2 5 false []
+
+-- what is written behind the replies
+abbrev pub last_words : Stop → List ℕ
+last_words (Refused at) = message_error
+last_words (Full calls bytes) = close_connection
+last_words _ = []

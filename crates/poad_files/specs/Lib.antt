@@ -1,0 +1,4 @@
+pub mod Taking
+pub mod Delivery
+pub mod Showing
+pub mod Filing

@@ -1,0 +1,19 @@
+//! What every command of the program has: its source, sink and files (`Host`), how it ended (`Status`), the contents,
+//! configurations and scripts that it takes of files, and the bytes that it hands to a sink. And the commands that need
+//! no adapter: `show` prints a reference, and `check` and `iors` print what a configuration has.
+#![tactic(auto)]
+
+mod delivery;
+mod fault_line;
+mod filing;
+mod host;
+mod showing;
+mod status;
+mod taking;
+
+pub use delivery::deliver;
+pub use filing::print_file;
+pub use host::Host;
+pub use showing::show_text;
+pub use status::Status;
+pub use taking::{config_of, take_config, take_script};

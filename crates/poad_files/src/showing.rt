@@ -1,0 +1,43 @@
+//! `show`: a reference in a form for people.
+ghost use Rattle.std.specs.Prelude.{◌≡◌};
+ghost use Rattle.outside.specs.Cause.{HasCause};
+ghost use Rattle.poad_files.specs.Showing.{Refuses, Tells};
+
+use crate::delivery::deliver;
+use crate::status::Status;
+use ior_show::show;
+use ior_text::{IorFault, read_ior};
+use outside::Sink;
+use std::alloc::Global;
+
+/// Prints the reference that a text is, its type id and its profiles, or tells why it is none.
+pub fn show_text<K: Sink>(alloc: Global, text: &[u8], sink: &mut K) -> Status
+    ensures tells { Tells result text.now (K.held sink.old) (K.held sink.new) }
+    ensures written { HasCause (K.write_faults sink.old) (K.write_faults sink.new) (result ≡ Status.WriteFault) }
+{
+    let ior = match read_ior(alloc, text) {
+        Ok(ior) => ior,
+        Err(fault) => return refusal(fault),
+    };
+    let Ok(printed) = show(alloc, &ior) else {
+        return Status::WantMemory;
+    };
+    if deliver(sink, printed.as_slice()) {
+        Status::Ok
+    } else {
+        Status::WriteFault
+    }
+}
+
+// The status where a text is no reference.
+fn refusal(fault: IorFault) -> Status
+    ensures { Refuses result fault }
+{
+    match fault {
+        IorFault::WantMemory => Status::WantMemory,
+        IorFault::NoPrefix
+        | IorFault::OddDigits
+        | IorFault::BadDigit { .. }
+        | IorFault::Malformed { .. } => Status::TextRefused(fault),
+    }
+}

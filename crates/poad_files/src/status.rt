@@ -1,0 +1,98 @@
+//! How a command ended.
+
+use crate::fault_line::write_fault;
+use conf_toml::ConfFault;
+use ior_text::IorFault;
+use std::fmt;
+
+/// How a command ended: each status has a number, with which the program ends, and a line.
+#[derive(Debug, PartialEq, Eq, Drop)]
+pub enum Status {
+    /// The input was read to its end, and every owed reply was written.
+    Ok,
+    /// The words are no command.
+    BadWords,
+    /// The bytes of the file are no configuration.
+    ConfigRefused(ConfFault),
+    /// This line of the script is no line of a script.
+    ScriptRefused { line: u64 },
+    /// The text is no reference.
+    TextRefused(IorFault),
+    /// A read of the source failed.
+    ReadFault,
+    /// A write to the sink failed.
+    WriteFault,
+    /// A file couldn't be read or written.
+    FileFault,
+    /// The first bad message of the input starts at this byte.
+    Malformed { at: u64 },
+    /// The input ended inside a message, of which so many bytes came.
+    Truncated { have: u64 },
+    /// So many calls are held at the end.
+    Held { count: u64 },
+    /// The limit of the run was met, at so many calls and bytes of calls.
+    Limit { arrivals: u64, bytes: u64 },
+    /// A door failed.
+    ListenFault,
+    /// A thread couldn't be started.
+    NoThread,
+    /// No memory was left.
+    WantMemory,
+    /// No file of that name is there.
+    NoFile,
+    /// The file is longer than its limit.
+    FileTooLong,
+    /// So many bytes were read, as many as a run reads.
+    InputLimit { taken: u64 },
+}
+
+impl Status {
+    /// The number of the status, 0 for `Ok`.
+    pub fn number(&self) -> u8 {
+        match self {
+            Status::Ok => 0,
+            Status::BadWords => 2,
+            Status::ConfigRefused(_) => 3,
+            Status::ScriptRefused { .. } => 4,
+            Status::TextRefused(_) => 5,
+            Status::ReadFault => 6,
+            Status::WriteFault => 7,
+            Status::FileFault => 8,
+            Status::Malformed { .. } => 9,
+            Status::Truncated { .. } => 10,
+            Status::Held { .. } => 11,
+            Status::Limit { .. } => 12,
+            Status::ListenFault => 13,
+            Status::NoThread => 14,
+            Status::WantMemory => 15,
+            Status::NoFile => 16,
+            Status::FileTooLong => 17,
+            Status::InputLimit { .. } => 19,
+        }
+    }
+}
+
+impl fmt::Display for Status {
+    fn fmt<W: fmt::Write>(&self, f: &mut fmt::Formatter<W>) -> fmt::Result {
+        match self {
+            Status::Ok => write!(f, "ok"),
+            Status::BadWords => write!(f, "bad words"),
+            Status::ConfigRefused(fault) => write_fault(f, fault),
+            Status::ScriptRefused { line } => write!(f, "script: line {line}"),
+            Status::TextRefused(fault) => write!(f, "{fault}"),
+            Status::ReadFault => write!(f, "read fault"),
+            Status::WriteFault => write!(f, "write fault"),
+            Status::FileFault => write!(f, "file fault"),
+            Status::Malformed { at } => write!(f, "malformed at {at}"),
+            Status::Truncated { have } => write!(f, "truncated {have}"),
+            Status::Held { count } => write!(f, "held {count}"),
+            Status::Limit { arrivals, bytes } => write!(f, "limit {arrivals} {bytes}"),
+            Status::ListenFault => write!(f, "listen fault"),
+            Status::NoThread => write!(f, "no thread"),
+            Status::WantMemory => write!(f, "want of memory"),
+            Status::NoFile => write!(f, "no file"),
+            Status::FileTooLong => write!(f, "file too long"),
+            Status::InputLimit { taken } => write!(f, "input limit {taken}"),
+        }
+    }
+}

@@ -1,0 +1,16 @@
+use Rattle.std.proofs.Common.{◌<◌}
+use Rattle.giop_replies.specs.Calls.{Each, IsSaid}
+use Rattle.poa_history.specs.Arrivals.{connections}
+use Rattle.replay_lines.specs.Lines.{reply_line}
+use Rattle.replay_player.specs.Collecting.{CollectsAll}
+use Rattle.replay_player.specs.Effects.{Works}
+use Rattle.replay_player.proofs.Onward.{Onward}
+use Rattle.replay_player.proofs.player.Player.collect_all.Given as goal
+
+-- the replies so far are the front of all
+abbrev pub invariant-loop : goal.invariant-loop
+invariant-loop l = record {
+  collects : Works (Onward (CollectsAll (reply_line l.name) l.conn)) l.fn.self l.self;
+  entered : l.conn < connections l.self.core.history;
+  said : Each IsSaid l.self.core.history;
+}

@@ -1,8 +1,0 @@
-use Rattle.std.proofs.Common.{rules, ◌∙◌, List, ℕ, subst, sym, ap, ◌++◌}
-use Rattle.replay_run.proofs.Read.{commands_told}
-use Rattle.replay_run.proofs.player.Player.command.Goals as goal
-
-pub returns-clause-tells : goal.returns-clause-tells
-returns-clause-tells c = commands_told c.args.words.now c.args.conn c.in_ok-number.number c.in_ok-command.command c.args.self.now c.call.new.self c.args.channel.now
-    c.if-channel.false (sym c.is_sized.ensures ∙ c.if-not-is_sized.false) c.in_ok-number.ensures c.in_ok-command.ensures c.in_ok-call.ensures.life (search rules)
-    c.in_ok-call.ensures.filled c.call.ensures.turned_away
