@@ -5,6 +5,8 @@
 #[cfg(test)]
 mod asked;
 #[cfg(test)]
+mod lent;
+#[cfg(test)]
 mod targets;
 #[cfg(test)]
 mod told;

@@ -1,7 +1,7 @@
 //! What messages ask, and what is written, as text.
 ghost use Rattle.std.specs.Prelude.{◌≡◌, ◌≤◌, IsFalse};
 
-use giop_frame::{Framer, Next};
+use giop_frame::{Framer, Message, Next};
 use giop_msg::{Incoming, read_call, write_reply, write_request};
 use poa_base::{Ask, Bytes, Call, Datum, Head, Outcome, Reply};
 use std::alloc::Global;
@@ -29,14 +29,22 @@ pub fn located(alloc: Global, address: &[u8]) -> Result<String, Fail> {
 
 /// What the first message of a stream of these bytes asks.
 fn asked_by(alloc: Global, stream: &[u8]) -> Result<String, Fail> {
-    let mut framer = Framer::new(alloc, 1_048_576);
-    framer.feed(&stream[..stream.len().min(LONGEST)])?;
-    let Next::Message(message) = framer.next()? else {
+    let Some(message) = first(alloc, stream)? else {
         return Ok(format!(in alloc; "no message")?);
     };
     match read_call(alloc, &message) {
         Ok(incoming) => told(alloc, &incoming),
         Err(fault) => Ok(format!(in alloc; "{fault}")?),
+    }
+}
+
+/// The first message of a stream of these bytes.
+pub fn first(alloc: Global, stream: &[u8]) -> Result<Option<Message>, Fail> {
+    let mut framer = Framer::new(alloc, 1_048_576);
+    framer.feed(&stream[..stream.len().min(LONGEST)])?;
+    match framer.next()? {
+        Next::Message(message) => Ok(Some(message)),
+        _ => Ok(None),
     }
 }
 

@@ -1,0 +1,162 @@
+use poa_base::{Entry, Items, Journal, Store};
+use poa_journal::*;
+use std::test::Fail;
+
+// A line or more of each kind of entry, of call, of verdict and of answer.
+const WHOLE: &[u8] = b"journal 1 run 7
+store /a h:6c register 0
+entered 0
+arrive 0 64 request 1 2 little 3 h:504f410101010173000178 h:616464 56 h:0100000000000000
+arrive 0 52 request 4294967295 0 big 0 - h: 24 h:
+arrive 0 40 locate 2 2 big h:504f
+arrive 0 28 locate 3 1 little -
+entered 1
+arrive 1 20 line 1 activate-id /s h:79 r
+arrive 1 9 line 18446744073709551615 bad 4294967295
+arrive 1 41 line 3 manager m deactivate etherealize wait
+filled 1 1048588
+admit 0 0 incarnate 0
+incarnated 0 fresh 0
+admit 0 1 refuse OBJECT_NOT_EXIST fffff003
+admit 0 2 refuse UNKNOWN fffff009
+admit 15 3 serve 2
+admit 0 4 default q
+admit 0 5 locator q
+admit 0 6 try
+tried 0 yes 1
+tried 0 no
+tried 0 raised
+tried 0 dying
+admit 0 7 forward h.example 65535
+admit 0 8 addressing
+admit 0 9 here
+admit 0 10 unknown
+admit 1 11 wait
+admit 1 12 answer ok
+admit 1 13 answer ok h:0000000100000001
+admit 1 14 answer ok IOR:00ff
+admit 1 15 answer no TooMany 65536
+admit 1 16 answer no BadWord 3
+incarnated 2 named r
+incarnated 2 double
+incarnated 2 forward 127.0.0.1 1
+incarnated 2 raise OBJ_ADAPTER 4f4d0001
+run 0
+done 0
+takeout 1 0 etherealize
+etherealized 1 yes no
+takeout 1 1 quiet
+collect 0 0
+left 0
+abandon 3
+";
+
+#[test]
+fn each_line_reads_and_prints_as_it_stands(rt: HostRuntime) -> Result<(), Fail> {
+    let alloc = rt.alloc();
+    let journal = read(alloc, WHOLE)?;
+    assert_eq!(rt; journal.run, 7);
+    assert_eq!(rt; journal.entries.len(), 44);
+    assert_eq!(rt; print(alloc, &journal)?.as_slice(), WHOLE);
+    Ok(())
+}
+
+#[test]
+fn the_first_line_outside_the_grammar_is_told(rt: HostRuntime) -> Result<(), Fail> {
+    let alloc = rt.alloc();
+    let cases: [(&[u8], u64); 16] = [
+        (b"", 1),
+        (b"\n", 1),
+        (b"journal 2 run 1\n", 1),
+        (b"journal 1 run 01\n", 1),
+        (b"journal 1 run 1 \n", 1),
+        (b"journal 1 run 1\nfly 1\n", 2),
+        (b"journal 1 run 1\n\n", 2),
+        (b"journal 1 run 1\nstore", 2),
+        (b"journal 1 run 1\nrun 0\nstore / h: echo\n", 3),
+        (b"journal 1 run 1\nstore /b h: echo\nstore /a h: echo\n", 3),
+        (b"journal 1 run 1\nstore /a h: echo\nstore /a h: echo\n", 3),
+        (b"journal 1 run 1\nrun 0\nrun  0\nfly\n", 3),
+        (b"journal 1 run 1\nrun 0\nrun 0 0\n", 3),
+        (b"journal 1 run 1\nadmit 0 0 refuse MARSHAL FFFFF008\n", 2),
+        (b"journal 1 run 1\nadmit 0 0 forward h.example 0\n", 2),
+        (b"journal 1 run 1\narrive 0 9 line 1 deactivate / t:zz\n", 2),
+    ];
+    for (text, want) in &cases {
+        match read(alloc, text) {
+            Err(JournalFault::BadLine { line }) => assert_eq!(rt; line, *want),
+            _ => assert!(rt; false, "line {want} was read"),
+        }
+    }
+    Ok(())
+}
+
+#[test]
+fn a_missing_last_end_of_line_is_forgiven(rt: HostRuntime) -> Result<(), Fail> {
+    let alloc = rt.alloc();
+    let journal = read(alloc, b"journal 1 run 1\nrun 0")?;
+    assert_eq!(rt; journal.entries.len(), 1);
+    Ok(())
+}
+
+#[test]
+fn an_entry_prints_as_its_line(rt: HostRuntime) -> Result<(), Fail> {
+    let alloc = rt.alloc();
+    let entry = Entry::Etherealized {
+        worker: 2,
+        cleanup: true,
+        remaining: false,
+    };
+    assert_eq!(rt;
+        print_entry(alloc, &entry)?.as_slice(),
+        b"etherealized 2 yes no".as_slice()
+    );
+    let empty = Journal {
+        run: 1,
+        opening: Store::new(alloc),
+        entries: Items::new(alloc),
+    };
+    assert_eq!(rt;
+        print(alloc, &empty)?.as_slice(),
+        b"journal 1 run 1\n".as_slice()
+    );
+    Ok(())
+}
+
+// Rows of each kind of state, by path and then by id.
+const ROWS: &[u8] = b"store / h: register -9223372036854775808
+store /a h:00ff log x6162 x xff
+store /a h:6c echo
+store /a/b h:00 fault
+store /a-b h:00 log
+";
+
+#[test]
+fn each_row_reads_and_prints_as_it_stands(rt: HostRuntime) -> Result<(), Fail> {
+    let alloc = rt.alloc();
+    let store = read_store(alloc, ROWS)?;
+    assert_eq!(rt; print_store(alloc, &store)?.as_slice(), ROWS);
+    let empty = read_store(alloc, b"")?;
+    assert_eq!(rt; print_store(alloc, &empty)?.as_slice(), b"".as_slice());
+    Ok(())
+}
+
+#[test]
+fn the_first_line_that_is_no_row_is_told(rt: HostRuntime) -> Result<(), Fail> {
+    let alloc = rt.alloc();
+    let cases: [(&[u8], u64); 6] = [
+        (b"store", 1),
+        (b"\n", 1),
+        (b"store /a h: register 01\n", 1),
+        (b"store /a h: echo\nstore /a h: echo\n", 2),
+        (b"store /b h: echo\nstore /a h: echo\n", 2),
+        (b"store /a h: echo\nrun 0\nfly\n", 2),
+    ];
+    for (text, want) in &cases {
+        match read_store(alloc, text) {
+            Err(JournalFault::BadLine { line }) => assert_eq!(rt; line, *want),
+            _ => assert!(rt; false, "line {want} was read"),
+        }
+    }
+    Ok(())
+}

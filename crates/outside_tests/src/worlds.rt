@@ -1,0 +1,185 @@
+ghost use Rattle.std.specs.Prelude.{◌≡◌, ◌*◌, ⊤};
+
+use outside::*;
+use poa_base::{Bytes, Point};
+use std::alloc::Global;
+use std::io::{Read, Write};
+use std::sync::Arc;
+use std::sync::atomic::{AtomicU64, Ordering};
+use std::test::Fail;
+use std::{fs, io, thread};
+
+// A reader that always fails.
+#[derive(Drop)]
+struct Broken;
+
+impl Read for Broken {
+    fn read(&mut self, _buf: &mut [u8]) -> io::Result<usize> {
+        Err(io::Error::from(io::ErrorKind::Other))
+    }
+}
+
+// A writer that takes nothing.
+#[derive(Drop)]
+struct Full;
+
+impl Write for Full {
+    fn write(&mut self, _buf: &[u8]) -> io::Result<usize> {
+        Ok(0)
+    }
+
+    fn flush(&mut self) -> io::Result<()> {
+        Ok(())
+    }
+}
+
+#[test]
+fn a_source_gives_its_pieces_and_fails_where_listed(rt: HostRuntime) -> Result<(), Fail> {
+    let alloc = rt.alloc();
+    let bytes = Vec::from_slice(alloc, b"abcdefgh")?;
+    let pieces = vec![in alloc; 3, 1]?;
+    let failing = vec![in alloc; 1]?;
+    let mut source = MemSource::new(bytes, pieces, failing);
+    let mut buf = [0; 4];
+    for took in [
+        Took::Got(3),
+        Took::Failed,
+        Took::Got(1),
+        Took::Got(3),
+        Took::Got(1),
+        Took::End,
+    ] {
+        assert_eq!(rt; source.read(&mut buf), took);
+    }
+    assert_eq!(rt; buf, *b"hfg\0");
+    let mut steady = SteadySource::new(Vec::from_slice(alloc, b"abcdef")?, Vec::new(alloc));
+    assert_eq!(rt; steady.read(&mut buf), Took::Got(4));
+    assert_eq!(rt; steady.read(&mut buf), Took::Got(2));
+    assert_eq!(rt; steady.read(&mut buf), Took::End);
+    Ok(())
+}
+
+#[test]
+fn a_sink_holds_what_is_written_and_fails_where_listed(rt: HostRuntime) -> Result<(), Fail> {
+    let alloc = rt.alloc();
+    let mut sink = MemSink::new(alloc, vec![in alloc; 1]?);
+    assert_eq!(rt; sink.write(b"ab"), Wrote::Wrote(2));
+    assert_eq!(rt; sink.write(b"cd"), Wrote::Failed);
+    assert_eq!(rt; sink.write(b"ef"), Wrote::Wrote(2));
+    assert_eq!(rt; sink.held(), b"abef".as_slice());
+    Ok(())
+}
+
+#[test]
+fn files_are_taken_within_their_limit(rt: HostRuntime) -> Result<(), Fail> {
+    let alloc = rt.alloc();
+    let mut files = MemFiles::new(alloc, vec![in alloc; 3]?, vec![in alloc; 1]?);
+    files.hold("f", b"abc")?;
+    assert_eq!(rt; files.content("f"), Some(b"abc".as_slice()));
+    assert!(rt; matches!(files.take("g", 9), Taken::Absent));
+    assert!(rt; matches!(files.take("f", 2), Taken::TooLong));
+    let Taken::Bytes(bytes) = files.take("f", 3) else {
+        return Err(Fail::from("not taken"));
+    };
+    assert_eq!(rt; bytes.as_slice(), b"abc".as_slice());
+    assert!(rt; matches!(files.take("f", 3), Taken::Failed));
+    assert_eq!(rt; files.put("f", b"de"), Put::Done);
+    assert_eq!(rt; files.put("f", b"fg"), Put::Failed);
+    assert_eq!(rt; files.content("f"), Some(b"de".as_slice()));
+    Ok(())
+}
+
+#[test]
+fn readers_and_writers_are_sources_and_sinks(rt: HostRuntime) -> Result<(), Fail> {
+    let mut buf = [0; 4];
+    let mut input = StandardInput::new(b"abcdef".as_slice());
+    for took in [Took::Got(4), Took::Got(2), Took::End] {
+        assert_eq!(rt; input.read(&mut buf), took);
+    }
+    let mut broken = StandardInput::new(Broken);
+    assert_eq!(rt; broken.read(&mut buf), Took::Failed);
+    let mut output = StandardOutput::new(Vec::new(rt.alloc()));
+    assert_eq!(rt; output.write(b"ab"), Wrote::Wrote(2));
+    let mut full = StandardOutput::new(Full);
+    assert_eq!(rt; full.write(b"ab"), Wrote::Failed);
+    Ok(())
+}
+
+// The folder in which the test of the system's files writes, beside where it runs.
+const FOLDER: &str = "outside_test_of_system_files";
+
+#[test]
+fn system_files_are_put_and_taken_within_their_limit(rt: HostRuntime) -> Result<(), Fail> {
+    let _ = fs::remove_dir_all(&rt, FOLDER);
+    fs::create_dir(&rt, FOLDER)?;
+    let name = "outside_test_of_system_files/state";
+    let mut files = SystemFiles::new(rt.alloc(), &rt);
+    assert!(rt; matches!(files.take(name, 9), Taken::Absent));
+    assert_eq!(rt; files.put(name, b"a longer one"), Put::Done);
+    assert_eq!(rt; files.put(name, b"abc"), Put::Done);
+    assert!(rt; matches!(files.take(name, 2), Taken::TooLong));
+    let Taken::Bytes(bytes) = files.take(name, 3) else {
+        return Err(Fail::from("not taken"));
+    };
+    assert_eq!(rt; bytes.as_slice(), b"abc".as_slice());
+    let nowhere = "outside_test_of_system_files/none/state";
+    assert_eq!(rt; files.put(nowhere, b"abc"), Put::Failed);
+    assert!(rt; matches!(files.take(nowhere, 9), Taken::Absent));
+    assert!(rt; matches!(files.take(FOLDER, 9), Taken::Failed));
+    fs::remove_dir_all(&rt, FOLDER)?;
+    Ok(())
+}
+
+// Doubles a number, once both of two such jobs were begun.
+#[derive(Drop)]
+struct Meeting {
+    begun: Arc<AtomicU64, Global>,
+    number: u32,
+}
+
+impl Job for Meeting {
+    type Out = u64;
+
+    ghost condition = { λ _. ⊤ };
+
+    ghost promise = { λ job out. out ≡ 2 * job.number };
+
+    fn work(self) -> u64 {
+        self.begun.fetch_add(1, Ordering::SeqCst);
+        for _ in 0..u64::MAX {
+            if self.begun.load(Ordering::SeqCst) >= 2 {
+                break;
+            }
+            thread::yield_now();
+        }
+        2 * self.number as u64
+    }
+}
+
+#[test]
+fn a_crew_does_jobs_at_once_and_hands_back_what_it_refuses(rt: HostRuntime) -> Result<(), Fail> {
+    let begun = Arc::new(rt.alloc(), AtomicU64::new(0))?;
+    let mut crew = ThreadCrew::new(rt.alloc(), &rt, vec![in rt.alloc(); 1]?);
+    let mut tickets = Vec::new(rt.alloc());
+    for number in 0..3 {
+        let begun = Arc::try_clone(&begun)?;
+        match crew.start(Meeting { begun, number }) {
+            Ok(ticket) => tickets.push(ticket)?,
+            Err(back) => assert_eq!(rt; back.number, 1),
+        }
+    }
+    assert_eq!(rt; tickets.len(), 2);
+    let mut sum = 0u64;
+    for ticket in tickets {
+        sum = sum.saturating_add(crew.join(ticket));
+    }
+    assert_eq!(rt; sum, 4);
+    Ok(())
+}
+
+#[test]
+fn an_open_gate_keeps_nobody(rt: HostRuntime) -> Result<(), Fail> {
+    OpenGate.pass(Point::Free);
+    assert!(rt; OpenGate.is_open());
+    Ok(())
+}
