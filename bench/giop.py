@@ -3,9 +3,16 @@ import socket
 import struct
 
 CLIENTS, ADMINISTRATORS = 2809, 2810
-COUNTER = b"POA\x01\x01\x01\x03map\x00\x04main"
-ECHO = b"POA\x01\x01\x01\x04echo\x00\x01a"
 REPLY, CLOSE_CONNECTION, MESSAGE_ERROR = 1, 5, 6
+
+
+def persistent_key(adapter, object_id):
+    """The key of an object of a persistent adapter below the root."""
+    return struct.pack(f">4sBBB{len(adapter)}sH", b"POA\1", 1, 1, len(adapter), adapter, len(object_id)) + object_id
+
+
+COUNTER = persistent_key(b"map", b"main")
+ECHO = persistent_key(b"echo", b"a")
 
 
 def connect(port=CLIENTS, receive=None):
