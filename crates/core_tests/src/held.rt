@@ -36,10 +36,6 @@ fn landed(adapter: u32) -> Freed {
     }
 }
 
-fn done() -> Entry {
-    Entry::Done { worker: 2 }
-}
-
 fn flight(adapter: u32) -> Flight {
     Flight {
         arrival: 9,
@@ -63,11 +59,16 @@ fn a_call_is_ready_again_once_what_holds_it_is_freed(rt: HostRuntime) -> Result<
         moved: Some(7),
         ..Freed::nothing()
     };
-    queue.advance(&done(), 2, Stage::Ran(8), moved);
+    queue.advance(&Entry::Done { worker: 2 }, 2, Stage::Ran(8), moved);
     queue.settle(&[], 1)?;
     assert_eq!(rt; queue.least(), Some(1));
     queue.drop_least(1);
-    queue.advance(&done(), 2, Stage::Ran(8), Freed::everything());
+    queue.advance(
+        &Entry::Done { worker: 2 },
+        2,
+        Stage::Ran(8),
+        Freed::everything(),
+    );
     queue.settle(&[], 1)?;
     assert_eq!(rt; queue.least(), Some(0));
     Ok(())
@@ -77,12 +78,13 @@ fn a_call_is_ready_again_once_what_holds_it_is_freed(rt: HostRuntime) -> Result<
 fn the_next_takes_its_turn_where_nobody_has_it(rt: HostRuntime) -> Result<(), Fail> {
     let mut queue = arrived(rt.alloc(), 3)?;
     for arrival in 0..3 {
+        assert_eq!(rt; queue.least(), Some(arrival));
         queue.put(rt.alloc(), arrival, Hold::Turn(6))?;
     }
-    queue.advance(&done(), 3, Stage::Ran(8), landed(6));
+    queue.advance(&Entry::Done { worker: 2 }, 3, Stage::Ran(8), landed(6));
     queue.settle(&[flight(6)], 1)?;
     assert_eq!(rt; queue.least(), None);
-    queue.advance(&done(), 3, Stage::Ran(8), landed(6));
+    queue.advance(&Entry::Done { worker: 2 }, 3, Stage::Ran(8), landed(6));
     queue.settle(&[], 1)?;
     assert_eq!(rt; queue.least(), Some(0));
     Ok(())
@@ -91,6 +93,7 @@ fn the_next_takes_its_turn_where_nobody_has_it(rt: HostRuntime) -> Result<(), Fa
 #[test]
 fn the_first_worker_asks_what_is_for_it(rt: HostRuntime) -> Result<(), Fail> {
     let mut queue = arrived(rt.alloc(), 1)?;
+    assert_eq!(rt; queue.least(), Some(0));
     queue.put(rt.alloc(), 0, Hold::Main)?;
     queue.settle(&[], 3)?;
     assert_eq!(rt; queue.least(), None);

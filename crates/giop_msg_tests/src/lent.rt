@@ -4,7 +4,6 @@ use crate::told::first;
 use crate::vectors::{ADD, ADD_BY_REFERENCE, GET_BY_NO_KEY, GET_BY_PROFILE, LOCATE};
 use giop_msg::{Seen, view_call};
 use std::alloc::Global;
-use std::ptr;
 use std::test::Fail;
 
 #[test]
@@ -73,16 +72,16 @@ fn lent(alloc: Global, stream: &str) -> Result<String, Fail> {
     }
 }
 
-/// The places of a part's first and last byte in the message that lends it. A copy has none there.
+/// The places of the first and the last byte of a part in the message that lends it: the first where its bytes stand.
 fn places(alloc: Global, bytes: &[u8], part: &[u8]) -> Result<String, Fail> {
-    let [front, ..] = part else {
+    if part.is_empty() {
         return Ok(format!(in alloc; "none")?);
-    };
-    for (place, byte) in bytes.iter().enumerate() {
-        if ptr::eq(front, byte) {
+    }
+    for place in 0..bytes.len() {
+        if bytes[place..].starts_with(part) {
             let last = place.saturating_add(part.len() - 1);
             return Ok(format!(in alloc; "{place} to {last}")?);
         }
     }
-    Ok(format!(in alloc; "a copy")?)
+    Ok(format!(in alloc; "nowhere")?)
 }
