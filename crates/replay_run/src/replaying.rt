@@ -129,42 +129,23 @@ fn play(
             argument,
         } => {
             let bytes = request(alloc, &player.core, *id, path, oid, operation, argument)?;
-            take_line(
-                alloc,
-                player,
-                channels,
-                *connection,
-                Line::Bytes(bytes.as_slice()),
-            )
+            let line = Line::Bytes(bytes.as_slice());
+            take_line(alloc, player, channels, *connection, line)
         }
         Step::Feed { connection, bytes } => {
-            take_line(
-                alloc,
-                player,
-                channels,
-                *connection,
-                Line::Bytes(bytes.as_slice()),
-            )
+            let line = Line::Bytes(bytes.as_slice());
+            take_line(alloc, player, channels, *connection, line)
         }
         Step::End { connection } => take_line(alloc, player, channels, *connection, Line::End),
         Step::Admin { connection, words } => {
-            take_line(
-                alloc,
-                player,
-                channels,
-                *connection,
-                Line::Words(words.as_slice()),
-            )
+            let line = Line::Words(words.as_slice());
+            take_line(alloc, player, channels, *connection, line)
         }
         Step::Step { worker } => player.step(*worker),
         Step::Run { worker } => player.run(*worker),
-        Step::Collect { connection } => take_line(
-            alloc,
-            player,
-            channels,
-            *connection,
-            Line::Collect,
-        ),
+        Step::Collect { connection } => {
+            take_line(alloc, player, channels, *connection, Line::Collect)
+        }
         Step::Store => player.show_store(alloc),
         Step::Journal => player.show_journal(alloc),
     }
