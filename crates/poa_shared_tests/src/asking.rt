@@ -17,7 +17,7 @@ fn letter(object: u32) -> u8 {
 }
 
 /// `add 1` on an object, of so many bytes as such a message has.
-fn add_one(alloc: Global, id: u32, object: u32) -> Result<Call, WantMemory> {
+pub(crate) fn add_one(alloc: Global, id: u32, object: u32) -> Result<Call, WantMemory> {
     let mut key = Vec::from_slice(alloc, b"POA\x01\x01\x01\x01s\x00\x01")?;
     key.push(letter(object))?;
     Ok(Call::Request {
@@ -38,19 +38,36 @@ fn add_one(alloc: Global, id: u32, object: u32) -> Result<Call, WantMemory> {
     })
 }
 
+/// The call of a line.
+fn line(alloc: Global, number: u32, words: &[u8]) -> Result<Call, WantMemory> {
+    Ok(Call::Line {
+        number: number as u64,
+        command: read_line(alloc, words)?,
+    })
+}
+
 /// The line that deactivates an object.
-fn deactivate(alloc: Global, number: u64, object: u32) -> Result<Call, WantMemory> {
-    let mut line = Vec::from_slice(alloc, b"deactivate /s t:")?;
-    line.push(letter(object))?;
-    let command = read_line(alloc, &line)?;
-    Ok(Call::Line { number, command })
+fn deactivate(alloc: Global, number: u32, object: u32) -> Result<Call, WantMemory> {
+    let mut words = Vec::from_slice(alloc, b"deactivate /s t:")?;
+    words.push(letter(object))?;
+    line(alloc, number, &words)
+}
+
+/// The line behind which requests are held.
+pub(crate) fn hold(alloc: Global, number: u32) -> Result<Call, WantMemory> {
+    line(alloc, number, b"manager m hold now")
+}
+
+/// The line behind which they are served.
+pub(crate) fn serve(alloc: Global, number: u32) -> Result<Call, WantMemory> {
+    line(alloc, number, b"manager m activate")
 }
 
 /// The call of this number of a caller: mostly `add 1` on one of the objects in turn.
 pub(crate) fn call(alloc: Global, caller: u32, number: u32) -> Result<Call, WantMemory> {
     let object = caller.wrapping_add(number);
     if number % DEACTIVATIONS == DEACTIVATIONS - 1 {
-        deactivate(alloc, number as u64, object)
+        deactivate(alloc, number, object)
     } else {
         add_one(alloc, number, object)
     }

@@ -5,6 +5,7 @@ ghost use Rattle.poa_shared.specs.Seats.{IsIdle};
 ghost use Rattle.poa_shared.specs.Seen.{HoldsConnection};
 
 use crate::asking;
+use crate::task::Task;
 use poa_base::{Call, Reply, WantMemory};
 use poa_core::Collected;
 use poa_shared::{Bell, Seat, Shared};
@@ -69,14 +70,83 @@ fn ask_all<R: Wait>(
     Ok(replies)
 }
 
-/// Enters, asks the calls of a caller, and leaves. Gives the replies.
+/// Has the requests of all held, asks one, and has them served again. Gives the reply to the one, which comes last; none
+/// where a call isn't taken.
+fn ask_held<R: Wait>(
+    rt: &R,
+    alloc: Global,
+    shared: &Shared,
+    seat: &mut Seat,
+    conn: u32,
+    number: u32,
+) -> Result<Option<Reply>, WantMemory>
+    requires seat { IsIdle shared.now seat.old }
+    requires conn { HoldsConnection (view seat.old) conn }
+    ensures seat { IsIdle shared.now seat.new }
+    ensures conn { HoldsConnection (view seat.new) conn }
+{
+    ask(rt, shared, seat, conn, asking::hold(alloc, number)?);
+    let request = asking::add_one(alloc, number, number)?;
+    if shared.arrive(rt, seat, conn, request, SIZE).is_err() {
+        return Ok(None);
+    }
+    if ask(rt, shared, seat, conn, asking::serve(alloc, number)?).is_none() {
+        return Ok(None);
+    }
+    Ok(Some(await_reply(rt, shared, seat, conn)))
+}
+
+/// The same, so many times over. Gives the replies to the requests.
+fn hold_all<R: Wait>(
+    rt: &R,
+    alloc: Global,
+    shared: &Shared,
+    seat: &mut Seat,
+    conn: u32,
+    rounds: u32,
+) -> Result<Vec<Reply>, WantMemory>
+    requires seat { IsIdle shared.now seat.old }
+    requires conn { HoldsConnection (view seat.old) conn }
+    ensures seat { IsIdle shared.now seat.new }
+    ensures conn { HoldsConnection (view seat.new) conn }
+{
+    let mut replies = Vec::new(alloc);
+    for number in 0..rounds {
+        if let Some(reply) = ask_held(rt, alloc, shared, seat, conn, number)? {
+            replies.push(reply)?;
+        }
+    }
+    Ok(replies)
+}
+
+/// Asks the calls of a task. Gives the replies.
+fn ask_task<R: Wait>(
+    rt: &R,
+    alloc: Global,
+    shared: &Shared,
+    seat: &mut Seat,
+    conn: u32,
+    task: Task,
+) -> Result<Vec<Reply>, WantMemory>
+    requires seat { IsIdle shared.now seat.old }
+    requires conn { HoldsConnection (view seat.old) conn }
+    ensures seat { IsIdle shared.now seat.new }
+    ensures conn { HoldsConnection (view seat.new) conn }
+{
+    match task {
+        Task::Caller { number, calls } => ask_all(rt, alloc, shared, seat, conn, number, calls),
+        Task::Holder { rounds } => hold_all(rt, alloc, shared, seat, conn, rounds),
+        Task::Worker { .. } | Task::Quitter { .. } => Ok(Vec::new(alloc)),
+    }
+}
+
+/// Enters, asks the calls of a task, and leaves. Gives the replies.
 pub(crate) fn call_all<R: Wait>(
     rt: &R,
     alloc: Global,
     shared: &Shared,
     seat: &mut Seat,
-    caller: u32,
-    calls: u32,
+    task: Task,
 ) -> Result<Vec<Reply>, WantMemory>
     requires { IsIdle shared.now seat.old }
     ensures { IsIdle shared.now seat.new }
@@ -84,7 +154,7 @@ pub(crate) fn call_all<R: Wait>(
     let Ok(conn) = shared.enter(rt, seat) else {
         return Err(WantMemory);
     };
-    let replies = ask_all(rt, alloc, shared, seat, conn, caller, calls);
+    let replies = ask_task(rt, alloc, shared, seat, conn, task);
     shared.leave(rt, seat, conn);
     replies
 }

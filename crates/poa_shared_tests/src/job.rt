@@ -76,8 +76,8 @@ pub fn run<R: Wait>(rt: &R, alloc: Global, job: Job) -> Result<Vec<Reply>, WantM
         task,
     } = job;
     match task {
-        Task::Caller { number, calls } => {
-            let replies = call_all(rt, alloc, &*shared, &mut seat, number, calls);
+        Task::Caller { .. } | Task::Holder { .. } => {
+            let replies = call_all(rt, alloc, &*shared, &mut seat, task);
             callers.fetch_sub(1, Ordering::SeqCst);
             shared.wake_workers(&mut seat);
             replies

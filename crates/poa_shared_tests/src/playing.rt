@@ -26,7 +26,7 @@ pub struct Played {
 fn callers_of(tasks: &[Task]) -> u64 {
     tasks
         .iter()
-        .filter(|task| matches!(task, Task::Caller { .. }))
+        .filter(|task| matches!(task, Task::Caller { .. } | Task::Holder { .. }))
         .count() as u64
 }
 

@@ -12,8 +12,12 @@ use std::thread::Threads;
 
 /// Objects with states of their own, which a servant activator brings.
 const OBJECTS: &[u8] = b"root = \"active\"
+[[manager]]
+name = \"m\"
+start = \"active\"
 [[adapter]]
 path = \"/s\"
+manager = \"m\"
 policies = [\"PERSISTENT\", \"USER_ID\", \"USE_SERVANT_MANAGER\"]
 boot = true
 [[adapter.rule]]
@@ -30,17 +34,55 @@ fn played<R: Threads + Wait + Sync>(rt: &R, alloc: Global, tasks: &[Task]) -> Re
     Ok(play(rt, alloc, core, tasks)?)
 }
 
-/// Whether the journal is legal, as a slow program computes it from the definitions.
+/// How many entries are judged at most: the slow program asks the whole history at each entry, so the time grows with the
+/// third power of their number.
+const JUDGED: usize = 300;
+
+/// Whether the journal is legal so far, as a slow program computes it from the definitions.
 fn is_legal(alloc: Global, core: &Core) -> Result<bool, Fail> {
+    let entries = core.entries();
     let place = first_illegal(
         alloc,
         core.config(),
         core.run(),
         4_000_000,
         core.opening(),
-        core.entries(),
+        &entries[..entries.len().min(JUDGED)],
     )?;
     Ok(place.is_none())
+}
+
+/// How many arrivals were admitted behind a later one of their connection: they were held.
+fn held(entries: &[Entry]) -> usize {
+    let mut held: usize = 0;
+    for (place, entry) in entries.iter().enumerate() {
+        if let Entry::Admit { arrival, .. } = entry {
+            let is_overtaken = entries[..place].iter().any(|earlier| {
+                matches!(earlier, Entry::Admit { arrival: other, .. }
+                    if other > arrival && conn_of(entries, *other) == conn_of(entries, *arrival))
+            });
+            if is_overtaken {
+                held = held.saturating_add(1);
+            }
+        }
+    }
+    held
+}
+
+/// The connection of an arrival.
+fn conn_of(entries: &[Entry], arrival: u64) -> Option<u32> {
+    let mut calls = entries.iter().filter_map(|entry| match entry {
+        Entry::Arrive { conn, .. } => Some(*conn),
+        _ => None,
+    });
+    calls.nth(arrival as usize)
+}
+
+/// Whether an object was deactivated and taken out.
+fn has_removal(entries: &[Entry]) -> bool {
+    entries
+        .iter()
+        .any(|entry| matches!(entry, Entry::TakeOut { .. }))
 }
 
 /// What the callers added up to, in the order of the threads.
@@ -120,7 +162,6 @@ fn sixteen<R: Threads + Wait + Sync>(rt: &R, alloc: Global, calls: u32) -> Resul
     Ok(played)
 }
 
-// The slow program asks the whole history at each entry, so it judges a shorter one.
 #[test]
 fn what_many_threads_make_is_legal(rt: HostRuntime) -> Result<(), Fail> {
     let alloc = rt.alloc();
@@ -132,33 +173,41 @@ fn what_many_threads_make_is_legal(rt: HostRuntime) -> Result<(), Fail> {
 
 #[test]
 fn two_thousand_calls_are_answered_once(rt: HostRuntime) -> Result<(), Fail> {
-    let played = sixteen(&rt, rt.alloc(), 125)?;
+    let alloc = rt.alloc();
+    let played = sixteen(&rt, alloc, 125)?;
     assert_eq!(rt; given(&played), 2000);
+    assert!(rt; is_legal(alloc, &played.core)?);
     Ok(())
 }
 
 #[test]
-fn a_worker_gives_up_while_others_go_on(rt: HostRuntime) -> Result<(), Fail> {
+fn a_worker_gives_up_while_calls_are_held_and_objects_deactivated(
+    rt: HostRuntime,
+) -> Result<(), Fail> {
     let alloc = rt.alloc();
-    let tasks = [
-        Task::Quitter {
-            worker: 1,
-            turns: 0,
-        },
-        Task::Caller {
-            number: 0,
-            calls: 20,
-        },
-        Task::Caller {
-            number: 3,
-            calls: 20,
-        },
-        Task::Worker { worker: 0 },
-        Task::Worker { worker: 2 },
-    ];
+    let mut tasks = Vec::from_slice(
+        alloc,
+        &[
+            Task::Quitter {
+                worker: 1,
+                turns: 0,
+            },
+            Task::Holder { rounds: 3 },
+            Task::Worker { worker: 0 },
+            Task::Worker { worker: 2 },
+            Task::Worker { worker: 3 },
+        ],
+    )?;
+    for number in 0..4 {
+        tasks.push(Task::Caller { number, calls: 10 })?;
+    }
     let played = played(&rt, alloc, &tasks)?;
-    assert_eq!(rt; given(&played), 40);
+    let entries = played.core.entries();
+    assert_eq!(rt; given(&played), 43);
     assert!(rt; played.core.phase() == Phase::Abandoned { worker: 1 });
+    assert_eq!(rt; held(entries), 3);
+    assert!(rt; has_removal(entries));
+    assert!(rt; entries.len() <= JUDGED);
     assert!(rt; is_legal(alloc, &played.core)?);
     Ok(())
 }
