@@ -10,5 +10,6 @@ pub mod Counted
 pub mod Ending
 pub mod Phases
 pub mod Stepping
+pub mod Exchanged
 pub mod Entering
 pub mod Served

@@ -5,5 +5,6 @@ pub mod Stopping
 pub mod Listening
 pub mod Paying
 pub mod Taking
+pub mod Exchanging
 pub mod Rounding
 pub mod Settling

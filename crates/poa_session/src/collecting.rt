@@ -47,7 +47,7 @@ pub(crate) fn collect_all<R: Wait, L: Link>(
     Ok(owed)
 }
 
-// Collects the replies that are decided, under one hold of the front, and puts them behind the others.
+// Collects the replies that are decided, under one hold of the front.
 fn gather<R: Wait>(
     rt: &R,
     alloc: Global,
@@ -63,8 +63,28 @@ fn gather<R: Wait>(
     ensures gathers { (g : Givens) → (view seat.old).givens ≡ Some g → Gathers g conn (view seat.old) (view seat.new) replies.old.items replies.new.items result }
 {
     let front = shared.front(rt);
+    gather_within(rt, alloc, shared, &front, seat, conn, replies)
+}
+
+/// Collects the replies that are decided, and puts them behind the others. How many calls are owed a reply still. The front
+/// is held.
+pub(crate) fn gather_within<R: Wait>(
+    rt: &R,
+    alloc: Global,
+    shared: &Shared,
+    front: &Front<'_>,
+    seat: &mut Seat,
+    conn: u32,
+    replies: &mut Vec<u8>,
+) -> Result<u64, WantMemory>
+    requires seat { IsIdle shared.now seat.old }
+    requires conn { HoldsConnection (view seat.old) conn }
+    ensures seat { IsIdle shared.now seat.new }
+    ensures conn { HoldsConnection (view seat.new) conn }
+    ensures gathers { (g : Givens) → (view seat.old).givens ≡ Some g → Gathers g conn (view seat.old) (view seat.new) replies.old.items replies.new.items result }
+{
     for _ in rt.forever() {
-        let Ok(next) = collect_next(rt, alloc, shared, &front, seat, conn, replies) else {
+        let Ok(next) = collect_next(rt, alloc, shared, front, seat, conn, replies) else {
             return Err(WantMemory);
         };
         if let Some(owed) = next {

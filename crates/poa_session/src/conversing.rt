@@ -5,6 +5,7 @@ ghost use Rattle.outside.specs.Cause.{HasCause};
 ghost use Rattle.run_history.specs.declared.Givens.{Givens};
 ghost use Rattle.poa_shared.specs.Seats.{IsIdle};
 ghost use Rattle.poa_shared.specs.Seen.{HoldsConnection};
+ghost use Rattle.poa_worker.specs.Helping.{Aids, IsReady};
 ghost use Rattle.session_laws.specs.Expecting.{Expects};
 ghost use Rattle.session_input.specs.Hearing.{OfIntake};
 ghost use Rattle.poa_session.specs.Settling.{Converses};
@@ -15,6 +16,7 @@ use crate::rounds::round;
 use outside::Link;
 use poa_base::{SessionEnd, WantMemory};
 use poa_shared::{Seat, Shared};
+use poa_worker::Aid;
 use session_input::Input;
 use session_laws::Peer;
 use std::alloc::Global;
@@ -29,13 +31,17 @@ pub(crate) fn converse<R: Wait, L: Link>(
     alloc: Global,
     shared: &Shared,
     seat: &mut Seat,
+    aid: &mut Aid,
     link: &mut L,
     conn: u32,
     peer: Peer,
 ) -> SessionEnd
     requires seat { IsIdle shared.now seat.old }
+    requires aid { IsReady shared.now aid.old.seat }
     requires conn { HoldsConnection (view seat.old) conn }
     ensures seat { IsIdle shared.now seat.new }
+    ensures ready { IsReady shared.now aid.new.seat }
+    ensures aids { Aids aid.old.seat aid.new.seat }
     ensures conn { HoldsConnection (view seat.new) conn }
     ensures converses { (g : Givens) → (view seat.old).givens ≡ Some g → Converses g peer conn (view seat.old) (L.shown link.old) (view seat.new) (L.shown link.new) result }
     ensures read { (g : Givens) → (view seat.old).givens ≡ Some g → HasCause (L.shown link.old).read_faults (L.shown link.new).read_faults (result ≡ SessionEnd.ReadFault) }
@@ -53,6 +59,7 @@ pub(crate) fn converse<R: Wait, L: Link>(
         alloc,
         shared,
         seat,
+        aid,
         link,
         &mut input,
         buffer.as_mut_slice(),
@@ -67,6 +74,7 @@ fn talk<R: Wait, L: Link>(
     alloc: Global,
     shared: &Shared,
     seat: &mut Seat,
+    aid: &mut Aid,
     link: &mut L,
     input: &mut Input,
     buffer: &mut [u8],
@@ -74,18 +82,21 @@ fn talk<R: Wait, L: Link>(
     peer: Peer,
 ) -> SessionEnd
     requires seat { IsIdle shared.now seat.old }
+    requires aid { IsReady shared.now aid.old.seat }
     requires conn { HoldsConnection (view seat.old) conn }
     requires fresh { Expects peer (OfIntake input.old) [] [] }
     requires taken { input.old.taken ≡ 0 }
     requires buffer { 0 < length buffer.old }
     ensures seat { IsIdle shared.now seat.new }
+    ensures ready { IsReady shared.now aid.new.seat }
+    ensures aids { Aids aid.old.seat aid.new.seat }
     ensures conn { HoldsConnection (view seat.new) conn }
     ensures converses { (g : Givens) → (view seat.old).givens ≡ Some g → Converses g peer conn (view seat.old) (L.shown link.old) (view seat.new) (L.shown link.new) result }
     ensures read { (g : Givens) → (view seat.old).givens ≡ Some g → HasCause (L.shown link.old).read_faults (L.shown link.new).read_faults (result ≡ SessionEnd.ReadFault) }
     ensures written { HasCause (L.shown link.old).write_faults (L.shown link.new).write_faults (result ≡ SessionEnd.WriteFault) }
 {
     for _ in rt.forever() {
-        match round(rt, alloc, shared, seat, link, input, buffer, conn) {
+        match round(rt, alloc, shared, seat, aid, link, input, buffer, conn) {
             Flow::On => {}
             Flow::Ends(end) => return settle(rt, alloc, shared, seat, link, conn, peer, end),
             Flow::Broke(end) => return end,

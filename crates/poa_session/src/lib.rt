@@ -6,6 +6,7 @@
 mod closing;
 mod collecting;
 mod conversing;
+mod exchanging;
 mod flow;
 mod listening;
 mod paying;

@@ -1,6 +1,6 @@
 //! Calls that arrive.
 ghost use Rattle.std.specs.Prelude.{◌≡◌, ◌≢◌, Some, Err};
-ghost use Rattle.seat_lock.specs.Seats.{view, IsUnchanged};
+ghost use Rattle.seat_lock.specs.Seats.{view};
 ghost use Rattle.run_history.specs.declared.Givens.{Givens};
 ghost use Rattle.session_laws.specs.declared.Peer.{Peer};
 ghost use Rattle.poa_shared.specs.Seats.{IsIdle};
@@ -11,57 +11,14 @@ ghost use Rattle.poa_history.specs.Legal.{IsSize};
 use crate::progress::Progress;
 use poa_base::{Call, SessionEnd};
 use poa_core::ArriveFault;
-use poa_shared::{Front, Seat, Shared};
+use poa_shared::{Front, News, Seat, Shared};
 use session_input::{Input, Told};
 use std::alloc::Global;
 use std::sync::Wait;
 
-/// Lets each call arrive that stands whole in the input, under one hold of the front, and then wakes a worker where one did.
-/// How many bytes are left over behind them, or how the session ends.
-pub(crate) fn listen<R: Wait>(
-    rt: &R,
-    alloc: Global,
-    shared: &Shared,
-    seat: &mut Seat,
-    input: &mut Input,
-    conn: u32,
-) -> Result<u64, SessionEnd>
-    requires seat { IsIdle shared.now seat.old }
-    requires conn { HoldsConnection (view seat.old) conn }
-    ensures seat { IsIdle shared.now seat.new }
-    ensures conn { HoldsConnection (view seat.new) conn }
-    ensures listens { (g : Givens) → (view seat.old).givens ≡ Some g → (peer : Peer) → Listens g peer conn (view seat.old) input.old (view seat.new) input.new result }
-    ensures unwritten { (result ≢ Err SessionEnd.WriteFault) × (result ≢ Err SessionEnd.ReadFault) }
-{
-    let mut has_called = false;
-    let front = shared.front(rt);
-    let result = listen_within(
-        rt,
-        alloc,
-        shared,
-        &front,
-        seat,
-        input,
-        conn,
-        &mut has_called,
-    );
-    drop(front);
-    wake(shared, seat, has_called);
-    result
-}
-
-// Wakes a worker where a call arrived.
-fn wake(shared: &Shared, seat: &mut Seat, has_called: bool)
-    requires { IsIdle shared.now seat.old }
-    ensures { IsUnchanged seat.old seat.new }
-{
-    if has_called {
-        shared.wake_worker(seat);
-    }
-}
-
-// Lets each call arrive that stands whole in the input. The front is held.
-fn listen_within<R: Wait>(
+/// Lets each call arrive that stands whole in the input, and notes that calls came. How many bytes are left over behind them,
+/// or how the session ends. The front is held.
+pub(crate) fn listen_within<R: Wait>(
     rt: &R,
     alloc: Global,
     shared: &Shared,
@@ -69,7 +26,7 @@ fn listen_within<R: Wait>(
     seat: &mut Seat,
     input: &mut Input,
     conn: u32,
-    has_called: &mut bool,
+    news: &mut News,
 ) -> Result<u64, SessionEnd>
     requires seat { IsIdle shared.now seat.old }
     requires conn { HoldsConnection (view seat.old) conn }
@@ -79,7 +36,7 @@ fn listen_within<R: Wait>(
     ensures unwritten { (result ≢ Err SessionEnd.WriteFault) × (result ≢ Err SessionEnd.ReadFault) }
 {
     for _ in rt.forever() {
-        match hear(rt, alloc, shared, front, seat, input, conn, has_called) {
+        match hear(rt, alloc, shared, front, seat, input, conn, news) {
             Progress::On => {}
             Progress::Waits { have } => return Ok(have),
             Progress::Ends(end) => return Err(end),
@@ -97,7 +54,7 @@ fn hear<R: Wait>(
     seat: &mut Seat,
     input: &mut Input,
     conn: u32,
-    has_called: &mut bool,
+    news: &mut News,
 ) -> Progress
     requires seat { IsIdle shared.now seat.old }
     requires conn { HoldsConnection (view seat.old) conn }
@@ -111,7 +68,7 @@ fn hear<R: Wait>(
     };
     match told {
         Told::Call { call, size } => {
-            *has_called = true;
+            news.note_call();
             arrive(rt, shared, front, seat, conn, call, size)
         }
         Told::Nothing => Progress::On,

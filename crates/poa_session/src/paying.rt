@@ -12,7 +12,7 @@ use crate::collecting::collect_all;
 use outside::Link;
 use poa_base::SessionEnd;
 use poa_core::Phase;
-use poa_shared::{Bell, Seat, Shared};
+use poa_shared::{Bell, Front, Seat, Shared};
 use std::alloc::Global;
 use std::sync::Wait;
 
@@ -62,15 +62,32 @@ fn given_up(end: Option<SessionEnd>) -> Option<u32>
     }
 }
 
-/// How the run ends a session, where it does: a `shutdown` was admitted, or a worker gave the run up.
-pub(crate) fn look<R: Wait>(rt: &R, shared: &Shared, seat: &mut Seat) -> Option<SessionEnd>
+// How the run ends a session, where it does.
+fn look<R: Wait>(rt: &R, shared: &Shared, seat: &mut Seat) -> Option<SessionEnd>
     requires seat { IsIdle shared.now seat.old }
     ensures seat { IsIdle shared.now seat.new }
     ensures looks { (g : Givens) → (view seat.old).givens ≡ Some g → Looks g (view seat.old) (view seat.new) result }
     ensures holds { (c : ℕ) → HoldsConnection (view seat.old) c → HoldsConnection (view seat.new) c }
     ensures unfaulted { (result ≢ Some SessionEnd.WriteFault) × (result ≢ Some SessionEnd.ReadFault) }
 {
-    match shared.phase(rt, seat) {
+    let front = shared.front(rt);
+    look_within(rt, shared, &front, seat)
+}
+
+/// How the run ends a session, where it does: a `shutdown` was admitted, or a worker gave the run up. The front is held.
+pub(crate) fn look_within<R: Wait>(
+    rt: &R,
+    shared: &Shared,
+    front: &Front<'_>,
+    seat: &mut Seat,
+) -> Option<SessionEnd>
+    requires seat { IsIdle shared.now seat.old }
+    ensures seat { IsIdle shared.now seat.new }
+    ensures looks { (g : Givens) → (view seat.old).givens ≡ Some g → Looks g (view seat.old) (view seat.new) result }
+    ensures holds { (c : ℕ) → HoldsConnection (view seat.old) c → HoldsConnection (view seat.new) c }
+    ensures unfaulted { (result ≢ Some SessionEnd.WriteFault) × (result ≢ Some SessionEnd.ReadFault) }
+{
+    match shared.phase_within(rt, front, seat) {
         Phase::Running | Phase::Full => None,
         Phase::Shut => Some(SessionEnd::Shut),
         Phase::Abandoned { worker } => Some(SessionEnd::Abandoned { worker }),

@@ -7,35 +7,41 @@ ghost use Rattle.poa_base.specs.declared.SessionEnd.TheVariants as end;
 ghost use Rattle.session_laws.specs.declared.Peer.{Peer};
 ghost use Rattle.poa_shared.specs.Seats.{IsIdle};
 ghost use Rattle.poa_shared.specs.Seen.{HoldsConnection};
+ghost use Rattle.poa_worker.specs.Helping.{Aids, IsReady};
 ghost use Rattle.poa_session.specs.Rounding.{Rounds};
 
-use crate::collecting::collect_all;
+use crate::exchanging::exchange;
 use crate::flow::Flow;
-use crate::listening::listen;
-use crate::paying::look;
 use crate::taking_in::take_in;
+use crate::writing::write_all;
 use outside::Link;
+use poa_base::SessionEnd;
 use poa_shared::{Seat, Shared};
+use poa_worker::Aid;
 use session_input::Input;
 use std::alloc::Global;
 use std::sync::Wait;
 
-/// Lets arrive what was read, writes the replies that are decided, and then reads more: a read waits, where nothing is
+/// Lets arrive what was read, with the aid's help, writes the replies that are decided, and then reads more: a read waits, where nothing is
 /// there, for input and for replies.
 pub(crate) fn round<R: Wait, L: Link>(
     rt: &R,
     alloc: Global,
     shared: &Shared,
     seat: &mut Seat,
+    aid: &mut Aid,
     link: &mut L,
     input: &mut Input,
     buffer: &mut [u8],
     conn: u32,
 ) -> Flow
     requires seat { IsIdle shared.now seat.old }
+    requires aid { IsReady shared.now aid.old.seat }
     requires conn { HoldsConnection (view seat.old) conn }
     requires buffer { 0 < length buffer.old }
     ensures seat { IsIdle shared.now seat.new }
+    ensures ready { IsReady shared.now aid.new.seat }
+    ensures aids { Aids aid.old.seat aid.new.seat }
     ensures conn { HoldsConnection (view seat.new) conn }
     ensures buffer { length buffer.new ≡ length buffer.old }
     ensures rounds { (g : Givens) → (view seat.old).givens ≡ Some g → (peer : Peer) → Rounds g peer conn (view seat.old) (L.shown link.old) input.old (view seat.new) (L.shown link.new) input.new result }
@@ -45,15 +51,13 @@ pub(crate) fn round<R: Wait, L: Link>(
 {
     // Before it looks: what is decided or shut from here on ends the read that waits.
     shared.attend(conn);
-    if let Some(end) = look(rt, shared, seat) {
-        return Flow::Ends(end);
-    }
-    let have = match listen(rt, alloc, shared, seat, input, conn) {
+    let mut replies = Vec::new(alloc);
+    let have = match exchange(rt, alloc, shared, seat, aid, input, conn, &mut replies) {
         Ok(have) => have,
-        Err(end) => return Flow::Ends(end),
+        Err(flow) => return flow,
     };
-    if let Err(end) = collect_all(rt, alloc, shared, seat, link, conn) {
-        return Flow::Broke(end);
+    if !write_all(link, replies.as_slice()) {
+        return Flow::Broke(SessionEnd::WriteFault);
     }
     match take_in(link, input, buffer, have) {
         Some(end) => Flow::Ends(end),

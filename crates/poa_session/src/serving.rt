@@ -4,6 +4,7 @@ ghost use Rattle.seat_lock.specs.Seats.{view};
 ghost use Rattle.run_history.specs.declared.Givens.{Givens};
 ghost use Rattle.session_laws.specs.declared.Peer.TheVariants as peers;
 ghost use Rattle.poa_shared.specs.Seats.{IsIdle};
+ghost use Rattle.poa_worker.specs.Helping.{Aids, IsReady};
 ghost use Rattle.poa_session.specs.Served.{Served};
 ghost use Rattle.poa_session.specs.Settling.{TurnsAway, refusal as refusal_of};
 
@@ -13,6 +14,7 @@ use outside::Link;
 use poa_base::{Session, SessionEnd};
 use poa_core::EnterFault;
 use poa_shared::{Seat, Shared};
+use poa_worker::Aid;
 use session_laws::Peer;
 use std::alloc::Global;
 use std::sync::Wait;
@@ -20,19 +22,23 @@ use std::sync::Wait;
 /// Serves a client's link: enters a connection, lets the calls of the client's messages arrive on it, writes their
 /// replies, and leaves it. `conn` is None where the connection can't enter; the end is then `Limit`, with the calls and
 /// bytes of calls that stand, or `WantMemory`. How a session ends otherwise, with what was read and written then, is in
-/// `session_laws`.
+/// `session_laws`. The aid helps with the calls that arrive.
 pub fn serve_link<R: Wait, L: Link>(
     rt: &R,
     alloc: Global,
     shared: &Shared,
     seat: &mut Seat,
+    aid: &mut Aid,
     link: &mut L,
 ) -> Session
     requires seat { IsIdle shared.now seat.old }
+    requires aid { IsReady shared.now aid.old.seat }
     ensures seat { IsIdle shared.now seat.new }
     ensures served { (g : Givens) → (view seat.old).givens ≡ Some g → Served g peers.Client (view seat.old) (view seat.new) (L.shown link.old) (L.shown link.new) result }
+    ensures ready { IsReady shared.now aid.new.seat }
+    ensures aids { Aids aid.old.seat aid.new.seat }
 {
-    serve(rt, alloc, shared, seat, link, Peer::Client)
+    serve(rt, alloc, shared, seat, aid, link, Peer::Client)
 }
 
 /// Serves an administrator's link: the same of its lines, and of the lines that answer them. No message closes it.
@@ -47,7 +53,8 @@ pub fn serve_admin<R: Wait, L: Link>(
     ensures seat { IsIdle shared.now seat.new }
     ensures served { (g : Givens) → (view seat.old).givens ≡ Some g → Served g peers.Administrator (view seat.old) (view seat.new) (L.shown link.old) (L.shown link.new) result }
 {
-    serve(rt, alloc, shared, seat, link, Peer::Administrator)
+    let mut aid = Aid::none();
+    serve(rt, alloc, shared, seat, &mut aid, link, Peer::Administrator)
 }
 
 // Serves the link of a peer.
@@ -56,18 +63,22 @@ fn serve<R: Wait, L: Link>(
     alloc: Global,
     shared: &Shared,
     seat: &mut Seat,
+    aid: &mut Aid,
     link: &mut L,
     peer: Peer,
 ) -> Session
     requires seat { IsIdle shared.now seat.old }
+    requires aid { IsReady shared.now aid.old.seat }
     ensures seat { IsIdle shared.now seat.new }
     ensures served { (g : Givens) → (view seat.old).givens ≡ Some g → Served g peer (view seat.old) (view seat.new) (L.shown link.old) (L.shown link.new) result }
+    ensures ready { IsReady shared.now aid.new.seat }
+    ensures aids { Aids aid.old.seat aid.new.seat }
 {
     let conn = match shared.enter(rt, seat) {
         Ok(conn) => conn,
         Err(fault) => return turn_away(link, peer, fault),
     };
-    let end = converse(rt, alloc, shared, seat, link, conn, peer);
+    let end = converse(rt, alloc, shared, seat, aid, link, conn, peer);
     shared.take_down(rt, conn);
     shared.leave(rt, seat, conn);
     Session {

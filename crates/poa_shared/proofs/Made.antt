@@ -1,7 +1,7 @@
 -- Each call of the core makes at most one entry, which its seat may make.
 use Rattle.std.proofs.Common.{◌∷◌, length, arith, ◌≡◌, ℕ, true, false, if◌then◌else◌, reverse, refl, sym, ap, subst, ◌∙◌, inl, inr, ◌⊎◌}
 use Rattle.poa_history.specs.Arrivals.{connections}
-use Rattle.std.specs.Prelude.{Result, Ok, Err, None}
+use Rattle.std.specs.Prelude.{Option, Some, Result, Ok, Err, None}
 use Rattle.std.specs.declared.alloc.AllocError.{AllocError}
 use Rattle.poa_base.specs.declared.Call.{Call}
 use Rattle.poa_base.specs.declared.Entry.{Entry}
@@ -26,6 +26,7 @@ use Rattle.poa_core.specs.declared.step_out.StepOut.TheVariants as step_out
 use Rattle.poa_core.specs.declared.collected.Collected.{Collected}
 use Rattle.poa_core.specs.declared.collected.Collected.TheVariants as collected
 use Rattle.poa_core.proofs.NextTurn.{made as turn_made}
+use Rattle.poa_shared.specs.Events.{StepsRunning}
 use Rattle.poa_shared.specs.Seen.{Owns}
 use Rattle.poa_shared.proofs.Holding.{may_enter, may_own, may_work}
 
@@ -56,6 +57,10 @@ module _ (v : View Givens Entry) (x y : Life) where
   steps_made w (Ok (step_out.Did point)) s =
       (let m = s.2 in inr (m.0, m.2, may_work (reverse x.history) v.mine m.0 (of_none m.0 (turn_made x.config x.run x.limit x.history w m.0 m.1).turn_is)))
   steps_made w (Err fault) s = inl s.2
+
+  pub running_made : (w : ℕ) (r : Option (Result StepOut AllocError)) → StepsRunning w x r y → IsMade v x y
+  running_made w (Some r) s = steps_made w r s.1
+  running_made w None s = inl s.1
 
   pub abandons_made : (w : ℕ) → Abandons w x y → IsMade v x y
   abandons_made w is =

@@ -1,14 +1,17 @@
 -- One call is one event of the one history.
-use Rattle.std.specs.Prelude.{◌≡◌, ℕ, List, reverse, Result, Ok, Err, Some}
+use Rattle.std.specs.Prelude.{◌≡◌, ◌≢◌, ℕ, List, reverse, Option, Some, None, Result, Ok, Err}
 use Rattle.std.specs.declared.alloc.AllocError.{AllocError}
 use Rattle.poa_base.specs.declared.Entry.{Entry}
 use Rattle.seat_lock.specs.declared.view.View.{View}
 use Rattle.run_history.specs.declared.givens.Givens.{Givens}
 use Rattle.poa_journal.specs.Journal.{journal_text}
-use Rattle.poa_core.specs.Answers.{Collects}
+use Rattle.poa_core.specs.Answers.{Collects, Steps}
 use Rattle.poa_core.specs.Fits.{FitsItsCall}
 use Rattle.run_history.specs.Life.{Life, life_at}
 use Rattle.poa_core.specs.declared.collected.Collected.{Collected}
+use Rattle.poa_core.specs.declared.step_out.StepOut.{StepOut}
+use Rattle.run_tally.specs.Phases.{phase_of}
+use Rattle.run_tally.specs.declared.phase.Phase.TheVariants.{Running}
 use Rattle.poa_shared.specs.Seen.{past, Turns}
 
 -- the call found the run as it stood at some history that goes on from what the seat had seen, and did to it what P says
@@ -23,3 +26,8 @@ CollectsFitting conn result old new = Collects conn old result new × FitsItsCal
 abbrev pub PrintsJournal : Result (List ℕ) AllocError → Life → Life → Type 0
 PrintsJournal (Ok text) old new = (new ≡ old) × (text ≡ journal_text (record { run = old.run; opening = old.opening; entries = reverse old.history }))
 PrintsJournal (Err fault) old new = new ≡ old
+
+-- a worker steps, as the run is running; or it isn't, and nothing is done
+abbrev pub StepsRunning : ℕ → Life → Option (Result StepOut AllocError) → Life → Type 0
+StepsRunning worker old (Some result) new = (phase_of old.history ≡ Running) × Steps worker old result new
+StepsRunning worker old None new = (phase_of old.history ≢ Running) × (new ≡ old)

@@ -9,7 +9,7 @@ ghost use Rattle.poa_shared.specs.Events.{Event};
 ghost use Rattle.poa_shared.specs.Seats.{IsIdle};
 ghost use Rattle.poa_shared.specs.Seen.{HoldsConnection};
 
-use crate::shared::{Seat, Shared};
+use crate::shared::{Front, Seat, Shared};
 use poa_core::{EnterFault, Phase};
 use std::sync::Wait;
 
@@ -71,7 +71,17 @@ impl Shared {
         ensures phase { Event (λ old new. (new ≡ old) × (result ≡ phase_of old.history)) (view seat.old) (view seat.new) }
         ensures holds { (c : ℕ) → HoldsConnection (view seat.old) c → HoldsConnection (view seat.new) c }
     {
-        let _front = self.front(rt);
+        let front = self.front(rt);
+        self.phase_within(rt, &front, seat)
+    }
+
+    /// The same, by one who holds the place before the lock.
+    pub fn phase_within<R: Wait>(&self, rt: &R, _front: &Front<'_>, seat: &mut Seat) -> Phase
+        requires { IsIdle self.now seat.old }
+        ensures seat { IsIdle self.now seat.new }
+        ensures phase { Event (λ old new. (new ≡ old) × (result ≡ phase_of old.history)) (view seat.old) (view seat.new) }
+        ensures holds { (c : ℕ) → HoldsConnection (view seat.old) c → HoldsConnection (view seat.new) c }
+    {
         let core = self.lock.take(rt, seat);
         core.is_legal();
         let phase = core.phase();

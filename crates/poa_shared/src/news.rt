@@ -5,11 +5,15 @@ use poa_base::Reply;
 use poa_core::Phase;
 use std::collections::VecDeque;
 
-/// Whom to wake after turns, once the place before the lock is let go.
+/// Whom to wake after arrivals and turns, once the place before the lock is let go.
 #[derive(Clone, Copy, Debug, Drop)]
 pub struct News {
+    /// The connection of the one who tells: he looks for its replies himself.
+    own: Option<u32>,
     /// A bit for each slot of connections.
     pub(crate) slots: u64,
+    /// Whether one worker may have something to do.
+    pub(crate) is_for_worker: bool,
     /// Whether every worker may have something to do.
     pub(crate) is_for_workers: bool,
     /// Whether everybody is concerned.
@@ -20,17 +24,45 @@ impl News {
     /// Nobody.
     pub fn none() -> News {
         News {
+            own: None,
             slots: 0,
+            is_for_worker: false,
             is_for_workers: false,
             is_for_all: false,
         }
+    }
+
+    /// Nobody, and nobody by replies on this connection, which is that of the one who tells.
+    pub fn besides(conn: u32) -> News {
+        News {
+            own: Some(conn),
+            ..News::none()
+        }
+    }
+
+    /// Notes that a call arrived, which any worker may admit.
+    pub fn note_call(&mut self) {
+        self.is_for_worker = true;
+    }
+
+    /// Whether calls arrived for which no worker has looked yet.
+    pub fn has_calls(&self) -> bool {
+        self.is_for_worker
+    }
+
+    /// Notes that no worker has anything to do.
+    pub fn note_idle(&mut self) {
+        self.is_for_worker = false;
+        self.is_for_workers = false;
     }
 
     /// Notes the replies that were decided behind so many. A command may have made calls ready for any worker.
     pub(crate) fn note(&mut self, decided: &VecDeque<Filed>, known: usize) {
         for place in known..decided.len() {
             let filed = &decided[place];
-            self.slots |= 1 << (filed.conn % SLOTS);
+            if self.own != Some(filed.conn) {
+                self.slots |= 1 << (filed.conn % SLOTS);
+            }
             if matches!(filed.reply, Reply::Answer { .. }) {
                 self.is_for_workers = true;
             }
@@ -42,6 +74,11 @@ impl News {
         if before != after {
             self.is_for_all = true;
         }
+    }
+
+    /// Whether no connection is concerned.
+    pub(crate) fn is_for_no_slot(&self) -> bool {
+        self.slots == 0
     }
 
     /// Whether a slot of connections is concerned.

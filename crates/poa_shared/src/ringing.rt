@@ -99,7 +99,19 @@ impl Shared {
         }
     }
 
-    /// Wakes those whom turns concern.
+    /// Wakes the workers whom they concern.
+    fn tell_workers(&self, seat: &mut Seat, news: &News)
+        requires { IsIdle self.now seat.old }
+        ensures { IsUnchanged seat.old seat.new }
+    {
+        if news.is_for_workers {
+            self.wake_workers(seat);
+        } else if news.is_for_worker {
+            self.wake_worker(seat);
+        }
+    }
+
+    /// Wakes those whom arrivals and turns concern.
     pub fn tell<R: Wait>(&self, rt: &R, seat: &mut Seat, news: &News)
         requires { IsIdle self.now seat.old }
         ensures { IsUnchanged seat.old seat.new }
@@ -108,8 +120,9 @@ impl Shared {
             self.wake_all(rt, seat);
             return;
         }
-        if news.is_for_workers {
-            self.wake_workers(seat);
+        self.tell_workers(seat, news);
+        if news.is_for_no_slot() {
+            return;
         }
         for slot in 0..SLOTS {
             if news.is_for(slot) {

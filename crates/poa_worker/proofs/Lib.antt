@@ -1,3 +1,4 @@
 pub mod Seeing
 pub mod Steps
 pub mod Ending
+pub mod Helped

@@ -31,7 +31,7 @@ module _ (g : Givens) (v w : View Givens Entry) (h : List Entry) (t : Turns g v 
 
   -- where one was made
   module _ (e : Entry) (is : past w ≡ e ∷ h) where
-    seen_one : w.seen ≡ reverse h ++ e ∷ []
+    pub seen_one : w.seen ≡ reverse h ++ e ∷ []
     seen_one = seen_is w (e ∷ h) is ∙ reverse-cons e h
 
     pub one_seen : IsPrefix v.seen w.seen

@@ -34,7 +34,7 @@ use Rattle.seat_lock.proofs.Histories.{prefix_self, prefix_through, prefix_below
 use Rattle.seat_lock.proofs.Totals.{in_added, times_both}
 
 -- the entry is one of the worker, and not its Abandon
-abbrev IsOf : ℕ → Entry → Type 0
+abbrev pub IsOf : ℕ → Entry → Type 0
 IsOf w e = (worker_of e ≡ Some w) × (e ≡ Abandon w → ⊥)
 
 going : (c : Config) (s : Standing) (w : ℕ) (begun : Stage) (e : Entry) → going_on c s w begun ≡ Some e → IsOf w e
@@ -46,7 +46,7 @@ going c s w (Ran r) e is = subst (IsOf w) (let f : Some (Done w) ≡ Some e = is
 going c s w (Removing n) e is = (let found = mapped_by (λ a. Etherealized w a.cleanup a.remaining) (activation_numbered s n) e is in subst (IsOf w) found.2 (refl, λ (q : Etherealized w found.0.cleanup found.0.remaining ≡ Abandon w). cc))
 
 -- the next entry of a worker is one of its
-turn_own : (c : Config) (run : ℕ) (h : List Entry) (w : ℕ) (e : Entry) → turn c run h w ≡ Some e → IsOf w e
+pub turn_own : (c : Config) (run : ℕ) (h : List Entry) (w : ℕ) (e : Entry) → turn c run h w ≡ Some e → IsOf w e
 turn_own c run h w e is =
     elim (turned c run h w e is) [
       | goes_on goes ↦ going c (standing c run h) w (stage h w) e goes

@@ -1,2 +1,3 @@
 pub mod Worked
 pub mod Pauses
+pub mod Helping

@@ -3,6 +3,9 @@ use Rattle.std.specs.Prelude.{◌≡◌, ℕ, ◌<◌, [], Option, None}
 use Rattle.outside.specs.Accepting.{Standing}
 use Rattle.outside.specs.Link.{Shown}
 use Rattle.poa_base.specs.declared.Entry.{Entry}
+use Rattle.poa_shared.specs.Seats.{IsIdle}
+use Rattle.poa_shared.specs.declared.shared.Shared.{Shared}
+use Rattle.poa_worker.specs.Helping.{IsReady, SeatOf}
 use Rattle.poa_worker.specs.Worked.{Worked as WorkedAs}
 use Rattle.poa_worker.specs.declared.work_end.WorkEnd.{WorkEnd}
 use Rattle.run_history.specs.declared.givens.Givens.{Givens}
@@ -13,6 +16,10 @@ use Rattle.serve_pieces.specs.declared.ran.Ran.{Ran}
 use Rattle.serve_pieces.specs.declared.task.Task.{Task}
 use Rattle.serve_pieces.specs.declared.task.Task.TheVariants.{Lane, Admin, Worker}
 use Rattle.serve_pieces.specs.Doors.{DoorKept}
+
+-- the seats, of which the second may be lacking, are of this shared core, and hold nothing
+abbrev pub AreIdle : Shared → SeatOf → Option SeatOf → Type 0
+AreIdle shared seat aid = IsIdle shared seat × IsReady shared aid
 
 -- a worker's number is below 16
 abbrev pub IsNumbered : {A G : Type 0} → Task A G → Type 0

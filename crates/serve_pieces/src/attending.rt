@@ -3,6 +3,7 @@ ghost use Rattle.std.specs.Prelude.{◌≡◌, Some, []};
 ghost use Rattle.seat_lock.specs.Seats.{view};
 ghost use Rattle.run_history.specs.declared.givens.Givens.{Givens};
 ghost use Rattle.poa_shared.specs.Seats.{IsIdle};
+ghost use Rattle.poa_worker.specs.Helping.{Aids, IsReady};
 ghost use Rattle.serve_pieces.specs.Doors.{DoorKept, DoorServed, ending_of, stop_of};
 
 use crate::ran::{PieceEnd, Ran};
@@ -11,6 +12,7 @@ use crate::receiving::receive;
 use crate::refusing::noted;
 use outside::Acceptor;
 use poa_shared::{Seat, Shared};
+use poa_worker::Aid;
 use run_tally::{Full, Phase};
 use session_laws::Peer;
 use std::alloc::Global;
@@ -30,17 +32,21 @@ pub fn attend<R: Wait, A: Acceptor>(
     alloc: Global,
     shared: &Shared,
     seat: &mut Seat,
+    aid: &mut Aid,
     door: &mut A,
     peer: Peer,
 ) -> Attendance
     requires seat { IsIdle shared.now seat.old }
+    requires aid { IsReady shared.now aid.old.seat }
     requires fresh { (view seat.old).mine ≡ [] }
     ensures seat { IsIdle shared.now seat.new }
+    ensures ready { IsReady shared.now aid.new.seat }
+    ensures aids { Aids aid.old.seat aid.new.seat }
     ensures served { (g : Givens) → (view seat.old).givens ≡ Some g → DoorServed g peer A.Link.shown A.standing A.faults (view seat.old) (view seat.new) door.old door.new result.refused result.end }
 {
     let mut refused = None;
     for _ in rt.forever() {
-        let received = receive(rt, alloc, shared, seat, door, peer);
+        let received = receive(rt, alloc, shared, seat, aid, door, peer);
         refused = noted(refused, &received);
         if let Some(end) = ending(&received) {
             return Attendance { refused, end };
@@ -80,17 +86,22 @@ pub fn serve_door<R: Wait, A: Acceptor>(
     alloc: Global,
     shared: &Shared,
     mut seat: Seat,
+    mut aid: Aid,
     mut door: A,
     peer: Peer,
 ) -> Ran<A>
     requires seat { IsIdle shared.now seat }
+    requires aid { IsReady shared.now aid.seat }
     requires fresh { (view seat).mine ≡ [] }
     ensures seat { IsIdle shared.now result.seat }
+    ensures ready { IsReady shared.now result.aid.seat }
+    ensures aids { Aids aid.seat result.aid.seat }
     ensures served { (g : Givens) → (view seat).givens ≡ Some g → DoorKept g peer A.Link.shown A.standing A.faults door (view seat) result }
 {
-    let attendance = attend(rt, alloc, shared, &mut seat, &mut door, peer);
+    let attendance = attend(rt, alloc, shared, &mut seat, &mut aid, &mut door, peer);
     Ran {
         seat,
+        aid,
         door: Some(door),
         refused: attendance.refused,
         end: attendance.end,

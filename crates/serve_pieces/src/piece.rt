@@ -4,18 +4,20 @@ use crate::ran::{PieceEnd, Ran};
 use crate::task::Task;
 use outside::{Acceptor, Gate, Job};
 use poa_shared::{Seat, Shared};
-use poa_worker::work;
+use poa_worker::{Aid, work};
 use session_laws::Peer;
 use std::alloc::Global;
 use std::sync::{Arc, Wait};
 
-/// What runs in a thread of its own: its task, and the seat that was split for it, which has made nothing yet.
+/// What runs in a thread of its own: its task, and the seat that was split for it, which has made nothing yet. The aid's
+/// seat is a second one, for a worker's turns: a lane may have one where the gate never keeps anybody.
 #[derive(Drop)]
 pub struct Piece<R, A, G> {
     pub rt: R,
     pub alloc: Global,
     pub shared: Arc<Shared, Global>,
     pub seat: Seat,
+    pub aid: Aid,
     pub task: Task<A, G>,
 }
 
@@ -24,14 +26,14 @@ impl<R: Wait + Copy, A: Acceptor, G: Gate + Drop> Job for Piece<R, A, G> {
     ghost use Rattle.seat_lock.specs.Seats.{view};
     ghost use Rattle.std.specs.Arc.{arc_value};
     ghost use Rattle.run_history.specs.declared.givens.Givens.{Givens};
-    ghost use Rattle.poa_shared.specs.Seats.{IsIdle};
-    ghost use Rattle.serve_pieces.specs.Promises.{IsFresh, Keeps};
+    ghost use Rattle.poa_worker.specs.Helping.{Aids};
+    ghost use Rattle.serve_pieces.specs.Promises.{AreIdle, IsFresh, Keeps};
 
     type Out = Ran<A>;
 
-    ghost condition = { λ piece. IsIdle (arc_value piece.shared) piece.seat × IsFresh piece.task (view piece.seat) };
+    ghost condition = { λ piece. AreIdle (arc_value piece.shared) piece.seat piece.aid.seat × IsFresh piece.task (view piece.seat) };
 
-    ghost promise = { λ piece ran. IsIdle (arc_value piece.shared) ran.seat × ((g : Givens) → (view piece.seat).givens ≡ Some g → Keeps g A.Link.shown A.standing A.faults piece.task (view piece.seat) ran) };
+    ghost promise = { λ piece ran. AreIdle (arc_value piece.shared) ran.seat ran.aid.seat × Aids piece.aid.seat ran.aid.seat × ((g : Givens) → (view piece.seat).givens ≡ Some g → Keeps g A.Link.shown A.standing A.faults piece.task (view piece.seat) ran) };
 
     fn work(self) -> Ran<A> {
         let Piece {
@@ -39,15 +41,25 @@ impl<R: Wait + Copy, A: Acceptor, G: Gate + Drop> Job for Piece<R, A, G> {
             alloc,
             shared,
             mut seat,
+            aid,
             task,
         } = self;
         match task {
-            Task::Lane(door) => serve_door(&rt, alloc, &shared, seat, door, Peer::Client),
-            Task::Admin(door) => serve_door(&rt, alloc, &shared, seat, door, Peer::Administrator),
+            Task::Lane(door) => serve_door(&rt, alloc, &shared, seat, aid, door, Peer::Client),
+            Task::Admin(door) => serve_door(
+                &rt,
+                alloc,
+                &shared,
+                seat,
+                aid,
+                door,
+                Peer::Administrator,
+            ),
             Task::Worker { worker, gate } => {
                 let end = work(&rt, &shared, &mut seat, worker, &*gate);
                 Ran {
                     seat,
+                    aid,
                     door: None,
                     refused: None,
                     end: PieceEnd::Worked(end),

@@ -1,6 +1,6 @@
 //! What comes of a piece.
 use poa_shared::Seat;
-use poa_worker::WorkEnd;
+use poa_worker::{Aid, WorkEnd};
 use run_tally::{Full, Phase};
 
 /// How a piece ended.
@@ -20,6 +20,8 @@ pub enum PieceEnd {
 #[derive(Drop)]
 pub struct Ran<A> {
     pub seat: Seat,
+    /// By which a lane made turns.
+    pub aid: Aid,
     /// The door that it served.
     pub door: Option<A>,
     /// The least numbers with which a connection couldn't enter, where that came to pass.

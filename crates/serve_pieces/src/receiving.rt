@@ -7,6 +7,7 @@ ghost use Rattle.run_history.specs.declared.givens.Givens.{Givens};
 ghost use Rattle.outside.specs.Cause.{HasCause};
 ghost use Rattle.poa_shared.specs.Seats.{IsIdle};
 ghost use Rattle.poa_session.specs.Served.{Served};
+ghost use Rattle.poa_worker.specs.Helping.{Aids, IsReady};
 ghost use Rattle.serve_pieces.specs.Visits.{Visit};
 ghost use Rattle.serve_pieces.specs.Doors.{AsReceived, Attending};
 
@@ -15,25 +16,30 @@ use outside::{Acceptor, Door, Link};
 use poa_base::Session;
 use poa_session::{serve_admin, serve_link};
 use poa_shared::{Seat, Shared};
+use poa_worker::Aid;
 use session_laws::Peer;
 use std::alloc::Global;
 use std::sync::Wait;
 
-/// Serves one link, as its peer is.
+/// Serves one link, as its peer is. The aid helps with a client's.
 fn serve<R: Wait, L: Link>(
     rt: &R,
     alloc: Global,
     shared: &Shared,
     seat: &mut Seat,
+    aid: &mut Aid,
     link: &mut L,
     peer: Peer,
 ) -> Session
-    requires { IsIdle shared.now seat.old }
+    requires seat { IsIdle shared.now seat.old }
+    requires aid { IsReady shared.now aid.old.seat }
     ensures seat { IsIdle shared.now seat.new }
+    ensures ready { IsReady shared.now aid.new.seat }
+    ensures aids { Aids aid.old.seat aid.new.seat }
     ensures served { (g : Givens) → (view seat.old).givens ≡ Some g → Served g peer (view seat.old) (view seat.new) (L.shown link.old) (L.shown link.new) result }
 {
     match peer {
-        Peer::Client => serve_link(rt, alloc, shared, seat, link),
+        Peer::Client => serve_link(rt, alloc, shared, seat, aid, link),
         Peer::Administrator => serve_admin(rt, alloc, shared, seat, link),
     }
 }
@@ -44,17 +50,21 @@ pub fn receive<R: Wait, A: Acceptor>(
     alloc: Global,
     shared: &Shared,
     seat: &mut Seat,
+    aid: &mut Aid,
     door: &mut A,
     peer: Peer,
 ) -> Received
-    requires { IsIdle shared.now seat.old }
+    requires seat { IsIdle shared.now seat.old }
+    requires aid { IsReady shared.now aid.old.seat }
     ensures seat { IsIdle shared.now seat.new }
+    ensures ready { IsReady shared.now aid.new.seat }
+    ensures aids { Aids aid.old.seat aid.new.seat }
     ensures received { (g : Givens) (first : View Givens Entry) (closed : A) (visits : List (Visit A.Link)) → first.givens ≡ Some g → Attending g peer A.Link.shown A.standing A.faults first closed visits (view seat.old) door.old → AsReceived g peer A.Link.shown A.standing A.faults first closed visits result (view seat.new) door.new }
     ensures nobody { HasCause (A.quiets door.old) (A.quiets door.new) (result ≡ Received.Nothing) }
 {
     match door.next() {
         Door::Link(mut link) => {
-            let session = serve(rt, alloc, shared, seat, &mut link, peer);
+            let session = serve(rt, alloc, shared, seat, aid, &mut link, peer);
             door.give_back(link, session);
             Received::Served(session)
         }

@@ -29,9 +29,10 @@ use Rattle.serve_run.specs.Tours.{workers_in}
 use Rattle.serve_run.specs.declared.doors.Doors.{Doors}
 use Rattle.serve_run.specs.declared.outcome.Outcome.{Outcome}
 use Rattle.serve_run.specs.declared.outcome.Want.{Want}
-use Rattle.serve_run.proofs.JoiningWorkers.{here_in, holds_worker, last_worker, one_in}
+use Rattle.serve_run.proofs.JoiningWorkers.{holds_worker, last_worker}
 use Rattle.serve_run.proofs.Opening.{connection_held, IsSaid}
 use Rattle.serve_run.proofs.Touring.{back_is, more_served, says_shutdown, tour_of}
+use Rattle.serve_run.proofs.Numbers.{here_in, one_in}
 
 pub some_short : {X : Type 0} (o : Option X) → is_some o ≡ true → o ≡ None → ⊥
 some_short None is none = (let e : false ≡ true = is in cc)

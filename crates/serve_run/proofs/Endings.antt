@@ -23,6 +23,7 @@ use Rattle.run_endings.specs.Closing.{HasNoTurn, IsOver}
 use Rattle.run_endings.proofs.Freed.{freed}
 use Rattle.run_endings.proofs.LateCalls.{late}
 use Rattle.run_endings.proofs.Over.{closed_over, history_before}
+use Rattle.poa_worker.specs.Helping.{IsHelpAt}
 use Rattle.run_history.specs.declared.givens.Givens.{Givens}
 use Rattle.run_history.specs.Owners.{owner_of, worker_of}
 use Rattle.run_history.specs.Runs.{IsHistory, IsLog}
@@ -40,10 +41,11 @@ use Rattle.serve_pieces.proofs.Places.{in_either, stood_before}
 use Rattle.serve_run.specs.Tours.{Tour, Shift, conns_in, workers_in, EachToured, EachWorked, HasWorked}
 use Rattle.serve_run.specs.Holding.{Holds}
 use Rattle.serve_run.specs.Served.{IsRunOver}
-use Rattle.serve_run.proofs.JoiningWorkers.{one_in}
+use Rattle.serve_run.proofs.Helping.{help_first}
 use Rattle.serve_run.proofs.Lasting.{all_behind, arrived_at, late_behind, no_turn_of, none_arrived, reversed_more, stage_stays}
 use Rattle.serve_run.proofs.Sessions.{came_by_door, in_seen, made, works_here}
 use Rattle.serve_run.proofs.Whole.{IsWhole}
+use Rattle.serve_run.proofs.Numbers.{one_in}
 
 -- no shift saw more than this
 abbrev pub AreShorter : ℕ → List Shift → Type 0
@@ -93,7 +95,7 @@ module _ {A L : Type 0} (g : Givens) (shown : L → Shown) (standing_of : A → 
       (in_either c (conns_of t.visits) (conns_in more) there)
 
 module _ {A L : Type 0} (g : Givens) (shown : L → Shown) (standing_of : A → Option (Standing L)) (faults : A → ℕ) (own : Option (ℕ × Entry)) (tours : List (Tour A L)) (s : Shift) (others : List Shift) (v : View Givens Entry) (holds : Holds {A = A} {L = L} g shown standing_of faults own tours (s ∷ others) v)
-    (log : List Entry) (is_whole : IsWhole v log) (runs : IsLog g log) where
+    (log : List Entry) (is_whole : IsWhole v log) (runs : IsLog g log) (first_one : In 0 (workers_in (s ∷ others))) where
   abbrev last : (r : Shift) × HasWorked g r v × AreShorter (length r.stood) (s ∷ others)
   last = longest g v s others holds.shifts_are
 
@@ -115,11 +117,14 @@ module _ {A L : Type 0} (g : Givens) (shown : L → Shown) (standing_of : A → 
   in_log : (x : ℕ) (e : Entry) → get_elem? (stood ++ last.1.later.0) x ≡ some e → get_elem? log x ≡ some e
   in_log x e at = subst (λ l. get_elem? l x ≡ some e) (sym grown) at
 
-  here : (w x : ℕ) (e : Entry) → get_elem? log x ≡ some e → worker_of e ≡ Some w → In w (workers_in (s ∷ others))
-  here w x e at works = works_here {A = A} {L = L} g shown standing_of faults own tours (s ∷ others) v holds log is_whole runs w x e at works
-
   seen_at : (x : ℕ) (e : Entry) → get_elem? log x ≡ some e → get_elem? v.seen x ≡ some e
   seen_at x e at = in_seen {A = A} {L = L} g shown standing_of faults own tours (s ∷ others) v holds log is_whole runs x e at
+
+  here : (w x : ℕ) (e : Entry) → get_elem? log x ≡ some e → worker_of e ≡ Some w → In w (workers_in (s ∷ others))
+  here w x e at works = ⊎_elim
+      (λ (i : In w (workers_in (s ∷ others))). i)
+      (λ (help : IsHelpAt v.seen x). subst (λ k. In k (workers_in (s ∷ others))) (sym (help_first v.seen x help e w (seen_at x e at) works)) first_one)
+      (works_here {A = A} {L = L} g shown standing_of faults own tours (s ∷ others) v holds log is_whole runs w x e at works)
 
   made_at : (x : ℕ) (e : Entry) → get_elem? log x ≡ some e → In x v.mine
   made_at x e at = made {A = A} {L = L} g shown standing_of faults own tours (s ∷ others) v holds log is_whole runs x e at

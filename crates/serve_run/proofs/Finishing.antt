@@ -14,6 +14,7 @@ use Rattle.poa_history.specs.Lifetime.{HasLifetime}
 use Rattle.poa_shared.specs.Events.{Event}
 use Rattle.poa_shared.specs.Seen.{past, Turns}
 use Rattle.history_openings.specs.Runs.{IsRun}
+use Rattle.poa_worker.specs.Helping.{IsHelpAt}
 use Rattle.run_history.specs.declared.givens.Givens.{Givens}
 use Rattle.run_history.specs.Owners.{owner_of}
 use Rattle.run_history.specs.Runs.{IsHistory, IsLog}
@@ -32,6 +33,7 @@ use Rattle.serve_run.specs.declared.doors.Doors.{Doors}
 use Rattle.serve_run.specs.declared.outcome.Outcome.{Outcome}
 use Rattle.serve_run.proofs.DoorEnds.{each_ended, each_passed}
 use Rattle.serve_run.proofs.Endings.{run_over}
+use Rattle.serve_run.proofs.Helping.{help_first}
 use Rattle.serve_run.proofs.Sessions.{came_by_door, connections_are, in_seen, made, none_abandoned, sessions_are, works_here, Stays}
 use Rattle.serve_run.proofs.Staying.{holds_looked, last_same, place_of, same_seen}
 use Rattle.serve_run.proofs.Whole.{whole, IsWhole}
@@ -43,7 +45,7 @@ module _ {A L : Type 0} (g : Givens) (shown : L → Shown) (standing : A → Opt
 
   over_by : (own : Option (ℕ × Entry)) (tours : List (Tour A L)) (shifts : List Shift) (v : View Givens Entry) (log : List Entry) → Holds {A = A} {L = L} g shown standing faults own tours shifts v → IsWhole v log → IsLog g log → In 0 (workers_in shifts) → IsRunOver g log
   over_by own tours [] v log holds is_whole runs there = absurd (omega arith)
-  over_by own tours (s ∷ others) v log holds is_whole runs there = run_over g shown standing faults own tours s others v holds log is_whole runs
+  over_by own tours (s ∷ others) v log holds is_whole runs there = run_over g shown standing faults own tours s others v holds log is_whole runs there
 
   module _ (own : Option (ℕ × Entry)) (tours : List (Tour A L)) (shifts : List Shift) (w : View Givens Entry) (holds : Holds {A = A} {L = L} g shown standing faults own tours shifts w) (log : List Entry) (is_whole : IsWhole w log) (runs : IsLog g log) where
     -- what stands of the first connection in what a door had seen at its end
@@ -67,10 +69,14 @@ module _ {A L : Type 0} (g : Givens) (shown : L → Shown) (standing : A → Opt
         (λ (same : own ≡ Some (x, Arrive 0 size call)). (let f : Some said ≡ Some (x, Arrive 0 size call) = sym is ∙ same in let e = place_of said (x, Arrive 0 size call) f in let low = (said_at t p x size call at).0 in omega arith))
         (said_at t p x size call at).1) holds.tours_are
 
-    pub kept_run : Stays g → (word : IsWord own) (workers : ℕ) → ((w : ℕ) → In w (workers_in shifts) → w < workers) → IsKeptRun {A = A} {L = L} g shown standing faults workers tours own log
-    kept_run stays word workers below = record {
+    pub kept_run : Stays g → (word : IsWord own) (workers : ℕ) → 0 < workers → ((w : ℕ) → In w (workers_in shifts) → w < workers) → IsKeptRun {A = A} {L = L} g shown standing faults workers tours own log
+    kept_run stays word workers some_workers below = record {
       going = none_abandoned g shown standing faults own tours shifts w holds log is_whole runs;
-      worked = λ place k e at works. below k (works_here g shown standing faults own tours shifts w holds log is_whole runs k place e at works);
+      worked = λ place k e at works. ⊎_elim
+          (λ (i : In k (workers_in shifts)). below k i)
+          (λ (help : IsHelpAt w.seen place).
+          (let zero_ = help_first w.seen place help e k (in_seen g shown standing faults own tours shifts w holds log is_whole runs place e at) works in omega arith))
+          (works_here g shown standing faults own tours shifts w holds log is_whole runs k place e at works);
       first = record {
         word = word;
         own = λ place e at of. holds.own_is place e (made g shown standing faults own tours shifts w holds log is_whole runs place e at) (in_seen g shown standing faults own tours shifts w holds log is_whole runs place e at) of;
@@ -118,7 +124,7 @@ module _ {A L : Type 0} (g : Givens) (shown : L → Shown) (standing : A → Opt
       failed_is = served.failed_is;
       refused_is = served.refused_is;
       last = served.own;
-      kept = λ kept. kept_run served.own served.tours served.shifts w (holds_now kept) (reverse life.history) is_whole runs stays served.word count served.below;
+      kept = λ kept. kept_run served.own served.tours served.shifts w (holds_now kept) (reverse life.history) is_whole runs stays served.word count some_workers served.below;
       calm = λ calm kept. whole_run served.own served.tours served.shifts w (holds_now kept) (reverse life.history) is_whole runs
           (last_same g shown standing faults served.tours served.shifts served.own v w (same_seen g shown standing faults served.tours served.shifts v w event.0 event.1 event.2) (event.1.none_made event.2) (served.holds kept) (served.last calm kept))
           (served.worked calm kept 0 some_workers);

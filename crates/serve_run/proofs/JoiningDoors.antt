@@ -1,9 +1,8 @@
 -- A door's seat is joined: the run's seat holds one tour more.
-use Rattle.std.proofs.Common.{◌≡◌, ℕ, ◌+◌, List, [], ◌∷◌, ◌++◌, Option, Some, None, ap, ◌∙◌, subst, ⊎_elim, arith}
+use Rattle.std.proofs.Common.{◌≡◌, ℕ, ◌+◌, List, [], ◌∷◌, ◌++◌, Option, ap, ◌∙◌, subst, ⊎_elim, arith}
 use Rattle.outside.specs.Accepting.{Standing}
 use Rattle.outside.specs.Link.{Shown}
 use Rattle.poa_base.specs.declared.Entry.{Entry}
-use Rattle.poa_base.specs.declared.Entry.TheVariants.{Entered, Arrive, Filled, Left, Collect, Admit, Tried, Incarnated, Run, Done, TakeOut, Etherealized, Abandon}
 use Rattle.run_history.specs.declared.givens.Givens.{Givens}
 use Rattle.run_history.specs.Owners.{owner_of, worker_of}
 use Rattle.run_tally.specs.declared.full.Full.{Full}
@@ -22,23 +21,9 @@ use Rattle.serve_pieces.proofs.Growing.{each_later, Adds}
 use Rattle.serve_pieces.proofs.Places.{in_either, in_first, in_second, stood_before}
 use Rattle.serve_run.specs.Tours.{Tour, Shift, conns_in, workers_in, EachToured, EachWorked, HasToured, HasWorked, IsWorkersAt}
 use Rattle.serve_run.specs.Holding.{Holds}
+use Rattle.serve_run.proofs.Helping.{turns_more}
+use Rattle.serve_run.proofs.Numbers.{no_worker}
 use Rattle.serve_run.proofs.Uniting.{adds_one, adds_other, ledger_both, one_apart, other_apart}
-
--- an entry of a connection is none of a worker
-pub no_worker : (e : Entry) (c w : ℕ) → owner_of e ≡ Some c → worker_of e ≡ Some w → ⊥
-no_worker (Entered k) c w own works = (let f : None ≡ Some w = works in cc)
-no_worker (Arrive k size call) c w own works = (let f : None ≡ Some w = works in cc)
-no_worker (Filled k size) c w own works = (let f : None ≡ Some w = works in cc)
-no_worker (Left k) c w own works = (let f : None ≡ Some w = works in cc)
-no_worker (Collect k a) c w own works = (let f : None ≡ Some w = works in cc)
-no_worker (Admit v r x) c w own works = (let f : None ≡ Some c = own in cc)
-no_worker (Tried v a) c w own works = (let f : None ≡ Some c = own in cc)
-no_worker (Incarnated v a) c w own works = (let f : None ≡ Some c = own in cc)
-no_worker (Run v) c w own works = (let f : None ≡ Some c = own in cc)
-no_worker (Done v) c w own works = (let f : None ≡ Some c = own in cc)
-no_worker (TakeOut v n x) c w own works = (let f : None ≡ Some c = own in cc)
-no_worker (Etherealized v x y) c w own works = (let f : None ≡ Some c = own in cc)
-no_worker (Abandon v) c w own works = (let f : None ≡ Some c = own in cc)
 
 -- what was joined in, where the other seat made no entry of it
 module _ (v j : View Givens Entry) (made : List ℕ) (adds : Adds v j made) where
@@ -82,16 +67,16 @@ module _ {A L : Type 0} (g : Givens) (shown : L → Shown) (standing : A → Opt
   tour = record { peer = peer; closed = closed; served = door; visits = served.visits; refused = refused; end = end; stood = u.seen }
 
   adds : Adds v j u.mine
-  adds = adds_other v u j unites mine (0 ∷ conns_in tours) (conns_of served.visits) (workers_in shifts) [] holds.ledger served.attends.ledger
+  adds = adds_other v u j unites mine (0 ∷ conns_in tours) (conns_of served.visits) (0 ∷ workers_in shifts) [] holds.ledger served.attends.ledger
 
   adds' : Adds u j v.mine
-  adds' = adds_one v u j unites mine (0 ∷ conns_in tours) (conns_of served.visits) (workers_in shifts) [] holds.ledger served.attends.ledger
+  adds' = adds_one v u j unites mine (0 ∷ conns_in tours) (conns_of served.visits) (0 ∷ workers_in shifts) [] holds.ledger served.attends.ledger
 
   apart : (c : ℕ) → In c (0 ∷ conns_in tours) → (place : ℕ) → In place u.mine → Belongs owner_of j.seen place c → ⊥
-  apart c i = other_apart v u j unites mine (0 ∷ conns_in tours) (conns_of served.visits) (workers_in shifts) [] holds.ledger served.attends.ledger c (holds.ledger.owned c i)
+  apart c i = other_apart v u j unites mine (0 ∷ conns_in tours) (conns_of served.visits) (0 ∷ workers_in shifts) [] holds.ledger served.attends.ledger c (holds.ledger.owned c i)
 
   apart' : (c : ℕ) → In c (conns_of served.visits) → (place : ℕ) → In place v.mine → Belongs owner_of j.seen place c → ⊥
-  apart' c i = one_apart v u j unites mine (0 ∷ conns_in tours) (conns_of served.visits) (workers_in shifts) [] holds.ledger served.attends.ledger c (served.attends.ledger.owned c i)
+  apart' c i = one_apart v u j unites mine (0 ∷ conns_in tours) (conns_of served.visits) (0 ∷ workers_in shifts) [] holds.ledger served.attends.ledger c (served.attends.ledger.owned c i)
 
   -- a door's seat made no entry of a worker
   no_turns : (w place : ℕ) → In place u.mine → IsWorkersAt w j.seen place → ⊥
@@ -108,8 +93,9 @@ module _ {A L : Type 0} (g : Givens) (shown : L → Shown) (standing : A → Opt
 
   pub holds_door : Holds {A = A} {L = L} g shown standing faults own (tour ∷ tours) shifts j
   holds_door = record {
-    ledger = ledger_both v u j unites mine (0 ∷ conns_in tours) (conns_of served.visits) (workers_in shifts) [] holds.ledger served.attends.ledger
-        (0 ∷ conns_in (tour ∷ tours)) (workers_in shifts) ledger_count (λ w i. i) (λ w i. absurd (omega arith));
+    ledger = ledger_both v u j unites mine (0 ∷ conns_in tours) (conns_of served.visits) (0 ∷ workers_in shifts) [] holds.ledger served.attends.ledger
+        (0 ∷ conns_in (tour ∷ tours)) (0 ∷ workers_in shifts) ledger_count (λ w i. i) (λ w i. absurd (omega arith));
+    turns_are = turns_more v j u.mine adds (workers_in shifts) (workers_in shifts) (λ w i. i) (λ place w i own. absurd (no_turns w place i own)) holds.turns_are;
     tours_are = (
       toured_later u j v.mine adds' g shown standing faults tour apart'
           (record { each = served.attends.each; passes = served.passes; refused_is = served.refused_is; later = prefix_self u.seen; cause = served.cause }),

@@ -1,19 +1,19 @@
 -- A worker's seat is joined: the run's seat holds one shift more.
-use Rattle.std.proofs.Common.{◌≡◌, ℕ, List, [], ◌∷◌, ◌++◌, Option, Some, sym, ap, ◌∙◌, subst, inr, ⊎_elim, arith}
-use mathlib.Core.Logic.{dite}
-use native.Mathlib.Decide.{ℕ_discrete}
+use Rattle.std.proofs.Common.{◌≡◌, ℕ, ◌<◌, List, [], ◌∷◌, ◌++◌, length, Option, Some, sym, ap, ◌∙◌, subst, inl, inr, ⊎_elim, arith}
 use Rattle.outside.specs.Accepting.{Standing}
 use Rattle.outside.specs.Link.{Shown}
 use Rattle.poa_base.specs.declared.Entry.{Entry}
+use Rattle.poa_worker.specs.Helping.{IsHelpAt}
 use Rattle.poa_worker.specs.Worked.{Worked}
 use Rattle.poa_worker.specs.declared.work_end.WorkEnd.TheVariants.{Closed}
+use Rattle.poa_worker.proofs.Helped.{help_stays}
 use Rattle.run_history.specs.declared.givens.Givens.{Givens}
 use Rattle.run_history.specs.Owners.{owner_of, worker_of}
 use Rattle.seat_lock.specs.declared.view.View.{View}
 use Rattle.seat_lock.specs.Histories.{Belongs, In}
 use Rattle.seat_lock.specs.Steps.{Unites}
 use Rattle.seat_lock.proofs.Calls.{at_prefix}
-use Rattle.seat_lock.proofs.Totals.{one_at, times_else, times_here}
+use Rattle.seat_lock.proofs.Totals.{one_at}
 use Rattle.serve_pieces.specs.Ledgers.{IsOfConns, IsOfWorkers, Ledger}
 use Rattle.serve_pieces.proofs.Growing.{Adds}
 use Rattle.serve_pieces.proofs.Places.{in_either, in_first, in_second, stood_before}
@@ -21,14 +21,9 @@ use Rattle.serve_run.specs.Tours.{Tour, Shift, conns_in, workers_in, IsWorkersAt
 use Rattle.serve_run.specs.Holding.{Holds, IsLast}
 use Rattle.serve_run.proofs.Closing.{belongs_before}
 use Rattle.serve_run.proofs.Uniting.{adds_other, ledger_both, other_apart}
-use Rattle.serve_run.proofs.JoiningDoors.{each_toured, each_worked, no_worker}
-
--- of a list of one number
-pub one_in : (w k : ℕ) → In w (k ∷ []) → w ≡ k
-one_in w k there = dite (ℕ_discrete w k) (λ (same : w ≡ k). same) (λ (other : w ≡ k → ⊥). absurd (let none = times_else w k other in omega arith))
-
-pub here_in : (w : ℕ) → In w (w ∷ [])
-here_in w = (let one = times_here w in omega arith)
+use Rattle.serve_run.proofs.Helping.{help_early, turns_more}
+use Rattle.serve_run.proofs.JoiningDoors.{each_toured, each_worked}
+use Rattle.serve_run.proofs.Numbers.{here_in, one_in}
 
 module _ (g : Givens) (worker : ℕ) (first u : View Givens Entry) (fresh : first.mine ≡ []) (worked : Worked g worker first u Closed) where
   mine_made : u.mine ≡ worked.made
@@ -54,10 +49,10 @@ module _ {A L : Type 0} (g : Givens) (shown : L → Shown) (standing : A → Opt
   other = ledger_worked g worker first u fresh worked
 
   adds : Adds v j u.mine
-  adds = adds_other v u j unites mine (0 ∷ conns_in tours) [] (workers_in shifts) (worker ∷ []) holds.ledger other
+  adds = adds_other v u j unites mine (0 ∷ conns_in tours) [] (0 ∷ workers_in shifts) (worker ∷ []) holds.ledger other
 
   apart : (c : ℕ) → In c (0 ∷ conns_in tours) → (place : ℕ) → In place u.mine → Belongs owner_of j.seen place c → ⊥
-  apart c i = other_apart v u j unites mine (0 ∷ conns_in tours) [] (workers_in shifts) (worker ∷ []) holds.ledger other c (holds.ledger.owned c i)
+  apart c i = other_apart v u j unites mine (0 ∷ conns_in tours) [] (0 ∷ workers_in shifts) (worker ∷ []) holds.ledger other c (holds.ledger.owned c i)
 
   -- its seat made no turn of another worker, and the run's seat made none of it
   no_others : (w : ℕ) → In w (workers_in shifts) → (place : ℕ) → In place u.mine → IsWorkersAt w j.seen place → ⊥
@@ -72,25 +67,42 @@ module _ {A L : Type 0} (g : Givens) (shown : L → Shown) (standing : A → Opt
       new_one (subst (λ x. In x (workers_in shifts)) (sym k ∙ one_in o.0 worker o.1) i)))
       it.of
 
-  none_before : (place : ℕ) → In place v.mine → IsWorkersAt worker j.seen place → ⊥
-  none_before place there at =
-      let it = holds.ledger.explained place there in
-      let same : it.entry ≡ at.entry = one_at j.seen place it.entry at.entry (at_prefix v.seen j.seen place it.entry unites.first it.stands) at.stands in
-      ⊎_elim
-      (λ (o : IsOfConns (0 ∷ conns_in tours) it.entry). no_worker it.entry o.0 worker o.2 (ap worker_of same ∙ at.own))
-      (λ (o : IsOfWorkers (workers_in shifts) it.entry). (let e : Some o.0 ≡ Some worker = sym o.2 ∙ (ap worker_of same ∙ at.own) in let k : o.0 ≡ worker = cc in new_one (subst (λ x. In x (workers_in shifts)) k o.1)))
-      it.of
+  -- what was made in its stead came before it saw a `shutdown` admitted
+  before : (place : ℕ) → In place v.mine → IsWorkersAt worker j.seen place → place < length u.seen
+  before place there at = ⊎_elim
+      (λ (i : In worker (workers_in shifts)). absurd (new_one i))
+      (λ (help : IsHelpAt v.seen place). help_early j.seen place (help_stays v.seen j.seen place unites.first help) u.seen unites.second worked.cause.shut)
+      (holds.turns_are place worker there (record { entry = at.entry; stands = stood_before v.seen j.seen place at.entry unites.first (holds.ledger.within place there) at.stands; own = at.own }))
+
+  -- each entry that its seat made is one of it
+  is_own : (place w : ℕ) → In place u.mine → IsWorkersAt w j.seen place → In w (workers_in (shift ∷ shifts))
+  is_own place w there at =
+      let it = (worked.each place (subst (In place) (mine_made g worker first u fresh worked) there)).1 in
+      let same : it.entry ≡ at.entry = one_at j.seen place it.entry at.entry (at_prefix u.seen j.seen place it.entry unites.second it.stands) at.stands in
+      let e : Some worker ≡ Some w = sym it.own ∙ (ap worker_of same ∙ at.own) in
+      let k : worker ≡ w = cc in
+      in_first w (worker ∷ []) (workers_in shifts) (subst (λ z. In z (worker ∷ [])) k (here_in worker))
+
+  more_workers : (w : ℕ) → In w (0 ∷ workers_in shifts) → In w (0 ∷ workers_in (shift ∷ shifts))
+  more_workers w i = ⊎_elim
+      (λ (first_one : In w (0 ∷ [])). in_first w (0 ∷ []) (worker ∷ workers_in shifts) first_one)
+      (λ (other_one : In w (workers_in shifts)). in_second w (0 ∷ []) (worker ∷ workers_in shifts) (in_second w (worker ∷ []) (workers_in shifts) other_one))
+      (in_either w (0 ∷ []) (workers_in shifts) i)
+
+  own_worker : (w : ℕ) → In w (worker ∷ []) → In w (0 ∷ workers_in (shift ∷ shifts))
+  own_worker w i = in_second w (0 ∷ []) (worker ∷ workers_in shifts) (in_first w (worker ∷ []) (workers_in shifts) i)
 
   pub holds_worker : Holds {A = A} {L = L} g shown standing faults own tours (shift ∷ shifts) j
   holds_worker = record {
-    ledger = ledger_both v u j unites mine (0 ∷ conns_in tours) [] (workers_in shifts) (worker ∷ []) holds.ledger other
-        (0 ∷ conns_in tours) (workers_in (shift ∷ shifts)) (λ c. omega arith) (λ w i. in_second w (worker ∷ []) (workers_in shifts) i) (λ w i. in_first w (worker ∷ []) (workers_in shifts) i);
+    ledger = ledger_both v u j unites mine (0 ∷ conns_in tours) [] (0 ∷ workers_in shifts) (worker ∷ []) holds.ledger other
+        (0 ∷ conns_in tours) (0 ∷ workers_in (shift ∷ shifts)) (λ c. omega arith) more_workers own_worker;
+    turns_are = turns_more v j u.mine adds (workers_in shifts) (workers_in (shift ∷ shifts)) (λ w i. in_second w (worker ∷ []) (workers_in shifts) i) (λ place w i at. inl (is_own place w i at)) holds.turns_are;
     tours_are = each_toured v j u.mine adds g shown standing faults tours (λ c i. apart c (in_second c (0 ∷ []) (conns_in tours) i)) holds.tours_are;
     shifts_are = (
       record {
         later = unites.second;
         quiet = λ place there at. ⊎_elim
-            (λ (i : In place v.mine). absurd (none_before place i at))
+            (λ (i : In place v.mine). before place i at)
             (λ (i : In place u.mine). worked.knows.within place i)
             (in_either place v.mine u.mine (subst (In place) mine there));
         closed = worked.cause;

@@ -171,7 +171,7 @@ late_still c (Etherealized w x y) past other was = was
 late_still c (Abandon w) past other was = was
 
 module _ (stood : List Entry) (shut : is_shut (reverse stood) ≡ true) where
-  shut_behind : (past : List Entry) → IsPrefix stood (reverse past) → is_shut past ≡ true
+  pub shut_behind : (past : List Entry) → IsPrefix stood (reverse past) → is_shut past ≡ true
   shut_behind past p = subst (λ l. is_shut l ≡ true) (sym (sym (reverse-reverse past) ∙ reversed_more stood (reverse past) p.0 p.1)) (shut_since (reverse p.0) (reverse stood) shut)
 
   pub late_behind : (h : List Entry) (c x : ℕ) → IsPrefix stood (reverse h) → length stood ≤ x → get_elem? (reverse h) x ≡ some (Entered c) → ((y : ℕ) → get_elem? (reverse h) y ≡ some (Entered c) → y ≡ x) → is_late_by h c ≡ true

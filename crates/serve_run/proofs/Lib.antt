@@ -1,7 +1,10 @@
 pub mod Closing
 pub mod Uniting
+pub mod Numbers
+pub mod Helping
 pub mod JoiningDoors
 pub mod JoiningWorkers
+pub mod JoiningAids
 pub mod Staying
 pub mod Whole
 pub mod Sessions

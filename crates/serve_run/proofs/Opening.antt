@@ -20,14 +20,15 @@ use Rattle.poa_history.specs.Legal.{is_filled}
 use Rattle.poa_shared.specs.Events.{Event}
 use Rattle.poa_shared.specs.Seen.{past, Turns, HoldsConnection}
 use Rattle.run_history.specs.declared.givens.Givens.{Givens}
+use Rattle.run_history.specs.Owners.{worker_of}
 use Rattle.seat_lock.specs.declared.view.View.{View}
 use Rattle.seat_lock.specs.Histories.{times, In}
 use Rattle.seat_lock.proofs.Totals.{one_at, times_else, times_here}
 use Rattle.serve_pieces.proofs.Places.{in_first, newest_stands}
 use Rattle.serve_run.specs.Tours.{Tour, Shift, conns_in}
 use Rattle.serve_run.specs.Holding.{Holds, IsLast, IsWord}
-use Rattle.serve_run.proofs.JoiningWorkers.{here_in, one_in}
 use Rattle.serve_run.proofs.Staying.{holds_looked, holds_own, last_own}
+use Rattle.serve_run.proofs.Numbers.{here_in, no_worker, one_in}
 
 no_length : (h : List Entry) → length h ≡ 0 → h ≡ []
 no_length [] none = refl
@@ -65,6 +66,10 @@ module _ {A L : Type 0} (g : Givens) (shown : L → Shown) (standing : A → Opt
             record { place = length h; made = subst (In (length h)) (sym mine) (here_in (length h)); entered = stands ∙ ap (λ k. some (Entered k)) (sym c_is) });
         once = λ c. once_at_most c;
       };
+      turns_are = λ place k there at. absurd
+          (let here = one_in place (length h) (subst (In place) mine there) in
+          let first = one_at w.seen place (Entered 0) at.entry (subst (λ n. get_elem? w.seen n ≡ some (Entered 0)) (sym here) stands) at.stands in
+          no_worker (Entered 0) 0 k refl (ap worker_of first ∙ at.own));
       tours_are = tt;
       shifts_are = tt;
       own_is = λ place e there at of. inl (let here = one_in place (length h) (subst (In place) mine there) in

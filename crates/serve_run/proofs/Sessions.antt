@@ -1,5 +1,5 @@
 -- Which connections and sessions a run had, by the whole journal.
-use Rattle.std.proofs.Common.{◌≡◌, ℕ, ◌≤◌, ◌<◌, Bool, true, false, List, [], ◌∷◌, ◌++◌, length, reverse, Option, Some, None, refl, sym, ap, ◌∙◌, subst, ⊎_elim, arith}
+use Rattle.std.proofs.Common.{◌≡◌, ℕ, ◌≤◌, ◌<◌, Bool, true, false, List, [], ◌∷◌, ◌++◌, length, reverse, Option, Some, None, refl, sym, ap, ◌∙◌, subst, ◌⊎◌, ⊎_elim, arith}
 use Rattle.std.specs.Prelude.{MatchOption}
 use Rattle.std.proofs.lemmas.Bool.{true≢false}
 use Rattle.std.proofs.lemmas.List.{append_assoc, length-append, reverse-reverse}
@@ -14,6 +14,7 @@ use Rattle.poa_base.specs.declared.Entry.TheVariants.{Entered, Abandon}
 use Rattle.poa_base.specs.declared.SessionEnd.{SessionEnd}
 use Rattle.poa_history.specs.Stages.{is_abandoned}
 use Rattle.poa_session.specs.Served.{RefusedAs, ServedAs}
+use Rattle.poa_worker.specs.Helping.{IsHelpAt}
 use Rattle.run_history.specs.declared.givens.Givens.{Givens}
 use Rattle.run_history.specs.Owners.{owner_of, worker_of, HasNone}
 use Rattle.run_history.specs.Runs.{IsLog}
@@ -30,9 +31,9 @@ use Rattle.serve_pieces.proofs.Places.{in_either, in_second, stood_before}
 use Rattle.serve_run.specs.Tours.{Tour, Shift, conns_in, workers_in, EachToured, EachWorked, HasWorked}
 use Rattle.serve_run.specs.Holding.{Holds}
 use Rattle.serve_run.specs.Served.{AreConnections, EachDoor, EachSession, NoneGaveUp, IsSession, IsTurnedAway}
-use Rattle.serve_run.proofs.JoiningDoors.{no_worker}
-use Rattle.serve_run.proofs.JoiningWorkers.{one_in}
 use Rattle.serve_run.proofs.Whole.{abandoned_at, entered_at, stands_abandoned, IsWhole}
+use Rattle.serve_run.proofs.Helping.{help_going}
+use Rattle.serve_run.proofs.Numbers.{no_worker, one_in}
 
 -- the shift of a worker
 pub shift_of : (g : Givens) (v : View Givens Entry) (shifts : List Shift) (w : ℕ) → EachWorked g shifts v → In w (workers_in shifts) → (s : Shift) × (s.worker ≡ w) × HasWorked g s v
@@ -66,18 +67,9 @@ module _ {A L : Type 0} (g : Givens) (shown : L → Shown) (standing : A → Opt
   pub in_seen : (x : ℕ) (e : Entry) → get_elem? log x ≡ some e → get_elem? v.seen x ≡ some e
   in_seen x e at = subst (λ l. get_elem? l x ≡ some e) is_whole.seen at
 
-  -- an entry of a worker is one of a shift
-  pub works_here : (w x : ℕ) (e : Entry) → get_elem? log x ≡ some e → worker_of e ≡ Some w → In w (workers_in shifts)
-  works_here w x e at works =
-      let it = holds.ledger.explained x (made x e at) in
-      let same : it.entry ≡ e = one_at v.seen x it.entry e it.stands (in_seen x e at) in
-      ⊎_elim
-      (λ (o : IsOfConns (0 ∷ conns_in tours) it.entry). absurd (no_worker it.entry o.0 w o.2 (ap worker_of same ∙ works)))
-      (λ (o : IsOfWorkers (workers_in shifts) it.entry).
-      (let q : Some o.0 ≡ Some w = sym o.2 ∙ (ap worker_of same ∙ works) in
-      let k : o.0 ≡ w = cc in
-      subst (λ z. In z (workers_in shifts)) k o.1))
-      it.of
+  -- an entry of a worker is one of a shift, or was made in its stead
+  pub works_here : (w x : ℕ) (e : Entry) → get_elem? log x ≡ some e → worker_of e ≡ Some w → In w (workers_in shifts) ⊎ IsHelpAt v.seen x
+  works_here w x e at works = holds.turns_are x w (made x e at) (record { entry = e; stands = in_seen x e at; own = works })
 
   -- an entry of a connection but the first is one of a door's
   pub came_by_door : (c x : ℕ) (e : Entry) → get_elem? log x ≡ some e → owner_of e ≡ Some c → 0 < c → In c (conns_in tours)
@@ -92,13 +84,22 @@ module _ {A L : Type 0} (g : Givens) (shown : L → Shown) (standing : A → Opt
       (λ (first : In c (0 ∷ [])). absurd (let zero_ = one_in c 0 first in omega arith))
       (λ (other : In c (conns_in tours)). other)
       (in_either c (0 ∷ []) (conns_in tours) (subst (λ z. In z (0 ∷ conns_in tours)) k o.1))))
-      (λ (o : IsOfWorkers (workers_in shifts) it.entry). absurd (no_worker it.entry c o.0 (ap owner_of same ∙ owned) o.2))
+      (λ (o : IsOfWorkers (0 ∷ workers_in shifts) it.entry). absurd (no_worker it.entry c o.0 (ap owner_of same ∙ owned) o.2))
       it.of
 
-  by_shift : (w x : ℕ) (e : Entry) → get_elem? log x ≡ some e → worker_of e ≡ Some w → (s : Shift) × (s.worker ≡ w) × HasWorked g s v × (x < length s.stood)
-  by_shift w x e at works =
-      let s = shift_of g v shifts w holds.shifts_are (works_here w x e at works) in
+  by_shift : (w x : ℕ) (e : Entry) → In w (workers_in shifts) → get_elem? log x ≡ some e → worker_of e ≡ Some w → (s : Shift) × (s.worker ≡ w) × HasWorked g s v × (x < length s.stood)
+  by_shift w x e there at works =
+      let s = shift_of g v shifts w holds.shifts_are there in
       (s.0, s.1, s.2, s.2.quiet x (made x e at) (record { entry = e; stands = in_seen x e at; own = works ∙ ap Some (sym s.1) }))
+
+  -- a worker that closed had not given the run up, nor did it later
+  none_gave_up : (w x : ℕ) → get_elem? log x ≡ some (Abandon w) → In w (workers_in shifts) → ⊥
+  none_gave_up w x there i =
+      let s = by_shift w x (Abandon w) i there refl in
+      let stood : get_elem? s.0.stood x ≡ some (Abandon w) = stood_before s.0.stood v.seen x (Abandon w) s.2.later s.3 (in_seen x (Abandon w) there) in
+      let gave : is_abandoned (reverse s.0.stood) s.0.worker ≡ true = stands_abandoned (reverse s.0.stood) s.0.worker x
+      (subst (λ l. get_elem? l x ≡ some (Abandon s.0.worker)) (sym (reverse-reverse s.0.stood)) (subst (λ k. get_elem? s.0.stood x ≡ some (Abandon k)) (sym s.1) stood)) in
+      true≢false (sym gave ∙ s.2.closed.going)
 
   -- nobody gave the run up
   pub none_abandoned : NoneGaveUp log
@@ -109,11 +110,10 @@ module _ {A L : Type 0} (g : Givens) (shown : L → Shown) (standing : A → Opt
       by_bool true is = absurd
           (let at = abandoned_at (reverse log) w is in
           let there : get_elem? log at.0 ≡ some (Abandon w) = subst (λ l. get_elem? l at.0 ≡ some (Abandon w)) (reverse-reverse log) at.1 in
-          let s = by_shift w at.0 (Abandon w) there refl in
-          let stood : get_elem? s.0.stood at.0 ≡ some (Abandon w) = stood_before s.0.stood v.seen at.0 (Abandon w) s.2.later s.3 (in_seen at.0 (Abandon w) there) in
-          let gave : is_abandoned (reverse s.0.stood) s.0.worker ≡ true = stands_abandoned (reverse s.0.stood) s.0.worker at.0
-          (subst (λ l. get_elem? l at.0 ≡ some (Abandon s.0.worker)) (sym (reverse-reverse s.0.stood)) (subst (λ k. get_elem? s.0.stood at.0 ≡ some (Abandon k)) (sym s.1) stood)) in
-          true≢false (sym gave ∙ s.2.closed.going))
+          ⊎_elim
+          (λ (i : In w (workers_in shifts)). none_gave_up w at.0 there i)
+          (λ (help : IsHelpAt v.seen at.0). help_going v.seen at.0 help w (in_seen at.0 (Abandon w) there))
+          (works_here w at.0 (Abandon w) there refl))
 
   -- the connections of the doors are those of the journal but the first
   pub connections_are : AreConnections (conns_in tours) log

@@ -20,8 +20,9 @@ use Rattle.serve_pieces.proofs.Places.{in_first, stood_before}
 use Rattle.serve_run.specs.Tours.{Tour, Shift, conns_in, workers_in, EachToured, IsWorkersAt}
 use Rattle.serve_run.specs.Holding.{AreBefore, Holds, IsLast, IsOwn}
 use Rattle.serve_run.proofs.Closing.{belongs_before, closed_longer}
-use Rattle.serve_run.proofs.JoiningDoors.{each_toured, each_worked, no_worker}
-use Rattle.serve_run.proofs.JoiningWorkers.{here_in}
+use Rattle.serve_run.proofs.Helping.{turns_more}
+use Rattle.serve_run.proofs.JoiningDoors.{each_toured, each_worked}
+use Rattle.serve_run.proofs.Numbers.{here_in, no_worker}
 
 some_pair : (k place : ℕ) (e d : Entry) → k ≡ place → e ≡ d → ◌≡◌ {A = Option (ℕ × Entry)} (Some (k, e)) (Some (place, d))
 some_pair k place e d p q = λ i. Some (p i, q i)
@@ -39,12 +40,13 @@ module _ {A L : Type 0} (g : Givens) (shown : L → Shown) (standing : A → Opt
       let adds = adds_behind v w [] grows holds.ledger.within (mine ∙ sym (append-nil v.mine)) in
       record {
         ledger = record {
-          explained = λ place there. explained_more (0 ∷ conns_in tours) (workers_in shifts) (0 ∷ conns_in tours) (workers_in shifts) v.seen w.seen place (λ c i. i) (λ k i. i) grows (holds.ledger.explained place (subst (In place) mine there));
+          explained = λ place there. explained_more (0 ∷ conns_in tours) (0 ∷ workers_in shifts) (0 ∷ conns_in tours) (0 ∷ workers_in shifts) v.seen w.seen place (λ c i. i) (λ k i. i) grows (holds.ledger.explained place (subst (In place) mine there));
           closed = subst (IsClosed owner_of w.seen) (sym mine) (closed_longer owner_of v.seen w.seen grows v.mine holds.ledger.within holds.ledger.closed);
           within = λ place there. (let low = holds.ledger.within place (subst (In place) mine there) in let long = prefix_below v.seen w.seen grows in omega arith);
           owned = λ c i. owns_later v w [] adds c (holds.ledger.owned c i);
           once = holds.ledger.once;
         };
+        turns_are = turns_more v w [] adds (workers_in shifts) (workers_in shifts) (λ k i. i) (λ place k there. absurd (omega arith)) holds.turns_are;
         tours_are = each_toured v w [] adds g shown standing faults tours (λ c i place there b. omega arith) holds.tours_are;
         shifts_are = each_worked v w [] adds g shifts (λ k i place there at. omega arith) holds.shifts_are;
         own_is = λ place e there stands is. (let old = subst (In place) mine there in holds.own_is place e old (stood_before v.seen w.seen place e grows (holds.ledger.within place old) stands) is);
@@ -102,14 +104,14 @@ module _ {A L : Type 0} (g : Givens) (shown : L → Shown) (standing : A → Opt
           let there' : In 0 (conns_in tours) = subst (λ k. In k (conns_in tours)) (sym c_is) i in
           let here = times_here 0 in omega arith
 
-      no_turn : (k : ℕ) → In k (workers_in shifts) → (place : ℕ) → In place (length h ∷ []) → IsWorkersAt k w.seen place → ⊥
-      no_turn k i place there at = no_worker e 0 k of (ap worker_of (only place at.entry (new_place place there) at.stands) ∙ at.own)
+      none_works : (k place : ℕ) → In place (length h ∷ []) → IsWorkersAt k w.seen place → ⊥
+      none_works k place there at = no_worker e 0 k of (ap worker_of (only place at.entry (new_place place there) at.stands) ∙ at.own)
 
       pub holds_own : HoldsIt (Some (length h, e)) w
       holds_own = record {
         ledger = record {
           explained = λ place there. ⊎_elim
-              (λ (i : In place v.mine). explained_more (0 ∷ conns_in tours) (workers_in shifts) (0 ∷ conns_in tours) (workers_in shifts) v.seen w.seen place (λ c k. k) (λ k x. x) grows (holds.ledger.explained place i))
+              (λ (i : In place v.mine). explained_more (0 ∷ conns_in tours) (0 ∷ workers_in shifts) (0 ∷ conns_in tours) (0 ∷ workers_in shifts) v.seen w.seen place (λ c k. k) (λ k x. x) grows (holds.ledger.explained place i))
               (λ (at : place ≡ length h). record { entry = e; stands = subst (λ k. get_elem? w.seen k ≡ some e) (sym at) one_stands; of = inl (0, in_first 0 (0 ∷ []) (conns_in tours) (here_in 0), of) })
               (in_added place (length h) v.mine (subst (In place) mine there));
           closed = t.knows.closed;
@@ -117,8 +119,9 @@ module _ {A L : Type 0} (g : Givens) (shown : L → Shown) (standing : A → Opt
           owned = λ c i. owns_later v w (length h ∷ []) adds c (holds.ledger.owned c i);
           once = holds.ledger.once;
         };
+        turns_are = turns_more v w (length h ∷ []) adds (workers_in shifts) (workers_in shifts) (λ k i. i) (λ place k there at. absurd (none_works k place there at)) holds.turns_are;
         tours_are = each_toured v w (length h ∷ []) adds g shown standing faults tours not_other holds.tours_are;
-        shifts_are = each_worked v w (length h ∷ []) adds g shifts no_turn holds.shifts_are;
+        shifts_are = each_worked v w (length h ∷ []) adds g shifts (λ k i. none_works k) holds.shifts_are;
         own_is = λ place d there stands is_own. ⊎_elim
             (λ (i : In place v.mine). own_before place d (holds.own_is place d i (stood_before v.seen w.seen place d grows (holds.ledger.within place i) stands) is_own))
             (λ (at : place ≡ length h). inr (some_pair (length h) place e d (sym at) (only place d at stands)))

@@ -1,6 +1,6 @@
 -- One door more is served, or isn't started.
-use Rattle.std.proofs.Common.{◌≡◌, ℕ, ◌+◌, Bool, true, false, ◌||◌, List, [], ◌∷◌, ◌++◌, length, Option, Some, None, refl, sym, ap, ap₂, ◌∙◌, subst, arith}
-use Rattle.std.proofs.lemmas.List.{append-nil}
+use Rattle.std.proofs.Common.{◌≡◌, ℕ, ◌+◌, ◌≤◌, ◌<◌, Bool, true, false, ◌||◌, List, [], ◌∷◌, ◌++◌, length, Option, Some, None, refl, sym, ap, ap₂, ◌∙◌, subst, arith}
+use Rattle.std.proofs.lemmas.List.{append-nil, length-append}
 use Rattle.std.specs.Option.{IsSome}
 use Rattle.outside.specs.Accepting.{Standing}
 use Rattle.outside.specs.Link.{Shown}
@@ -165,3 +165,10 @@ module _ {A L : Type 0} (g : Givens) (shown : L → Shown) (standing : A → Opt
 
 pub kept_itself : (v : View Givens Entry) → IsKept v v
 kept_itself v = record { seen = refl; mine = refl; given = refl; base = refl }
+
+pub kept_both : (u v w : View Givens Entry) → IsKept u v → IsKept v w → IsKept u w
+kept_both u v w a b = record { seen = b.seen ∙ a.seen; mine = b.mine ∙ a.mine; given = b.given ∙ a.given; base = b.base ∙ a.base }
+
+-- where a lane is left there is room for it
+pub some_last : {A : Type 0} (lanes front : List A) (lane : A) (count : ℕ) (v : View Givens Entry) → count ≡ length lanes → lanes ≡ front ++ lane ∷ [] → count + count ≤ v.room → 0 < v.room
+some_last lanes front lane count v counted popped room = (let long : length lanes ≡ length front + 1 = ap length popped ∙ length-append front (lane ∷ []) in omega arith)

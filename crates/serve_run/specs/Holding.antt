@@ -8,21 +8,28 @@ use Rattle.poa_base.specs.declared.Call.TheVariants.{Line}
 use Rattle.poa_base.specs.declared.Command.TheVariants.{Shutdown}
 use Rattle.poa_base.specs.declared.Entry.{Entry}
 use Rattle.poa_base.specs.declared.Entry.TheVariants.{Entered, Arrive, Filled}
+use Rattle.poa_worker.specs.Helping.{IsHelpAt}
 use Rattle.run_history.specs.declared.givens.Givens.{Givens}
 use Rattle.run_history.specs.Owners.{owner_of}
 use Rattle.seat_lock.specs.declared.view.View.{View}
 use Rattle.seat_lock.specs.Histories.{Belongs, In}
 use Rattle.serve_pieces.specs.Ledgers.{Ledger}
-use Rattle.serve_run.specs.Tours.{Tour, Shift, conns_in, workers_in, EachToured, EachWorked}
+use Rattle.serve_run.specs.Tours.{Tour, Shift, conns_in, workers_in, EachToured, EachWorked, IsWorkersAt}
 
 -- what the run's own connection made: it entered, and made this one entry more where there is one
 abbrev pub IsOwn : Option (ℕ × Entry) → ℕ → Entry → Type 0
 IsOwn more place e = (e ≡ Entered 0) ⊎ (more ≡ Some (place, e))
 
+-- each turn that the seat made is one of these workers, or was made by a lane in the first worker's stead
+abbrev pub HasTurnsOf : List ℕ → View Givens Entry → Type 0
+HasTurnsOf workers v = (place w : ℕ) → In place v.mine → IsWorkersAt w v.seen place → In w workers ⊎ IsHelpAt v.seen place
+
 module _ {A L : Type 0} (g : Givens) (shown : L → Shown) (standing : A → Option (Standing L)) (faults : A → ℕ) where
-  -- the seat made the entries of its own connection, of these doors and of these workers, and no others
+  -- the seat made the entries of its own connection, of these doors, of these workers, and what lanes made in the first
+  -- worker's stead, and no others
   pub record Holds (own : Option (ℕ × Entry)) (tours : List (Tour A L)) (shifts : List Shift) (v : View Givens Entry) : Type 0 where
-    pub ledger : Ledger (0 ∷ conns_in tours) (workers_in shifts) v
+    pub ledger : Ledger (0 ∷ conns_in tours) (0 ∷ workers_in shifts) v
+    pub turns_are : HasTurnsOf (workers_in shifts) v
     pub tours_are : EachToured g shown standing faults tours v
     pub shifts_are : EachWorked g shifts v
     pub own_is : (place : ℕ) (e : Entry) → In place v.mine → get_elem? v.seen place ≡ some e → owner_of e ≡ Some 0 → IsOwn own place e

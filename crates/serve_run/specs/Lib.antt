@@ -2,6 +2,7 @@ pub mod Tours
 pub mod Holding
 pub mod Served
 pub mod Outcomes
+pub mod Aiding
 pub mod Starting
 pub mod Shutting
 pub mod Lanes

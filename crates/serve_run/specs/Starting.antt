@@ -5,6 +5,7 @@ use Rattle.outside.specs.Accepting.{Standing}
 use Rattle.outside.specs.Link.{Shown}
 use Rattle.poa_base.specs.declared.Entry.{Entry}
 use Rattle.poa_shared.specs.declared.shared.Shared.{Shared}
+use Rattle.poa_worker.specs.Helping.{SeatOf}
 use Rattle.run_history.specs.declared.givens.Givens.{Givens}
 use Rattle.run_tally.specs.declared.full.Full.{Full}
 use Rattle.seat_lock.specs.declared.view.View.{View}
@@ -24,10 +25,11 @@ pub record IsKept (old new : View Givens Entry) : Type 0 where
   pub given : new.givens ≡ old.givens
   pub base : new.base ≡ old.base
 
--- a piece of this task, on a new seat of the shared core
-pub record IsStarted {R A G : Type 0} (shared : Shared) (task : Task A G) (v : View Givens Entry) (piece : Piece R A G) : Type 0 where
+-- a piece of this task, on a new seat of the shared core, and with this aid
+pub record IsStarted {R A G : Type 0} (shared : Shared) (task : Task A G) (aid : Option SeatOf) (v : View Givens Entry) (piece : Piece R A G) : Type 0 where
   pub shared_is : arc_value piece.shared ≡ shared
   pub task_is : piece.task ≡ task
+  pub aid_is : piece.aid.seat ≡ aid
   pub given : piece.seat.me.0.givens ≡ v.givens
   pub base : piece.seat.me.0.base ≡ v.base
   pub room : piece.seat.me.0.room ≡ 0

@@ -2,23 +2,26 @@
 ghost use Rattle.std.specs.Prelude.{◌≡◌, IsSome, Some};
 ghost use Rattle.std.specs.Arc.{arc_value};
 ghost use Rattle.poa_shared.specs.Seats.{IsIdle};
+ghost use Rattle.poa_worker.specs.Helping.{Aids, IsReady};
 ghost use Rattle.seat_lock.specs.Seats.{view};
 ghost use Rattle.serve_run.specs.Starting.{HasDoor, IsJoined, task_door};
 
 use outside::{Acceptor, Gate, ThreadCrew, Ticket};
 use poa_shared::{Seat, Shared};
+use poa_worker::Aid;
 use run_tally::Full;
 use serve_pieces::{Piece, PieceEnd, Task};
 use std::alloc::Global;
 use std::sync::{Arc, Wait};
 use std::thread::Threads;
 
-/// What a piece gave back, but its seat.
+/// What a piece gave back, but its seat. The aid's is still to be joined.
 #[derive(Drop)]
 pub struct Joined<A> {
     pub door: Option<A>,
     pub refused: Option<Full>,
     pub end: PieceEnd,
+    pub aid: Aid,
 }
 
 /// Waits for a piece, and joins its seat.
@@ -37,6 +40,8 @@ where
     requires seat { IsIdle (arc_value shared.now) seat.old }
     requires shared { arc_value ticket.promise.job.value.shared ≡ arc_value shared.now }
     ensures seat { IsIdle (arc_value shared.now) seat.new }
+    ensures ready { IsReady (arc_value shared.now) result.aid.seat }
+    ensures aids { Aids ticket.promise.job.value.aid.seat result.aid.seat }
     ensures joined { IsJoined A.Link.shown A.standing A.faults ticket.promise.job.value.task (view ticket.promise.job.value.seat) (view seat.old) (view seat.new) result.door result.refused result.end }
 {
     let ran = crew.join(ticket);
@@ -45,6 +50,7 @@ where
         door: ran.door,
         refused: ran.refused,
         end: ran.end,
+        aid: ran.aid,
     }
 }
 

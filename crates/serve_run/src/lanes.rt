@@ -1,5 +1,5 @@
 //! The lanes are served.
-ghost use Rattle.std.specs.Prelude.{◌≡◌, ◌≤◌, None, Some, vec_len, vec_capacity, []};
+ghost use Rattle.std.specs.Prelude.{◌≡◌, ◌≤◌, ◌+◌, None, Some, vec_len, vec_capacity, []};
 ghost use Rattle.std.specs.Arc.{arc_value};
 ghost use Rattle.poa_shared.specs.Seats.{IsIdle};
 ghost use Rattle.run_history.specs.declared.givens.Givens.{Givens};
@@ -8,6 +8,7 @@ ghost use Rattle.serve_run.specs.Holding.{Holds};
 ghost use Rattle.serve_run.specs.Lanes.{HasGivens, LanesServed};
 ghost use Rattle.serve_run.specs.Threads.{CountsThreads};
 
+use crate::aiding::{join_aid, split_aid};
 use crate::joining::{door_back, door_in, join};
 use crate::outcome::Outcome;
 use crate::shutting::{Staff, shut_down};
@@ -19,7 +20,8 @@ use std::alloc::Global;
 use std::sync::{Arc, Wait};
 use std::thread::Threads;
 
-/// Serves the lanes, each in a thread of its own, the last one first, until all have ended. Where one can't be started,
+/// Serves the lanes, each in a thread of its own, the last one first, until all have ended. Where the gate never keeps anybody
+/// each has an aid, and makes a worker's turns for the calls that come in by it. Where one can't be started,
 /// those in front of it aren't either, and the run's end is called for at once.
 pub fn serve_lanes<T, R, A, G>(
     rt: &R,
@@ -27,6 +29,7 @@ pub fn serve_lanes<T, R, A, G>(
     shared: &Arc<Shared, Global>,
     seat: &mut Seat,
     crew: &mut ThreadCrew<T>,
+    gate: &Arc<G, Global>,
     staff: Staff,
     lanes: &mut Vec<A>,
 ) -> Outcome
@@ -38,7 +41,7 @@ where
     G: Gate + Send + Sync + Drop + 'static,
     requires seat { IsIdle (arc_value shared.now) seat.old }
     requires given { HasGivens (view seat.old) }
-    requires room { vec_len lanes.old ≤ (view seat.old).room }
+    requires room { vec_len lanes.old + vec_len lanes.old ≤ (view seat.old).room }
     requires staff { staff.end ≤ 16 }
     requires begun { (g : Givens) → (view seat.old).givens ≡ Some g → Holds g A.Link.shown A.standing A.faults None [] [] (view seat.old) }
     ensures seat { IsIdle (arc_value shared.now) seat.new }
@@ -51,14 +54,19 @@ where
     let Some(lane) = lanes.pop() else {
         return Outcome::good();
     };
-    match start::<T, R, A, G>(rt, alloc, shared, seat, crew, Task::Lane(lane)) {
+    let aid = split_aid(shared, seat, gate.is_open());
+    match start::<T, R, A, G>(rt, alloc, shared, seat, crew, Task::Lane(lane), aid) {
         Ok(ticket) => {
-            let outcome = serve_lanes::<T, R, A, G>(rt, alloc, shared, seat, crew, staff, lanes);
+            let outcome = serve_lanes::<T, R, A, G>(
+                rt, alloc, shared, seat, crew, gate, staff, lanes,
+            );
             let joined = join(shared, seat, crew, ticket);
+            join_aid(shared, seat, joined.aid);
             lanes.push_reserved(door_back(joined.door));
             outcome.with_door(joined.refused, &joined.end)
         }
         Err(unstarted) => {
+            join_aid(shared, seat, unstarted.aid);
             lanes.push_reserved(door_in(unstarted.task));
             let lost = shut_down(rt, shared, seat, staff);
             Outcome::short_of(unstarted.want, lost)

@@ -2,6 +2,7 @@
 //! together. What a run comes to is said on the journal of the core that it gives back, in `specs/Served.antt`.
 #![tactic(auto)]
 
+mod aiding;
 mod doors;
 mod joining;
 mod lanes;

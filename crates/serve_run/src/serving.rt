@@ -17,6 +17,7 @@ use crate::shutting::{Staff, shut_down};
 use crate::starting::start;
 use outside::{Acceptor, Gate, ThreadCrew};
 use poa_shared::{Seat, Shared};
+use poa_worker::Aid;
 use serve_pieces::Task;
 use std::alloc::Global;
 use std::sync::{Arc, Wait};
@@ -30,6 +31,7 @@ pub fn serve_doors<T, R, A, G>(
     shared: &Arc<Shared, Global>,
     seat: &mut Seat,
     crew: &mut ThreadCrew<T>,
+    gate: &Arc<G, Global>,
     staff: Staff,
     doors: Doors<A>,
 ) -> (Doors<A>, Outcome)
@@ -41,7 +43,7 @@ where
     G: Gate + Send + Sync + Drop + 'static,
     requires seat { IsIdle (arc_value shared.now) seat.old }
     requires given { HasGivens (view seat.old) }
-    requires room { vec_len doors.lanes + 1 ≤ (view seat.old).room }
+    requires room { vec_len doors.lanes + vec_len doors.lanes + 1 ≤ (view seat.old).room }
     requires staff { staff.end ≤ 16 }
     requires begun { (g : Givens) → (view seat.old).givens ≡ Some g → Holds g A.Link.shown A.standing A.faults None [] [] (view seat.old) }
     ensures seat { IsIdle (arc_value shared.now) seat.new }
@@ -50,10 +52,18 @@ where
     ensures threads { CountsThreads crew.old.faults crew.new.faults result.1.short }
 {
     let Doors { admin, mut lanes } = doors;
-    match start::<T, R, A, G>(rt, alloc, shared, seat, crew, Task::Admin(admin)) {
+    match start::<T, R, A, G>(
+        rt,
+        alloc,
+        shared,
+        seat,
+        crew,
+        Task::Admin(admin),
+        Aid::none(),
+    ) {
         Ok(ticket) => {
             let outcome = serve_lanes::<T, R, A, G>(
-                rt, alloc, shared, seat, crew, staff, &mut lanes,
+                rt, alloc, shared, seat, crew, gate, staff, &mut lanes,
             );
             let joined = join(shared, seat, crew, ticket);
             let admin = door_back(joined.door);
@@ -80,6 +90,7 @@ pub fn serve_and_shut<T, R, A, G>(
     shared: &Arc<Shared, Global>,
     seat: &mut Seat,
     crew: &mut ThreadCrew<T>,
+    gate: &Arc<G, Global>,
     staff: Staff,
     doors: Doors<A>,
 ) -> (Doors<A>, Outcome)
@@ -91,7 +102,7 @@ where
     G: Gate + Send + Sync + Drop + 'static,
     requires seat { IsIdle (arc_value shared.now) seat.old }
     requires given { HasGivens (view seat.old) }
-    requires room { vec_len doors.lanes + 1 ≤ (view seat.old).room }
+    requires room { vec_len doors.lanes + vec_len doors.lanes + 1 ≤ (view seat.old).room }
     requires staff { staff.end ≤ 16 }
     requires begun { (g : Givens) → (view seat.old).givens ≡ Some g → Holds g A.Link.shown A.standing A.faults None [] [] (view seat.old) }
     ensures seat { IsIdle (arc_value shared.now) seat.new }
@@ -99,7 +110,9 @@ where
     ensures served { (g : Givens) → (view seat.old).givens ≡ Some g → AllServed g A.Link.shown A.standing A.faults 0 doors result.0 result.1 (view seat.old) (view seat.new) }
     ensures threads { CountsThreads crew.old.faults crew.new.faults result.1.short }
 {
-    let (doors, outcome) = serve_doors::<T, R, A, G>(rt, alloc, shared, seat, crew, staff, doors);
+    let (doors, outcome) = serve_doors::<T, R, A, G>(
+        rt, alloc, shared, seat, crew, gate, staff, doors,
+    );
     if outcome.short.is_some() {
         return (doors, outcome);
     }

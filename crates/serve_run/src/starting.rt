@@ -2,6 +2,7 @@
 ghost use Rattle.std.specs.Prelude.{◌≡◌, ◌+◌, ◌<◌, IfOk, IfErr, OnOk, OnErr, Some};
 ghost use Rattle.std.specs.Arc.{arc_value};
 ghost use Rattle.poa_shared.specs.Seats.{IsIdle};
+ghost use Rattle.poa_worker.specs.Helping.{IsReady};
 ghost use Rattle.seat_lock.specs.Seats.{view};
 ghost use Rattle.serve_pieces.specs.Promises.{IsNumbered};
 ghost use Rattle.serve_run.specs.Starting.{IsKept, IsStarted};
@@ -10,19 +11,22 @@ ghost use Rattle.serve_run.specs.Threads.{CountsThreads};
 use crate::outcome::Want;
 use outside::{Acceptor, Gate, ThreadCrew, Ticket};
 use poa_shared::{Seat, Shared};
+use poa_worker::Aid;
 use serve_pieces::{Piece, Task};
 use std::alloc::Global;
 use std::sync::{Arc, Wait};
 use std::thread::Threads;
 
-/// The task of a piece that wasn't started, and for want of what.
+/// The task and the aid of a piece that wasn't started, and for want of what.
 #[derive(Drop)]
 pub struct Unstarted<A, G> {
     pub task: Task<A, G>,
+    pub aid: Aid,
     pub want: Want,
 }
 
-/// Starts a piece with this task on a new seat. Where it can't be started, its task is handed back, and its seat is joined.
+/// Starts a piece with this task and this aid on a new seat. Where it can't be started, both are handed back, and its seat is
+/// joined.
 pub fn start<T, R, A, G>(
     rt: &R,
     alloc: Global,
@@ -30,6 +34,7 @@ pub fn start<T, R, A, G>(
     seat: &mut Seat,
     crew: &mut ThreadCrew<T>,
     task: Task<A, G>,
+    aid: Aid,
 ) -> Result<Ticket<Piece<R, A, G>>, Unstarted<A, G>>
 where
     T: Threads + Wait + Drop,
@@ -40,12 +45,14 @@ where
     requires seat { IsIdle (arc_value shared.now) seat.old }
     requires room { 0 < (view seat.old).room }
     requires numbered { IsNumbered task }
+    requires aid { IsReady (arc_value shared.now) aid.seat }
     ensures seat { IsIdle (arc_value shared.now) seat.new }
     ensures kept { IsKept (view seat.old) (view seat.new) }
     ensures taken { OnOk result ((view seat.new).room + 1 ≡ (view seat.old).room) }
     ensures same { OnErr result ((view seat.new).room ≡ (view seat.old).room) }
-    ensures started { IfOk result (λ ticket. IsStarted (arc_value shared.now) task (view seat.old) ticket.promise.job.value) }
+    ensures started { IfOk result (λ ticket. IsStarted (arc_value shared.now) task aid.seat (view seat.old) ticket.promise.job.value) }
     ensures back { IfErr result (λ it. it.task ≡ task) }
+    ensures aid { IfErr result (λ it. it.aid ≡ aid) }
     ensures counted { OnOk result (crew.new.faults ≡ crew.old.faults) }
     ensures threads { IfErr result (λ it. CountsThreads crew.old.faults crew.new.faults (Some it.want)) }
 {
@@ -56,6 +63,7 @@ where
             shared.join(seat, own);
             return Err(Unstarted {
                 task,
+                aid,
                 want: Want::Memory,
             });
         }
@@ -65,6 +73,7 @@ where
         alloc,
         shared: shared_too,
         seat: own,
+        aid,
         task,
     };
     match crew.start(piece) {
@@ -72,12 +81,14 @@ where
         Err(piece) => {
             let Piece {
                 seat: own,
+                aid,
                 task,
                 ..
             } = piece;
             shared.join(seat, own);
             Err(Unstarted {
                 task,
+                aid,
                 want: Want::Thread,
             })
         }

@@ -18,7 +18,7 @@ use crate::shutting::{Staff, shut_down};
 use crate::starting::start;
 use outside::{Acceptor, Gate, ThreadCrew};
 use poa_shared::{Seat, Shared};
-use poa_worker::WorkEnd;
+use poa_worker::{Aid, WorkEnd};
 use serve_pieces::{PieceEnd, Task};
 use std::alloc::Global;
 use std::sync::{Arc, Wait};
@@ -52,7 +52,7 @@ where
     G: Gate + Send + Sync + Drop + 'static,
     requires seat { IsIdle (arc_value shared.now) seat.old }
     requires given { HasGivens (view seat.old) }
-    requires room { count + (vec_len doors.lanes + 1) ≤ (view seat.old).room }
+    requires room { count + (vec_len doors.lanes + vec_len doors.lanes + 1) ≤ (view seat.old).room }
     requires workers { workers ≤ 16 }
     requires count { count ≤ workers }
     requires begun { (g : Givens) → (view seat.old).givens ≡ Some g → Holds g A.Link.shown A.standing A.faults None [] [] (view seat.old) }
@@ -66,7 +66,7 @@ where
         end: workers,
     };
     if count == 0 {
-        return serve_and_shut::<T, R, A, G>(rt, alloc, shared, seat, crew, staff, doors);
+        return serve_and_shut::<T, R, A, G>(rt, alloc, shared, seat, crew, gate, staff, doors);
     }
     let Ok(own_gate) = Arc::try_clone(gate) else {
         let lost = shut_down(rt, shared, seat, staff);
@@ -76,7 +76,7 @@ where
         worker: count - 1,
         gate: own_gate,
     };
-    match start::<T, R, A, G>(rt, alloc, shared, seat, crew, task) {
+    match start::<T, R, A, G>(rt, alloc, shared, seat, crew, task, Aid::none()) {
         Ok(ticket) => {
             let (doors, outcome) = serve_workers::<T, R, A, G>(
                 rt,

@@ -1,5 +1,6 @@
 use Rattle.std.proofs.Common.{◌<◌, arith, rules, sym, subst, ap, le_trans, ◌∙◌}
 use Rattle.seat_lock.specs.Seats.{view}
+use Rattle.poa_worker.proofs.Helped.{aids_none, aids_through}
 use Rattle.poa_session.specs.declared.flow.Flow.TheVariants.{Broke, Ends}
 use Rattle.poa_session.proofs.Counted.{rose_after, rose_before}
 use Rattle.poa_session.proofs.Talking.{sits_broken, sits_ended, sits_new, sits_on}
@@ -9,6 +10,8 @@ pub loop-init : goal.loop-init
 loop-init g c = record {
   ends = (tt, tt);
   seat = search rules;
+  ready = c.requires.aid;
+  aids = aids_none c.args.aid.now.seat;
   conn = c.requires.conn;
   sits = λ givens given. sits_new givens c.args.peer c.args.conn (view c.args.seat.now) (g.L.Link.shown c.args.link.now) c.args.input.now c.requires.fresh c.requires.taken;
   writes = omega arith;
@@ -19,6 +22,8 @@ pub loop-preserved : goal.loop-preserved
 loop-preserved g c = record {
   ends = (tt, tt);
   seat = c.in-On.ensures.seat;
+  ready = c.in-On.ensures.ready;
+  aids = aids_through c.args.aid.now.seat c.loop.aid.seat c.round.new.aid.seat c.loop.invariant.aids c.in-On.ensures.aids;
   conn = c.in-On.ensures.conn;
   sits = λ givens given.
       (let before = c.loop.invariant.sits givens given in
@@ -69,3 +74,9 @@ pub returns-in-Broke-clause-written : goal.returns-in-Broke-clause-written
 returns-in-Broke-clause-written g c =
     (let was = c.loop.invariant.writes in
     record { later = le_trans was c.in-Broke.ensures.written.later; rose = λ is. rose_before _ _ _ was (c.in-Broke.ensures.written.rose (ap Broke is)) })
+
+pub returns-in-Ends-clause-aids : goal.returns-in-Ends-clause-aids
+returns-in-Ends-clause-aids g c = aids_through c.args.aid.now.seat c.loop.aid.seat c.round.new.aid.seat c.loop.invariant.aids c.in-Ends.ensures.aids
+
+pub returns-in-Broke-clause-aids : goal.returns-in-Broke-clause-aids
+returns-in-Broke-clause-aids g c = aids_through c.args.aid.now.seat c.loop.aid.seat c.round.new.aid.seat c.loop.invariant.aids c.in-Broke.ensures.aids

@@ -3,6 +3,7 @@ use Rattle.seat_lock.specs.Seats.{view}
 use Rattle.run_history.specs.declared.Givens.{Givens}
 use Rattle.poa_shared.specs.Seats.{IsIdle}
 use Rattle.poa_shared.specs.Seen.{HoldsConnection}
+use Rattle.poa_worker.specs.Helping.{Aids, IsReady}
 use Rattle.poa_session.proofs.Talking.{Sits}
 use Rattle.poa_session.proofs.conversing.talk.Given as goal
 
@@ -10,6 +11,8 @@ abbrev pub invariant-loop : goal.invariant-loop
 invariant-loop g l = record {
   ends : (goal.iterator-loop g).can_next l.iterator' × (goal.iterator-loop g).is_finite l.iterator';
   seat : IsIdle l.shared l.seat;
+  ready : IsReady l.shared l.aid.seat;
+  aids : Aids l.initial.aid.seat l.aid.seat;
   conn : HoldsConnection (view l.seat) l.conn;
   sits : (givens : Givens) → (view l.initial.seat).givens ≡ Some givens → Sits givens l.peer l.conn (view l.initial.seat) (g.L.Link.shown l.initial.link) (view l.seat) (g.L.Link.shown l.link) l.input;
   writes : (g.L.Link.shown l.initial.link).write_faults ≤ (g.L.Link.shown l.link).write_faults;

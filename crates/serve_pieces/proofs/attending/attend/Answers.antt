@@ -1,5 +1,6 @@
 use Rattle.std.proofs.Common.{◌∙◌, sym}
 use Rattle.seat_lock.specs.Seats.{view}
+use Rattle.poa_worker.proofs.Helped.{aids_none, aids_through}
 use Rattle.serve_pieces.proofs.Rounds.{rounds_end, rounds_looked, rounds_more, rounds_none, rounds_stop}
 use Rattle.serve_pieces.proofs.attending.attend.Goals as goal
 
@@ -7,6 +8,8 @@ pub loop-init : goal.loop-init
 loop-init g c = record {
   ends = (tt, tt);
   seat = c.requires.seat;
+  ready = c.requires.aid;
+  aids = aids_none c.args.aid.now.seat;
   rounds = λ k given. rounds_none k c.args.peer g.A.Link.Link.shown g.A.Acceptor.standing g.A.Acceptor.faults (view c.args.seat.now) c.args.door.now c.requires.fresh;
 }
 
@@ -30,6 +33,8 @@ pub loop-preserved : goal.loop-preserved
 loop-preserved g c = record {
   ends = (tt, tt);
   seat = c.phase-phase.ensures.seat;
+  ready = c.receive-received.ensures.ready;
+  aids = aids_through c.args.aid.now.seat c.loop.aid.seat c.receive-received.new.aid.seat c.loop.invariant.aids c.receive-received.ensures.aids;
   rounds = λ k given.
       rounds_looked k c.args.peer g.A.Link.Link.shown g.A.Acceptor.standing g.A.Acceptor.faults (view c.args.seat.now) c.args.door.now (view c.receive-received.new.seat) (view c.phase-phase.new.seat) c.receive-received.new.door c.noted-refused.result
       (rounds_more k c.args.peer g.A.Link.Link.shown g.A.Acceptor.standing g.A.Acceptor.faults (view c.args.seat.now) c.args.door.now (view c.loop.seat) (view c.receive-received.new.seat) c.loop.door c.receive-received.new.door c.loop.refused c.noted-refused.result c.receive-received.result
@@ -38,3 +43,9 @@ loop-preserved g c = record {
       c.noted-refused.ensures (sym c.ending.ensures ∙ c.in_default.is))
       given c.phase-phase.result c.phase-phase.ensures.phase;
 }
+
+pub returns-in-Some-ending-clause-aids : goal.returns-in-Some-ending-clause-aids
+returns-in-Some-ending-clause-aids g c = aids_through c.args.aid.now.seat c.loop.aid.seat c.receive-received.new.aid.seat c.loop.invariant.aids c.receive-received.ensures.aids
+
+pub returns-in-Some-stop_in-clause-aids : goal.returns-in-Some-stop_in-clause-aids
+returns-in-Some-stop_in-clause-aids g c = aids_through c.args.aid.now.seat c.loop.aid.seat c.receive-received.new.aid.seat c.loop.invariant.aids c.receive-received.ensures.aids

@@ -1,5 +1,6 @@
 use Rattle.std.proofs.Common.{◌≡◌, Some}
 use Rattle.poa_shared.specs.Seats.{IsIdle}
+use Rattle.poa_worker.specs.Helping.{Aids, IsReady}
 use Rattle.run_history.specs.declared.givens.Givens.{Givens}
 use Rattle.seat_lock.specs.Seats.{view}
 use Rattle.serve_pieces.proofs.Rounds.{Rounds}
@@ -9,5 +10,7 @@ abbrev pub invariant-loop : goal.invariant-loop
 invariant-loop g l = record {
   ends : (goal.iterator-loop g).can_next l.iterator' × (goal.iterator-loop g).is_finite l.iterator';
   seat : IsIdle l.shared l.seat;
+  ready : IsReady l.shared l.aid.seat;
+  aids : Aids l.fn.aid.seat l.aid.seat;
   rounds : (k : Givens) → (view l.fn.seat).givens ≡ Some k → Rounds {A = g.row.A.Denot} {L = g.row.A-Link.Denot} k l.peer g.A.Link.Link.shown g.A.Acceptor.standing g.A.Acceptor.faults (view l.fn.seat) l.fn.door (view l.seat) l.door l.refused;
 }

@@ -1,5 +1,6 @@
 use Rattle.std.proofs.Common.{◌≡◌, refl, ◌∙◌}
 use Rattle.outside.specs.declared.accepting.Door.TheVariants as door
+use Rattle.poa_worker.proofs.Helped.{aids_none}
 use Rattle.seat_lock.specs.Seats.{view}
 use Rattle.serve_pieces.specs.Visits.{Visit}
 use Rattle.serve_pieces.proofs.Passing.{passed_on}
@@ -17,3 +18,12 @@ returns-in-Link-clause-received g c = λ k first closed visits given so_far.
         steady = c.give_back.ensures.faults ∙ (c.in-Link.ensures.counted (λ (q : door.Link c.in-Link.link ≡ door.Failed). cc) ∙ so_far.steady);
       },
     )
+
+pub returns-in-Quiet-clause-aids : goal.returns-in-Quiet-clause-aids
+returns-in-Quiet-clause-aids g c = aids_none c.args.aid.now.seat
+
+pub returns-in-End-clause-aids : goal.returns-in-End-clause-aids
+returns-in-End-clause-aids g c = aids_none c.args.aid.now.seat
+
+pub returns-in-Failed-clause-aids : goal.returns-in-Failed-clause-aids
+returns-in-Failed-clause-aids g c = aids_none c.args.aid.now.seat

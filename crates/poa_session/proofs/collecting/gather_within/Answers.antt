@@ -3,7 +3,7 @@ use Rattle.std.specs.Prelude.{Ok}
 use Rattle.seat_lock.specs.Seats.{view}
 use Rattle.poa_session.specs.Paying.{NextGathered}
 use Rattle.poa_session.proofs.Replies.{gathers_all, gathers_lost, gathers_none, gathers_one}
-use Rattle.poa_session.proofs.collecting.gather.Goals as goal
+use Rattle.poa_session.proofs.collecting.gather_within.Goals as goal
 
 pub loop-init : goal.loop-init
 loop-init g c = record {

@@ -4,7 +4,7 @@ use Rattle.run_history.specs.declared.Givens.{Givens}
 use Rattle.poa_shared.specs.Seats.{IsIdle}
 use Rattle.poa_shared.specs.Seen.{HoldsConnection}
 use Rattle.poa_session.proofs.Replies.{GathersOn}
-use Rattle.poa_session.proofs.collecting.gather.Given as goal
+use Rattle.poa_session.proofs.collecting.gather_within.Given as goal
 
 abbrev pub invariant-loop : goal.invariant-loop
 invariant-loop g l = record {

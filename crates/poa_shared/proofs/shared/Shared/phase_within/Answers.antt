@@ -3,7 +3,7 @@ use Rattle.run_tally.specs.Phases.{phase_of}
 use Rattle.poa_base.specs.declared.Entry.TheVariants.{Left}
 use Rattle.poa_shared.proofs.Made.{not_longer}
 use Rattle.poa_shared.proofs.Taking.{event, holds_after}
-use Rattle.poa_shared.proofs.shared.Shared.phase.Goals as goal
+use Rattle.poa_shared.proofs.shared.Shared.phase_within.Goals as goal
 
 pub returns-clause-phase : goal.returns-clause-phase
 returns-clause-phase g c =

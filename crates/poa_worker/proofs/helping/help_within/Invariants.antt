@@ -1,0 +1,12 @@
+use Rattle.std.specs.Prelude.{◌≡◌, Some}
+use Rattle.run_history.specs.declared.givens.Givens.{Givens}
+use Rattle.poa_shared.specs.Seats.{IsIdle}
+use Rattle.poa_worker.specs.Helping.{Helps}
+use Rattle.seat_lock.specs.Seats.{view}
+use Rattle.poa_worker.proofs.helping.help_within.Given as goal
+
+abbrev pub invariant-loop : goal.invariant-loop
+invariant-loop G l = record {
+  seat : IsIdle l.shared l.seat;
+  so_far : (g : Givens) → (view l.fn.seat).givens ≡ Some g → Helps (view l.fn.seat) (view l.seat);
+}
