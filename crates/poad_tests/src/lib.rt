@@ -1,5 +1,20 @@
-//! Each status of the program, with its number and its line. It is tests alone.
+//! What the tables of cases don't reach: the texts of faults, journals that are read, what a view lends, streams of millions
+//! of parts, and what is said of an illegal history. It is tests alone.
 #![tactic(auto)]
 
 #[cfg(test)]
+mod fields;
+#[cfg(test)]
+mod journals;
+#[cfg(test)]
+mod legality;
+#[cfg(test)]
+mod lent;
+#[cfg(test)]
+mod replies;
+#[cfg(test)]
+mod states;
+#[cfg(test)]
 mod statuses;
+#[cfg(test)]
+mod streams;

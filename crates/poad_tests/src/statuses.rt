@@ -1,3 +1,4 @@
+//! Each status of the program, with its number and its line.
 use conf_toml::ConfFault;
 use ior_text::IorFault;
 use poad_files::Status;

@@ -1,3 +1,4 @@
+//! The fields of the Common Data Representation, read and written at known bytes.
 use cdr_core::*;
 use std::alloc::Global;
 use std::process::Abort;

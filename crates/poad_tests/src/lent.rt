@@ -1,10 +1,38 @@
 //! Where the parts lie that a view of a message lends.
 
-use crate::told::first;
-use crate::vectors::{ADD, ADD_BY_REFERENCE, GET_BY_NO_KEY, GET_BY_PROFILE, LOCATE};
+use giop_frame::frame;
 use giop_msg::{Seen, view_call};
 use std::alloc::Global;
 use std::test::Fail;
+
+/// The longest stream that is read.
+const LONGEST: usize = 4096;
+
+/// `add` of 5 with id 1, little-endian.
+const ADD: &str =
+    "47494f50010201003c00000001000000030000000000000018000000504f410100000000010000000000000800000001\
+000000010400000061646400000000000500000000000000";
+
+/// A LocateRequest with id 3 for the object of the same key.
+const LOCATE: &str =
+    "47494f500102010324000000030000000000000018000000504f41010000000001000000000000080000000100000001";
+
+/// `get` with id 1 of the object that a profile tells.
+const GET_BY_PROFILE: &str =
+    "47494f5001020100540000000100000003000000010000000000000034000000000102000000000a3132372e30\
+2e302e31000af900000018504f4101000000000100000000000008000000010000000100000000040000006765\
+740000000000";
+
+/// `add` of 5 with id 2 of the object that the second profile of a reference tells.
+const ADD_BY_REFERENCE: &str =
+    "47494f50010201007c000000020000000300000002000000010000000100000000000000020000000700000002\
+000000aabb00000000000034000000000102000000000a3132372e302e302e31000af900000018504f41010000\
+000001000000000000080000000100000001000000000400000061646400000000000000000005000000000000\
+00";
+
+/// `get` with id 1 of the object that a profile of tag 7 tells.
+const GET_BY_NO_KEY: &str =
+    "47494f5001020100200000000100000003000000010000000700000000000000040000006765740000000000";
 
 #[test]
 fn a_request_lends_its_key_its_operation_and_its_body(rt: HostRuntime) -> Result<(), Fail> {
@@ -44,11 +72,16 @@ fn a_key_is_lent_from_inside_its_profile(rt: HostRuntime) -> Result<(), Fail> {
 /// What the first message of a stream lends, and from where. The stream is in hexadecimal digits.
 fn lent(alloc: Global, stream: &str) -> Result<String, Fail> {
     let stream = hex::decode(alloc, stream)?;
-    let Some(message) = first(alloc, stream.as_slice())? else {
+    let frames = frame(
+        alloc,
+        1_048_576,
+        &[&stream.as_slice()[..stream.len().min(LONGEST)]],
+    )?;
+    let Some(message) = frames.messages.first() else {
         return Ok(format!(in alloc; "no message")?);
     };
     let bytes = message.bytes();
-    match view_call(&message) {
+    match view_call(message) {
         Ok(
             Seen::Request {
                 target,

@@ -1,3 +1,4 @@
+//! Known journals and stores, read and printed.
 use poa_base::{Entry, Items, Journal, Store};
 use poa_journal::*;
 use std::test::Fail;
@@ -37,6 +38,8 @@ admit 1 13 answer ok h:0000000100000001
 admit 1 14 answer ok IOR:00ff
 admit 1 15 answer no TooMany 65536
 admit 1 16 answer no BadWord 3
+admit 1 17 answer no ServantAlreadyActive
+admit 1 18 answer no NoForward
 incarnated 2 named r
 incarnated 2 double
 incarnated 2 forward 127.0.0.1 1
@@ -56,7 +59,7 @@ fn each_line_reads_and_prints_as_it_stands(rt: HostRuntime) -> Result<(), Fail> 
     let alloc = rt.alloc();
     let journal = read(alloc, WHOLE)?;
     assert_eq!(rt; journal.run, 7);
-    assert_eq!(rt; journal.entries.len(), 44);
+    assert_eq!(rt; journal.entries.len(), 46);
     assert_eq!(rt; print(alloc, &journal)?.as_slice(), WHOLE);
     Ok(())
 }
@@ -64,7 +67,7 @@ fn each_line_reads_and_prints_as_it_stands(rt: HostRuntime) -> Result<(), Fail> 
 #[test]
 fn the_first_line_outside_the_grammar_is_told(rt: HostRuntime) -> Result<(), Fail> {
     let alloc = rt.alloc();
-    let cases: [(&[u8], u64); 16] = [
+    let cases: [(&[u8], u64); 17] = [
         (b"", 1),
         (b"\n", 1),
         (b"journal 2 run 1\n", 1),
@@ -81,6 +84,7 @@ fn the_first_line_outside_the_grammar_is_told(rt: HostRuntime) -> Result<(), Fai
         (b"journal 1 run 1\nadmit 0 0 refuse MARSHAL FFFFF008\n", 2),
         (b"journal 1 run 1\nadmit 0 0 forward h.example 0\n", 2),
         (b"journal 1 run 1\narrive 0 9 line 1 deactivate / t:zz\n", 2),
+        (b"journal 1 run 1\nadmit 1 12 answer no NoServant 1\n", 2),
     ];
     for (text, want) in &cases {
         match read(alloc, text) {

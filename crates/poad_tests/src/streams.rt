@@ -1,0 +1,106 @@
+//! Streams of a stranger's sizes, and why a header is bad.
+ghost use Rattle.std.specs.Prelude.{◌<◌, ◌^◌, length};
+
+use giop_frame::{Frames, Message, Next, Why, each_text_has_one_stream, frame};
+use poa_base::WantMemory;
+use std::alloc::Global;
+use std::test::Fail;
+
+const LIMIT: u32 = 1_048_576;
+
+/// A Request with id 2 of the operation `get`.
+const GET: &[u8] =
+    b"GIOP\x01\x02\x01\x004\x00\x00\x00\x02\x00\x00\x00\x03\x00\x00\x00\x00\x00\x00\x00\x18\x00\x00\x00POA\x01\x00\x00\x00\x00\x01\x00\x00\x00\x00\x00\x00\x08\x00\x00\x00\x01\x00\x00\x00\x01\x04\x00\x00\x00get\x00\x00\x00\x00\x00";
+
+/// A little-endian header of GIOP 1.2.
+fn header(flags: u8, kind: u8, size: u32) -> [u8; 12] {
+    let [a, b, c, d] = size.to_le_bytes();
+    [b'G', b'I', b'O', b'P', 1, 2, flags, kind, a, b, c, d]
+}
+
+/// Puts a little-endian part of this id behind a text, filled with zeros.
+fn put_part(
+    text: &mut Vec<u8>,
+    flags: u8,
+    kind: u8,
+    id: u32,
+    filling: &[u8],
+) -> Result<(), WantMemory>
+    requires { length filling.now < 2 ^ 31 }
+{
+    text.extend_from_slice(&header(flags, kind, filling.len() as u32 + 4))?;
+    text.extend_from_slice(&id.to_le_bytes())?;
+    text.extend_from_slice(filling)
+}
+
+/// Whether these are the messages, by their places and bytes.
+fn gives(frames: &Frames, messages: &[(u64, &[u8])]) -> bool {
+    let mut same = frames.messages.len() == messages.len();
+    for (message, (at, bytes)) in frames.messages.iter().zip(messages) {
+        same = same && message.at() == *at && message.bytes() == *bytes;
+    }
+    same
+}
+
+/// Whether this place is bad for this reason.
+fn fails(frames: &Frames, place: u64, reason: Why) -> bool {
+    match frames.last {
+        Next::Bad { at, why } => at == place && why == reason,
+        _ => false,
+    }
+}
+
+#[test]
+fn opens_a_million_messages_and_refuses_one_more(rt: HostRuntime) -> Result<(), Fail> {
+    let mut text = Vec::new(rt.alloc());
+    for id in 0..1_048_577u32 {
+        put_part(&mut text, 3, 3, id, &[])?;
+    }
+    assert_eq!(rt; text.len(), 16_777_232);
+    let frames = frame(rt.alloc(), LIMIT, &[text.as_slice()])?;
+    assert!(rt; fails(&frames, 16_777_216, Why::TooLong));
+    Ok(())
+}
+
+#[test]
+fn joins_a_hundred_thousand_empty_fragments(rt: HostRuntime) -> Result<(), Fail> {
+    let mut text = Vec::new(rt.alloc());
+    put_part(&mut text, 3, 0, 9, &[])?;
+    for _ in 0..100_000u32 {
+        put_part(&mut text, 3, 7, 9, &[])?;
+    }
+    put_part(&mut text, 1, 7, 9, b"end")?;
+    assert_eq!(rt; text.len(), 1_600_035);
+    let frames = frame(rt.alloc(), LIMIT, &[text.as_slice()])?;
+    let joined = b"GIOP\x01\x02\x03\x00\x04\x00\x00\x00\x09\x00\x00\x00end";
+    assert!(rt; gives(&frames, &[(0, joined)]));
+    Ok(())
+}
+
+#[test]
+fn tells_why_a_header_is_bad(rt: HostRuntime) -> Result<(), Fail> {
+    let cases = [
+        (b"GIOQ\x01\x02\x01\x00\x00\x00\x00\x00", Why::BadMagic),
+        (b"GIOP\x01\x01\x01\x00\x00\x00\x00\x00", Why::BadVersion),
+        (b"GIOP\x01\x02\x01\x08\x00\x00\x00\x00", Why::BadType),
+        (b"GIOP\x01\x02\x03\x01\x01\x00\x10\x00", Why::TooLong),
+        (b"GIOP\x01\x02\x01\x07\x04\x00\x00\x00", Why::StrayFragment),
+        (b"GIOP\x01\x02\x03\x01\x04\x00\x00\x00", Why::BadFragment),
+        (b"GIOP\x01\x02\x03\x00\x03\x00\x00\x00", Why::BadFragment),
+    ];
+    for (text, why) in cases {
+        assert!(rt; fails(&frame(rt.alloc(), LIMIT, &[text.as_slice()])?, 0, why));
+    }
+    Ok(())
+}
+
+#[test]
+fn makes_a_message_and_gives_its_bytes(rt: HostRuntime) -> Result<(), Fail> {
+    each_text_has_one_stream();
+    for message in frame(rt.alloc(), LIMIT, &[GET])?.messages {
+        let again = Message::new(7, message.into_bytes());
+        assert_eq!(rt; again.at(), 7);
+        assert_eq!(rt; again.into_bytes().as_slice(), GET);
+    }
+    Ok(())
+}
