@@ -1,0 +1,93 @@
+//! A session from its beginning to its end.
+use crate::messages::CALLS;
+use crate::worked_link::WorkedLink;
+use conf_toml::read_config;
+use outside_memory::MemLink;
+use poa_base::{Entry, Session, Store, WantMemory};
+use poa_core::Core;
+use poa_session::serve_link;
+use poa_shared::Shared;
+use poa_worker::Aid;
+use std::alloc::Global;
+use std::sync::{Arc, Wait};
+
+/// An object with a number.
+const OBJECT: &[u8] = b"root = \"active\"
+[[servant]]
+name = \"counter\"
+kind = \"register\"
+[[object]]
+adapter = \"/\"
+servant = \"counter\"
+";
+
+/// What the reads give at most, in turn: the first call, a part of the second, and what is left of them.
+const PIECES: [usize; 3] = [72, 40, 96];
+
+/// What a session left.
+#[derive(Drop)]
+pub struct Played {
+    pub core: Core,
+    pub session: Session,
+    link: MemLink,
+}
+
+impl Played {
+    /// How many calls arrived.
+    pub fn arrived(&self) -> usize {
+        self.core
+            .entries()
+            .iter()
+            .filter(|entry| matches!(entry, Entry::Arrive { .. }))
+            .count()
+    }
+
+    /// How many replies were given.
+    pub fn given(&self) -> usize {
+        self.core
+            .entries()
+            .iter()
+            .filter(|entry| matches!(entry, Entry::Collect { .. }))
+            .count()
+    }
+
+    /// The bytes that were written to the client.
+    pub fn written(&self) -> &[u8] {
+        self.link.held()
+    }
+}
+
+/// What the client sends.
+fn input(alloc: Global) -> Result<Vec<u8>, WantMemory> {
+    let mut input = Vec::new(alloc);
+    for call in &CALLS {
+        input.extend_from_slice(call)?;
+    }
+    Ok(input)
+}
+
+/// Plays the session.
+pub fn play<R: Wait + Copy + Drop>(rt: &R, alloc: Global) -> Result<Played, WantMemory> {
+    let Ok(config) = read_config(alloc, OBJECT) else {
+        return Err(WantMemory);
+    };
+    let core = Core::new(alloc, config, 1, Store::new(alloc), 4_000_000)?;
+    let (shared, mut seat) = Shared::new(alloc, core)?;
+    let shared = Arc::new(alloc, shared)?;
+    let mut link = WorkedLink {
+        rt: *rt,
+        link: MemLink::new(alloc, input(alloc)?, Vec::from_slice(alloc, &PIECES)?),
+        shared: Arc::try_clone(&shared)?,
+        seat: shared.split(&mut seat),
+    };
+    let mut aid = Aid {
+        seat: Some(shared.split(&mut seat)),
+    };
+    let session = serve_link(rt, alloc, &*shared, &mut seat, &mut aid, &mut link);
+    let WorkedLink { link, .. } = link;
+    Ok(Played {
+        core: shared.finish(rt, seat),
+        session,
+        link,
+    })
+}
