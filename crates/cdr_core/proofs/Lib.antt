@@ -4,3 +4,5 @@ pub mod Bodies
 pub mod OneReading
 pub mod Refusals
 pub mod Written
+pub mod Slices
+pub mod Lying

@@ -6,6 +6,7 @@ use Rattle.cdr_core.specs.Field.{Field, kind_of, Fits}
 use Rattle.cdr_core.specs.Spelling.{Spells, written}
 use Rattle.cdr_core.specs.Cursor.{Cursor, Reads, Skips}
 use Rattle.cdr_core.specs.Refusal.{Refuses, LacksPadding}
+use Rattle.cdr_core.specs.Part.{IsSlice, LiesAt, StandsIn}
 
 -- a place has at most one field of a kind, and one end of it
 abbrev pub OneReading : Type 0
@@ -37,3 +38,15 @@ WrittenSpells = (little : Bool) (place : ℕ) (f : Field) → Fits f → Spells 
 abbrev pub WrittenReadsBack : Type 0
 WrittenReadsBack =
     (f : Field) (c : Cursor) (more : List ℕ) → Fits f → c.rest ≡ written c.little c.place f ++ more → Reads f c (record c { place = c.place + length (written c.little c.place f); rest = more })
+
+-- what stands in a message stands in it behind each field that is read
+abbrev pub StandsBehind : Type 0
+StandsBehind = (bytes : List ℕ) (field : Field) (c after : Cursor) → StandsIn bytes c → Reads field c after → StandsIn bytes after
+
+-- and what lies at a place there is the slice of the message at that place
+abbrev pub LiesInMessage : Type 0
+LiesInMessage = (bytes part : List ℕ) (place : ℕ) (c : Cursor) → StandsIn bytes c → LiesAt place part c → IsSlice place part bytes
+
+-- a slice of a slice, as of an encapsulation in a message
+abbrev pub SliceOfSlice : Type 0
+SliceOfSlice = (bytes inner part : List ℕ) (place at : ℕ) → IsSlice place inner bytes → IsSlice at part inner → IsSlice (place + at) part bytes

@@ -5,4 +5,6 @@ pub mod Cursor
 pub mod Draft
 pub mod Fields
 pub mod Refusal
+pub mod Fault
+pub mod Part
 pub mod Laws

@@ -1,6 +1,8 @@
 ghost use Rattle.std.specs.Prelude.{◌≡◌};
+ghost use Rattle.cdr_core.specs.Fault.{refusal};
 ghost use Rattle.cdr_core.specs.declared.fault.CdrFault.TheVariants.{WantMemory};
 
+use crate::part_fault::PartFault;
 use std::alloc::AllocError;
 use std::error::Error;
 use std::fmt;
@@ -25,6 +27,18 @@ impl From<AllocError> for CdrFault {
 
     fn from(_refused: AllocError) -> CdrFault {
         CdrFault::WantMemory
+    }
+}
+
+impl From<PartFault> for CdrFault {
+    ghost from_gives = { λ part fault. fault ≡ refusal part };
+
+    fn from(part: PartFault) -> CdrFault {
+        match part {
+            PartFault::Short { need, have } => CdrFault::Short { need, have },
+            PartFault::BadBool { value } => CdrFault::BadBool { value },
+            PartFault::NoNul => CdrFault::NoNul,
+        }
     }
 }
 

@@ -1,6 +1,6 @@
 //! Laws of the CDR spelling, which hold of every message. The functions do nothing: their contracts are the
 //! laws, and the lemmas of the same content are exported for the proofs of crates above.
-ghost use Rattle.cdr_core.specs.Laws.{OneReading, NoneWhereRefused, OneRefusal, OneSkip, NoSkipWhereLacking, WrittenSpells, WrittenReadsBack};
+ghost use Rattle.cdr_core.specs.Laws.{OneReading, NoneWhereRefused, OneRefusal, OneSkip, NoSkipWhereLacking, WrittenSpells, WrittenReadsBack, StandsBehind, LiesInMessage, SliceOfSlice};
 
 /// A place has at most one field of a kind, and one end of it.
 pub fn one_reading()
@@ -35,4 +35,19 @@ pub fn written_spells()
 /// What is written of a field is read back as that field, whatever follows.
 pub fn written_reads_back()
     ensures { WrittenReadsBack }
+{}
+
+/// A view of a message stands in it behind each field that it reads.
+pub fn stands_behind()
+    ensures { StandsBehind }
+{}
+
+/// A part that lies at a place of a view that stands in a message is the slice of the message at that place.
+pub fn lies_in_message()
+    ensures { LiesInMessage }
+{}
+
+/// A slice of a slice of a message is a slice of the message, at the sum of the places.
+pub fn slice_of_slice()
+    ensures { SliceOfSlice }
 {}

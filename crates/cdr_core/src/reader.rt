@@ -1,35 +1,28 @@
-ghost use Rattle.std.specs.Prelude.{◌≡◌, ◌+◌, ◌^◌, ◌<◌, ◌-◌, ◌≢◌, ◌⊎◌, length, slice_index, IfOk, IfErr, OnOk, OnErr};
+//! Fields that are copied from where they lie.
+ghost use Rattle.std.specs.Prelude.{◌≡◌, ◌+◌, ◌^◌, ◌<◌, ◌⊎◌, length, IfOk, IfErr, OnOk, OnErr};
 ghost use Rattle.cdr_core.specs.Kind.{Octet, UShort, ULong, LongLong, Boolean, Text, Octets};
 ghost use Rattle.cdr_core.specs.Field.{octet, ushort, ulong, longlong, boolean, text, octets};
-ghost use Rattle.std.specs.Int.{w64};
-ghost use Rattle.cdr_core.specs.Spelling.{number_bytes};
-ghost use Rattle.cdr_core.specs.Cursor.{Cursor, Reads, Skips, Takes, Counts, EndsInNul, IsUnit};
-ghost use Rattle.cdr_core.specs.Refusal.{Refuses, LacksPadding, LacksBytes, IsShort};
+ghost use Rattle.cdr_core.specs.Cursor.{Cursor, Reads, Skips, IsUnit};
+ghost use Rattle.cdr_core.specs.Refusal.{Refuses, LacksPadding};
 
 use crate::fault::CdrFault;
-use crate::gap::padding;
+use crate::view::View;
 use std::alloc::Global;
 use std::marker::Model;
 
-/// Reads the fields of a CDR message or encapsulation, one behind the other. Each read passes the padding up
-/// to the field's alignment, whose bytes may have any value, and then the field; a refused read leaves the
-/// reader as it was. Contracts see it as a cursor: byte order, place and unread bytes.
+/// Reads the fields of a CDR message or encapsulation, one behind the other, as a [`View`] does, and copies
+/// the bytes of strings and sequences. A refused read leaves the reader as it was.
 #[derive(Drop)]
 pub struct Reader<'a> {
-    rest: &'a [u8],
-    little: bool,
-    place: u64,
+    view: View<'a>,
 }
 
 impl<'a> Model for Reader<'a> {
-    ghost use Rattle.std.specs.Prelude.{◌+◌, ◌^◌, ◌<◌, length};
     ghost use Rattle.cdr_core.specs.Cursor.{Cursor};
 
     ghost Value = { Cursor };
 
-    ghost view = { λ r. record { little = r.little; place = r.place; rest = r.rest.now } };
-
-    ghost invariant = { λ r. r.place + length r.rest.now < 2 ^ 64 };
+    ghost view = { λ r. r.view };
 }
 
 impl<'a> Reader<'a> {
@@ -40,9 +33,7 @@ impl<'a> Reader<'a> {
         ensures { result ≡ record { little = little; place = base; rest = bytes.now } }
     {
         Reader {
-            rest: bytes,
-            little,
-            place: base,
+            view: View::new(bytes, little, base),
         }
     }
 
@@ -51,7 +42,7 @@ impl<'a> Reader<'a> {
         ensures value { result ≡ self.now.place }
         ensures bound { self.now.place + length self.now.rest < 2 ^ 64 }
     {
-        self.place
+        self.view.place()
     }
 
     /// Passes the padding up to the next multiple of `unit`, which is 1, 2, 4 or 8. `Short` where that padding
@@ -62,14 +53,7 @@ impl<'a> Reader<'a> {
         ensures refused { IfErr result (λ e. LacksPadding unit self.old e) }
         ensures err { OnErr result (self.new ≡ self.old) }
     {
-        let need = padding(unit, self.place);
-        let have = self.rest.len() as u64;
-        if have < need {
-            return Err(CdrFault::Short { need, have });
-        }
-        let (_, rest) = self.rest.split_at(need as usize);
-        self.rest = rest;
-        self.place += need;
+        self.view.skip_to(unit)?;
         Ok(())
     }
 
@@ -79,8 +63,7 @@ impl<'a> Reader<'a> {
         ensures refused { IfErr result (λ e. Refuses Octet self.old e) }
         ensures err { OnErr result (self.new ≡ self.old) }
     {
-        let body = self.number(1)?;
-        Ok(body[0])
+        Ok(self.view.octet()?)
     }
 
     /// An unsigned short at a multiple of 2. `Short` where its 2 bytes aren't left behind the padding.
@@ -89,14 +72,7 @@ impl<'a> Reader<'a> {
         ensures refused { IfErr result (λ e. Refuses UShort self.old e) }
         ensures err { OnErr result (self.new ≡ self.old) }
     {
-        let little = self.little;
-        let body = self.number(2)?;
-        let bytes = [body[0], body[1]];
-        Ok(if little {
-            u16::from_le_bytes(bytes)
-        } else {
-            u16::from_be_bytes(bytes)
-        })
+        Ok(self.view.ushort()?)
     }
 
     /// An unsigned long, or an enum, at a multiple of 4. `Short` where its 4 bytes aren't left behind the
@@ -106,14 +82,7 @@ impl<'a> Reader<'a> {
         ensures refused { IfErr result (λ e. Refuses ULong self.old e) }
         ensures err { OnErr result (self.new ≡ self.old) }
     {
-        let little = self.little;
-        let body = self.number(4)?;
-        let bytes = [body[0], body[1], body[2], body[3]];
-        Ok(if little {
-            u32::from_le_bytes(bytes)
-        } else {
-            u32::from_be_bytes(bytes)
-        })
+        Ok(self.view.ulong()?)
     }
 
     /// A signed long long at a multiple of 8. `Short` where its 8 bytes aren't left behind the padding.
@@ -122,8 +91,7 @@ impl<'a> Reader<'a> {
         ensures refused { IfErr result (λ e. Refuses LongLong self.old e) }
         ensures err { OnErr result (self.new ≡ self.old) }
     {
-        let bits = self.eight()?;
-        Ok(bits.cast_signed())
+        Ok(self.view.longlong()?)
     }
 
     /// A boolean, an octet 0 or 1. `Short` where no octet is left, `BadBool` where it is above 1.
@@ -132,13 +100,7 @@ impl<'a> Reader<'a> {
         ensures refused { IfErr result (λ e. Refuses Boolean self.old e) }
         ensures err { OnErr result (self.new ≡ self.old) }
     {
-        let mut ahead = self.copy();
-        let value = ahead.octet()?;
-        if value > 1 {
-            return Err(CdrFault::BadBool { value });
-        }
-        *self = ahead;
-        Ok(value == 1)
+        Ok(self.view.boolean()?)
     }
 
     /// A string, without its final NUL: a ulong length that counts the NUL, and as many bytes. Length 0 is
@@ -149,11 +111,10 @@ impl<'a> Reader<'a> {
         ensures refused { IfErr result (λ e. (e ≡ CdrFault.WantMemory) ⊎ Refuses Text self.old e) }
         ensures err { OnErr result (self.new ≡ self.old) }
     {
-        let mut ahead = self.copy();
-        let counted = ahead.counted()?;
-        let bytes = without_nul(counted)?;
-        let kept = Vec::from_slice(alloc, bytes)?;
-        *self = ahead;
+        let mut ahead = self.view.copy();
+        let part = ahead.text()?;
+        let kept = Vec::from_slice(alloc, part)?;
+        self.view = ahead;
         Ok(kept)
     }
 
@@ -164,89 +125,10 @@ impl<'a> Reader<'a> {
         ensures refused { IfErr result (λ e. (e ≡ CdrFault.WantMemory) ⊎ Refuses Octets self.old e) }
         ensures err { OnErr result (self.new ≡ self.old) }
     {
-        let mut ahead = self.copy();
-        let counted = ahead.counted()?;
-        let kept = Vec::from_slice(alloc, counted)?;
-        *self = ahead;
+        let mut ahead = self.view.copy();
+        let part = ahead.octets()?;
+        let kept = Vec::from_slice(alloc, part)?;
+        self.view = ahead;
         Ok(kept)
-    }
-
-    // A reader that stands at the same place, to read ahead with.
-    fn copy(&self) -> Reader<'a>
-        ensures { result ≡ self.now }
-    {
-        Reader {
-            rest: self.rest,
-            little: self.little,
-            place: self.place,
-        }
-    }
-
-    // The bytes of a number of this size, which is its alignment too; they are not copied.
-    fn number(&mut self, size: u64) -> Result<&'a [u8], CdrFault>
-        requires { IsUnit size }
-        ensures ok { IfOk result (λ body. Takes size body.now self.old self.new) }
-        ensures refused { IfErr result (λ e. IsShort size self.old e) }
-        ensures err { OnErr result (self.new ≡ self.old) }
-    {
-        let gap = padding(size, self.place);
-        let have = (self.rest.len() as u64).saturating_sub(gap);
-        if have < size {
-            return Err(CdrFault::Short { need: size, have });
-        }
-        let (_, behind) = self.rest.split_at(gap as usize);
-        let (body, rest) = behind.split_at(size as usize);
-        self.rest = rest;
-        self.place += gap + size;
-        Ok(body)
-    }
-
-    // Eight bytes at a multiple of 8, as an unsigned number.
-    fn eight(&mut self) -> Result<u64, CdrFault>
-        ensures ok { IfOk result (λ n. Takes 8 (number_bytes self.old.little w64 n) self.old self.new) }
-        ensures refused { IfErr result (λ e. IsShort 8 self.old e) }
-        ensures err { OnErr result (self.new ≡ self.old) }
-    {
-        let little = self.little;
-        let body = self.number(8)?;
-        let bytes = [
-            body[0], body[1], body[2], body[3], body[4], body[5], body[6], body[7],
-        ];
-        Ok(if little {
-            u64::from_le_bytes(bytes)
-        } else {
-            u64::from_be_bytes(bytes)
-        })
-    }
-
-    // A ulong length and as many bytes, which are not copied.
-    fn counted(&mut self) -> Result<&'a [u8], CdrFault>
-        ensures ok { IfOk result (λ bytes. Counts bytes.now self.old self.new) }
-        ensures refused { IfErr result (λ e. IsShort 4 self.old e ⊎ LacksBytes self.old e) }
-        ensures err { OnErr result (self.new ≡ self.old) }
-    {
-        let mut ahead = self.copy();
-        let need = u64::from(ahead.ulong()?);
-        let have = ahead.rest.len() as u64;
-        if have < need {
-            return Err(CdrFault::Short { need, have });
-        }
-        let (bytes, rest) = ahead.rest.split_at(need as usize);
-        ahead.rest = rest;
-        ahead.place += need;
-        *self = ahead;
-        Ok(bytes)
-    }
-}
-
-// What stands in front of the final NUL of a string's bytes; no bytes at all are an empty string too.
-fn without_nul<'a>(bytes: &'a [u8]) -> Result<&'a [u8], CdrFault>
-    ensures ok { IfOk result (λ front. EndsInNul front.now bytes.now) }
-    ensures refused { IfErr result (λ e. (e ≡ CdrFault.NoNul) × (0 < length bytes.now) × (slice_index bytes.now (length bytes.now - 1) ≢ 0)) }
-{
-    match bytes {
-        [] => Ok(bytes),
-        [front @ .., 0] => Ok(front),
-        [..] => Err(CdrFault::NoNul),
     }
 }

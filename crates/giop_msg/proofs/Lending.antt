@@ -6,9 +6,9 @@ use Rattle.std.proofs.Math.ListN.{drop_of_length-le}
 use Rattle.cdr_core.specs.Field.{ushort, ulong, text}
 use Rattle.cdr_core.specs.Spelling.{gap}
 use Rattle.cdr_core.specs.Cursor.{Cursor}
-use Rattle.cdr_view.specs.Part.{IsSlice, StandsIn, counted_at}
-use Rattle.cdr_view.proofs.Slices.{stands_behind, lies_in_message, slice_of_slice}
-use Rattle.cdr_view.proofs.Lying.{octets_lie, text_lies}
+use Rattle.cdr_core.specs.Part.{IsSlice, StandsIn, counted_at}
+use Rattle.cdr_core.proofs.Slices.{stands_behind, lies_in_message, slice_of_slice}
+use Rattle.cdr_core.proofs.Lying.{octets_lie, text_lies}
 use Rattle.poa_names.specs.declared.Ior.{Ior}
 use Rattle.poa_names.specs.declared.Profile.{Profile}
 use Rattle.poa_base.specs.declared.Body.{Body}

@@ -3,8 +3,8 @@ use Rattle.std.proofs.Common.{◌≡◌, ℕ, ◌≤◌, List, [], ◌∷◌, Op
 use Rattle.cdr_core.specs.Field.{Field, ushort, ulong, text, octets}
 use Rattle.cdr_core.specs.Cursor.{Cursor, Reads}
 use Rattle.cdr_core.proofs.OneReading.{same_cursor}
-use Rattle.cdr_view.specs.Part.{StandsIn}
-use Rattle.cdr_view.proofs.Slices.{stands_behind}
+use Rattle.cdr_core.specs.Part.{StandsIn}
+use Rattle.cdr_core.proofs.Slices.{stands_behind}
 use Rattle.poa_names.specs.declared.Profile.{Profile}
 use Rattle.giop_frame.specs.Part.{is_little}
 use Rattle.ior_profile.specs.Tagged.{ReadsProfile, ReadsProfiles}

@@ -2,7 +2,7 @@
 use Rattle.std.specs.Prelude.{◌≡◌, ℕ, ◌+◌, List, Option, Some, IfSome, slice_get, take, ⊤}
 use Rattle.cdr_core.specs.Field.{ulong}
 use Rattle.cdr_core.specs.Cursor.{Cursor, Reads}
-use Rattle.cdr_view.specs.Part.{IsSlice, counted_at}
+use Rattle.cdr_core.specs.Part.{IsSlice, counted_at}
 use Rattle.poa_names.specs.declared.Ior.{Ior}
 use Rattle.poa_names.specs.declared.Profile.{Profile}
 use Rattle.poa_base.specs.declared.Body.{Body}

@@ -15,7 +15,7 @@ use crate::seen::Seen;
 use crate::target::view_target;
 use crate::view_fault::Unreadable;
 use crate::viewing::{enter, is_little};
-use cdr_view::{PartFault, View};
+use cdr_core::{PartFault, View};
 use poa_base::Head;
 
 /// The first fields of a Request.

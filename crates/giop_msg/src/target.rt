@@ -4,7 +4,7 @@ ghost use Rattle.giop_msg.specs.Target.{IsTarget, IsAddress};
 ghost use Rattle.giop_msg.specs.Reading.{NoTarget, NoAddress};
 
 use crate::view_fault::Unreadable;
-use cdr_view::{PartFault, View};
+use cdr_core::{PartFault, View};
 use profile_view::{view_key, view_profile, view_reference};
 
 /// How a target is told: by its key, by a profile, or by a reference.

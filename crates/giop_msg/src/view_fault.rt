@@ -1,5 +1,5 @@
 //! Why a message that is seen where it lies asks nothing.
-use cdr_view::PartFault;
+use cdr_core::PartFault;
 use std::error::Error;
 use std::fmt;
 

@@ -14,7 +14,7 @@ use crate::locate::view_locate;
 use crate::request::view_request;
 use crate::seen::Seen;
 use crate::view_fault::{Unreadable, ViewFault};
-use cdr_view::View;
+use cdr_core::View;
 use giop_frame::Message;
 
 /// What a message asks of a server: the call of a Request or a LocateRequest, the id of a CancelRequest, or a

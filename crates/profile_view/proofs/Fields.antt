@@ -4,9 +4,9 @@ use Rattle.std.specs.Prelude.{MatchBool, ⊤}
 use Rattle.cdr_core.specs.declared.CdrFault.TheVariants.{WantMemory}
 use Rattle.cdr_core.specs.Field.{octet, ushort, text, octets}
 use Rattle.cdr_core.specs.Cursor.{Cursor, Reads}
-use Rattle.cdr_view.specs.declared.PartFault.{PartFault}
-use Rattle.cdr_view.specs.declared.PartFault.TheVariants.{Short, BadBool, NoNul}
-use Rattle.cdr_view.specs.Fault.{refusal}
+use Rattle.cdr_core.specs.declared.PartFault.{PartFault}
+use Rattle.cdr_core.specs.declared.PartFault.TheVariants.{Short, BadBool, NoNul}
+use Rattle.cdr_core.specs.Fault.{refusal}
 use Rattle.poa_names.specs.declared.Profile.{Profile}
 use Rattle.ior_profile.specs.declared.profile.TheConstants.{TAG_INTERNET_IOP}
 use Rattle.ior_profile.specs.Encapsulation.{inside}

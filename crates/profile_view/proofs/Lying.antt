@@ -3,9 +3,9 @@ use Rattle.std.proofs.Common.{◌≡◌, ℕ, List, [], ◌∷◌, Bool, true, f
 use Rattle.std.specs.Prelude.{nat_lt, ◌==◌, if◌then◌else◌}
 use Rattle.cdr_core.specs.Field.{octet, ushort, text}
 use Rattle.cdr_core.specs.Cursor.{Cursor}
-use Rattle.cdr_view.specs.Part.{IsSlice, StandsIn, counted_at}
-use Rattle.cdr_view.proofs.Slices.{stands_behind, lies_in_message}
-use Rattle.cdr_view.proofs.Lying.{octets_lie}
+use Rattle.cdr_core.specs.Part.{IsSlice, StandsIn, counted_at}
+use Rattle.cdr_core.proofs.Slices.{stands_behind, lies_in_message}
+use Rattle.cdr_core.proofs.Lying.{octets_lie}
 use Rattle.poa_names.specs.declared.Profile.{Profile}
 use Rattle.ior_profile.specs.declared.body.ProfileBody.{ProfileBody}
 use Rattle.ior_profile.specs.Encapsulation.{inside}

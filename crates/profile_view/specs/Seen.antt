@@ -1,7 +1,7 @@
 -- What a view of a profile or of a reference sees.
 use Rattle.std.specs.Prelude.{◌≡◌, ℕ, List, Option, length, slice_get}
 use Rattle.cdr_core.specs.Cursor.{Cursor}
-use Rattle.cdr_view.specs.Part.{IsSlice, counted_at}
+use Rattle.cdr_core.specs.Part.{IsSlice, counted_at}
 use Rattle.poa_names.specs.declared.Ior.{Ior}
 use Rattle.poa_names.specs.declared.Profile.{Profile}
 use Rattle.ior_profile.specs.declared.body.ProfileBody.{ProfileBody}

@@ -2,7 +2,7 @@
 ghost use Rattle.std.specs.Prelude.{◌≡◌};
 ghost use Rattle.ior_profile.specs.Encapsulation.{inside};
 
-use cdr_view::View;
+use cdr_core::View;
 
 /// A view behind the octet of an encapsulation's byte order; none where that octet is absent or above 1
 /// (CORBA 3.3 Part 2, 9.3.3).

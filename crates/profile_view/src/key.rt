@@ -7,7 +7,7 @@ ghost use Rattle.profile_view.specs.Seen.{seen_profile, ReadsKey, KeyLies};
 
 use crate::encapsulation::enter;
 use crate::profile::ProfileView;
-use cdr_view::{PartFault, View};
+use cdr_core::{PartFault, View};
 
 /// The tag of an IIOP profile, TAG_INTERNET_IOP.
 const TAG_INTERNET_IOP: u32 = 0;

@@ -8,7 +8,7 @@ mod key;
 mod profile;
 mod reference;
 
-pub use cdr_view::PartFault;
+pub use cdr_core::PartFault;
 pub use key::view_key;
 pub use profile::{ProfileView, view_profile};
 pub use reference::view_reference;

@@ -3,7 +3,7 @@ ghost use Rattle.std.specs.Prelude.{IfOk, OnErr};
 ghost use Rattle.ior_profile.specs.Tagged.{ReadsProfile, ProfileBreaks};
 ghost use Rattle.profile_view.specs.Seen.{seen_profile};
 
-use cdr_view::{PartFault, View};
+use cdr_core::{PartFault, View};
 
 /// A tagged profile, whose data lie in a message.
 #[derive(Clone, Copy, Debug)]

@@ -5,7 +5,7 @@ ghost use Rattle.ior_profile.specs.Reference.{IorBreaks};
 ghost use Rattle.profile_view.specs.Seen.{seen_profile, SeesProfile, SeesAmong};
 
 use crate::profile::{ProfileView, view_profile};
-use cdr_view::{PartFault, View};
+use cdr_core::{PartFault, View};
 
 /// The profile at an index of the reference that stands at the view (CORBA 3.3 Part 2, 7.6.2), which is read
 /// whole; none where the reference has no such profile. Where a field can't be read the view is left at the

@@ -1,5 +1,5 @@
 use Rattle.cdr_core.proofs.Passing.{takes_split}
-use Rattle.cdr_view.proofs.view.View.number.Goals as goal
+use Rattle.cdr_core.proofs.view.View.number.Goals as goal
 
 pub returns-clause-ok : goal.returns-clause-ok
 returns-clause-ok c =

@@ -5,11 +5,11 @@ ghost use Rattle.cdr_core.specs.Field.{octet, ushort, ulong, longlong, boolean, 
 ghost use Rattle.cdr_core.specs.Spelling.{number_bytes};
 ghost use Rattle.cdr_core.specs.Cursor.{Cursor, Reads, Skips, Takes, Counts, EndsInNul, IsUnit};
 ghost use Rattle.cdr_core.specs.Refusal.{Refuses, LacksPadding, LacksBytes, IsShort};
-ghost use Rattle.cdr_view.specs.Fault.{refusal};
-ghost use Rattle.cdr_view.specs.Part.{LiesAt, counted_at};
+ghost use Rattle.cdr_core.specs.Fault.{refusal};
+ghost use Rattle.cdr_core.specs.Part.{LiesAt, counted_at};
 
-use crate::fault::PartFault;
 use crate::gap::padding;
+use crate::part_fault::PartFault;
 use std::marker::Model;
 
 /// Reads the fields of a CDR message or encapsulation, one behind the other, and lends its parts. Each read
@@ -179,7 +179,7 @@ impl<'a> View<'a> {
     }
 
     // A view that stands at the same place, to read ahead with.
-    fn copy(&self) -> View<'a>
+    pub(crate) fn copy(&self) -> View<'a>
         ensures { result ≡ self.now }
     {
         View {

@@ -1,7 +1,7 @@
 use Rattle.std.proofs.Common.{refl}
 use Rattle.cdr_core.proofs.Passing.{octets_counted}
-use Rattle.cdr_view.proofs.Lying.{octets_lie}
-use Rattle.cdr_view.proofs.view.View.octets.Goals as goal
+use Rattle.cdr_core.proofs.Lying.{octets_lie}
+use Rattle.cdr_core.proofs.view.View.octets.Goals as goal
 
 pub returns-clause-ok : goal.returns-clause-ok
 returns-clause-ok c = octets_counted _ _ _ _ _ refl refl c.in_ok-part.ensures.ok

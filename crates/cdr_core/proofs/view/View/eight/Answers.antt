@@ -1,7 +1,7 @@
 use Rattle.std.proofs.Common.{rules, ap, sym, ◌∙◌}
 use Rattle.cdr_core.specs.Cursor.{Cursor}
 use Rattle.cdr_core.proofs.Passing.{takes_le, takes_be}
-use Rattle.cdr_core.proofs.reader.Reader.eight.Goals as goal
+use Rattle.cdr_core.proofs.view.View.eight.Goals as goal
 
 pub returns-then-little-clause-ok : goal.returns-then-little-clause-ok
 returns-then-little-clause-ok c =

@@ -6,8 +6,8 @@ use Rattle.cdr_core.specs.Spelling.{gap}
 use Rattle.cdr_core.specs.Cursor.{Cursor, Reads, Counts, EndsInNul}
 use Rattle.cdr_core.proofs.Bodies.{one_body, long_length}
 use Rattle.cdr_core.proofs.OneReading.{octets_counts, text_counts}
-use Rattle.cdr_view.specs.Part.{LiesAt, counted_at}
-use Rattle.cdr_view.proofs.Slices.{lies_between}
+use Rattle.cdr_core.specs.Part.{LiesAt, counted_at}
+use Rattle.cdr_core.proofs.Slices.{lies_between}
 
 -- the padding and the length itself
 length_of_count : (n : ℕ) (c a : Cursor) (p : Reads (ulong n) c a) → length p.bytes ≡ gap 4 c.place + 4

@@ -3,8 +3,8 @@ use Rattle.std.proofs.Common.{◌≡◌, ℕ, ◌+◌, ◌-◌, List, ◌++◌, 
 use Rattle.std.proofs.lemmas.List.{take_at, drop_at, drop-drop, length-drop, length-take, take-append-drop}
 use Rattle.std.proofs.Math.Seq.{drop-append_seam}
 use Rattle.cdr_core.specs.Cursor.{Cursor}
-use Rattle.cdr_view.specs.Part.{IsSlice, LiesAt}
-use Rattle.cdr_view.specs.Laws.{StandsBehind, LiesInMessage, SliceOfSlice}
+use Rattle.cdr_core.specs.Part.{IsSlice, LiesAt}
+use Rattle.cdr_core.specs.Laws.{StandsBehind, LiesInMessage, SliceOfSlice}
 
 -- behind a front, and in front of a back
 pub slice_between : (front part back bytes : List ℕ) (place : ℕ) → bytes ≡ front ++ (part ++ back) → place ≡ length front → IsSlice place part bytes

@@ -1,5 +1,0 @@
-use Rattle.cdr_view.proofs.Slices.{stands_behind}
-use Rattle.cdr_view.proofs.laws.stands_behind.Goals as goal
-
-pub returns : goal.returns
-returns c = stands_behind
