@@ -8,7 +8,8 @@ use poa_base::{Call, Entry, SessionEnd};
 pub enum Judgement {
     /// Its calls arrived, and their replies were written.
     Whole,
-    /// Memory was wanting: the first of its calls arrived, and the front of the replies that were given was written.
+    /// Memory was wanting, in the session or to its link: the first of its calls arrived, and the front of the replies that
+    /// were given was written.
     Beginning,
     /// It isn't what such an end says.
     Wrong,
@@ -24,7 +25,9 @@ pub fn judge(played: &Played) -> Judgement {
         SessionEnd::Ended if arrived == CALLS.len() && is_whole(written, CALLS.len()) => {
             Judgement::Whole
         }
-        SessionEnd::WantMemory if is_front(written, given) => Judgement::Beginning,
+        SessionEnd::WantMemory | SessionEnd::WriteFault if is_front(written, given) => {
+            Judgement::Beginning
+        }
         SessionEnd::Abandoned { worker: 0 } if has_given_up(played) && is_whole(written, given) => {
             Judgement::Beginning
         }
