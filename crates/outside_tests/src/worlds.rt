@@ -34,62 +34,6 @@ impl Write for Full {
 }
 
 #[test]
-fn a_source_gives_its_pieces_and_fails_where_listed(rt: HostRuntime) -> Result<(), Fail> {
-    let alloc = rt.alloc();
-    let bytes = Vec::from_slice(alloc, b"abcdefgh")?;
-    let pieces = vec![in alloc; 3, 1]?;
-    let failing = vec![in alloc; 1]?;
-    let mut source = MemSource::new(bytes, pieces, failing);
-    let mut buf = [0; 4];
-    for took in [
-        Took::Got(3),
-        Took::Failed,
-        Took::Got(1),
-        Took::Got(3),
-        Took::Got(1),
-        Took::End,
-    ] {
-        assert_eq!(rt; source.read(&mut buf), took);
-    }
-    assert_eq!(rt; buf, *b"hfg\0");
-    let mut steady = SteadySource::new(Vec::from_slice(alloc, b"abcdef")?, Vec::new(alloc));
-    assert_eq!(rt; steady.read(&mut buf), Took::Got(4));
-    assert_eq!(rt; steady.read(&mut buf), Took::Got(2));
-    assert_eq!(rt; steady.read(&mut buf), Took::End);
-    Ok(())
-}
-
-#[test]
-fn a_sink_holds_what_is_written_and_fails_where_listed(rt: HostRuntime) -> Result<(), Fail> {
-    let alloc = rt.alloc();
-    let mut sink = MemSink::new(alloc, vec![in alloc; 1]?);
-    assert_eq!(rt; sink.write(b"ab"), Wrote::Wrote(2));
-    assert_eq!(rt; sink.write(b"cd"), Wrote::Failed);
-    assert_eq!(rt; sink.write(b"ef"), Wrote::Wrote(2));
-    assert_eq!(rt; sink.held(), b"abef".as_slice());
-    Ok(())
-}
-
-#[test]
-fn files_are_taken_within_their_limit(rt: HostRuntime) -> Result<(), Fail> {
-    let alloc = rt.alloc();
-    let mut files = MemFiles::new(alloc, vec![in alloc; 3]?, vec![in alloc; 1]?);
-    files.hold("f", b"abc")?;
-    assert_eq!(rt; files.content("f"), Some(b"abc".as_slice()));
-    assert!(rt; matches!(files.take("g", 9), Taken::Absent));
-    assert!(rt; matches!(files.take("f", 2), Taken::TooLong));
-    let Taken::Bytes(bytes) = files.take("f", 3) else {
-        return Err(Fail::from("not taken"));
-    };
-    assert_eq!(rt; bytes.as_slice(), b"abc".as_slice());
-    assert!(rt; matches!(files.take("f", 3), Taken::Failed));
-    assert_eq!(rt; files.put("f", b"de"), Put::Done);
-    assert_eq!(rt; files.put("f", b"fg"), Put::Failed);
-    assert_eq!(rt; files.content("f"), Some(b"de".as_slice()));
-    Ok(())
-}
-
-#[test]
 fn readers_and_writers_are_sources_and_sinks(rt: HostRuntime) -> Result<(), Fail> {
     let mut buf = [0; 4];
     let mut input = StandardInput::new(b"abcdef".as_slice());

@@ -30,12 +30,13 @@ impl Case {
         Ok(())
     }
 
-    /// Adds calls of this kind that fail.
+    /// Adds calls of this kind that fail, or reads that find nothing for now.
     fn add_failures(&mut self, kind: &[u8], calls: &[&[u8]]) -> Result<()> {
         let failing = numbers(self.alloc, calls)?;
         match kind {
             b"read" => self.link()?.failing_reads.extend_from_slice(&failing)?,
             b"write" => self.link()?.failing_writes.extend_from_slice(&failing)?,
+            b"quiet" => self.link()?.quiet_reads.extend_from_slice(&failing)?,
             b"next" => self.door()?.failing.extend_from_slice(&failing)?,
             b"take" => self.failing_takes.extend_from_slice(&failing)?,
             b"put" => self.failing_puts.extend_from_slice(&failing)?,

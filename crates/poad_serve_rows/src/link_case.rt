@@ -13,6 +13,8 @@ pub struct LinkCase {
     pub pieces: Vec<usize>,
     pub failing_reads: Vec<u64>,
     pub failing_writes: Vec<u64>,
+    /// Which reads find nothing for now.
+    pub quiet_reads: Vec<u64>,
     /// One of these is to be written. Where there is none, what was written is printed.
     pub due: Vec<Vec<u8>>,
     /// Whether it isn't determined how the session ends.
@@ -28,6 +30,7 @@ impl LinkCase {
             pieces: Vec::new(alloc),
             failing_reads: Vec::new(alloc),
             failing_writes: Vec::new(alloc),
+            quiet_reads: Vec::new(alloc),
             due: Vec::new(alloc),
             is_loose: false,
         }
@@ -41,10 +44,10 @@ impl LinkCase {
 
     /// The link. It raises the signal, if there is one, when so many bytes were written to it.
     pub fn link(&self, hold: Option<(&Signal, usize)>) -> Result<MemLink> {
-        let link = MemLink::new(self.alloc, self.input.clone()?, self.pieces.clone()?).failing(
-            self.failing_reads.clone()?,
-            self.failing_writes.clone()?,
-        );
+        let (reads, writes) = (self.failing_reads.clone()?, self.failing_writes.clone()?);
+        let link = MemLink::new(self.alloc, self.input.clone()?, self.pieces.clone()?)
+            .failing(reads, writes)
+            .quiet(self.quiet_reads.clone()?);
         match hold {
             Some((signal, length)) => Ok(link.raising(signal.try_clone()?, length)),
             None => Ok(link),

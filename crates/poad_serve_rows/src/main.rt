@@ -12,7 +12,7 @@
 //! - `fill BYTE COUNT`, so many bytes of this value, which the peer sends; between cases, of the last file;
 //! - `piece SIZE ..`, how many bytes the link's reads give at most, in turn;
 //! - `fails KIND N ..`: these calls fail, counted from 0. `read` and `write` are of the link, `next` of the door, `take` and
-//!   `put` of the files, `start` of the threads;
+//!   `put` of the files, `start` of the threads; `quiet` are reads of the link that find nothing for now;
 //! - `holds LENGTH`: the first worker that serves is held until so many bytes were written to a link;
 //! - `due WORD ..`, where it isn't determined what is written to the link: one of the lines `due`, or a beginning of it where
 //!   a fault ended the session. It is printed then that what was written is due;
