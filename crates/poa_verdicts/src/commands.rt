@@ -18,6 +18,7 @@ ghost use Rattle.poa_tree.specs.Nodes as tree;
 ghost use Rattle.standing_queries.specs.Seen.{seen};
 ghost use Rattle.adapter_settings.specs.Told.{Tells};
 
+use crate::facts::{is_active_of, is_kept_of};
 use crate::references::reference_text;
 use adapter_settings::{Settings, endpoint_of, manager_state};
 use poa_base::limits::ADAPTERS;
@@ -29,9 +30,7 @@ use poa_tree::Node;
 use poa_tree::nodes::node_at;
 use poa_tree::paths::parent_path;
 use standing_queries::Standing;
-use standing_queries::activations::{is_active, is_of};
 use standing_queries::commands::{is_implicit, live_at, referred};
-use standing_queries::ends::is_over;
 use standing_queries::flights::is_tried;
 use standing_queries::ids::{made_id, next};
 use standing_queries::searches::is_in_map;
@@ -209,13 +208,6 @@ pub fn is_bad_id(config: &Config, run: u32, made: u32, path: &[Name], oid: &[u8]
     policies_at(config, path).makes_ids() && (oid.len() != 8 || is_unmade(run, made, oid))
 }
 
-/// Whether the activation is of the id, and active.
-fn is_active_of(adapter: u32, oid: &Oid, activation: &Activation) -> bool
-    ensures { result ≡ stands.is_of adapter oid.now activation.now && stands.is_active activation.now }
-{
-    is_of(adapter, oid, activation) && is_active(activation)
-}
-
 /// Whether one of them is of the id and active.
 fn is_any_active(activations: &[Activation], adapter: u32, oid: &Oid) -> bool
     ensures { result ≡ list_any (λ a. stands.is_of adapter oid.now a && stands.is_active a) activations.now }
@@ -230,13 +222,6 @@ fn has_active(standing: &Standing, adapter: u32, oid: &Oid) -> bool
     ensures { result ≡ list_any (λ a. stands.is_of adapter oid.now a && stands.is_active a) (seen standing.now).activations }
 {
     is_any_active(&standing.activations, adapter, oid)
-}
-
-/// Whether the activation is of the id, and not over.
-fn is_kept_of(config: &Config, adapter: u32, oid: &Oid, activation: &Activation) -> bool
-    ensures { result ≡ stands.is_of adapter oid.now activation.now && not (ends.is_over config.now activation.now) }
-{
-    is_of(adapter, oid, activation) && !is_over(config, activation)
 }
 
 /// Whether one of them is of the id and not over.

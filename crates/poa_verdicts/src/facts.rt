@@ -80,7 +80,7 @@ fn differs(config: &Config, key: &Key, adapter: u32) -> bool
 }
 
 /// Whether the activation is of the id, and active.
-fn is_active_of(adapter: u32, oid: &Oid, activation: &Activation) -> bool
+pub(crate) fn is_active_of(adapter: u32, oid: &Oid, activation: &Activation) -> bool
     ensures { result ≡ stands.is_of adapter oid.now activation.now && stands.is_active activation.now }
 {
     is_of(adapter, oid, activation) && is_active(activation)
@@ -96,7 +96,7 @@ fn active_of<'a>(activations: &'a [Activation], adapter: u32, oid: &Oid) -> Opti
 }
 
 /// Whether the activation is of the id, and not over.
-fn is_kept_of(config: &Config, adapter: u32, oid: &Oid, activation: &Activation) -> bool
+pub(crate) fn is_kept_of(config: &Config, adapter: u32, oid: &Oid, activation: &Activation) -> bool
     ensures { result ≡ stands.is_of adapter oid.now activation.now && not (ends.is_over config.now activation.now) }
 {
     is_of(adapter, oid, activation) && !is_over(config, activation)
