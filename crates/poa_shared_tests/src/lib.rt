@@ -1,15 +1,16 @@
 //! Real threads over one shared core: callers, workers, and one that gives up. The tests ask whether the journal that they
-//! made together is a legal history, and whether every call was decided once.
+//! made together is a legal history, and whether every call was decided once. It is tests alone.
 #![tactic(auto)]
 
+#[cfg(test)]
 mod asking;
+#[cfg(test)]
 mod calling;
+#[cfg(test)]
 mod job;
+#[cfg(test)]
 mod playing;
+#[cfg(test)]
 mod task;
 #[cfg(test)]
 mod tests;
-
-pub use job::Job;
-pub use playing::{Played, play};
-pub use task::Task;

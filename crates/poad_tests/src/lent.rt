@@ -36,85 +36,58 @@ const GET_BY_NO_KEY: &str =
 
 #[test]
 fn a_request_lends_its_key_its_operation_and_its_body(rt: HostRuntime) -> Result<(), Fail> {
-    let alloc = rt.alloc();
-    assert_eq!(rt;
-        lent(alloc, ADD)?.as_str(),
-        "key 28 to 51, operation 56 to 58, body 64 to 71 at 64"
-    );
+    assert!(rt; lends(rt.alloc(), ADD, [(28, 52), (56, 59), (64, 72)])?);
     Ok(())
 }
 
 #[test]
 fn a_locate_lends_its_key(rt: HostRuntime) -> Result<(), Fail> {
-    let alloc = rt.alloc();
-    assert_eq!(rt; lent(alloc, LOCATE)?.as_str(), "key 24 to 47");
+    assert!(rt; lends(rt.alloc(), LOCATE, [(24, 48), NOWHERE, NOWHERE])?);
     Ok(())
 }
 
 #[test]
 fn a_key_is_lent_from_inside_its_profile(rt: HostRuntime) -> Result<(), Fail> {
     let alloc = rt.alloc();
-    assert_eq!(rt;
-        lent(alloc, GET_BY_PROFILE)?.as_str(),
-        "key 56 to 79, operation 88 to 90, body none at 96"
-    );
-    assert_eq!(rt;
-        lent(alloc, ADD_BY_REFERENCE)?.as_str(),
-        "key 84 to 107, operation 116 to 118, body 128 to 135 at 128"
-    );
-    assert_eq!(rt;
-        lent(alloc, GET_BY_NO_KEY)?.as_str(),
-        "key none, operation 36 to 38, body none at 44"
-    );
+    assert!(rt; lends(alloc, GET_BY_PROFILE, [(56, 80), (88, 91), NOWHERE])?);
+    assert!(rt; lends(alloc, ADD_BY_REFERENCE, [(84, 108), (116, 119), (128, 136)])?);
+    assert!(rt; lends(alloc, GET_BY_NO_KEY, [NOWHERE, (36, 39), NOWHERE])?);
     Ok(())
 }
 
-/// What the first message of a stream lends, and from where. The stream is in hexadecimal digits.
-fn lent(alloc: Global, stream: &str) -> Result<String, Fail> {
+/// Where a part begins and ends that has no bytes.
+const NOWHERE: (usize, usize) = (0, 0);
+
+/// Whether the first message of a stream lends the key of its target, its operation and its body from these places. The stream
+/// is in hexadecimal digits.
+fn lends(alloc: Global, stream: &str, places: [(usize, usize); 3]) -> Result<bool, Fail> {
     let stream = hex::decode(alloc, stream)?;
-    let frames = frame(
-        alloc,
-        1_048_576,
-        &[&stream.as_slice()[..stream.len().min(LONGEST)]],
-    )?;
+    let stream = &stream.as_slice()[..stream.len().min(LONGEST)];
+    let frames = frame(alloc, 1_048_576, &[stream])?;
     let Some(message) = frames.messages.first() else {
-        return Ok(format!(in alloc; "no message")?);
+        return Ok(false);
     };
     let bytes = message.bytes();
+    let [key_at, operation_at, body_at] = places;
     match view_call(message) {
         Ok(
             Seen::Request {
                 target,
                 operation,
                 body,
-                base,
                 ..
             },
-        ) => {
-            let key = places(alloc, bytes, target.unwrap_or(&[]))?;
-            let operation = places(alloc, bytes, operation)?;
-            let body = places(alloc, bytes, body)?;
-            Ok(format!(in alloc; "key {key}, operation {operation}, body {body} at {base}")?)
-        }
-        Ok(Seen::Locate { target, .. }) => {
-            let key = places(alloc, bytes, target.unwrap_or(&[]))?;
-            Ok(format!(in alloc; "key {key}")?)
-        }
-        Ok(_) => Ok(format!(in alloc; "no parts")?),
-        Err(fault) => Ok(format!(in alloc; "{fault}")?),
+        ) => Ok(
+            lies(bytes, target.unwrap_or(&[]), key_at)
+                && lies(bytes, operation, operation_at)
+                && lies(bytes, body, body_at),
+        ),
+        Ok(Seen::Locate { target, .. }) => Ok(lies(bytes, target.unwrap_or(&[]), key_at)),
+        _ => Ok(false),
     }
 }
 
-/// The places of the first and the last byte of a part in the message that lends it: the first where its bytes stand.
-fn places(alloc: Global, bytes: &[u8], part: &[u8]) -> Result<String, Fail> {
-    if part.is_empty() {
-        return Ok(format!(in alloc; "none")?);
-    }
-    for place in 0..bytes.len() {
-        if bytes[place..].starts_with(part) {
-            let last = place.saturating_add(part.len() - 1);
-            return Ok(format!(in alloc; "{place} to {last}")?);
-        }
-    }
-    Ok(format!(in alloc; "nowhere")?)
+/// Whether a part is what lies in the message from one place up to another.
+fn lies(bytes: &[u8], part: &[u8], (start, end): (usize, usize)) -> bool {
+    bytes.get(start..end) == Some(part)
 }
