@@ -1,3 +1,4 @@
+//! Fields that are read where they lie.
 ghost use Rattle.std.specs.Prelude.{◌≡◌, ◌+◌, ◌^◌, ◌<◌, ◌-◌, ◌≢◌, ◌⊎◌, length, slice_index, IfOk, IfErr, OnOk, OnErr};
 ghost use Rattle.std.specs.Int.{w64};
 ghost use Rattle.cdr_core.specs.Kind.{Octet, UShort, ULong, LongLong, Boolean, Text, Octets};
