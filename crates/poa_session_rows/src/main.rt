@@ -1,5 +1,6 @@
-//! Plays the session of a client that sends three calls, on one thread: the session's aid makes the turns of a worker, and the link's reads those that are left. How the
-//! session ended, how many calls arrived and what was written are compared with what a session is.
+//! Plays the session of a client that sends three calls, on one thread: the session's aid makes the turns of a worker, and the
+//! link's reads those that are left. How the session ended, how many calls arrived and what was written are compared with what
+//! a session is.
 //!
 //! The status is 0 where the session ended with all its replies, and 1 where memory was wanting before it began. It is 2
 //! where memory was wanting in the session: what arrived and what was written are a beginning then. What was found is

@@ -35,6 +35,18 @@ fn await_reply<R: Wait>(rt: &R, core: &Mutex<Guarded>, conn: u32, worker: u32)
     unreachable!()
 }
 
+/// Makes the turns that the worker has left, so that no call of another caller stays with it.
+fn finish<R: Wait>(rt: &R, core: &Mutex<Guarded>, worker: u32)
+    requires { worker < 16 }
+{
+    for _ in rt.forever() {
+        if !core.lock(rt).step(worker) {
+            return;
+        }
+    }
+    unreachable!()
+}
+
 /// Asks the calls of a caller; how many were answered.
 fn call_all<R: Wait>(rt: &R, alloc: Global, core: &Mutex<Guarded>, plan: Plan, caller: u32) -> u64 {
     let Some(conn) = core.lock(rt).enter() else {
@@ -52,6 +64,7 @@ fn call_all<R: Wait>(rt: &R, alloc: Global, core: &Mutex<Guarded>, plan: Plan, c
         await_reply(rt, core, conn, plan.worker_of(caller));
         answered = answered.saturating_add(1);
     }
+    finish(rt, core, plan.worker_of(caller));
     answered
 }
 

@@ -75,6 +75,20 @@ fn await_reply<R: Wait>(
     unreachable!()
 }
 
+/// Makes the turns that the worker has left, so that no call of another caller stays with it.
+fn finish<R: Wait>(rt: &R, shared: &Shared, aid: &mut Seat, worker: u32)
+    requires seat { IsIdle shared.now aid.old }
+    requires worker { worker < 16 }
+    ensures { IsIdle shared.now aid.new }
+{
+    for _ in rt.forever() {
+        if !step(rt, shared, aid, worker) {
+            return;
+        }
+    }
+    unreachable!()
+}
+
 /// Asks the calls of a caller on its connection; how many were answered.
 fn ask_all<R: Wait>(
     rt: &R,
@@ -100,6 +114,7 @@ fn ask_all<R: Wait>(
         await_reply(rt, shared, seat, aid, conn, plan.worker_of(caller));
         answered = answered.saturating_add(1);
     }
+    finish(rt, shared, aid, plan.worker_of(caller));
     answered
 }
 

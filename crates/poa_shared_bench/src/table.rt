@@ -68,10 +68,12 @@ pub fn print<R: Threads + Wait + Sync + Clock + CpuClock + Print>(
     )?;
     for (callers, workers) in [
         (1, 1),
+        (1, 4),
         (4, 1),
         (4, 4),
         (8, 1),
         (8, 4),
+        (16, 1),
         (16, 4),
         (64, 1),
         (64, 4),
@@ -79,7 +81,7 @@ pub fn print<R: Threads + Wait + Sync + Clock + CpuClock + Print>(
         let plan = Plan {
             callers,
             workers,
-            calls: CALLS / callers as u64,
+            calls: CALLS / u64::from(callers.max(1)),
         };
         let shared = timed(rt, alloc, Kind::Shared, plan)?;
         let mutex = timed(rt, alloc, Kind::Mutex, plan)?;
