@@ -16,7 +16,8 @@ use Rattle.poa_history.specs.Standings.{Standing}
 use Rattle.standing_of.proofs.Settled.{settled_still, standing_settled}
 use Rattle.adapter_settings.specs.Told.{may_grow}
 
-sets_only : (c : Config) (run r : ℕ) (v : Verdict) (s : Standing) (call : Option Call) → may_grow (command_in call) ≡ true → with_command c run (command_in call) (with_admitted r (key_in call) v s) ≡ s
+sets_only : (c : Config) (run r : ℕ) (v : Verdict) (s : Standing) (call : Option Call) → may_grow (command_in call) ≡ true
+    → with_command c run (command_in call) (with_admitted r (key_in call) v s) ≡ s
 sets_only c run r v s None grows = absurd (let e : false ≡ true = grows in cc)
 sets_only c run r v s (Some (Request head target operation body)) grows = absurd (let e : false ≡ true = grows in cc)
 sets_only c run r v s (Some (Locate head target)) grows = absurd (let e : false ≡ true = grows in cc)
@@ -33,9 +34,11 @@ sets_only c run r v s (Some (Line n (Reference p servant))) grows = absurd (let 
 sets_only c run r v s (Some (Line n Shutdown)) grows = absurd (let e : false ≡ true = grows in cc)
 sets_only c run r v s (Some (Line n (Bad word))) grows = absurd (let e : false ≡ true = grows in cc)
 
-pub growing_stands : (c : Config) (run : ℕ) (past : List Entry) (w r : ℕ) (v : Verdict) → may_grow (command_done past (Admit w r v)) ≡ true → standing c run (Admit w r v ∷ past) ≡ standing c run past
+pub growing_stands : (c : Config) (run : ℕ) (past : List Entry) (w r : ℕ) (v : Verdict) → may_grow (command_done past (Admit w r v)) ≡ true
+    → standing c run (Admit w r v ∷ past) ≡ standing c run past
 growing_stands c run past w r v grows =
     ap (settled c) (elim (is_accepted v) as (λ b. may_grow (if b then command_in (call_of past r) else None) ≡ true
-    → with_command c run (if b then command_in (call_of past r) else None) (with_admitted r (key_in (call_of past r)) v (standing c run past)) ≡ standing c run past)
+    → with_command c run (if b then command_in (call_of past r) else None)
+    (with_admitted r (key_in (call_of past r)) v (standing c run past)) ≡ standing c run past)
     [ true ↦ (λ grows. sets_only c run r v (standing c run past) (call_of past r) grows) | false ↦ (λ no_. absurd (let e : false ≡ true = no_ in cc)) ] grows)
     ∙ settled_still c (standing c run past) (standing_settled c run past)

@@ -46,8 +46,10 @@ fn admit(
     state: &mut State,
 ) -> Result<(), WantMemory>
     requires { (w : ℕ) × (r : ℕ) × (coming.now.entry.now ≡ Entry.Admit w r verdict.now) }
-    ensures ok { (limit : ℕ) (opened : Stored) (past : List Entry) → IsNext config.now run limit opened past coming.now state.old → OnOk result (IsState config.now run opened (coming.now.entry.now ∷ past) state.new) }
-    ensures err { (opened : Stored) (past : List Entry) → IsState config.now run opened past state.old → OnErr result (IsState config.now run opened past state.new) }
+    ensures ok { (limit : ℕ) (opened : Stored) (past : List Entry) → IsNext config.now run limit opened past coming.now state.old
+        → OnOk result (IsState config.now run opened (coming.now.entry.now ∷ past) state.new) }
+    ensures err { (opened : Stored) (past : List Entry) → IsState config.now run opened past state.old
+        → OnErr result (IsState config.now run opened past state.new) }
 {
     let command = done(coming.call, verdict);
     if grows(command) {
@@ -74,8 +76,10 @@ fn tried(
     state: &mut State,
 ) -> Result<(), WantMemory>
     requires { (w : ℕ) × (answer : Attempt) × (coming.now.entry.now ≡ Entry.Tried w answer) }
-    ensures ok { (limit : ℕ) (opened : Stored) (past : List Entry) → IsNext config.now run limit opened past coming.now state.old → OnOk result (IsState config.now run opened (coming.now.entry.now ∷ past) state.new) }
-    ensures err { (opened : Stored) (past : List Entry) → IsState config.now run opened past state.old → OnErr result (IsState config.now run opened past state.new) }
+    ensures ok { (limit : ℕ) (opened : Stored) (past : List Entry) → IsNext config.now run limit opened past coming.now state.old
+        → OnOk result (IsState config.now run opened (coming.now.entry.now ∷ past) state.new) }
+    ensures err { (opened : Stored) (past : List Entry) → IsState config.now run opened past state.old
+        → OnErr result (IsState config.now run opened past state.new) }
 {
     standing_of::advance_kept(
         alloc,
@@ -99,9 +103,12 @@ fn served(
 ) -> Result<Option<Outcome>, WantMemory>
     requires next { (limit : ℕ) × (opened : Stored) × (past : List Entry) × IsNext config.now run limit opened past coming.now state.old }
     requires kind { serves coming.now.entry.now ≡ true }
-    ensures ok { (limit : ℕ) (opened : Stored) (past : List Entry) → IsNext config.now run limit opened past coming.now state.old → OnOk result (IsState config.now run opened (coming.now.entry.now ∷ past) state.new) }
-    ensures outcome { (limit : ℕ) (opened : Stored) (past : List Entry) → IsNext config.now run limit opened past coming.now state.old → IfOk result (λ outcome. outcome ≡ outcome_of config.now run opened past coming.now) }
-    ensures err { (opened : Stored) (past : List Entry) → IsState config.now run opened past state.old → OnErr result (IsState config.now run opened past state.new) }
+    ensures ok { (limit : ℕ) (opened : Stored) (past : List Entry) → IsNext config.now run limit opened past coming.now state.old
+        → OnOk result (IsState config.now run opened (coming.now.entry.now ∷ past) state.new) }
+    ensures outcome { (limit : ℕ) (opened : Stored) (past : List Entry) → IsNext config.now run limit opened past coming.now state.old
+        → IfOk result (λ outcome. outcome ≡ outcome_of config.now run opened past coming.now) }
+    ensures err { (opened : Stored) (past : List Entry) → IsState config.now run opened past state.old
+        → OnErr result (IsState config.now run opened past state.new) }
     ensures ends { OnErr result (may_want coming.now.entry.now ≡ true) }
 {
     let outcome = servant_states::advance(
@@ -138,9 +145,12 @@ pub fn advance(
     state: &mut State,
 ) -> Result<Option<Outcome>, WantMemory>
     requires { (limit : ℕ) × (opened : Stored) × (past : List Entry) × IsNext config.now run limit opened past coming.now state.old }
-    ensures ok { (limit : ℕ) (opened : Stored) (past : List Entry) → IsNext config.now run limit opened past coming.now state.old → OnOk result (IsState config.now run opened (coming.now.entry.now ∷ past) state.new) }
-    ensures outcome { (limit : ℕ) (opened : Stored) (past : List Entry) → IsNext config.now run limit opened past coming.now state.old → IfOk result (λ outcome. outcome ≡ outcome_of config.now run opened past coming.now) }
-    ensures err { (opened : Stored) (past : List Entry) → IsState config.now run opened past state.old → OnErr result (IsState config.now run opened past state.new) }
+    ensures ok { (limit : ℕ) (opened : Stored) (past : List Entry) → IsNext config.now run limit opened past coming.now state.old
+        → OnOk result (IsState config.now run opened (coming.now.entry.now ∷ past) state.new) }
+    ensures outcome { (limit : ℕ) (opened : Stored) (past : List Entry) → IsNext config.now run limit opened past coming.now state.old
+        → IfOk result (λ outcome. outcome ≡ outcome_of config.now run opened past coming.now) }
+    ensures err { (opened : Stored) (past : List Entry) → IsState config.now run opened past state.old
+        → OnErr result (IsState config.now run opened past state.new) }
     ensures ends { only_ends coming.now.entry.now ≡ true → IsOk result }
 {
     match coming.entry {

@@ -131,7 +131,8 @@ pub(crate) fn identity_at<'a>(
     words: Words<'a>,
 ) -> Result<(Oid, Words<'a>), Wrong>
     ensures value { Finds (λ x. (x.0, map (λ w. w.now) x.1.now)) result (at k (spelled_id_of source) (map (λ w. w.now) words.now)) }
-    ensures text { IfOk result (λ x. source ≡ Source.Journal → map (λ w. w.now) words.now ≡ spell (Token.identity x.0) ∷ map (λ w. w.now) x.1.now) }
+    ensures text { IfOk result
+        (λ x. source ≡ Source.Journal → map (λ w. w.now) words.now ≡ spell (Token.identity x.0) ∷ map (λ w. w.now) x.1.now) }
 {
     let [word, rest @ ..] = words else {
         return Err(Wrong::Word(k));

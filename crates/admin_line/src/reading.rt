@@ -86,7 +86,8 @@ fn ending_at<'a>(k: u32, words: &'a [&'a [u8]]) -> Result<(End, &'a [&'a [u8]]),
 // What stands behind the first word.
 fn behind(alloc: Global, source: Source, verb: Verb, words: &[&[u8]]) -> Result<Command, Wrong>
     ensures value { Finds (λ command. command) result (behind_verb source verb (map (λ w. w.now) words.now)) }
-    ensures text { IfOk result (λ command. source ≡ Source.Journal → verb_word verb ∷ map (λ w. w.now) words.now ≡ texts (command_tokens command)) }
+    ensures text { IfOk result
+        (λ command. source ≡ Source.Journal → verb_word verb ∷ map (λ w. w.now) words.now ≡ texts (command_tokens command)) }
 {
     match verb {
         Verb::Manager => manager(alloc, words),
@@ -206,7 +207,8 @@ fn last_pace(k: u32, words: &[&[u8]]) -> Result<Pace, Wrong>
 
 fn activate_id(alloc: Global, source: Source, words: &[&[u8]]) -> Result<Command, Wrong>
     ensures value { Finds (λ command. command) result (activate_id_of source (map (λ w. w.now) words.now)) }
-    ensures text { IfOk result (λ command. source ≡ Source.Journal → verb_word Verb.ActivateId ∷ map (λ w. w.now) words.now ≡ texts (command_tokens command)) }
+    ensures text { IfOk result
+        (λ command. source ≡ Source.Journal → verb_word Verb.ActivateId ∷ map (λ w. w.now) words.now ≡ texts (command_tokens command)) }
 {
     let (path, rest) = path_at(alloc, 2, words)?;
     let (oid, rest) = identity_at(alloc, 3, source, rest)?;
@@ -217,7 +219,8 @@ fn activate_id(alloc: Global, source: Source, words: &[&[u8]]) -> Result<Command
 
 fn deactivate(alloc: Global, source: Source, words: &[&[u8]]) -> Result<Command, Wrong>
     ensures value { Finds (λ command. command) result (deactivate_of source (map (λ w. w.now) words.now)) }
-    ensures text { IfOk result (λ command. source ≡ Source.Journal → verb_word Verb.Deactivate ∷ map (λ w. w.now) words.now ≡ texts (command_tokens command)) }
+    ensures text { IfOk result
+        (λ command. source ≡ Source.Journal → verb_word Verb.Deactivate ∷ map (λ w. w.now) words.now ≡ texts (command_tokens command)) }
 {
     let (path, rest) = path_at(alloc, 2, words)?;
     let (oid, rest) = identity_at(alloc, 3, source, rest)?;

@@ -52,7 +52,8 @@ fn served_bytes(
     path: &Path,
     servant: &Name,
 ) -> Result<Vec<u8>, WantMemory>
-    ensures { IfOk result (λ out. out.items ≡ spelled (Token.keyword (verb_word verb) ∷ Token.path path.now ∷ Token.named servant.now ∷ [])) }
+    ensures { IfOk result
+        (λ out. out.items ≡ spelled (Token.keyword (verb_word verb) ∷ Token.path path.now ∷ Token.named servant.now ∷ [])) }
 {
     let mut out = adapter_bytes(alloc, verb, path)?;
     put_word(&mut out, servant.as_slice())?;
@@ -60,7 +61,8 @@ fn served_bytes(
 }
 
 fn manager_bytes(alloc: Global, manager: &Name, order: Order) -> Result<Vec<u8>, WantMemory>
-    ensures { IfOk result (λ out. out.items ≡ spelled (Token.keyword (verb_word Verb.Manager) ∷ Token.named manager.now ∷ order_tokens order)) }
+    ensures { IfOk result
+        (λ out. out.items ≡ spelled (Token.keyword (verb_word Verb.Manager) ∷ Token.named manager.now ∷ order_tokens order)) }
 {
     let mut out = verb_bytes(alloc, Verb::Manager)?;
     put_word(&mut out, manager.as_slice())?;

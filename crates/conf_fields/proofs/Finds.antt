@@ -48,7 +48,11 @@ further_on : {A : Type 0} (key : A → List ℕ) (x : A) (xs : List A) (n : List
 further_on key x xs n None k at h = absurd (none-some k h)
 further_on key x xs n (Some i) k at h =
     let there = at i refl in
-    record { entry = there.entry; stands = subst (λ (j : ℕ). slice_get (x ∷ xs) j ≡ Some there.entry) (sym (add-one i) ∙ same_Some (i + 1) k h) there.stands; named = there.named }
+    record {
+      entry = there.entry;
+      stands = subst (λ (j : ℕ). slice_get (x ∷ xs) j ≡ Some there.entry) (sym (add-one i) ∙ same_Some (i + 1) k h) there.stands;
+      named = there.named;
+    }
 
 at_first : {A : Type 0} (key : A → List ℕ) (x : A) (xs : List A) (n : List ℕ) (here : Bool) (k : ℕ)
     → (here ≡ true → key x ≡ n) → ((i : ℕ) → place_of (map key xs) n ≡ Some i → IsAt key xs n i)
@@ -81,7 +85,8 @@ placed (m ∷ ns) n q new =
     ]
 
 -- the next name has the next number
-pub noted_next : (f g : Find) (ns : List (List ℕ)) (n : List ℕ) (k : ℕ) → k ≡ length ns → f ≡ place_of ns → f n ≡ None → g ≡ noted n k f → g ≡ place_of (ns ++ n ∷ [])
+pub noted_next : (f g : Find) (ns : List (List ℕ)) (n : List ℕ) (k : ℕ) → k ≡ length ns → f ≡ place_of ns → f n ≡ None → g ≡ noted n k f
+    → g ≡ place_of (ns ++ n ∷ [])
 noted_next f g ns n k count before new after =
     after ∙ fun_ext (λ q. rw (count, before) (placed ns n q (ap (λ h. h n) (sym before) ∙ new)))
 

@@ -16,11 +16,13 @@ pub hosted : (w : List ℕ) (found : Option (List ℕ)) → host_of w ≡ found 
 hosted w None h = tt
 hosted w (Some n) h = let p = cond_some (is_host w) w n h in subst (λ v. is_host v ≡ true) p.1 p.0
 
-all_by : (first : Option (List ℕ)) (rest : Option (List (List ℕ))) (ns : List (List ℕ)) → IfSome first (λ n. is_name n ≡ true) → IfSome rest (λ ms. list_all is_name ms ≡ true)
+all_by : (first : Option (List ℕ)) (rest : Option (List (List ℕ))) (ns : List (List ℕ)) → IfSome first (λ n. is_name n ≡ true)
+    → IfSome rest (λ ms. list_all is_name ms ≡ true)
     → (first >>= λ n. rest >>= λ ms. Some (n ∷ ms)) ≡ Some ns → list_all is_name ns ≡ true
 all_by None rest ns one more h = absurd (none-some ns h)
 all_by (Some n) None ns one more h = absurd (none-some ns h)
-all_by (Some n) (Some ms) ns one more h = subst (λ all. list_all is_name all ≡ true) (same_Some (n ∷ ms) ns h) (and_from (is_name n) (list_all is_name ms) one more)
+all_by (Some n) (Some ms) ns one more h =
+    subst (λ all. list_all is_name all ≡ true) (same_Some (n ∷ ms) ns h) (and_from (is_name n) (list_all is_name ms) one more)
 
 all_named : (ws : List (List ℕ)) (found : Option (List (List ℕ))) → all_names_of ws ≡ found → IfSome found (λ ns. list_all is_name ns ≡ true)
 all_named ws None h = tt

@@ -10,13 +10,16 @@ use Rattle.conf_print.specs.Objects.{id_of, key_of, line, lines, made_with, obje
 
 -- the line of an object, by its parts
 pub line_of : (c : Config) (numbers : Numbers) (path : List (List ℕ)) (oid made : List ℕ) (n : ℕ) (number : Option ℕ) (key : Key) (type_id ref : List ℕ)
-    → oid ≡ made → number ≡ numbers path → key ≡ key_of c.run number path oid → type_id ≡ type_in (slice_get c.servants n) → ref ≡ reference_text (record { host = c.host; port = c.port }) type_id key
+    → oid ≡ made → number ≡ numbers path → key ≡ key_of c.run number path oid → type_id ≡ type_in (slice_get c.servants n)
+    → ref ≡ reference_text (record { host = c.host; port = c.port }) type_id key
     → line key.path key.oid ref ≡ object_line c numbers path made n
 line_of c numbers path oid made n number key type_id ref is_oid is_number is_key is_type is_ref = rw (is_ref, is_type, is_key, is_number, is_oid) refl
 
 -- one more line
-pub lines_more : (c : Config) (numbers : Numbers) (out longer whole : List ℕ) (items : List ObjectConf) (i made more : ℕ) (o : ObjectConf) → i < length items → o ≡ get_or items i o
-    → out ++ lines c numbers made (drop i items) ≡ whole → longer ≡ out ++ object_line c numbers o.adapter (id_of c.run (made + 1) o.oid) o.servant → more ≡ made_with o.oid made
+pub lines_more : (c : Config) (numbers : Numbers) (out longer whole : List ℕ) (items : List ObjectConf) (i made more : ℕ) (o : ObjectConf) → i < length items
+    → o ≡ get_or items i o
+    → out ++ lines c numbers made (drop i items) ≡ whole → longer ≡ out ++ object_line c numbers o.adapter (id_of c.run (made + 1) o.oid) o.servant
+    → more ≡ made_with o.oid made
     → longer ++ lines c numbers more (drop (i + 1) items) ≡ whole
 lines_more c numbers out longer whole items i made more o lt is before new next =
     let rest = drop (i + 1) items in
@@ -25,4 +28,5 @@ lines_more c numbers out longer whole items i made more o lt is before new next 
     let same : this (made + 1) ++ lines c numbers more rest ≡ lines c numbers made (drop i items) =
     ap (λ (k : ℕ). this k ++ lines c numbers more rest) (add-one made)
     ∙ (ap (λ (m : ℕ). this (suc made) ++ lines c numbers m rest) next ∙ ap (lines c numbers made) (sym front)) in
-    ap (λ (t : List ℕ). t ++ lines c numbers more rest) new ∙ (append_assoc out (this (made + 1)) (lines c numbers more rest) ∙ (ap (λ (t : List ℕ). out ++ t) same ∙ before))
+    ap (λ (t : List ℕ). t ++ lines c numbers more rest) new
+    ∙ (append_assoc out (this (made + 1)) (lines c numbers more rest) ∙ (ap (λ (t : List ℕ). out ++ t) same ∙ before))

@@ -44,7 +44,8 @@ object_line c numbers path oid servant = line path oid (reference_in c numbers p
 -- the next id that is made has the next ordinal, from 1 on
 abbrev pub lines : Config → Numbers → ℕ → List ObjectConf → List ℕ
 lines c numbers made [] = []
-lines c numbers made (o ∷ os) = object_line c numbers o.adapter (id_of c.run (suc made) o.oid) o.servant ++ lines c numbers (made_with o.oid made) os
+lines c numbers made (o ∷ os) =
+    object_line c numbers o.adapter (id_of c.run (suc made) o.oid) o.servant ++ lines c numbers (made_with o.oid made) os
 
 abbrev pub references_text : Config → List ℕ
 references_text c = lines c (numbers_of c.adapters) 0 c.objects

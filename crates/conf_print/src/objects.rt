@@ -56,7 +56,8 @@ fn put_object(
     object: &ObjectConf,
 ) -> Result<(), WantMemory>
     ensures { OnOk result (out.new.items ≡ out.old.items
-        ++ spec.object_line config.now (tree.get path_cmp numbers.now) object.now.adapter (spec.id_of config.now.run ordinal object.now.oid) object.now.servant) }
+        ++ spec.object_line config.now (tree.get path_cmp numbers.now) object.now.adapter
+        (spec.id_of config.now.run ordinal object.now.oid) object.now.servant) }
 {
     let alloc = *out.allocator();
     let oid = object_id(alloc, config.run, ordinal, &object.oid)?;

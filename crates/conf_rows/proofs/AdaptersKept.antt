@@ -15,7 +15,8 @@ use Rattle.conf_rows.specs.Found.{IsManagerNumber, IsReadAfter}
 use Rattle.conf_rows.proofs.Below.{IsWritten, has_parent_below}
 use Rattle.conf_rows.proofs.Kept.{manager_number_within, servant_number_within, template_weaker}
 
-new_path : (a : AdapterConf) (ds : List AdapterConf) → AllByRecursion (λ (d : AdapterConf). path_text d.path ≢ path_text a.path) ds → IsNew (λ (x : AdapterConf). x.path) ds a
+new_path : (a : AdapterConf) (ds : List AdapterConf) → AllByRecursion (λ (d : AdapterConf). path_text d.path ≢ path_text a.path) ds
+    → IsNew (λ (x : AdapterConf). x.path) ds a
 new_path a [] all = tt
 new_path a (d ∷ ds) all = (λ same. all.0 (ap path_text same), new_path a ds all.1)
 
@@ -23,21 +24,27 @@ pub all_push : {A : Type 0} (P : A → Type 0) (xs : List A) (x : A) → AllByRe
 all_push P [] x all new = (new, tt)
 all_push P (y ∷ ys) x all new = (all.0, all_push P ys x all.1 new)
 
-pub all_written : (managers servants : Find) (done xs : List AdapterConf) → EachAfter (IsReadAfter managers servants) done xs → AllByRecursion (λ (a : AdapterConf). IsWritten a.path) xs
+pub all_written : (managers servants : Find) (done xs : List AdapterConf) → EachAfter (IsReadAfter managers servants) done xs
+    → AllByRecursion (λ (a : AdapterConf). IsWritten a.path) xs
 all_written managers servants done [] each = tt
 all_written managers servants done (x ∷ xs) each = (record { few = each.0.few; named = each.0.named }, all_written managers servants (done ++ x ∷ []) xs each.1)
 
-module _ (ms : List ManagerConf) (ss : List ServantConf) (managers servants : Find) (ms_noted : managers ≡ place_of (manager_names ms)) (ss_noted : servants ≡ place_of (servant_names ss)) where
-  adapter_keeps : (done : List AdapterConf) (a : AdapterConf) → AllByRecursion (λ (d : AdapterConf). IsWritten d.path) done → IsReadAfter managers servants done a → IsAdapter (length ms) (length ss) done a
+module _ (ms : List ManagerConf) (ss : List ServantConf) (managers servants : Find) (ms_noted : managers ≡ place_of (manager_names ms))
+    (ss_noted : servants ≡ place_of (servant_names ss)) where
+  adapter_keeps : (done : List AdapterConf) (a : AdapterConf) → AllByRecursion (λ (d : AdapterConf). IsWritten d.path) done
+      → IsReadAfter managers servants done a → IsAdapter (length ms) (length ss) done a
   adapter_keeps done a written read = record {
     few = read.few;
     named = read.named;
     new = new_path a done (none_new (λ (x : AdapterConf). path_text x.path) done (path_text a.path) read.fresh);
     boot = λ boots. has_parent_below done a.path written (record { few = read.few; named = read.named }) (read.boot boots);
-    template = template_weaker (IsManagerNumber managers) (IsNumber servants) (λ n. n ≤ length ms) (λ n. n < length ss) (manager_number_within ms managers ms_noted) (servant_number_within ss servants ss_noted) a read.template;
+    template =
+        template_weaker (IsManagerNumber managers) (IsNumber servants) (λ n. n ≤ length ms) (λ n. n < length ss) (manager_number_within ms managers ms_noted)
+        (servant_number_within ss servants ss_noted) a read.template;
   }
 
-  keep_after : (done xs : List AdapterConf) → AllByRecursion (λ (d : AdapterConf). IsWritten d.path) done → EachAfter (IsReadAfter managers servants) done xs → EachAfter (IsAdapter (length ms) (length ss)) done xs
+  keep_after : (done xs : List AdapterConf) → AllByRecursion (λ (d : AdapterConf). IsWritten d.path) done → EachAfter (IsReadAfter managers servants) done xs
+      → EachAfter (IsAdapter (length ms) (length ss)) done xs
   keep_after done [] written each = tt
   keep_after done (x ∷ xs) written each =
       (adapter_keeps done x written each.0, keep_after (done ++ x ∷ []) xs (all_push (λ (d : AdapterConf). IsWritten d.path) done x written (record { few = each.0.few; named = each.0.named })) each.1)

@@ -88,7 +88,11 @@ pub found_by_text : (adapters : List AdapterConf) (p : List (List ℕ)) (k : ℕ
     → place_of (adapter_paths adapters) (path_text p) ≡ Some k → IsFoundAt adapters p k
 found_by_text adapters p k all written h =
     let at = found_at (λ (a : AdapterConf). path_text a.path) adapters (path_text p) k h in
-    record { adapter = at.entry; stands = at.stands; path_is = one_path at.entry.path p (all_at (λ (a : AdapterConf). IsWritten a.path) adapters k at.entry all at.stands) written at.named }
+    record {
+      adapter = at.entry;
+      stands = at.stands;
+      path_is = one_path at.entry.path p (all_at (λ (a : AdapterConf). IsWritten a.path) adapters k at.entry all at.stands) written at.named;
+    }
 
 boot_found : (done : List AdapterConf) (q : List (List ℕ)) (o : Option ℕ) → ((k : ℕ) → o ≡ Some k → IsFoundAt done q k) → boots_at done o ≡ true → IsBoot done q
 boot_found done q None at boots = absurd (false≢true boots)
@@ -102,7 +106,8 @@ stands_below done [] all written boots = inl refl
 stands_below done (n ∷ ns) all written boots =
     inr (boot_found done (n ∷ ns) (place_of (adapter_paths done) (path_text (n ∷ ns))) (λ k there. found_by_text done (n ∷ ns) k all written there) boots)
 
-pub has_parent_below : (done : List AdapterConf) (p : List (List ℕ)) → AllByRecursion (λ a. IsWritten a.path) done → IsWritten p → HasParent (place_of (adapter_paths done)) done p → IsBelow done p
+pub has_parent_below : (done : List AdapterConf) (p : List (List ℕ)) → AllByRecursion (λ a. IsWritten a.path) done → IsWritten p
+    → HasParent (place_of (adapter_paths done)) done p → IsBelow done p
 has_parent_below done [] all written has = absurd has
 has_parent_below done (n ∷ ns) all written has =
     let child = child_of n ns in
@@ -114,5 +119,6 @@ has_parent_below done (n ∷ ns) all written has =
       parent = child.parent;
       name = child.name;
       child = child.is;
-      stands = stands_below done child.parent all (record { few = few; named = front }) (ap (parent_boots (place_of (adapter_paths done)) done) (sym text) ∙ has);
+      stands =
+          stands_below done child.parent all (record { few = few; named = front }) (ap (parent_boots (place_of (adapter_paths done)) done) (sym text) ∙ has);
     }

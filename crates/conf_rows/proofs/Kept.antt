@@ -26,17 +26,20 @@ use Rattle.conf_rows.specs.Managers.{manager_names}
 use Rattle.conf_rows.specs.Servants.{servant_names}
 use Rattle.conf_rows.specs.Found.{IsManagerNumber}
 
-pub manager_keeps : (done : List ManagerConf) (m : ManagerConf) (f : Find) → f ≡ place_of (manager_names done) → f m.name ≡ None → is_name m.name ≡ true → IsManager done m
+pub manager_keeps : (done : List ManagerConf) (m : ManagerConf) (f : Find) → f ≡ place_of (manager_names done) → f m.name ≡ None → is_name m.name ≡ true
+    → IsManager done m
 manager_keeps done m f noted fresh named =
     let root = codes "root" in
-    let (other, rest) = not_here (bytes_eq root m.name) (place_of (map (λ (x : ManagerConf). x.name) done) m.name) (ap (λ (g : Find). g m.name) (sym noted) ∙ fresh) in
+    let (other, rest) =
+    not_here (bytes_eq root m.name) (place_of (map (λ (x : ManagerConf). x.name) done) m.name) (ap (λ (g : Find). g m.name) (sym noted) ∙ fresh) in
     record {
       named = named;
       other = λ same. absurd (false≢true (sym other ∙ (bytes_eq-Decides root m.name).1 (sym same)));
       new = none_new (λ (x : ManagerConf). x.name) done m.name rest;
     }
 
-pub servant_keeps : (done : List ServantConf) (s : ServantConf) (f : Find) → f ≡ place_of (servant_names done) → f s.name ≡ None → is_name s.name ≡ true → IsServant done s
+pub servant_keeps : (done : List ServantConf) (s : ServantConf) (f : Find) → f ≡ place_of (servant_names done) → f s.name ≡ None → is_name s.name ≡ true
+    → IsServant done s
 servant_keeps done s f noted fresh named =
     record { named = named; new = none_new (λ (x : ServantConf). x.name) done s.name (ap (λ (g : Find). g s.name) (sym noted) ∙ fresh) }
 
@@ -71,11 +74,13 @@ gives_weaker P Q weaker set (gives.Servant n) h = weaker n h
 gives_weaker P Q weaker set (gives.Forward e) h = h
 gives_weaker P Q weaker set (gives.Raise e) h = h
 
-each_gives : (P Q : ℕ → Type 0) → ((n : ℕ) → P n → Q n) → (set : PolicySet) (rs : List RuleConf) → AllByRecursion (λ r. GivesWithin P set r.gives) rs → AllByRecursion (λ r. GivesWithin Q set r.gives) rs
+each_gives : (P Q : ℕ → Type 0) → ((n : ℕ) → P n → Q n) → (set : PolicySet) (rs : List RuleConf) → AllByRecursion (λ r. GivesWithin P set r.gives) rs
+    → AllByRecursion (λ r. GivesWithin Q set r.gives) rs
 each_gives P Q weaker set [] h = tt
 each_gives P Q weaker set (r ∷ rs) h = (gives_weaker P Q weaker set r.gives h.0, each_gives P Q weaker set rs h.1)
 
-preset_weaker : (P Q : ℕ → Type 0) → ((n : ℕ) → P n → Q n) → (set : PolicySet) (preset : Option ℕ) → IfSome preset (IsPreset P set) → IfSome preset (IsPreset Q set)
+preset_weaker : (P Q : ℕ → Type 0) → ((n : ℕ) → P n → Q n) → (set : PolicySet) (preset : Option ℕ) → IfSome preset (IsPreset P set)
+    → IfSome preset (IsPreset Q set)
 preset_weaker P Q weaker set None h = tt
 preset_weaker P Q weaker set (Some n) h = (h.0, weaker n h.1)
 

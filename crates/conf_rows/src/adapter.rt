@@ -85,7 +85,8 @@ fn boot_at(
     table: &Table,
 ) -> Result<bool, ConfFault>
     ensures value { FieldGives result (the_boot_at at (find_in paths.now) adapters.now text.now (table_view table.now)) }
-    ensures parent { IfOk result (λ boot. boot ≡ true → the_parent_boots (find_in paths.now) adapters.now (the_parent_text text.now) ≡ true) }
+    ensures parent { IfOk result
+        (λ boot. boot ≡ true → the_parent_boots (find_in paths.now) adapters.now (the_parent_text text.now) ≡ true) }
 {
     let boot = flag_or(alloc, at, table, "boot", false)?;
     let rooted = parent_boots(paths, adapters, parent_text(text));
@@ -177,9 +178,12 @@ fn template_at(
     table: &Table,
 ) -> Result<AdapterConf, ConfFault>
     requires { text.now ≡ path_text path }
-    ensures value { FieldGives result (the_template_at i path (find_in earlier.now.managers.now) (find_in earlier.now.servants.now) (find_in earlier.now.paths.now) earlier.now.adapters.now (table_view table.now)) }
+    ensures value { FieldGives result
+        (the_template_at i path (find_in earlier.now.managers.now) (find_in earlier.now.servants.now)
+        (find_in earlier.now.paths.now) earlier.now.adapters.now (table_view table.now)) }
     ensures path { IfOk result (λ a. a.path ≡ path) }
-    ensures boot { IfOk result (λ a. a.boot ≡ true → the_parent_boots (find_in earlier.now.paths.now) earlier.now.adapters.now (the_parent_text text.now) ≡ true) }
+    ensures boot { IfOk result
+        (λ a. a.boot ≡ true → the_parent_boots (find_in earlier.now.paths.now) earlier.now.adapters.now (the_parent_text text.now) ≡ true) }
     ensures found { IfOk result (λ a. IsFound (find_in earlier.now.managers.now) (find_in earlier.now.servants.now) a) }
 {
     let at = Place::Adapter(i);
@@ -210,7 +214,9 @@ fn entry_at(
     table: &Table,
 ) -> Result<AdapterConf, ConfFault>
     requires { text.now ≡ path_text path }
-    ensures value { FieldGives result (the_entry_at path i (find_in earlier.now.managers.now) (find_in earlier.now.servants.now) (find_in earlier.now.paths.now) earlier.now.adapters.now (table_view table.now)) }
+    ensures value { FieldGives result
+        (the_entry_at path i (find_in earlier.now.managers.now) (find_in earlier.now.servants.now)
+        (find_in earlier.now.paths.now) earlier.now.adapters.now (table_view table.now)) }
     ensures path { IfOk result (λ a. a.path ≡ path) }
     ensures boot { IfOk result (λ a. a.boot ≡ true → HasParent (find_in earlier.now.paths.now) earlier.now.adapters.now path) }
     ensures found { IfOk result (λ a. IsFound (find_in earlier.now.managers.now) (find_in earlier.now.servants.now) a) }
@@ -230,9 +236,13 @@ fn adapter_at<'a>(
     earlier: &Earlier,
     table: &'a Table,
 ) -> Result<(AdapterConf, &'a str), ConfFault>
-    ensures value { GivesView (λ p. p.0) result (the_adapter_at i (find_in earlier.now.managers.now) (find_in earlier.now.servants.now) (find_in earlier.now.paths.now) earlier.now.adapters.now (table_view table.now)) }
+    ensures value { GivesView (λ p. p.0) result
+        (the_adapter_at i (find_in earlier.now.managers.now) (find_in earlier.now.servants.now)
+        (find_in earlier.now.paths.now) earlier.now.adapters.now (table_view table.now)) }
     ensures name { IfOk result (λ p. p.1.now ≡ path_text p.0.path) }
-    ensures read { IfOk result (λ p. IsRead (find_in earlier.now.managers.now) (find_in earlier.now.servants.now) (find_in earlier.now.paths.now) earlier.now.adapters.now p.0) }
+    ensures read { IfOk result
+        (λ p. IsRead (find_in earlier.now.managers.now) (find_in earlier.now.servants.now)
+        (find_in earlier.now.paths.now) earlier.now.adapters.now p.0) }
 {
     let at = Place::Adapter(i);
     let (path, text) = path_at(alloc, at, table, "path")?;
@@ -251,7 +261,8 @@ fn next_adapter(
     paths: &mut Numbers,
     adapters: &[AdapterConf],
 ) -> Result<AdapterConf, ConfFault>
-    ensures entry { FieldGives result (adapter_in i (find_in managers.now) (find_in servants.now) (find_in paths.old) adapters.now (view value.now)) }
+    ensures entry { FieldGives result
+        (adapter_in i (find_in managers.now) (find_in servants.now) (find_in paths.old) adapters.now (view value.now)) }
     ensures read { IfOk result (λ a. IsRead (find_in managers.now) (find_in servants.now) (find_in paths.old) adapters.now a) }
     ensures noted { IfOk result (λ a. find_in paths.new ≡ noted (path_text a.path) i (find_in paths.old)) }
 {
@@ -278,7 +289,8 @@ fn entries(
 ) -> Result<Items<AdapterConf>, ConfFault>
     requires few { length values.now ≤ 1024 }
     requires start { find_in paths.old ≡ place_of (adapter_paths []) }
-    ensures value { FieldGives result (entries_of (adapter_after (find_in managers.now) (find_in servants.now)) [] (items_view values.now)) }
+    ensures value { FieldGives result
+        (entries_of (adapter_after (find_in managers.now) (find_in servants.now)) [] (items_view values.now)) }
     ensures paths { IfOk result (λ adapters. find_in paths.new ≡ place_of (adapter_paths adapters)) }
     ensures read { IfOk result (λ adapters. EachAfter (IsReadAfter (find_in managers.now) (find_in servants.now)) [] adapters) }
     ensures few { IfOk result (λ adapters. length adapters ≤ 1024) }

@@ -27,7 +27,8 @@ use Rattle.conf_toml.specs.Forwards.{forward_paths}
 use Rattle.conf_toml.specs.Found.{HomeFound, IsReadAfter}
 use Rattle.conf_toml.specs.Objects.{id_text, id_texts, ids_of, servant_text, taken_of}
 
-new_forward_path : (f : ForwardConf) (ds : List ForwardConf) → AllByRecursion (λ (d : ForwardConf). path_text d.path ≢ path_text f.path) ds → IsNew (λ (x : ForwardConf). x.path) ds f
+new_forward_path : (f : ForwardConf) (ds : List ForwardConf) → AllByRecursion (λ (d : ForwardConf). path_text d.path ≢ path_text f.path) ds
+    → IsNew (λ (x : ForwardConf). x.path) ds f
 new_forward_path f [] all = tt
 new_forward_path f (d ∷ ds) all = (λ same. all.0 (ap path_text same), new_forward_path f ds all.1)
 
@@ -36,12 +37,14 @@ pub forward_keeps : (done : List ForwardConf) (f : ForwardConf) (find : Find) �
 forward_keeps done f find noted fresh written endpoint = record {
   few = written.0;
   named = written.1;
-  new = new_forward_path f done (none_new (λ (x : ForwardConf). path_text x.path) done (path_text f.path) (ap (λ (g : Find). g (path_text f.path)) (sym noted) ∙ fresh));
+  new = new_forward_path f done
+      (none_new (λ (x : ForwardConf). path_text x.path) done (path_text f.path) (ap (λ (g : Find). g (path_text f.path)) (sym noted) ∙ fresh));
   endpoint = endpoint;
 }
 
 -- a text that wasn't seen is none of those
-unseen : (t q : List ℕ) (more : List (List ℕ)) (here : Bool) → (here ≡ bytes_eq t q) → (if here then Some 0 else seen_of more q) ≡ None → (t ≢ q) × (seen_of more q ≡ None)
+unseen : (t q : List ℕ) (more : List (List ℕ)) (here : Bool) → (here ≡ bytes_eq t q) → (if here then Some 0 else seen_of more q) ≡ None → (t ≢ q)
+    × (seen_of more q ≡ None)
 unseen t q more true is h = cc
 unseen t q more false is h = (λ same. false≢true (is ∙ (bytes_eq-Decides t q).1 same), h)
 
@@ -54,13 +57,15 @@ other_id path (Some given) p id more h =
     let (other, rest) = unseen (id_text (path_text path) given) q more (bytes_eq (id_text (path_text path) given) q) refl h in
     (λ same there. other (ap (λ (x : List (List ℕ)). id_text (path_text x) given) same ∙ ap (id_text (path_text p)) (same_Some given id there)), rest)
 
-new_id : (o : ObjectConf) (id : List ℕ) → o.oid ≡ Some id → (ds : List ObjectConf) → seen_of (ids_of ds) (id_text (path_text o.adapter) id) ≡ None → IsNew id_key ds o
+new_id : (o : ObjectConf) (id : List ℕ) → o.oid ≡ Some id → (ds : List ObjectConf) → seen_of (ids_of ds) (id_text (path_text o.adapter) id) ≡ None
+    → IsNew id_key ds o
 new_id o id is [] h = tt
 new_id o id is (d ∷ ds) h =
     let (other, rest) = other_id d.adapter d.oid o.adapter id (ids_of ds) h in
     (λ same. other (ap (λ k. k.0) same) (ap (λ k. k.1) same ∙ is), new_id o id is ds rest)
 
-new_ids : (o : ObjectConf) (oid : Option (List ℕ)) → o.oid ≡ oid → (ds : List ObjectConf) → IfSome oid (λ id. seen_of (ids_of ds) (id_text (path_text o.adapter) id) ≡ None) → is_some oid ≡ true → IsNew id_key ds o
+new_ids : (o : ObjectConf) (oid : Option (List ℕ)) → o.oid ≡ oid → (ds : List ObjectConf)
+    → IfSome oid (λ id. seen_of (ids_of ds) (id_text (path_text o.adapter) id) ≡ None) → is_some oid ≡ true → IsNew id_key ds o
 new_ids o None is ds h some = absurd (false≢true some)
 new_ids o (Some id) is ds h some = new_id o id is ds h
 
@@ -72,19 +77,29 @@ new_servant o (d ∷ ds) h =
     let (other, rest) = unseen t q (taken_of ds) (bytes_eq t q) refl h in
     (λ same. other (ap (λ k. servant_text (path_text k.0) k.1) same), new_servant o ds rest)
 
-home_kept : (find : Find) (adapters : List AdapterConf) (p : List (List ℕ)) (set : PolicySet) → find ≡ place_of (adapter_paths adapters) → AllByRecursion (λ (a : AdapterConf). IsWritten a.path) adapters
+home_kept : (find : Find) (adapters : List AdapterConf) (p : List (List ℕ)) (set : PolicySet) → find ≡ place_of (adapter_paths adapters)
+    → AllByRecursion (λ (a : AdapterConf). IsWritten a.path) adapters
     → IsWritten p → HomeFound find adapters p set → IsHome adapters p set
 home_kept find adapters [] set noted all written home = home
 home_kept find adapters (n ∷ ns) set noted all written home =
     let at = found_by_text adapters (n ∷ ns) home.place all written (ap (λ (g : Find). g (path_text (n ∷ ns))) (sym noted) ∙ home.found) in
     let same : home.fit.adapter ≡ at.adapter = same_Some home.fit.adapter at.adapter (sym home.fit.is ∙ at.stands) in
-    record { adapter = home.fit.adapter; stands = (home.place, home.fit.is); path_is = ap (λ (a : AdapterConf). a.path) same ∙ at.path_is; boots = home.fit.boots; retains = home.fit.retains; policies = home.fit.policies }
+    record {
+      adapter = home.fit.adapter;
+      stands = (home.place, home.fit.is);
+      path_is = ap (λ (a : AdapterConf). a.path) same ∙ at.path_is;
+      boots = home.fit.boots;
+      retains = home.fit.retains;
+      policies = home.fit.policies;
+    }
 
-alone_kept : (o : ObjectConf) (ds : List ObjectConf) (A : Type 0) → A ⊎ (seen_of (taken_of ds) (servant_text (path_text o.adapter) o.servant) ≡ None) → A ⊎ IsNew servant_key ds o
+alone_kept : (o : ObjectConf) (ds : List ObjectConf) (A : Type 0) → A ⊎ (seen_of (taken_of ds) (servant_text (path_text o.adapter) o.servant) ≡ None) → A
+    ⊎ IsNew servant_key ds o
 alone_kept o ds A (inl shared) = inl shared
 alone_kept o ds A (inr free) = inr (new_servant o ds free)
 
-module _ (find servants : Find) (adapters : List AdapterConf) (ss : List ServantConf) (paths_noted : find ≡ place_of (adapter_paths adapters)) (ss_noted : servants ≡ place_of (servant_names ss))
+module _ (find servants : Find) (adapters : List AdapterConf) (ss : List ServantConf) (paths_noted : find ≡ place_of (adapter_paths adapters))
+    (ss_noted : servants ≡ place_of (servant_names ss))
     (written : AllByRecursion (λ (a : AdapterConf). IsWritten a.path) adapters) where
   object_keeps : (done : List ObjectConf) (o : ObjectConf) → IsReadAfter find adapters servants done o → IsObject adapters (length ss) done o
   object_keeps done o read = record {

@@ -100,7 +100,8 @@ abbrev pub object_in : Place → Find → List AdapterConf → Find → Find →
 object_in at homes adapters servants ids taken d = table_in at d >>= object_at at homes adapters servants ids taken
 
 abbrev pub object_after : Find → List AdapterConf → Find → List ObjectConf → Data → Result ObjectConf ConfFault
-object_after homes adapters servants done d = object_in (Object (length done)) homes adapters servants (seen_of (ids_of done)) (seen_of (taken_of done)) d
+object_after homes adapters servants done d =
+    object_in (Object (length done)) homes adapters servants (seen_of (ids_of done)) (seen_of (taken_of done)) d
 
 unfoldable pub objects_of : Find → List AdapterConf → Find → Members → Result (List ObjectConf) ConfFault
 objects_of homes adapters servants ms = do

@@ -12,7 +12,9 @@ use Rattle.conf_toml.specs.declared.settings.Settings.{Settings}
 
 -- the keys of the top table
 unfoldable pub top_keys : List (List ℕ)
-top_keys = codes "run" ∷ codes "host" ∷ codes "port" ∷ codes "admin_port" ∷ codes "gate_ms" ∷ codes "root" ∷ codes "manager" ∷ codes "servant" ∷ codes "adapter" ∷ codes "object" ∷ codes "forward" ∷ []
+top_keys =
+    codes "run" ∷ codes "host" ∷ codes "port" ∷ codes "admin_port" ∷ codes "gate_ms" ∷ codes "root" ∷ codes "manager" ∷ codes
+    "servant" ∷ codes "adapter" ∷ codes "object" ∷ codes "forward" ∷ []
 
 unfoldable pub settings_of : Members → Result Settings ConfFault
 settings_of ms = do

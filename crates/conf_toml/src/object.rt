@@ -148,7 +148,8 @@ fn new_servant(
     servant: u32,
 ) -> Result<(), ConfFault>
     ensures value { FieldGives result (the_new_servant at (find_in taken.now) policies.now path.now servant) }
-    ensures alone { OnOk result ((the_multiple_id policies.now.uniqueness ≡ true) ⊎ (find_in taken.now (the_servant_text path.now servant) ≡ None)) }
+    ensures alone { OnOk result
+        ((the_multiple_id policies.now.uniqueness ≡ true) ⊎ (find_in taken.now (the_servant_text path.now servant) ≡ None)) }
 {
     if policies.is_multiple() {
         return Ok(());
@@ -167,9 +168,13 @@ fn object_at<'a>(
     taken: &Numbers,
     table: &'a Table,
 ) -> Result<(ObjectConf, &'a str), ConfFault>
-    ensures value { GivesView (λ p. p.0) result (the_object_at at (find_in homes.now.paths.now) homes.now.adapters.now (find_in homes.now.servants.now) (find_in ids.now) (find_in taken.now) (table_view table.now)) }
+    ensures value { GivesView (λ p. p.0) result
+        (the_object_at at (find_in homes.now.paths.now) homes.now.adapters.now (find_in homes.now.servants.now) (find_in ids.now)
+        (find_in taken.now) (table_view table.now)) }
     ensures text { IfOk result (λ p. p.1.now ≡ path_text p.0.adapter) }
-    ensures read { IfOk result (λ p. IsRead (find_in homes.now.paths.now) homes.now.adapters.now (find_in homes.now.servants.now) (find_in ids.now) (find_in taken.now) p.0) }
+    ensures read { IfOk result
+        (λ p. IsRead (find_in homes.now.paths.now) homes.now.adapters.now (find_in homes.now.servants.now) (find_in ids.now)
+        (find_in taken.now) p.0) }
 {
     let (adapter, text) = path_at(alloc, at, table, "adapter")?;
     let policies = home_of(alloc, at, homes, &adapter, text)?;
@@ -221,8 +226,12 @@ fn next_object(
     ids: &mut Numbers,
     taken: &mut Numbers,
 ) -> Result<ObjectConf, ConfFault>
-    ensures entry { FieldGives result (object_in (place.Object i) (find_in homes.now.paths.now) homes.now.adapters.now (find_in homes.now.servants.now) (find_in ids.old) (find_in taken.old) (view value.now)) }
-    ensures read { IfOk result (IsRead (find_in homes.now.paths.now) homes.now.adapters.now (find_in homes.now.servants.now) (find_in ids.old) (find_in taken.old)) }
+    ensures entry { FieldGives result
+        (object_in (place.Object i) (find_in homes.now.paths.now) homes.now.adapters.now (find_in homes.now.servants.now) (find_in ids.old)
+        (find_in taken.old) (view value.now)) }
+    ensures read { IfOk result
+        (IsRead (find_in homes.now.paths.now) homes.now.adapters.now (find_in homes.now.servants.now) (find_in ids.old)
+        (find_in taken.old)) }
     ensures ids { IfOk result (λ o. find_in ids.new ≡ noted_id (path_text o.adapter) o.oid (find_in ids.old)) }
     ensures taken { IfOk result (λ o. find_in taken.new ≡ noted (the_servant_text (path_text o.adapter) o.servant) 0 (find_in taken.old)) }
 {
@@ -244,8 +253,12 @@ fn entries(
     requires few { length values.now ≤ OBJECTS }
     requires ids { find_in ids.old ≡ seen_of (ids_of []) }
     requires taken { find_in taken.old ≡ seen_of (taken_of []) }
-    ensures value { FieldGives result (entries_of (object_after (find_in homes.now.paths.now) homes.now.adapters.now (find_in homes.now.servants.now)) [] (items_view values.now)) }
-    ensures read { IfOk result (λ objects. EachAfter (IsReadAfter (find_in homes.now.paths.now) homes.now.adapters.now (find_in homes.now.servants.now)) [] objects) }
+    ensures value { FieldGives result
+        (entries_of (object_after (find_in homes.now.paths.now) homes.now.adapters.now (find_in homes.now.servants.now)) []
+        (items_view values.now)) }
+    ensures read { IfOk result
+        (λ objects. EachAfter (IsReadAfter (find_in homes.now.paths.now) homes.now.adapters.now (find_in homes.now.servants.now))
+        [] objects) }
     ensures few { IfOk result (λ objects. length objects ≤ OBJECTS) }
 {
     let mut objects = Vec::new(alloc);
@@ -265,8 +278,11 @@ pub(crate) fn objects(
     top: &Table,
     homes: &Homes,
 ) -> Result<Items<ObjectConf>, ConfFault>
-    ensures value { FieldGives result (objects_of (find_in homes.now.paths.now) homes.now.adapters.now (find_in homes.now.servants.now) (table_view top.now)) }
-    ensures read { IfOk result (λ objects. EachAfter (IsReadAfter (find_in homes.now.paths.now) homes.now.adapters.now (find_in homes.now.servants.now)) [] objects) }
+    ensures value { FieldGives result
+        (objects_of (find_in homes.now.paths.now) homes.now.adapters.now (find_in homes.now.servants.now) (table_view top.now)) }
+    ensures read { IfOk result
+        (λ objects. EachAfter (IsReadAfter (find_in homes.now.paths.now) homes.now.adapters.now (find_in homes.now.servants.now))
+        [] objects) }
     ensures few { IfOk result (λ objects. length objects ≤ OBJECTS) }
 {
     let values = entries_at(alloc, Place::Top, top, "object", OBJECTS)?;

@@ -65,7 +65,8 @@ module _ (c : Config) (acts : List Activation) (k : ℕ) (oid : List ℕ) where
 
   busy_tells : (n : ℕ) → slot_of c acts k oid ≡ Busy n → (find active_one acts ≡ None) × ((a : Activation) × (find live_one acts ≡ Some a) × (a.number ≡ n))
   busy_tells n is =
-      elim (find active_one acts) as (λ o. find active_one acts ≡ o → (elim o [ Some a ↦ Active a.number | None ↦ elim (find live_one acts) [ Some a ↦ Busy a.number | None ↦ Free ] ]) ≡ Busy n
+      elim (find active_one acts) as (λ o. find active_one acts ≡ o
+      → (elim o [ Some a ↦ Active a.number | None ↦ elim (find live_one acts) [ Some a ↦ Busy a.number | None ↦ Free ] ]) ≡ Busy n
       → (find active_one acts ≡ None) × ((a : Activation) × (find live_one acts ≡ Some a) × (a.number ≡ n))) [
         | Some a ↦ λ _ same. absurd (let e : Active a.number ≡ Busy n = same in cc)
         | None ↦ λ none. (elim (find live_one acts) as (λ o. find live_one acts ≡ o → (elim o [ Some a ↦ Busy a.number | None ↦ Free ]) ≡ Busy n → (find active_one acts ≡ None) × ((a : Activation) × (find live_one acts ≡ Some a) × (a.number ≡ n))) [
@@ -76,11 +77,14 @@ module _ (c : Config) (acts : List Activation) (k : ℕ) (oid : List ℕ) where
 
   busy_by : (a : Activation) → find active_one acts ≡ None → find live_one acts ≡ Some a → slot_of c acts k oid ≡ Busy a.number
   busy_by a none found =
-      ap (λ o. elim o [ Some b ↦ Active b.number | None ↦ elim (find live_one acts) [ Some b ↦ Busy b.number | None ↦ Free ] ]) none ∙ ap (λ o. elim o [ Some b ↦ Busy b.number | None ↦ Free ]) found
+      ap (λ o. elim o [ Some b ↦ Active b.number | None ↦ elim (find live_one acts) [ Some b ↦ Busy b.number | None ↦ Free ] ]) none
+      ∙ ap (λ o. elim o [ Some b ↦ Busy b.number | None ↦ Free ]) found
 
   active_tells : (n : ℕ) → slot_of c acts k oid ≡ Active n → (a : Activation) × (find active_one acts ≡ Some a)
   active_tells n is =
-      elim (find active_one acts) as (λ o. find active_one acts ≡ o → (elim o [ Some a ↦ Active a.number | None ↦ elim (find live_one acts) [ Some a ↦ Busy a.number | None ↦ Free ] ]) ≡ Active n → (a : Activation) × (find active_one acts ≡ Some a)) [
+      elim (find active_one acts) as (λ o. find active_one acts ≡ o
+      → (elim o [ Some a ↦ Active a.number | None ↦ elim (find live_one acts) [ Some a ↦ Busy a.number | None ↦ Free ] ]) ≡ Active n → (a : Activation)
+      × (find active_one acts ≡ Some a)) [
         | Some a ↦ λ found _. (a, found)
         | None ↦ λ none. (elim (find live_one acts) as (λ o. (elim o [ Some a ↦ Busy a.number | None ↦ Free ]) ≡ Active n → (a : Activation) × (find active_one acts ≡ Some a)) [
           | Some a ↦ λ same. absurd (let e : Busy a.number ≡ Active n = same in cc)
@@ -90,12 +94,14 @@ module _ (c : Config) (acts : List Activation) (k : ℕ) (oid : List ℕ) where
 
   active_by : (a : Activation) → In a acts → active_one a ≡ true → (n : ℕ) × (slot_of c acts k oid ≡ Active n)
   active_by a there passes =
-      elim (find active_one acts) as (λ o. find active_one acts ≡ o → (n : ℕ) × ((elim o [ Some b ↦ Active b.number | None ↦ elim (find live_one acts) [ Some b ↦ Busy b.number | None ↦ Free ] ]) ≡ Active n)) [
+      elim (find active_one acts) as (λ o. find active_one acts ≡ o → (n : ℕ)
+      × ((elim o [ Some b ↦ Active b.number | None ↦ elim (find live_one acts) [ Some b ↦ Busy b.number | None ↦ Free ] ]) ≡ Active n)) [
         | Some b ↦ λ _. (b.number, refl)
         | None ↦ λ none. absurd (find_none active_one a acts none there passes)
       ] refl
 
-module _ (c : Config) (run limit : ℕ) (past : List Entry) (e : Entry) (given : IsGiven c run) (alone : IsGivenAlone c run) (within : IsWithinLimits c limit) (legal : IsLegal c run limit (e ∷ past)) (few : (freed_by c run past e).all ≡ false) where
+module _ (c : Config) (run limit : ℕ) (past : List Entry) (e : Entry) (given : IsGiven c run) (alone : IsGivenAlone c run) (within : IsWithinLimits c limit)
+    (legal : IsLegal c run limit (e ∷ past)) (few : (freed_by c run past e).all ≡ false) where
   abbrev s : Standing
   s = standing c run past
 
@@ -127,7 +133,9 @@ module _ (c : Config) (run limit : ℕ) (past : List Entry) (e : Entry) (given :
   act_after a there =
       let (b, there', goes) = step_later c run past e a there in
       elim (activation_from c run past e b there') [
-        | begun fresh ↦ absurd (let low = sound.counted a there in let f : b.number ≡ a.number = goes.number in let g : b.number ≡ length s.activations = fresh.number in omega (arith, low, f, g))
+        | begun fresh ↦
+            absurd (let low = sound.counted a there in let f : b.number ≡ a.number = goes.number in let g : b.number ≡ length s.activations = fresh.number in
+            omega (arith, low, f, g))
         | stood a' was step ↦ (b, there', subst (λ x. Step x b) (sound.activation_alone a' a was there (sym step.later.number ∙ goes.number)) step)
       ]
 
@@ -135,7 +143,8 @@ module _ (c : Config) (run limit : ℕ) (past : List Entry) (e : Entry) (given :
   never_over a lives finished = absurd (true≢false (sym finished ∙ (or_parts (is_void a) (is_finished c a) lives).1))
 
   -- one that was out and is finished now was finished before, unless its etherealization ends
-  finished_back : (a b : Activation) → In a s.activations → Step a b → (Tells c run past s e a.number → ⊥) → a.out ≡ true → is_finished c b ≡ true → is_finished c a ≡ true
+  finished_back : (a b : Activation) → In a s.activations → Step a b → (Tells c run past s e a.number → ⊥) → a.out ≡ true → is_finished c b ≡ true
+      → is_finished c a ≡ true
   finished_back a b there step untold out finished =
       let parts = and_parts b.out (b.quiet || (not (has_activator c b.path) || b.etherealized)) finished in
       and_from a.out (a.quiet || (not (has_activator c a.path) || a.etherealized)) out
@@ -153,9 +162,12 @@ module _ (c : Config) (run limit : ℕ) (past : List Entry) (e : Entry) (given :
         ])
       ])
 
-  module _ (a b : Activation) (there : In a s.activations) (step : Step a b) (lives : is_over c a ≡ false) (inactive : is_active a ≡ false) (still : is_at a.number moved ≡ false) where
+  module _ (a b : Activation) (there : In a s.activations) (step : Step a b) (lives : is_over c a ≡ false) (inactive : is_active a ≡ false)
+      (still : is_at a.number moved ≡ false) where
     complete_before : is_complete b ≡ true → is_complete a ≡ true
-    complete_before complete = elim step.came [ inl kept ↦ ap complete_phase (sym kept) ∙ complete | inr came ↦ freed_never a.number moved still (brings_moves c run past manned sound limit e legal.0 few a.number b.phase came.1) ]
+    complete_before complete =
+        elim step.came
+        [ inl kept ↦ ap complete_phase (sym kept) ∙ complete | inr came ↦ freed_never a.number moved still (brings_moves c run past manned sound limit e legal.0 few a.number b.phase came.1) ]
 
     -- without an activator it goes once nothing is in flight in it, which the entry then frees
     by_leaves : Leaves c run past s e b → ⊥
@@ -167,9 +179,11 @@ module _ (c : Config) (run limit : ℕ) (past : List Entry) (e : Entry) (given :
           | inl used ↦ by_flight used leaves.2
           | inr unused ↦ (let out : a.out ≡ true = out_run_out c run limit given alone within past legal.1 a there none
               ∙ and_from (is_complete a) (is_ending a && not (is_used s.flights a.number)) complete (and_from (is_ending a) (not (is_used s.flights a.number))
-              (and_from a.ending (not (is_void a)) ending (not_from_false (is_void a) (or_parts (is_void a) (is_finished c a) lives).0)) (not_from_false (is_used s.flights a.number) unused)) in
+              (and_from a.ending (not (is_void a)) ending (not_from_false (is_void a) (or_parts (is_void a) (is_finished c a) lives).0))
+              (not_from_false (is_used s.flights a.number) unused)) in
               never_over a lives (and_from a.out (a.quiet || (not (has_activator c a.path) || a.etherealized)) out
-              (or_right a.quiet (not (has_activator c a.path) || a.etherealized) (or_left (not (has_activator c a.path)) a.etherealized (not_from_false (has_activator c a.path) none)))))
+              (or_right a.quiet (not (has_activator c a.path) || a.etherealized)
+              (or_left (not (has_activator c a.path)) a.etherealized (not_from_false (has_activator c a.path) none)))))
         ]
       where
         activation_is : (o : Option ℕ) → (elim o as (λ _. Bool) [ Some m ↦ m == a.number | None ↦ false ]) ≡ true → o ≡ Some a.number
@@ -180,7 +194,9 @@ module _ (c : Config) (run limit : ℕ) (past : List Entry) (e : Entry) (given :
         by_flight used unused =
             let f = any_in (λ g. elim g.activation as (λ _. Bool) [ Some m ↦ m == a.number | None ↦ false ]) s.flights used in
             elim (flies_on c run past manned sound limit e legal.0 few f.0 f.1) [
-              | inl flies ↦ true≢false (sym (any_by (λ g. elim g.activation as (λ _. Bool) [ Some m ↦ m == a.number | None ↦ false ]) f.0 (changed c run past e s).flights flies f.2)
+              | inl flies ↦
+                  true≢false
+                  (sym (any_by (λ g. elim g.activation as (λ _. Bool) [ Some m ↦ m == a.number | None ↦ false ]) f.0 (changed c run past e s).flights flies f.2)
                   ∙ (ap (λ n. is_used (changed c run past e s).flights n) (sym step.later.number) ∙ unused))
               | inr lands ↦ freed_never a.number moved still (lands.1 ∙ activation_is f.0.activation f.2)
             ]
@@ -191,7 +207,9 @@ module _ (c : Config) (run limit : ℕ) (past : List Entry) (e : Entry) (given :
     by_takes (w, true, is) finished =
         let it = takeout_is c run past w a.number true (subst (λ x. MayFollow c run limit past x) is legal.0) in
         let same : it.it ≡ a = sound.activation_alone it.it a it.there there it.numbered in
-        let due = and_parts (is_complete it.it && (is_ending it.it && (has_activator c it.it.path && not it.it.out))) (not (is_used s.flights it.it.number) && not (is_changing c s.activations it.it.adapter)) it.due in
+        let due =
+        and_parts (is_complete it.it && (is_ending it.it && (has_activator c it.it.path && not it.it.out)))
+        (not (is_used s.flights it.it.number) && not (is_changing c s.activations it.it.adapter)) it.due in
         let first = and_parts (is_complete it.it) (is_ending it.it && (has_activator c it.it.path && not it.it.out)) due.0 in
         let second = and_parts (is_ending it.it) (has_activator c it.it.path && not it.it.out) first.1 in
         let third = and_parts (has_activator c it.it.path) (not it.it.out) second.1 in
@@ -215,7 +233,10 @@ module _ (c : Config) (run limit : ℕ) (past : List Entry) (e : Entry) (given :
     finishes_not finished =
         let parts = and_parts b.out (b.quiet || (not (has_activator c b.path) || b.etherealized)) finished in
         elim (step.out_back parts.0) [
-          | inl out ↦ never_over a lives (finished_back a b there step (λ tells. freed_never a.number moved still (tells_moves c run past manned sound limit e legal.0 few a.number tells)) out finished)
+          | inl out ↦
+              never_over a lives
+              (finished_back a b there step (λ tells. freed_never a.number moved still (tells_moves c run past manned sound limit e legal.0 few a.number tells))
+              out finished)
           | inr other ↦ elim other [ inl leaves ↦ by_leaves leaves | inr takes ↦ by_takes takes finished ]
         ]
 
@@ -251,7 +272,10 @@ module _ (c : Config) (run limit : ℕ) (past : List Entry) (e : Entry) (given :
       let parts = and_parts (is_complete b) (not b.ending) active in
       false_from_ne_true (is_over c b) (λ over. elim (or_cases (is_void b) (is_finished c b) over) [
         | inl void ↦ both b.phase parts.0 void
-        | inr finished ↦ true≢false (sym (manned_after.out_ending b there (and_parts b.out (b.quiet || (not (has_activator c b.path) || b.etherealized)) finished).0) ∙ not-true b.ending parts.1)
+        | inr finished ↦
+            true≢false
+            (sym (manned_after.out_ending b there (and_parts b.out (b.quiet || (not (has_activator c b.path) || b.etherealized)) finished).0)
+            ∙ not-true b.ending parts.1)
       ])
     where
       both : (p : Phase) → complete_phase p ≡ true → void_phase p ≡ true → ⊥
@@ -273,11 +297,13 @@ module _ (c : Config) (run limit : ℕ) (past : List Entry) (e : Entry) (given :
 
   module _ (k : ℕ) (oid : List ℕ) where
     -- two of one id of one adapter that aren't over are one
-    same_of : (u : Standing) → IsSound c run u → (a b : Activation) → In a u.activations → In b u.activations → is_of k oid a ≡ true → is_of k oid b ≡ true → is_over c a ≡ false → is_over c b ≡ false → a ≡ b
+    same_of : (u : Standing) → IsSound c run u → (a b : Activation) → In a u.activations → In b u.activations → is_of k oid a ≡ true → is_of k oid b ≡ true
+        → is_over c a ≡ false → is_over c b ≡ false → a ≡ b
     same_of u sound_ a b is is' of_a of_b lives lives' =
         let pa = and_parts (a.adapter == k) (same_bytes a.oid oid) of_a in
         let pb = and_parts (b.adapter == k) (same_bytes b.oid oid) of_b in
-        sound_.life_alone a b is is' (eqb-true a.adapter k pa.0 ∙ sym (eqb-true b.adapter k pb.0)) (bytes_same a.oid oid pa.1 ∙ sym (bytes_same b.oid oid pb.1)) lives lives'
+        sound_.life_alone a b is is' (eqb-true a.adapter k pa.0 ∙ sym (eqb-true b.adapter k pb.0))
+        (bytes_same a.oid oid pa.1 ∙ sym (bytes_same b.oid oid pb.1)) lives lives'
 
     of_later : (a b : Activation) → Step a b → is_of k oid b ≡ is_of k oid a
     of_later a b step = ap₂ (λ x y. (x == k) && same_bytes y oid) step.later.adapter step.later.oid
@@ -289,32 +315,49 @@ module _ (c : Config) (run limit : ℕ) (past : List Entry) (e : Entry) (given :
         let there = find_in (live_one c s.activations k oid) a s.activations found in
         let tests = and_parts (is_of k oid a) (not (is_over c a)) there.1 in
         let lives : is_over c a ≡ false = not-true (is_over c a) tests.1 in
-        let inactive : is_active a ≡ false = false_from_ne_true (is_active a) (λ active. find_none (active_one c s.activations k oid) a s.activations none there.0 (and_from (is_of k oid a) (is_active a) tests.0 active)) in
+        let inactive : is_active a ≡ false =
+        false_from_ne_true (is_active a)
+        (λ active. find_none (active_one c s.activations k oid) a s.activations none there.0 (and_from (is_of k oid a) (is_active a) tests.0 active)) in
         let still' : is_at a.number moved ≡ false = ap (λ m. is_at m moved) numbered ∙ still in
         let (b, there', step) = act_after a there.0 in
         let of_b : is_of k oid b ≡ true = of_later a b step ∙ tests.0 in
         let lives' : is_over c b ≡ false = lives_on a b there.0 step lives inactive still' in
         let idle : find (active_one c t.activations k oid) t.activations ≡ None = none_active (λ d there_d of_d active_d.
         let d_lives = active_lives d there_d active_d in
-        true≢false (sym (ap is_active (same_of t after b d there' there_d of_b of_d lives' d_lives) ∙ active_d) ∙ stays_inactive a b there.0 step lives inactive still')) in
+        true≢false
+        (sym (ap is_active (same_of t after b d there' there_d of_b of_d lives' d_lives) ∙ active_d)
+        ∙ stays_inactive a b there.0 step lives inactive still')) in
         found_busy b there' of_b lives' idle ∙ ap (λ m. Busy m) (step.later.number ∙ numbered)
       where
-        none_active : ((d : Activation) → In d t.activations → is_of k oid d ≡ true → is_active d ≡ true → ⊥) → find (active_one c t.activations k oid) t.activations ≡ None
+        none_active : ((d : Activation) → In d t.activations → is_of k oid d ≡ true → is_active d ≡ true → ⊥)
+            → find (active_one c t.activations k oid) t.activations ≡ None
         none_active never =
             elim (find (active_one c t.activations k oid) t.activations) as (λ o. find (active_one c t.activations k oid) t.activations ≡ o → o ≡ None) [
               | None ↦ λ _. refl
-              | Some d ↦ λ found. (let it = find_in (active_one c t.activations k oid) d t.activations found in let two = and_parts (is_of k oid d) (is_active d) it.1 in absurd (never d it.0 two.0 two.1))
+              | Some d ↦
+                  λ found.
+                  (let it = find_in (active_one c t.activations k oid) d t.activations found in let two = and_parts (is_of k oid d) (is_active d) it.1 in
+                  absurd (never d it.0 two.0 two.1))
             ] refl
 
-        found_busy : (b : Activation) → In b t.activations → is_of k oid b ≡ true → is_over c b ≡ false → find (active_one c t.activations k oid) t.activations ≡ None → slot_of c t.activations k oid ≡ Busy b.number
+        found_busy : (b : Activation) → In b t.activations → is_of k oid b ≡ true → is_over c b ≡ false
+            → find (active_one c t.activations k oid) t.activations ≡ None → slot_of c t.activations k oid ≡ Busy b.number
         found_busy b there of_b lives idle =
-            elim (find (live_one c t.activations k oid) t.activations) as (λ o. find (live_one c t.activations k oid) t.activations ≡ o → slot_of c t.activations k oid ≡ Busy b.number) [
-              | None ↦ λ none. absurd (find_none (live_one c t.activations k oid) b t.activations none there (and_from (is_of k oid b) (not (is_over c b)) of_b (not_from_false (is_over c b) lives)))
-              | Some d ↦ λ found. (let it = find_in (live_one c t.activations k oid) d t.activations found in let two = and_parts (is_of k oid d) (not (is_over c d)) it.1 in
-                  busy_by c t.activations k oid d idle found ∙ ap (λ x. Busy x.number) (same_of t after d b it.0 there two.0 of_b (not-true (is_over c d) two.1) lives))
+            elim (find (live_one c t.activations k oid) t.activations) as (λ o. find (live_one c t.activations k oid) t.activations ≡ o
+            → slot_of c t.activations k oid ≡ Busy b.number) [
+              | None ↦
+                  λ none. absurd
+                  (find_none (live_one c t.activations k oid) b t.activations none there
+                  (and_from (is_of k oid b) (not (is_over c b)) of_b (not_from_false (is_over c b) lives)))
+              | Some d ↦
+                  λ found.
+                  (let it = find_in (live_one c t.activations k oid) d t.activations found in let two = and_parts (is_of k oid d) (not (is_over c d)) it.1 in
+                  busy_by c t.activations k oid d idle found
+                  ∙ ap (λ x. Busy x.number) (same_of t after d b it.0 there two.0 of_b (not-true (is_over c d) two.1) lives))
             ] refl
 
-    pub inactive_stays : is_at k changed_in ≡ false → ((n : ℕ) → slot_of c s.activations k oid ≡ Active n → ⊥) → (n : ℕ) → slot_of c t.activations k oid ≡ Active n → ⊥
+    pub inactive_stays : is_at k changed_in ≡ false → ((n : ℕ) → slot_of c s.activations k oid ≡ Active n → ⊥) → (n : ℕ)
+        → slot_of c t.activations k oid ≡ Active n → ⊥
     inactive_stays still never n is =
         let (b, found) = active_tells c t.activations k oid n is in
         let it = find_in (active_one c t.activations k oid) b t.activations found in
@@ -331,7 +374,10 @@ module _ (c : Config) (run limit : ℕ) (past : List Entry) (e : Entry) (given :
               | inl was ↦ (let slot = active_by c s.activations k oid a there (and_from (is_of k oid a) (is_active a) of_a was) in never slot.0 slot.1)
               | inr inactive ↦ elim step.came [
                 | inl kept ↦ true≢false (sym (step.later.ending (ends_by a inactive (ap complete_phase (sym kept) ∙ parts.0))) ∙ not-true b.ending parts.1)
-                | inr came ↦ freed_never k changed_in still (brings_changes c run past manned sound limit e legal.0 few a b.phase there came.1 ∙ ap (λ x. Some x) (eqb-true a.adapter k (and_parts (a.adapter == k) (same_bytes a.oid oid) of_a).0))
+                | inr came ↦
+                    freed_never k changed_in still
+                    (brings_changes c run past manned sound limit e legal.0 few a b.phase there came.1
+                    ∙ ap (λ x. Some x) (eqb-true a.adapter k (and_parts (a.adapter == k) (same_bytes a.oid oid) of_a).0))
               ]
             ]
 
@@ -342,17 +388,22 @@ module _ (c : Config) (run limit : ℕ) (past : List Entry) (e : Entry) (given :
       let two = and_parts (found.0.adapter == k) (is_unfinished c found.0) found.2 in
       let (b, there, step) = act_after found.0 found.1 in
       any_by (λ a. (a.adapter == k) && is_unfinished c a) b t.activations there
-      (and_from (b.adapter == k) (is_unfinished c b) (ap (λ x. x == k) step.later.adapter ∙ two.0) (unfinished found.0 b found.1 step (eqb-true found.0.adapter k two.0) two.1))
+      (and_from (b.adapter == k) (is_unfinished c b) (ap (λ x. x == k) step.later.adapter ∙ two.0)
+      (unfinished found.0 b found.1 step (eqb-true found.0.adapter k two.0) two.1))
     where
       unfinished : (a b : Activation) → In a s.activations → Step a b → a.adapter ≡ k → is_unfinished c a ≡ true → is_unfinished c b ≡ true
       unfinished a b there step at is =
           elim (or_cases (is_begun a) (a.out && not (is_finished c a)) is) [
             | inl begins ↦ elim step.came [
               | inl kept ↦ or_left (is_begun b) (b.out && not (is_finished c b)) (ap begun_phase kept ∙ begins)
-              | inr came ↦ freed_never k changed_in still (brings_changes c run past manned sound limit e legal.0 few a b.phase there came.1 ∙ ap (λ x. Some x) at)
+              | inr came ↦
+                  freed_never k changed_in still (brings_changes c run past manned sound limit e legal.0 few a b.phase there came.1 ∙ ap (λ x. Some x) at)
             ]
             | inr going ↦ (let parts = and_parts a.out (not (is_finished c a)) going in
                 or_right (is_begun b) (b.out && not (is_finished c b)) (and_from b.out (not (is_finished c b)) (step.later.out parts.0)
                 (not_from_false (is_finished c b) (false_from_ne_true (is_finished c b) (λ finished.
-                true≢false (sym (finished_back a b there step (λ tells. freed_never k changed_in still (tells_changes c run past manned sound limit e legal.0 few a there tells ∙ ap (λ x. Some x) at)) parts.0 finished) ∙ not-true (is_finished c a) parts.1))))))
+                true≢false
+                (sym (finished_back a b there step
+                (λ tells. freed_never k changed_in still (tells_changes c run past manned sound limit e legal.0 few a there tells ∙ ap (λ x. Some x) at))
+                parts.0 finished) ∙ not-true (is_finished c a) parts.1))))))
           ]

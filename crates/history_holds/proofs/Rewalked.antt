@@ -26,10 +26,12 @@ find_kept {A} test keep x (y ∷ xs) found kept =
     elim (test y) as (λ b. test y ≡ b → cond b (Some y) (find test xs) ≡ Some x → find test (cond (keep y) (y ∷ filter keep xs) (filter keep xs)) ≡ Some x) [
       | true ↦ λ passes same.
           (let at : y ≡ x = cc in
-          ap (λ b. find test (cond b (y ∷ filter keep xs) (filter keep xs))) (ap keep at ∙ kept) ∙ (ap (λ b. cond b (Some y) (find test (filter keep xs))) passes ∙ ap (λ z. Some z) at))
+          ap (λ b. find test (cond b (y ∷ filter keep xs) (filter keep xs))) (ap keep at ∙ kept)
+          ∙ (ap (λ b. cond b (Some y) (find test (filter keep xs))) passes ∙ ap (λ z. Some z) at))
       | false ↦ λ fails more.
           (let again = find_kept test keep x xs more kept in
-          cond_both (keep y) (y ∷ filter keep xs) (filter keep xs) (λ zs. find test zs ≡ Some x) (λ _. ap (λ b. cond b (Some y) (find test (filter keep xs))) fails ∙ again) (λ _. again))
+          cond_both (keep y) (y ∷ filter keep xs) (filter keep xs) (λ zs. find test zs ≡ Some x)
+          (λ _. ap (λ b. cond b (Some y) (find test (filter keep xs))) fails ∙ again) (λ _. again))
     ] refl found
 
 find_gone : {A : Type 0} (test keep : A → Bool) (xs : List A) → find test xs ≡ None → find test (filter keep xs) ≡ None
@@ -39,14 +41,17 @@ find_gone {A} test keep (y ∷ xs) none =
       | true ↦ λ _ same. absurd (let e : Some y ≡ None = same in cc)
       | false ↦ λ fails more.
           (let again = find_gone test keep xs more in
-          cond_both (keep y) (y ∷ filter keep xs) (filter keep xs) (λ zs. find test zs ≡ None) (λ _. ap (λ b. cond b (Some y) (find test (filter keep xs))) fails ∙ again) (λ _. again))
+          cond_both (keep y) (y ∷ filter keep xs) (filter keep xs) (λ zs. find test zs ≡ None)
+          (λ _. ap (λ b. cond b (Some y) (find test (filter keep xs))) fails ∙ again) (λ _. again))
     ] refl none
 
 -- a walk from an adapter that is being destroyed meets it
 from_dying : (ns : List Node) (here : Node) (p : List (List ℕ)) → here.dying ≡ true → walk_fact (walk_from ns here p) ≡ MeetsDying
 from_dying ns here [] dying = ap (λ b. walk_fact (if b then Dying here.number else Live here.number)) dying
 from_dying ns here (x ∷ p) dying =
-    ap (λ b. walk_fact (if b then Dying here.number else (elim (node_at ns (here.path ++ x ∷ [])) as (λ _. Found) [ Some n ↦ walk_from ns n p | None ↦ Missing here.number (length here.path) ]))) dying
+    ap (λ b. walk_fact
+    (if b then Dying here.number else
+    (elim (node_at ns (here.path ++ x ∷ [])) as (λ _. Found) [ Some n ↦ walk_from ns n p | None ↦ Missing here.number (length here.path) ]))) dying
 
 module _ (ns : List Node) (keep : Node → Bool) (living : (n : Node) → n.dying ≡ false → keep n ≡ true) where
   abbrev left : List Node
@@ -58,27 +63,40 @@ module _ (ns : List Node) (keep : Node → Bool) (living : (n : Node) → n.dyin
   walk_from_same : (here : Node) (p : List (List ℕ)) → (walk_fact (walk_from ns here p) ≡ MeetsDying → ⊥) → walk_from left here p ≡ walk_from ns here p
   walk_from_same here [] other = refl
   walk_from_same here (x ∷ p) other =
-      elim here.dying as (λ b. (walk_fact (if b then Dying here.number else (elim (node_at ns (here.path ++ x ∷ [])) as (λ _. Found) [ Some n ↦ walk_from ns n p | None ↦ Missing here.number (length here.path) ])) ≡ MeetsDying → ⊥)
-      → (if b then Dying here.number else (elim (node_at left (here.path ++ x ∷ [])) as (λ _. Found) [ Some n ↦ walk_from left n p | None ↦ Missing here.number (length here.path) ]))
-      ≡ (if b then Dying here.number else (elim (node_at ns (here.path ++ x ∷ [])) as (λ _. Found) [ Some n ↦ walk_from ns n p | None ↦ Missing here.number (length here.path) ]))) [
+      elim here.dying as (λ b.
+      (walk_fact
+      (if b then Dying here.number else
+      (elim (node_at ns (here.path ++ x ∷ [])) as (λ _. Found) [ Some n ↦ walk_from ns n p | None ↦ Missing here.number (length here.path) ])) ≡ MeetsDying → ⊥)
+      → (if b then Dying here.number else
+      (elim (node_at left (here.path ++ x ∷ [])) as (λ _. Found) [ Some n ↦ walk_from left n p | None ↦ Missing here.number (length here.path) ]))
+      ≡ (if b then Dying here.number else
+      (elim (node_at ns (here.path ++ x ∷ [])) as (λ _. Found) [ Some n ↦ walk_from ns n p | None ↦ Missing here.number (length here.path) ]))) [
         | true ↦ λ _. refl
         | false ↦ λ apart.
-            elim (node_at ns (here.path ++ x ∷ [])) as (λ o. node_at ns (here.path ++ x ∷ []) ≡ o → (walk_fact (elim o as (λ _. Found) [ Some n ↦ walk_from ns n p | None ↦ Missing here.number (length here.path) ]) ≡ MeetsDying → ⊥)
-            → (elim (node_at left (here.path ++ x ∷ [])) as (λ _. Found) [ Some n ↦ walk_from left n p | None ↦ Missing here.number (length here.path) ]) ≡ (elim o as (λ _. Found) [ Some n ↦ walk_from ns n p | None ↦ Missing here.number (length here.path) ])) [
+            elim (node_at ns (here.path ++ x ∷ [])) as (λ o. node_at ns (here.path ++ x ∷ []) ≡ o
+            → (walk_fact (elim o as (λ _. Found) [ Some n ↦ walk_from ns n p | None ↦ Missing here.number (length here.path) ]) ≡ MeetsDying → ⊥)
+            → (elim (node_at left (here.path ++ x ∷ [])) as (λ _. Found) [ Some n ↦ walk_from left n p | None ↦ Missing here.number (length here.path) ]) ≡
+            (elim o as (λ _. Found) [ Some n ↦ walk_from ns n p | None ↦ Missing here.number (length here.path) ])) [
               | Some n ↦ λ found living_.
-                  ap (λ o. elim o as (λ _. Found) [ Some m ↦ walk_from left m p | None ↦ Missing here.number (length here.path) ]) (find_kept (λ m. same_path m.path (here.path ++ x ∷ [])) keep n ns found (kept_by n p living_)) ∙ walk_from_same n p living_
+                  ap (λ o. elim o as (λ _. Found) [ Some m ↦ walk_from left m p | None ↦ Missing here.number (length here.path) ])
+                  (find_kept (λ m. same_path m.path (here.path ++ x ∷ [])) keep n ns found (kept_by n p living_)) ∙ walk_from_same n p living_
               | None ↦ λ none _.
-                  ap (λ o. elim o as (λ _. Found) [ Some m ↦ walk_from left m p | None ↦ Missing here.number (length here.path) ]) (find_gone (λ m. same_path m.path (here.path ++ x ∷ [])) keep ns none)
+                  ap (λ o. elim o as (λ _. Found) [ Some m ↦ walk_from left m p | None ↦ Missing here.number (length here.path) ])
+                  (find_gone (λ m. same_path m.path (here.path ++ x ∷ [])) keep ns none)
             ] refl apart
       ] other
 
   pub walk_same : (p : List (List ℕ)) → (walk_fact (walk ns p) ≡ MeetsDying → ⊥) → walk left p ≡ walk ns p
   walk_same p other =
-      elim (node_at ns []) as (λ o. node_at ns [] ≡ o → (walk_fact (elim o as (λ _. Found) [ Some root ↦ walk_from ns root p | None ↦ Missing 0 0 ]) ≡ MeetsDying → ⊥)
-      → (elim (node_at left []) as (λ _. Found) [ Some root ↦ walk_from left root p | None ↦ Missing 0 0 ]) ≡ (elim o as (λ _. Found) [ Some root ↦ walk_from ns root p | None ↦ Missing 0 0 ])) [
+      elim (node_at ns []) as (λ o. node_at ns [] ≡ o
+      → (walk_fact (elim o as (λ _. Found) [ Some root ↦ walk_from ns root p | None ↦ Missing 0 0 ]) ≡ MeetsDying → ⊥)
+      → (elim (node_at left []) as (λ _. Found) [ Some root ↦ walk_from left root p | None ↦ Missing 0 0 ]) ≡
+      (elim o as (λ _. Found) [ Some root ↦ walk_from ns root p | None ↦ Missing 0 0 ])) [
         | Some root ↦ λ found living_.
-            ap (λ o. elim o as (λ _. Found) [ Some m ↦ walk_from left m p | None ↦ Missing 0 0 ]) (find_kept (λ m. same_path m.path []) keep root ns found (kept_by root p living_)) ∙ walk_from_same root p living_
-        | None ↦ λ none _. ap (λ o. elim o as (λ _. Found) [ Some m ↦ walk_from left m p | None ↦ Missing 0 0 ]) (find_gone (λ m. same_path m.path []) keep ns none)
+            ap (λ o. elim o as (λ _. Found) [ Some m ↦ walk_from left m p | None ↦ Missing 0 0 ])
+            (find_kept (λ m. same_path m.path []) keep root ns found (kept_by root p living_)) ∙ walk_from_same root p living_
+        | None ↦
+            λ none _. ap (λ o. elim o as (λ _. Found) [ Some m ↦ walk_from left m p | None ↦ Missing 0 0 ]) (find_gone (λ m. same_path m.path []) keep ns none)
       ] refl other
 
 -- the front of a path up to the name behind a shorter one
@@ -87,7 +105,8 @@ one_more [] x more = refl
 one_more (y ∷ q) x more = ap (λ r. y ∷ r) (one_more q x more)
 
 -- a trial of the missing child that a walk meets is in flight in the adapter that the walk meets
-pub trial_at : (c : Config) (run : ℕ) (s : Standing) → IsSound c run s → (p : List (List ℕ)) → walk_fact (walk s.nodes p) ≡ MeetsMissing → (f : Flight) → In f s.flights → (q : List (List ℕ)) → f.child ≡ Some q
+pub trial_at : (c : Config) (run : ℕ) (s : Standing) → IsSound c run s → (p : List (List ℕ)) → walk_fact (walk s.nodes p) ≡ MeetsMissing → (f : Flight)
+    → In f s.flights → (q : List (List ℕ)) → f.child ≡ Some q
     → same_path q (child_met (walk s.nodes p) p) ≡ true → f.adapter ≡ adapter_met (walk s.nodes p)
 trial_at c run s sound p missing f there q tries same = by_walk (walk s.nodes p) (walk_tells s.nodes s.count p sound.tree) missing same
   where
@@ -99,5 +118,6 @@ trial_at c run s sound p missing f there q tries same = by_walk (walk s.nodes p)
         let (x, more, whole, free) = rest in
         let child : take (suc depth) p ≡ n.path ++ x ∷ [] = ap₂ (λ d r. take (suc d) r) deep whole ∙ one_more n.path x more in
         let trial = sound.trials f q there tries in
-        let paths : trial.parent.path ≡ n.path = front_same trial.parent.path n.path trial.name x (sym trial.child ∙ (path_same q (take (suc depth) p) at ∙ child)) in
+        let paths : trial.parent.path ≡ n.path =
+        front_same trial.parent.path n.path trial.name x (sym trial.child ∙ (path_same q (take (suc depth) p) at ∙ child)) in
         sym trial.numbered ∙ (ap (λ m. m.number) (sound.tree.path_alone trial.parent n trial.stands stands paths) ∙ numbered)

@@ -51,9 +51,12 @@ module _ (f : Facts) (cause : Option Cause) where
   forwarded (Some endpoint) name minor = goes _
 
   inactive : Tells (inactive_rule f)
-  inactive = cond_both (is_transient f.key) (refuse f ObjAdapter MANAGER_INACTIVE) (forward_or f.entry (refuse f ObjAdapter MANAGER_INACTIVE)) Tells (λ _. refused ObjAdapter MANAGER_INACTIVE) (λ _. forwarded f.entry ObjAdapter MANAGER_INACTIVE)
+  inactive =
+      cond_both (is_transient f.key) (refuse f ObjAdapter MANAGER_INACTIVE) (forward_or f.entry (refuse f ObjAdapter MANAGER_INACTIVE)) Tells
+      (λ _. refused ObjAdapter MANAGER_INACTIVE) (λ _. forwarded f.entry ObjAdapter MANAGER_INACTIVE)
 
-  through_state : (MeetsAdapter f ⊎ LacksChild f) → (state : ManagerState) → f.state ≡ state → (on : Choice) → (f.state ≡ Active → Tells on) → Tells (state_rule f state on)
+  through_state : (MeetsAdapter f ⊎ LacksChild f) → (state : ManagerState) → f.state ≡ state → (on : Choice) → (f.state ≡ Active → Tells on)
+      → Tells (state_rule f state on)
   through_state meets Holding at on goes_on = holds (Some (ManagerCause f.manager)) (meets, at, refl)
   through_state meets Active at on goes_on = goes_on at
   through_state meets Discarding at on goes_on = refused Transiently DISCARDED
@@ -73,23 +76,38 @@ module _ (f : Facts) (cause : Option Cause) where
     abbrev IsInactive : Type 0
     IsInactive = (n : ℕ) → f.slot ≡ ActiveAs n → ⊥
 
-    by_activator : (is_retain f.policies.retention ≡ true → IsInactive) → f.policies.processing ≡ ServantManager → unmade f ≡ false → f.rules ≡ true → is_retain f.policies.retention ≡ true → Tells (activator_rows f)
+    by_activator : (is_retain f.policies.retention ≡ true → IsInactive) → f.policies.processing ≡ ServantManager → unmade f ≡ false → f.rules ≡ true
+        → is_retain f.policies.retention ≡ true → Tells (activator_rows f)
     by_activator none managed made ruled retains =
         cond_both f.locate (Go Here) (if f.busy then Held (Some (Adapter f.adapter)) else Go (Incarnate f.next)) Tells (λ _. goes _)
         (λ request. cond_both f.busy (Held (Some (Adapter f.adapter))) (Go (Incarnate f.next)) Tells
         (λ busy. holds (Some (Adapter f.adapter)) (subst (λ b. Blocks f (if b then Turn f.adapter else Change f.adapter)) (sym free)
-        (record { adapter = meets; active = active; request = request; retains = retains; inactive = none retains; managed = managed; made = made; ruled = ruled; busy = busy; numbered = refl })))
+        (record {
+          adapter = meets;
+          active = active;
+          request = request;
+          retains = retains;
+          inactive = none retains;
+          managed = managed;
+          made = made;
+          ruled = ruled;
+          busy = busy;
+          numbered = refl;
+        })))
         (λ _. goes _))
 
     by_manager : (is_retain f.policies.retention ≡ true → IsInactive) → f.policies.processing ≡ ServantManager → unmade f ≡ false → Tells (manager_rows f)
     by_manager none managed made =
-        cond_both (not f.rules) (refuse f ObjAdapter NO_SERVANT_MANAGER) (if is_retain f.policies.retention then activator_rows f else locator_rows f) Tells (λ _. refused ObjAdapter NO_SERVANT_MANAGER)
-        (λ ruled. cond_both (is_retain f.policies.retention) (activator_rows f) (locator_rows f) Tells (by_activator none managed made (not-false f.rules ruled))
+        cond_both (not f.rules) (refuse f ObjAdapter NO_SERVANT_MANAGER) (if is_retain f.policies.retention then activator_rows f else locator_rows f) Tells
+        (λ _. refused ObjAdapter NO_SERVANT_MANAGER)
+        (λ ruled. cond_both (is_retain f.policies.retention) (activator_rows f) (locator_rows f) Tells
+        (by_activator none managed made (not-false f.rules ruled))
         (λ _. cond_both f.locate (Go Here) (located_rows f f.located) Tells (λ _. goes _) (λ _. by_located f.located)))
 
     by_processing : (is_retain f.policies.retention ≡ true → IsInactive) → (p : Policy) → f.policies.processing ≡ p → Tells (processing_rows f p)
     by_processing none DefaultServant at = by_default f.preset
-    by_processing none ServantManager at = cond_both (unmade f) (refuse f ObjectNotExist NOT_ACTIVE) (manager_rows f) Tells (λ _. refused ObjectNotExist NOT_ACTIVE) (by_manager none at)
+    by_processing none ServantManager at =
+        cond_both (unmade f) (refuse f ObjectNotExist NOT_ACTIVE) (manager_rows f) Tells (λ _. refused ObjectNotExist NOT_ACTIVE) (by_manager none at)
     by_processing none _ at = refused ObjectNotExist NOT_ACTIVE
 
     by_map : is_retain f.policies.retention ≡ true → (slot : MapFact) → f.slot ≡ slot → Tells (map_rows f slot)
@@ -119,17 +137,20 @@ module _ (f : Facts) (cause : Option Cause) where
   by_trial lacks active =
       cond_both f.trial (Held (Some (TrialCause f.adapter))) (if f.tries then Go Try else forward_or f.entry (refuse f ObjectNotExist NO_ADAPTER)) Tells
       (λ trial. holds (Some (TrialCause f.adapter)) (lacks, active, trial, refl))
-      (λ _. cond_both f.tries (Go Try) (forward_or f.entry (refuse f ObjectNotExist NO_ADAPTER)) Tells (λ _. goes _) (λ _. forwarded f.entry ObjectNotExist NO_ADAPTER))
+      (λ _. cond_both f.tries (Go Try) (forward_or f.entry (refuse f ObjectNotExist NO_ADAPTER)) Tells (λ _. goes _)
+      (λ _. forwarded f.entry ObjectNotExist NO_ADAPTER))
 
   module _ (uncrowded : f.crowded ≡ false) (ours : is_ours f.key ≡ true) (worker : ℕ) where
     by_walk : (walk : WalkFact) → f.walk ≡ walk → Tells (walk_rows f worker walk)
     by_walk MeetsDying at = refused Transiently ADAPTER_DYING
     by_walk MeetsMissing at =
-        cond_both (is_transient f.key) (refuse f ObjectNotExist OTHER_LIFESPAN) (state_rule f f.state (trial_rows f)) Tells (λ _. refused ObjectNotExist OTHER_LIFESPAN)
+        cond_both (is_transient f.key) (refuse f ObjectNotExist OTHER_LIFESPAN) (state_rule f f.state (trial_rows f)) Tells
+        (λ _. refused ObjectNotExist OTHER_LIFESPAN)
         (λ lasting. (let lacks : LacksChild f = record { uncrowded = uncrowded; ours = ours; met = at; lasting = lasting } in
         through_state (inr lacks) f.state refl (trial_rows f) (by_trial lacks)))
     by_walk Met at =
-        cond_both f.differs (refuse f ObjectNotExist OTHER_LIFESPAN) (state_rule f f.state (thread_rows f worker)) Tells (λ _. refused ObjectNotExist OTHER_LIFESPAN)
+        cond_both f.differs (refuse f ObjectNotExist OTHER_LIFESPAN) (state_rule f f.state (thread_rows f worker)) Tells
+        (λ _. refused ObjectNotExist OTHER_LIFESPAN)
         (λ same. (let meets : MeetsAdapter f = record { uncrowded = uncrowded; ours = ours; met = at; same = same } in
         through_state (inl meets) f.state refl (thread_rows f worker) (by_thread worker meets)))
 
@@ -142,7 +163,9 @@ module _ (f : Facts) (cause : Option Cause) where
 
   pub held_blocks : (worker : ℕ) → first_row f worker ≡ Held cause → Blocks f (hold_for f cause)
   unfolding first_row
-  held_blocks worker = cond_both f.crowded (refuse f Transiently DISCARDED) (key_rows f worker f.key) Tells (λ _. refused Transiently DISCARDED) (λ uncrowded. by_key uncrowded worker f.key refl)
+  held_blocks worker =
+      cond_both f.crowded (refuse f Transiently DISCARDED) (key_rows f worker f.key) Tells (λ _. refused Transiently DISCARDED)
+      (λ uncrowded. by_key uncrowded worker f.key refl)
 
 module _ (f : Facts) (worker : ℕ) where
   abbrev Holds : Choice → Type 0
@@ -159,13 +182,16 @@ module _ (f : Facts) (worker : ℕ) where
   unfolding first_row
   adapter_row meets =
       ap (λ b. if b then refuse f Transiently DISCARDED else key_rows f worker f.key) meets.uncrowded
-      ∙ (ours_walks f.key meets.ours ∙ (ap (walk_rows f worker) meets.met ∙ ap (λ b. if b then refuse f ObjectNotExist OTHER_LIFESPAN else state_rule f f.state (thread_rows f worker)) meets.same))
+      ∙ (ours_walks f.key meets.ours
+      ∙ (ap (walk_rows f worker) meets.met ∙ ap
+      (λ b. if b then refuse f ObjectNotExist OTHER_LIFESPAN else state_rule f f.state (thread_rows f worker)) meets.same))
 
   child_row : LacksChild f → first_row f worker ≡ state_rule f f.state (trial_rows f)
   unfolding first_row
   child_row lacks =
       ap (λ b. if b then refuse f Transiently DISCARDED else key_rows f worker f.key) lacks.uncrowded
-      ∙ (ours_walks f.key lacks.ours ∙ (ap (walk_rows f worker) lacks.met ∙ ap (λ b. if b then refuse f ObjectNotExist OTHER_LIFESPAN else state_rule f f.state (trial_rows f)) lacks.lasting))
+      ∙ (ours_walks f.key lacks.ours
+      ∙ (ap (walk_rows f worker) lacks.met ∙ ap (λ b. if b then refuse f ObjectNotExist OTHER_LIFESPAN else state_rule f f.state (trial_rows f)) lacks.lasting))
 
   -- what the rows of the threads hold, the table holds
   active_row : MeetsAdapter f → f.state ≡ Active → Holds (thread_rows f worker) → Holds (first_row f worker)
@@ -186,29 +212,34 @@ module _ (f : Facts) (worker : ℕ) where
   change_row waits FreeSlot at =
       ap (λ p. chosen (processing_rows f p)) waits.managed
       ∙ (ap (λ b. chosen (if b then refuse f ObjectNotExist NOT_ACTIVE else manager_rows f)) waits.made
-      ∙ (ap (λ b. chosen (if not b then refuse f ObjAdapter NO_SERVANT_MANAGER else (if is_retain f.policies.retention then activator_rows f else locator_rows f))) waits.ruled
+      ∙ (ap (λ b. chosen
+      (if not b then refuse f ObjAdapter NO_SERVANT_MANAGER else (if is_retain f.policies.retention then activator_rows f else locator_rows f))) waits.ruled
       ∙ (ap (λ b. chosen (if b then activator_rows f else locator_rows f)) waits.retains
       ∙ (ap (λ b. chosen (if b then Go Here else (if f.busy then Held (Some (Adapter f.adapter)) else Go (Incarnate f.next)))) waits.request
       ∙ ap (λ b. chosen (if b then Held (Some (Adapter f.adapter)) else Go (Incarnate f.next))) waits.busy))))
 
   blocks_change : (k : ℕ) → AwaitsChange k f → Holds (first_row f worker)
   blocks_change k waits =
-      active_row waits.adapter waits.active (object_row (map_row waits.retains (change_row (subst (λ x. AwaitsChange x f) (sym waits.numbered) waits) f.slot refl)))
+      active_row waits.adapter waits.active
+      (object_row (map_row waits.retains (change_row (subst (λ x. AwaitsChange x f) (sym waits.numbered) waits) f.slot refl)))
 
   pub blocks_held : (hold : Hold) → Blocks f hold → (hold ≡ Main → (worker == 0) ≡ false) → Holds (first_row f worker)
   blocks_held (Manager m) (inl meets, holding, numbered) other = ap chosen (adapter_row meets ∙ ap (λ s. state_rule f s (thread_rows f worker)) holding)
   blocks_held (Manager m) (inr lacks, holding, numbered) other = ap chosen (child_row lacks ∙ ap (λ s. state_rule f s (trial_rows f)) holding)
   blocks_held (Trial k) (lacks, active, trial, numbered) other =
       ap chosen (child_row lacks ∙ ap (λ s. state_rule f s (trial_rows f)) active)
-      ∙ ap (λ b. chosen (if b then Held (Some (TrialCause f.adapter)) else (if f.tries then Go Try else forward_or f.entry (refuse f ObjectNotExist NO_ADAPTER)))) trial
+      ∙ ap (λ b. chosen
+      (if b then Held (Some (TrialCause f.adapter)) else (if f.tries then Go Try else forward_or f.entry (refuse f ObjectNotExist NO_ADAPTER)))) trial
   blocks_held (Turn k) (takes, running) other =
       active_row takes.adapter takes.active
       (ap (λ b. chosen (if b then Held (Some (Adapter f.adapter)) else (if awaits_main f worker then Held None else object_rows f)))
-      (and_from (not f.locate) (is_single_thread f.policies.thread && f.running) (not_from_false f.locate takes.request) (and_from (is_single_thread f.policies.thread) f.running takes.single running)))
+      (and_from (not f.locate) (is_single_thread f.policies.thread && f.running) (not_from_false f.locate takes.request)
+      (and_from (is_single_thread f.policies.thread) f.running takes.single running)))
   blocks_held Main waits other =
       active_row waits.adapter waits.active
       (cond_both (awaits_turn f) (Held (Some (Adapter f.adapter))) (if awaits_main f worker then Held None else object_rows f) Holds (λ _. refl)
       (λ _. ap (λ b. chosen (if b then Held None else object_rows f))
-      (and_from (not f.locate) (is_main_thread f.policies.thread && not (worker == 0)) (not_from_false f.locate waits.request) (and_from (is_main_thread f.policies.thread) (not (worker == 0)) waits.main (not_from_false (worker == 0) (other refl))))))
+      (and_from (not f.locate) (is_main_thread f.policies.thread && not (worker == 0)) (not_from_false f.locate waits.request)
+      (and_from (is_main_thread f.policies.thread) (not (worker == 0)) waits.main (not_from_false (worker == 0) (other refl))))))
   blocks_held (Id n) meets other = active_row meets.adapter meets.active (object_row (map_row meets.retains (ap (λ s. chosen (map_rows f s)) meets.busy)))
   blocks_held (Change k) waits other = blocks_change k waits

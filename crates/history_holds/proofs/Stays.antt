@@ -64,7 +64,8 @@ blocked_living f Main waits = met_living f waits.adapter
 blocked_living f (Id n) meets = met_living f meets.adapter
 blocked_living f (Change k) waits = met_living f waits.adapter
 
-module _ (c : Config) (run limit : ℕ) (past : List Entry) (e : Entry) (given : IsGiven c run) (alone : IsGivenAlone c run) (within : IsWithinLimits c limit) (legal : IsLegal c run limit (e ∷ past)) (r : ℕ) (less : r < arrivals past) where
+module _ (c : Config) (run limit : ℕ) (past : List Entry) (e : Entry) (given : IsGiven c run) (alone : IsGivenAlone c run) (within : IsWithinLimits c limit)
+    (legal : IsLegal c run limit (e ∷ past)) (r : ℕ) (less : r < arrivals past) where
   abbrev s : Standing
   s = standing c run past
 
@@ -97,17 +98,20 @@ module _ (c : Config) (run limit : ℕ) (past : List Entry) (e : Entry) (given :
   module _ (few : (freed_by c run past e).all ≡ false) where
     now_is : (walk_fact found ≡ MeetsDying → ⊥) → facts_of c run (e ∷ past) r ≡ now
     now_is living =
-        ap₂ (λ o b. facts_met c run (e ∷ past) t (is_locate o) b (key_fact run (target_of o)) (key_or_none (key_in o)) (walk t.nodes (key_or_none (key_in o)).path)) (call_kept e past r less) (crowded_same e past r less)
+        ap₂ (λ o b. facts_met c run (e ∷ past) t (is_locate o) b (key_fact run (target_of o)) (key_or_none (key_in o))
+        (walk t.nodes (key_or_none (key_in o)).path)) (call_kept e past r less) (crowded_same e past r less)
         ∙ ap (facts_met c run (e ∷ past) t (is_locate call) (is_crowded past r) (key_fact run (target_of call)) key) same_walk
       where
         same_walk : walk t.nodes key.path ≡ found
-        same_walk = (let small = smaller c run past e few in ap (λ ns. walk ns key.path) small.nodes ∙ walk_same s.nodes small.keep small.living key.path living)
+        same_walk =
+            (let small = smaller c run past e few in ap (λ ns. walk ns key.path) small.nodes ∙ walk_same s.nodes small.keep small.living key.path living)
 
     state : now.state ≡ was.state
     state = state_same c past e (manager_at c (place_met found key.path)) (no_command c run past e few)
 
     made : unmade now ≡ unmade was
-    made = ap (λ m. is_retain was.policies.retention && (is_system_id was.policies.assignment && is_bad_id c run m key.path key.oid)) (smaller c run past e few).made
+    made = ap (λ m. is_retain was.policies.retention && (is_system_id was.policies.assignment && is_bad_id c run m key.path key.oid))
+        (smaller c run past e few).made
 
     meets_on : MeetsAdapter was → MeetsAdapter now
     meets_on meets = record { uncrowded = meets.uncrowded; ours = meets.ours; met = meets.met; same = meets.same }
@@ -116,7 +120,8 @@ module _ (c : Config) (run limit : ℕ) (past : List Entry) (e : Entry) (given :
     lacks_on lacks = record { uncrowded = lacks.uncrowded; ours = lacks.ours; met = lacks.met; lasting = lacks.lasting }
 
     takes_on : (k : ℕ) → TakesTurn k was → TakesTurn k now
-    takes_on k takes = record { adapter = meets_on takes.adapter; active = state ∙ takes.active; request = takes.request; single = takes.single; numbered = takes.numbered }
+    takes_on k takes =
+        record { adapter = meets_on takes.adapter; active = state ∙ takes.active; request = takes.request; single = takes.single; numbered = takes.numbered }
 
     blocks_on : (hold : Hold) → frees (freed_by c run past e) hold ≡ false → Blocks was hold → Blocks now hold
     blocks_on (Manager m) still (inl meets, holding, numbered) = (inl (meets_on meets), state ∙ holding, numbered)
@@ -125,24 +130,28 @@ module _ (c : Config) (run limit : ℕ) (past : List Entry) (e : Entry) (given :
       lacks_on lacks,
       state ∙ active,
       tried_on c run past manned sound limit e legal.0 few (child_met found key.path) k
-          (λ f there q tries same. trial_at c run s sound key.path lacks.met f there q tries same ∙ numbered) (or_parts (freed_by c run past e).all (is_at k (freed_by c run past e).landed) still).1 trial,
+          (λ f there q tries same. trial_at c run s sound key.path lacks.met f there q tries same ∙ numbered)
+          (or_parts (freed_by c run past e).all (is_at k (freed_by c run past e).landed) still).1 trial,
       numbered,
     )
     blocks_on (Turn k) still (takes, running) = (
       takes_on k takes,
       runs_on c run past manned sound limit e legal.0 few (adapter_met found)
-          (ap (λ x. is_at x (freed_by c run past e).landed) takes.numbered ∙ (or_parts (freed_by c run past e).all (is_at k (freed_by c run past e).landed) still).1) running,
+          (ap (λ x. is_at x (freed_by c run past e).landed) takes.numbered
+          ∙ (or_parts (freed_by c run past e).all (is_at k (freed_by c run past e).landed) still).1) running,
     )
     blocks_on Main still waits = record { adapter = meets_on waits.adapter; active = state ∙ waits.active; request = waits.request; main = waits.main }
     blocks_on (Id n) still meets = record {
       adapter = meets_on meets.adapter;
       active = state ∙ meets.active;
       retains = meets.retains;
-      busy = busy_stays c run limit past e given alone within legal few (adapter_met found) key.oid n (or_parts (freed_by c run past e).all (is_at n (freed_by c run past e).moved) still).1 meets.busy;
+      busy = busy_stays c run limit past e given alone within legal few (adapter_met found) key.oid n
+          (or_parts (freed_by c run past e).all (is_at n (freed_by c run past e).moved) still).1 meets.busy;
     }
     blocks_on (Change k) still waits =
         let other : is_at (adapter_met found) (freed_by c run past e).changed ≡ false =
-        ap (λ x. is_at x (freed_by c run past e).changed) waits.numbered ∙ (or_parts (freed_by c run past e).all (is_at k (freed_by c run past e).changed) still).1 in
+        ap (λ x. is_at x (freed_by c run past e).changed) waits.numbered
+        ∙ (or_parts (freed_by c run past e).all (is_at k (freed_by c run past e).changed) still).1 in
         record {
           adapter = meets_on waits.adapter;
           active = state ∙ waits.active;
@@ -159,7 +168,8 @@ module _ (c : Config) (run limit : ℕ) (past : List Entry) (e : Entry) (given :
     pub turn_stays : (k : ℕ) → TakesTurn k (facts_of c run past r) → TakesTurn k (facts_of c run (e ∷ past) r)
     turn_stays k takes = subst (λ f. TakesTurn k f) (sym (now_is (met_living was takes.adapter))) (takes_on k takes)
 
-  pub still_blocked : (hold : Hold) → frees (freed_by c run past e) hold ≡ false → Blocks (facts_of c run past r) hold → Blocks (facts_of c run (e ∷ past) r) hold
+  pub still_blocked : (hold : Hold) → frees (freed_by c run past e) hold ≡ false → Blocks (facts_of c run past r) hold
+      → Blocks (facts_of c run (e ∷ past) r) hold
   still_blocked hold still blocks =
       let few = few_by (freed_by c run past e) hold still in
       subst (λ f. Blocks f hold) (sym (now_is few (blocked_living was hold blocks))) (blocks_on few hold still blocks)

@@ -111,7 +111,8 @@ same_etherealized (Serving r) s = (refl, refl)
 same_etherealized (Ran r) s = (refl, refl)
 same_etherealized (Removing n) s = (refl, refl)
 
-same_changed : (c : Config) (run : ℕ) (past : List Entry) (e : Entry) (s : Standing) → (freed_by c run past e).all ≡ false → IsSameTree s (changed c run past e s)
+same_changed : (c : Config) (run : ℕ) (past : List Entry) (e : Entry) (s : Standing) → (freed_by c run past e).all ≡ false
+    → IsSameTree s (changed c run past e s)
 same_changed c run past (Admit w r v) s few =
     let none = no_command c run past (Admit w r v) few in
     let was = same_admitted r (key_in (call_of past r)) v s in
@@ -137,7 +138,8 @@ pub record IsSmaller (s t : Standing) : Type 0 where
   pub nodes : t.nodes ≡ filter keep s.nodes
   pub made : t.made ≡ s.made
 
-pub smaller : (c : Config) (run : ℕ) (past : List Entry) (e : Entry) → (freed_by c run past e).all ≡ false → IsSmaller (standing c run past) (standing c run (e ∷ past))
+pub smaller : (c : Config) (run : ℕ) (past : List Entry) (e : Entry) → (freed_by c run past e).all ≡ false
+    → IsSmaller (standing c run past) (standing c run (e ∷ past))
 smaller c run past e few =
     let s : Standing = standing c run past in
     let x : Standing = changed c run past e s in
@@ -145,7 +147,8 @@ smaller c run past e few =
     let same = same_changed c run past e s few in
     record {
       keep = λ n. is_root n.path || not (is_done_with c y n);
-      living = λ n lives. or_right (is_root n.path) (not (is_done_with c y n)) (not_from_false (is_done_with c y n) (and_left n.dying (is_clear c y n.path) lives));
+      living =
+          λ n lives. or_right (is_root n.path) (not (is_done_with c y n)) (not_from_false (is_done_with c y n) (and_left n.dying (is_clear c y n.path) lives));
       nodes = ap (λ ns. filter (λ n. is_root n.path || not (is_done_with c y n)) ns) same.0;
       made = same.1;
     }

@@ -37,7 +37,8 @@ incarnating s begun = nothing
 
 -- an etherealization ends
 abbrev pub etherealizing : Standing → Stage → Freed
-etherealizing s (Removing n) = record { all = false; landed = None; changed = option_map (λ a. a.adapter) (activation_numbered s n); moved = Some n }
+etherealizing s (Removing n) =
+    record { all = false; landed = None; changed = option_map (λ a. a.adapter) (activation_numbered s n); moved = Some n }
 etherealizing s begun = nothing
 
 -- what an entry frees; a command that is done, and a trial that ends, may free whatever is held

@@ -56,7 +56,8 @@ use Rattle.std.specs.List.{list_all, list_any}
 use Rattle.std.specs.Prelude.{◌&&◌, ◌++◌, ◌<◌, ◌==◌, ◌||◌, ◌∷◌, ◌≡◌, ◌⊎◌, Bool, List, None, Option, Some, [], false, find, is_none, length, nat_lt, not, refl, true, ℕ}
 use Rattle.history_laws.proofs.Waiting.{waits_order, waits_destroy}
 
-module _ (c : Config) (run limit : ℕ) (given : IsGiven c run) (alone : IsGivenAlone c run) (within : IsWithinLimits c limit) (h : List Entry) (legal : IsLegal c run limit h) (idle : AreIdle c run h) where
+module _ (c : Config) (run limit : ℕ) (given : IsGiven c run) (alone : IsGivenAlone c run) (within : IsWithinLimits c limit) (h : List Entry)
+    (legal : IsLegal c run limit h) (idle : AreIdle c run h) where
   abbrev s : Standing
   s = standing c run h
 
@@ -86,22 +87,29 @@ module _ (c : Config) (run limit : ℕ) (given : IsGiven c run) (alone : IsGiven
         ap (λ x. call_of x r) it.split ∙ ((call_since c run limit given within it.more (e ∷ past) r admission.arrived).0)
 
     -- the activations that its deactivation ended are over
-    ended_by_then : (number : ℕ) (name : List ℕ) (m : ℕ) (wait : Bool) → manager_number c name ≡ Some m → call_of past r ≡ Some (Line number (Manager name (DeactivateAll true wait))) → are_ended c s m (length (standing c run (before_admit h r)).activations) ≡ true
+    ended_by_then : (number : ℕ) (name : List ℕ) (m : ℕ) (wait : Bool) → manager_number c name ≡ Some m
+        → call_of past r ≡ Some (Line number (Manager name (DeactivateAll true wait)))
+        → are_ended c s m (length (standing c run (before_admit h r)).activations) ≡ true
     ended_by_then number name m wait found at =
         ap (λ x. are_ended c s m (length (standing c run x).activations)) it.before
-        ∙ all_by (λ a. is_over c a || (not (nat_lt a.number (length (standing c run past).activations)) || not (has_activator c a.path && (manager_at c a.path == m)))) s.activations (λ a there.
+        ∙ all_by
+        (λ a. is_over c a || (not (nat_lt a.number (length (standing c run past).activations)) || not (has_activator c a.path && (manager_at c a.path == m))))
+        s.activations (λ a there.
         elim (cases_Bool (nat_lt a.number (length (standing c run past).activations))) [
           | inr late ↦ or_second (is_over c a) _ (or_first (not (nat_lt a.number (length (standing c run past).activations))) _ (ap not late))
           | inl early ↦ elim (cases_Bool (has_activator c a.path && (manager_at c a.path == m))) [
             | inr other ↦ or_second (is_over c a) _ (or_second (not (nat_lt a.number (length (standing c run past).activations))) _ (ap not other))
             | inl managed ↦ or_first (is_over c a) _ (ended_over c run limit given alone within h legal idle a there
-                ((endings_are c run limit given within h legal a there).0 ∙ (ap (λ x. was_ended c run x a) it.split ∙ ended_since c run limit given within it.more (e ∷ past) a
+                ((endings_are c run limit given within h legal a there).0
+                ∙ (ap (λ x. was_ended c run x a) it.split ∙ ended_since c run limit given within it.more (e ∷ past) a
                 (or_first (is_ended_by c run past e a) (was_ended c run past a) (ap₂ (λ x y. x && y) early
-                (ap (λ o. ends c (standing c run past) a (command_in o)) at ∙ (ap (λ o. elim o as (λ _. Bool) [ Some k ↦ has_activator c a.path && (manager_at c a.path == k) | None ↦ false ]) found ∙ managed)))))))
+                (ap (λ o. ends c (standing c run past) a (command_in o)) at
+                ∙ (ap (λ o. elim o as (λ _. Bool) [ Some k ↦ has_activator c a.path && (manager_at c a.path == k) | None ↦ false ]) found ∙ managed)))))))
           ]
         ])
 
-    order_settles : (number : ℕ) (name : List ℕ) (m : ℕ) (order : Order) → manager_number c name ≡ Some m → waits order ≡ true → call_of past r ≡ Some (Line number (Manager name order)) → order_holds c run h r m order ≡ true
+    order_settles : (number : ℕ) (name : List ℕ) (m : ℕ) (order : Order) → manager_number c name ≡ Some m → waits order ≡ true
+        → call_of past r ≡ Some (Line number (Manager name order)) → order_holds c run h r m order ≡ true
     order_settles number name m ActivateAll found waits_ at = refl
     order_settles number name m (Hold wait) found waits_ at = or_first (is_quiet c s m) (is_overtaken c m h r) (all_quiet m)
     order_settles number name m (Discard wait) found waits_ at = or_first (is_quiet c s m) (is_overtaken c m h r) (all_quiet m)
@@ -109,7 +117,8 @@ module _ (c : Config) (run limit : ℕ) (given : IsGiven c run) (alone : IsGiven
     order_settles number name m (DeactivateAll true wait) found waits_ at = ap₂ (λ x y. x && y) (all_quiet m) (ended_by_then number name m wait found at)
 
     -- and the adapter that it destroyed is gone
-    destroy_settles : (number : ℕ) (p : List (List ℕ)) (etherealize wait : Bool) (n : Node) → live_at (standing c run past) p ≡ Some n → call_of past r ≡ Some (Line number (Destroy p etherealize wait)) → is_gone c s (number_at (standing c run (before_admit h r)) p) ≡ true
+    destroy_settles : (number : ℕ) (p : List (List ℕ)) (etherealize wait : Bool) (n : Node) → live_at (standing c run past) p ≡ Some n
+        → call_of past r ≡ Some (Line number (Destroy p etherealize wait)) → is_gone c s (number_at (standing c run (before_admit h r)) p) ≡ true
     destroy_settles number p etherealize wait n lives at =
         ap (λ x. is_gone c s (number_at (standing c run x) p)) it.before
         ∙ (ap (is_gone c s) (sym (number_live (standing c run past) p n tells.3)) ∙ gone)
@@ -121,19 +130,25 @@ module _ (c : Config) (run limit : ℕ) (given : IsGiven c run) (alone : IsGiven
         early = (legal_sound c run limit past given within legal_then.1).tree.numbered n tells.0
 
         made : n.number < s.count
-        made = (let then_ = count_from c run past e (standing c run past) in let more = count_since c run limit given within it.more (e ∷ past) in let low = early in
-            let same : s.count ≡ (standing c run (it.more ++ (e ∷ past))).count = ap (λ x. (standing c run x).count) it.split in omega (arith, then_, more, low, same))
+        made = (let then_ = count_from c run past e (standing c run past) in let more = count_since c run limit given within it.more (e ∷ past) in
+            let low = early in
+            let same : s.count ≡ (standing c run (it.more ++ (e ∷ past))).count = ap (λ x. (standing c run x).count) it.split in
+            omega (arith, then_, more, low, same))
 
         gone_if : (m : Node) → In m s.nodes → m.number ≡ n.number → is_done_with c s m ≡ true
         gone_if m there same =
             let there' : In m (standing c run (it.more ++ (e ∷ past))).nodes = subst (λ x. In m (standing c run x).nodes) it.split there in
-            let low : m.number < (standing c run (e ∷ past)).count = (let then_ = count_from c run past e (standing c run past) in let less = early in omega (arith, then_, less, same)) in
+            let low : m.number < (standing c run (e ∷ past)).count =
+            (let then_ = count_from c run past e (standing c run past) in let less = early in omega (arith, then_, less, same)) in
             let d = node_since c run limit given within it.more (e ∷ past) m there' low in
             let m_path : m.path ≡ p = d.3 ∙ elim (node_before c run past e d.0 d.1) [
-              | node_stood x was number' path dying ↦ path ∙ (ap (λ y. y.path) ((legal_sound c run limit past given within legal_then.1).tree.number_alone x n was tells.0 (sym number' ∙ (sym d.2 ∙ same))) ∙ tells.1)
+              | node_stood x was number' path dying ↦ path
+                  ∙ (ap (λ y. y.path)
+                  ((legal_sound c run limit past given within legal_then.1).tree.number_alone x n was tells.0 (sym number' ∙ (sym d.2 ∙ same))) ∙ tells.1)
               | node_new number' living ↦ absurd (let less = early in let at' = d.2 in omega (arith, number', less, at', same))
             ] in
-            let dying : m.dying ≡ true = dying_is c run limit h given within legal m there ∙ (ap (λ x. was_destroyed c run x m.number m.path) it.split ∙ destroyed_since c run limit given within it.more (e ∷ past) m.number m.path
+            let dying : m.dying ≡ true = dying_is c run limit h given within legal m there
+            ∙ (ap (λ x. was_destroyed c run x m.number m.path) it.split ∙ destroyed_since c run limit given within it.more (e ∷ past) m.number m.path
             (or_first (nat_lt m.number (standing c run past).count && destroys m.path (command_done past e)) (was_destroyed c run past m.number m.path)
             (ap₂ (λ x y. x && y) (lt-ltb m.number (standing c run past).count (let less = early in omega (arith, less, same)))
             (ap (λ o. destroys m.path (command_in o)) at ∙ (ap (leads_to p) m_path ∙ leads_self p))))) in
@@ -142,18 +157,22 @@ module _ (c : Config) (run limit : ℕ) (given : IsGiven c run) (alone : IsGiven
         gone : is_gone c s n.number ≡ true
         gone =
             ap₂ (λ x y. x && y) (lt-ltb n.number s.count made)
-            (elim (find (λ m. m.number == n.number) s.nodes) as (λ o. find (λ m. m.number == n.number) s.nodes ≡ o → (elim o [ Some m ↦ is_done_with c s m | None ↦ true ]) ≡ true) [
+            (elim (find (λ m. m.number == n.number) s.nodes) as (λ o. find (λ m. m.number == n.number) s.nodes ≡ o
+            → (elim o [ Some m ↦ is_done_with c s m | None ↦ true ]) ≡ true) [
               | None ↦ λ _. refl
               | Some m ↦ λ found. (let there = find_in (λ x. x.number == n.number) m s.nodes found in gone_if m there.0 (eqb-true m.number n.number there.1))
             ] refl)
 
-    command_settles : (number : ℕ) (d : Command) → call_of past r ≡ Some (Line number d) → command_verdict c run past (standing c run past) d ≡ Some Wait → settles c run h r ≡ true
+    command_settles : (number : ℕ) (d : Command) → call_of past r ≡ Some (Line number d) → command_verdict c run past (standing c run past) d ≡ Some Wait
+        → settles c run h r ≡ true
     command_settles number d at verdict_is =
         ap (λ o. settles_by c run h r (command_in o)) (same_call ∙ at)
         ∙ elim (waits_for c run past (standing c run past) d verdict_is) [
           | waits_order name order m which found waits_ ↦ ap (λ x. settles_by c run h r (Some x)) which
-              ∙ (ap (λ o. elim o as (λ _. Bool) [ Some k ↦ order_holds c run h r k order | None ↦ false ]) found ∙ order_settles number name m order found waits_ (at ∙ ap (λ x. Some (Line number x)) which))
-          | waits_destroy p etherealize wait n which lives ↦ ap (λ x. settles_by c run h r (Some x)) which ∙ destroy_settles number p etherealize wait n lives (at ∙ ap (λ x. Some (Line number x)) which)
+              ∙ (ap (λ o. elim o as (λ _. Bool) [ Some k ↦ order_holds c run h r k order | None ↦ false ]) found
+              ∙ order_settles number name m order found waits_ (at ∙ ap (λ x. Some (Line number x)) which))
+          | waits_destroy p etherealize wait n which lives ↦ ap (λ x. settles_by c run h r (Some x)) which
+              ∙ destroy_settles number p etherealize wait n lives (at ∙ ap (λ x. Some (Line number x)) which)
         ]
 
     waits_settle : settles c run h r ≡ true
@@ -161,8 +180,10 @@ module _ (c : Config) (run limit : ℕ) (given : IsGiven c run) (alone : IsGiven
       where
         by_call : (call : Option Call) → call_of past r ≡ call → verdict_on c run past r it.worker call ≡ Some Wait → settles c run h r ≡ true
         by_call None at told = absurd (let f : None ≡ Some Wait = told in cc)
-        by_call (Some (Request head target operation body)) at told = absurd (never_waits (facts_of c run past r) it.worker (chosen_go (first_row (facts_of c run past r) it.worker) Wait told))
-        by_call (Some (Locate head target)) at told = absurd (never_waits (facts_of c run past r) it.worker (chosen_go (first_row (facts_of c run past r) it.worker) Wait told))
+        by_call (Some (Request head target operation body)) at told =
+            absurd (never_waits (facts_of c run past r) it.worker (chosen_go (first_row (facts_of c run past r) it.worker) Wait told))
+        by_call (Some (Locate head target)) at told =
+            absurd (never_waits (facts_of c run past r) it.worker (chosen_go (first_row (facts_of c run past r) it.worker) Wait told))
         by_call (Some (Line number command)) at told = command_settles number command at told
 
   settled_decided : (past : List Entry) → h ≡ past → (r : ℕ) → admitted h r ≡ Some Wait → settles c run h r ≡ true → decided c run h r ≡ true
@@ -179,7 +200,9 @@ module _ (c : Config) (run limit : ℕ) (given : IsGiven c run) (alone : IsGiven
       by_admitted (Some v) is = inl (elim (being_decided c run limit h legal r v is) [
         | inl done ↦ done
         | inr open_ ↦ elim open_ [
-          | inl waits_ ↦ (let is' : admitted h r ≡ Some Wait = is ∙ ap (λ x. Some x) waits_ in settled_decided h refl r is' (waits_settle r (since c run limit given within h legal r is')))
+          | inl waits_ ↦
+              (let is' : admitted h r ≡ Some Wait = is
+              ∙ ap (λ x. Some x) waits_ in settled_decided h refl r is' (waits_settle r (since c run limit given within h legal r is')))
           | inr at ↦ absurd (let f : false ≡ true = sym (ap (is_deciding r) (all_free c run limit given alone within h legal idle at.0)) ∙ at.1 in cc)
         ]
       ])

@@ -47,7 +47,8 @@ phase_ended c n Double is = (let f : Void ≡ Begun = is in cc)
 phase_ended c n (ForwardTo x) is = (let f : Void ≡ Begun = is in cc)
 phase_ended c n (Raise x) is = (let f : Void ≡ Begun = is in cc)
 
-pub incarnated_activations : (c : Config) (s : Standing) (r n : ℕ) (a : Incarnation) → (with_incarnated c (Incarnating r n) a s).activations ≡ map (at_number n (come_to (phase_by c n a))) s.activations
+pub incarnated_activations : (c : Config) (s : Standing) (r n : ℕ) (a : Incarnation)
+    → (with_incarnated c (Incarnating r n) a s).activations ≡ map (at_number n (come_to (phase_by c n a))) s.activations
 incarnated_activations c s r n (Fresh m) = refl
 incarnated_activations c s r n (Named name) = refl
 incarnated_activations c s r n Double = refl
@@ -66,10 +67,12 @@ module _ (c : Config) (run : ℕ) (past : List Entry) where
   s = standing c run past
 
   -- what is one of the number after a change of it alone was changed
-  changed_at : (n : ℕ) (f : Activation → Activation) → ((x : Activation) → (f x).number ≡ x.number) → (b : Activation) → In b (map (at_number n f) s.activations) → b.number ≡ n → (x : Activation) × In x s.activations × (x.number ≡ n) × (b ≡ f x)
+  changed_at : (n : ℕ) (f : Activation → Activation) → ((x : Activation) → (f x).number ≡ x.number) → (b : Activation)
+      → In b (map (at_number n f) s.activations) → b.number ≡ n → (x : Activation) × In x s.activations × (x.number ≡ n) × (b ≡ f x)
   changed_at n f keeps b there at =
       let found = in_image (at_number n f) b s.activations there in
-      let same : (at_number n f found.0).number ≡ found.0.number = cond_both (found.0.number == n) (f found.0) found.0 (λ y. y.number ≡ found.0.number) (λ _. keeps found.0) (λ _. refl) in
+      let same : (at_number n f found.0).number ≡ found.0.number =
+      cond_both (found.0.number == n) (f found.0) found.0 (λ y. y.number ≡ found.0.number) (λ _. keeps found.0) (λ _. refl) in
       let number : found.0.number ≡ n = sym same ∙ (ap (λ y. y.number) (sym found.2) ∙ at) in
       (found.0, found.1, number, found.2 ∙ ap (λ z. if z then f found.0 else found.0) (eq-eqb found.0.number n number))
 
@@ -77,37 +80,49 @@ module _ (c : Config) (run : ℕ) (past : List Entry) where
   come_number phase x = cond_both (is_begun x) (record x { phase = phase }) x (λ y. y.number ≡ x.number) (λ _. refl) (λ _. refl)
 
   -- an activation whose incarnation ended is begun no longer
-  pub incarnated_phase : (w r n : ℕ) (e : Entry) (a : Incarnation) → stage past w ≡ Incarnating r n → e ≡ Incarnated w a → (b : Activation) → In b (standing c run (e ∷ past)).activations → b.number ≡ n → b.phase ≡ Begun → ⊥
+  pub incarnated_phase : (w r n : ℕ) (e : Entry) (a : Incarnation) → stage past w ≡ Incarnating r n → e ≡ Incarnated w a → (b : Activation)
+      → In b (standing c run (e ∷ past)).activations → b.number ≡ n → b.phase ≡ Begun → ⊥
   incarnated_phase w r n e a at is b there number phase =
       let t = changed c run past e s in
       let found = in_image (let_out c t) b t.activations there in
       let acts : t.activations ≡ map (at_number n (come_to (phase_by c n a))) s.activations =
       ap (λ y. (changed c run past y s).activations) is ∙ (ap (λ g. (with_incarnated c g a s).activations) at ∙ incarnated_activations c s r n a) in
-      let d = changed_at n (come_to (phase_by c n a)) (come_number (phase_by c n a)) found.0 (subst (λ xs. In found.0 xs) acts found.1) (sym (let_same c t found.0 (λ y. y.number) refl) ∙ (ap (λ y. y.number) (sym found.2) ∙ number)) in
-      let phase' : (come_to (phase_by c n a) d.0).phase ≡ Begun = ap (λ y. y.phase) (sym d.3) ∙ (sym (let_same c t found.0 (λ y. y.phase) refl) ∙ (ap (λ y. y.phase) (sym found.2) ∙ phase)) in
-      cond_both (is_begun d.0) (record d.0 { phase = phase_by c n a }) d.0 (λ y. y.phase ≡ Begun → ⊥) (λ _. phase_ended c n a) (λ none at'. true≢false (sym (phase_begun d.0 at') ∙ none)) phase'
+      let d = changed_at n (come_to (phase_by c n a)) (come_number (phase_by c n a)) found.0 (subst (λ xs. In found.0 xs) acts found.1)
+      (sym (let_same c t found.0 (λ y. y.number) refl) ∙ (ap (λ y. y.number) (sym found.2) ∙ number)) in
+      let phase' : (come_to (phase_by c n a) d.0).phase ≡ Begun = ap (λ y. y.phase) (sym d.3)
+      ∙ (sym (let_same c t found.0 (λ y. y.phase) refl) ∙ (ap (λ y. y.phase) (sym found.2) ∙ phase)) in
+      cond_both (is_begun d.0) (record d.0 { phase = phase_by c n a }) d.0 (λ y. y.phase ≡ Begun → ⊥) (λ _. phase_ended c n a)
+      (λ none at'. true≢false (sym (phase_begun d.0 at') ∙ none)) phase'
 
   -- an activation whose etherealization ended is etherealized
-  pub told_after : (w n : ℕ) (e : Entry) (x y : Bool) → stage past w ≡ Removing n → e ≡ Etherealized w x y → (b : Activation) → In b (standing c run (e ∷ past)).activations → b.number ≡ n → b.etherealized ≡ true
+  pub told_after : (w n : ℕ) (e : Entry) (x y : Bool) → stage past w ≡ Removing n → e ≡ Etherealized w x y → (b : Activation)
+      → In b (standing c run (e ∷ past)).activations → b.number ≡ n → b.etherealized ≡ true
   told_after w n e x y at is b there number =
       let t = changed c run past e s in
       let found = in_image (let_out c t) b t.activations there in
       let acts : t.activations ≡ map (at_number n (λ a. record a { etherealized = true })) s.activations =
       ap (λ z. (changed c run past z s).activations) is ∙ ap (λ g. (with_etherealized g s).activations) at in
-      let d = changed_at n (λ a. record a { etherealized = true }) (λ _. refl) found.0 (subst (λ xs. In found.0 xs) acts found.1) (sym (let_same c t found.0 (λ z. z.number) refl) ∙ (ap (λ z. z.number) (sym found.2) ∙ number)) in
+      let d = changed_at n (λ a. record a { etherealized = true }) (λ _. refl) found.0 (subst (λ xs. In found.0 xs) acts found.1)
+      (sym (let_same c t found.0 (λ z. z.number) refl) ∙ (ap (λ z. z.number) (sym found.2) ∙ number)) in
       ap (λ z. z.etherealized) found.2 ∙ (let_same c t found.0 (λ z. z.etherealized) refl ∙ ap (λ z. z.etherealized) d.3)
 
 module _ (c : Config) (run limit : ℕ) (given : IsGiven c run) (alone : IsGivenAlone c run) (within : IsWithinLimits c limit) where
   -- an activation that is incarnated has the next number
-  pub next_number : (past : List Entry) (e : Entry) → IsLegal c run limit (e ∷ past) → (w r n : ℕ) → e ≡ Admit w r (Incarnate n) → n ≡ length (standing c run past).activations
-  next_number past e legal w r n is = (let keeps : KeepsLives c run past (Admit w r (Incarnate n)) = subst (λ x. KeepsLives c run past x) is (has_lifetime c run limit (e ∷ past) given alone within legal).kept.0 in keeps.1 n refl)
+  pub next_number : (past : List Entry) (e : Entry) → IsLegal c run limit (e ∷ past) → (w r n : ℕ) → e ≡ Admit w r (Incarnate n)
+      → n ≡ length (standing c run past).activations
+  next_number past e legal w r n is =
+      (let keeps : KeepsLives c run past (Admit w r (Incarnate n)) =
+      subst (λ x. KeepsLives c run past x) is (has_lifetime c run limit (e ∷ past) given alone within legal).kept.0 in keeps.1 n refl)
 
-  pub begun_worked : (h : List Entry) → IsLegal c run limit h → (a : Activation) → In a (standing c run h).activations → a.phase ≡ Begun → (w : ℕ) × (r : ℕ) × (stage h w ≡ Incarnating r a.number)
-  begun_worked [] legal a there phase = absurd (let opens = (all_open c run a there).1 in let f : Complete (NamedServant opens.0) ≡ Begun = sym opens.1 ∙ phase in cc)
+  pub begun_worked : (h : List Entry) → IsLegal c run limit h → (a : Activation) → In a (standing c run h).activations → a.phase ≡ Begun → (w : ℕ) × (r : ℕ)
+      × (stage h w ≡ Incarnating r a.number)
+  begun_worked [] legal a there phase =
+      absurd (let opens = (all_open c run a there).1 in let f : Complete (NamedServant opens.0) ≡ Begun = sym opens.1 ∙ phase in cc)
   begun_worked (e ∷ past) legal b there phase =
       elim (activation_from c run past e b there) [
         | activation_begun fresh ↦ elim fresh.how [
-          | incarnating w r n key is has adapter path oid at ↦ (w, r, ap (λ z. stage (z ∷ past) w) is ∙ (own w (Incarnating r n) (stage past w) ∙ ap (λ m. Incarnating r m) (next_number past e legal w r n is ∙ sym fresh.number)))
+          | incarnating w r n key is has adapter path oid at ↦
+              (w, r, ap (λ z. stage (z ∷ past) w) is ∙ (own w (Incarnating r n) (stage past w) ∙ ap (λ m. Incarnating r m) (next_number past e legal w r n is ∙ sym fresh.number)))
           | activating p servant done adapter path oid at ↦ absurd (servant_phase c servant (sym at ∙ phase))
           | activating_id p oid servant done adapter path of_id at ↦ absurd (servant_phase c servant (sym at ∙ phase))
           | referring p servant n k done lives known implicit adapter path oid at ↦ absurd (servant_phase c servant (sym at ∙ phase))
@@ -122,17 +137,23 @@ module _ (c : Config) (run limit : ℕ) (given : IsGiven c run) (alone : IsGiven
         ]
       ]
 
-  pub removal_worked : (h : List Entry) → IsLegal c run limit h → (a : Activation) → In a (standing c run h).activations → has_activator c a.path ≡ true → a.out ≡ true → a.quiet ≡ false → a.etherealized ≡ false → (w : ℕ) × (stage h w ≡ Removing a.number)
+  pub removal_worked : (h : List Entry) → IsLegal c run limit h → (a : Activation) → In a (standing c run h).activations → has_activator c a.path ≡ true
+      → a.out ≡ true → a.quiet ≡ false → a.etherealized ≡ false → (w : ℕ) × (stage h w ≡ Removing a.number)
   removal_worked [] legal a there activator out loud untold = absurd (true≢false (sym out ∙ (all_open c run a there).0))
   removal_worked (e ∷ past) legal b there activator out loud untold =
       elim (activation_from c run past e b there) [
         | activation_begun fresh ↦ absurd (true≢false (sym out ∙ fresh.out))
         | activation_stood a was step ↦ (let loud' : a.quiet ≡ false = false_from_ne_true a.quiet (λ quiet. true≢false (sym (step.later.quiet quiet) ∙ loud)) in
             elim (step.out_back out) [
-              | inl before ↦ (let worked = removal_worked past legal.1 a was (ap (has_activator c) (sym step.later.path) ∙ activator) before loud' (false_from_ne_true a.etherealized (λ told. true≢false (sym (step.later.etherealized told) ∙ untold))) in
+              | inl before ↦
+                  (let worked =
+                  removal_worked past legal.1 a was (ap (has_activator c) (sym step.later.path) ∙ activator) before loud'
+                  (false_from_ne_true a.etherealized (λ told. true≢false (sym (step.later.etherealized told) ∙ untold))) in
                   elim (removing_after c run limit past e legal.0 worked.0 a.number worked.1) [
                     | inl stays ↦ (worked.0, stays ∙ ap (λ m. Removing m) (sym step.later.number))
-                    | inr ended ↦ absurd (true≢false (sym (told_after c run past worked.0 a.number e ended.0 ended.1 worked.1 ended.2 b there step.later.number) ∙ untold))
+                    | inr ended ↦
+                        absurd (true≢false
+                        (sym (told_after c run past worked.0 a.number e ended.0 ended.1 worked.1 ended.2 b there step.later.number) ∙ untold))
                   ])
               | inr other ↦ elim other [
                 | inl leaves ↦ absurd (true≢false (sym activator ∙ leaves.0))

@@ -41,7 +41,8 @@ use Rattle.std.specs.Prelude.{◌||◌, ◌∷◌, ◌≡◌, Bool, List, None, 
 
 kept_all : {A : Type 0} (test : A → Bool) (xs : List A) → ((x : A) → In x xs → test x ≡ true) → filter test xs ≡ xs
 kept_all test [] each = refl
-kept_all test (x ∷ xs) each = ap (λ b. if b then x ∷ filter test xs else filter test xs) (each x (inl refl)) ∙ ap (λ ys. x ∷ ys) (kept_all test xs (λ y there. each y (inr there)))
+kept_all test (x ∷ xs) each = ap (λ b. if b then x ∷ filter test xs else filter test xs) (each x (inl refl))
+    ∙ ap (λ ys. x ∷ ys) (kept_all test xs (λ y there. each y (inr there)))
 
 mapped_all : {A : Type 0} (f : A → A) (xs : List A) → ((x : A) → In x xs → f x ≡ x) → map f xs ≡ xs
 mapped_all f [] each = refl
@@ -51,7 +52,8 @@ given_same : {A : Type 0} (give other : ℕ → Option A) (k : ℕ) → ((r : �
 given_same give other zero same = refl
 given_same give other (suc k) same = ap₂ (λ x y. option_or x y) (given_same give other k same) (same k)
 
-module _ (c : Config) (run limit : ℕ) (given : IsGiven c run) (alone : IsGivenAlone c run) (within : IsWithinLimits c limit) (h : List Entry) (legal : IsLegal c run limit h) where
+module _ (c : Config) (run limit : ℕ) (given : IsGiven c run) (alone : IsGivenAlone c run) (within : IsWithinLimits c limit) (h : List Entry)
+    (legal : IsLegal c run limit h) where
   abbrev s : Standing
   s = standing c run h
 
@@ -71,7 +73,10 @@ module _ (c : Config) (run limit : ℕ) (given : IsGiven c run) (alone : IsGiven
       ∙ ap (λ ns. record s { nodes = ns }) (kept_all (λ n. is_root n.path || not (is_done_with c s n)) s.nodes (λ n there.
       elim (cases_Bool (is_root n.path)) [
         | inl root ↦ or_first (is_root n.path) (not (is_done_with c s n)) root
-        | inr below ↦ or_second (is_root n.path) (not (is_done_with c s n)) (not_false (is_done_with c s n) (sym (gone_done c run s (legal_sound c run limit h given within legal) n there) ∙ stands_ungone c run limit h given within legal n there below))
+        | inr below ↦
+            or_second (is_root n.path) (not (is_done_with c s n))
+            (not_false (is_done_with c s n)
+            (sym (gone_done c run s (legal_sound c run limit h given within legal) n there) ∙ stands_ungone c run limit h given within legal n there below))
       ]))
 
   module _ (conn a : ℕ) where
@@ -96,7 +101,8 @@ module _ (c : Config) (run limit : ℕ) (given : IsGiven c run) (alone : IsGiven
     facts_same : (r : ℕ) → facts_of c run after r ≡ facts_of c run h r
     facts_same r =
         let key = key_or_none (key_in (call_of h r)) in
-        ap (λ t. facts_met c run after t (is_locate (call_of h r)) (is_crowded h r) (key_fact run (target_of (call_of h r))) key (walk t.nodes key.path)) settled_same
+        ap (λ t. facts_met c run after t (is_locate (call_of h r)) (is_crowded h r) (key_fact run (target_of (call_of h r))) key (walk t.nodes key.path))
+        settled_same
 
     verdict_same : (r w : ℕ) → verdict c run after r w ≡ verdict c run h r w
     unfolding verdict
@@ -116,7 +122,9 @@ module _ (c : Config) (run limit : ℕ) (given : IsGiven c run) (alone : IsGiven
     turn_same w = by_stage (stage h w)
       where
         by_stage : (b : Stage) → next_of c run after w b ≡ next_of c run h w b
-        by_stage Free = ap₂ (λ x y. option_or x y) (ap (λ t. removal c t w) settled_same) (given_same (admission_of c run after w) (admission_of c run h w) (arrivals h) (admission_same w))
+        by_stage Free =
+            ap₂ (λ x y. option_or x y) (ap (λ t. removal c t w) settled_same)
+            (given_same (admission_of c run after w) (admission_of c run h w) (arrivals h) (admission_same w))
         by_stage (Trying r) = ap (λ t. going_on c t w (Trying r)) settled_same
         by_stage (Incarnating r n) = ap (λ t. going_on c t w (Incarnating r n)) settled_same
         by_stage (Serving r) = refl

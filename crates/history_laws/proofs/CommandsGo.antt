@@ -44,15 +44,18 @@ goes_live : (s : Standing) (p : List (List ℕ)) (then_ : Node → Option Verdic
 goes_live s p then_ each = elim (live_at s p) as (λ o. Goes (elim o [ Some n ↦ then_ n | None ↦ refusal AdapterNonExistent ])) [ Some n ↦ each n | None ↦ refl ]
 
 goes_known : (c : Config) (name : List ℕ) (then_ : ℕ → Option Verdict) → ((k : ℕ) → Goes (then_ k)) → Goes (with_servant c name then_)
-goes_known c name then_ each = elim (servant_number c name) as (λ o. Goes (elim o [ Some k ↦ then_ k | None ↦ refusal NoServant ])) [ Some k ↦ each k | None ↦ refl ]
+goes_known c name then_ each =
+    elim (servant_number c name) as (λ o. Goes (elim o [ Some k ↦ then_ k | None ↦ refusal NoServant ])) [ Some k ↦ each k | None ↦ refl ]
 
-module _ (c : Config) (run limit : ℕ) (given : IsGiven c run) (alone : IsGivenAlone c run) (within : IsWithinLimits c limit) (h : List Entry) (legal : IsLegal c run limit h) (idle : AreIdle c run h) where
+module _ (c : Config) (run limit : ℕ) (given : IsGiven c run) (alone : IsGivenAlone c run) (within : IsWithinLimits c limit) (h : List Entry)
+    (legal : IsLegal c run limit h) (idle : AreIdle c run h) where
   abbrev s : Standing
   s = standing c run h
 
   manager_goes : (name : List ℕ) (order : Order) → Goes (manager_row c h name order)
   manager_goes name order =
-      elim (manager_number c name) as (λ o. Goes (elim o [ None ↦ refusal NoManager | Some m ↦ (if is_inactive (manager_state c h m) then refusal AdapterInactive else good_or_wait (waits order)) ])) [
+      elim (manager_number c name) as (λ o. Goes
+      (elim o [ None ↦ refusal NoManager | Some m ↦ (if is_inactive (manager_state c h m) then refusal AdapterInactive else good_or_wait (waits order)) ])) [
         | None ↦ refl
         | Some m ↦ goes_if (is_inactive (manager_state c h m)) (refusal AdapterInactive) (good_or_wait (waits order)) (λ _. refl) (λ _. refl)
       ]
@@ -64,7 +67,10 @@ module _ (c : Config) (run limit : ℕ) (given : IsGiven c run) (alone : IsGiven
       goes_live s (parent_path (x ∷ p)) _ (λ n. goes_if (is_none (template c (x ∷ p))) (refusal NoTemplate) _ (λ _. refl)
       (λ _. goes_if (is_tried s.flights (x ∷ p)) None _
       (λ tried. absurd (true≢false (sym tried ∙ ap (λ fs. is_tried fs (x ∷ p)) (all_landed c run limit given alone within h legal idle))))
-      (λ _. elim (node_at s.nodes (x ∷ p)) as (λ o. node_at s.nodes (x ∷ p) ≡ o → Goes (elim o [ Some old ↦ (if old.dying then None else refusal AdapterAlreadyExists) | None ↦ (if nat_le 65536 s.count then refusal (TooMany s.count) else good) ])) [
+      (λ _. elim
+      (node_at s.nodes (x ∷ p)) as (λ o. node_at s.nodes (x ∷ p) ≡ o
+      → Goes (elim o
+      [ Some old ↦ (if old.dying then None else refusal AdapterAlreadyExists) | None ↦ (if nat_le 65536 s.count then refusal (TooMany s.count) else good) ])) [
         | Some old ↦ λ found. goes_if old.dying None (refusal AdapterAlreadyExists)
             (λ dying. (let there = node_found s.nodes (x ∷ p) old found in
             let root = (dying_gone c run limit given alone within h legal idle old there.0 dying).0 in
@@ -87,7 +93,9 @@ module _ (c : Config) (run limit : ℕ) (given : IsGiven c run) (alone : IsGiven
       (λ none. goes_if (list_any (λ a. is_of n.number oid a && not (is_over c a)) s.activations) None _
       (λ some_. (let a = any_in (λ x. is_of n.number oid x && not (is_over c x)) s.activations some_ in
       let parts = and_parts (is_of n.number oid a.0) (not (is_over c a.0)) a.2 in
-      absurd (true≢false (sym (ap₂ (λ x y. x && y) parts.0 (living_active c run limit given alone within h legal idle a.0 a.1 (not_true (is_over c a.0) parts.1))) ∙ none_by (λ x. is_of n.number oid x && is_active x) a.0 s.activations a.1 none))))
+      absurd (true≢false
+      (sym (ap₂ (λ x y. x && y) parts.0 (living_active c run limit given alone within h legal idle a.0 a.1 (not_true (is_over c a.0) parts.1)))
+      ∙ none_by (λ x. is_of n.number oid x && is_active x) a.0 s.activations a.1 none))))
       (λ _. goes_if (is_taken c s n k) (refusal ServantAlreadyActive) good (λ _. refl) (λ _. refl)))))))
 
   deactivate_goes : (p : List (List ℕ)) (oid : List ℕ) → Goes (deactivate_row c s p oid)
@@ -100,11 +108,15 @@ module _ (c : Config) (run limit : ℕ) (given : IsGiven c run) (alone : IsGiven
       goes_live s p _ (λ n. goes_known c servant _ (λ k.
       elim (referred c s n k) as (λ o. Goes (elim o [
         | Some a ↦ Some (AnswerNow (GoodIor (reference_text c run n.number p a.oid k)))
-        | None ↦ (if is_implicit c s n k then Some (AnswerNow (GoodIor (reference_text c run n.number p (made_id run (suc s.made)) k))) else refusal ServantNotActive)
+        | None ↦
+            (if is_implicit c s n k then Some (AnswerNow (GoodIor (reference_text c run n.number p (made_id run (suc s.made)) k))) else refusal
+            ServantNotActive)
       ])) [ Some a ↦ refl | None ↦ goes_if (is_implicit c s n k) _ (refusal ServantNotActive) (λ _. refl) (λ _. refl) ]))
 
   preset_goes : (p : List (List ℕ)) (servant : List ℕ) → Goes (preset_row c s p servant)
-  preset_goes p servant = goes_live s p _ (λ n. goes_if (not (uses_default_servant (policies_at c p))) (refusal WrongPolicy) _ (λ _. refl) (λ _. goes_known c servant _ (λ k. refl)))
+  preset_goes p servant =
+      goes_live s p _
+      (λ n. goes_if (not (uses_default_servant (policies_at c p))) (refusal WrongPolicy) _ (λ _. refl) (λ _. goes_known c servant _ (λ k. refl)))
 
   pub commands_go : (d : Command) → Goes (command_verdict c run h s d)
   unfolding command_verdict

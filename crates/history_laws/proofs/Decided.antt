@@ -42,7 +42,8 @@ module _ (c : Config) (run limit : ℕ) where
 
   pub decided_still : (past : List Entry) (e : Entry) (r : ℕ) → decided c run past r ≡ true → decided c run (e ∷ past) r ≡ true
   decided_still past e r was =
-      or_second (is_decided_by past e r) (decided c run past r || (is_waiting (admitted (e ∷ past) r) && settles c run (e ∷ past) r)) (or_first (decided c run past r) (is_waiting (admitted (e ∷ past) r) && settles c run (e ∷ past) r) was)
+      or_second (is_decided_by past e r) (decided c run past r || (is_waiting (admitted (e ∷ past) r) && settles c run (e ∷ past) r))
+      (or_first (decided c run past r) (is_waiting (admitted (e ∷ past) r) && settles c run (e ∷ past) r) was)
 
   -- what the Admit itself does
   by_admit : (past : List Entry) (w r : ℕ) (v : Verdict) → Being (Admit w r v ∷ past) r v
@@ -60,7 +61,8 @@ module _ (c : Config) (run limit : ℕ) where
   by_admit past w r (AnswerNow x) = inl (decided_now past (Admit w r (AnswerNow x)) r (ap (λ b. b && true) (eq-eqb r r refl)))
 
   -- the entry of a worker that is at it
-  by_own : (past : List Entry) (e : Entry) (w r : ℕ) (v : Verdict) → turn c run past w ≡ Some e → is_deciding r (stage past w) ≡ true → admitted (e ∷ past) r ≡ Some v → Being (e ∷ past) r v
+  by_own : (past : List Entry) (e : Entry) (w r : ℕ) (v : Verdict) → turn c run past w ≡ Some e → is_deciding r (stage past w) ≡ true
+      → admitted (e ∷ past) r ≡ Some v → Being (e ∷ past) r v
   by_own past e w r v next deciding is = by_stage (stage past w) refl (deciding)
     where
       s : Standing
@@ -71,10 +73,12 @@ module _ (c : Config) (run limit : ℕ) where
 
       tried_by : (q : ℕ) (a : Attempt) → stage past w ≡ Trying q → q ≡ r → Tried w a ≡ e → Being (e ∷ past) r v
       tried_by q (Yes n) was same which =
-          absurd (let f : None ≡ Some v = sym (ap (λ b. if b then None else admitted past r) (at (Trying q) was (ap (λ x. Some x) same))) ∙ (ap (λ y. admitted (y ∷ past) r) which ∙ is) in cc)
+          absurd (let f : None ≡ Some v = sym (ap (λ b. if b then None else admitted past r) (at (Trying q) was (ap (λ x. Some x) same)))
+          ∙ (ap (λ y. admitted (y ∷ past) r) which ∙ is) in cc)
       tried_by q NoChild was same which = inl (decided_now past e r (ap (λ y. is_decided_by past y r) (sym which) ∙ at (Trying q) was (ap (λ x. Some x) same)))
       tried_by q Raised was same which = inl (decided_now past e r (ap (λ y. is_decided_by past y r) (sym which) ∙ at (Trying q) was (ap (λ x. Some x) same)))
-      tried_by q ParentDying was same which = inl (decided_now past e r (ap (λ y. is_decided_by past y r) (sym which) ∙ at (Trying q) was (ap (λ x. Some x) same)))
+      tried_by q ParentDying was same which =
+          inl (decided_now past e r (ap (λ y. is_decided_by past y r) (sym which) ∙ at (Trying q) was (ap (λ x. Some x) same)))
 
       incarnated_by : (q n : ℕ) (a : Incarnation) → stage past w ≡ Incarnating q n → q ≡ r → Incarnated w a ≡ e → Being (e ∷ past) r v
       incarnated_by q n a was same which =
@@ -82,9 +86,13 @@ module _ (c : Config) (run limit : ℕ) where
             | inl brings_ ↦ inr (inr (
               w,
               ap (λ y. is_deciding r (stage (y ∷ past) w)) (sym which)
-                  ∙ (ap (is_deciding r) (own w (incarnated a (stage past w)) (stage past w) ∙ (ap (incarnated a) was ∙ ap (λ b. if b then Serving q else Free) brings_)) ∙ eq-eqb q r same),
+                  ∙ (ap (is_deciding r)
+                  (own w (incarnated a (stage past w)) (stage past w) ∙ (ap (incarnated a) was ∙ ap (λ b. if b then Serving q else Free) brings_))
+                  ∙ eq-eqb q r same),
             ))
-            | inr none ↦ inl (decided_now past e r (ap (λ y. is_decided_by past y r) (sym which) ∙ ap₂ (λ x y. not x && y) none (at (Incarnating q n) was (ap (λ x. Some x) same))))
+            | inr none ↦
+                inl (decided_now past e r
+                (ap (λ y. is_decided_by past y r) (sym which) ∙ ap₂ (λ x y. not x && y) none (at (Incarnating q n) was (ap (λ x. Some x) same))))
           ]
 
       by_stage : (b : Stage) → stage past w ≡ b → is_deciding r (stage past w) ≡ true → Being (e ∷ past) r v
@@ -98,7 +106,8 @@ module _ (c : Config) (run limit : ℕ) where
       by_stage (Serving q) was is_ =
           (let goes : Some (Run w) ≡ Some e = goes_with c run limit past w (Some e) (Serving q) next was (λ f. cc) in
           let which : Run w ≡ e = cc in
-          inl (decided_now past e r (ap (λ y. is_decided_by past y r) (sym which) ∙ at (Serving q) was (ap (λ x. Some x) (eqb-true q r (sym (ap (is_deciding r) was) ∙ is_))))))
+          inl (decided_now past e r
+          (ap (λ y. is_decided_by past y r) (sym which) ∙ at (Serving q) was (ap (λ x. Some x) (eqb-true q r (sym (ap (is_deciding r) was) ∙ is_))))))
       by_stage (Ran q) was is_ = absurd (let f : false ≡ true = sym (ap (is_deciding r) was) ∙ is_ in cc)
       by_stage (Removing n) was is_ = absurd (let f : false ≡ true = sym (ap (is_deciding r) was) ∙ is_ in cc)
       by_stage Free was is_ = absurd (let f : false ≡ true = sym (ap (is_deciding r) was) ∙ is_ in cc)

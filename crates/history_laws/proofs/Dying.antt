@@ -33,10 +33,13 @@ use Rattle.std.proofs.lemmas.Bool.{eq-eqb, lt-ltb, or_cases, true≢false}
 use Rattle.std.specs.Prelude.{◌&&◌, ◌==◌, ◌∷◌, ◌≡◌, List, None, Option, Some, [], false, length, refl, true, ℕ}
 
 -- a command that destroys an adapter ends what is in it
-destroy_ends : (c : Config) (s : Standing) (a : Activation) (m : Node) → In m s.nodes → m.number ≡ a.adapter → (d : Option Command) → destroys m.path d ≡ true → ends c s a d ≡ true
+destroy_ends : (c : Config) (s : Standing) (a : Activation) (m : Node) → In m s.nodes → m.number ≡ a.adapter → (d : Option Command) → destroys m.path d ≡ true
+    → ends c s a d ≡ true
 destroy_ends c s a m there at None is = absurd (let f : false ≡ true = is in cc)
-destroy_ends c s a m there at (Some (Destroy p etherealize wait)) is = any_by (λ n. (n.number == a.adapter) && leads_to p n.path) m s.nodes there (ap₂ (λ x y. x && y) (eq-eqb m.number a.adapter at) is)
-destroy_ends c s a m there at (Some Shutdown) is = any_by (λ n. (n.number == a.adapter) && leads_to [] n.path) m s.nodes there (ap₂ (λ x y. x && y) (eq-eqb m.number a.adapter at) refl)
+destroy_ends c s a m there at (Some (Destroy p etherealize wait)) is =
+    any_by (λ n. (n.number == a.adapter) && leads_to p n.path) m s.nodes there (ap₂ (λ x y. x && y) (eq-eqb m.number a.adapter at) is)
+destroy_ends c s a m there at (Some Shutdown) is =
+    any_by (λ n. (n.number == a.adapter) && leads_to [] n.path) m s.nodes there (ap₂ (λ x y. x && y) (eq-eqb m.number a.adapter at) refl)
 destroy_ends c s a m there at (Some (Manager name order)) is = absurd (let f : false ≡ true = is in cc)
 destroy_ends c s a m there at (Some (Create p)) is = absurd (let f : false ≡ true = is in cc)
 destroy_ends c s a m there at (Some (Activate p servant)) is = absurd (let f : false ≡ true = is in cc)
@@ -50,15 +53,21 @@ destroy_ends c s a m there at (Some (BadLine word)) is = absurd (let f : false �
 
 module _ (c : Config) (run limit : ℕ) (given : IsGiven c run) (within : IsWithinLimits c limit) where
   -- an activation begins in an adapter that isn't being destroyed, by an entry that destroys nothing
-  begins_living : (past : List Entry) (e : Entry) → IsLegal c run limit (e ∷ past) → (b : Activation) → IsBegun c run past (standing c run past) e b → (m : Node) → In m (standing c run past).nodes → m.number ≡ b.adapter → (m.dying ≡ false) × ((p : List (List ℕ)) → destroys p (command_done past e) ≡ false)
+  begins_living : (past : List Entry) (e : Entry) → IsLegal c run limit (e ∷ past) → (b : Activation) → IsBegun c run past (standing c run past) e b
+      → (m : Node) → In m (standing c run past).nodes → m.number ≡ b.adapter → (m.dying ≡ false)
+      × ((p : List (List ℕ)) → destroys p (command_done past e) ≡ false)
   begins_living past e legal b fresh m there at =
       elim fresh.how [
-        | incarnating w r n key is has adapter path oid phase ↦ (let admission = admission_is c run past w r (Incarnate n) (subst (λ x. MayFollow c run limit past x) is legal.0) in
+        | incarnating w r n key is has adapter path oid phase ↦
+            (let admission = admission_is c run past w r (Incarnate n) (subst (λ x. MayFollow c run limit past x) is legal.0) in
             let it = served_by c run past sound w r (Incarnate n) key refl admission.told has in
             (lives it.node it.stands (it.numbered ∙ sym adapter) it.living, λ p. ap (λ x. destroys p (command_done past x)) is))
-        | activating p servant done adapter path oid phase ↦ (at_live p adapter (untaken_activate c run past limit e p servant legal.0 done), λ q. ap (destroys q) done)
-        | activating_id p oid' servant done adapter path oid phase ↦ (at_live p adapter (untaken_activate_id c run past limit e p oid' servant legal.0 done), λ q. ap (destroys q) done)
-        | referring p servant n k done live known implicit adapter path oid phase ↦ (let tells = live_tells s p n live in (lives n tells.0 (number_live s p n tells.3 ∙ sym adapter) tells.2, λ q. ap (destroys q) done))
+        | activating p servant done adapter path oid phase ↦
+            (at_live p adapter (untaken_activate c run past limit e p servant legal.0 done), λ q. ap (destroys q) done)
+        | activating_id p oid' servant done adapter path oid phase ↦
+            (at_live p adapter (untaken_activate_id c run past limit e p oid' servant legal.0 done), λ q. ap (destroys q) done)
+        | referring p servant n k done live known implicit adapter path oid phase ↦
+            (let tells = live_tells s p n live in (lives n tells.0 (number_live s p n tells.3 ∙ sym adapter) tells.2, λ q. ap (destroys q) done))
       ]
     where
       s : Standing
@@ -73,7 +82,8 @@ module _ (c : Config) (run limit : ℕ) (given : IsGiven c run) (within : IsWith
       at_live : (p : List (List ℕ)) {servant : List ℕ} → b.adapter ≡ number_at s p → IsUntaken c s p servant → m.dying ≡ false
       at_live p adapter it = (let tells = live_tells s p it.node it.lives in lives it.node tells.0 (number_live s p it.node tells.3 ∙ sym adapter) tells.2)
 
-  pub dying_ends : (h : List Entry) → IsLegal c run limit h → (a : Activation) (n : Node) → In a (standing c run h).activations → In n (standing c run h).nodes → n.number ≡ a.adapter → n.dying ≡ true → a.ending ≡ true
+  pub dying_ends : (h : List Entry) → IsLegal c run limit h → (a : Activation) (n : Node) → In a (standing c run h).activations → In n (standing c run h).nodes
+      → n.number ≡ a.adapter → n.dying ≡ true → a.ending ≡ true
   dying_ends [] legal a n a_in n_in at dying = absurd (true≢false (sym dying ∙ opening_live c run n n_in))
   dying_ends (e ∷ past) legal b n b_in n_in at dying =
       elim (node_before c run past e n n_in) [
@@ -81,8 +91,11 @@ module _ (c : Config) (run limit : ℕ) (given : IsGiven c run) (within : IsWith
         | node_stood m was number path flag ↦ elim (or_cases (destroys m.path (command_done past e)) m.dying (sym flag ∙ dying)) [
           | inl now ↦ elim (activation_from c run past e b b_in) [
             | activation_begun fresh ↦ absurd (true≢false (sym now ∙ (begins_living past e legal b fresh m was (sym number ∙ at)).1 m.path))
-            | activation_stood a is step ↦ (endings_are c run limit given within (e ∷ past) legal b b_in).0 ∙ or_first (is_ended_by c run past e b) (was_ended c run past b)
-                (ap₂ (λ x y. x && y) (lt-ltb b.number (length (standing c run past).activations) (let low = sound.counted a is in let same : b.number ≡ a.number = step.later.number in omega (arith, low, same)))
+            | activation_stood a is step ↦ (endings_are c run limit given within (e ∷ past) legal b b_in).0
+                ∙ or_first (is_ended_by c run past e b) (was_ended c run past b)
+                (ap₂ (λ x y. x && y)
+                (lt-ltb b.number (length (standing c run past).activations)
+                (let low = sound.counted a is in let same : b.number ≡ a.number = step.later.number in omega (arith, low, same)))
                 (destroy_ends c (standing c run past) b m was (sym number ∙ at) (command_done past e) now))
           ]
           | inr before ↦ elim (activation_from c run past e b b_in) [

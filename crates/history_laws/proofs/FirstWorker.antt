@@ -101,12 +101,15 @@ module _ (c : Config) (run : ℕ) (h : List Entry) where
       by_call : (call : Option Call) → verdict_on c run h r 0 call ≡ None → verdict_on c run h r w call ≡ None
       by_call None is = refl
       by_call (Some (Line number command)) is = is
-      by_call (Some (Request head target operation body)) is = none_held (first_row (facts_of c run h r) w) (held_from_all (facts_of c run h r) (held_none (first_row (facts_of c run h r) 0) is) w)
-      by_call (Some (Locate head target)) is = none_held (first_row (facts_of c run h r) w) (held_from_all (facts_of c run h r) (held_none (first_row (facts_of c run h r) 0) is) w)
+      by_call (Some (Request head target operation body)) is =
+          none_held (first_row (facts_of c run h r) w) (held_from_all (facts_of c run h r) (held_none (first_row (facts_of c run h r) 0) is) w)
+      by_call (Some (Locate head target)) is =
+          none_held (first_row (facts_of c run h r) w) (held_from_all (facts_of c run h r) (held_none (first_row (facts_of c run h r) 0) is) w)
 
   admission_for_all : (w r : ℕ) → admission_of c run h 0 r ≡ None → admission_of c run h w r ≡ None
   admission_for_all w r none =
-      elim (is_unadmitted h r) as (λ b. (if b then option_map (λ v. Admit 0 r v) (verdict c run h r 0) else None) ≡ None → (if b then option_map (λ v. Admit w r v) (verdict c run h r w) else None) ≡ None) [
+      elim (is_unadmitted h r) as (λ b. (if b then option_map (λ v. Admit 0 r v) (verdict c run h r 0) else None) ≡ None
+      → (if b then option_map (λ v. Admit w r v) (verdict c run h r w) else None) ≡ None) [
         | true ↦ λ is. none_mapped (λ v. Admit w r v) (verdict c run h r w) (verdict_for_all r w (mapped_none (λ v. Admit 0 r v) (verdict c run h r 0) is))
         | false ↦ λ _. refl
       ] none
@@ -117,5 +120,6 @@ module _ (c : Config) (run : ℕ) (h : List Entry) where
       let both = first_none (removal c (standing c run h) 0) (admission c run h 0) (ap (next_of c run h 0) (sym (free 0)) ∙ none) in
       ap (next_of c run h w) (free w)
       ∙ ap₂ (λ x y. option_or x y)
-      (none_mapped (λ a. TakeOut w a.number (not a.quiet)) (find (is_due c (standing c run h)) (standing c run h).activations) (mapped_none (λ a. TakeOut 0 a.number (not a.quiet)) (find (is_due c (standing c run h)) (standing c run h).activations) both.0))
+      (none_mapped (λ a. TakeOut w a.number (not a.quiet)) (find (is_due c (standing c run h)) (standing c run h).activations)
+      (mapped_none (λ a. TakeOut 0 a.number (not a.quiet)) (find (is_due c (standing c run h)) (standing c run h).activations) both.0))
       (none_given (admission_of c run h w) (arrivals h) (λ r less. admission_for_all w r (given_none (admission_of c run h 0) (arrivals h) both.1 r less)))

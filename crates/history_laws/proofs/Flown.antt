@@ -49,7 +49,8 @@ trial_or_run s r key Wait f is = absurd (let e : None ≡ Some f = is in cc)
 
 module _ (c : Config) (run limit : ℕ) where
   -- where a worker stays at its arrival it stays at a trial, or at a request
-  trying_kept : (past : List Entry) (e : Entry) → MayFollow c run limit past e → (w r : ℕ) → arrival_in (stage past w) ≡ Some r → arrival_in (stage (e ∷ past) w) ≡ Some r → is_trying (stage (e ∷ past) w) ≡ is_trying (stage past w)
+  trying_kept : (past : List Entry) (e : Entry) → MayFollow c run limit past e → (w r : ℕ) → arrival_in (stage past w) ≡ Some r
+      → arrival_in (stage (e ∷ past) w) ≡ Some r → is_trying (stage (e ∷ past) w) ≡ is_trying (stage past w)
   trying_kept past e may w r at after =
       elim (own_or_other e w) [
         | inr other ↦ ap is_trying (stage_other e past w other)
@@ -60,7 +61,8 @@ module _ (c : Config) (run limit : ℕ) where
       s = standing c run past
 
       -- the worker's own entry takes its stage to this
-      to : (x : Entry) (b d : Stage) → x ≡ e → stage past w ≡ b → stage (x ∷ past) w ≡ d → is_trying d ≡ is_trying b → is_trying (stage (e ∷ past) w) ≡ is_trying (stage past w)
+      to : (x : Entry) (b d : Stage) → x ≡ e → stage past w ≡ b → stage (x ∷ past) w ≡ d → is_trying d ≡ is_trying b
+          → is_trying (stage (e ∷ past) w) ≡ is_trying (stage past w)
       to x b d is was comes same = ap is_trying (ap (λ y. stage (y ∷ past) w) (sym is) ∙ comes) ∙ (same ∙ ap is_trying (sym was))
 
       by_stage : (b : Stage) → stage past w ≡ b → turn c run past w ≡ Some e → is_trying (stage (e ∷ past) w) ≡ is_trying (stage past w)
@@ -72,7 +74,8 @@ module _ (c : Config) (run limit : ℕ) where
       by_stage (Incarnating q n) was next =
           (let goes = goes_with c run limit past w (Some e) (Incarnating q n) next was (λ f. cc) in
           let found = mapped_by (λ a. Incarnated w (brought c s a)) (activation_numbered s n) e goes in
-          to (Incarnated w (brought c s found.0)) (Incarnating q n) (incarnated (brought c s found.0) (Incarnating q n)) found.2 was (own w (incarnated (brought c s found.0) (stage past w)) (stage past w) ∙ ap (incarnated (brought c s found.0)) was)
+          to (Incarnated w (brought c s found.0)) (Incarnating q n) (incarnated (brought c s found.0) (Incarnating q n)) found.2 was
+          (own w (incarnated (brought c s found.0) (stage past w)) (stage past w) ∙ ap (incarnated (brought c s found.0)) was)
           (cond_both (brings (brought c s found.0)) (Serving q) Free (λ b. is_trying b ≡ false) (λ _. refl) (λ _. refl)))
       by_stage (Serving q) was next =
           (let goes : Some (Run w) ≡ Some e = goes_with c run limit past w (Some e) (Serving q) next was (λ f. cc) in
@@ -83,7 +86,8 @@ module _ (c : Config) (run limit : ℕ) where
       by_stage (Removing n) was next = absurd (let f : None ≡ Some r = sym (ap arrival_in was) ∙ at in cc)
 
   module _ (given : IsGiven c run) (alone : IsGivenAlone c run) (within : IsWithinLimits c limit) where
-    pub trial_is_tried : (h : List Entry) → IsLegal c run limit h → (f : Flight) (w : ℕ) → In f (standing c run h).flights → arrival_in (stage h w) ≡ Some f.arrival → is_trying (stage h w) ≡ is_some f.child
+    pub trial_is_tried : (h : List Entry) → IsLegal c run limit h → (f : Flight) (w : ℕ) → In f (standing c run h).flights
+        → arrival_in (stage h w) ≡ Some f.arrival → is_trying (stage h w) ≡ is_some f.child
     trial_is_tried [] legal f w there at = absurd (let x : None ≡ Some f.arrival = at in cc)
     trial_is_tried (e ∷ past) legal f w there at =
         elim (flight_from past (standing c run past) c run e f there) [
@@ -96,7 +100,9 @@ module _ (c : Config) (run limit : ℕ) where
           ]
           | begins v r u key is has for_ ↦ (let says = flight_says (standing c run past) r key u f for_ in
               let comes : stage (e ∷ past) v ≡ begun_by r u = ap (λ x. stage (x ∷ past) v) is ∙ own v (begun_by r u) (stage past v) in
-              let same : w ≡ v = (all_manned c run limit (e ∷ past) given alone within legal).arrival_alone w v f.arrival at (ap arrival_in comes ∙ (says.2 ∙ ap (λ x. Some x) (sym says.0))) in
+              let same : w ≡ v =
+              (all_manned c run limit (e ∷ past) given alone within legal).arrival_alone w v f.arrival at
+              (ap arrival_in comes ∙ (says.2 ∙ ap (λ x. Some x) (sym says.0))) in
               ap (λ x. is_trying (stage (e ∷ past) x)) same ∙ (ap is_trying comes ∙ trial_or_run (standing c run past) r key u f for_))
         ]
       where

@@ -55,7 +55,9 @@ module _ (f : Facts) where
   forward_goes (Some endpoint) name minor = refl
 
   pub inactive_goes : Goes (inactive_rule f)
-  inactive_goes = cond_both (is_transient f.key) (refuse f ObjAdapter MANAGER_INACTIVE) (forward_or f.entry (refuse f ObjAdapter MANAGER_INACTIVE)) Goes (λ _. refl) (λ _. forward_goes f.entry ObjAdapter MANAGER_INACTIVE)
+  inactive_goes =
+      cond_both (is_transient f.key) (refuse f ObjAdapter MANAGER_INACTIVE) (forward_or f.entry (refuse f ObjAdapter MANAGER_INACTIVE)) Goes (λ _. refl)
+      (λ _. forward_goes f.entry ObjAdapter MANAGER_INACTIVE)
 
   module _ (freed : IsFreed f) where
     located_goes : (l : Located) → Goes (located_rows f l)
@@ -75,7 +77,8 @@ module _ (f : Facts) where
 
     manager_goes : Goes (manager_rows f)
     manager_goes =
-        cond_both (not f.rules) (refuse f ObjAdapter NO_SERVANT_MANAGER) (if is_retain f.policies.retention then activator_rows f else locator_rows f) Goes (λ _. refl)
+        cond_both (not f.rules) (refuse f ObjAdapter NO_SERVANT_MANAGER) (if is_retain f.policies.retention then activator_rows f else locator_rows f) Goes
+        (λ _. refl)
         (λ _. cond_both (is_retain f.policies.retention) (activator_rows f) (locator_rows f) Goes (λ _. activator_goes)
         (λ _. cond_both f.locate (Go Here) (located_rows f f.located) Goes (λ _. refl) (λ _. located_goes f.located)))
 
@@ -106,7 +109,8 @@ module _ (f : Facts) where
     trial_goes =
         cond_both f.trial (Held (Some (Trial f.adapter))) (if f.tries then Go Try else forward_or f.entry (refuse f ObjectNotExist NO_ADAPTER)) Goes
         (λ tried. absurd (true≢false (sym tried ∙ freed.untried)))
-        (λ _. cond_both f.tries (Go Try) (forward_or f.entry (refuse f ObjectNotExist NO_ADAPTER)) Goes (λ _. refl) (λ _. forward_goes f.entry ObjectNotExist NO_ADAPTER))
+        (λ _. cond_both f.tries (Go Try) (forward_or f.entry (refuse f ObjectNotExist NO_ADAPTER)) Goes (λ _. refl)
+        (λ _. forward_goes f.entry ObjectNotExist NO_ADAPTER))
 
     -- what it holds, a manager in the state HOLDING holds from every worker
     abbrev IsHeldAll : (ℕ → Choice) → Type 0

@@ -97,7 +97,8 @@ phase_is_one a = by_phase a.phase refl
     by_phase Void at = is_void_now at
     by_phase (Complete t) at = is_served_now t at
 
-module _ (c : Config) (run limit : ℕ) (given : IsGiven c run) (alone : IsGivenAlone c run) (within : IsWithinLimits c limit) (h : List Entry) (legal : IsLegal c run limit h) (idle : AreIdle c run h) where
+module _ (c : Config) (run limit : ℕ) (given : IsGiven c run) (alone : IsGivenAlone c run) (within : IsWithinLimits c limit) (h : List Entry)
+    (legal : IsLegal c run limit h) (idle : AreIdle c run h) where
   abbrev s : Standing
   s = standing c run h
 
@@ -122,12 +123,14 @@ module _ (c : Config) (run limit : ℕ) (given : IsGiven c run) (alone : IsGiven
       by_stage (Incarnating r n) at =
           (let holds : Holds h s (Incarnating r n) = subst (λ b. Holds h s b) at (manned_.stages w) in
           let a = holds.2 in
-          absurd (unfound n a.0 a.1 a.2 (mapped_none (λ x. Incarnated w (brought c s x)) (activation_numbered s n) (goes_none w (Incarnating r n) at (λ f. cc)))))
+          absurd (unfound n a.0 a.1 a.2
+          (mapped_none (λ x. Incarnated w (brought c s x)) (activation_numbered s n) (goes_none w (Incarnating r n) at (λ f. cc)))))
       by_stage (Serving r) at = absurd (let e : Some (Run w) ≡ None = goes_none w (Serving r) at (λ f. cc) in cc)
       by_stage (Ran r) at = absurd (let e : Some (Done w) ≡ None = goes_none w (Ran r) at (λ f. cc) in cc)
       by_stage (Removing n) at =
           (let holds : Holds h s (Removing n) = subst (λ b. Holds h s b) at (manned_.stages w) in
-          absurd (unfound n holds.0 holds.1 holds.2 (mapped_none (λ x. Etherealized w x.cleanup x.remaining) (activation_numbered s n) (goes_none w (Removing n) at (λ f. cc)))))
+          absurd (unfound n holds.0 holds.1 holds.2
+          (mapped_none (λ x. Etherealized w x.cleanup x.remaining) (activation_numbered s n) (goes_none w (Removing n) at (λ f. cc)))))
 
   nothing_next : (removal c s 0 ≡ None) × (admission c run h 0 ≡ None)
   unfolding turn
@@ -156,7 +159,10 @@ module _ (c : Config) (run limit : ℕ) (given : IsGiven c run) (alone : IsGiven
   out_finished a there out =
       elim (cases_Bool (is_finished c a)) [
         | inl finished ↦ finished
-        | inr unfinished ↦ (let parts = unfinished_parts a.quiet (has_activator c a.path) a.etherealized (ap (λ o. o && (a.quiet || (not (has_activator c a.path) || a.etherealized))) (sym out) ∙ unfinished) in
+        | inr unfinished ↦
+            (let parts =
+            unfinished_parts a.quiet (has_activator c a.path) a.etherealized
+            (ap (λ o. o && (a.quiet || (not (has_activator c a.path) || a.etherealized))) (sym out) ∙ unfinished) in
             absurd (none_removed a there parts.1 out parts.0 parts.2))
       ]
 
@@ -164,7 +170,8 @@ module _ (c : Config) (run limit : ℕ) (given : IsGiven c run) (alone : IsGiven
   none_unfinished a there =
       false_from_ne_true (is_unfinished c a) (λ is. elim (or_cases (is_begun a) (a.out && not (is_finished c a)) is) [
         | inl begun ↦ none_begun a there (begun_phase a.phase begun)
-        | inr open_ ↦ (let parts = and_parts a.out (not (is_finished c a)) open_ in true≢false (sym (out_finished a there parts.0) ∙ not_true (is_finished c a) parts.1))
+        | inr open_ ↦
+            (let parts = and_parts a.out (not (is_finished c a)) open_ in true≢false (sym (out_finished a there parts.0) ∙ not_true (is_finished c a) parts.1))
       ])
 
   pub none_changing : (k : ℕ) → is_changing c s.activations k ≡ false
@@ -180,7 +187,8 @@ module _ (c : Config) (run limit : ℕ) (given : IsGiven c run) (alone : IsGiven
   ended_out : (a : Activation) → In a s.activations → is_complete a ≡ true → is_ending a ≡ true → a.out ≡ true
   ended_out a there complete ending =
       elim (cases_Bool (has_activator c a.path)) [
-        | inr none ↦ out_run_out c run limit given alone within h legal a there none ∙ ap₂ (λ x y. x && y) complete (ap₂ (λ x y. x && y) ending (ap not (none_used a.number)))
+        | inr none ↦ out_run_out c run limit given alone within h legal a there none
+            ∙ ap₂ (λ x y. x && y) complete (ap₂ (λ x y. x && y) ending (ap not (none_used a.number)))
         | inl activator ↦ elim (cases_Bool a.out) [
           | inl out ↦ out
           | inr mapped ↦ absurd (find_none (is_due c s) a s.activations none_due there
@@ -212,7 +220,8 @@ module _ (c : Config) (run limit : ℕ) (given : IsGiven c run) (alone : IsGiven
       elim (phase_is_one a) [
         | is_begun_now at ↦ absurd (none_begun a there at)
         | is_void_now at ↦ absurd (true≢false (sym (or_first (is_void a) (is_finished c a) (phase_void a at)) ∙ lives))
-        | is_served_now t at ↦ ap₂ (λ x y. x && not y) (phase_complete a t at) (false_from_ne_true a.ending (λ ending. true≢false (sym (ended_over a there ending) ∙ lives)))
+        | is_served_now t at ↦
+            ap₂ (λ x y. x && not y) (phase_complete a t at) (false_from_ne_true a.ending (λ ending. true≢false (sym (ended_over a there ending) ∙ lives)))
       ]
 
   -- of an adapter that was destroyed nothing is left
@@ -227,7 +236,8 @@ module _ (c : Config) (run limit : ℕ) (given : IsGiven c run) (alone : IsGiven
       let parts = and_parts (not (is_over c a.0)) (stands_under s.nodes n.path a.0.adapter) a.2 in
       let m = any_in (λ x. (x.number == a.0.adapter) && leads_to n.path x.path) s.nodes parts.1 in
       let at = and_parts (m.0.number == a.0.adapter) (leads_to n.path m.0.path) m.2 in
-      let ending = dying_ends c run limit given within h legal a.0 m.0 a.1 m.1 (eqb-true m.0.number a.0.adapter at.0) (sound.tree.below n m.0 there m.1 at.1 dying) in
+      let ending =
+      dying_ends c run limit given within h legal a.0 m.0 a.1 m.1 (eqb-true m.0.number a.0.adapter at.0) (sound.tree.below n m.0 there m.1 at.1 dying) in
       true≢false (sym (ended_over a.0 a.1 ending) ∙ not_true (is_over c a.0) parts.0)))))
 
   pub dying_gone : (n : Node) → In n s.nodes → n.dying ≡ true → (is_root n.path ≡ true) × (is_gone c s n.number ≡ true)

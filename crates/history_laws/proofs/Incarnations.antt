@@ -42,13 +42,15 @@ use Rattle.std.proofs.lemmas.Bool.{and_parts, eqb-true, false_from_ne_true, or_c
 use Rattle.std.specs.Prelude.{◌&&◌, ◌<◌, ◌==◌, ◌||◌, ◌∷◌, ◌≡◌, ◌⊎◌, Bool, List, None, Some, [], false, length, not, refl, true, ℕ}
 
 -- what was begun by an incarnation was so before the entry, or the entry begins it
-incarnated_before : (e : Entry) (past : List Entry) (n : ℕ) → was_incarnated (e ∷ past) n ≡ true → (was_incarnated past n ≡ true) ⊎ ((w : ℕ) × (r : ℕ) × (e ≡ Admit w r (Incarnate n)))
+incarnated_before : (e : Entry) (past : List Entry) (n : ℕ) → was_incarnated (e ∷ past) n ≡ true → (was_incarnated past n ≡ true)
+    ⊎ ((w : ℕ) × (r : ℕ) × (e ≡ Admit w r (Incarnate n)))
 incarnated_before (Entered conn) past n is = inl is
 incarnated_before (Arrive conn size call) past n is = inl is
 incarnated_before (Filled conn size) past n is = inl is
 incarnated_before (Left conn) past n is = inl is
 incarnated_before (Collect conn a) past n is = inl is
-incarnated_before (Admit w r (Incarnate m)) past n is = elim (or_cases (m == n) (was_incarnated past n) is) [ inl now ↦ inr (w, r, ap (λ k. Admit w r (Incarnate k)) (eqb-true m n now)) | inr was ↦ inl was ]
+incarnated_before (Admit w r (Incarnate m)) past n is =
+    elim (or_cases (m == n) (was_incarnated past n) is) [ inl now ↦ inr (w, r, ap (λ k. Admit w r (Incarnate k)) (eqb-true m n now)) | inr was ↦ inl was ]
 incarnated_before (Admit w r (Serve m)) past n is = inl is
 incarnated_before (Admit w r (Preset m)) past n is = inl is
 incarnated_before (Admit w r (Locator m)) past n is = inl is
@@ -76,7 +78,8 @@ module _ (c : Config) (p : List (List ℕ)) (oid : List ℕ) (kind : Kind) (brin
   pub brought_fresh : (s : Standing) (a : Activation) → a.path ≡ p → a.oid ≡ oid → brought c s a ≡ Fresh a.number
   brought_fresh s a on_path on_oid =
       ap (brought_by c s a) (rule_of a on_path on_oid)
-      ∙ ap (λ g. elim g as (λ _. Incarnation) [ FreshKind k ↦ Fresh a.number | Servant k ↦ named_or_double c s a k | GivesForward endpoint ↦ ForwardTo endpoint | GivesRaise exception ↦ Raise exception ]) brings_.fresh
+      ∙ ap (λ g. elim g as (λ _. Incarnation)
+      [ FreshKind k ↦ Fresh a.number | Servant k ↦ named_or_double c s a k | GivesForward endpoint ↦ ForwardTo endpoint | GivesRaise exception ↦ Raise exception ]) brings_.fresh
 
   pub kind_is : (a : Activation) → a.path ≡ p → a.oid ≡ oid → kind_brought c a ≡ kind
   kind_is a on_path on_oid =
@@ -108,7 +111,8 @@ module _ (c : Config) (p : List (List ℕ)) (oid : List ℕ) (kind : Kind) (brin
         ]
 
     -- it was so before each entry
-    pub incarnated_past : (past : List Entry) (e : Entry) → IsLegal c run limit (e ∷ past) → AreIncarnated c run (e ∷ past) p oid → AreIncarnated c run past p oid
+    pub incarnated_past : (past : List Entry) (e : Entry) → IsLegal c run limit (e ∷ past) → AreIncarnated c run (e ∷ past) p oid
+        → AreIncarnated c run past p oid
     incarnated_past past e legal are a there on_path on_oid =
         let (b, in_b, later) = step_later c run past e a there in
         let is = are b in_b (later.path ∙ on_path) (later.oid ∙ on_oid) in (
@@ -122,7 +126,8 @@ module _ (c : Config) (p : List (List ℕ)) (oid : List ℕ) (kind : Kind) (brin
         )
 
     -- each is on its way in, or has its fresh servant
-    pub all_fresh : (h : List Entry) → IsLegal c run limit h → AreIncarnated c run h p oid → (a : Activation) → In a (standing c run h).activations → a.path ≡ p → a.oid ≡ oid → (a.phase ≡ Begun) ⊎ (a.phase ≡ Complete (FreshServant a.number))
+    pub all_fresh : (h : List Entry) → IsLegal c run limit h → AreIncarnated c run h p oid → (a : Activation) → In a (standing c run h).activations → a.path ≡ p
+        → a.oid ≡ oid → (a.phase ≡ Begun) ⊎ (a.phase ≡ Complete (FreshServant a.number))
     all_fresh [] legal are a there on_path on_oid = absurd (let e : false ≡ true = (are a there on_path on_oid).0 in cc)
     all_fresh (e ∷ past) legal are b there on_path on_oid =
         elim (activation_from c run past e b there) [
@@ -142,7 +147,9 @@ module _ (c : Config) (p : List (List ℕ)) (oid : List ℕ) (kind : Kind) (brin
                 let stages : Incarnating it.arrival it.number ≡ Incarnating came.1.arrival a.number = sym it.begun ∙ came.1.begun in
                 let number : it.number ≡ a.number = cc in
                 let same : it.it ≡ a = sound.activation_alone it.it a found.0 was (eqb-true it.it.number it.number found.1 ∙ number) in
-                let answer : came.1.answer ≡ Fresh a.number = sym it.told ∙ (ap (brought c (standing c run past)) same ∙ brought_fresh (standing c run past) a (sym step.later.path ∙ on_path) (sym step.later.oid ∙ on_oid)) in
+                let answer : came.1.answer ≡ Fresh a.number = sym it.told
+                ∙ (ap (brought c (standing c run past)) same
+                ∙ brought_fresh (standing c run past) a (sym step.later.path ∙ on_path) (sym step.later.oid ∙ on_oid)) in
                 sym came.1.phase_is ∙ (ap (phase_by c a.number) answer ∙ ap (λ n. Complete (FreshServant n)) (sym step.later.number)))
           ]
         ]
@@ -173,7 +180,9 @@ module _ (c : Config) (p : List (List ℕ)) (oid : List ℕ) (kind : Kind) (brin
           ] in
           elim (or_cases (is_void a) (is_finished c a) over) [
             | inl void ↦ absurd (true≢false (sym void ∙ unvoid))
-            | inr finished ↦ told_by a.quiet (has_activator c a.path) a.etherealized (are a there on_path on_oid).1 (ap (has_activator c) on_path ∙ activator_at) (and_parts a.out (a.quiet || (not (has_activator c a.path) || a.etherealized)) finished).1
+            | inr finished ↦
+                told_by a.quiet (has_activator c a.path) a.etherealized (are a there on_path on_oid).1 (ap (has_activator c) on_path ∙ activator_at)
+                (and_parts a.out (a.quiet || (not (has_activator c a.path) || a.etherealized)) finished).1
           ]
         where
           told_by : (q k t : Bool) → q ≡ false → k ≡ true → (q || (not k || t)) ≡ true → t ≡ true
@@ -182,7 +191,8 @@ module _ (c : Config) (p : List (List ℕ)) (oid : List ℕ) (kind : Kind) (brin
           told_by false true t no_ yes_ is = is
 
       -- and of those that aren't there is one, in whichever adapter of the path
-      pub one_alone : (a b : Activation) → In a s.activations → In b s.activations → a.path ≡ p → a.oid ≡ oid → b.path ≡ p → b.oid ≡ oid → a.etherealized ≡ false → b.etherealized ≡ false → a ≡ b
+      pub one_alone : (a b : Activation) → In a s.activations → In b s.activations → a.path ≡ p → a.oid ≡ oid → b.path ≡ p → b.oid ≡ oid
+          → a.etherealized ≡ false → b.etherealized ≡ false → a ≡ b
       one_alone a b a_in b_in a_path a_oid b_path b_oid a_untold b_untold =
           let a_lives = lives a a_in a_path a_oid a_untold in
           let b_lives = lives b b_in b_path b_oid b_untold in

@@ -69,7 +69,8 @@ pub record IsKeyed (c : Config) (run : ℕ) (h : List Entry) (r : ℕ) (v : Verd
   pub fits : Fits c (standing c run h) key v
 
 -- an arrival that is admitted was so before the entry, or the entry admits it
-pub admitted_before : (e : Entry) (past : List Entry) (r : ℕ) (v : Verdict) → admitted (e ∷ past) r ≡ Some v → (admitted past r ≡ Some v) ⊎ ((w : ℕ) × (e ≡ Admit w r v))
+pub admitted_before : (e : Entry) (past : List Entry) (r : ℕ) (v : Verdict) → admitted (e ∷ past) r ≡ Some v → (admitted past r ≡ Some v)
+    ⊎ ((w : ℕ) × (e ≡ Admit w r v))
 admitted_before (Entered conn) past r v is = inl is
 admitted_before (Arrive conn size call) past r v is = inl is
 admitted_before (Filled conn size) past r v is = inl is
@@ -77,9 +78,11 @@ admitted_before (Left conn) past r v is = inl is
 admitted_before (Collect conn a) past r v is = inl is
 admitted_before (Admit w a u) past r v is =
     cond_both (a == r) (Some u) (admitted past r) (λ o. o ≡ Some v → (admitted past r ≡ Some v) ⊎ ((x : ℕ) × (Admit w a u ≡ Admit x r v)))
-    (λ same now. inr (w, (let at = eqb-true a r same in let e : Some u ≡ Some v = now in let f : u ≡ v = cc in ap₂ (λ x y. Admit w x y) at f))) (λ _ was. inl was) is
+    (λ same now. inr (w, (let at = eqb-true a r same in let e : Some u ≡ Some v = now in let f : u ≡ v = cc in ap₂ (λ x y. Admit w x y) at f)))
+    (λ _ was. inl was) is
 admitted_before (Tried w (Yes n)) past r v is =
-    cond_both (is_at r (arrival_in (stage past w))) None (admitted past r) (λ o. o ≡ Some v → (admitted past r ≡ Some v) ⊎ ((x : ℕ) × (Tried w (Yes n) ≡ Admit x r v)))
+    cond_both (is_at r (arrival_in (stage past w))) None (admitted past r)
+    (λ o. o ≡ Some v → (admitted past r ≡ Some v) ⊎ ((x : ℕ) × (Tried w (Yes n) ≡ Admit x r v)))
     (λ _ none. absurd (let e : None ≡ Some v = none in cc)) (λ _ was. inl was) is
 admitted_before (Tried w NoChild) past r v is = inl is
 admitted_before (Tried w Raised) past r v is = inl is
@@ -111,7 +114,8 @@ module _ (c : Config) (run limit : ℕ) (given : IsGiven c run) (alone : IsGiven
       let (b, there, later) = step_later c run past e it.it it.there in
       record { it = b; there = there; number = later.number ∙ it.number; path = later.path ∙ it.path; oid = later.oid ∙ it.oid }
 
-  fits_later : (past : List Entry) (e : Entry) (key : Key) (v : Verdict) → is_run v ≡ true → Fits c (standing c run past) key v → Fits c (standing c run (e ∷ past)) key v
+  fits_later : (past : List Entry) (e : Entry) (key : Key) (v : Verdict) → is_run v ≡ true → Fits c (standing c run past) key v
+      → Fits c (standing c run (e ∷ past)) key v
   fits_later past e key (Serve n) runs_ it = stands_later past e n key it
   fits_later past e key (Incarnate n) runs_ it = stands_later past e n key it
   fits_later past e key (Preset name) runs_ it = it
@@ -126,7 +130,8 @@ module _ (c : Config) (run limit : ℕ) (given : IsGiven c run) (alone : IsGiven
     sound = legal_sound c run limit past given within legal.1
 
     -- an activation that serves is of the adapter that the walk found
-    placed_at : (key : Key) (v : Verdict) → IsServed c run past sound w r v key → (a : Activation) → In a s.activations → a.adapter ≡ adapter_met (walk s.nodes key.path) → is_active a ≡ true → a.path ≡ key.path
+    placed_at : (key : Key) (v : Verdict) → IsServed c run past sound w r v key → (a : Activation) → In a s.activations
+        → a.adapter ≡ adapter_met (walk s.nodes key.path) → is_active a ≡ true → a.path ≡ key.path
     placed_at key v served a there at active =
         let active_parts = and_parts (is_complete a) (not a.ending) active in
         let unended = not_true a.ending active_parts.1 in
@@ -150,8 +155,23 @@ module _ (c : Config) (run limit : ℕ) (given : IsGiven c run) (alone : IsGiven
     pub begun_for : (n : ℕ) (key : Key) → e ≡ Admit w r (Incarnate n) → key_in (call_of past r) ≡ Some key → StandsFor (standing c run (e ∷ past)) n key
     begun_for n key is has =
         let s1 = changed c run past e s in
-        let a : Activation = record { number = length s.activations; adapter = adapter_met (walk s.nodes key.path); path = key.path; oid = key.oid; phase = Begun; ending = false; quiet = false; out = false; cleanup = false; remaining = false; etherealized = false } in
-        let there : In a s1.activations = subst (λ y. In a (changed c run past y s).activations) (sym is) (subst (λ k. In a (with_admitted r k (Incarnate n) s).activations) (sym has) (in_back a s.activations)) in
+        let a : Activation =
+        record {
+          number = length s.activations;
+          adapter = adapter_met (walk s.nodes key.path);
+          path = key.path;
+          oid = key.oid;
+          phase = Begun;
+          ending = false;
+          quiet = false;
+          out = false;
+          cleanup = false;
+          remaining = false;
+          etherealized = false;
+        } in
+        let there : In a s1.activations =
+        subst (λ y. In a (changed c run past y s).activations) (sym is)
+        (subst (λ k. In a (with_admitted r k (Incarnate n) s).activations) (sym has) (in_back a s.activations)) in
         record {
           it = let_out c s1 a;
           there = image_in (let_out c s1) a s1.activations there;
@@ -161,7 +181,8 @@ module _ (c : Config) (run limit : ℕ) (given : IsGiven c run) (alone : IsGiven
         }
 
     -- no loose servant by the table
-    never_loose : (v : Verdict) (key : Key) → is_loose (Go v) ≡ true → verdict_on c run past r w (call_of past r) ≡ Some v → key_in (call_of past r) ≡ Some key → retains (policies_at c key.path) ≡ true → uses_servant_manager (policies_at c key.path) ≡ true → ⊥
+    never_loose : (v : Verdict) (key : Key) → is_loose (Go v) ≡ true → verdict_on c run past r w (call_of past r) ≡ Some v → key_in (call_of past r) ≡ Some key
+        → retains (policies_at c key.path) ≡ true → uses_servant_manager (policies_at c key.path) ≡ true → ⊥
     never_loose v key loose told has retains_ manages = by_call (call_of past r) refl told has
       where
         by_row : (call : Option Call) → call_of past r ≡ call → key_in call ≡ Some key → chosen (first_row (facts_of c run past r) w) ≡ Some v → ⊥
@@ -176,12 +197,14 @@ module _ (c : Config) (run limit : ℕ) (given : IsGiven c run) (alone : IsGiven
         by_call (Some (Request head target operation body)) at told' has' = by_row (Some (Request head target operation body)) at has' told'
         by_call (Some (Locate head target)) at told' has' = by_row (Some (Locate head target)) at has' told'
 
-    fits_now : (v : Verdict) → is_run v ≡ true → e ≡ Admit w r v → (key : Key) → key_in (call_of past r) ≡ Some key → IsAdmission c run past w r v → Fits c (standing c run (e ∷ past)) key v
+    fits_now : (v : Verdict) → is_run v ≡ true → e ≡ Admit w r v → (key : Key) → key_in (call_of past r) ≡ Some key → IsAdmission c run past w r v
+        → Fits c (standing c run (e ∷ past)) key v
     fits_now (Serve n) runs_ is key has admission =
         (let served = served_by c run past sound w r (Serve n) key refl admission.told has in
         elim served.how [
           | active_served a there at of_id active same ↦ (let f : Serve a.number ≡ Serve n = same in let number : a.number ≡ n = cc in
-              stands_later past e n key (record { it = a; there = there; number = number; path = placed_at key (Serve n) served a there at active; oid = of_id }))
+              stands_later past e n key
+              (record { it = a; there = there; number = number; path = placed_at key (Serve n) served a there at active; oid = of_id }))
           | preset_served name same ↦ absurd (let f : Preset name ≡ Serve n = same in cc)
           | located_served name same ↦ absurd (let f : Locator name ≡ Serve n = same in cc)
           | incarnated_served activator idle same ↦ absurd (let f : Incarnate (length s.activations) ≡ Serve n = same in cc)

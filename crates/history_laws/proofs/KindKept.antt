@@ -14,7 +14,8 @@ use Rattle.std.proofs.lemmas.Bool.{cond_both}
 use Rattle.std.specs.Prelude.{◌∷◌, ◌≡◌, List, None, Option, Some, [], if◌then◌else◌, refl, true, ℕ}
 use Rattle.poa_base.specs.declared.Body.{Body}
 
-act_kept : (kind : Kind) (state : State) (operation : List ℕ) (body : Body) → is_of_kind kind state ≡ true → is_of_kind kind (act_of state operation body).0 ≡ true
+act_kept : (kind : Kind) (state : State) (operation : List ℕ) (body : Body) → is_of_kind kind state ≡ true
+    → is_of_kind kind (act_of state operation body).0 ≡ true
 act_kept RegisterKind (Register v) operation body is = refl
 act_kept RegisterKind (Book items) operation body is = is
 act_kept RegisterKind Echo operation body is = is
@@ -46,7 +47,8 @@ opening_kept FaultKind = refl
 
 restored_kept : (kind : Kind) (o : Option State) → is_of_kind kind (restored kind o) ≡ true
 restored_kept kind None = opening_kept kind
-restored_kept kind (Some state) = cond_both (is_of_kind kind state) state (opening_state kind) (λ x. is_of_kind kind x ≡ true) (λ is. is) (λ _. opening_kept kind)
+restored_kept kind (Some state) =
+    cond_both (is_of_kind kind state) state (opening_state kind) (λ x. is_of_kind kind x ≡ true) (λ is. is) (λ _. opening_kept kind)
 
 pub restored_same : (kind : Kind) (state : State) → is_of_kind kind state ≡ true → restored kind (Some state) ≡ state
 restored_same kind state is = ap (λ b. if b then state else opening_state kind) is

@@ -34,7 +34,8 @@ pub record IsLine (c : Config) (run : ℕ) (opened : Stored) (kind : Kind) (p : 
   -- where there is none the next servant will open in that state
   pub kept : ((a : Activation) → Carries (standing c run h) p oid a → ⊥) → restored kind (stored c run opened h p oid) ≡ line_state opened kind h p oid
   -- where one was etherealized a state of the kind is stored
-  pub told : (a : Activation) → In a (standing c run h).activations → a.path ≡ p → a.oid ≡ oid → a.etherealized ≡ true → (x : State) × (stored c run opened h p oid ≡ Some x) × (is_of_kind kind x ≡ true)
+  pub told : (a : Activation) → In a (standing c run h).activations → a.path ≡ p → a.oid ≡ oid → a.etherealized ≡ true → (x : State)
+      × (stored c run opened h p oid ≡ Some x) × (is_of_kind kind x ≡ true)
   pub line : IsOneLine c run opened kind h p oid
 
 module _ (c : Config) (run limit : ℕ) (opened : Stored) (kind : Kind) (p : List (List ℕ)) (oid : List ℕ) (past : List Entry) (e : Entry) where
@@ -49,7 +50,8 @@ module _ (c : Config) (run limit : ℕ) (opened : Stored) (kind : Kind) (p : Lis
   never_named name n is = (let k = of_servant c name (FreshServant n) is in let f : FreshServant n ≡ NamedServant k.0 = k.2 in cc)
 
   -- what carries after an entry did so before, or the entry brings it its servant
-  pub carried_before : (b : Activation) → Carries t p oid b → (a : Activation) × In a s.activations × IsStep c run past s e a b × (Carries s p oid a ⊎ ((a.phase ≡ Begun) × Brings c run past s e a.number b.phase))
+  pub carried_before : (b : Activation) → Carries t p oid b → (a : Activation) × In a s.activations × IsStep c run past s e a b
+      × (Carries s p oid a ⊎ ((a.phase ≡ Begun) × Brings c run past s e a.number b.phase))
   carried_before b carries =
       elim (activation_from c run past e b carries.there) [
         | activation_begun fresh ↦ absurd (elim fresh.how [
@@ -76,7 +78,8 @@ module _ (c : Config) (run limit : ℕ) (opened : Stored) (kind : Kind) (p : Lis
       ]
 
   -- what carries goes on to, unless the entry etherealizes it
-  pub carried_after : (sound : IsSound c run s) → (a : Activation) → Carries s p oid a → (Tells c run past s e a.number → ⊥) → (b : Activation) × Carries t p oid b × (b.number ≡ a.number)
+  pub carried_after : (sound : IsSound c run s) → (a : Activation) → Carries s p oid a → (Tells c run past s e a.number → ⊥) → (b : Activation)
+      × Carries t p oid b × (b.number ≡ a.number)
   carried_after sound a carries untold =
       let (b, there, later) = step_later c run past e a carries.there in (
         b,
@@ -98,7 +101,8 @@ module _ (c : Config) (run limit : ℕ) (opened : Stored) (kind : Kind) (p : Lis
       )
 
   -- what is etherealized was so before, or the entry etherealizes it
-  pub told_then : (b : Activation) → In b t.activations → b.path ≡ p → b.oid ≡ oid → b.etherealized ≡ true → (a : Activation) × In a s.activations × (a.path ≡ p) × (a.oid ≡ oid) × ((a.etherealized ≡ true) ⊎ Tells c run past s e a.number)
+  pub told_then : (b : Activation) → In b t.activations → b.path ≡ p → b.oid ≡ oid → b.etherealized ≡ true → (a : Activation) × In a s.activations
+      × (a.path ≡ p) × (a.oid ≡ oid) × ((a.etherealized ≡ true) ⊎ Tells c run past s e a.number)
   told_then b there on_path on_oid told =
       elim (activation_from c run past e b there) [
         | activation_begun fresh ↦ absurd (true≢false (sym told ∙ fresh.etherealized))
@@ -117,10 +121,13 @@ module _ (c : Config) (run limit : ℕ) (opened : Stored) (kind : Kind) (p : Lis
   still sound is no_brings no_tells same_state same_stored same_calls same_replies = record {
     carried = λ b carries. (let before = carried_before b carries in
         elim before.3 [
-          | inl was ↦ ap (λ n. state_of c run opened (e ∷ past) (FreshServant n)) before.2.later.number ∙ (same_state before.0 was ∙ (is.carried before.0 was ∙ sym same_line))
+          | inl was ↦ ap (λ n. state_of c run opened (e ∷ past) (FreshServant n)) before.2.later.number
+              ∙ (same_state before.0 was ∙ (is.carried before.0 was ∙ sym same_line))
           | inr came ↦ absurd (no_brings before.0 before.1 (sym before.2.later.path ∙ carries.on_path) (sym before.2.later.oid ∙ carries.on_oid) b.phase came.1)
         ]);
-    kept = λ none. ap (restored kind) same_stored ∙ (is.kept (λ a carries. (let after = carried_after sound a carries (no_tells a carries.there carries.on_path carries.on_oid) in none after.0 after.1)) ∙ sym same_line);
+    kept = λ none. ap (restored kind) same_stored
+        ∙ (is.kept (λ a carries. (let after = carried_after sound a carries (no_tells a carries.there carries.on_path carries.on_oid) in none after.0 after.1))
+        ∙ sym same_line);
     told = λ b there on_path on_oid told. (let before = told_then b there on_path on_oid told in
         elim before.4 [
           | inl was ↦ (let x = is.told before.0 before.1 before.2 before.3 was in (x.0, same_stored ∙ x.1, x.2))

@@ -37,7 +37,10 @@ use Rattle.std.proofs.Common.{◌∙◌, ap, ap₂, inl, inr, subst, sym}
 use Rattle.std.proofs.lemmas.Bool.{and_parts, cases_Bool, eqb-true, true≢false}
 use Rattle.std.specs.Prelude.{◌&&◌, ◌==◌, ◌∷◌, ◌≡◌, Bool, List, None, Option, Some, false, if◌then◌else◌, refl, true, ℕ}
 
-module _ (c : Config) (run limit : ℕ) (given : IsGiven c run) (alone : IsGivenAlone c run) (within : IsWithinLimits c limit) (opened : Stored) (kind : Kind) (p : List (List ℕ)) (oid : List ℕ) (brings_ : BringsFresh c p oid kind) (past : List Entry) (w : ℕ) (cleanup remaining : Bool) (legal : IsLegal c run limit (Etherealized w cleanup remaining ∷ past)) (are : AreIncarnated c run past p oid) (is : IsLine c run opened kind p oid past) where
+module _ (c : Config) (run limit : ℕ) (given : IsGiven c run) (alone : IsGivenAlone c run) (within : IsWithinLimits c limit) (opened : Stored) (kind : Kind)
+    (p : List (List ℕ)) (oid : List ℕ) (brings_ : BringsFresh c p oid kind) (past : List Entry) (w : ℕ) (cleanup remaining : Bool)
+    (legal : IsLegal c run limit (Etherealized w cleanup remaining ∷ past)) (are : AreIncarnated c run past p oid)
+    (is : IsLine c run opened kind p oid past) where
   abbrev s : Standing
   s = standing c run past
 
@@ -65,7 +68,8 @@ module _ (c : Config) (run limit : ℕ) (given : IsGiven c run) (alone : IsGiven
   it_holds : (it.out ≡ true) × (it.etherealized ≡ false)
   it_holds =
       let holds : Holds past s (Removing turn_is.number) = subst (λ b. Holds past s b) turn_is.begun (manned_.stages w) in
-      let same = sound.activation_alone it holds.0 it_in holds.1 (it_number ∙ sym holds.2) in (ap (λ x. x.out) same ∙ holds.3, ap (λ x. x.etherealized) same ∙ holds.5)
+      let same = sound.activation_alone it holds.0 it_in holds.1 (it_number ∙ sym holds.2) in
+      (ap (λ x. x.out) same ∙ holds.3, ap (λ x. x.etherealized) same ∙ holds.5)
 
   no_brings : (a : Activation) → In a s.activations → a.path ≡ p → a.oid ≡ oid → (phase : Phase) → Brings c run past s e a.number phase → ⊥
   no_brings a there on_path on_oid phase b = (let f : Etherealized w cleanup remaining ≡ Incarnated b.worker b.answer = b.same in cc)
@@ -91,7 +95,9 @@ module _ (c : Config) (run limit : ℕ) (given : IsGiven c run) (alone : IsGiven
         | Some a ↦ (if same_path a.path p && same_bytes a.oid oid then (elim a.phase [ Complete t ↦ fresh_only t | Begun ↦ None | Void ↦ None ]) else None)
       ]) turn_is.found
 
-  stored_as : (o : Option Sid) → is_stored_by s (stage past w) p oid ≡ o → stored c run opened (e ∷ past) p oid ≡ (elim o as (λ _. Option State) [ Some t ↦ Some (state_of c run opened past t) | None ↦ stored c run opened past p oid ])
+  stored_as : (o : Option Sid) → is_stored_by s (stage past w) p oid ≡ o
+      → stored c run opened (e ∷ past) p oid ≡
+      (elim o as (λ _. Option State) [ Some t ↦ Some (state_of c run opened past t) | None ↦ stored c run opened past p oid ])
   stored_as o same = ap (λ x. elim x as (λ _. Option State) [ Some t ↦ Some (state_of c run opened past t) | None ↦ stored c run opened past p oid ]) same
 
   -- an etherealization of another id leaves the line
@@ -99,7 +105,9 @@ module _ (c : Config) (run limit : ℕ) (given : IsGiven c run) (alone : IsGiven
   told_off off =
       still c run limit opened kind p oid past e sound is no_brings
       (λ a there on_path on_oid tells. (let same = tells_it a there tells in
-      true≢false (sym (ap₂ (λ x y. x && y) (ap (λ q. same_path q p) (ap (λ x. x.path) (sym same) ∙ on_path) ∙ same_path_self p) (ap (λ i. same_bytes i oid) (ap (λ x. x.oid) (sym same) ∙ on_oid) ∙ same_self oid)) ∙ off)))
+      true≢false
+      (sym (ap₂ (λ x y. x && y) (ap (λ q. same_path q p) (ap (λ x. x.path) (sym same) ∙ on_path) ∙ same_path_self p)
+      (ap (λ i. same_bytes i oid) (ap (λ x. x.oid) (sym same) ∙ on_oid) ∙ same_self oid)) ∙ off)))
       (λ a carries. refl)
       (stored_as None (stored_by ∙ ap (λ b. if b then (elim it.phase [ Complete t ↦ fresh_only t | Begun ↦ None | Void ↦ None ]) else None) off))
       refl refl
@@ -118,7 +126,10 @@ module _ (c : Config) (run limit : ℕ) (given : IsGiven c run) (alone : IsGiven
       on_oid = on_oid;
       complete = elim (all_fresh c p oid kind brings_ run limit given alone within past legal.1 are it it_in on_path on_oid) [
         | inr complete ↦ complete
-        | inl begun ↦ absurd (true≢false (sym (out_complete c run limit given alone within past legal.1 it it_in it_holds.0) ∙ ap (λ q. elim q as (λ _. Bool) [ Complete t ↦ true | Begun ↦ false | Void ↦ false ]) begun))
+        | inl begun ↦
+            absurd (true≢false
+            (sym (out_complete c run limit given alone within past legal.1 it it_in it_holds.0)
+            ∙ ap (λ q. elim q as (λ _. Bool) [ Complete t ↦ true | Begun ↦ false | Void ↦ false ]) begun))
       ];
       untold = it_holds.1;
     }
@@ -128,7 +139,8 @@ module _ (c : Config) (run limit : ℕ) (given : IsGiven c run) (alone : IsGiven
 
     stored_is : stored c run opened (e ∷ past) p oid ≡ Some L
     stored_is =
-        stored_as (Some (FreshServant it.number)) (stored_by ∙ (ap (λ b. if b then (elim it.phase [ Complete t ↦ fresh_only t | Begun ↦ None | Void ↦ None ]) else None) on
+        stored_as (Some (FreshServant it.number))
+        (stored_by ∙ (ap (λ b. if b then (elim it.phase [ Complete t ↦ fresh_only t | Begun ↦ None | Void ↦ None ]) else None) on
         ∙ ap (λ q. elim q as (λ _. Option Sid) [ Complete t ↦ fresh_only t | Begun ↦ None | Void ↦ None ]) carries_it.complete))
         ∙ ap (λ x. Some x) (is.carried it carries_it)
 
@@ -137,8 +149,13 @@ module _ (c : Config) (run limit : ℕ) (given : IsGiven c run) (alone : IsGiven
       carried = λ b carries. absurd (let before = carried_before c run limit opened kind p oid past e b carries in
           elim before.3 [
             | inr came ↦ no_brings before.0 before.1 (sym before.2.later.path ∙ carries.on_path) (sym before.2.later.oid ∙ carries.on_oid) b.phase came.1
-            | inl was ↦ (let same = one_alone c p oid kind brings_ run limit given alone within past legal.1 are before.0 it was.there it_in was.on_path was.on_oid on_path on_oid was.untold it_holds.1 in
-                true≢false (sym (told_after c run past w turn_is.number e cleanup remaining turn_is.begun refl b carries.there (before.2.later.number ∙ (ap (λ x. x.number) same ∙ it_number))) ∙ carries.untold))
+            | inl was ↦
+                (let same =
+                one_alone c p oid kind brings_ run limit given alone within past legal.1 are before.0 it was.there it_in was.on_path was.on_oid on_path on_oid
+                was.untold it_holds.1 in
+                true≢false
+                (sym (told_after c run past w turn_is.number e cleanup remaining turn_is.begun refl b carries.there
+                (before.2.later.number ∙ (ap (λ x. x.number) same ∙ it_number))) ∙ carries.untold))
           ]);
       kept = λ _. ap (restored kind) stored_is ∙ restored_same kind L (line_kept opened kind past p oid);
       told = λ b there at_path at_oid told. (L, stored_is, line_kept opened kind past p oid);

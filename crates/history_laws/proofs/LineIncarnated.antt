@@ -43,7 +43,9 @@ use Rattle.std.proofs.Common.{◌∙◌, ap, ap₂, inl, inr, subst, sym}
 use Rattle.std.proofs.lemmas.Bool.{and_parts, cases_Bool, cond_both, eq-eqb, eqb-true, false_from_ne_true, true≢false}
 use Rattle.std.specs.Prelude.{◌&&◌, ◌==◌, ◌∷◌, ◌≡◌, Bool, List, None, Option, Some, false, if◌then◌else◌, refl, true, ℕ}
 
-module _ (c : Config) (run limit : ℕ) (given : IsGiven c run) (alone : IsGivenAlone c run) (within : IsWithinLimits c limit) (opened : Stored) (kind : Kind) (p : List (List ℕ)) (oid : List ℕ) (brings_ : BringsFresh c p oid kind) (past : List Entry) (w : ℕ) (answer : Incarnation) (legal : IsLegal c run limit (Incarnated w answer ∷ past)) (are : AreIncarnated c run past p oid) (is : IsLine c run opened kind p oid past) where
+module _ (c : Config) (run limit : ℕ) (given : IsGiven c run) (alone : IsGivenAlone c run) (within : IsWithinLimits c limit) (opened : Stored) (kind : Kind)
+    (p : List (List ℕ)) (oid : List ℕ) (brings_ : BringsFresh c p oid kind) (past : List Entry) (w : ℕ) (answer : Incarnation)
+    (legal : IsLegal c run limit (Incarnated w answer ∷ past)) (are : AreIncarnated c run past p oid) (is : IsLine c run opened kind p oid past) where
   abbrev s : Standing
   s = standing c run past
 
@@ -91,15 +93,24 @@ module _ (c : Config) (run limit : ℕ) (given : IsGiven c run) (alone : IsGiven
     where
       by_named : (k : ℕ) → named_or_double c s a k ≡ Fresh m → m ≡ a.number
       by_named k =
-          elim (is_unique (policies_at c a.path) && is_in_map s.activations a.adapter (NamedServant k)) as (λ b. (elim b as (λ _. Incarnation) [ true ↦ Double | false ↦ elim (servant_name c k) as (λ _. Incarnation) [ Some name ↦ Named name | None ↦ Raise not_active ] ]) ≡ Fresh m → m ≡ a.number) [
+          elim (is_unique (policies_at c a.path) && is_in_map s.activations a.adapter (NamedServant k)) as (λ b.
+          (elim b as (λ _. Incarnation)
+          [ true ↦ Double | false ↦ elim (servant_name c k) as (λ _. Incarnation) [ Some name ↦ Named name | None ↦ Raise not_active ] ]) ≡ Fresh m
+          → m ≡ a.number) [
             | true ↦ λ same. (let f : Double ≡ Fresh m = same in cc)
-            | false ↦ elim (servant_name c k) as (λ o. (elim o as (λ _. Incarnation) [ Some name ↦ Named name | None ↦ Raise not_active ]) ≡ Fresh m → m ≡ a.number) [
+            | false ↦ elim (servant_name c k) as (λ o. (elim o as (λ _. Incarnation) [
+              | Some name ↦ Named name
+              | None ↦
+                  Raise not_active
+            ]) ≡ Fresh m → m ≡ a.number) [
               | Some name ↦ λ same. (let f : Named name ≡ Fresh m = same in cc)
               | None ↦ λ same. (let f : Raise not_active ≡ Fresh m = same in cc)
             ]
           ]
 
-      by_gives : (g : Gives) → (elim g as (λ _. Incarnation) [ FreshKind k ↦ Fresh a.number | Servant k ↦ named_or_double c s a k | GivesForward endpoint ↦ ForwardTo endpoint | GivesRaise exception ↦ Raise exception ]) ≡ Fresh m → m ≡ a.number
+      by_gives : (g : Gives)
+          → (elim g as (λ _. Incarnation)
+          [ FreshKind k ↦ Fresh a.number | Servant k ↦ named_or_double c s a k | GivesForward endpoint ↦ ForwardTo endpoint | GivesRaise exception ↦ Raise exception ]) ≡ Fresh m → m ≡ a.number
       by_gives (FreshKind k) same = (let f : Fresh a.number ≡ Fresh m = same in cc)
       by_gives (Servant k) same = by_named k same
       by_gives (GivesForward endpoint) same = (let f : ForwardTo endpoint ≡ Fresh m = same in cc)
@@ -110,25 +121,29 @@ module _ (c : Config) (run limit : ℕ) (given : IsGiven c run) (alone : IsGiven
       by_rule (Some rule) same = by_gives rule.gives same
 
   -- a servant that stood opens nothing anew
-  state_stays : (a : Activation) → Carries s p oid a → (x : Incarnation) → brought c s it ≡ x → state_of c run opened (Incarnated w x ∷ past) (FreshServant a.number) ≡ state_of c run opened past (FreshServant a.number)
+  state_stays : (a : Activation) → Carries s p oid a → (x : Incarnation) → brought c s it ≡ x
+      → state_of c run opened (Incarnated w x ∷ past) (FreshServant a.number) ≡ state_of c run opened past (FreshServant a.number)
   state_stays a carries (Fresh m) brings_m =
       cond_both (a.number == m) _ (state_of c run opened past (FreshServant a.number)) (λ x. x ≡ state_of c run opened past (FreshServant a.number))
       (λ same. absurd (let at : a.number ≡ it.number = eqb-true a.number m same ∙ brought_number it m brings_m in
-      let f : Complete (FreshServant a.number) ≡ Begun = sym carries.complete ∙ (ap (λ x. x.phase) (sound.activation_alone a it carries.there it_in at) ∙ it_begun) in cc))
+      let f : Complete (FreshServant a.number) ≡ Begun = sym carries.complete
+      ∙ (ap (λ x. x.phase) (sound.activation_alone a it carries.there it_in at) ∙ it_begun) in cc))
       (λ _. refl)
   state_stays a carries (Named name) brings_m = refl
   state_stays a carries Double brings_m = refl
   state_stays a carries (ForwardTo x) brings_m = refl
   state_stays a carries (Raise x) brings_m = refl
 
-  same_state : (a : Activation) → Carries s p oid a → state_of c run opened (e ∷ past) (FreshServant a.number) ≡ state_of c run opened past (FreshServant a.number)
+  same_state : (a : Activation) → Carries s p oid a
+      → state_of c run opened (e ∷ past) (FreshServant a.number) ≡ state_of c run opened past (FreshServant a.number)
   same_state a carries = state_stays a carries answer turn_is.told
 
   -- an incarnation of another id leaves the line
   incarnated_off : (it.path ≡ p → it.oid ≡ oid → ⊥) → IsLine c run opened kind p oid (e ∷ past)
   incarnated_off off =
       still c run limit opened kind p oid past e sound is
-      (λ a there on_path on_oid phase b. (let same = brings_it a there phase b in off (ap (λ x. x.path) (sym same) ∙ on_path) (ap (λ x. x.oid) (sym same) ∙ on_oid)))
+      (λ a there on_path on_oid phase b.
+      (let same = brings_it a there phase b in off (ap (λ x. x.path) (sym same) ∙ on_path) (ap (λ x. x.oid) (sym same) ∙ on_oid)))
       no_tells same_state refl refl refl
 
   module _ (on_path : it.path ≡ p) (on_oid : it.oid ≡ oid) where
@@ -140,7 +155,9 @@ module _ (c : Config) (run limit : ℕ) (given : IsGiven c run) (alone : IsGiven
     -- while it was on its way in, none carried
     none_carried : (a : Activation) → Carries s p oid a → ⊥
     none_carried a carries =
-        let same = one_alone c p oid kind brings_ run limit given alone within past legal.1 are a it carries.there it_in carries.on_path carries.on_oid on_path on_oid carries.untold untold in
+        let same =
+        one_alone c p oid kind brings_ run limit given alone within past legal.1 are a it carries.there it_in carries.on_path carries.on_oid on_path on_oid
+        carries.untold untold in
         let f : Complete (FreshServant a.number) ≡ Begun = sym carries.complete ∙ (ap (λ x. x.phase) same ∙ it_begun) in cc
 
     answer_is : answer ≡ Fresh it.number
@@ -150,8 +167,11 @@ module _ (c : Config) (run limit : ℕ) (given : IsGiven c run) (alone : IsGiven
     opens_in : state_of c run opened (e ∷ past) (FreshServant it.number) ≡ restored kind (stored c run opened past p oid)
     opens_in =
         ap (λ x. state_of c run opened (Incarnated w x ∷ past) (FreshServant it.number)) answer_is
-        ∙ (ap (λ b. if b then elim (activation_numbered s it.number) as (λ _. State) [ Some a ↦ restored (kind_brought c a) (stored c run opened past a.path a.oid) | None ↦ Fault ] else state_of c run opened past (FreshServant it.number)) (eq-eqb it.number it.number refl)
-        ∙ (ap (λ o. elim o as (λ _. State) [ Some a ↦ restored (kind_brought c a) (stored c run opened past a.path a.oid) | None ↦ Fault ]) (ap (activation_numbered s) it_number ∙ turn_is.found)
+        ∙ (ap (λ b. if b then elim (activation_numbered s it.number) as (λ _. State)
+        [ Some a ↦ restored (kind_brought c a) (stored c run opened past a.path a.oid) | None ↦ Fault ] else state_of c run opened past
+        (FreshServant it.number)) (eq-eqb it.number it.number refl)
+        ∙ (ap (λ o. elim o as (λ _. State) [ Some a ↦ restored (kind_brought c a) (stored c run opened past a.path a.oid) | None ↦ Fault ])
+        (ap (activation_numbered s) it_number ∙ turn_is.found)
         ∙ (ap (λ k. restored k (stored c run opened past it.path it.oid)) (kind_is c p oid kind brings_ it on_path on_oid)
         ∙ ap₂ (λ q i. restored kind (stored c run opened past q i)) on_path on_oid)))
 
@@ -161,7 +181,8 @@ module _ (c : Config) (run limit : ℕ) (given : IsGiven c run) (alone : IsGiven
           elim before.3 [
             | inl was ↦ absurd (none_carried before.0 was)
             | inr came ↦ (let same = brings_it before.0 before.1 b.phase came.1 in
-                ap (λ n. state_of c run opened (e ∷ past) (FreshServant n)) (before.2.later.number ∙ ap (λ x. x.number) same) ∙ (opens_in ∙ is.kept none_carried))
+                ap (λ n. state_of c run opened (e ∷ past) (FreshServant n)) (before.2.later.number ∙ ap (λ x. x.number) same)
+                ∙ (opens_in ∙ is.kept none_carried))
           ]);
       kept = λ _. is.kept none_carried;
       told = λ b there at_path at_oid told. (let before = told_then c run limit opened kind p oid past e b there at_path at_oid told in
@@ -175,6 +196,11 @@ module _ (c : Config) (run limit : ℕ) (given : IsGiven c run) (alone : IsGiven
   pub line_incarnated : IsLine c run opened kind p oid (e ∷ past)
   line_incarnated =
       elim (cases_Bool (same_path it.path p && same_bytes it.oid oid)) [
-        | inl on ↦ (let parts = and_parts (same_path it.path p) (same_bytes it.oid oid) on in incarnated_on (path_same it.path p parts.0) (bytes_same it.oid oid parts.1))
-        | inr off ↦ incarnated_off (λ on_path on_oid. true≢false (sym (ap₂ (λ x y. x && y) (ap (λ q. same_path q p) on_path ∙ same_path_self p) (ap (λ i. same_bytes i oid) on_oid ∙ same_self oid)) ∙ off))
+        | inl on ↦
+            (let parts = and_parts (same_path it.path p) (same_bytes it.oid oid) on in
+            incarnated_on (path_same it.path p parts.0) (bytes_same it.oid oid parts.1))
+        | inr off ↦
+            incarnated_off
+            (λ on_path on_oid. true≢false
+            (sym (ap₂ (λ x y. x && y) (ap (λ q. same_path q p) on_path ∙ same_path_self p) (ap (λ i. same_bytes i oid) on_oid ∙ same_self oid)) ∙ off))
       ]

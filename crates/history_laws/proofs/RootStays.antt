@@ -39,13 +39,22 @@ data NodesThen (s t : Standing) : Type 0 where
 
 module _ (c : Config) (run : ℕ) where
   off_nodes : (s : Standing) (name : List ℕ) → NodesThen s (elim (manager_number c name) [ Some m ↦ with_manager_off c m s | None ↦ s ])
-  off_nodes s name = elim (manager_number c name) as (λ o. NodesThen s (elim o as (λ _. Standing) [ Some m ↦ with_manager_off c m s | None ↦ s ])) [ Some m ↦ as_they_were refl | None ↦ as_they_were refl ]
+  off_nodes s name =
+      elim (manager_number c name) as (λ o. NodesThen s (elim o as (λ _. Standing) [ Some m ↦ with_manager_off c m s | None ↦ s ]))
+      [ Some m ↦ as_they_were refl | None ↦ as_they_were refl ]
 
   reference_nodes : (s : Standing) (p : List (List ℕ)) (servant : List ℕ) → NodesThen s (with_reference c run p servant s)
   reference_nodes s p servant =
-      elim (live_at s p) as (λ o. NodesThen s (elim o as (λ _. Standing) [ Some n ↦ (elim (servant_number c servant) as (λ _. Standing) [ Some k ↦ (if is_implicit c s n k then with_made_activation c run p servant s else s) | None ↦ s ]) | None ↦ s ])) [
-        | Some n ↦ elim (servant_number c servant) as (λ o. NodesThen s (elim o as (λ _. Standing) [ Some k ↦ (if is_implicit c s n k then with_made_activation c run p servant s else s) | None ↦ s ])) [
-          | Some k ↦ cond_both (is_implicit c s n k) (with_made_activation c run p servant s) s (λ t. NodesThen s t) (λ _. as_they_were refl) (λ _. as_they_were refl)
+      elim (live_at s p) as (λ o. NodesThen s
+      (elim o as (λ _. Standing)
+      [ Some n ↦ (elim (servant_number c servant) as (λ _. Standing) [ Some k ↦ (if is_implicit c s n k then with_made_activation c run p servant s else s) | None ↦ s ]) | None ↦ s ])) [
+        | Some n ↦ elim (servant_number c servant) as (λ o. NodesThen s (elim o as (λ _. Standing) [
+          | Some k ↦
+              (if is_implicit c s n k then with_made_activation c run p servant s else s)
+          | None ↦ s
+        ])) [
+          | Some k ↦
+              cond_both (is_implicit c s n k) (with_made_activation c run p servant s) s (λ t. NodesThen s t) (λ _. as_they_were refl) (λ _. as_they_were refl)
           | None ↦ as_they_were refl
         ]
         | None ↦ as_they_were refl
@@ -101,7 +110,8 @@ module _ (c : Config) (run : ℕ) where
   root_then : (s t : Standing) (m : Node) → In m s.nodes → m.path ≡ [] → NodesThen s t → HasRoot t m.number
   root_then s t m there at (as_they_were same) = (m, subst (In m) (sym same) there, at, refl)
   root_then s t m there at (one_created p same) = (m, subst (In m) (sym same) (in_front m _ s.nodes there), at, refl)
-  root_then s t m there at (some_marked p same) = (marked p m, subst (In (marked p m)) (sym same) (image_in (marked p) m s.nodes there), marked_path p m ∙ at, marked_number p m)
+  root_then s t m there at (some_marked p same) =
+      (marked p m, subst (In (marked p m)) (sym same) (image_in (marked p) m s.nodes there), marked_path p m ∙ at, marked_number p m)
 
   child_root : (s : Standing) (p : Option (List (List ℕ))) (m : Node) → In m s.nodes → m.path ≡ [] → HasRoot (with_child p s) m.number
   child_root s None m there at = (m, there, at, refl)
@@ -119,7 +129,8 @@ module _ (c : Config) (run : ℕ) where
   changed_root : (past : List Entry) (s : Standing) (e : Entry) (m : Node) → In m s.nodes → m.path ≡ [] → HasRoot (changed c run past e s) m.number
   changed_root past s (Admit w r v) m there at =
       (let s1 = with_admitted r (key_in (call_of past r)) v s in
-      root_then s1 (with_command c run (command_done past (Admit w r v)) s1) m (subst (In m) (sym (nodes_admitted c run r (key_in (call_of past r)) v s)) there) at (command_nodes s1 (command_done past (Admit w r v))))
+      root_then s1 (with_command c run (command_done past (Admit w r v)) s1) m
+      (subst (In m) (sym (nodes_admitted c run r (key_in (call_of past r)) v s)) there) at (command_nodes s1 (command_done past (Admit w r v))))
   changed_root past s (Tried w a) m there at = tried_root s (arrival_in (stage past w)) a m there at
   changed_root past s (Incarnated w a) m there at = root_then s (with_incarnated c (stage past w) a s) m there at (incarnated_nodes s (stage past w) a)
   changed_root past s (Done w) m there at = root_then s (without_flight (arrival_in (stage past w)) s) m there at (fewer_nodes s (arrival_in (stage past w)))

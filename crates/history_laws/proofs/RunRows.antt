@@ -36,14 +36,17 @@ module _ (f : Facts) (retains_ : is_retain f.policies.retention ≡ true) (manag
   Ties choice = is_loose choice ≡ false
 
   refused : (name : ExcName) (minor : ℕ) → Ties (refuse f name minor)
-  refused name minor = cond_both f.locate Unknown (Refuse (record { name = name; minor = minor; done = NotCompleted })) (λ v. Ties (Go v)) (λ _. refl) (λ _. refl)
+  refused name minor =
+      cond_both f.locate Unknown (Refuse (record { name = name; minor = minor; done = NotCompleted })) (λ v. Ties (Go v)) (λ _. refl) (λ _. refl)
 
   forwarded : (entry : Option Endpoint) (name : ExcName) (minor : ℕ) → Ties (forward_or entry (refuse f name minor))
   forwarded None name minor = refused name minor
   forwarded (Some endpoint) name minor = refl
 
   inactive : Ties (inactive_rule f)
-  inactive = cond_both (is_transient f.key) (refuse f ObjAdapter MANAGER_INACTIVE) (forward_or f.entry (refuse f ObjAdapter MANAGER_INACTIVE)) Ties (λ _. refused ObjAdapter MANAGER_INACTIVE) (λ _. forwarded f.entry ObjAdapter MANAGER_INACTIVE)
+  inactive =
+      cond_both (is_transient f.key) (refuse f ObjAdapter MANAGER_INACTIVE) (forward_or f.entry (refuse f ObjAdapter MANAGER_INACTIVE)) Ties
+      (λ _. refused ObjAdapter MANAGER_INACTIVE) (λ _. forwarded f.entry ObjAdapter MANAGER_INACTIVE)
 
   by_state : (state : ManagerState) (on : Choice) → Ties on → Ties (state_rule f state on)
   by_state Holding on ties = refl
@@ -58,12 +61,15 @@ module _ (f : Facts) (retains_ : is_retain f.policies.retention ≡ true) (manag
 
   by_manager : Ties (manager_rows f)
   by_manager =
-      cond_both (not f.rules) (refuse f ObjAdapter NO_SERVANT_MANAGER) (if is_retain f.policies.retention then activator_rows f else locator_rows f) Ties (λ _. refused ObjAdapter NO_SERVANT_MANAGER)
-      (λ _. cond_both (is_retain f.policies.retention) (activator_rows f) (locator_rows f) Ties (λ _. by_activator) (λ loose. absurd (true≢false (sym retains_ ∙ loose))))
+      cond_both (not f.rules) (refuse f ObjAdapter NO_SERVANT_MANAGER) (if is_retain f.policies.retention then activator_rows f else locator_rows f) Ties
+      (λ _. refused ObjAdapter NO_SERVANT_MANAGER)
+      (λ _. cond_both (is_retain f.policies.retention) (activator_rows f) (locator_rows f) Ties (λ _. by_activator)
+      (λ loose. absurd (true≢false (sym retains_ ∙ loose))))
 
   by_processing : (p : Policy) → is_servant_manager p ≡ true → Ties (processing_rows f p)
   by_processing DefaultServant is = absurd (let e : false ≡ true = is in cc)
-  by_processing ServantManager is = cond_both (unmade f) (refuse f ObjectNotExist NOT_ACTIVE) (manager_rows f) Ties (λ _. refused ObjectNotExist NOT_ACTIVE) (λ _. by_manager)
+  by_processing ServantManager is =
+      cond_both (unmade f) (refuse f ObjectNotExist NOT_ACTIVE) (manager_rows f) Ties (λ _. refused ObjectNotExist NOT_ACTIVE) (λ _. by_manager)
   by_processing _ is = refused ObjectNotExist NOT_ACTIVE
 
   by_map : (slot : MapFact) → Ties (map_rows f slot)
@@ -72,7 +78,9 @@ module _ (f : Facts) (retains_ : is_retain f.policies.retention ≡ true) (manag
   by_map FreeSlot = by_processing f.policies.processing manages
 
   by_object : Ties (object_rows f)
-  by_object = cond_both (is_retain f.policies.retention) (map_rows f f.slot) (processing_rows f f.policies.processing) Ties (λ _. by_map f.slot) (λ loose. absurd (true≢false (sym retains_ ∙ loose)))
+  by_object =
+      cond_both (is_retain f.policies.retention) (map_rows f f.slot) (processing_rows f f.policies.processing) Ties (λ _. by_map f.slot)
+      (λ loose. absurd (true≢false (sym retains_ ∙ loose)))
 
   by_thread : (w : ℕ) → Ties (thread_rows f w)
   by_thread w =
@@ -82,12 +90,17 @@ module _ (f : Facts) (retains_ : is_retain f.policies.retention ≡ true) (manag
   by_trial : Ties (trial_rows f)
   by_trial =
       cond_both f.trial (Held (Some (Trial f.adapter))) (if f.tries then Go Try else forward_or f.entry (refuse f ObjectNotExist NO_ADAPTER)) Ties (λ _. refl)
-      (λ _. cond_both f.tries (Go Try) (forward_or f.entry (refuse f ObjectNotExist NO_ADAPTER)) Ties (λ _. refl) (λ _. forwarded f.entry ObjectNotExist NO_ADAPTER))
+      (λ _. cond_both f.tries (Go Try) (forward_or f.entry (refuse f ObjectNotExist NO_ADAPTER)) Ties (λ _. refl)
+      (λ _. forwarded f.entry ObjectNotExist NO_ADAPTER))
 
   by_walk : (w : ℕ) (walk : WalkFact) → Ties (walk_rows f w walk)
   by_walk w MeetsDying = refused Transiently ADAPTER_DYING
-  by_walk w MeetsMissing = cond_both (is_transient f.key) (refuse f ObjectNotExist OTHER_LIFESPAN) (state_rule f f.state (trial_rows f)) Ties (λ _. refused ObjectNotExist OTHER_LIFESPAN) (λ _. by_state f.state (trial_rows f) by_trial)
-  by_walk w MeetsAdapter = cond_both f.differs (refuse f ObjectNotExist OTHER_LIFESPAN) (state_rule f f.state (thread_rows f w)) Ties (λ _. refused ObjectNotExist OTHER_LIFESPAN) (λ _. by_state f.state (thread_rows f w) (by_thread w))
+  by_walk w MeetsMissing =
+      cond_both (is_transient f.key) (refuse f ObjectNotExist OTHER_LIFESPAN) (state_rule f f.state (trial_rows f)) Ties
+      (λ _. refused ObjectNotExist OTHER_LIFESPAN) (λ _. by_state f.state (trial_rows f) by_trial)
+  by_walk w MeetsAdapter =
+      cond_both f.differs (refuse f ObjectNotExist OTHER_LIFESPAN) (state_rule f f.state (thread_rows f w)) Ties (λ _. refused ObjectNotExist OTHER_LIFESPAN)
+      (λ _. by_state f.state (thread_rows f w) (by_thread w))
 
   by_key : (w : ℕ) (key : KeyFact) → Ties (key_rows f w key)
   by_key w Absent = refl

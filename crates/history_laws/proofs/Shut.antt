@@ -74,7 +74,8 @@ shut_at [] is = absurd (let e : false ≡ true = is in cc)
 shut_at (e ∷ past) is =
     elim (or_cases (is_shutdown_done (command_done past e)) (was_shut past) is) [
       | inl now ↦ record { more = []; past = past; entry = e; split = refl; done = shutdown_is (command_done past e) now }
-      | inr was ↦ (let it = shut_at past was in record { more = e ∷ it.more; past = it.past; entry = it.entry; split = ap (λ x. e ∷ x) it.split; done = it.done })
+      | inr was ↦
+          (let it = shut_at past was in record { more = e ∷ it.more; past = it.past; entry = it.entry; split = ap (λ x. e ∷ x) it.split; done = it.done })
     ]
 
 -- where the walk meets an adapter that is being destroyed, nothing is held
@@ -91,7 +92,8 @@ module _ (f : Facts) (dying : f.walk ≡ MeetsDying) where
   dying_goes w = cond_both f.crowded (refuse f Transiently DISCARDED) (key_rows f w f.key) (λ x. is_held x ≡ false) (λ _. refl) (λ _. by_key w f.key)
 
 -- where the root is being destroyed, all is over
-module _ (c : Config) (run limit : ℕ) (given : IsGiven c run) (alone : IsGivenAlone c run) (within : IsWithinLimits c limit) (h : List Entry) (legal : IsLegal c run limit h) (idle : AreIdle c run h) (root_dying : (n : Node) → In n (standing c run h).nodes → n.path ≡ [] → n.dying ≡ true) where
+module _ (c : Config) (run limit : ℕ) (given : IsGiven c run) (alone : IsGivenAlone c run) (within : IsWithinLimits c limit) (h : List Entry)
+    (legal : IsLegal c run limit h) (idle : AreIdle c run h) (root_dying : (n : Node) → In n (standing c run h).nodes → n.path ≡ [] → n.dying ≡ true) where
   abbrev s : Standing
   s = standing c run h
 
@@ -99,14 +101,16 @@ module _ (c : Config) (run limit : ℕ) (given : IsGiven c run) (alone : IsGiven
   sound = legal_sound c run limit h given within legal
 
   all_dying : (n : Node) → In n s.nodes → n.dying ≡ true
-  all_dying n there = (let root = sound.tree.rooted in sound.tree.below root.0 n root.1 there (ap (λ p. leads_to p n.path) root.2) (root_dying root.0 root.1 root.2))
+  all_dying n there =
+      (let root = sound.tree.rooted in sound.tree.below root.0 n root.1 there (ap (λ p. leads_to p n.path) root.2) (root_dying root.0 root.1 root.2))
 
   all_over : (a : Activation) → In a s.activations → is_over c a ≡ true
   all_over a there =
       elim (cases_Bool (is_over c a)) [
         | inl over ↦ over
         | inr lives ↦ (let home = sound.owners a there lives in
-            ended_over c run limit given alone within h legal idle a there (dying_ends c run limit given within h legal a home.node there home.stands home.numbered (all_dying home.node home.stands)))
+            ended_over c run limit given alone within h legal idle a there
+            (dying_ends c run limit given within h legal a home.node there home.stands home.numbered (all_dying home.node home.stands)))
       ]
 
   walk_dying : (p : List (List ℕ)) → walk_fact (walk s.nodes p) ≡ MeetsDying
@@ -118,19 +122,24 @@ module _ (c : Config) (run limit : ℕ) (given : IsGiven c run) (alone : IsGiven
     where
       from_dying : (n : Node) (q : List (List ℕ)) → n.dying ≡ true → walk_fact (walk_from s.nodes n q) ≡ MeetsDying
       from_dying n [] is = ap (λ b. walk_fact (if b then Dying n.number else Live n.number)) is
-      from_dying n (x ∷ q) is = ap (λ b. walk_fact (if b then Dying n.number else elim (node_at s.nodes (n.path ++ x ∷ [])) [ Some m ↦ walk_from s.nodes m q | None ↦ Missing n.number (length n.path) ])) is
+      from_dying n (x ∷ q) is =
+          ap (λ b. walk_fact
+          (if b then Dying n.number else elim (node_at s.nodes (n.path ++ x ∷ []))
+          [ Some m ↦ walk_from s.nodes m q | None ↦ Missing n.number (length n.path) ])) is
 
   all_decided : (r : ℕ) → r < arrivals h → decided c run h r ≡ true
   all_decided r less =
       elim (answered c run limit given alone within h legal idle r less) [
         | inl done ↦ done
-        | inr back ↦ absurd (true≢false (sym (ap is_held (back.held 0)) ∙ dying_goes (facts_of c run h r) (walk_dying (key_or_none (key_in (call_of h r))).path) 0))
+        | inr back ↦
+            absurd (true≢false (sym (ap is_held (back.held 0)) ∙ dying_goes (facts_of c run h r) (walk_dying (key_or_none (key_in (call_of h r))).path) 0))
       ]
 
   pub dying_over : IsAllOver c run h
   dying_over = record { over = all_over; answered = all_decided }
 
-module _ (c : Config) (run limit : ℕ) (given : IsGiven c run) (alone : IsGivenAlone c run) (within : IsWithinLimits c limit) (h : List Entry) (legal : IsLegal c run limit h) (idle : AreIdle c run h) (shut : was_shut h ≡ true) where
+module _ (c : Config) (run limit : ℕ) (given : IsGiven c run) (alone : IsGivenAlone c run) (within : IsWithinLimits c limit) (h : List Entry)
+    (legal : IsLegal c run limit h) (idle : AreIdle c run h) (shut : was_shut h ≡ true) where
   abbrev it : IsShut h
   it = shut_at h shut
 
@@ -143,11 +152,13 @@ module _ (c : Config) (run limit : ℕ) (given : IsGiven c run) (alone : IsGiven
       let same_split : it.more ++ (it.entry ∷ it.past) ≡ (it.more ++ it.entry ∷ []) ++ it.past = sym (append_snoc it.more it.entry it.past) in
       let later = root_since c run (it.more ++ it.entry ∷ []) it.past root.0 root.1 root.2 in
       let there' : In later.0 (standing c run h).nodes = subst (λ x. In later.0 (standing c run x).nodes) (sym (it.split ∙ same_split)) later.1 in
-      let number : n.number ≡ root.0.number = ap (λ x. x.number) ((legal_sound c run limit h given within legal).tree.path_alone n later.0 there there' (at ∙ sym later.2)) ∙ later.3 in
+      let number : n.number ≡ root.0.number =
+      ap (λ x. x.number) ((legal_sound c run limit h given within legal).tree.path_alone n later.0 there there' (at ∙ sym later.2)) ∙ later.3 in
       let early = before.numbered root.0 root.1 in
       dying_is c run limit h given within legal n there ∙ (ap (λ x. was_destroyed c run x n.number n.path) it.split
       ∙ destroyed_since c run limit given within it.more (it.entry ∷ it.past) n.number n.path
-      (or_first (nat_lt n.number (standing c run it.past).count && destroys n.path (command_done it.past it.entry)) (was_destroyed c run it.past n.number n.path)
+      (or_first (nat_lt n.number (standing c run it.past).count && destroys n.path (command_done it.past it.entry))
+      (was_destroyed c run it.past n.number n.path)
       (ap₂ (λ x y. x && y) (lt-ltb n.number (standing c run it.past).count (omega (arith, early, number))) (ap (destroys n.path) it.done))))
 
   pub shut_over : IsAllOver c run h

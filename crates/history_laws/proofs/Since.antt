@@ -34,13 +34,17 @@ module _ (c : Config) (run limit : ℕ) (given : IsGiven c run) (within : IsWith
   ended_since [] past a is = is
   ended_since (x ∷ more) past a is = or_second (is_ended_by c run (more ++ past) x a) (was_ended c run (more ++ past) a) (ended_since more past a is)
 
-  pub destroyed_since : (more past : List Entry) (k : ℕ) (p : List (List ℕ)) → was_destroyed c run past k p ≡ true → was_destroyed c run (more ++ past) k p ≡ true
+  pub destroyed_since : (more past : List Entry) (k : ℕ) (p : List (List ℕ)) → was_destroyed c run past k p ≡ true
+      → was_destroyed c run (more ++ past) k p ≡ true
   destroyed_since [] past k p is = is
-  destroyed_since (x ∷ more) past k p is = or_second (nat_lt k (standing c run (more ++ past)).count && destroys p (command_done (more ++ past) x)) (was_destroyed c run (more ++ past) k p) (destroyed_since more past k p is)
+  destroyed_since (x ∷ more) past k p is =
+      or_second (nat_lt k (standing c run (more ++ past)).count && destroys p (command_done (more ++ past) x)) (was_destroyed c run (more ++ past) k p)
+      (destroyed_since more past k p is)
 
   pub count_since : (more past : List Entry) → (standing c run past).count ≤ (standing c run (more ++ past)).count
   count_since [] past = omega arith
-  count_since (x ∷ more) past = (let low = count_since more past in let next = count_from c run (more ++ past) x (standing c run (more ++ past)) in omega (arith, low, next))
+  count_since (x ∷ more) past =
+      (let low = count_since more past in let next = count_from c run (more ++ past) x (standing c run (more ++ past)) in omega (arith, low, next))
 
   pub call_since : (more past : List Entry) (r : ℕ) → r < arrivals past → (call_of (more ++ past) r ≡ call_of past r) × (r < arrivals (more ++ past))
   call_since [] past r less = (refl, less)
@@ -49,11 +53,14 @@ module _ (c : Config) (run limit : ℕ) (given : IsGiven c run) (within : IsWith
       (call_kept x (more ++ past) r before.1 ∙ before.0, (let grows = arrivals_kept x (more ++ past) in let low = before.1 in omega (arith, grows, low))))
 
   -- an adapter that stands and was created by then stood then, at its path
-  pub node_since : (more past : List Entry) (n : Node) → In n (standing c run (more ++ past)).nodes → n.number < (standing c run past).count → (m : Node) × In m (standing c run past).nodes × (n.number ≡ m.number) × (n.path ≡ m.path)
+  pub node_since : (more past : List Entry) (n : Node) → In n (standing c run (more ++ past)).nodes → n.number < (standing c run past).count → (m : Node)
+      × In m (standing c run past).nodes × (n.number ≡ m.number) × (n.path ≡ m.path)
   node_since [] past n there early = (n, there, refl, refl)
   node_since (x ∷ more) past n there early =
       elim (node_before c run (more ++ past) x n there) [
-        | node_stood m was number path dying ↦ (let before = node_since more past m was (let same = number in omega (arith, early, same)) in (before.0, before.1, number ∙ before.2, path ∙ before.3))
+        | node_stood m was number path dying ↦
+            (let before = node_since more past m was (let same = number in omega (arith, early, same)) in
+            (before.0, before.1, number ∙ before.2, path ∙ before.3))
         | node_new number living ↦ absurd (let low = count_since more past in omega (arith, early, low, number))
       ]
 
@@ -65,10 +72,13 @@ module _ (c : Config) (run limit : ℕ) (given : IsGiven c run) (within : IsWith
     pub split : h ≡ more ++ (Admit worker r Wait ∷ past)
     pub before : before_admit h r ≡ past
 
-  before_other : (past : List Entry) (e : Entry) (r : ℕ) → IsLegal c run limit (e ∷ past) → admitted past r ≡ Some Wait → before_admit (e ∷ past) r ≡ before_admit past r
+  before_other : (past : List Entry) (e : Entry) (r : ℕ) → IsLegal c run limit (e ∷ past) → admitted past r ≡ Some Wait
+      → before_admit (e ∷ past) r ≡ before_admit past r
   before_other past (Admit w a v) r legal was =
       cond_both (a == r) past (before_admit past r) (λ x. x ≡ before_admit past r)
-      (λ same. absurd (let unadmitted = (admission_is c run past w a v legal.0).unadmitted in true≢false (sym unadmitted ∙ (ap (is_unadmitted past) (eqb-true a r same) ∙ ap is_none was)))) (λ _. refl)
+      (λ same. absurd
+      (let unadmitted = (admission_is c run past w a v legal.0).unadmitted in
+      true≢false (sym unadmitted ∙ (ap (is_unadmitted past) (eqb-true a r same) ∙ ap is_none was)))) (λ _. refl)
   before_other past (Entered conn) r legal was = refl
   before_other past (Arrive conn size call) r legal was = refl
   before_other past (Filled conn size) r legal was = refl
@@ -86,6 +96,21 @@ module _ (c : Config) (run limit : ℕ) (given : IsGiven c run) (within : IsWith
   since [] legal r is = absurd (let f : None ≡ Some Wait = is in cc)
   since (e ∷ past) legal r is =
       elim (admitted_before e past r Wait is) [
-        | inr now ↦ record { more = []; past = past; worker = now.0; split = ap (λ y. y ∷ past) now.1; before = ap (λ y. before_admit (y ∷ past) r) now.1 ∙ ap (λ b. if b then past else before_admit past r) (eq-eqb r r refl) }
-        | inl was ↦ (let it = since past legal.1 r was in record { more = e ∷ it.more; past = it.past; worker = it.worker; split = ap (λ y. e ∷ y) it.split; before = before_other past e r legal was ∙ it.before })
+        | inr now ↦
+            record {
+              more = [];
+              past = past;
+              worker = now.0;
+              split = ap (λ y. y ∷ past) now.1;
+              before = ap (λ y. before_admit (y ∷ past) r) now.1 ∙ ap (λ b. if b then past else before_admit past r) (eq-eqb r r refl);
+            }
+        | inl was ↦
+            (let it = since past legal.1 r was in
+            record {
+              more = e ∷ it.more;
+              past = it.past;
+              worker = it.worker;
+              split = ap (λ y. e ∷ y) it.split;
+              before = before_other past e r legal was ∙ it.before;
+            })
       ]

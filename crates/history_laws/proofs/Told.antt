@@ -50,7 +50,8 @@ module _ (c : Config) (run limit : ℕ) (given : IsGiven c run) (alone : IsGiven
   told_later (Etherealized w x y) past n is = or_second (is_removing n (stage past w)) (was_told past n) is
   told_later (Abandon w) past n is = is
 
-  told_before : (e : Entry) (past : List Entry) (n : ℕ) → was_told (e ∷ past) n ≡ true → (was_told past n ≡ true) ⊎ ((w : ℕ) × (x : Bool) × (y : Bool) × (e ≡ Etherealized w x y) × (stage past w ≡ Removing n))
+  told_before : (e : Entry) (past : List Entry) (n : ℕ) → was_told (e ∷ past) n ≡ true → (was_told past n ≡ true)
+      ⊎ ((w : ℕ) × (x : Bool) × (y : Bool) × (e ≡ Etherealized w x y) × (stage past w ≡ Removing n))
   told_before (Entered conn) past n is = inl is
   told_before (Arrive conn size call) past n is = inl is
   told_before (Filled conn size) past n is = inl is
@@ -62,7 +63,9 @@ module _ (c : Config) (run limit : ℕ) (given : IsGiven c run) (alone : IsGiven
   told_before (Run w) past n is = inl is
   told_before (Done w) past n is = inl is
   told_before (TakeOut w m x) past n is = inl is
-  told_before (Etherealized w x y) past n is = elim (or_cases (is_removing n (stage past w)) (was_told past n) is) [ inl now ↦ inr (w, x, y, refl, removing_is n (stage past w) now) | inr was ↦ inl was ]
+  told_before (Etherealized w x y) past n is =
+      elim (or_cases (is_removing n (stage past w)) (was_told past n) is)
+      [ inl now ↦ inr (w, x, y, refl, removing_is n (stage past w) now) | inr was ↦ inl was ]
   told_before (Abandon w) past n is = inl is
 
   -- what was etherealized was begun
@@ -72,12 +75,16 @@ module _ (c : Config) (run limit : ℕ) (given : IsGiven c run) (alone : IsGiven
       let more = more_activations c run past e in
       elim (told_before e past n is) [
         | inl was ↦ (let low = told_begun past legal.1 n was in omega (arith, low, more))
-        | inr now ↦ (let holds : Holds past (standing c run past) (Removing n) = subst (λ b. Holds past (standing c run past) b) now.4 ((all_manned c run limit past given alone within legal.1).stages now.0) in
+        | inr now ↦
+            (let holds : Holds past (standing c run past) (Removing n) =
+            subst (λ b. Holds past (standing c run past) b) now.4 ((all_manned c run limit past given alone within legal.1).stages now.0) in
             let low = (legal_sound c run limit past given within legal.1).counted holds.0 holds.1 in
             let at = holds.2 in omega (arith, low, more, at))
       ]
 
-  told_step : (past : List Entry) (e : Entry) → IsLegal c run limit (e ∷ past) → ((a : Activation) → In a (standing c run past).activations → a.etherealized ≡ was_told past a.number) → (b : Activation) → In b (standing c run (e ∷ past)).activations → b.etherealized ≡ was_told (e ∷ past) b.number
+  told_step : (past : List Entry) (e : Entry) → IsLegal c run limit (e ∷ past)
+      → ((a : Activation) → In a (standing c run past).activations → a.etherealized ≡ was_told past a.number) → (b : Activation)
+      → In b (standing c run (e ∷ past)).activations → b.etherealized ≡ was_told (e ∷ past) b.number
   told_step past e legal before_ b there = same_test b.etherealized (was_told (e ∷ past) b.number) forth back
     where
       forth : b.etherealized ≡ true → was_told (e ∷ past) b.number ≡ true
@@ -86,7 +93,9 @@ module _ (c : Config) (run limit : ℕ) (given : IsGiven c run) (alone : IsGiven
             | activation_begun fresh ↦ absurd (true≢false (sym told ∙ fresh.etherealized))
             | activation_stood a is step ↦ elim (step.told_back told) [
               | inl before ↦ told_later e past b.number (ap (was_told past) step.later.number ∙ (sym (before_ a is) ∙ before))
-              | inr tells ↦ ap (λ z. was_told (z ∷ past) b.number) tells.3 ∙ or_first (is_removing b.number (stage past tells.0)) (was_told past b.number) (ap (is_removing b.number) tells.4 ∙ eq-eqb a.number b.number (sym step.later.number))
+              | inr tells ↦ ap (λ z. was_told (z ∷ past) b.number) tells.3
+                  ∙ or_first (is_removing b.number (stage past tells.0)) (was_told past b.number)
+                  (ap (is_removing b.number) tells.4 ∙ eq-eqb a.number b.number (sym step.later.number))
             ]
           ]
 

@@ -48,7 +48,9 @@ arrived_call (Arrive conn size call ∷ past) r less =
       | true ↦ λ _. (call, refl)
       | false ↦ λ differ. arrived_call past r (elim (cases_Bool (nat_lt r (arrivals past))) [
         | inl low ↦ ltb-true r (arrivals past) low
-        | inr high ↦ absurd (let above = ltb-false r (arrivals past) high in let same : r ≡ arrivals past = omega (arith, above, less) in true≢false (sym (eq-eqb r (arrivals past) same) ∙ differ))
+        | inr high ↦
+            absurd (let above = ltb-false r (arrivals past) high in let same : r ≡ arrivals past = omega (arith, above, less) in
+            true≢false (sym (eq-eqb r (arrivals past) same) ∙ differ))
       ])
     ] refl
 arrived_call (Entered conn ∷ past) r less = arrived_call past r less
@@ -64,7 +66,8 @@ arrived_call (TakeOut w n x ∷ past) r less = arrived_call past r less
 arrived_call (Etherealized w x y ∷ past) r less = arrived_call past r less
 arrived_call (Abandon w ∷ past) r less = arrived_call past r less
 
-module _ (c : Config) (run limit : ℕ) (given : IsGiven c run) (alone : IsGivenAlone c run) (within : IsWithinLimits c limit) (h : List Entry) (legal : IsLegal c run limit h) where
+module _ (c : Config) (run limit : ℕ) (given : IsGiven c run) (alone : IsGivenAlone c run) (within : IsWithinLimits c limit) (h : List Entry)
+    (legal : IsLegal c run limit h) where
   abbrev s : Standing
   s = standing c run h
 
@@ -89,7 +92,9 @@ module _ (c : Config) (run limit : ℕ) (given : IsGiven c run) (alone : IsGiven
 
       by_stage : (b : Stage) → stage h w ≡ b → IsAtFlight f (stage h w)
       by_stage Free was = absurd (let e : None ≡ Some f.arrival = sym (ap arrival_in was) ∙ at in cc)
-      by_stage (Trying r) was = subst (IsAtFlight f) (sym was) (arrival_is (Trying r) r was refl, sym (trial_is_tried c run limit given alone within h legal f w there at) ∙ ap is_trying was)
+      by_stage (Trying r) was =
+          subst (IsAtFlight f) (sym was)
+          (arrival_is (Trying r) r was refl, sym (trial_is_tried c run limit given alone within h legal f w there at) ∙ ap is_trying was)
       by_stage (Incarnating r n) was =
           (let holds : Holds h s (Incarnating r n) = subst (Holds h s) was (manned_.stages w) in
           let same = arrival_is (Incarnating r n) r was refl in
@@ -134,13 +139,20 @@ module _ (c : Config) (run limit : ℕ) (given : IsGiven c run) (alone : IsGiven
   module _ (idle : AreIdle c run h) where
     slot_free : (k : ℕ) (oid : List ℕ) → is_busy_slot (slot_of c s.activations k oid) ≡ false
     slot_free k oid =
-        elim (find (λ a. is_of k oid a && is_active a) s.activations) as (λ o. find (λ a. is_of k oid a && is_active a) s.activations ≡ o → is_busy_slot (elim o [ Some a ↦ ActiveAs a.number | None ↦ elim (find (λ a. is_of k oid a && not (is_over c a)) s.activations) [ Some a ↦ Busy a.number | None ↦ FreeSlot ] ]) ≡ false) [
+        elim (find (λ a. is_of k oid a && is_active a) s.activations) as (λ o. find (λ a. is_of k oid a && is_active a) s.activations ≡ o
+        → is_busy_slot
+        (elim o [
+          | Some a ↦ ActiveAs a.number
+          | None ↦
+              elim (find (λ a. is_of k oid a && not (is_over c a)) s.activations) [ Some a ↦ Busy a.number | None ↦ FreeSlot ]
+        ]) ≡ false) [
           | Some a ↦ λ _. refl
           | None ↦ λ none. elim (find (λ a. is_of k oid a && not (is_over c a)) s.activations) as (λ o. find (λ a. is_of k oid a && not (is_over c a)) s.activations ≡ o → is_busy_slot (elim o [ Some a ↦ Busy a.number | None ↦ FreeSlot ]) ≡ false) [
             | None ↦ λ _. refl
             | Some a ↦ λ found. (let there = find_in (λ x. is_of k oid x && not (is_over c x)) a s.activations found in
                 let parts = and_parts (is_of k oid a) (not (is_over c a)) there.1 in
-                absurd (find_none (λ x. is_of k oid x && is_active x) a s.activations none there.0 (ap₂ (λ x y. x && y) parts.0 (living_active c run limit given alone within h legal idle a there.0 (not_true (is_over c a) parts.1)))))
+                absurd (find_none (λ x. is_of k oid x && is_active x) a s.activations none there.0
+                (ap₂ (λ x y. x && y) parts.0 (living_active c run limit given alone within h legal idle a there.0 (not_true (is_over c a) parts.1)))))
           ] refl
         ] refl
 
@@ -157,7 +169,8 @@ module _ (c : Config) (run limit : ℕ) (given : IsGiven c run) (alone : IsGiven
     unfolding verdict
     no_verdict r less unadmitted =
         mapped_none (λ v. Admit 0 r v) (verdict c run h r 0)
-        (ap (λ b. if b then option_map (λ v. Admit 0 r v) (verdict c run h r 0) else None) (sym unadmitted) ∙ none_admitted c run limit given alone within h legal idle r less)
+        (ap (λ b. if b then option_map (λ v. Admit 0 r v) (verdict c run h r 0) else None) (sym unadmitted)
+        ∙ none_admitted c run limit given alone within h legal idle r less)
 
     message_held : (r : ℕ) → is_message (call_of h r) ≡ true → chosen (first_row (facts_of c run h r) 0) ≡ None → IsHeldBack c run h r
     message_held r message none =

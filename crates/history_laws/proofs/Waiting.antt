@@ -60,10 +60,12 @@ quick_if : (b : Bool) (x y : Option Verdict) → Quick x → Quick y → Quick (
 quick_if b x y one other = cond_both b x y Quick (λ _. one) (λ _. other)
 
 quick_live : (s : Standing) (p : List (List ℕ)) (then_ : Node → Option Verdict) → ((n : Node) → Quick (then_ n)) → Quick (with_live s p then_)
-quick_live s p then_ each = elim (live_at s p) as (λ o. Quick (elim o [ Some n ↦ then_ n | None ↦ refusal AdapterNonExistent ])) [ Some n ↦ each n | None ↦ refl ]
+quick_live s p then_ each =
+    elim (live_at s p) as (λ o. Quick (elim o [ Some n ↦ then_ n | None ↦ refusal AdapterNonExistent ])) [ Some n ↦ each n | None ↦ refl ]
 
 quick_known : (c : Config) (name : List ℕ) (then_ : ℕ → Option Verdict) → ((k : ℕ) → Quick (then_ k)) → Quick (with_servant c name then_)
-quick_known c name then_ each = elim (servant_number c name) as (λ o. Quick (elim o [ Some k ↦ then_ k | None ↦ refusal NoServant ])) [ Some k ↦ each k | None ↦ refl ]
+quick_known c name then_ each =
+    elim (servant_number c name) as (λ o. Quick (elim o [ Some k ↦ then_ k | None ↦ refusal NoServant ])) [ Some k ↦ each k | None ↦ refl ]
 
 module _ (c : Config) (run : ℕ) (past : List Entry) (s : Standing) where
   -- a command that waits orders a manager that there is, or destroys an adapter that lives
@@ -79,7 +81,12 @@ module _ (c : Config) (run : ℕ) (past : List Entry) (s : Standing) where
   create_quick (x ∷ p) =
       quick_live s (parent_path (x ∷ p)) _ (λ n. quick_if (is_none (template c (x ∷ p))) (refusal NoTemplate) _ refl
       (quick_if (is_tried s.flights (x ∷ p)) None _ refl
-      (elim (node_at s.nodes (x ∷ p)) as (λ o. Quick (elim o [ Some old ↦ (if old.dying then None else refusal AdapterAlreadyExists) | None ↦ (if nat_le 65536 s.count then refusal (TooMany s.count) else good) ])) [
+      (elim (node_at s.nodes (x ∷ p)) as (λ o. Quick
+      (elim o [
+        | Some old ↦ (if old.dying then None else refusal AdapterAlreadyExists)
+        | None ↦
+            (if nat_le 65536 s.count then refusal (TooMany s.count) else good)
+      ])) [
         | Some old ↦ quick_if old.dying None (refusal AdapterAlreadyExists) refl refl
         | None ↦ quick_if (nat_le 65536 s.count) (refusal (TooMany s.count)) good refl refl
       ])))
@@ -97,14 +104,21 @@ module _ (c : Config) (run : ℕ) (past : List Entry) (s : Standing) where
       quick_live s p _ (λ n. quick_known c servant _ (λ k.
       elim (referred c s n k) as (λ o. Quick (elim o [
         | Some a ↦ Some (AnswerNow (GoodIor (reference_text c run n.number p a.oid k)))
-        | None ↦ (if is_implicit c s n k then Some (AnswerNow (GoodIor (reference_text c run n.number p (made_id run (suc s.made)) k))) else refusal ServantNotActive)
+        | None ↦
+            (if is_implicit c s n k then Some (AnswerNow (GoodIor (reference_text c run n.number p (made_id run (suc s.made)) k))) else refusal
+            ServantNotActive)
       ])) [ Some a ↦ refl | None ↦ quick_if (is_implicit c s n k) _ (refusal ServantNotActive) refl refl ]))
 
   manager_waits : (name : List ℕ) (order : Order) → manager_row c past name order ≡ Some Wait → WaitsFor (Manager name order)
   manager_waits name order =
-      elim (manager_number c name) as (λ o. manager_number c name ≡ o → (elim o [ None ↦ refusal NoManager | Some m ↦ (if is_inactive (manager_state c past m) then refusal AdapterInactive else good_or_wait (waits order)) ]) ≡ Some Wait → WaitsFor (Manager name order)) [
+      elim (manager_number c name) as (λ o. manager_number c name ≡ o
+      → (elim o
+      [ None ↦ refusal NoManager | Some m ↦ (if is_inactive (manager_state c past m) then refusal AdapterInactive else good_or_wait (waits order)) ]) ≡ Some
+      Wait → WaitsFor (Manager name order)) [
         | None ↦ λ _. quick refl
-        | Some m ↦ λ found. cond_both (is_inactive (manager_state c past m)) (refusal AdapterInactive) (good_or_wait (waits order)) (λ o. o ≡ Some Wait → WaitsFor (Manager name order)) (λ _. quick refl)
+        | Some m ↦
+            λ found. cond_both (is_inactive (manager_state c past m)) (refusal AdapterInactive) (good_or_wait (waits order))
+            (λ o. o ≡ Some Wait → WaitsFor (Manager name order)) (λ _. quick refl)
             (λ _ is. elim (cases_Bool (waits order)) [
               | inl waits_ ↦ waits_order name order m refl found waits_
               | inr quick_ ↦ quick {o = Some (AnswerNow Good)} refl (ap (λ b. Some (if b then Wait else AnswerNow Good)) (sym quick_) ∙ is)
@@ -113,7 +127,8 @@ module _ (c : Config) (run : ℕ) (past : List Entry) (s : Standing) where
 
   destroy_waits : (p : List (List ℕ)) (etherealize wait : Bool) → with_live s p (λ n. good_or_wait wait) ≡ Some Wait → WaitsFor (Destroy p etherealize wait)
   destroy_waits p etherealize wait =
-      elim (live_at s p) as (λ o. live_at s p ≡ o → (elim o [ Some n ↦ good_or_wait wait | None ↦ refusal AdapterNonExistent ]) ≡ Some Wait → WaitsFor (Destroy p etherealize wait))
+      elim (live_at s p) as (λ o. live_at s p ≡ o → (elim o [ Some n ↦ good_or_wait wait | None ↦ refusal AdapterNonExistent ]) ≡ Some Wait
+      → WaitsFor (Destroy p etherealize wait))
       [ Some n ↦ λ lives _. waits_destroy p etherealize wait n refl lives | None ↦ λ _. quick refl ] refl
 
   pub waits_for : (d : Command) → command_verdict c run past s d ≡ Some Wait → WaitsFor d
@@ -122,12 +137,18 @@ module _ (c : Config) (run : ℕ) (past : List Entry) (s : Standing) where
   waits_for (Destroy p etherealize wait) is = destroy_waits p etherealize wait is
   waits_for (Create p) is = quick (create_quick p) is
   waits_for (Activate p servant) is =
-      quick (quick_live s p _ (λ n. quick_if (not (retains (policies_at c p) && makes_ids (policies_at c p))) (refusal WrongPolicy) _ refl (quick_known c servant _ (λ k. quick_if (is_taken c s n k) (refusal ServantAlreadyActive) _ refl refl)))) is
+      quick (quick_live s p _
+      (λ n. quick_if (not (retains (policies_at c p) && makes_ids (policies_at c p))) (refusal WrongPolicy) _ refl
+      (quick_known c servant _ (λ k. quick_if (is_taken c s n k) (refusal ServantAlreadyActive) _ refl refl)))) is
   waits_for (ActivateId p oid servant) is = quick (activate_id_quick p oid servant) is
   waits_for (Deactivate p oid) is =
-      quick (quick_live s p _ (λ n. quick_if (not (retains (policies_at c p))) (refusal WrongPolicy) _ refl (quick_if (list_any (λ a. is_of n.number oid a && is_active a) s.activations) good (refusal ObjectNotActive) refl refl))) is
+      quick (quick_live s p _
+      (λ n. quick_if (not (retains (policies_at c p))) (refusal WrongPolicy) _ refl
+      (quick_if (list_any (λ a. is_of n.number oid a && is_active a) s.activations) good (refusal ObjectNotActive) refl refl))) is
   waits_for (Reference p servant) is = quick (reference_quick p servant) is
-  waits_for (PresetLine p servant) is = quick (quick_live s p _ (λ n. quick_if (not (uses_default_servant (policies_at c p))) (refusal WrongPolicy) _ refl (quick_known c servant _ (λ k. refl)))) is
+  waits_for (PresetLine p servant) is =
+      quick (quick_live s p _ (λ n. quick_if (not (uses_default_servant (policies_at c p))) (refusal WrongPolicy) _ refl (quick_known c servant _ (λ k. refl))))
+      is
   waits_for (ForwardLine p endpoint) is = quick {o = good} refl is
   waits_for (Unforward p) is = quick (quick_if (is_some (endpoint_of c past p)) good (refusal NoForward) refl refl) is
   waits_for Shutdown is = quick (quick_live s [] _ (λ n. refl)) is

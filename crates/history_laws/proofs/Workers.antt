@@ -21,7 +21,9 @@ pub own_or_other : (e : Entry) (w : ℕ) → (maker e ≡ Some w) ⊎ (maker e �
 own_or_other e w =
     elim (maker e) as (λ o. (o ≡ Some w) ⊎ (o ≡ Some w → ⊥)) [
       | None ↦ inr (λ none. cc)
-      | Some v ↦ elim (cases_Bool (v == w)) [ inl same ↦ inl (ap (λ x. Some x) (eqb-true v w same)) | inr differ ↦ inr (λ is. (let is' : Some v ≡ Some w = is in let f : v ≡ w = cc in true≢false (sym (eq-eqb v w f) ∙ differ))) ]
+      | Some v ↦
+          elim (cases_Bool (v == w))
+          [ inl same ↦ inl (ap (λ x. Some x) (eqb-true v w same)) | inr differ ↦ inr (λ is. (let is' : Some v ≡ Some w = is in let f : v ≡ w = cc in true≢false (sym (eq-eqb v w f) ∙ differ))) ]
     ]
 
 module _ (c : Config) (run limit : ℕ) where
@@ -57,7 +59,8 @@ module _ (c : Config) (run limit : ℕ) where
       ]
 
   -- what a worker has begun goes on as its next entry says
-  pub goes_with : (h : List Entry) (w : ℕ) (o : Option Entry) (begun : Stage) → turn c run h w ≡ o → stage h w ≡ begun → (begun ≡ Free → ⊥) → going_on c (standing c run h) w begun ≡ o
+  pub goes_with : (h : List Entry) (w : ℕ) (o : Option Entry) (begun : Stage) → turn c run h w ≡ o → stage h w ≡ begun → (begun ≡ Free → ⊥)
+      → going_on c (standing c run h) w begun ≡ o
   unfolding turn
   goes_with h w o Free is at busy = absurd (busy refl)
   goes_with h w o (Trying r) is at busy = ap (next_of c run h w) (sym at) ∙ is
@@ -67,7 +70,8 @@ module _ (c : Config) (run limit : ℕ) where
   goes_with h w o (Removing n) is at busy = ap (next_of c run h w) (sym at) ∙ is
 
   -- an incarnation stays begun until its worker ends it
-  pub incarnating_after : (past : List Entry) (e : Entry) → MayFollow c run limit past e → (w r n : ℕ) → stage past w ≡ Incarnating r n → (stage (e ∷ past) w ≡ Incarnating r n) ⊎ ((a : Incarnation) × (e ≡ Incarnated w a))
+  pub incarnating_after : (past : List Entry) (e : Entry) → MayFollow c run limit past e → (w r n : ℕ) → stage past w ≡ Incarnating r n
+      → (stage (e ∷ past) w ≡ Incarnating r n) ⊎ ((a : Incarnation) × (e ≡ Incarnated w a))
   incarnating_after past e may w r n at =
       elim (own_or_other e w) [
         | inr other ↦ inl (stage_other e past w other ∙ at)
@@ -77,7 +81,8 @@ module _ (c : Config) (run limit : ℕ) where
       ]
 
   -- and an etherealization
-  pub removing_after : (past : List Entry) (e : Entry) → MayFollow c run limit past e → (w n : ℕ) → stage past w ≡ Removing n → (stage (e ∷ past) w ≡ Removing n) ⊎ ((x : Bool) × (y : Bool) × (e ≡ Etherealized w x y))
+  pub removing_after : (past : List Entry) (e : Entry) → MayFollow c run limit past e → (w n : ℕ) → stage past w ≡ Removing n
+      → (stage (e ∷ past) w ≡ Removing n) ⊎ ((x : Bool) × (y : Bool) × (e ≡ Etherealized w x y))
   removing_after past e may w n at =
       elim (own_or_other e w) [
         | inr other ↦ inl (stage_other e past w other ∙ at)

@@ -43,7 +43,8 @@ runs_on past begun p oid = false
 -- the calls that ran on it, the newest first
 abbrev pub calls_on : List Entry → List (List ℕ) → List ℕ → List (Option Call)
 calls_on [] p oid = []
-calls_on (Run w ∷ past) p oid = if runs_on past (stage past w) p oid then call_run past (stage past w) ∷ calls_on past p oid else calls_on past p oid
+calls_on (Run w ∷ past) p oid =
+    if runs_on past (stage past w) p oid then call_run past (stage past w) ∷ calls_on past p oid else calls_on past p oid
 calls_on (e ∷ past) p oid = calls_on past p oid
 
 -- the replies that these runs fix, the newest first
@@ -51,7 +52,8 @@ abbrev pub replies_on : Config → ℕ → Stored → List Entry → List (List 
 replies_on c run opened [] p oid = []
 replies_on c run opened (Run w ∷ past) p oid =
     if runs_on past (stage past w) p oid
-    then reply_run c run opened past (servant_run c run past (stage past w)) (call_run past (stage past w)) ∷ replies_on c run opened past p oid
+    then reply_run c run opened past (servant_run c run past (stage past w))
+    (call_run past (stage past w)) ∷ replies_on c run opened past p oid
     else replies_on c run opened past p oid
 replies_on c run opened (e ∷ past) p oid = replies_on c run opened past p oid
 

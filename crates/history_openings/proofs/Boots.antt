@@ -70,16 +70,19 @@ module _ (c : Config) (run : ℕ) where
     pub booted : (a : AdapterConf) → In a done → a.boot ≡ true → (n : Node) × In n s.nodes × (n.path ≡ a.path)
     pub known : (n : Node) → In n s.nodes → (n.path ≡ []) ⊎ ((a : AdapterConf) × In a done × (a.path ≡ n.path))
 
-  pub boot_stands : (done : List AdapterConf) (s : Standing) (p : List (List ℕ)) → IsBooted done s → (p ≡ []) ⊎ IsBoot done p → (n : Node) × In n s.nodes × (n.path ≡ p)
+  pub boot_stands : (done : List AdapterConf) (s : Standing) (p : List (List ℕ)) → IsBooted done s → (p ≡ []) ⊎ IsBoot done p → (n : Node) × In n s.nodes
+      × (n.path ≡ p)
   boot_stands done s p is (inl at) = let there = is.sound.tree.rooted in (there.0, there.1, there.2 ∙ sym at)
   boot_stands done s p is (inr boot) =
       let there = is.booted boot.adapter (entry_in done boot.adapter boot.stands) boot.boots in (there.0, there.1, there.2 ∙ boot.path_is)
 
-  known_later : (done : List AdapterConf) (a : AdapterConf) (n : Node) → (n.path ≡ []) ⊎ ((b : AdapterConf) × In b done × (b.path ≡ n.path)) → (n.path ≡ []) ⊎ ((b : AdapterConf) × In b (done ++ a ∷ []) × (b.path ≡ n.path))
+  known_later : (done : List AdapterConf) (a : AdapterConf) (n : Node) → (n.path ≡ []) ⊎ ((b : AdapterConf) × In b done × (b.path ≡ n.path)) → (n.path ≡ [])
+      ⊎ ((b : AdapterConf) × In b (done ++ a ∷ []) × (b.path ≡ n.path))
   known_later done a n (inl at) = inl at
   known_later done a n (inr entry) = inr (entry.0, in_front entry.0 a done entry.1, entry.2)
 
-  module _ (managers servants : ℕ) (done : List AdapterConf) (a : AdapterConf) (s : Standing) (is : IsBooted done s) (rule : IsAdapter managers servants done a) where
+  module _ (managers servants : ℕ) (done : List AdapterConf) (a : AdapterConf) (s : Standing) (is : IsBooted done s)
+      (rule : IsAdapter managers servants done a) where
     may_create : a.boot ≡ true → is_root a.path ≡ false → MayCreate s.nodes a.path
     may_create boots inner =
         let below = rule.boot boots in
@@ -126,7 +129,8 @@ module _ (c : Config) (run : ℕ) where
       booted = λ b there boots. elim (in_either b a done there) [
         | inl was ↦ is.booted b was boots
         | inr same ↦ (let found = is.sound.tree.rooted in
-            let at : b.path ≡ [] = root_path b.path (ap (λ x. is_root x.path) same ∙ top (ap (λ x. x.boot) (sym same) ∙ boots)) in (found.0, found.1, found.2 ∙ sym at))
+            let at : b.path ≡ [] = root_path b.path (ap (λ x. is_root x.path) same ∙ top (ap (λ x. x.boot) (sym same) ∙ boots)) in
+            (found.0, found.1, found.2 ∙ sym at))
       ];
       known = λ n there. known_later done a n (is.known n there);
     }
@@ -144,7 +148,8 @@ module _ (c : Config) (run : ℕ) where
         (λ both. let parts = and_parts a.boot (not (is_root a.path)) both in created_booted parts.0 (not_true (is_root a.path) parts.1))
         (λ none. passed_booted (top_where none))
 
-  boots_booted : (managers servants : ℕ) (done as' : List AdapterConf) (s : Standing) → EachAfter (IsAdapter managers servants) done as' → IsBooted done s → IsBooted (done ++ as') (with_boots as' s)
+  boots_booted : (managers servants : ℕ) (done as' : List AdapterConf) (s : Standing) → EachAfter (IsAdapter managers servants) done as' → IsBooted done s
+      → IsBooted (done ++ as') (with_boots as' s)
   boots_booted managers servants done [] s each is = subst (λ ds. IsBooted ds s) (sym (append-nil done)) is
   boots_booted managers servants done (a ∷ as') s each is =
       let next = if a.boot && not (is_root a.path) then with_node a.path s else s in

@@ -45,10 +45,12 @@ module _ {A K : Type 0} (key : A → K) (R : List A → A → Type 0) (new : (do
   alone_by_key done (z ∷ zs) x y each (inr a) (inr b) same = alone_by_key (done ++ z ∷ []) zs x y each.1 a b same
 
 -- the first entry of a name is the one whose name is new
-pub place_first : {A : Type 0} (name : A → List ℕ) (xs : List A) (k : ℕ) (x : A) → slice_get xs k ≡ Some x → IsNew name (take k xs) x → position_or_len (λ y. same_bytes (name y) (name x)) xs ≡ k
+pub place_first : {A : Type 0} (name : A → List ℕ) (xs : List A) (k : ℕ) (x : A) → slice_get xs k ≡ Some x → IsNew name (take k xs) x
+    → position_or_len (λ y. same_bytes (name y) (name x)) xs ≡ k
 place_first name [] k x here new = absurd (none-some x here)
 place_first name (y ∷ ys) zero x here new =
-    ap (λ b. cond (not b) (1 + position_or_len (λ z. same_bytes (name z) (name x)) ys) 0) (subst (λ z. same_bytes (name z) (name x) ≡ true) (sym (same_Some y x here)) (same_self (name x)))
+    ap (λ b. cond (not b) (1 + position_or_len (λ z. same_bytes (name z) (name x)) ys) 0)
+    (subst (λ z. same_bytes (name z) (name x) ≡ true) (sym (same_Some y x here)) (same_self (name x)))
 place_first name (y ∷ ys) (suc k) x here new =
     let other : same_bytes (name y) (name x) ≡ false = false_from_ne_true _ (λ same. new.0 (bytes_same (name y) (name x) same)) in
     let first = ap (λ b. cond (not b) (1 + position_or_len (λ z. same_bytes (name z) (name x)) ys) 0) other in

@@ -22,7 +22,10 @@ module _ (c : Config) (run limit : ℕ) (h : List Entry) (is : IsRun c run limit
 
   pub keeps_updates : (opened : Stored) → KeepsUpdates c run opened h
   keeps_updates opened = record {
-    line = λ kind p oid brings are. one_line c run limit (given c run limit h is) (alone c run limit h is) (within c run limit h is) opened kind p oid brings h is.legal are;
-    state = λ kind p oid brings are. line_carried c run limit (given c run limit h is) (alone c run limit h is) (within c run limit h is) opened kind p oid brings h is.legal are;
-    kept = λ kind p oid brings are. line_stored c run limit (given c run limit h is) (alone c run limit h is) (within c run limit h is) opened kind p oid brings h is.legal are;
+    line = λ kind p oid brings are. one_line c run limit (given c run limit h is) (alone c run limit h is)
+        (within c run limit h is) opened kind p oid brings h is.legal are;
+    state = λ kind p oid brings are. line_carried c run limit (given c run limit h is) (alone c run limit h is)
+        (within c run limit h is) opened kind p oid brings h is.legal are;
+    kept = λ kind p oid brings are. line_stored c run limit (given c run limit h is) (alone c run limit h is)
+        (within c run limit h is) opened kind p oid brings h is.legal are;
   }

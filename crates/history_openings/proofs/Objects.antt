@@ -51,7 +51,8 @@ module _ (c : Config) (run : ℕ) (rules : KeepsRules c) where
         | Some m ↦ λ found. (let there = node_found s.nodes p m found in ap (λ x. Some x) (sound.tree.path_alone m n there.0 is (there.1 ∙ sym at)))
       ] refl)
 
-  module _ (done : List ObjectConf) (o : ObjectConf) (s : Standing) (sound : IsSound c run s) (active : IsActive done s) (rule : IsObject c.adapters (length c.servants) done o) where
+  module _ (done : List ObjectConf) (o : ObjectConf) (s : Standing) (sound : IsSound c run s) (active : IsActive done s)
+      (rule : IsObject c.adapters (length c.servants) done o) where
     home : (n : Node) × In n s.nodes × (n.path ≡ o.adapter)
     home = active.stood o.adapter (home_boots c rules o.adapter rule.policies rule.home)
 
@@ -69,7 +70,8 @@ module _ (c : Config) (run : ℕ) (rules : KeepsRules c) where
     makes_is = (home_is c rules o.adapter rule.policies rule.home).0 ∙ sym rule.id
 
     -- under UNIQUE_ID no activation of this adapter has its servant
-    taken_by_none : (a : Activation) (t : Sid) → In a s.activations → a.adapter ≡ number_at s o.adapter → is_unique (policies_at c o.adapter) ≡ true → a.phase ≡ Complete t → Complete (Named o.servant) ≡ Complete t → ⊥
+    taken_by_none : (a : Activation) (t : Sid) → In a s.activations → a.adapter ≡ number_at s o.adapter → is_unique (policies_at c o.adapter) ≡ true
+        → a.phase ≡ Complete t → Complete (Named o.servant) ≡ Complete t → ⊥
     taken_by_none a t there at unique has same =
         let (d, before, its) = active.whose a there in
         let servants : Complete (Named d.servant) ≡ Complete (Named o.servant) = sym its.served ∙ (has ∙ sym same) in
@@ -81,7 +83,8 @@ module _ (c : Config) (run : ℕ) (rules : KeepsRules c) where
 
     module _ (oid : List ℕ) (named : (o.oid ≡ Some oid) ⊎ (makes_ids (policies_at c o.adapter) ≡ true)) where
       abbrev begun : Activation
-      begun = record { number = length s.activations; adapter = number_at s o.adapter; path = o.adapter; oid = oid; phase = Complete (Named o.servant); ending = false; quiet = false; out = false; cleanup = false; remaining = false; etherealized = false }
+      begun = record
+          { number = length s.activations; adapter = number_at s o.adapter; path = o.adapter; oid = oid; phase = Complete (Named o.servant); ending = false; quiet = false; out = false; cleanup = false; remaining = false; etherealized = false }
 
       begun_home : IsHome s.nodes begun
       begun_home = record { node = home.0; stands = home.1; numbered = home_number; placed = home.2 }
@@ -95,11 +98,13 @@ module _ (c : Config) (run : ℕ) (rules : KeepsRules c) where
             | inl was ↦ elim (in_either b begun s.activations b_in) [
               | inl was' ↦ active.mapped a b t was was' at unique a_mapped b_mapped a_has b_has
               | inr new ↦ (let here : a.adapter ≡ number_at s o.adapter = at ∙ ap (λ x. x.adapter) new in
-                  absurd (taken_by_none a t was here (subst (λ p. is_unique (policies_at c p) ≡ true) (same_place a was here) unique) a_has (sym (ap (λ x. x.phase) new) ∙ b_has)))
+                  absurd (taken_by_none a t was here (subst (λ p. is_unique (policies_at c p) ≡ true) (same_place a was here) unique) a_has
+                  (sym (ap (λ x. x.phase) new) ∙ b_has)))
             ]
             | inr new ↦ elim (in_either b begun s.activations b_in) [
               | inl was' ↦ (let here : b.adapter ≡ number_at s o.adapter = sym at ∙ ap (λ x. x.adapter) new in
-                  absurd (taken_by_none b t was' here (subst (λ p. is_unique (policies_at c p) ≡ true) (ap (λ x. x.path) new) unique) b_has (sym (ap (λ x. x.phase) new) ∙ a_has)))
+                  absurd (taken_by_none b t was' here (subst (λ p. is_unique (policies_at c p) ≡ true) (ap (λ x. x.path) new) unique) b_has
+                  (sym (ap (λ x. x.phase) new) ∙ a_has)))
               | inr new' ↦ new ∙ sym new'
             ]
           ]
@@ -107,7 +112,9 @@ module _ (c : Config) (run : ℕ) (rules : KeepsRules c) where
       begun_active : IsActive (done ++ o ∷ []) (with_activation (number_at s o.adapter) o.adapter oid (Complete (Named o.servant)) s)
       begun_active = record {
         stood = active.stood;
-        housed = λ a there. elim (in_either a begun s.activations there) [ inl was ↦ active.housed a was | inr new ↦ subst (λ x. IsHome s.nodes x) (sym new) begun_home ];
+        housed =
+            λ a there. elim (in_either a begun s.activations there)
+            [ inl was ↦ active.housed a was | inr new ↦ subst (λ x. IsHome s.nodes x) (sym new) begun_home ];
         whose = λ a there. elim (in_either a begun s.activations there) [
           | inl was ↦ (let (d, before, its) = active.whose a was in (d, in_front d o done before, its))
           | inr new ↦ (o, in_back o done, subst (λ x. IsOf o x) (sym new) begun_of)
@@ -127,14 +134,17 @@ module _ (c : Config) (run : ℕ) (rules : KeepsRules c) where
           over = λ a there at of_id. absurd (let (d, before, its) = active.whose a there in
               let adapters : d.adapter ≡ o.adapter = sym its.placed ∙ same_place a there at in
               elim its.named [
-                | inl same ↦ all_in (λ e. id_key e ≢ id_key o) done d (rule.new (ap is_some has)) before (ap₂ (λ p i. (p, i)) adapters (same ∙ (ap (λ i. Some i) of_id ∙ sym has)))
+                | inl same ↦
+                    all_in (λ e. id_key e ≢ id_key o) done d (rule.new (ap is_some has)) before
+                    (ap₂ (λ p i. (p, i)) adapters (same ∙ (ap (λ i. Some i) of_id ∙ sym has)))
                 | inr makes ↦ true≢false (sym makes ∙ (ap (λ p. makes_ids (policies_at c p)) adapters ∙ own))
               ]);
           made = false_from_ne_true _ (λ bad. true≢false (sym (and_parts _ _ bad).0 ∙ own));
         }
 
     -- the next system-made id is new
-    may_live_made : run < 2 ^ 32 → suc s.made < 2 ^ 32 → o.oid ≡ None → MayLive c run (with_made s) (with_made_sound c run s sound) (number_at s o.adapter) o.adapter (made_id run (suc s.made))
+    may_live_made : run < 2 ^ 32 → suc s.made < 2 ^ 32 → o.oid ≡ None
+        → MayLive c run (with_made s) (with_made_sound c run s sound) (number_at s o.adapter) o.adapter (made_id run (suc s.made))
     may_live_made small_run small has =
         let makes : makes_ids (policies_at c o.adapter) ≡ true = makes_is ∙ ap is_none has in
         record {
@@ -142,7 +152,8 @@ module _ (c : Config) (run : ℕ) (rules : KeepsRules c) where
           stands = home.1;
           numbered = home_number;
           placed = home.2;
-          over = λ a there at of_id. fresh_ids c run s sound small_run small home.0 home.1 (subst (λ p. makes_ids (policies_at c p) ≡ true) (sym home.2) makes) a there (at ∙ sym home_number) of_id;
+          over = λ a there at of_id. fresh_ids c run s sound small_run small home.0 home.1
+              (subst (λ p. makes_ids (policies_at c p) ≡ true) (sym home.2) makes) a there (at ∙ sym home_number) of_id;
           made = next_fits c run s sound small_run small o.adapter;
         }
 
@@ -153,22 +164,28 @@ module _ (c : Config) (run : ℕ) (rules : KeepsRules c) where
   abbrev pub IsOpen : List ObjectConf → ℕ → Standing → Type 0
   IsOpen done more s = IsSound c run s × IsActive done s × (s.made + more ≤ 65536)
 
-  object_opens : run < 2 ^ 32 → (done : List ObjectConf) (o : ObjectConf) (more : ℕ) (s : Standing) → IsOpen done (suc more) s → IsObject c.adapters (length c.servants) done o → IsOpen (done ++ o ∷ []) more (with_object run o s)
+  object_opens : run < 2 ^ 32 → (done : List ObjectConf) (o : ObjectConf) (more : ℕ) (s : Standing) → IsOpen done (suc more) s
+      → IsObject c.adapters (length c.servants) done o → IsOpen (done ++ o ∷ []) more (with_object run o s)
   object_opens small_run done o more s (sound, active, room) rule =
-      elim o.oid as (λ oid. o.oid ≡ oid → IsOpen (done ++ o ∷ []) more (elim oid [ Some i ↦ with_activation (number_at s o.adapter) o.adapter i (Complete (Named o.servant)) s | None ↦ with_activation (number_at s o.adapter) o.adapter (made_id run (suc s.made)) (Complete (Named o.servant)) (with_made s) ])) [
+      elim o.oid as (λ oid. o.oid ≡ oid → IsOpen (done ++ o ∷ []) more
+      (elim oid
+      [ Some i ↦ with_activation (number_at s o.adapter) o.adapter i (Complete (Named o.servant)) s | None ↦ with_activation (number_at s o.adapter) o.adapter (made_id run (suc s.made)) (Complete (Named o.servant)) (with_made s) ])) [
         | Some i ↦ λ has. (
           with_activation_sound c run s sound (number_at s o.adapter) o.adapter i (Complete (Named o.servant)) (may_live done o s sound active rule i has),
           begun_active done o s sound active rule i (inl has),
           omega (arith, room),
         )
         | None ↦ λ has. (
-          with_activation_sound c run (with_made s) (with_made_sound c run s sound) (number_at s o.adapter) o.adapter (made_id run (suc s.made)) (Complete (Named o.servant)) (may_live_made done o s sound active rule small_run (omega (arith, room)) has),
-          begun_active done o (with_made s) (with_made_sound c run s sound) (made_active done s active) rule (made_id run (suc s.made)) (inr (makes_is done o s sound active rule ∙ ap is_none has)),
+          with_activation_sound c run (with_made s) (with_made_sound c run s sound) (number_at s o.adapter) o.adapter (made_id run (suc s.made))
+              (Complete (Named o.servant)) (may_live_made done o s sound active rule small_run (omega (arith, room)) has),
+          begun_active done o (with_made s) (with_made_sound c run s sound) (made_active done s active) rule (made_id run (suc s.made))
+              (inr (makes_is done o s sound active rule ∙ ap is_none has)),
           omega (arith, room),
         )
       ] refl
 
-  pub objects_open : run < 2 ^ 32 → (done os : List ObjectConf) (s : Standing) → EachAfter (IsObject c.adapters (length c.servants)) done os → IsOpen done (length os) s → IsOpen (done ++ os) 0 (with_objects run os s)
+  pub objects_open : run < 2 ^ 32 → (done os : List ObjectConf) (s : Standing) → EachAfter (IsObject c.adapters (length c.servants)) done os
+      → IsOpen done (length os) s → IsOpen (done ++ os) 0 (with_objects run os s)
   objects_open small_run done [] s each open_ = subst (λ ds. IsOpen ds 0 s) (sym (append-nil done)) open_
   objects_open small_run done (o ∷ os) s each open_ =
       subst (λ ds. IsOpen ds 0 (with_objects run os (with_object run o s))) (append_snoc done o os)

@@ -27,21 +27,28 @@ not_both p unique multiple = false≢true unique
 
 module _ (c : Config) (rules : KeepsRules c) where
   adapter_alone : (a b : AdapterConf) → In a c.adapters → In b c.adapters → a.path ≡ b.path → a ≡ b
-  adapter_alone a b is is' = alone_by_key (λ x. x.path) (IsAdapter (length c.managers) (length c.servants)) (λ done x rule. rule.new) [] c.adapters a b rules.adapters is is'
+  adapter_alone a b is is' =
+      alone_by_key (λ x. x.path) (IsAdapter (length c.managers) (length c.servants)) (λ done x rule. rule.new) [] c.adapters a b rules.adapters is is'
 
   -- the entry of a path is the one that is found
   entry_found : (a : AdapterConf) (p : List (List ℕ)) → In a c.adapters → a.path ≡ p → entry_of c p ≡ Some a
   entry_found a p is at =
       elim (entry_of c p) as (λ o. entry_of c p ≡ o → o ≡ Some a) [
         | None ↦ λ none. absurd (find_none (λ x. same_path x.path p) a c.adapters none is (ap (λ q. same_path q p) at ∙ same_path_self p))
-        | Some b ↦ λ found. (let there = find_in (λ x. same_path x.path p) b c.adapters found in ap (λ x. Some x) (adapter_alone b a there.0 is (path_same b.path p there.1 ∙ sym at)))
+        | Some b ↦
+            λ found.
+            (let there = find_in (λ x. same_path x.path p) b c.adapters found in
+            ap (λ x. Some x) (adapter_alone b a there.0 is (path_same b.path p there.1 ∙ sym at)))
       ] refl
 
   -- the policies of an object's home are those by which its entry was accepted, but for implicit activation
-  pub home_is : (p : List (List ℕ)) (set : PolicySet) → IsHome c.adapters p set → (makes_ids (policies_at c p) ≡ is_system_id set.assignment) × (is_unique (policies_at c p) ≡ is_unique_id set.uniqueness)
+  pub home_is : (p : List (List ℕ)) (set : PolicySet) → IsHome c.adapters p set → (makes_ids (policies_at c p) ≡ is_system_id set.assignment)
+      × (is_unique (policies_at c p) ≡ is_unique_id set.uniqueness)
   home_is [] set is = (ap (λ s. is_system_id s.assignment) (sym is), ap (λ s. is_unique_id s.uniqueness) (sym is))
   home_is (n ∷ ns) set is =
-      let same : policies_at c (n ∷ ns) ≡ set = ap (λ o. (unwrap_or o (root_template None)).policies) (entry_found is.adapter (n ∷ ns) (entry_in c.adapters is.adapter is.stands) is.path_is) ∙ sym is.policies in
+      let same : policies_at c (n ∷ ns) ≡ set =
+      ap (λ o. (unwrap_or o (root_template None)).policies) (entry_found is.adapter (n ∷ ns) (entry_in c.adapters is.adapter is.stands) is.path_is)
+      ∙ sym is.policies in
       (ap (λ s. makes_ids s) same, ap (λ s. is_unique s) same)
 
   -- such a home is created at the start
@@ -52,14 +59,17 @@ module _ (c : Config) (rules : KeepsRules c) where
   entry_makes : (a : AdapterConf) → In a c.adapters → is_implicit a.policies.implicit ≡ true → is_system_id a.policies.assignment ≡ true
   entry_makes a there implicit =
       let rule = (each_in (IsAdapter (length c.managers) (length c.servants)) [] c.adapters a rules.adapters there).1 in
-      let kept = and_parts (needs is_implicit is_system_id a.policies.implicit a.policies.assignment) (needs is_implicit is_retain a.policies.implicit a.policies.retention) (rule.template.policies.keeps_rules ImplicitMakesIds) in
+      let kept =
+      and_parts (needs is_implicit is_system_id a.policies.implicit a.policies.assignment)
+      (needs is_implicit is_retain a.policies.implicit a.policies.retention) (rule.template.policies.keeps_rules ImplicitMakesIds) in
       elim (or_cases (not (is_implicit a.policies.implicit)) (is_system_id a.policies.assignment) kept.0)
       [ inl explicit ↦ absurd (false≢true (ap not (sym implicit) ∙ explicit)) | inr makes ↦ makes ]
 
   pub implicit_makes : ImplicitMakes c
   implicit_makes [] implicit = refl
   implicit_makes (x ∷ p) implicit =
-      elim (entry_of c (x ∷ p)) as (λ o. entry_of c (x ∷ p) ≡ o → activates_implicitly (unwrap_or o (root_template None)).policies ≡ true → makes_ids (unwrap_or o (root_template None)).policies ≡ true) [
+      elim (entry_of c (x ∷ p)) as (λ o. entry_of c (x ∷ p) ≡ o → activates_implicitly (unwrap_or o (root_template None)).policies ≡ true
+      → makes_ids (unwrap_or o (root_template None)).policies ≡ true) [
         | None ↦ λ none is. refl
         | Some a ↦ λ found is. entry_makes a (find_in (λ y. same_path y.path (x ∷ p)) a c.adapters found).0 is
       ] refl implicit

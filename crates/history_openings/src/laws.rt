@@ -53,16 +53,21 @@ pub fn ordinals_fit()
 /// An adapter that stands is being destroyed exactly where a destroy of it, or of an adapter above it, was
 /// done since it was created.
 pub fn destroyed_are_dying()
-    ensures { (c : Config) (run limit : ℕ) (h : List Entry) → IsRun c run limit h → (n : Node) → In n (standing c run h).nodes → n.dying ≡ was_destroyed c run h n.number n.path }
+    ensures { (c : Config) (run limit : ℕ) (h : List Entry) → IsRun c run limit h → (n : Node) → In n (standing c run h).nodes
+        → n.dying ≡ was_destroyed c run h n.number n.path }
 {}
 
 /// An adapter that stands is gone exactly where it is being destroyed, nothing is in flight in it, its
 /// activations are over and its children are gone. None that stands is gone but the root, which stays; and
 /// of one that is gone nothing is left.
 pub fn gone_have_ended()
-    ensures ends { (c : Config) (run limit : ℕ) (h : List Entry) → IsRun c run limit h → (n : Node) → In n (standing c run h).nodes → (is_gone c (standing c run h) n.number ≡ true → IsEnded c (standing c run h) n) × (IsEnded c (standing c run h) n → is_gone c (standing c run h) n.number ≡ true) }
-    ensures stays { (c : Config) (run limit : ℕ) (h : List Entry) → IsRun c run limit h → (n : Node) → In n (standing c run h).nodes → is_root n.path ≡ false → is_gone c (standing c run h) n.number ≡ false }
-    ensures emptied { (c : Config) (run limit : ℕ) (h : List Entry) → IsRun c run limit h → (k : ℕ) → is_gone c (standing c run h) k ≡ true → IsEmptied c (standing c run h) k }
+    ensures ends { (c : Config) (run limit : ℕ) (h : List Entry) → IsRun c run limit h → (n : Node) → In n (standing c run h).nodes
+        → (is_gone c (standing c run h) n.number ≡ true → IsEnded c (standing c run h) n)
+        × (IsEnded c (standing c run h) n → is_gone c (standing c run h) n.number ≡ true) }
+    ensures stays { (c : Config) (run limit : ℕ) (h : List Entry) → IsRun c run limit h → (n : Node) → In n (standing c run h).nodes
+        → is_root n.path ≡ false → is_gone c (standing c run h) n.number ≡ false }
+    ensures emptied { (c : Config) (run limit : ℕ) (h : List Entry) → IsRun c run limit h → (k : ℕ) → is_gone c (standing c run h) k ≡ true
+        → IsEmptied c (standing c run h) k }
 {}
 
 /// At most one incarnation or etherealization is unfinished in an adapter; under UNIQUE_ID a servant is in
@@ -101,14 +106,17 @@ pub fn nothing_stays_undone()
 /// too, or a manager in the state HOLDING holds it back. Where moreover a `shutdown` was done, every activation is
 /// void or finished, and every call is decided.
 pub fn calls_are_answered()
-    ensures answered { (c : Config) (run limit : ℕ) (h : List Entry) → IsRun c run limit h → AreIdle c run h → (r : ℕ) → r < arrivals h → (decided c run h r ≡ true) ⊎ IsHeldBack c run h r }
-    ensures shut { (c : Config) (run limit : ℕ) (h : List Entry) → IsRun c run limit h → AreIdle c run h → was_shut h ≡ true → IsAllOver c run h }
+    ensures answered { (c : Config) (run limit : ℕ) (h : List Entry) → IsRun c run limit h → AreIdle c run h → (r : ℕ) → r < arrivals h
+        → (decided c run h r ≡ true) ⊎ IsHeldBack c run h r }
+    ensures shut { (c : Config) (run limit : ℕ) (h : List Entry) → IsRun c run limit h → AreIdle c run h → was_shut h ≡ true
+        → IsAllOver c run h }
 {}
 
 /// That a reply is given to its connection changes no worker's next entry. So a run that was idle stays so while
 /// its replies are collected.
 pub fn collecting_changes_no_turn()
-    ensures { (c : Config) (run limit : ℕ) (h : List Entry) → IsRun c run limit h → (conn a w : ℕ) → turn c run (Collect conn a ∷ h) w ≡ turn c run h w }
+    ensures { (c : Config) (run limit : ℕ) (h : List Entry) → IsRun c run limit h → (conn a w : ℕ)
+        → turn c run (Collect conn a ∷ h) w ≡ turn c run h w }
 {}
 
 /// The updates of an object are one line. Let a path have a servant activator whose first matching rule brings an id
@@ -118,13 +126,20 @@ pub fn collecting_changes_no_turn()
 /// it has is in that one servant's state; and where one was etherealized and each activation of the id is over, that
 /// state is what is stored. CORBA 3.3 Part 1, section 15.3.6.
 pub fn servants_are_one_line()
-    ensures line { (c : Config) (run limit : ℕ) (h : List Entry) → IsRun c run limit h → (opened : Stored) (kind : Kind) (p : List (List ℕ)) (oid : List ℕ) → BringsFresh c p oid kind → AreIncarnated c run h p oid → IsOneLine c run opened kind h p oid }
-    ensures state { (c : Config) (run limit : ℕ) (h : List Entry) → IsRun c run limit h → (opened : Stored) (kind : Kind) (p : List (List ℕ)) (oid : List ℕ) → BringsFresh c p oid kind → AreIncarnated c run h p oid → HasLineState c run opened kind h p oid }
-    ensures kept { (c : Config) (run limit : ℕ) (h : List Entry) → IsRun c run limit h → (opened : Stored) (kind : Kind) (p : List (List ℕ)) (oid : List ℕ) → BringsFresh c p oid kind → AreIncarnated c run h p oid → KeepsLineState c run opened kind h p oid }
+    ensures line { (c : Config) (run limit : ℕ) (h : List Entry) → IsRun c run limit h
+        → (opened : Stored) (kind : Kind) (p : List (List ℕ)) (oid : List ℕ) → BringsFresh c p oid kind → AreIncarnated c run h p oid
+        → IsOneLine c run opened kind h p oid }
+    ensures state { (c : Config) (run limit : ℕ) (h : List Entry) → IsRun c run limit h
+        → (opened : Stored) (kind : Kind) (p : List (List ℕ)) (oid : List ℕ) → BringsFresh c p oid kind → AreIncarnated c run h p oid
+        → HasLineState c run opened kind h p oid }
+    ensures kept { (c : Config) (run limit : ℕ) (h : List Entry) → IsRun c run limit h
+        → (opened : Stored) (kind : Kind) (p : List (List ℕ)) (oid : List ℕ) → BringsFresh c p oid kind → AreIncarnated c run h p oid
+        → KeepsLineState c run opened kind h p oid }
 {}
 
 /// The long laws together, as the calls of the adapter state them of a run.
 pub fn runs_last()
     ensures undone { (c : Config) (run limit : ℕ) (h : List Entry) → IsRun c run limit h → LeavesNothing c run h }
-    ensures updates { (c : Config) (run limit : ℕ) (h : List Entry) → IsRun c run limit h → (opened : Stored) → KeepsUpdates c run opened h }
+    ensures updates { (c : Config) (run limit : ℕ) (h : List Entry) → IsRun c run limit h → (opened : Stored)
+        → KeepsUpdates c run opened h }
 {}

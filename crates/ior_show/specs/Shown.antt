@@ -39,7 +39,8 @@ ProfileShown index profile text = ShowsBody index profile text ⊎ ShowsTag inde
 abbrev pub ProfilesShown : ℕ → List Profile → List ℕ → Type 0
 ProfilesShown index [] text = text ≡ []
 ProfilesShown index (profile ∷ profiles) text =
-    (first : List ℕ) × (others : List ℕ) × ProfileShown index profile first × ProfilesShown (index + 1) profiles others × (text ≡ first ++ others)
+    (first : List ℕ) × (others : List ℕ) × ProfileShown index profile first × ProfilesShown (index + 1) profiles others
+    × (text ≡ first ++ others)
 
 -- the line of the type id
 abbrev pub type_line : List ℕ → List ℕ

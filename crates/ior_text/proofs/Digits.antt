@@ -6,7 +6,8 @@ use Rattle.hex.specs.declared.error.FromHexError.TheVariants.{InvalidHexCharacte
 use Rattle.hex.proofs.HexLemmas.{decode_of-err}
 
 -- a bad digit is one of the digits
-pub bad_below : (digits : List ℕ) (fault : FromHexError) (c i : ℕ) → ((fault ≡ OutOfMemory) ⊎ (decode_of digits ≡ Err fault)) → fault ≡ InvalidHexCharacter c i → i < length digits
+pub bad_below : (digits : List ℕ) (fault : FromHexError) (c i : ℕ) → ((fault ≡ OutOfMemory) ⊎ (decode_of digits ≡ Err fault)) → fault ≡ InvalidHexCharacter c i
+    → i < length digits
 bad_below digits fault c i (inl memory) is = cc (memory, is)
 bad_below digits fault c i (inr refused) is =
     elim (decode_of-err digits fault refused) [

@@ -70,7 +70,9 @@ pub one_answer : (text : List ℕ) (a b : Result Ior IorFault) → TextGives tex
 one_answer text a b r s = one_of_bytes (bytes_of text) a b (by_bytes text a r) (by_bytes text b s)
 
 -- an answer that the text gives, or want of memory, is the one that the text gives, or want of memory
-pub only_this : (text : List ℕ) (result : Result Ior IorFault) → IfOk result (λ ior. TextGives text (Ok ior)) → IfErr result (λ fault. (fault ≡ WantMemory) ⊎ TextGives text (Err fault)) → (answer : Result Ior IorFault) → TextGives text answer → (result ≡ answer) ⊎ (result ≡ Err WantMemory)
+pub only_this : (text : List ℕ) (result : Result Ior IorFault) → IfOk result (λ ior. TextGives text (Ok ior))
+    → IfErr result (λ fault. (fault ≡ WantMemory) ⊎ TextGives text (Err fault)) → (answer : Result Ior IorFault) → TextGives text answer → (result ≡ answer)
+    ⊎ (result ≡ Err WantMemory)
 only_this text (Ok ior) ok err answer gives = inl (one_answer text (Ok ior) answer ok gives)
 only_this text (Err fault) ok (inl memory) answer gives = inr (ap Err memory)
 only_this text (Err fault) ok (inr told) answer gives = inl (one_answer text (Err fault) answer told gives)

@@ -10,10 +10,13 @@ pub with_profiles-push : (ps : List Profile) (p : Profile) (d : Draft) → with_
 with_profiles-push [] p d = refl
 with_profiles-push (q ∷ qs) p d = with_profiles-push qs p (with_profile q d)
 
-pub with_profiles-more : (ps : List Profile) (i : ℕ) (p : Profile) (d : Draft) → i < length ps → p ≡ get_or ps i p → with_profiles (take (i + 1) ps) d ≡ with_profile p (with_profiles (take i ps) d)
+pub with_profiles-more : (ps : List Profile) (i : ℕ) (p : Profile) (d : Draft) → i < length ps → p ≡ get_or ps i p
+    → with_profiles (take (i + 1) ps) d ≡ with_profile p (with_profiles (take i ps) d)
 with_profiles-more ps i p d below is =
-    ap (λ l. with_profiles l d) (take_more ps i p below) ∙ with_profiles-push (take i ps) (get_or ps i p) d ∙ ap (λ q. with_profile q (with_profiles (take i ps) d)) (sym is)
+    ap (λ l. with_profiles l d) (take_more ps i p below) ∙ with_profiles-push (take i ps) (get_or ps i p) d
+    ∙ ap (λ q. with_profile q (with_profiles (take i ps) d)) (sym is)
 
 -- the tag and the data, written one behind the other, are the profile
-pub profile_written : (p : Profile) (bytes : List ℕ) (d tagged after : Draft) → tagged ≡ with_field (ulong p.tag) d → bytes ≡ p.bytes → after ≡ with_field (octets bytes) tagged → after ≡ with_profile p d
+pub profile_written : (p : Profile) (bytes : List ℕ) (d tagged after : Draft) → tagged ≡ with_field (ulong p.tag) d → bytes ≡ p.bytes
+    → after ≡ with_field (octets bytes) tagged → after ≡ with_profile p d
 profile_written p bytes d tagged after tag is octets_put = octets_put ∙ ap (λ b. with_field (octets b) tagged) is ∙ ap (λ t. with_field (octets p.bytes) t) tag

@@ -31,7 +31,8 @@ pub record ReadBack (f : Field) (d : Draft) (c : Cursor) (more : List ℕ) : Typ
   pub stands : Stands (with_field f d) after
   pub rest : after.rest ≡ more
 
-pub read_back : (f : Field) (d : Draft) (c : Cursor) (more : List ℕ) → Fits f → Stands d c → c.rest ≡ written d.little (d.base + length d.bytes) f ++ more → ReadBack f d c more
+pub read_back : (f : Field) (d : Draft) (c : Cursor) (more : List ℕ) → Fits f → Stands d c → c.rest ≡ written d.little (d.base + length d.bytes) f ++ more
+    → ReadBack f d c more
 read_back f d c more fits at rest =
     let same : written c.little c.place f ≡ written d.little (d.base + length d.bytes) f = ap₂ (λ l p. written l p f) at.order at.place in
     record {
@@ -54,7 +55,8 @@ grows (p ∷ ps) d =
     let bytes : List ℕ = written behind.little (behind.base + length behind.bytes) (octets p.bytes) in
     (tag ++ (bytes ++ others.0), others.1 ∙ append_assoc (d.bytes ++ tag) bytes others.0 ∙ append_assoc d.bytes tag (bytes ++ others.0))
 
-pub profiles_back : (ps : List Profile) (d : Draft) (c : Cursor) → AllByRecursion IsProfile ps → Stands d c → (with_profiles ps d).bytes ≡ d.bytes ++ c.rest → (after : Cursor) × ReadsProfiles ps c after
+pub profiles_back : (ps : List Profile) (d : Draft) (c : Cursor) → AllByRecursion IsProfile ps → Stands d c → (with_profiles ps d).bytes ≡ d.bytes ++ c.rest
+    → (after : Cursor) × ReadsProfiles ps c after
 profiles_back [] d c all at whole = (c, refl)
 profiles_back (p ∷ ps) d c all at whole =
     let others = grows ps (with_profile p d) in
@@ -78,11 +80,14 @@ ior_back ior fits =
     let counted : Draft = with_field (ulong (length ior.profiles)) named in
     let others = grows ior.profiles counted in
     let start : Cursor = record { little = false; place = 1; rest = name ++ (count ++ others.0) } in
-    let whole : encapsulation ior ≡ 0 ∷ (name ++ (count ++ others.0)) = others.1 ∙ append_assoc (opened.bytes ++ name) count others.0 ∙ append_assoc opened.bytes name (count ++ others.0) in
+    let whole : encapsulation ior ≡ 0 ∷ (name ++ (count ++ others.0)) = others.1 ∙ append_assoc (opened.bytes ++ name) count others.0
+    ∙ append_assoc opened.bytes name (count ++ others.0) in
     let at : Stands opened start = record { order = refl; place = refl } in
     let one = read_back (text ior.type_id) opened start (count ++ others.0) fits.len at refl in
     let two = read_back (ulong (length ior.profiles)) named one.after others.0 fits.count one.stands one.rest in
-    let left = profiles_back ior.profiles counted two.after (recursion_from_All IsProfile ior.profiles fits.profiles) two.stands (others.1 ∙ ap (λ m. counted.bytes ++ m) (sym two.rest)) in
+    let left =
+    profiles_back ior.profiles counted two.after (recursion_from_All IsProfile ior.profiles fits.profiles) two.stands
+    (others.1 ∙ ap (λ m. counted.bytes ++ m) (sym two.rest)) in
     record {
       start = start;
       after = left.0;

@@ -33,7 +33,8 @@ IsBytes-octets little place bytes p =
 pub IsBytes-text : (little : Bool) (place : ℕ) (bytes : List ℕ) → IsBytes bytes → IsBytes (written little place (text bytes))
 IsBytes-text little place bytes p =
     IsBytes-append (replicate (gap 4 place) 0) _ (IsBytes-zeros (gap 4 place))
-    (IsBytes-append (number_bytes little w32 (length bytes + 1) ++ bytes) (0 ∷ []) (IsBytes-append _ bytes (IsBytes-number little (length bytes + 1)) p) (IsBytes-zeros 1))
+    (IsBytes-append (number_bytes little w32 (length bytes + 1) ++ bytes) (0 ∷ []) (IsBytes-append _ bytes (IsBytes-number little (length bytes + 1)) p)
+    (IsBytes-zeros 1))
 
 pub IsBytes-profiles : (ps : List Profile) (d : Draft) → AllByRecursion IsProfile ps → IsBytes d.bytes → IsBytes (with_profiles ps d).bytes
 IsBytes-profiles [] d all p = p

@@ -18,7 +18,8 @@ with_profiles (profile ∷ profiles) d = with_profiles profiles (with_profile pr
 -- the byte order, the type id, the count of the profiles and each of them
 abbrev pub ior_draft : Ior → Draft
 ior_draft ior =
-    with_profiles ior.profiles (with_field (ulong (length ior.profiles)) (with_field (text ior.type_id) (with_field (octet 0) (empty_draft false 0))))
+    with_profiles ior.profiles
+    (with_field (ulong (length ior.profiles)) (with_field (text ior.type_id) (with_field (octet 0) (empty_draft false 0))))
 
 -- the encapsulation of a reference
 abbrev pub encapsulation : Ior → List ℕ

@@ -24,7 +24,8 @@ pub(crate) fn read_encapsulation(alloc: Global, bytes: &[u8]) -> Result<Ior, Ior
 
 /// The field at `at` can't be read, unless it was memory that lacked.
 fn fault_at(at: u64, fault: CdrFault) -> IorFault
-    ensures { ((fault ≡ CdrFault.WantMemory) × (result ≡ IorFault.WantMemory)) ⊎ ((fault ≢ CdrFault.WantMemory) × (result ≡ IorFault.Malformed at)) }
+    ensures { ((fault ≡ CdrFault.WantMemory) × (result ≡ IorFault.WantMemory))
+        ⊎ ((fault ≢ CdrFault.WantMemory) × (result ≡ IorFault.Malformed at)) }
 {
     match fault {
         CdrFault::WantMemory => IorFault::WantMemory,

@@ -21,7 +21,8 @@ behind_page_by pages page (Some rest) = ap Some (simp append_assoc)
 pub behind_page : (pages : List (List ℕ)) (page : List ℕ) (w : List ℕ) (ws : List (List ℕ)) (whole : Option (List (List ℕ)))
     → behind_pages pages (pages_of (w ∷ ws)) ≡ whole → prefixed_of (codes "x") w ≡ Some page
     → behind_pages (pages ++ page ∷ []) (pages_of ws) ≡ whole
-behind_page pages page w ws whole so_far is = behind_page_by pages page (pages_of ws) ∙ ap (λ p. behind_pages pages (p >>= λ q. pages_of ws >>= λ more. Some (q ∷ more))) (sym is) ∙ so_far
+behind_page pages page w ws whole so_far is = behind_page_by pages page (pages_of ws)
+    ∙ ap (λ p. behind_pages pages (p >>= λ q. pages_of ws >>= λ more. Some (q ∷ more))) (sym is) ∙ so_far
 
 pub page_texts : (pages : List (List ℕ)) (page : List ℕ) (w : List ℕ) (ws whole : List (List ℕ))
     → texts (map page_token pages) ++ w ∷ ws ≡ whole → w ≡ spell (page_token page)

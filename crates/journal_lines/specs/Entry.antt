@@ -43,7 +43,8 @@ body_tokens (Incarnated worker answer) = n32 worker ∷ outcome.incarnation_toke
 body_tokens (Run worker) = n32 worker ∷ []
 body_tokens (Done worker) = n32 worker ∷ []
 body_tokens (TakeOut worker activation etherealize) = n32 worker ∷ n32 activation ∷ keyword (removal_word (removal_for etherealize)) ∷ []
-body_tokens (Etherealized worker cleanup remaining) = n32 worker ∷ keyword (flag_word (flag_for cleanup)) ∷ keyword (flag_word (flag_for remaining)) ∷ []
+body_tokens (Etherealized worker cleanup remaining) =
+    n32 worker ∷ keyword (flag_word (flag_for cleanup)) ∷ keyword (flag_word (flag_for remaining)) ∷ []
 body_tokens (Abandon worker) = n32 worker ∷ []
 
 -- the words of an entry's line

@@ -25,7 +25,8 @@ kind_word kind.Etherealized = codes "etherealized"
 kind_word kind.Abandon = codes "abandon"
 
 abbrev pub kinds : List Kind
-kinds = kind.Entered ∷ kind.Arrive ∷ kind.Filled ∷ kind.Left ∷ kind.Collect ∷ kind.Admit ∷ kind.Tried ∷ kind.Incarnated ∷ kind.Run ∷ kind.Done ∷ kind.TakeOut ∷ kind.Etherealized ∷ kind.Abandon ∷ []
+kinds = kind.Entered ∷ kind.Arrive ∷ kind.Filled ∷ kind.Left ∷ kind.Collect ∷ kind.Admit ∷ kind.Tried ∷ kind.Incarnated ∷ kind.Run ∷
+    kind.Done ∷ kind.TakeOut ∷ kind.Etherealized ∷ kind.Abandon ∷ []
 
 unfoldable pub removal_word : Removal → List ℕ
 removal_word removal.Etherealize = codes "etherealize"

@@ -89,15 +89,20 @@ little_back false = refl
 
 -- what a request's text leaves out
 request_same : (head : Head) (target : Option (List ℕ)) (operation : List ℕ) (body : Body) → head.locate ≡ false → body.little ≡ head.little
-    → ◌≡◌ {A = Option Call} (Some (Request (record { id = head.id; minor = head.minor; little = head.little; flags = head.flags; locate = false }) target operation (record { bytes = body.bytes; little = head.little; base = body.base })))
+    → ◌≡◌ {A = Option Call}
+    (Some (Request (record { id = head.id; minor = head.minor; little = head.little; flags = head.flags; locate = false }) target operation
+    (record { bytes = body.bytes; little = head.little; base = body.base })))
     (Some (Request head target operation body))
 request_same head target operation body request same =
-    ap (λ (l : Bool). Some (Request (record { id = head.id; minor = head.minor; little = head.little; flags = head.flags; locate = l }) target operation (record { bytes = body.bytes; little = head.little; base = body.base }))) (sym request)
+    ap (λ (l : Bool). Some
+    (Request (record { id = head.id; minor = head.minor; little = head.little; flags = head.flags; locate = l }) target operation
+    (record { bytes = body.bytes; little = head.little; base = body.base }))) (sym request)
     ∙ ap (λ (l : Bool). Some (Request head target operation (record { bytes = body.bytes; little = l; base = body.base }))) (sym same)
 
 -- what a locate's text leaves out
 locate_same : (head : Head) (target : Option (List ℕ)) → head.locate ≡ true → head.flags ≡ 0
-    → ◌≡◌ {A = Option Call} (Some (Locate (record { id = head.id; minor = head.minor; little = head.little; flags = 0; locate = true }) target)) (Some (Locate head target))
+    → ◌≡◌ {A = Option Call} (Some (Locate (record { id = head.id; minor = head.minor; little = head.little; flags = 0; locate = true }) target))
+    (Some (Locate head target))
 locate_same head target locate none =
     ap (λ (l : Bool). Some (Locate (record { id = head.id; minor = head.minor; little = head.little; flags = 0; locate = l }) target)) (sym locate)
     ∙ ap (λ (n : ℕ). Some (Locate (record { id = head.id; minor = head.minor; little = head.little; flags = n; locate = head.locate }) target)) (sym none)
@@ -105,7 +110,17 @@ locate_same head target locate none =
 pub call_back : (c : Call) → AllFit (call_tokens c) → calls.IsTold c → call_of (texts (call_tokens c)) ≡ Some c
 unfolding call_word
 call_back (Request head target operation body) h told =
-    rw (back32 head.id h.1.0.0, back8 head.minor h.1.1.0.0, order_back head.little, back8 head.flags h.1.1.1.1.0.0, target_back target h.1.1.1.1.1.0, prefixed_back (codes "h:") operation h.1.1.1.1.1.1.0.1, back64 body.base h.1.1.1.1.1.1.1.0.0, prefixed_back (codes "h:") body.bytes h.1.1.1.1.1.1.1.1.0.1, little_back head.little)
+    rw (
+      back32 head.id h.1.0.0,
+      back8 head.minor h.1.1.0.0,
+      order_back head.little,
+      back8 head.flags h.1.1.1.1.0.0,
+      target_back target h.1.1.1.1.1.0,
+      prefixed_back (codes "h:") operation h.1.1.1.1.1.1.0.1,
+      back64 body.base h.1.1.1.1.1.1.1.0.0,
+      prefixed_back (codes "h:") body.bytes h.1.1.1.1.1.1.1.1.0.1,
+      little_back head.little,
+    )
     (request_same head target operation body told.0 told.1)
 call_back (Locate head target) h told =
     rw (back32 head.id h.1.0.0, back8 head.minor h.1.1.0.0, order_back head.little, target_back target h.1.1.1.1.0, little_back head.little)

@@ -27,9 +27,11 @@ target_token (Some key) = octets (codes "h:") key
 abbrev pub call_tokens : Call → List Token
 call_tokens (Request head target operation body) =
     keyword (call_word call.Request) ∷ number (2 ^ 32) head.id ∷ number 256 head.minor ∷ keyword (order_word (order_for head.little))
-    ∷ number 256 head.flags ∷ target_token target ∷ octets (codes "h:") operation ∷ number (2 ^ 64) body.base ∷ octets (codes "h:") body.bytes ∷ []
+    ∷ number 256 head.flags ∷ target_token target ∷ octets (codes "h:") operation ∷ number (2 ^ 64) body.base ∷ octets
+    (codes "h:") body.bytes ∷ []
 call_tokens (Locate head target) =
-    keyword (call_word call.Locate) ∷ number (2 ^ 32) head.id ∷ number 256 head.minor ∷ keyword (order_word (order_for head.little)) ∷ target_token target ∷ []
+    keyword (call_word call.Locate) ∷ number (2 ^ 32) head.id ∷ number 256 head.minor ∷ keyword
+    (order_word (order_for head.little)) ∷ target_token target ∷ []
 call_tokens (Line line command) = keyword (call_word call.Line) ∷ number (2 ^ 64) line ∷ command_tokens command
 
 -- a call whose text tells all of it

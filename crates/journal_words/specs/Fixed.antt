@@ -55,7 +55,9 @@ ruling_word ruling.Answer = codes "answer"
 ruling_word ruling.Wait = codes "wait"
 
 abbrev pub rulings : List Ruling
-rulings = ruling.Serve ∷ ruling.Preset ∷ ruling.Locator ∷ ruling.Incarnate ∷ ruling.Try ∷ ruling.Refuse ∷ ruling.Forward ∷ ruling.Addressing ∷ ruling.Here ∷ ruling.Unknown ∷ ruling.Answer ∷ ruling.Wait ∷ []
+rulings =
+    ruling.Serve ∷ ruling.Preset ∷ ruling.Locator ∷ ruling.Incarnate ∷ ruling.Try ∷ ruling.Refuse ∷ ruling.Forward ∷ ruling.Addressing ∷
+    ruling.Here ∷ ruling.Unknown ∷ ruling.Answer ∷ ruling.Wait ∷ []
 
 unfoldable pub trial_word : Trial → List ℕ
 trial_word trial.Yes = codes "yes"
@@ -99,7 +101,9 @@ abbrev pub raised : ExcName → Raised
 raised name = record { name = name }
 
 abbrev pub exceptions : List Raised
-exceptions = raised exception.ObjectNotExist ∷ raised exception.Transient ∷ raised exception.ObjAdapter ∷ raised exception.BadOperation ∷ raised exception.Marshal ∷ raised exception.Unknown ∷ []
+exceptions =
+    raised exception.ObjectNotExist ∷ raised exception.Transient ∷ raised exception.ObjAdapter ∷ raised exception.BadOperation ∷ raised
+    exception.Marshal ∷ raised exception.Unknown ∷ []
 
 -- the word that has to stand at a place
 abbrev pub expected : Mark → List ℕ → Option (Unit {0})

@@ -120,7 +120,9 @@ fn arguments(
     words: &[&[u8]],
 ) -> Result<(Option<Bytes>, Bytes, Body), WordFault>
     ensures value { WordGives result (arguments_of little (map (λ w. w.now) words.now)) }
-    ensures text { IfOk result (λ x. map (λ w. w.now) words.now ≡ texts (target_token x.0 ∷ Token.octets (codes "h:") x.1 ∷ Token.number (2 ^ 64) x.2.base ∷ Token.octets (codes "h:") x.2.bytes ∷ [])) }
+    ensures text { IfOk result
+        (λ x. map (λ w. w.now) words.now ≡ texts
+        (target_token x.0 ∷ Token.octets (codes "h:") x.1 ∷ Token.number (2 ^ 64) x.2.base ∷ Token.octets (codes "h:") x.2.bytes ∷ [])) }
 {
     let [key, name, base, bytes] = words else {
         return Err(WordFault::OutOfForm);
@@ -212,7 +214,9 @@ pub fn put_call(out: &mut Vec<u8>, call: &Call) -> Result<(), WantMemory>
 
 // The id, the minor version and the byte order.
 fn put_head(out: &mut Vec<u8>, head: Head) -> Result<(), WantMemory>
-    ensures { OnOk result (out.new.items ≡ out.old.items ++ tails (Token.number (2 ^ 32) head.id ∷ Token.number 256 head.minor ∷ Token.keyword (order_word (order_for head.little)) ∷ [])) }
+    ensures { OnOk result
+        (out.new.items ≡ out.old.items ++ tails
+        (Token.number (2 ^ 32) head.id ∷ Token.number 256 head.minor ∷ Token.keyword (order_word (order_for head.little)) ∷ [])) }
 {
     put_number(out, u64::from(head.id))?;
     put_number(out, u64::from(head.minor))?;
@@ -221,7 +225,9 @@ fn put_head(out: &mut Vec<u8>, head: Head) -> Result<(), WantMemory>
 
 // The operation, and where its arguments begin and what they are.
 fn put_arguments(out: &mut Vec<u8>, operation: &Bytes, body: &Body) -> Result<(), WantMemory>
-    ensures { OnOk result (out.new.items ≡ out.old.items ++ tails (Token.octets (codes "h:") operation.now ∷ Token.number (2 ^ 64) body.now.base ∷ Token.octets (codes "h:") body.now.bytes ∷ [])) }
+    ensures { OnOk result
+        (out.new.items ≡ out.old.items ++ tails
+        (Token.octets (codes "h:") operation.now ∷ Token.number (2 ^ 64) body.now.base ∷ Token.octets (codes "h:") body.now.bytes ∷ [])) }
 {
     put_octets(out, b"h:", operation.as_slice())?;
     put_number(out, body.base)?;

@@ -25,13 +25,16 @@ seen-cond : (b : Bool) (x y : Option (Vec ℕ Global)) → seen (cond b x y) ≡
 seen-cond true x y = refl
 seen-cond false x y = refl
 
-pub content_of-entries : (name : List ℕ) (entries : List (String Global × Vec ℕ Global)) → content_of (files_of entries) name ≡ seen (lookup (λ k. is_eq (slice_cmp nat_cmp name (string_bytes k))) entries)
+pub content_of-entries : (name : List ℕ) (entries : List (String Global × Vec ℕ Global))
+    → content_of (files_of entries) name ≡ seen (lookup (λ k. is_eq (slice_cmp nat_cmp name (string_bytes k))) entries)
 content_of-entries name [] = refl
 content_of-entries name (e ∷ es) =
     rw (content_of-entries name es, is_eq-slice_cmp name (string_bytes e.0)) (sym (seen-cond (bytes_eq name (string_bytes e.0)) (Some e.1) _))
 
 -- an insert changes the content of its name alone
-pub content_of-insert : (name : List ℕ) (old new : BTreeMap (String Global) (Vec ℕ Global)) (content : Vec ℕ Global) → UpdatesBy string_cmp (λ k. slice_cmp nat_cmp name (string_bytes k)) old new (Some content) → (other : List ℕ) → content_of (files_of new.entries) other ≡ cond (bytes_eq name other) (Some content.items) (content_of (files_of old.entries) other)
+pub content_of-insert : (name : List ℕ) (old new : BTreeMap (String Global) (Vec ℕ Global)) (content : Vec ℕ Global)
+    → UpdatesBy string_cmp (λ k. slice_cmp nat_cmp name (string_bytes k)) old new (Some content) → (other : List ℕ)
+    → content_of (files_of new.entries) other ≡ cond (bytes_eq name other) (Some content.items) (content_of (files_of old.entries) other)
 content_of-insert name old new content updates other =
     content_of-entries other new.entries
     ∙ (ap seen (btree_map_updates_text name old new (Some content) updates other)
@@ -39,12 +42,16 @@ content_of-insert name old new content updates other =
     ∙ ap (λ (before : Option (List ℕ)). cond (bytes_eq name other) (Some content.items) before) (sym (content_of-entries other old.entries))))
 
 -- the name holds what was put
-pub content_of-insert_same : (name : List ℕ) (old new : BTreeMap (String Global) (Vec ℕ Global)) (content : Vec ℕ Global) → UpdatesBy string_cmp (λ k. slice_cmp nat_cmp name (string_bytes k)) old new (Some content) → (other items : List ℕ) → name ≡ other → content.items ≡ items → content_of (files_of new.entries) other ≡ Some items
+pub content_of-insert_same : (name : List ℕ) (old new : BTreeMap (String Global) (Vec ℕ Global)) (content : Vec ℕ Global)
+    → UpdatesBy string_cmp (λ k. slice_cmp nat_cmp name (string_bytes k)) old new (Some content) → (other items : List ℕ) → name ≡ other → content.items ≡ items
+    → content_of (files_of new.entries) other ≡ Some items
 content_of-insert_same name old new content updates other items same is =
     content_of-insert name old new content updates other
     ∙ (cond-true _ _ _ ((bytes_eq-Decides name other).1 same) ∙ ap (λ (bytes : List ℕ). Some bytes) is)
 
 -- another name holds what it held
-pub content_of-insert_other : (name : List ℕ) (old new : BTreeMap (String Global) (Vec ℕ Global)) (content : Vec ℕ Global) → UpdatesBy string_cmp (λ k. slice_cmp nat_cmp name (string_bytes k)) old new (Some content) → (other : List ℕ) → (name ≡ other → ⊥) → content_of (files_of new.entries) other ≡ content_of (files_of old.entries) other
+pub content_of-insert_other : (name : List ℕ) (old new : BTreeMap (String Global) (Vec ℕ Global)) (content : Vec ℕ Global)
+    → UpdatesBy string_cmp (λ k. slice_cmp nat_cmp name (string_bytes k)) old new (Some content) → (other : List ℕ) → (name ≡ other → ⊥)
+    → content_of (files_of new.entries) other ≡ content_of (files_of old.entries) other
 content_of-insert_other name old new content updates other differs =
     content_of-insert name old new content updates other ∙ cond-false _ _ _ (false_from_ne_true _ (λ h. differs ((bytes_eq-Decides name other).0 h)))

@@ -42,27 +42,33 @@ entries_rising [] rising = no_items _ (sym (finite.len-entries finite.empty) ∙
 entries_rising (e ∷ es) rising =
     finite.entries-insert place_total (finite.from_entries es) e.0 e.1 ∙ ap (put place_cmp e.0 e.1) (entries_rising es rising.1) ∙ put_front e.0 e.1 es rising.0
 
-below_placed : (path q : List (List ℕ)) (oid : List ℕ) (slots : List (List ℕ × Option State)) (more : List (Place × Option State)) → path_cmp path q ≡ Less → IsBelowHead (path, oid) more → IsBelowHead (path, oid) (placed q slots more)
+below_placed : (path q : List (List ℕ)) (oid : List ℕ) (slots : List (List ℕ × Option State)) (more : List (Place × Option State)) → path_cmp path q ≡ Less
+    → IsBelowHead (path, oid) more → IsBelowHead (path, oid) (placed q slots more)
 below_placed path q oid [] more less rest = rest
 below_placed path q oid (s ∷ slots) more less rest = ap (λ r. ordering_then r (oid_cmp oid s.0)) less
 
-below_flat : (path : List (List ℕ)) (oid : List ℕ) (shelves : Shelves) → AllByRecursion (λ q. path_cmp path q ≡ Less) (keys_of shelves) → IsBelowHead (path, oid) (flat shelves)
+below_flat : (path : List (List ℕ)) (oid : List ℕ) (shelves : Shelves) → AllByRecursion (λ q. path_cmp path q ≡ Less) (keys_of shelves)
+    → IsBelowHead (path, oid) (flat shelves)
 below_flat path oid [] all = tt
 below_flat path oid (s ∷ shelves) all = below_placed path s.0 oid s.1.entries (flat shelves) all.0 (below_flat path oid shelves all.1)
 
-below_next : (path : List (List ℕ)) (oid : List ℕ) (slots : List (List ℕ × Option State)) (more : List (Place × Option State)) → AllByRecursion (λ j. oid_cmp oid j ≡ Less) (keys_of slots) → IsBelowHead (path, oid) more → IsBelowHead (path, oid) (placed path slots more)
+below_next : (path : List (List ℕ)) (oid : List ℕ) (slots : List (List ℕ × Option State)) (more : List (Place × Option State))
+    → AllByRecursion (λ j. oid_cmp oid j ≡ Less) (keys_of slots) → IsBelowHead (path, oid) more → IsBelowHead (path, oid) (placed path slots more)
 below_next path oid [] more all rest = rest
 below_next path oid (s ∷ slots) more all rest = ap (λ r. ordering_then r (oid_cmp oid s.0)) (tied_itself path_total path) ∙ all.0
 
-rising_placed : (path : List (List ℕ)) (slots : List (List ℕ × Option State)) (more : List (Place × Option State)) → IsStrictlySortedBy oid_cmp (keys_of slots) → ((oid : List ℕ) → IsBelowHead (path, oid) more) → IsRising more → IsRising (placed path slots more)
+rising_placed : (path : List (List ℕ)) (slots : List (List ℕ × Option State)) (more : List (Place × Option State)) → IsStrictlySortedBy oid_cmp (keys_of slots)
+    → ((oid : List ℕ) → IsBelowHead (path, oid) more) → IsRising more → IsRising (placed path slots more)
 unfolding IsStrictlySortedBy
 rising_placed path [] more order below rising = rising
-rising_placed path (s ∷ slots) more order below rising = (below_next path s.0 slots more order.0 (below s.0), rising_placed path slots more order.1 below rising)
+rising_placed path (s ∷ slots) more order below rising =
+    (below_next path s.0 slots more order.0 (below s.0), rising_placed path slots more order.1 below rising)
 
 rising_flat : (shelves : Shelves) → IsStrictlySortedBy path_cmp (keys_of shelves) → AllByRecursion (λ s. IsInOrder s.1) shelves → IsRising (flat shelves)
 unfolding IsStrictlySortedBy
 rising_flat [] paths ids = tt
-rising_flat (s ∷ shelves) paths ids = rising_placed s.0 s.1.entries (flat shelves) ids.0 (λ oid. below_flat s.0 oid shelves paths.0) (rising_flat shelves paths.1 ids.1)
+rising_flat (s ∷ shelves) paths ids =
+    rising_placed s.0 s.1.entries (flat shelves) ids.0 (λ oid. below_flat s.0 oid shelves paths.0) (rising_flat shelves paths.1 ids.1)
 
 -- the rows of the shelves are the states of their map
 pub rows_of_shelves : (slots : Slots) (shelves : Shelves) → slots_of shelves ≡ slots → IsShelved shelves → filter_map with_place (flat shelves) ≡ states slots

@@ -9,10 +9,12 @@ use Rattle.poa_base.specs.Store.{Place, Slots, place_cmp, filled, stored, IsRese
 use Rattle.poa_base.proofs.Shelves.{place_total, same_place}
 
 -- a reserved place has what it had, and so has each other place
-pub stored-with_room : (slots : Slots) (path : List (List ℕ)) (oid : List ℕ) (q : List (List ℕ)) (j : List ℕ) → stored (with_room slots path oid) q j ≡ stored slots q j
+pub stored-with_room : (slots : Slots) (path : List (List ℕ)) (oid : List ℕ) (q : List (List ℕ)) (j : List ℕ)
+    → stored (with_room slots path oid) q j ≡ stored slots q j
 stored-with_room slots path oid q j =
     ap filled (finite.get-insert place_total slots (path, oid) (stored slots path oid) (q, j)) ∙
-    elim (place_cmp (q, j) (path, oid)) as (λ r. place_cmp (q, j) (path, oid) ≡ r → filled (cond (is_eq r) (Some (stored slots path oid)) (finite.get slots (q, j))) ≡ stored slots q j) [
+    elim (place_cmp (q, j) (path, oid)) as (λ r. place_cmp (q, j) (path, oid) ≡ r
+    → filled (cond (is_eq r) (Some (stored slots path oid)) (finite.get slots (q, j))) ≡ stored slots q j) [
       | Less ↦ λ e. refl
       | Equal ↦ λ e. ap (λ (place : Place). stored slots place.0 place.1) (sym (same_place (q, j) (path, oid) e))
       | Greater ↦ λ e. refl
@@ -23,7 +25,8 @@ pub stored-with_state : (slots : Slots) (path : List (List ℕ)) (oid : List ℕ
     stored (with_state slots path oid state) q j ≡ cond (is_eq (place_cmp (q, j) (path, oid))) (Some state) (stored slots q j)
 stored-with_state slots path oid state q j =
     ap filled (finite.get-insert place_total slots (path, oid) (Some state) (q, j)) ∙
-    elim (is_eq (place_cmp (q, j) (path, oid))) as (λ b. filled (cond b (Some (Some state)) (finite.get slots (q, j))) ≡ cond b (Some state) (stored slots q j)) [ true ↦ refl | false ↦ refl ]
+    elim (is_eq (place_cmp (q, j) (path, oid))) as (λ b. filled (cond b (Some (Some state)) (finite.get slots (q, j))) ≡ cond b (Some state) (stored slots q j))
+    [ true ↦ refl | false ↦ refl ]
 
 -- a reserved place is reserved
 pub reserved-with_room : (slots : Slots) (path : List (List ℕ)) (oid : List ℕ) → IsReserved (with_room slots path oid) path oid
@@ -32,7 +35,8 @@ reserved-with_room slots path oid =
     ∙ ap (λ r. cond (is_eq r) (Some (stored slots path oid)) (finite.get slots (path, oid))) (tied_itself place_total (path, oid)))) refl
 
 -- what is reserved stays reserved
-pub reserved-insert : (slots : Slots) (path : List (List ℕ)) (oid : List ℕ) (slot : Option State) (q : List (List ℕ)) (j : List ℕ) → IsReserved slots q j → IsReserved (finite.insert slots (path, oid) slot) q j
+pub reserved-insert : (slots : Slots) (path : List (List ℕ)) (oid : List ℕ) (slot : Option State) (q : List (List ℕ)) (j : List ℕ) → IsReserved slots q j
+    → IsReserved (finite.insert slots (path, oid) slot) q j
 reserved-insert slots path oid slot q j there =
     subst IsSome (sym (finite.get-insert place_total slots (path, oid) slot (q, j)))
     (elim (is_eq (place_cmp (q, j) (path, oid))) as (λ b. IsSome (cond b (Some slot) (finite.get slots (q, j)))) [ true ↦ refl | false ↦ there ])

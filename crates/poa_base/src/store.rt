@@ -107,7 +107,8 @@ impl Store {
 fn reserve_on(shelf: &mut BTreeMap<Oid, Option<State>>, oid: &Oid) -> Result<(), AllocError>
     requires { IsInOrder shelf.old }
     ensures ok { OnOk result ((other : List ℕ) → tree.get oid_cmp shelf.new other
-        ≡ (if is_at (oid_cmp oid.now) other then Some (filled (tree.get oid_cmp shelf.old oid.now)) else tree.get oid_cmp shelf.old other)) }
+        ≡ (if is_at (oid_cmp oid.now) other then Some
+        (filled (tree.get oid_cmp shelf.old oid.now)) else tree.get oid_cmp shelf.old other)) }
     ensures err { OnErr result (shelf.new.entries ≡ shelf.old.entries) }
     ensures ordered { IsInOrder shelf.new }
 {
@@ -133,7 +134,8 @@ fn add_rows<'a>(
     path: &'a Path,
     shelf: &'a BTreeMap<Oid, Option<State>>,
 ) -> Result<(), AllocError>
-    ensures { OnOk result (map row_seen rows.new.items ≡ map row_seen rows.old.items ++ filter_map with_place (placed path.now shelf.now.entries [])) }
+    ensures { OnOk result
+        (map row_seen rows.new.items ≡ map row_seen rows.old.items ++ filter_map with_place (placed path.now shelf.now.entries [])) }
 {
     for (oid, slot) in shelf {
         if let Some(state) = slot {

@@ -22,7 +22,8 @@ use Rattle.poa_choose.specs.declared.facts.WalkFact.{WalkFact}
 use Rattle.poa_choose.specs.declared.facts.WalkFact.TheVariants.{Dying, Missing, Found}
 use Rattle.poa_choose.specs.Table.{refuse, serve, is_transient, forward_or, state_rule, manager_rows, default_rows, unmade, processing_rows, map_rows, awaits_turn, awaits_main, thread_rows, trial_rows, walk_rows, key_rows, first_row}
 
-module _ (P : Choice → Type 0) (held : (cause : Option Cause) → P (Held cause)) (forward : (endpoint : Endpoint) → P (Go (Forward endpoint))) (try : P (Go Try)) (addressing : P (Go Addressing)) (here : P (Go Here)) (unknown : P (Go Unknown)) (f : Facts) (locate : f.locate ≡ true) where
+module _ (P : Choice → Type 0) (held : (cause : Option Cause) → P (Held cause)) (forward : (endpoint : Endpoint) → P (Go (Forward endpoint))) (try : P (Go Try))
+    (addressing : P (Go Addressing)) (here : P (Go Here)) (unknown : P (Go Unknown)) (f : Facts) (locate : f.locate ≡ true) where
   impossible : {A : Type 0} → f.locate ≡ false → A
   impossible e = absurd (true≢false (sym locate ∙ e))
 

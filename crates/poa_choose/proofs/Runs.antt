@@ -29,7 +29,9 @@ module _ (f : Facts) where
   inactive = cond_both (is_transient f.key) _ _ (λ c. runs c ≡ false) (λ _. refused _ _) (λ _. forwarded f.entry _ (refused _ _))
 
   no_trial : runs (trial_rows f) ≡ false
-  no_trial = cond_both f.trial _ _ (λ c. runs c ≡ false) (λ _. refl) (λ _. cond_both f.tries _ _ (λ c. runs c ≡ false) (λ _. refl) (λ _. forwarded f.entry _ (refused _ _)))
+  no_trial =
+      cond_both f.trial _ _ (λ c. runs c ≡ false) (λ _. refl)
+      (λ _. cond_both f.tries _ _ (λ c. runs c ≡ false) (λ _. refl) (λ _. forwarded f.entry _ (refused _ _)))
 
   no_state : (state : ManagerState) (on : Choice) → runs on ≡ false → runs (state_rule f state on) ≡ false
   no_state Holding on h = refl
@@ -52,7 +54,8 @@ module _ (f : Facts) where
   by_walk : (worker : ℕ) (walk : WalkFact) → runs (walk_rows f worker walk) ≡ true → (f.state ≡ Active) × (walk ≡ Found)
   by_walk worker Dying h = impossible (refused Transiently ADAPTER_DYING) h
   by_walk worker Missing h = impossible no_missing h
-  by_walk worker Found h = (cond_both f.differs _ _ (λ c. runs c ≡ true → f.state ≡ Active) (λ _. impossible (refused ObjectNotExist OTHER_LIFESPAN)) (λ _. active_by f.state (thread_rows f worker)) h, refl)
+  by_walk worker Found h =
+      (cond_both f.differs _ _ (λ c. runs c ≡ true → f.state ≡ Active) (λ _. impossible (refused ObjectNotExist OTHER_LIFESPAN)) (λ _. active_by f.state (thread_rows f worker)) h, refl)
 
   by_key : (worker : ℕ) (key : KeyFact) → runs (key_rows f worker key) ≡ true → (f.state ≡ Active) × (f.walk ≡ Found)
   by_key worker Absent h = impossible refl h
@@ -62,4 +65,6 @@ module _ (f : Facts) where
 
   pub runs_where_active : (worker : ℕ) → runs (first_row f worker) ≡ true → (f.state ≡ Active) × (f.walk ≡ Found)
   unfolding first_row
-  runs_where_active worker = cond_both f.crowded _ _ (λ c. runs c ≡ true → (f.state ≡ Active) × (f.walk ≡ Found)) (λ _. impossible (refused Transiently DISCARDED)) (λ _. by_key worker f.key)
+  runs_where_active worker =
+      cond_both f.crowded _ _ (λ c. runs c ≡ true → (f.state ≡ Active) × (f.walk ≡ Found)) (λ _. impossible (refused Transiently DISCARDED))
+      (λ _. by_key worker f.key)

@@ -43,7 +43,8 @@ begun_phase (Complete s) is = absurd (let e : false ≡ true = is in cc)
 begun_phase Void is = absurd (let e : false ≡ true = is in cc)
 
 module _ (c : Config) where
-  finished_by : (a b : Activation) → b.path ≡ a.path → (a.out ≡ true → b.out ≡ true) → (a.quiet ≡ true → b.quiet ≡ true) → (a.etherealized ≡ true → b.etherealized ≡ true) → is_finished c a ≡ true → is_finished c b ≡ true
+  finished_by : (a b : Activation) → b.path ≡ a.path → (a.out ≡ true → b.out ≡ true) → (a.quiet ≡ true → b.quiet ≡ true)
+      → (a.etherealized ≡ true → b.etherealized ≡ true) → is_finished c a ≡ true → is_finished c b ≡ true
   finished_by a b path out quiet told finished =
       let parts = and_parts a.out (a.quiet || (not (has_activator c a.path) || a.etherealized)) finished in
       ap₂ (λ x y. x && y) (out parts.0)
@@ -57,7 +58,20 @@ module _ (c : Config) where
       ])
 
   pub later_self : (a : Activation) → IsLater c a a
-  later_self a = record { number = refl; adapter = refl; path = refl; oid = refl; served = λ s is. is; void = λ is. is; ending = λ is. is; quiet = λ is. is; out = λ is. is; etherealized = λ is. is; finished = λ is. is }
+  later_self a =
+      record {
+        number = refl;
+        adapter = refl;
+        path = refl;
+        oid = refl;
+        served = λ s is. is;
+        void = λ is. is;
+        ending = λ is. is;
+        quiet = λ is. is;
+        out = λ is. is;
+        etherealized = λ is. is;
+        finished = λ is. is;
+      }
 
   pub later_through : (a b d : Activation) → IsLater c a b → IsLater c b d → IsLater c a d
   later_through a b d one two = record {
@@ -77,16 +91,67 @@ module _ (c : Config) where
   pub later_ended : (etherealize : Bool) (a : Activation) → IsLater c a (ended_by_destroy etherealize a)
   later_ended etherealize a =
       let quiet_kept : a.quiet ≡ true → (a.quiet || (not a.ending && not etherealize)) ≡ true = or_first a.quiet (not a.ending && not etherealize) in
-      record { number = refl; adapter = refl; path = refl; oid = refl; served = λ s is. is; void = λ is. is; ending = λ _. refl; quiet = quiet_kept; out = λ is. is; etherealized = λ is. is; finished = finished_by a (ended_by_destroy etherealize a) refl (λ is. is) quiet_kept (λ is. is) }
+      record {
+        number = refl;
+        adapter = refl;
+        path = refl;
+        oid = refl;
+        served = λ s is. is;
+        void = λ is. is;
+        ending = λ _. refl;
+        quiet = quiet_kept;
+        out = λ is. is;
+        etherealized = λ is. is;
+        finished = finished_by a (ended_by_destroy etherealize a) refl (λ is. is) quiet_kept (λ is. is);
+      }
 
   pub later_ending : (a : Activation) → IsLater c a (record a { ending = true })
-  later_ending a = record { number = refl; adapter = refl; path = refl; oid = refl; served = λ s is. is; void = λ is. is; ending = λ _. refl; quiet = λ is. is; out = λ is. is; etherealized = λ is. is; finished = λ is. is }
+  later_ending a =
+      record {
+        number = refl;
+        adapter = refl;
+        path = refl;
+        oid = refl;
+        served = λ s is. is;
+        void = λ is. is;
+        ending = λ _. refl;
+        quiet = λ is. is;
+        out = λ is. is;
+        etherealized = λ is. is;
+        finished = λ is. is;
+      }
 
   pub later_out : (a : Activation) (other : Bool) → IsLater c a (record a { out = true; remaining = other })
-  later_out a other = record { number = refl; adapter = refl; path = refl; oid = refl; served = λ s is. is; void = λ is. is; ending = λ is. is; quiet = λ is. is; out = λ _. refl; etherealized = λ is. is; finished = finished_by a (record a { out = true; remaining = other }) refl (λ _. refl) (λ is. is) (λ is. is) }
+  later_out a other =
+      record {
+        number = refl;
+        adapter = refl;
+        path = refl;
+        oid = refl;
+        served = λ s is. is;
+        void = λ is. is;
+        ending = λ is. is;
+        quiet = λ is. is;
+        out = λ _. refl;
+        etherealized = λ is. is;
+        finished = finished_by a (record a { out = true; remaining = other }) refl (λ _. refl) (λ is. is) (λ is. is);
+      }
 
   pub later_told : (a : Activation) → IsLater c a (record a { etherealized = true })
-  later_told a = record { number = refl; adapter = refl; path = refl; oid = refl; served = λ s is. is; void = λ is. is; ending = λ is. is; quiet = λ is. is; out = λ is. is; etherealized = λ _. refl; finished = finished_by a (record a { etherealized = true }) refl (λ is. is) (λ is. is) (λ _. refl) }
+  later_told a =
+      record {
+        number = refl;
+        adapter = refl;
+        path = refl;
+        oid = refl;
+        served = λ s is. is;
+        void = λ is. is;
+        ending = λ is. is;
+        quiet = λ is. is;
+        out = λ is. is;
+        etherealized = λ _. refl;
+        finished = finished_by a (record a { etherealized = true }) refl (λ is. is) (λ is. is) (λ _. refl);
+      }
 
   pub later_come : (phase : Phase) (a : Activation) → IsLater c a (come_to phase a)
   later_come phase a =
@@ -109,7 +174,8 @@ module _ (c : Config) where
   pub later_let_out : (s : Standing) (a : Activation) → IsLater c a (let_out c s a)
   later_let_out s a = cond_both (is_left c s a) (record a { out = true }) a (IsLater c a) (λ _. later_out a a.remaining) (λ _. later_self a)
 
-  later_where : (test : Activation → Bool) (f : Activation → Activation) → ((a : Activation) → IsLater c a (f a)) → (a : Activation) → IsLater c a (if test a then f a else a)
+  later_where : (test : Activation → Bool) (f : Activation → Activation) → ((a : Activation) → IsLater c a (f a)) → (a : Activation)
+      → IsLater c a (if test a then f a else a)
   later_where test f kept a = cond_both (test a) (f a) a (IsLater c a) (λ _. kept a) (λ _. later_self a)
 
   -- the words by which an entry changes what stands
@@ -127,16 +193,29 @@ module _ (c : Config) where
       (a, in_front a (record { number = length s.activations; adapter = k; path = p; oid = oid; phase = phase; ending = false; quiet = false; out = false; cleanup = false; remaining = false; etherealized = false }) s.activations is, later_self a)
 
   destroyed_later : (s : Standing) (p : List (List ℕ)) (etherealize : Bool) → AllLater c s (with_destroyed p etherealize s)
-  destroyed_later s p etherealize = mapped_later s (λ a. if stands_under s.nodes p a.adapter then ended_by_destroy etherealize a else a) (later_where (λ a. stands_under s.nodes p a.adapter) (ended_by_destroy etherealize) (later_ended etherealize))
+  destroyed_later s p etherealize =
+      mapped_later s (λ a. if stands_under s.nodes p a.adapter then ended_by_destroy etherealize a else a)
+      (later_where (λ a. stands_under s.nodes p a.adapter) (ended_by_destroy etherealize) (later_ended etherealize))
 
   made_later : (run : ℕ) (s : Standing) (p : List (List ℕ)) (servant : List ℕ) → AllLater c s (with_made_activation c run p servant s)
   made_later run s p servant = begun_later (with_made s) (number_at s p) p (made_id run (suc s.made)) (servant_of c servant)
 
   referred_later : (run : ℕ) (s : Standing) (p : List (List ℕ)) (servant : List ℕ) → AllLater c s (with_reference c run p servant s)
   referred_later run s p servant =
-      elim (live_at s p) as (λ o. AllLater c s (elim o [ Some n ↦ (elim (servant_number c servant) [ Some k ↦ (if is_implicit c s n k then with_made_activation c run p servant s else s) | None ↦ s ]) | None ↦ s ])) [
-        | Some n ↦ elim (servant_number c servant) as (λ o. AllLater c s (elim o [ Some k ↦ (if is_implicit c s n k then with_made_activation c run p servant s else s) | None ↦ s ])) [
-          | Some k ↦ cond_both (is_implicit c s n k) (with_made_activation c run p servant s) s (λ t. AllLater c s t) (λ _. made_later run s p servant) (λ _. all_later s)
+      elim (live_at s p) as (λ o. AllLater c s
+      (elim o [
+        | Some n ↦
+            (elim (servant_number c servant) [ Some k ↦ (if is_implicit c s n k then with_made_activation c run p servant s else s) | None ↦ s ])
+        | None ↦ s
+      ])) [
+        | Some n ↦ elim (servant_number c servant) as (λ o. AllLater c s (elim o [
+          | Some k ↦
+              (if is_implicit c s n k then with_made_activation c run p servant s else s)
+          | None ↦ s
+        ])) [
+          | Some k ↦
+              cond_both (is_implicit c s n k) (with_made_activation c run p servant s) s (λ t. AllLater c s t) (λ _. made_later run s p servant)
+              (λ _. all_later s)
           | None ↦ all_later s
         ]
         | None ↦ all_later s
@@ -144,7 +223,9 @@ module _ (c : Config) where
 
   off_later : (s : Standing) (name : List ℕ) → AllLater c s (elim (manager_number c name) [ Some m ↦ with_manager_off c m s | None ↦ s ])
   off_later s name = elim (manager_number c name) as (λ o. AllLater c s (elim o [ Some m ↦ with_manager_off c m s | None ↦ s ])) [
-    | Some m ↦ mapped_later s (λ a. if has_activator c a.path && (manager_at c a.path == m) then ended_by_destroy true a else a) (later_where (λ a. has_activator c a.path && (manager_at c a.path == m)) (ended_by_destroy true) (later_ended true))
+    | Some m ↦
+        mapped_later s (λ a. if has_activator c a.path && (manager_at c a.path == m) then ended_by_destroy true a else a)
+        (later_where (λ a. has_activator c a.path && (manager_at c a.path == m)) (ended_by_destroy true) (later_ended true))
     | None ↦ all_later s
   ]
 
@@ -159,7 +240,9 @@ module _ (c : Config) where
   command_later run s (Some (Destroy p etherealize wait)) = destroyed_later s p etherealize
   command_later run s (Some (Activate p servant)) = made_later run s p servant
   command_later run s (Some (ActivateId p oid servant)) = begun_later s (number_at s p) p oid (servant_of c servant)
-  command_later run s (Some (Deactivate p oid)) = mapped_later s (λ a. if is_of (number_at s p) oid a then record a { ending = true } else a) (later_where (is_of (number_at s p) oid) (λ a. record a { ending = true }) later_ending)
+  command_later run s (Some (Deactivate p oid)) =
+      mapped_later s (λ a. if is_of (number_at s p) oid a then record a { ending = true } else a)
+      (later_where (is_of (number_at s p) oid) (λ a. record a { ending = true }) later_ending)
   command_later run s (Some (Reference p servant)) = referred_later run s p servant
   command_later run s (Some (PresetLine p servant)) = all_later s
   command_later run s (Some (ForwardLine p endpoint)) = all_later s
@@ -191,12 +274,15 @@ module _ (c : Config) where
   child_later s (Some p) = all_later s
 
   tried_later : (s : Standing) (r : Option ℕ) (answer : Attempt) → AllLater c s (with_tried r answer s)
-  tried_later s r (Yes n) = all_through s (without_flight r s) (with_child (child_tried s.flights r) (without_flight r s)) (fewer_later s r) (child_later (without_flight r s) (child_tried s.flights r))
+  tried_later s r (Yes n) =
+      all_through s (without_flight r s) (with_child (child_tried s.flights r) (without_flight r s)) (fewer_later s r)
+      (child_later (without_flight r s) (child_tried s.flights r))
   tried_later s r No = fewer_later s r
   tried_later s r Raised = fewer_later s r
   tried_later s r ParentDying = fewer_later s r
 
-  numbered_later : (s : Standing) (n : ℕ) (f : Activation → Activation) → ((a : Activation) → IsLater c a (f a)) → AllLater c s (with_activations (at_number n f) s)
+  numbered_later : (s : Standing) (n : ℕ) (f : Activation → Activation) → ((a : Activation) → IsLater c a (f a))
+      → AllLater c s (with_activations (at_number n f) s)
   numbered_later s n f kept = mapped_later s (at_number n f) (later_where (λ a. a.number == n) f kept)
 
   incarnated_later : (s : Standing) (begun : Stage) (answer : Incarnation) → AllLater c s (with_incarnated c begun answer s)
@@ -226,13 +312,16 @@ module _ (c : Config) where
   changed_later run past s (Left conn) = all_later s
   changed_later run past s (Collect conn a) = all_later s
   changed_later run past s (Admit w r verdict) =
-      all_through s (with_admitted r (key_in (call_of past r)) verdict s) (with_command c run (command_done past (Admit w r verdict)) (with_admitted r (key_in (call_of past r)) verdict s))
-      (admitted_later s r (key_in (call_of past r)) verdict) (command_later run (with_admitted r (key_in (call_of past r)) verdict s) (command_done past (Admit w r verdict)))
+      all_through s (with_admitted r (key_in (call_of past r)) verdict s)
+      (with_command c run (command_done past (Admit w r verdict)) (with_admitted r (key_in (call_of past r)) verdict s))
+      (admitted_later s r (key_in (call_of past r)) verdict)
+      (command_later run (with_admitted r (key_in (call_of past r)) verdict s) (command_done past (Admit w r verdict)))
   changed_later run past s (Tried w answer) = tried_later s (arrival_in (stage past w)) answer
   changed_later run past s (Incarnated w answer) = incarnated_later s (stage past w) answer
   changed_later run past s (Run w) = all_later s
   changed_later run past s (Done w) = fewer_later s (arrival_in (stage past w))
-  changed_later run past s (TakeOut w n etherealize) = numbered_later s n (λ a. record a { out = true; remaining = is_elsewhere s.activations a }) (λ a. later_out a (is_elsewhere s.activations a))
+  changed_later run past s (TakeOut w n etherealize) =
+      numbered_later s n (λ a. record a { out = true; remaining = is_elsewhere s.activations a }) (λ a. later_out a (is_elsewhere s.activations a))
   changed_later run past s (Etherealized w cleanup remaining) = etherealized_later s (stage past w)
   changed_later run past s (Abandon w) = all_later s
 
@@ -240,9 +329,12 @@ module _ (c : Config) where
   settled_later s = mapped_later s (let_out c s) (later_let_out s)
 
   pub step_later : (run : ℕ) (past : List Entry) (e : Entry) → AllLater c (standing c run past) (standing c run (e ∷ past))
-  step_later run past e = all_through (standing c run past) (changed c run past e (standing c run past)) (settled c (changed c run past e (standing c run past)))
+  step_later run past e =
+      all_through (standing c run past) (changed c run past e (standing c run past)) (settled c (changed c run past e (standing c run past)))
       (changed_later run past (standing c run past) e) (settled_later (changed c run past e (standing c run past)))
 
   pub history_later : (run : ℕ) (past more : List Entry) → AllLater c (standing c run past) (standing c run (more ++ past))
   history_later run past [] = all_later (standing c run past)
-  history_later run past (e ∷ more) = all_through (standing c run past) (standing c run (more ++ past)) (standing c run (e ∷ (more ++ past))) (history_later run past more) (step_later run (more ++ past) e)
+  history_later run past (e ∷ more) =
+      all_through (standing c run past) (standing c run (more ++ past)) (standing c run (e ∷ (more ++ past))) (history_later run past more)
+      (step_later run (more ++ past) e)

@@ -55,26 +55,33 @@ module _ (c : Config) (run : ℕ) (s : Standing) (sound : IsSound c run s) where
 
   -- what the admission of a request needs
   pub record MayAdmit (r : ℕ) (key : Key) (verdict : Verdict) : Type 0 where
-    pub tries : verdict ≡ Try → MayFly c run s sound (record { arrival = r; adapter = adapter_met (walk s.nodes key.path); activation = None; child = Some (child_met (walk s.nodes key.path) key.path) })
+    pub tries : verdict ≡ Try → MayFly c run s sound
+        (record { arrival = r; adapter = adapter_met (walk s.nodes key.path); activation = None; child = Some (child_met (walk s.nodes key.path) key.path) })
     pub begins : (n : ℕ) → verdict ≡ Incarnate n → MayLive c run s sound (adapter_met (walk s.nodes key.path)) key.path key.oid
 
   -- the new flight changes no activation and no adapter
-  live_beside : (k : ℕ) (p : List (List ℕ)) (oid : List ℕ) (f : Flight) (t : IsSound c run (with_flight f s)) → MayLive c run s sound k p oid → MayLive c run (with_flight f s) t k p oid
+  live_beside : (k : ℕ) (p : List (List ℕ)) (oid : List ℕ) (f : Flight) (t : IsSound c run (with_flight f s)) → MayLive c run s sound k p oid
+      → MayLive c run (with_flight f s) t k p oid
   live_beside k p oid f t may = record { node = may.node; stands = may.stands; numbered = may.numbered; placed = may.placed; over = may.over; made = may.made }
 
-  with_incarnation_sound : (r : ℕ) (key : Key) → MayLive c run s sound (adapter_met (walk s.nodes key.path)) key.path key.oid → IsSound c run (with_incarnation r key s)
+  with_incarnation_sound : (r : ℕ) (key : Key) → MayLive c run s sound (adapter_met (walk s.nodes key.path)) key.path key.oid
+      → IsSound c run (with_incarnation r key s)
   with_incarnation_sound r key may =
       let flying = with_request_sound r key (Some (length s.activations)) in
       with_activation_sound c run (with_request r key (Some (length s.activations)) s) flying (adapter_met (walk s.nodes key.path)) key.path key.oid Begun
-      (live_beside (adapter_met (walk s.nodes key.path)) key.path key.oid (record { arrival = r; adapter = adapter_met (walk s.nodes key.path); activation = Some (length s.activations); child = None }) flying may)
+      (live_beside (adapter_met (walk s.nodes key.path)) key.path key.oid
+      (record { arrival = r; adapter = adapter_met (walk s.nodes key.path); activation = Some (length s.activations); child = None }) flying may)
 
-  pub with_admitted_sound : (r : ℕ) (key : Option Key) (verdict : Verdict) → ((k : Key) → key ≡ Some k → MayAdmit r k verdict) → IsSound c run (with_admitted r key verdict s)
+  pub with_admitted_sound : (r : ℕ) (key : Option Key) (verdict : Verdict) → ((k : Key) → key ≡ Some k → MayAdmit r k verdict)
+      → IsSound c run (with_admitted r key verdict s)
   with_admitted_sound r (Some key) (Serve n) may = with_request_sound r key (Some n)
   with_admitted_sound r (Some key) (Preset servant) may = with_request_sound r key None
   with_admitted_sound r (Some key) (Locator servant) may = with_request_sound r key None
   with_admitted_sound r (Some key) (Incarnate n) may = with_incarnation_sound r key ((may key refl).begins n refl)
   with_admitted_sound r (Some key) Try may =
-      with_flight_sound c run s sound (record { arrival = r; adapter = adapter_met (walk s.nodes key.path); activation = None; child = Some (child_met (walk s.nodes key.path) key.path) }) ((may key refl).tries refl)
+      with_flight_sound c run s sound
+      (record { arrival = r; adapter = adapter_met (walk s.nodes key.path); activation = None; child = Some (child_met (walk s.nodes key.path) key.path) })
+      ((may key refl).tries refl)
   with_admitted_sound r (Some key) (Refuse e) may = sound
   with_admitted_sound r (Some key) (Forward e) may = sound
   with_admitted_sound r (Some key) Addressing may = sound
@@ -85,7 +92,9 @@ module _ (c : Config) (run : ℕ) (s : Standing) (sound : IsSound c run s) where
   with_admitted_sound r None verdict may = sound
 
   -- what changes only flags that no end depends on
-  changes_flags : (f : Activation → Activation) → ((a : Activation) → ((f a).number ≡ a.number) × ((f a).adapter ≡ a.adapter) × ((f a).path ≡ a.path) × ((f a).oid ≡ a.oid) × (is_over c a ≡ true → is_over c (f a) ≡ true)) → Follows c run s sound f
+  changes_flags : (f : Activation → Activation)
+      → ((a : Activation) → ((f a).number ≡ a.number) × ((f a).adapter ≡ a.adapter) × ((f a).path ≡ a.path) × ((f a).oid ≡ a.oid)
+      × (is_over c a ≡ true → is_over c (f a) ≡ true)) → Follows c run s sound f
   changes_flags f kept = record {
     number_kept = λ a. (kept a).0;
     adapter_kept = λ a. (kept a).1;
@@ -103,7 +112,9 @@ module _ (c : Config) (run : ℕ) (s : Standing) (sound : IsSound c run s) where
             or_second (is_void a) (is_finished c (ended_by_destroy etherealize a))
             (ap₂ (λ x y. x && y) parts.0
             (elim (or_cases a.quiet (not (has_activator c a.path) || a.etherealized) parts.1) [
-              | inl quiet ↦ or_first (a.quiet || (not a.ending && not etherealize)) (not (has_activator c a.path) || a.etherealized) (or_first a.quiet (not a.ending && not etherealize) quiet)
+              | inl quiet ↦
+                  or_first (a.quiet || (not a.ending && not etherealize)) (not (has_activator c a.path) || a.etherealized)
+                  (or_first a.quiet (not a.ending && not etherealize) quiet)
               | inr told ↦ or_second (a.quiet || (not a.ending && not etherealize)) (not (has_activator c a.path) || a.etherealized) told
             ])))
       ]
@@ -112,24 +123,28 @@ module _ (c : Config) (run : ℕ) (s : Standing) (sound : IsSound c run s) where
   ends_where : (etherealize : Bool) (test : Activation → Bool) → Follows c run s sound (λ a. if test a then ended_by_destroy etherealize a else a)
   ends_where etherealize test =
       changes_flags (λ a. if test a then ended_by_destroy etherealize a else a)
-      (λ a. cond_both (test a) (ended_by_destroy etherealize a) a (λ b. (b.number ≡ a.number) × (b.adapter ≡ a.adapter) × (b.path ≡ a.path) × (b.oid ≡ a.oid) × (is_over c a ≡ true → is_over c b ≡ true))
+      (λ a. cond_both (test a) (ended_by_destroy etherealize a) a
+      (λ b. (b.number ≡ a.number) × (b.adapter ≡ a.adapter) × (b.path ≡ a.path) × (b.oid ≡ a.oid) × (is_over c a ≡ true → is_over c b ≡ true))
       (λ _. (refl, refl, refl, refl, over_ended etherealize a))
       (λ _. (refl, refl, refl, refl, λ over. over)))
 
   with_destroyed_sound : (p : List (List ℕ)) (etherealize : Bool) → IsSound c run (with_destroyed p etherealize s)
   with_destroyed_sound p etherealize =
       with_dying_sound c run (with_activations (λ a. if stands_under s.nodes p a.adapter then ended_by_destroy etherealize a else a) s)
-      (with_activations_sound c run s sound (λ a. if stands_under s.nodes p a.adapter then ended_by_destroy etherealize a else a) (ends_where etherealize (λ a. stands_under s.nodes p a.adapter))) p
+      (with_activations_sound c run s sound (λ a. if stands_under s.nodes p a.adapter then ended_by_destroy etherealize a else a)
+      (ends_where etherealize (λ a. stands_under s.nodes p a.adapter))) p
 
   with_manager_off_sound : (m : ℕ) → IsSound c run (with_manager_off c m s)
   with_manager_off_sound m =
-      with_activations_sound c run s sound (λ a. if has_activator c a.path && (manager_at c a.path == m) then ended_by_destroy true a else a) (ends_where true (λ a. has_activator c a.path && (manager_at c a.path == m)))
+      with_activations_sound c run s sound (λ a. if has_activator c a.path && (manager_at c a.path == m) then ended_by_destroy true a else a)
+      (ends_where true (λ a. has_activator c a.path && (manager_at c a.path == m)))
 
   with_deactivated_sound : (k : ℕ) (oid : List ℕ) → IsSound c run (with_deactivated k oid s)
   with_deactivated_sound k oid =
       with_activations_sound c run s sound (λ a. if is_of k oid a then record a { ending = true } else a)
       (changes_flags (λ a. if is_of k oid a then record a { ending = true } else a)
-      (λ a. cond_both (is_of k oid a) (record a { ending = true }) a (λ b. (b.number ≡ a.number) × (b.adapter ≡ a.adapter) × (b.path ≡ a.path) × (b.oid ≡ a.oid) × (is_over c a ≡ true → is_over c b ≡ true))
+      (λ a. cond_both (is_of k oid a) (record a { ending = true }) a
+      (λ b. (b.number ≡ a.number) × (b.adapter ≡ a.adapter) × (b.path ≡ a.path) × (b.oid ≡ a.oid) × (is_over c a ≡ true → is_over c b ≡ true))
       (λ _. (refl, refl, refl, refl, λ over. over))
       (λ _. (refl, refl, refl, refl, λ over. over))))
 
@@ -143,12 +158,22 @@ good_later c run made p oid good =
 
     bad_before : is_bad_id c run (suc made) p oid ≡ true → is_bad_id c run made p oid ≡ true
     bad_before bad =
-        let parts = and_parts (makes_ids (policies_at c p)) (not (length oid == 8) || ((from_be_bytes w32 (take 4 oid) == run) && ((from_be_bytes w32 (drop 4 oid) == 0) || nat_lt (suc made) (from_be_bytes w32 (drop 4 oid))))) bad in
+        let parts =
+        and_parts (makes_ids (policies_at c p))
+        (not (length oid == 8) ||
+        ((from_be_bytes w32 (take 4 oid) == run) && ((from_be_bytes w32 (drop 4 oid) == 0) || nat_lt (suc made) (from_be_bytes w32 (drop 4 oid))))) bad in
         ap₂ (λ a b. a && b) parts.0
-        (elim (or_cases (not (length oid == 8)) ((from_be_bytes w32 (take 4 oid) == run) && ((from_be_bytes w32 (drop 4 oid) == 0) || nat_lt (suc made) (from_be_bytes w32 (drop 4 oid)))) parts.1) [
-          | inl short ↦ or_first (not (length oid == 8)) ((from_be_bytes w32 (take 4 oid) == run) && ((from_be_bytes w32 (drop 4 oid) == 0) || nat_lt made (from_be_bytes w32 (drop 4 oid)))) short
-          | inr both ↦ (let inner = and_parts (from_be_bytes w32 (take 4 oid) == run) ((from_be_bytes w32 (drop 4 oid) == 0) || nat_lt (suc made) (from_be_bytes w32 (drop 4 oid))) both in
-              or_second (not (length oid == 8)) ((from_be_bytes w32 (take 4 oid) == run) && ((from_be_bytes w32 (drop 4 oid) == 0) || nat_lt made (from_be_bytes w32 (drop 4 oid))))
+        (elim (or_cases (not (length oid == 8))
+        ((from_be_bytes w32 (take 4 oid) == run) && ((from_be_bytes w32 (drop 4 oid) == 0) || nat_lt (suc made) (from_be_bytes w32 (drop 4 oid)))) parts.1) [
+          | inl short ↦
+              or_first (not (length oid == 8))
+              ((from_be_bytes w32 (take 4 oid) == run) && ((from_be_bytes w32 (drop 4 oid) == 0) || nat_lt made (from_be_bytes w32 (drop 4 oid)))) short
+          | inr both ↦
+              (let inner =
+              and_parts (from_be_bytes w32 (take 4 oid) == run)
+              ((from_be_bytes w32 (drop 4 oid) == 0) || nat_lt (suc made) (from_be_bytes w32 (drop 4 oid))) both in
+              or_second (not (length oid == 8))
+              ((from_be_bytes w32 (take 4 oid) == run) && ((from_be_bytes w32 (drop 4 oid) == 0) || nat_lt made (from_be_bytes w32 (drop 4 oid))))
               (ap₂ (λ a b. a && b) inner.0
               (elim (or_cases (from_be_bytes w32 (drop 4 oid) == 0) (nat_lt (suc made) (from_be_bytes w32 (drop 4 oid))) inner.1) [
                 | inl zero_th ↦ or_first (from_be_bytes w32 (drop 4 oid) == 0) (nat_lt made (from_be_bytes w32 (drop 4 oid))) zero_th
@@ -176,24 +201,35 @@ module _ (c : Config) (run : ℕ) (s : Standing) (sound : IsSound c run s) where
   MayDo (Activate p servant) = MayLive c run (with_made s) (with_made_sound c run s sound) (number_at s p) p (made_id run (suc s.made))
   MayDo (ActivateId p oid servant) = MayLive c run s sound (number_at s p) p oid
   MayDo (Reference p servant) =
-      (n : Node) (k : ℕ) → live_at s p ≡ Some n → servant_number c servant ≡ Some k → is_implicit c s n k ≡ true → MayLive c run (with_made s) (with_made_sound c run s sound) (number_at s p) p (made_id run (suc s.made))
+      (n : Node) (k : ℕ) → live_at s p ≡ Some n → servant_number c servant ≡ Some k → is_implicit c s n k ≡ true
+      → MayLive c run (with_made s) (with_made_sound c run s sound) (number_at s p) p (made_id run (suc s.made))
   MayDo command = Unit {0}
 
-  with_made_activation_sound : (p : List (List ℕ)) (servant : List ℕ) → MayLive c run (with_made s) (with_made_sound c run s sound) (number_at s p) p (made_id run (suc s.made)) → IsSound c run (with_made_activation c run p servant s)
-  with_made_activation_sound p servant may = with_activation_sound c run (with_made s) (with_made_sound c run s sound) (number_at s p) p (made_id run (suc s.made)) (servant_of c servant) may
+  with_made_activation_sound : (p : List (List ℕ)) (servant : List ℕ)
+      → MayLive c run (with_made s) (with_made_sound c run s sound) (number_at s p) p (made_id run (suc s.made))
+      → IsSound c run (with_made_activation c run p servant s)
+  with_made_activation_sound p servant may =
+      with_activation_sound c run (with_made s) (with_made_sound c run s sound) (number_at s p) p (made_id run (suc s.made)) (servant_of c servant) may
 
   with_reference_sound : (p : List (List ℕ)) (servant : List ℕ) → MayDo (Reference p servant) → IsSound c run (with_reference c run p servant s)
   with_reference_sound p servant may =
-      elim (live_at s p) as (λ found. live_at s p ≡ found → IsSound c run (elim found [ Some n ↦ (elim (servant_number c servant) [ Some k ↦ (if is_implicit c s n k then with_made_activation c run p servant s else s) | None ↦ s ]) | None ↦ s ])) [
+      elim (live_at s p) as (λ found. live_at s p ≡ found
+      → IsSound c run
+      (elim found
+      [ Some n ↦ (elim (servant_number c servant) [ Some k ↦ (if is_implicit c s n k then with_made_activation c run p servant s else s) | None ↦ s ]) | None ↦ s ])) [
         | Some n ↦ λ lives. elim (servant_number c servant) as (λ number. servant_number c servant ≡ number → IsSound c run (elim number [ Some k ↦ (if is_implicit c s n k then with_made_activation c run p servant s else s) | None ↦ s ])) [
-          | Some k ↦ λ known. cond_both (is_implicit c s n k) (with_made_activation c run p servant s) s (λ t. IsSound c run t) (λ implicit. with_made_activation_sound p servant (may n k lives known implicit)) (λ _. sound)
+          | Some k ↦
+              λ known. cond_both (is_implicit c s n k) (with_made_activation c run p servant s) s (λ t. IsSound c run t)
+              (λ implicit. with_made_activation_sound p servant (may n k lives known implicit)) (λ _. sound)
           | None ↦ λ _. sound
         ] refl
         | None ↦ λ _. sound
       ] refl
 
   manager_off_sound : (name : List ℕ) → IsSound c run (elim (manager_number c name) [ Some m ↦ with_manager_off c m s | None ↦ s ])
-  manager_off_sound name = elim (manager_number c name) as (λ number. IsSound c run (elim number [ Some m ↦ with_manager_off c m s | None ↦ s ])) [ Some m ↦ with_manager_off_sound c run s sound m | None ↦ sound ]
+  manager_off_sound name =
+      elim (manager_number c name) as (λ number. IsSound c run (elim number [ Some m ↦ with_manager_off c m s | None ↦ s ]))
+      [ Some m ↦ with_manager_off_sound c run s sound m | None ↦ sound ]
 
   pub with_command_sound : (command : Option Command) → ((d : Command) → command ≡ Some d → MayDo d) → IsSound c run (with_command c run command s)
   with_command_sound None may = sound
@@ -205,7 +241,8 @@ module _ (c : Config) (run : ℕ) (s : Standing) (sound : IsSound c run s) where
   with_command_sound (Some (Create p)) may = (let needs = may (Create p) refl in with_node_sound c run s sound p needs.0 needs.1)
   with_command_sound (Some (Destroy p etherealize wait)) may = with_destroyed_sound c run s sound p etherealize
   with_command_sound (Some (Activate p servant)) may = with_made_activation_sound p servant (may (Activate p servant) refl)
-  with_command_sound (Some (ActivateId p oid servant)) may = with_activation_sound c run s sound (number_at s p) p oid (servant_of c servant) (may (ActivateId p oid servant) refl)
+  with_command_sound (Some (ActivateId p oid servant)) may =
+      with_activation_sound c run s sound (number_at s p) p oid (servant_of c servant) (may (ActivateId p oid servant) refl)
   with_command_sound (Some (Deactivate p oid)) may = with_deactivated_sound c run s sound (number_at s p) oid
   with_command_sound (Some (Reference p servant)) may = with_reference_sound p servant (may (Reference p servant) refl)
   with_command_sound (Some (PresetLine p servant)) may = sound
@@ -243,7 +280,8 @@ module _ (c : Config) (run : ℕ) (s : Standing) (sound : IsSound c run s) where
       ))
       (λ _. same_kept a)
     where
-      begun_void : (ph : Phase) → (elim ph [ Begun ↦ true | Complete t ↦ false | Void ↦ false ]) ≡ true → (elim ph [ Void ↦ true | Begun ↦ false | Complete t ↦ false ]) ≡ true → ⊥
+      begun_void : (ph : Phase) → (elim ph [ Begun ↦ true | Complete t ↦ false | Void ↦ false ]) ≡ true
+          → (elim ph [ Void ↦ true | Begun ↦ false | Complete t ↦ false ]) ≡ true → ⊥
       begun_void Begun one two = (let e : false ≡ true = two in cc)
       begun_void (Complete t) one two = (let e : false ≡ true = one in cc)
       begun_void Void one two = (let e : false ≡ true = one in cc)
@@ -256,7 +294,9 @@ module _ (c : Config) (run : ℕ) (s : Standing) (sound : IsSound c run s) where
     refl,
     λ over. elim (or_cases (is_void a) (is_finished c a) over) [
       | inl void ↦ or_first (is_void a) (is_finished c (record a { out = true; remaining = other })) void
-      | inr finished ↦ or_second (is_void a) (is_finished c (record a { out = true; remaining = other })) (and_parts a.out (a.quiet || (not (has_activator c a.path) || a.etherealized)) finished).1
+      | inr finished ↦
+          or_second (is_void a) (is_finished c (record a { out = true; remaining = other }))
+          (and_parts a.out (a.quiet || (not (has_activator c a.path) || a.etherealized)) finished).1
     ],
   )
 
@@ -275,7 +315,8 @@ module _ (c : Config) (run : ℕ) (s : Standing) (sound : IsSound c run s) where
   )
 
   with_takeout_sound : (n : ℕ) → IsSound c run (with_takeout n s)
-  with_takeout_sound n = at_number_sound n (λ a. record a { out = true; remaining = is_elsewhere s.activations a }) (λ a. out_kept (is_elsewhere s.activations a) a)
+  with_takeout_sound n =
+      at_number_sound n (λ a. record a { out = true; remaining = is_elsewhere s.activations a }) (λ a. out_kept (is_elsewhere s.activations a) a)
 
   without_flight_sound : (r : Option ℕ) → IsSound c run (without_flight r s)
   without_flight_sound None = sound
@@ -318,9 +359,11 @@ module _ (c : Config) (run : ℕ) (s : Standing) (sound : IsSound c run s) where
   with_tried_sound r ParentDying may = without_flight_sound c run s sound r
   with_tried_sound r (Yes n) may = made (child_tried s.flights r) refl
     where
-      untried : (q : ℕ) (p : List (List ℕ)) → option_and_then (λ f. f.child) (find (λ f. f.arrival == q) s.flights) ≡ Some p → IsUntried c run (without_flight (Some q) s) (without_flight_sound c run s sound (Some q)) p
+      untried : (q : ℕ) (p : List (List ℕ)) → option_and_then (λ f. f.child) (find (λ f. f.arrival == q) s.flights) ≡ Some p
+          → IsUntried c run (without_flight (Some q) s) (without_flight_sound c run s sound (Some q)) p
       untried q p tries g is same =
-          elim (find (λ f. f.arrival == q) s.flights) as (λ found. find (λ f. f.arrival == q) s.flights ≡ found → option_and_then (λ f. f.child) found ≡ Some p → ⊥) [
+          elim (find (λ f. f.arrival == q) s.flights) as (λ found. find (λ f. f.arrival == q) s.flights ≡ found → option_and_then (λ f. f.child) found ≡ Some p
+          → ⊥) [
             | None ↦ λ _ none. (let e : None ≡ Some p = none in cc)
             | Some f ↦ λ found child.
                 (let was = find_in (λ h. h.arrival == q) f s.flights found in
@@ -337,7 +380,8 @@ module _ (c : Config) (run : ℕ) (s : Standing) (sound : IsSound c run s) where
           still None p may' = may'
           still (Some q) p may' = may'
 
-          untried_of : (q : Option ℕ) (p : List (List ℕ)) → child_tried s.flights q ≡ Some p → IsUntried c run (without_flight q s) (without_flight_sound c run s sound q) p
+          untried_of : (q : Option ℕ) (p : List (List ℕ)) → child_tried s.flights q ≡ Some p
+              → IsUntried c run (without_flight q s) (without_flight_sound c run s sound q) p
           untried_of None p none = absurd (let e : None ≡ Some p = none in cc)
           untried_of (Some q) p tries = untried q p tries
 
@@ -349,7 +393,9 @@ module _ (c : Config) (run : ℕ) (past : List Entry) (s : Standing) (sound : Is
     pub makes : (w n : ℕ) → e ≡ Tried w (Yes n) → MayMake c run s sound (child_tried s.flights (arrival_in (stage past w)))
 
   -- a call is a command or has a key, and not both
-  admit_sound : (w r : ℕ) (verdict : Verdict) (key : Option Key) (command : Option Command) → ((k : Key) → key ≡ Some k → MayAdmit c run s sound r k verdict) → ((d : Command) → command ≡ Some d → MayDo c run s sound d) → (key ≡ None) ⊎ (command ≡ None) → IsSound c run (with_command c run command (with_admitted r key verdict s))
+  admit_sound : (w r : ℕ) (verdict : Verdict) (key : Option Key) (command : Option Command) → ((k : Key) → key ≡ Some k → MayAdmit c run s sound r k verdict)
+      → ((d : Command) → command ≡ Some d → MayDo c run s sound d) → (key ≡ None) ⊎ (command ≡ None)
+      → IsSound c run (with_command c run command (with_admitted r key verdict s))
   admit_sound w r verdict None command may_admit may_do one = with_command_sound c run s sound command may_do
   admit_sound w r verdict (Some key) None may_admit may_do one = with_admitted_sound c run s sound r (Some key) verdict may_admit
   admit_sound w r verdict (Some key) (Some command) may_admit may_do (inl none) = absurd (let e : Some key ≡ None = none in cc)
@@ -368,7 +414,8 @@ module _ (c : Config) (run : ℕ) (past : List Entry) (s : Standing) (sound : Is
   changed_sound (Left conn) may = sound
   changed_sound (Collect conn a) may = sound
   changed_sound (Admit w r verdict) may =
-      admit_sound w r verdict (key_in (call_of past r)) (command_done past (Admit w r verdict)) (λ k. may.admits w r verdict k refl) may.does (one_for verdict (call_of past r))
+      admit_sound w r verdict (key_in (call_of past r)) (command_done past (Admit w r verdict)) (λ k. may.admits w r verdict k refl) may.does
+      (one_for verdict (call_of past r))
   changed_sound (Tried w answer) may = with_tried_sound c run s sound (arrival_in (stage past w)) answer (λ n is. may.makes w n (ap (λ a. Tried w a) is))
   changed_sound (Incarnated w answer) may = with_incarnated_sound c run s sound (stage past w) answer
   changed_sound (Run w) may = sound

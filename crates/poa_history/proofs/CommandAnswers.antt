@@ -71,15 +71,19 @@ if_test : (b : Bool) (x y : Option Verdict) → BeginsNone x → BeginsNone y �
 if_test b x y one other = cond_both b x y BeginsNone (λ _. one) (λ _. other)
 
 where_live : (s : Standing) (p : List (List ℕ)) (then_ : Node → Option Verdict) → ((n : Node) → BeginsNone (then_ n)) → BeginsNone (with_live s p then_)
-where_live s p then_ each = elim (live_at s p) as (λ o. BeginsNone (elim o [ Some n ↦ then_ n | None ↦ refusal AdapterNonExistent ])) [ Some n ↦ each n | None ↦ refuses AdapterNonExistent ]
+where_live s p then_ each =
+    elim (live_at s p) as (λ o. BeginsNone (elim o [ Some n ↦ then_ n | None ↦ refusal AdapterNonExistent ]))
+    [ Some n ↦ each n | None ↦ refuses AdapterNonExistent ]
 
 where_servant : (c : Config) (name : List ℕ) (then_ : ℕ → Option Verdict) → ((k : ℕ) → BeginsNone (then_ k)) → BeginsNone (with_servant c name then_)
-where_servant c name then_ each = elim (servant_number c name) as (λ o. BeginsNone (elim o [ Some k ↦ then_ k | None ↦ refusal NoServant ])) [ Some k ↦ each k | None ↦ refuses NoServant ]
+where_servant c name then_ each =
+    elim (servant_number c name) as (λ o. BeginsNone (elim o [ Some k ↦ then_ k | None ↦ refusal NoServant ])) [ Some k ↦ each k | None ↦ refuses NoServant ]
 
 module _ (c : Config) (run : ℕ) (past : List Entry) (s : Standing) where
   manager_none : (name : List ℕ) (order : Order) → BeginsNone (manager_row c past name order)
   manager_none name order =
-      elim (manager_number c name) as (λ o. BeginsNone (elim o [ None ↦ refusal NoManager | Some m ↦ (if is_inactive (manager_state c past m) then refusal AdapterInactive else good_or_wait (waits order)) ])) [
+      elim (manager_number c name) as (λ o. BeginsNone
+      (elim o [ None ↦ refusal NoManager | Some m ↦ (if is_inactive (manager_state c past m) then refusal AdapterInactive else good_or_wait (waits order)) ])) [
         | None ↦ refuses NoManager
         | Some m ↦ if_test (is_inactive (manager_state c past m)) _ _ (refuses AdapterInactive) (does_or_waits (waits order))
       ]
@@ -89,7 +93,12 @@ module _ (c : Config) (run : ℕ) (past : List Entry) (s : Standing) where
   create_none (x ∷ p) =
       where_live s (parent_path (x ∷ p)) _ (λ n. if_test (is_none (template c (x ∷ p))) _ _ (refuses NoTemplate)
       (if_test (is_tried s.flights (x ∷ p)) _ _ holds
-      (elim (node_at s.nodes (x ∷ p)) as (λ o. BeginsNone (elim o [ Some old ↦ (if old.dying then None else refusal AdapterAlreadyExists) | None ↦ (if nat_le 65536 s.count then refusal (TooMany s.count) else good) ])) [
+      (elim (node_at s.nodes (x ∷ p)) as (λ o. BeginsNone
+      (elim o [
+        | Some old ↦ (if old.dying then None else refusal AdapterAlreadyExists)
+        | None ↦
+            (if nat_le 65536 s.count then refusal (TooMany s.count) else good)
+      ])) [
         | Some old ↦ if_test old.dying _ _ holds (refuses AdapterAlreadyExists)
         | None ↦ if_test (nat_le 65536 s.count) _ _ (refuses (TooMany s.count)) does
       ])))
@@ -97,7 +106,8 @@ module _ (c : Config) (run : ℕ) (past : List Entry) (s : Standing) where
   activate_none : (p : List (List ℕ)) (servant : List ℕ) → BeginsNone (activate_row c run s p servant)
   activate_none p servant =
       where_live s p _ (λ n. if_test (not (retains (policies_at c p) && makes_ids (policies_at c p))) _ _ (refuses WrongPolicy)
-      (where_servant c servant _ (λ k. if_test (is_taken c s n k) _ _ (refuses ServantAlreadyActive) (by_verdict (Answer (GoodId (made_id run (suc s.made)))) refl))))
+      (where_servant c servant _
+      (λ k. if_test (is_taken c s n k) _ _ (refuses ServantAlreadyActive) (by_verdict (Answer (GoodId (made_id run (suc s.made)))) refl))))
 
   activate_id_none : (p : List (List ℕ)) (oid servant : List ℕ) → BeginsNone (activate_id_row c run s p oid servant)
   activate_id_none p oid servant =
@@ -115,13 +125,21 @@ module _ (c : Config) (run : ℕ) (past : List Entry) (s : Standing) where
   reference_none : (p : List (List ℕ)) (servant : List ℕ) → BeginsNone (reference_row c run s p servant)
   reference_none p servant =
       where_live s p _ (λ n. where_servant c servant _ (λ k.
-      elim (referred c s n k) as (λ o. BeginsNone (elim o [ Some a ↦ Some (Answer (GoodIor (reference_text c run n.number p a.oid k))) | None ↦ (if is_implicit c s n k then Some (Answer (GoodIor (reference_text c run n.number p (made_id run (suc s.made)) k))) else refusal ServantNotActive) ])) [
+      elim (referred c s n k) as (λ o. BeginsNone
+      (elim o [
+        | Some a ↦ Some (Answer (GoodIor (reference_text c run n.number p a.oid k)))
+        | None ↦
+            (if is_implicit c s n k then Some (Answer (GoodIor (reference_text c run n.number p (made_id run (suc s.made)) k))) else refusal ServantNotActive)
+      ])) [
         | Some a ↦ by_verdict (Answer (GoodIor (reference_text c run n.number p a.oid k))) refl
-        | None ↦ if_test (is_implicit c s n k) _ _ (by_verdict (Answer (GoodIor (reference_text c run n.number p (made_id run (suc s.made)) k))) refl) (refuses ServantNotActive)
+        | None ↦
+            if_test (is_implicit c s n k) _ _ (by_verdict (Answer (GoodIor (reference_text c run n.number p (made_id run (suc s.made)) k))) refl)
+            (refuses ServantNotActive)
       ]))
 
   preset_none : (p : List (List ℕ)) (servant : List ℕ) → BeginsNone (preset_row c s p servant)
-  preset_none p servant = where_live s p _ (λ n. if_test (not (uses_default_servant (policies_at c p))) _ _ (refuses WrongPolicy) (where_servant c servant _ (λ k. does)))
+  preset_none p servant =
+      where_live s p _ (λ n. if_test (not (uses_default_servant (policies_at c p))) _ _ (refuses WrongPolicy) (where_servant c servant _ (λ k. does)))
 
   command_none : (command : Command) → BeginsNone (command_verdict c run past s command)
   unfolding command_verdict
@@ -150,8 +168,10 @@ module _ (f : Facts) (worker : ℕ) (v : Verdict) where
   pub by_choice : (u : Verdict) → is_begin u ≡ false → Go u ≡ Go v → is_begin v ≡ false
   by_choice u none is = (let e : Go u ≡ Go v = is in let same : u ≡ v = cc in ap is_begin (sym same) ∙ none)
 
-  pub refused_none : (choice : Choice) (exception : Verdict) → is_begin exception ≡ false → choice ≡ Go (if f.locate then Unknown else exception) → choice ≡ Go v → is_begin v ≡ false
-  refused_none choice exception none is same = cond_both f.locate Unknown exception (λ u. Go u ≡ Go v → is_begin v ≡ false) (λ _. by_choice Unknown refl) (λ _. by_choice exception none) (sym is ∙ same)
+  pub refused_none : (choice : Choice) (exception : Verdict) → is_begin exception ≡ false → choice ≡ Go (if f.locate then Unknown else exception)
+      → choice ≡ Go v → is_begin v ≡ false
+  refused_none choice exception none is same =
+      cond_both f.locate Unknown exception (λ u. Go u ≡ Go v → is_begin v ≡ false) (λ _. by_choice Unknown refl) (λ _. by_choice exception none) (sym is ∙ same)
 
   by_key : (key : KeyFact) → is_keyed key ≡ false → key_rows f worker key ≡ Go v → is_begin v ≡ false
   by_key Absent none = by_choice Addressing refl
@@ -169,16 +189,22 @@ module _ (c : Config) (run : ℕ) (past : List Entry) (w r : ℕ) (v : Verdict) 
   keyless : (target : Option (List ℕ)) → option_and_then key_of target ≡ None → is_keyed (key_fact run target) ≡ false
   keyless None none = refl
   keyless (Some bytes) none =
-      elim (key_of bytes) as (λ o. key_of bytes ≡ o → o ≡ None → is_keyed (elim o as (λ _. KeyFact) [ None ↦ BadKey | Some key ↦ elim key.stamp as (λ _. KeyFact) [ None ↦ Persistent | Some stamp ↦ (if stamp.run == run then Transient else OtherRun) ] ]) ≡ false)
+      elim (key_of bytes) as (λ o. key_of bytes ≡ o → o ≡ None
+      → is_keyed
+      (elim o as (λ _. KeyFact)
+      [ None ↦ BadKey | Some key ↦ elim key.stamp as (λ _. KeyFact) [ None ↦ Persistent | Some stamp ↦ (if stamp.run == run then Transient else OtherRun) ] ]) ≡
+      false)
       [ None ↦ λ _ _. refl | Some key ↦ λ _ some_. absurd (let e : Some key ≡ None = some_ in cc) ] refl none
 
   unkeyed : (call : Option Call) → call_of past r ≡ call → key_in call ≡ None → verdict_on c run past r w call ≡ Some v → is_begin v ≡ false
   unkeyed None at none told = absurd (let e : None ≡ Some v = told in cc)
   unkeyed (Some (Line number command)) at none told = command_none c run past (standing c run past) command v told
   unkeyed (Some (Request head target operation body)) at none told =
-      unkeyed_none (facts_of c run past r) w v (ap (λ q. is_keyed (key_fact run (target_of q))) at ∙ keyless target none) (chosen_go (first_row (facts_of c run past r) w) v told)
+      unkeyed_none (facts_of c run past r) w v (ap (λ q. is_keyed (key_fact run (target_of q))) at ∙ keyless target none)
+      (chosen_go (first_row (facts_of c run past r) w) v told)
   unkeyed (Some (Locate head target)) at none told =
-      unkeyed_none (facts_of c run past r) w v (ap (λ q. is_keyed (key_fact run (target_of q))) at ∙ keyless target none) (chosen_go (first_row (facts_of c run past r) w) v told)
+      unkeyed_none (facts_of c run past r) w v (ap (λ q. is_keyed (key_fact run (target_of q))) at ∙ keyless target none)
+      (chosen_go (first_row (facts_of c run past r) w) v told)
 
   -- what begins has a key
   pub begin_keyed : is_begin v ≡ true → verdict_on c run past r w (call_of past r) ≡ Some v → (key : Key) × (key_in (call_of past r) ≡ Some key)

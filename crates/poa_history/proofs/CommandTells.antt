@@ -47,17 +47,21 @@ module _ (c : Config) (run : ℕ) (past : List Entry) where
   abbrev s : Standing
   s = standing c run past
 
-  by_line : (w r : ℕ) (v : Verdict) (call : Option Call) (d : Command) → verdict_on c run past r w call ≡ Some v → command_in call ≡ Some d → command_verdict c run past s d ≡ Some v
+  by_line : (w r : ℕ) (v : Verdict) (call : Option Call) (d : Command) → verdict_on c run past r w call ≡ Some v → command_in call ≡ Some d
+      → command_verdict c run past s d ≡ Some v
   by_line w r v None d told is = absurd (let e : None ≡ Some d = is in cc)
   by_line w r v (Some (Request head target operation body)) d told is = absurd (let e : None ≡ Some d = is in cc)
   by_line w r v (Some (Locate head target)) d told is = absurd (let e : None ≡ Some d = is in cc)
-  by_line w r v (Some (Line number command)) d told is = (let e : Some command ≡ Some d = is in let same : command ≡ d = cc in subst (λ x. command_verdict c run past s x ≡ Some v) same told)
+  by_line w r v (Some (Line number command)) d told is =
+      (let e : Some command ≡ Some d = is in let same : command ≡ d = cc in subst (λ x. command_verdict c run past s x ≡ Some v) same told)
 
   -- a command that is done was answered
-  pub done_verdict : (limit : ℕ) (e : Entry) (d : Command) → MayFollow c run limit past e → command_done past e ≡ Some d → (v : Verdict) × (command_verdict c run past s d ≡ Some v) × (is_accepted v ≡ true)
+  pub done_verdict : (limit : ℕ) (e : Entry) (d : Command) → MayFollow c run limit past e → command_done past e ≡ Some d → (v : Verdict)
+      × (command_verdict c run past s d ≡ Some v) × (is_accepted v ≡ true)
   done_verdict limit (Admit w r v) d may done =
       elim (cases_Bool (is_accepted v)) [
-        | inl accepted ↦ (v, by_line w r v (call_of past r) d (admitted_for c run past w r v may) (ap (λ b. if b then command_in (call_of past r) else None) (sym accepted) ∙ done), accepted)
+        | inl accepted ↦
+            (v, by_line w r v (call_of past r) d (admitted_for c run past w r v may) (ap (λ b. if b then command_in (call_of past r) else None) (sym accepted) ∙ done), accepted)
         | inr no_ ↦ absurd (let e : None ≡ Some d = ap (λ b. if b then command_in (call_of past r) else None) (sym no_) ∙ done in cc)
       ]
   done_verdict limit (Entered conn) d may done = absurd (let e : None ≡ Some d = done in cc)
@@ -75,7 +79,9 @@ module _ (c : Config) (run : ℕ) (past : List Entry) where
 
   by_activate : (p : List (List ℕ)) (servant : List ℕ) (v : Verdict) → activate_row c run s p servant ≡ Some v → is_accepted v ≡ true → IsUntaken c s p servant
   by_activate p servant v is accepted =
-      let (n, lives, done) = lived s p (λ n. if not (retains (policies_at c p) && makes_ids (policies_at c p)) then refusal WrongPolicy else with_servant c servant (after n)) v is accepted in
+      let (n, lives, done) =
+      lived s p (λ n. if not (retains (policies_at c p) && makes_ids (policies_at c p)) then refusal WrongPolicy else with_servant c servant (after n)) v is
+      accepted in
       cond_both (not (retains (policies_at c p) && makes_ids (policies_at c p))) _ _ (λ o. o ≡ Some v → IsUntaken c s p servant)
       (λ _ no_. refused WrongPolicy v no_ accepted)
       (λ _ more. (let (k, number, row) = known c servant (after n) v more accepted in
@@ -86,7 +92,8 @@ module _ (c : Config) (run : ℕ) (past : List Entry) where
       after : Node → ℕ → Option Verdict
       after n k = if is_taken c s n k then refusal ServantAlreadyActive else Some (Answer (GoodId (made_id run (suc s.made))))
 
-  by_activate_id : (p : List (List ℕ)) (oid servant : List ℕ) (v : Verdict) → activate_id_row c run s p oid servant ≡ Some v → is_accepted v ≡ true → IsUntaken c s p servant
+  by_activate_id : (p : List (List ℕ)) (oid servant : List ℕ) (v : Verdict) → activate_id_row c run s p oid servant ≡ Some v → is_accepted v ≡ true
+      → IsUntaken c s p servant
   by_activate_id p oid servant v is accepted =
       let (n, lives, done) = lived s p (λ n. if not (retains (policies_at c p)) then refusal WrongPolicy else with_servant c servant (after n)) v is accepted in
       cond_both (not (retains (policies_at c p))) _ _ (λ o. o ≡ Some v → IsUntaken c s p servant)
@@ -110,18 +117,24 @@ module _ (c : Config) (run : ℕ) (past : List Entry) where
           else if is_taken c s n k then refusal ServantAlreadyActive
           else Some (Answer Good)
 
-  pub untaken_activate : (limit : ℕ) (e : Entry) (p : List (List ℕ)) (servant : List ℕ) → MayFollow c run limit past e → command_done past e ≡ Some (Activate p servant) → IsUntaken c s p servant
+  pub untaken_activate : (limit : ℕ) (e : Entry) (p : List (List ℕ)) (servant : List ℕ) → MayFollow c run limit past e
+      → command_done past e ≡ Some (Activate p servant) → IsUntaken c s p servant
   unfolding command_verdict
-  untaken_activate limit e p servant may done = (let (v, row, accepted) = done_verdict limit e (Activate p servant) may done in by_activate p servant v row accepted)
+  untaken_activate limit e p servant may done =
+      (let (v, row, accepted) = done_verdict limit e (Activate p servant) may done in by_activate p servant v row accepted)
 
-  pub untaken_activate_id : (limit : ℕ) (e : Entry) (p : List (List ℕ)) (oid servant : List ℕ) → MayFollow c run limit past e → command_done past e ≡ Some (ActivateId p oid servant) → IsUntaken c s p servant
+  pub untaken_activate_id : (limit : ℕ) (e : Entry) (p : List (List ℕ)) (oid servant : List ℕ) → MayFollow c run limit past e
+      → command_done past e ≡ Some (ActivateId p oid servant) → IsUntaken c s p servant
   unfolding command_verdict
-  untaken_activate_id limit e p oid servant may done = (let (v, row, accepted) = done_verdict limit e (ActivateId p oid servant) may done in by_activate_id p oid servant v row accepted)
+  untaken_activate_id limit e p oid servant may done =
+      (let (v, row, accepted) = done_verdict limit e (ActivateId p oid servant) may done in by_activate_id p oid servant v row accepted)
 
 -- an activation by which a servant is in the map takes it
-pub in_map_by : (s : Standing) (a : Activation) (k : ℕ) (t : Sid) → In a s.activations → a.adapter ≡ k → is_mapped a ≡ true → has_servant t a ≡ true → is_in_map s.activations k t ≡ true
+pub in_map_by : (s : Standing) (a : Activation) (k : ℕ) (t : Sid) → In a s.activations → a.adapter ≡ k → is_mapped a ≡ true → has_servant t a ≡ true
+    → is_in_map s.activations k t ≡ true
 in_map_by s a k t there at mapped has =
-    any_by (λ b. (b.adapter == k) && (is_mapped b && has_servant t b)) a s.activations there (ap₂ (λ x y. x && y) (eq-eqb a.adapter k at) (ap₂ (λ x y. x && y) mapped has))
+    any_by (λ b. (b.adapter == k) && (is_mapped b && has_servant t b)) a s.activations there
+    (ap₂ (λ x y. x && y) (eq-eqb a.adapter k at) (ap₂ (λ x y. x && y) mapped has))
 
 -- where it is referred to implicitly it isn't in the map
 pub untaken_reference : (c : Config) (s : Standing) (n : Node) (k : ℕ) → is_implicit c s n k ≡ true → is_taken c s n k ≡ false
@@ -131,11 +144,15 @@ untaken_reference c s n k implicit =
     let policies = and_parts (retains (policies_at c n.path)) (activates_implicitly (policies_at c n.path)) outer.1 in
     let both = and_parts (is_unique (policies_at c n.path)) (is_in_map s.activations n.number (NamedServant k)) taken in
     let found = any_in (λ a. (a.adapter == n.number) && (is_mapped a && has_servant (NamedServant k) a)) s.activations both.1 in
-    none_here found.0 found.1 found.2 (ap (λ b. is_none (if b then find (λ a. (a.adapter == n.number) && (is_mapped a && has_servant (NamedServant k) a)) s.activations else None)) (sym (ap₂ (λ x y. x && y) policies.0 both.0)) ∙ outer.0))
+    none_here found.0 found.1 found.2
+    (ap (λ b. is_none (if b then find (λ a. (a.adapter == n.number) && (is_mapped a && has_servant (NamedServant k) a)) s.activations else None))
+    (sym (ap₂ (λ x y. x && y) policies.0 both.0)) ∙ outer.0))
   where
-    none_here : (a : Activation) → In a s.activations → ((a.adapter == n.number) && (is_mapped a && has_servant (NamedServant k) a)) ≡ true → is_none (find (λ b. (b.adapter == n.number) && (is_mapped b && has_servant (NamedServant k) b)) s.activations) ≡ true → ⊥
+    none_here : (a : Activation) → In a s.activations → ((a.adapter == n.number) && (is_mapped a && has_servant (NamedServant k) a)) ≡ true
+        → is_none (find (λ b. (b.adapter == n.number) && (is_mapped b && has_servant (NamedServant k) b)) s.activations) ≡ true → ⊥
     none_here a there passes none =
-        elim (find (λ b. (b.adapter == n.number) && (is_mapped b && has_servant (NamedServant k) b)) s.activations) as (λ o. find (λ b. (b.adapter == n.number) && (is_mapped b && has_servant (NamedServant k) b)) s.activations ≡ o → is_none o ≡ true → ⊥) [
+        elim (find (λ b. (b.adapter == n.number) && (is_mapped b && has_servant (NamedServant k) b)) s.activations) as (λ o. find
+        (λ b. (b.adapter == n.number) && (is_mapped b && has_servant (NamedServant k) b)) s.activations ≡ o → is_none o ≡ true → ⊥) [
           | None ↦ λ is _. find_none (λ b. (b.adapter == n.number) && (is_mapped b && has_servant (NamedServant k) b)) a s.activations is there passes
           | Some x ↦ λ _ no_. (let e : false ≡ true = no_ in cc)
         ] refl none

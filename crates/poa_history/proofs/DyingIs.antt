@@ -33,12 +33,15 @@ module _ (c : Config) (run : ℕ) where
   boots_live (a ∷ as') s live =
       boots_live as' (if a.boot && not (is_root a.path) then with_node a.path s else s)
       (cond_both (a.boot && not (is_root a.path)) (with_node a.path s) s (λ t. NoneDying t)
-      (λ _ n there. elim (in_either n (record { number = s.count; path = a.path; dying = false }) s.nodes there) [ inl was ↦ live n was | inr made ↦ ap (λ x. x.dying) made ])
+      (λ _ n there. elim (in_either n (record { number = s.count; path = a.path; dying = false }) s.nodes there)
+      [ inl was ↦ live n was | inr made ↦ ap (λ x. x.dying) made ])
       (λ _. live))
 
   object_nodes : (o : ObjectConf) (s : Standing) → (with_object run o s).nodes ≡ s.nodes
   object_nodes o s =
-      elim o.oid as (λ oid. nodes_in (elim oid [ Some i ↦ with_activation (number_at s o.adapter) o.adapter i (Complete (NamedServant o.servant)) s | None ↦ with_activation (number_at s o.adapter) o.adapter (made_id run (suc s.made)) (Complete (NamedServant o.servant)) (with_made s) ]) ≡ s.nodes)
+      elim o.oid as (λ oid. nodes_in
+      (elim oid
+      [ Some i ↦ with_activation (number_at s o.adapter) o.adapter i (Complete (NamedServant o.servant)) s | None ↦ with_activation (number_at s o.adapter) o.adapter (made_id run (suc s.made)) (Complete (NamedServant o.servant)) (with_made s) ]) ≡ s.nodes)
       [ Some i ↦ refl | None ↦ refl ]
 
   objects_nodes : (os : List ObjectConf) (s : Standing) → (with_objects run os s).nodes ≡ s.nodes
@@ -56,16 +59,22 @@ module _ (c : Config) (run : ℕ) where
   not_yet (e ∷ past) k p above =
       let more = count_from c run past e (standing c run past) in
       let before : (standing c run past).count ≤ k = omega (arith, more, above) in
-      let early : nat_lt k (standing c run past).count ≡ false = false_from_ne_true _ (λ later. let less = ltb-true k (standing c run past).count later in omega (arith, less, before)) in
+      let early : nat_lt k (standing c run past).count ≡ false =
+      false_from_ne_true _ (λ later. let less = ltb-true k (standing c run past).count later in omega (arith, less, before)) in
       ap₂ (λ a b. (a && destroys p (command_done past e)) || b) early (not_yet past k p before)
 
-  pub dying_is : (limit : ℕ) (h : List Entry) → IsGiven c run → IsWithinLimits c limit → IsLegal c run limit h → (n : Node) → In n (standing c run h).nodes → n.dying ≡ was_destroyed c run h n.number n.path
+  pub dying_is : (limit : ℕ) (h : List Entry) → IsGiven c run → IsWithinLimits c limit → IsLegal c run limit h → (n : Node) → In n (standing c run h).nodes
+      → n.dying ≡ was_destroyed c run h n.number n.path
   dying_is limit [] given within legal n there = opening_live n there
   dying_is limit (e ∷ past) given within legal n there =
       elim (node_before c run past e n there) [
-        | stood m was number path dying ↦ (let created : nat_lt m.number (standing c run past).count ≡ true = lt-ltb _ _ ((legal_sound c run limit past given within legal.1).tree.numbered m was) in
+        | stood m was number path dying ↦
+            (let created : nat_lt m.number (standing c run past).count ≡ true =
+            lt-ltb _ _ ((legal_sound c run limit past given within legal.1).tree.numbered m was) in
             dying ∙ (ap₂ (λ a b. (a && destroys m.path (command_done past e)) || b) (sym created) (dying_is limit past given within legal.1 m was)
             ∙ ap₂ (λ k p. was_destroyed c run (e ∷ past) k p) (sym number) (sym path)))
-        | new number living ↦ (let early : nat_lt n.number (standing c run past).count ≡ false = false_from_ne_true _ (λ later. let less = ltb-true n.number (standing c run past).count later in omega (arith, less, number)) in
+        | new number living ↦
+            (let early : nat_lt n.number (standing c run past).count ≡ false =
+            false_from_ne_true _ (λ later. let less = ltb-true n.number (standing c run past).count later in omega (arith, less, number)) in
             living ∙ sym (ap₂ (λ a b. (a && destroys n.path (command_done past e)) || b) early (not_yet past n.number n.path (omega (arith, number)))))
       ]

@@ -36,8 +36,10 @@ abbrev pub flight_for : Standing → ℕ → Key → Verdict → Option Flight
 flight_for s r key (Serve n) = Some (record { arrival = r; adapter = adapter_met (walk s.nodes key.path); activation = Some n; child = None })
 flight_for s r key (Preset name) = Some (record { arrival = r; adapter = adapter_met (walk s.nodes key.path); activation = None; child = None })
 flight_for s r key (Locator name) = Some (record { arrival = r; adapter = adapter_met (walk s.nodes key.path); activation = None; child = None })
-flight_for s r key (Incarnate n) = Some (record { arrival = r; adapter = adapter_met (walk s.nodes key.path); activation = Some (length s.activations); child = None })
-flight_for s r key Try = Some (record { arrival = r; adapter = adapter_met (walk s.nodes key.path); activation = None; child = Some (child_met (walk s.nodes key.path) key.path) })
+flight_for s r key (Incarnate n) =
+    Some (record { arrival = r; adapter = adapter_met (walk s.nodes key.path); activation = Some (length s.activations); child = None })
+flight_for s r key Try =
+    Some (record { arrival = r; adapter = adapter_met (walk s.nodes key.path); activation = None; child = Some (child_met (walk s.nodes key.path) key.path) })
 flight_for s r key verdict = None
 
 pub data FlightFrom (past : List Entry) (e : Entry) (s : Standing) (f : Flight) : Type 0 where
@@ -59,8 +61,17 @@ flights_command c run (Some (Activate p servant)) s = refl
 flights_command c run (Some (ActivateId p oid servant)) s = refl
 flights_command c run (Some (Deactivate p oid)) s = refl
 flights_command c run (Some (Reference p servant)) s =
-    elim (live_at s p) as (λ o. flights_in (elim o [ Some n ↦ (elim (servant_number c servant) [ Some k ↦ (if is_implicit c s n k then with_made_activation c run p servant s else s) | None ↦ s ]) | None ↦ s ]) ≡ s.flights) [
-      | Some n ↦ elim (servant_number c servant) as (λ o. flights_in (elim o [ Some k ↦ (if is_implicit c s n k then with_made_activation c run p servant s else s) | None ↦ s ]) ≡ s.flights) [
+    elim (live_at s p) as (λ o. flights_in
+    (elim o [
+      | Some n ↦
+          (elim (servant_number c servant) [ Some k ↦ (if is_implicit c s n k then with_made_activation c run p servant s else s) | None ↦ s ])
+      | None ↦ s
+    ]) ≡ s.flights) [
+      | Some n ↦ elim (servant_number c servant) as (λ o. flights_in (elim o [
+        | Some k ↦
+            (if is_implicit c s n k then with_made_activation c run p servant s else s)
+        | None ↦ s
+      ]) ≡ s.flights) [
         | Some k ↦ cond_both (is_implicit c s n k) (with_made_activation c run p servant s) s (λ t. t.flights ≡ s.flights) (λ _. refl) (λ _. refl)
         | None ↦ refl
       ]
@@ -73,10 +84,13 @@ flights_command c run (Some Shutdown) s = refl
 flights_command c run (Some (Bad word)) s = refl
 
 module _ (past : List Entry) (s : Standing) where
-  added : (e : Entry) (w r : ℕ) (v : Verdict) (key : Key) (f g : Flight) → e ≡ Admit w r v → key_in (call_of past r) ≡ Some key → flight_for s r key v ≡ Some g → In f (s.flights ++ g ∷ []) → FlightFrom past e s f
-  added e w r v key f g is has for_ there = elim (in_either f g s.flights there) [ inl was ↦ flew was | inr new ↦ begins w r v key is has (for_ ∙ ap (λ x. Some x) (sym new)) ]
+  added : (e : Entry) (w r : ℕ) (v : Verdict) (key : Key) (f g : Flight) → e ≡ Admit w r v → key_in (call_of past r) ≡ Some key → flight_for s r key v ≡ Some g
+      → In f (s.flights ++ g ∷ []) → FlightFrom past e s f
+  added e w r v key f g is has for_ there =
+      elim (in_either f g s.flights there) [ inl was ↦ flew was | inr new ↦ begins w r v key is has (for_ ∙ ap (λ x. Some x) (sym new)) ]
 
-  from_admitted : (w r : ℕ) (v : Verdict) (key : Option Key) (f : Flight) → key_in (call_of past r) ≡ key → In f (with_admitted r key v s).flights → FlightFrom past (Admit w r v) s f
+  from_admitted : (w r : ℕ) (v : Verdict) (key : Option Key) (f : Flight) → key_in (call_of past r) ≡ key → In f (with_admitted r key v s).flights
+      → FlightFrom past (Admit w r v) s f
   from_admitted w r v None f has there = flew there
   from_admitted w r (Serve n) (Some key) f has there = added (Admit w r (Serve n)) w r (Serve n) key f _ refl has refl there
   from_admitted w r (Preset name) (Some key) f has there = added (Admit w r (Preset name)) w r (Preset name) key f _ refl has refl there
@@ -129,7 +143,8 @@ module _ (past : List Entry) (s : Standing) where
   flight_from c run (Left conn) f there = flew there
   flight_from c run (Collect conn a) f there = flew there
   flight_from c run (Admit w r v) f there =
-      from_admitted w r v (key_in (call_of past r)) f refl (subst (λ fs. In f fs) (flights_command c run (command_done past (Admit w r v)) (with_admitted r (key_in (call_of past r)) v s)) there)
+      from_admitted w r v (key_in (call_of past r)) f refl
+      (subst (λ fs. In f fs) (flights_command c run (command_done past (Admit w r v)) (with_admitted r (key_in (call_of past r)) v s)) there)
   flight_from c run (Tried w answer) f there = flew (from_tried (arrival_in (stage past w)) answer f there)
   flight_from c run (Incarnated w answer) f there = flew (from_incarnated c (stage past w) answer f there)
   flight_from c run (Run w) f there = flew there

@@ -33,19 +33,23 @@ use Rattle.poa_history.proofs.DyingIs.{opening_live}
 pub any_in : {A : Type 0} (test : A → Bool) (xs : List A) → list_any test xs ≡ true → (x : A) × In x xs × (test x ≡ true)
 any_in test [] some_ = absurd (let e : false ≡ true = some_ in cc)
 any_in test (x ∷ xs) some_ =
-    elim (or_cases (test x) (list_any test xs) some_) [ inl here ↦ (x, inl refl, here) | inr more ↦ (let found = any_in test xs more in (found.0, inr found.1, found.2)) ]
+    elim (or_cases (test x) (list_any test xs) some_)
+    [ inl here ↦ (x, inl refl, here) | inr more ↦ (let found = any_in test xs more in (found.0, inr found.1, found.2)) ]
 
 -- where each element that passes one test passes another, and none passes that
-pub none_in : {A : Type 0} (test other : A → Bool) (xs : List A) → ((x : A) → In x xs → other x ≡ true → test x ≡ true) → list_any test xs ≡ false → list_any other xs ≡ false
+pub none_in : {A : Type 0} (test other : A → Bool) (xs : List A) → ((x : A) → In x xs → other x ≡ true → test x ≡ true) → list_any test xs ≡ false
+    → list_any other xs ≡ false
 none_in test other xs fewer none =
-    false_from_ne_true (list_any other xs) (λ some_. let found = any_in other xs some_ in true≢false (sym (any_by test found.0 xs found.1 (fewer found.0 found.1 found.2)) ∙ none))
+    false_from_ne_true (list_any other xs)
+    (λ some_. let found = any_in other xs some_ in true≢false (sym (any_by test found.0 xs found.1 (fewer found.0 found.1 found.2)) ∙ none))
 
 -- a path that leads to another is its front
 leads_split : (p q : List (List ℕ)) → leads_to p q ≡ true → (more : List (List ℕ)) × (q ≡ p ++ more)
 leads_split [] q leads = (q, refl)
 leads_split (x ∷ p) [] leads = absurd (let e : false ≡ true = leads in cc)
 leads_split (x ∷ p) (y ∷ q) leads =
-    let parts = and_parts (same_bytes x y) (leads_to p q) leads in let rest = leads_split p q parts.1 in (rest.0, ap₂ (λ a b. a ∷ b) (sym (bytes_same x y parts.0)) rest.1)
+    let parts = and_parts (same_bytes x y) (leads_to p q) leads in let rest = leads_split p q parts.1 in
+    (rest.0, ap₂ (λ a b. a ∷ b) (sym (bytes_same x y parts.0)) rest.1)
 
 module _ (c : Config) (run : ℕ) (s : Standing) (sound : IsSound c run s) where
   -- at each path on the way to an adapter that stands one stands
@@ -55,7 +59,8 @@ module _ (c : Config) (run : ℕ) (s : Standing) (sound : IsSound c run s) where
       let next = front_stands rest (q ++ y ∷ []) m there (at ∙ sym (append_snoc q y rest)) in sound.tree.closed next.0 q y next.1 next.2
 
   -- below an adapter, and on the way to one that stands, a child of it stands
-  pub on_the_way : (n m : Node) → In n s.nodes → In m s.nodes → leads_to n.path m.path ≡ true → (m ≡ n) ⊎ ((d : Node) × In d s.nodes × IsChildOf n d × (leads_to d.path m.path ≡ true))
+  pub on_the_way : (n m : Node) → In n s.nodes → In m s.nodes → leads_to n.path m.path ≡ true → (m ≡ n)
+      ⊎ ((d : Node) × In d s.nodes × IsChildOf n d × (leads_to d.path m.path ≡ true))
   on_the_way n m is is' leads = by_rest (leads_split n.path m.path leads).0 (leads_split n.path m.path leads).1
     where
       by_rest : (more : List (List ℕ)) → m.path ≡ n.path ++ more → (m ≡ n) ⊎ ((d : Node) × In d s.nodes × IsChildOf n d × (leads_to d.path m.path ≡ true))
@@ -63,13 +68,22 @@ module _ (c : Config) (run : ℕ) (s : Standing) (sound : IsSound c run s) where
       by_rest (x ∷ rest) at =
           let whole : m.path ≡ (n.path ++ x ∷ []) ++ rest = at ∙ sym (append_snoc n.path x rest) in
           let d = front_stands rest (n.path ++ x ∷ []) m is' whole in
-          inr (d.0, d.1, (x, d.2), subst (λ q. leads_to d.0.path q ≡ true) (sym whole) (subst (λ q. leads_to q ((n.path ++ x ∷ []) ++ rest) ≡ true) (sym d.2) (leads_on (n.path ++ x ∷ []) rest)))
+          inr (
+            d.0,
+            d.1,
+            (x, d.2),
+            subst (λ q. leads_to d.0.path q ≡ true) (sym whole)
+                (subst (λ q. leads_to q ((n.path ++ x ∷ []) ++ rest) ≡ true) (sym d.2) (leads_on (n.path ++ x ∷ []) rest)),
+          )
 
   number_found : (n : Node) → In n s.nodes → find (λ m. m.number == n.number) s.nodes ≡ Some n
   number_found n is =
       elim (find (λ m. m.number == n.number) s.nodes) as (λ o. find (λ m. m.number == n.number) s.nodes ≡ o → o ≡ Some n) [
         | None ↦ λ none. absurd (find_none (λ m. m.number == n.number) n s.nodes none is (eq-eqb n.number n.number refl))
-        | Some m ↦ λ found. (let there = find_in (λ x. x.number == n.number) m s.nodes found in ap (λ x. Some x) (sound.tree.number_alone m n there.0 is (eqb-true m.number n.number there.1)))
+        | Some m ↦
+            λ found.
+            (let there = find_in (λ x. x.number == n.number) m s.nodes found in
+            ap (λ x. Some x) (sound.tree.number_alone m n there.0 is (eqb-true m.number n.number there.1)))
       ] refl
 
   -- an adapter that stands is gone where it is done with
@@ -77,13 +91,17 @@ module _ (c : Config) (run : ℕ) (s : Standing) (sound : IsSound c run s) where
   gone_done n is =
       ap₂ (λ a o. a && (elim o [ Some m ↦ is_done_with c s m | None ↦ true ])) (lt-ltb _ _ (sound.tree.numbered n is)) (number_found n is)
 
-  clear_parts : (p : List (List ℕ)) → is_clear c s p ≡ true → (list_any (λ f. stands_under s.nodes p f.adapter) s.flights ≡ false) × (list_any (λ a. not (is_over c a) && stands_under s.nodes p a.adapter) s.activations ≡ false)
+  clear_parts : (p : List (List ℕ)) → is_clear c s p ≡ true → (list_any (λ f. stands_under s.nodes p f.adapter) s.flights ≡ false)
+      × (list_any (λ a. not (is_over c a) && stands_under s.nodes p a.adapter) s.activations ≡ false)
   clear_parts p clear =
-      let parts = and_parts (not (list_any (λ f. stands_under s.nodes p f.adapter) s.flights)) (not (list_any (λ a. not (is_over c a) && stands_under s.nodes p a.adapter) s.activations)) clear in (not_true _ parts.0, not_true _ parts.1)
+      let parts =
+      and_parts (not (list_any (λ f. stands_under s.nodes p f.adapter) s.flights))
+      (not (list_any (λ a. not (is_over c a) && stands_under s.nodes p a.adapter) s.activations)) clear in (not_true _ parts.0, not_true _ parts.1)
 
   over_by : (a : Activation) (under : Bool) → (not (is_over c a) && under) ≡ false → under ≡ true → is_over c a ≡ true
   over_by a under none is =
-      elim (cases_Bool (is_over c a)) [ inl over ↦ over | inr lives ↦ absurd (true≢false (sym (ap₂ (λ x y. x && y) (not_false (is_over c a) lives) is) ∙ none)) ]
+      elim (cases_Bool (is_over c a))
+      [ inl over ↦ over | inr lives ↦ absurd (true≢false (sym (ap₂ (λ x y. x && y) (not_false (is_over c a) lives) is) ∙ none)) ]
 
   pub ended_by : (n : Node) → In n s.nodes → is_done_with c s n ≡ true → IsEnded c s n
   ended_by n is done =
@@ -91,8 +109,11 @@ module _ (c : Config) (run : ℕ) (s : Standing) (sound : IsSound c run s) where
       let clear = clear_parts n.path parts.1 in
       record {
         dying = parts.0;
-        idle = none_in (λ f. stands_under s.nodes n.path f.adapter) (λ f. f.adapter == n.number) s.flights (λ f _ at. is_under_itself c run s sound n f.adapter is (sym (eqb-true f.adapter n.number at))) clear.0;
-        over = λ a there at. over_by a (stands_under s.nodes n.path a.adapter) (none_by (λ b. not (is_over c b) && stands_under s.nodes n.path b.adapter) a s.activations there clear.1) (is_under_itself c run s sound n a.adapter is (sym at));
+        idle = none_in (λ f. stands_under s.nodes n.path f.adapter) (λ f. f.adapter == n.number) s.flights
+            (λ f _ at. is_under_itself c run s sound n f.adapter is (sym (eqb-true f.adapter n.number at))) clear.0;
+        over = λ a there at. over_by a (stands_under s.nodes n.path a.adapter)
+            (none_by (λ b. not (is_over c b) && stands_under s.nodes n.path b.adapter) a s.activations there clear.1)
+            (is_under_itself c run s sound n a.adapter is (sym at));
         children = λ m there child.
             (let leads : leads_to n.path m.path ≡ true = subst (λ q. leads_to n.path q ≡ true) (sym child.1) (leads_on n.path (child.0 ∷ [])) in
             gone_done m there ∙ ap₂ (λ x y. x && y) (sound.tree.below n m is there leads parts.0) (clear_longer c run s sound n.path m.path leads parts.1));
@@ -109,7 +130,8 @@ module _ (c : Config) (run : ℕ) (s : Standing) (sound : IsSound c run s) where
   under_by p m is leads = any_by (λ x. (x.number == m.number) && leads_to p x.path) m s.nodes is (ap₂ (λ x y. x && y) (eq-eqb m.number m.number refl) leads)
 
   -- what is at or below an ended adapter is its own, or below a child that is done with
-  own_or_below : {A : Type 0} (n : Node) → In n s.nodes → IsEnded c s n → (k : ℕ) → stands_under s.nodes n.path k ≡ true → (k ≡ n.number → A) → ((d : Node) → In d s.nodes → is_clear c s d.path ≡ true → stands_under s.nodes d.path k ≡ true → A) → A
+  own_or_below : {A : Type 0} (n : Node) → In n s.nodes → IsEnded c s n → (k : ℕ) → stands_under s.nodes n.path k ≡ true → (k ≡ n.number → A)
+      → ((d : Node) → In d s.nodes → is_clear c s d.path ≡ true → stands_under s.nodes d.path k ≡ true → A) → A
   own_or_below n is ended k under own below =
       let m = under_in n.path k under in
       elim (on_the_way n m.0 is m.1 m.3) [
@@ -133,17 +155,23 @@ module _ (c : Config) (run : ℕ) (s : Standing) (sound : IsSound c run s) where
       let lives : is_over c a.0 ≡ false = not_true (is_over c a.0) both.0 in
       own_or_below n is ended a.0.adapter both.1
       (λ at. true≢false (sym (ended.over a.0 a.1 at) ∙ lives))
-      (λ d there clear under. true≢false (sym (over_by a.0 (stands_under s.nodes d.path a.0.adapter) (none_by (λ b. not (is_over c b) && stands_under s.nodes d.path b.adapter) a.0 s.activations a.1 (clear_parts d.path clear).1) under) ∙ lives))))))
+      (λ d there clear under. true≢false
+      (sym (over_by a.0 (stands_under s.nodes d.path a.0.adapter)
+      (none_by (λ b. not (is_over c b) && stands_under s.nodes d.path b.adapter) a.0 s.activations a.1 (clear_parts d.path clear).1) under) ∙ lives))))))
 
   -- nothing is left of an adapter that is gone
   pub emptied : (k : ℕ) → is_gone c s k ≡ true → IsEmptied c s k
   emptied k gone =
-      elim (find (λ n. n.number == k) s.nodes) as (λ o. find (λ n. n.number == k) s.nodes ≡ o → (elim o [ Some n ↦ is_done_with c s n | None ↦ true ]) ≡ true → IsEmptied c s k) [
+      elim (find (λ n. n.number == k) s.nodes) as (λ o. find (λ n. n.number == k) s.nodes ≡ o → (elim o [ Some n ↦ is_done_with c s n | None ↦ true ]) ≡ true
+      → IsEmptied c s k) [
         | None ↦ λ none _. record {
-          idle = λ f there at. (let home = sound.homes f there in find_none (λ n. n.number == k) home.0 s.nodes none home.1 (eq-eqb home.0.number k (home.2 ∙ at)));
+          idle = λ f there at.
+              (let home = sound.homes f there in find_none (λ n. n.number == k) home.0 s.nodes none home.1 (eq-eqb home.0.number k (home.2 ∙ at)));
           over = λ a there at. elim (cases_Bool (is_over c a)) [
             | inl over ↦ over
-            | inr lives ↦ (let home = sound.owners a there lives in absurd (find_none (λ n. n.number == k) home.node s.nodes none home.stands (eq-eqb home.node.number k (home.numbered ∙ at))))
+            | inr lives ↦
+                (let home = sound.owners a there lives in
+                absurd (find_none (λ n. n.number == k) home.node s.nodes none home.stands (eq-eqb home.node.number k (home.numbered ∙ at))))
           ];
         }
         | Some n ↦ λ found done.
@@ -151,7 +179,8 @@ module _ (c : Config) (run : ℕ) (s : Standing) (sound : IsSound c run s) where
             let at : n.number ≡ k = eqb-true n.number k there.1 in
             let ended = ended_by n there.0 done in
             record {
-              idle = λ f is same. true≢false (sym (any_by (λ g. g.adapter == n.number) f s.flights is (eq-eqb f.adapter n.number (same ∙ sym at))) ∙ ended.idle);
+              idle = λ f is same. true≢false
+                  (sym (any_by (λ g. g.adapter == n.number) f s.flights is (eq-eqb f.adapter n.number (same ∙ sym at))) ∙ ended.idle);
               over = λ a is same. ended.over a is (same ∙ sym at);
             })
       ] refl (and_parts (nat_lt k s.count) (elim (find (λ n. n.number == k) s.nodes) [ Some n ↦ is_done_with c s n | None ↦ true ]) gone).1
@@ -170,14 +199,20 @@ module _ (c : Config) (run : ℕ) (s : Standing) (sound : IsSound c run s) where
       let undone : is_done_with c let_ n ≡ false = not_true' (is_done_with c let_ n) (or_false (is_root n.path) (not (is_done_with c let_ n)) below kept.1) in
       false_from_ne_true (is_done_with c (settled c s) n) (λ done.
       let parts = and_parts n.dying (is_clear c (settled c s) n.path) done in
-      let clear = and_parts (not (list_any (λ f. stands_under (settled c s).nodes n.path f.adapter) s.flights)) (not (list_any (λ a. not (is_over c a) && stands_under (settled c s).nodes n.path a.adapter) let_.activations)) parts.1 in
+      let clear =
+      and_parts (not (list_any (λ f. stands_under (settled c s).nodes n.path f.adapter) s.flights))
+      (not (list_any (λ a. not (is_over c a) && stands_under (settled c s).nodes n.path a.adapter) let_.activations)) parts.1 in
       true≢false (sym (ap₂ (λ x y. x && y) parts.0
       (ap₂ (λ x y. x && y)
       (not_false _ (none_in (λ f. stands_under (settled c s).nodes n.path f.adapter) (λ f. stands_under s.nodes n.path f.adapter) s.flights
       (λ f is under. still_under n.path f.adapter under (λ m at same. flight_stays c run let_ let_sound f m is at same)) (not_true _ clear.0)))
-      (not_false _ (none_in (λ a. not (is_over c a) && stands_under (settled c s).nodes n.path a.adapter) (λ a. not (is_over c a) && stands_under s.nodes n.path a.adapter) let_.activations
+      (not_false _
+      (none_in (λ a. not (is_over c a) && stands_under (settled c s).nodes n.path a.adapter)
+      (λ a. not (is_over c a) && stands_under s.nodes n.path a.adapter) let_.activations
       (λ a is both. let two = and_parts (not (is_over c a)) (stands_under s.nodes n.path a.adapter) both in
-      ap₂ (λ x y. x && y) two.0 (still_under n.path a.adapter two.1 (λ m at same. activation_stays c run let_ let_sound a m is (not_true (is_over c a) two.0) at same))) (not_true _ clear.1))))) ∙ undone))
+      ap₂ (λ x y. x && y) two.0
+      (still_under n.path a.adapter two.1 (λ m at same. activation_stays c run let_ let_sound a m is (not_true (is_over c a) two.0) at same)))
+      (not_true _ clear.1))))) ∙ undone))
     where
       or_false : (x y : Bool) → x ≡ false → (x || y) ≡ true → y ≡ true
       or_false true y no_ is = absurd (let e : true ≡ false = no_ in cc)
@@ -186,26 +221,32 @@ module _ (c : Config) (run : ℕ) (s : Standing) (sound : IsSound c run s) where
       not_true' : (b : Bool) → not b ≡ true → b ≡ false
       not_true' b e = not_true b e
 
-      still_under : (p : List (List ℕ)) (k : ℕ) → stands_under s.nodes p k ≡ true → ((m : Node) → In m s.nodes → m.number ≡ k → stays c run let_ let_sound m ≡ true) → stands_under (settled c s).nodes p k ≡ true
+      still_under : (p : List (List ℕ)) (k : ℕ) → stands_under s.nodes p k ≡ true
+          → ((m : Node) → In m s.nodes → m.number ≡ k → stays c run let_ let_sound m ≡ true) → stands_under (settled c s).nodes p k ≡ true
       still_under p k under keeps =
           let m = any_in (λ x. (x.number == k) && leads_to p x.path) s.nodes under in
           let at : m.0.number ≡ k = eqb-true m.0.number k (and_parts (m.0.number == k) (leads_to p m.0.path) m.2).0 in
-          any_by (λ x. (x.number == k) && leads_to p x.path) m.0 (settled c s).nodes (kept_in (stays c run let_ let_sound) m.0 s.nodes m.1 (keeps m.0 m.1 at)) m.2
+          any_by (λ x. (x.number == k) && leads_to p x.path) m.0 (settled c s).nodes
+          (kept_in (stays c run let_ let_sound) m.0 s.nodes m.1 (keeps m.0 m.1 at)) m.2
 
 module _ (c : Config) (run : ℕ) where
-  pub ends_where : (s : Standing) → IsSound c run s → (n : Node) → In n s.nodes → (is_gone c s n.number ≡ true → IsEnded c s n) × (IsEnded c s n → is_gone c s n.number ≡ true)
+  pub ends_where : (s : Standing) → IsSound c run s → (n : Node) → In n s.nodes → (is_gone c s n.number ≡ true → IsEnded c s n)
+      × (IsEnded c s n → is_gone c s n.number ≡ true)
   ends_where s sound n is =
       (λ gone. ended_by c run s sound n is (sym (gone_done c run s sound n is) ∙ gone), λ ended. gone_done c run s sound n is ∙ gone_by c run s sound n is ended)
 
 module _ (c : Config) (run limit : ℕ) where
-  pub stands_ungone : (h : List Entry) → IsGiven c run → IsWithinLimits c limit → IsLegal c run limit h → (n : Node) → In n (standing c run h).nodes → is_root n.path ≡ false → is_gone c (standing c run h) n.number ≡ false
+  pub stands_ungone : (h : List Entry) → IsGiven c run → IsWithinLimits c limit → IsLegal c run limit h → (n : Node) → In n (standing c run h).nodes
+      → is_root n.path ≡ false → is_gone c (standing c run h) n.number ≡ false
   stands_ungone [] given within legal n there below =
       gone_done c run (standing c run []) given.opens n there ∙ ap (λ b. b && is_clear c (standing c run []) n.path) (opening_live c run n there)
   stands_ungone (e ∷ past) given within legal n there below =
       gone_done c run (standing c run (e ∷ past)) (legal_sound c run limit (e ∷ past) given within legal) n there
       ∙ not_done c run (changed c run past e (standing c run past))
       (changed_sound c run past (standing c run past) (legal_sound c run limit past given within legal.1) e
-      (may_move c run past (legal_sound c run limit past given within legal.1) given.numbered (has_ordinal c run limit within past legal.1) given.implicit limit e legal.0)) n there below
+      (may_move c run past (legal_sound c run limit past given within legal.1) given.numbered
+      (has_ordinal c run limit within past legal.1) given.implicit limit e legal.0)) n there below
 
-  pub emptied_where : (h : List Entry) → IsGiven c run → IsWithinLimits c limit → IsLegal c run limit h → (k : ℕ) → is_gone c (standing c run h) k ≡ true → IsEmptied c (standing c run h) k
+  pub emptied_where : (h : List Entry) → IsGiven c run → IsWithinLimits c limit → IsLegal c run limit h → (k : ℕ) → is_gone c (standing c run h) k ≡ true
+      → IsEmptied c (standing c run h) k
   emptied_where h given within legal k gone = emptied c run (standing c run h) (legal_sound c run limit h given within legal) k gone

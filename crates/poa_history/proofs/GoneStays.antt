@@ -59,7 +59,8 @@ use Rattle.poa_history.proofs.LegalSound.{legal_sound}
 over_later : (c : Config) (a b : Activation) → IsLater c a b → is_over c a ≡ true → is_over c b ≡ true
 over_later c a b later over =
     elim (or_cases (is_void a) (is_finished c a) over) [
-      | inl void ↦ or_first (is_void b) (is_finished c b) (ap (λ p. elim p [ Void ↦ true | Begun ↦ false | Complete s ↦ false ]) (later.void (void_phase a.phase void)))
+      | inl void ↦
+          or_first (is_void b) (is_finished c b) (ap (λ p. elim p [ Void ↦ true | Begun ↦ false | Complete s ↦ false ]) (later.void (void_phase a.phase void)))
       | inr finished ↦ or_second (is_void b) (is_finished c b) (later.finished finished)
     ]
   where
@@ -84,7 +85,8 @@ module _ (f : Facts) (worker : ℕ) (v : Verdict) (dying : f.walk ≡ MeetsDying
   unfolding first_row
   dying_none = cond_both f.crowded _ _ (λ c. c ≡ Go v → is_begin v ≡ false) (λ _. refused_none f worker v _ (Refuse _) refl refl) (λ _. by_key f.key)
 
-module _ (c : Config) (run limit : ℕ) (past : List Entry) (e : Entry) (may : MayFollow c run limit past e) (sound : IsSound c run (standing c run past)) (after : IsSound c run (standing c run (e ∷ past))) where
+module _ (c : Config) (run limit : ℕ) (past : List Entry) (e : Entry) (may : MayFollow c run limit past e) (sound : IsSound c run (standing c run past))
+    (after : IsSound c run (standing c run (e ∷ past))) where
   abbrev s : Standing
   s = standing c run past
 
@@ -105,29 +107,40 @@ module _ (c : Config) (run limit : ℕ) (past : List Entry) (e : Entry) (may : M
       where
         from_dying : (n : Node) (q : List (List ℕ)) → n.dying ≡ true → walk_fact (walk_from s.nodes n q) ≡ MeetsDying
         from_dying n [] is = ap (λ b. walk_fact (if b then Dying n.number else Live n.number)) is
-        from_dying n (x ∷ q) is = ap (λ b. walk_fact (if b then Dying n.number else elim (node_at s.nodes (n.path ++ x ∷ [])) [ Some m ↦ walk_from s.nodes m q | None ↦ Missing n.number (length n.path) ])) is
+        from_dying n (x ∷ q) is =
+            ap (λ b. walk_fact
+            (if b then Dying n.number else elim (node_at s.nodes (n.path ++ x ∷ []))
+            [ Some m ↦ walk_from s.nodes m q | None ↦ Missing n.number (length n.path) ])) is
 
     no_begin : (w r : ℕ) (v : Verdict) (key : Key) → e ≡ Admit w r v → key_in (call_of past r) ≡ Some key → is_begin v ≡ true → ⊥
     no_begin w r v key is has begins_ =
         by_call (call_of past r) refl (admission_is c run past w r v (subst (λ x. MayFollow c run limit past x) is may)).told has
       where
-        by_row : verdict_on c run past r w (call_of past r) ≡ Some v → (call : Option Call) → call_of past r ≡ call → first_row (facts_of c run past r) w ≡ Go v → ⊥
-        by_row told call at row = true≢false (sym begins_ ∙ dying_none (facts_of c run past r) w v (walk_dying (key_or_none (key_in (call_of past r))).path) row)
+        by_row : verdict_on c run past r w (call_of past r) ≡ Some v → (call : Option Call) → call_of past r ≡ call → first_row (facts_of c run past r) w ≡ Go v
+            → ⊥
+        by_row told call at row =
+            true≢false (sym begins_ ∙ dying_none (facts_of c run past r) w v (walk_dying (key_or_none (key_in (call_of past r))).path) row)
 
         by_call : (call : Option Call) → call_of past r ≡ call → verdict_on c run past r w call ≡ Some v → key_in call ≡ Some key → ⊥
         by_call None at told has' = (let f : None ≡ Some key = has' in cc)
         by_call (Some (Line number command)) at told has' = (let f : None ≡ Some key = has' in cc)
-        by_call (Some (Request head target operation body)) at told has' = by_row (ap (verdict_on c run past r w) at ∙ told) (Some (Request head target operation body)) at (chosen_go (first_row (facts_of c run past r) w) v told)
-        by_call (Some (Locate head target)) at told has' = by_row (ap (verdict_on c run past r w) at ∙ told) (Some (Locate head target)) at (chosen_go (first_row (facts_of c run past r) w) v told)
+        by_call (Some (Request head target operation body)) at told has' =
+            by_row (ap (verdict_on c run past r w) at ∙ told) (Some (Request head target operation body)) at
+            (chosen_go (first_row (facts_of c run past r) w) v told)
+        by_call (Some (Locate head target)) at told has' =
+            by_row (ap (verdict_on c run past r w) at ∙ told) (Some (Locate head target)) at (chosen_go (first_row (facts_of c run past r) w) v told)
 
     no_live : (p : List (List ℕ)) (n : Node) → live_at s p ≡ Some n → ⊥
     no_live p n lives = (let told = live_tells s p n lives in true≢false (sym (all_dying n told.0) ∙ told.2))
 
     -- the root has ended after the entry too
-    root_ended : ((m : Node) → In m s.nodes → IsChildOf root m → ⊥) → ((f : Flight) → In f s.flights → f.adapter ≡ root.number → ⊥) → ((a : Activation) → In a s.activations → a.adapter ≡ root.number → is_over c a ≡ true) → (n : Node) → In n t.nodes → n.number ≡ root.number → IsEnded c t n
+    root_ended : ((m : Node) → In m s.nodes → IsChildOf root m → ⊥) → ((f : Flight) → In f s.flights → f.adapter ≡ root.number → ⊥)
+        → ((a : Activation) → In a s.activations → a.adapter ≡ root.number → is_over c a ≡ true) → (n : Node) → In n t.nodes → n.number ≡ root.number
+        → IsEnded c t n
     root_ended childless idle over n there at = record {
       dying = dying_now;
-      idle = false_from_ne_true (has_flights t.flights n.number) (λ busy. let f = any_in (λ g. g.adapter == n.number) t.flights busy in no_flight f.0 f.1 (eqb-true f.0.adapter n.number f.2 ∙ at));
+      idle = false_from_ne_true (has_flights t.flights n.number)
+          (λ busy. let f = any_in (λ g. g.adapter == n.number) t.flights busy in no_flight f.0 f.1 (eqb-true f.0.adapter n.number f.2 ∙ at));
       over = λ b is same. no_life b is (same ∙ at);
       children = λ m is child. absurd (no_child m is child);
     }
@@ -145,7 +158,8 @@ module _ (c : Config) (run limit : ℕ) (past : List Entry) (e : Entry) (may : M
         dying_now : n.dying ≡ true
         dying_now =
             elim (node_before c run past e n there) [
-              | stood m was number path dying' ↦ dying' ∙ or_second (destroys m.path (command_done past e)) m.dying (ap (λ x. x.dying) (same_root m was number) ∙ dying)
+              | stood m was number path dying' ↦ dying'
+                  ∙ or_second (destroys m.path (command_done past e)) m.dying (ap (λ x. x.dying) (same_root m was number) ∙ dying)
               | new number living ↦ absurd (let low = sound.tree.numbered root stands in omega (arith, low, number, at))
             ]
 
@@ -162,8 +176,10 @@ module _ (c : Config) (run limit : ℕ) (past : List Entry) (e : Entry) (may : M
               | activation_stood a was step ↦ over_later c a b step.later (over a was (sym step.later.adapter ∙ same))
               | activation_begun fresh ↦ absurd (elim fresh.how [
                 | incarnating w r n' key is' has adapter path oid phase ↦ no_begin w r (Incarnate n') key is' has refl
-                | activating p servant done adapter path oid phase ↦ (let free = untaken_activate c run past limit e p servant may done in no_live p free.node free.lives)
-                | activating_id p oid' servant done adapter path oid phase ↦ (let free = untaken_activate_id c run past limit e p oid' servant may done in no_live p free.node free.lives)
+                | activating p servant done adapter path oid phase ↦
+                    (let free = untaken_activate c run past limit e p servant may done in no_live p free.node free.lives)
+                | activating_id p oid' servant done adapter path oid phase ↦
+                    (let free = untaken_activate_id c run past limit e p oid' servant may done in no_live p free.node free.lives)
                 | referring p servant n' k done lives known implicit adapter path oid phase ↦ no_live p n' lives
               ])
             ]
@@ -179,13 +195,18 @@ module _ (c : Config) (run limit : ℕ) (past : List Entry) (e : Entry) (may : M
   gone_by_number k low each =
       elim (find (λ n. n.number == k) t.nodes) as (λ o. find (λ n. n.number == k) t.nodes ≡ o → is_gone c t k ≡ true) [
         | None ↦ λ none. ap₂ (λ a o. a && (elim o [ Some n ↦ is_done_with c t n | None ↦ true ])) counted none
-        | Some n ↦ λ found. (let there = find_in (λ m. m.number == k) n t.nodes found in let at : n.number ≡ k = eqb-true n.number k there.1 in subst (λ x. is_gone c t x ≡ true) at (each n there.0 at))
+        | Some n ↦
+            λ found.
+            (let there = find_in (λ m. m.number == k) n t.nodes found in let at : n.number ≡ k = eqb-true n.number k there.1 in
+            subst (λ x. is_gone c t x ≡ true) at (each n there.0 at))
       ] refl
     where
       counted : nat_lt k t.count ≡ true
       counted = lt-ltb _ _ (let more = count_from c run past e s in omega (arith, low, more))
 
-  gone_step : ((n : Node) → In n s.nodes → is_root n.path ≡ false → is_gone c s n.number ≡ false) → ((k : ℕ) → is_gone c s k ≡ true → ((f : Flight) → In f s.flights → f.adapter ≡ k → ⊥) × ((a : Activation) → In a s.activations → a.adapter ≡ k → is_over c a ≡ true)) → (k : ℕ) → is_gone c s k ≡ true → is_gone c t k ≡ true
+  gone_step : ((n : Node) → In n s.nodes → is_root n.path ≡ false → is_gone c s n.number ≡ false)
+      → ((k : ℕ) → is_gone c s k ≡ true → ((f : Flight) → In f s.flights → f.adapter ≡ k → ⊥)
+      × ((a : Activation) → In a s.activations → a.adapter ≡ k → is_over c a ≡ true)) → (k : ℕ) → is_gone c s k ≡ true → is_gone c t k ≡ true
   gone_step ungone empty k gone =
       elim (find (λ n. n.number == k) s.nodes) as (λ o. find (λ n. n.number == k) s.nodes ≡ o → is_gone c t k ≡ true) [
         | None ↦ λ none. gone_by_number k low (λ n there at. absurd (elim (node_before c run past e n there) [
@@ -222,10 +243,12 @@ module _ (c : Config) (run limit : ℕ) (past : List Entry) (e : Entry) (may : M
           root_path (x ∷ p) is = absurd (let f : false ≡ true = is in cc)
 
 module _ (c : Config) (run limit : ℕ) (given : IsGiven c run) (within : IsWithinLimits c limit) where
-  pub gone_stays : (past more : List Entry) → IsLegal c run limit (more ++ past) → (k : ℕ) → is_gone c (standing c run past) k ≡ true → is_gone c (standing c run (more ++ past)) k ≡ true
+  pub gone_stays : (past more : List Entry) → IsLegal c run limit (more ++ past) → (k : ℕ) → is_gone c (standing c run past) k ≡ true
+      → is_gone c (standing c run (more ++ past)) k ≡ true
   gone_stays past [] legal k gone = gone
   gone_stays past (e ∷ more) legal k gone =
-      gone_step c run limit (more ++ past) e legal.0 (legal_sound c run limit (more ++ past) given within legal.1) (legal_sound c run limit (e ∷ (more ++ past)) given within legal)
+      gone_step c run limit (more ++ past) e legal.0 (legal_sound c run limit (more ++ past) given within legal.1)
+      (legal_sound c run limit (e ∷ (more ++ past)) given within legal)
       (stands_ungone c run limit (more ++ past) given within legal.1)
       (λ j was. (let left = emptied_where c run limit (more ++ past) given within legal.1 j was in (left.idle, left.over)))
       k (gone_stays past more legal.1 k gone)

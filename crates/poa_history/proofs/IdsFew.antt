@@ -58,7 +58,8 @@ count_more p q (suc k) more =
     (λ passes _. subst (λ b. count_below p k + 1 ≤ count_below q k + (if b then 1 else 0)) (sym (more k (omega arith) passes)) (omega (arith, before)))
     (λ _ _. omega (arith, before)) (omega arith)
 
-count_one_more : (p q : ℕ → Bool) (k r : ℕ) → r < k → p r ≡ false → q r ≡ true → ((x : ℕ) → x < k → p x ≡ true → q x ≡ true) → count_below p k + 1 ≤ count_below q k
+count_one_more : (p q : ℕ → Bool) (k r : ℕ) → r < k → p r ≡ false → q r ≡ true → ((x : ℕ) → x < k → p x ≡ true → q x ≡ true)
+    → count_below p k + 1 ≤ count_below q k
 count_one_more p q zero r less no_ yes_ more = absurd (omega (arith, less))
 count_one_more p q (suc k) r less no_ yes_ more =
     elim (cases_Bool (r == k)) [
@@ -82,7 +83,8 @@ count_one_more p q (suc k) r less no_ yes_ more =
 
 count_bound : (p : ℕ → Bool) (k : ℕ) → count_below p k ≤ k
 count_bound p zero = omega arith
-count_bound p (suc k) = (let before = count_bound p k in cond_both (p k) 1 0 (λ n. count_below p k + n ≤ suc k) (λ _. omega (arith, before)) (λ _. omega (arith, before)))
+count_bound p (suc k) =
+    (let before = count_bound p k in cond_both (p k) 1 0 (λ n. count_below p k + n ≤ suc k) (λ _. omega (arith, before)) (λ _. omega (arith, before)))
 
 -- a command that was admitted
 abbrev is_done : List Entry → ℕ → Bool
@@ -91,7 +93,8 @@ is_done h r = is_some (command_in (call_of h r)) && is_some (admitted h r)
 -- earlier calls stay what they are
 pub call_kept : (e : Entry) (past : List Entry) (r : ℕ) → r < arrivals past → call_of (e ∷ past) r ≡ call_of past r
 call_kept (Arrive conn size call) past r less =
-    cond_both (r == arrivals past) (Some call) (call_of past r) (λ o. o ≡ call_of past r) (λ same. absurd (let e : r ≡ arrivals past = eqb-true r (arrivals past) same in omega (arith, e, less))) (λ _. refl)
+    cond_both (r == arrivals past) (Some call) (call_of past r) (λ o. o ≡ call_of past r)
+    (λ same. absurd (let e : r ≡ arrivals past = eqb-true r (arrivals past) same in omega (arith, e, less))) (λ _. refl)
 call_kept (Entered conn) past r less = refl
 call_kept (Filled conn size) past r less = refl
 call_kept (Left conn) past r less = refl
@@ -156,16 +159,23 @@ module _ (c : Config) (run limit : ℕ) (past : List Entry) where
         | flew was ↦ (let is = messages f was in kept is.arrived is.message)
         | begins w r v key same has for_ ↦ (let admission = admission_is c run past w r v (subst (λ x. MayFollow c run limit past x) same may) in
             let at : f.arrival ≡ r = arrival_for (standing c run past) r key v f for_ in
-            kept (subst (λ x. x < arrivals past) (sym at) admission.arrived) (ap (λ x. command_in (call_of past x)) at ∙ keyed_no_command (call_of past r) key has))
+            kept (subst (λ x. x < arrivals past) (sym at) admission.arrived)
+            (ap (λ x. command_in (call_of past x)) at ∙ keyed_no_command (call_of past r) key has))
       ]
     where
       kept : f.arrival < arrivals past → command_in (call_of past f.arrival) ≡ None → IsMessageFlight (e ∷ past) f
-      kept less message = record { arrived = (let more = arrivals_kept e past in omega (arith, less, more)); message = ap command_in (call_kept e past f.arrival less) ∙ message }
+      kept less message =
+          record {
+            arrived = (let more = arrivals_kept e past in omega (arith, less, more));
+            message = ap command_in (call_kept e past f.arrival less) ∙ message;
+          }
 
   -- an answer of an adapter activator concerns what is in flight
   tried_flies : (r k : ℕ) → attempt c (standing c run past) r ≡ Yes k → (f : Flight) × In f (standing c run past).flights × (f.arrival ≡ r)
   tried_flies r k yes_ =
-      elim (flight_of (standing c run past) r) as (λ o. flight_of (standing c run past) r ≡ o → (elim o [ None ↦ No | Some f ↦ elim f.child [ None ↦ No | Some child ↦ attempt_of f child ] ]) ≡ Yes k → (f : Flight) × In f (standing c run past).flights × (f.arrival ≡ r)) [
+      elim (flight_of (standing c run past) r) as (λ o. flight_of (standing c run past) r ≡ o
+      → (elim o [ None ↦ No | Some f ↦ elim f.child [ None ↦ No | Some child ↦ attempt_of f child ] ]) ≡ Yes k → (f : Flight)
+      × In f (standing c run past).flights × (f.arrival ≡ r)) [
         | None ↦ λ _ no_. absurd (let e : No ≡ Yes k = no_ in cc)
         | Some f ↦ λ found _. (let there = find_in (λ g. g.arrival == r) f (standing c run past).flights found in (f, there.0, eqb-true f.arrival r there.1))
       ] refl yes_
@@ -190,21 +200,28 @@ module _ (c : Config) (run limit : ℕ) (past : List Entry) where
   counted_admit : (w r : ℕ) (v : Verdict) → IsAdmission c run past w r v → Counted (Admit w r v)
   counted_admit w r v admission =
       elim (cases_Bool (is_some (command_done past (Admit w r v)))) [
-        | inr none ↦ subst (λ b. one_if b + done_count past ≤ done_count (Admit w r v ∷ past)) (sym none) (let more = count_more (is_done past) (is_done (Admit w r v ∷ past)) (arrivals past) (λ x _. done_later w r x v) in omega (arith, more))
+        | inr none ↦
+            subst (λ b. one_if b + done_count past ≤ done_count (Admit w r v ∷ past)) (sym none)
+            (let more = count_more (is_done past) (is_done (Admit w r v ∷ past)) (arrivals past) (λ x _. done_later w r x v) in omega (arith, more))
         | inl some_ ↦ subst (λ b. one_if b + done_count past ≤ done_count (Admit w r v ∷ past)) (sym some_)
             (let more : done_count past + 1 ≤ done_count (Admit w r v ∷ past) =
-            count_one_more (is_done past) (is_done (Admit w r v ∷ past)) (arrivals past) r admission.arrived (undone r admission.unadmitted) (done_now (command_some some_)) (λ x _. done_later w r x v) in omega (arith, more))
+            count_one_more (is_done past) (is_done (Admit w r v ∷ past)) (arrivals past) r admission.arrived (undone r admission.unadmitted)
+            (done_now (command_some some_)) (λ x _. done_later w r x v) in omega (arith, more))
       ]
     where
       undone : (x : ℕ) → is_unadmitted past x ≡ true → is_done past x ≡ false
-      undone x free = false_from_ne_true (is_done past x) (λ was. some_none (admitted past x) (and_parts (is_some (command_in (call_of past x))) (is_some (admitted past x)) was).1 free)
+      undone x free =
+          false_from_ne_true (is_done past x)
+          (λ was. some_none (admitted past x) (and_parts (is_some (command_in (call_of past x))) (is_some (admitted past x)) was).1 free)
         where
           some_none : (o : Option Verdict) → is_some o ≡ true → is_none o ≡ true → ⊥
           some_none None one two = (let e : false ≡ true = one in cc)
           some_none (Some v) one two = (let e : false ≡ true = two in cc)
 
       command_some : is_some (command_done past (Admit w r v)) ≡ true → is_some (command_in (call_of past r)) ≡ true
-      command_some = cond_both (is_accepted v) (command_in (call_of past r)) None (λ o. is_some o ≡ true → is_some (command_in (call_of past r)) ≡ true) (λ _ is. is) (λ _ is. absurd (let e : false ≡ true = is in cc))
+      command_some =
+          cond_both (is_accepted v) (command_in (call_of past r)) None (λ o. is_some o ≡ true → is_some (command_in (call_of past r)) ≡ true) (λ _ is. is)
+          (λ _ is. absurd (let e : false ≡ true = is in cc))
 
       done_now : is_some (command_in (call_of past r)) ≡ true → is_done (Admit w r v ∷ past) r ≡ true
       done_now is = ap₂ (λ a b. a && b) is (ap (λ b. is_some (if b then Some v else admitted past r)) (eq-eqb r r refl))
@@ -216,7 +233,8 @@ module _ (c : Config) (run limit : ℕ) (past : List Entry) where
       no_line : command_in (call_of past trial.arrival) ≡ None
       no_line = (let f = tried_flies trial.arrival k trial.told in ap (λ r. command_in (call_of past r)) (sym f.2) ∙ (messages f.0 f.1).message)
 
-      by_stage : (x : ℕ) (begun : Stage) → begun ≡ Trying trial.arrival → is_done past x ≡ true → is_some (if is_at x (arrival_in begun) then None else admitted past x) ≡ true
+      by_stage : (x : ℕ) (begun : Stage) → begun ≡ Trying trial.arrival → is_done past x ≡ true
+          → is_some (if is_at x (arrival_in begun) then None else admitted past x) ≡ true
       by_stage x begun at was =
           subst (λ b. is_some (if is_at x (arrival_in b) then None else admitted past x) ≡ true) (sym at)
           (let parts = and_parts (is_some (command_in (call_of past x))) (is_some (admitted past x)) was in
@@ -226,14 +244,17 @@ module _ (c : Config) (run limit : ℕ) (past : List Entry) where
           (λ _. parts.1))
 
       still : (x : ℕ) → is_done past x ≡ true → is_done (Tried w (Yes k) ∷ past) x ≡ true
-      still x was = ap₂ (λ a b. a && b) (and_parts (is_some (command_in (call_of past x))) (is_some (admitted past x)) was).0 (by_stage x (stage past w) trial.begun was)
+      still x was =
+          ap₂ (λ a b. a && b) (and_parts (is_some (command_in (call_of past x))) (is_some (admitted past x)) was).0 (by_stage x (stage past w) trial.begun was)
 
   counted_arrive : (conn size : ℕ) (call : Call) → Counted (Arrive conn size call)
   counted_arrive conn size call =
       (let more : done_count past ≤ count_below (is_done (Arrive conn size call ∷ past)) (arrivals past) =
       count_more (is_done past) (is_done (Arrive conn size call ∷ past)) (arrivals past)
       (λ x less was. ap (λ o. is_some (command_in o) && is_some (admitted past x)) (call_kept (Arrive conn size call) past x less) ∙ was) in
-      cond_both (is_done (Arrive conn size call ∷ past) (arrivals past)) 1 0 (λ n. 0 + done_count past ≤ count_below (is_done (Arrive conn size call ∷ past)) (arrivals past) + n) (λ _. omega (arith, more)) (λ _. omega (arith, more)))
+      cond_both (is_done (Arrive conn size call ∷ past) (arrivals past)) 1 0
+      (λ n. 0 + done_count past ≤ count_below (is_done (Arrive conn size call ∷ past)) (arrivals past) + n) (λ _. omega (arith, more))
+      (λ _. omega (arith, more)))
 
   counted : (e : Entry) → MayFollow c run limit past e → AreMessages c run past → Counted e
   counted (Entered conn) may messages = as_before (done_count past) (done_count (Entered conn ∷ past)) refl
@@ -263,9 +284,19 @@ module _ (c : Config) (run : ℕ) where
 
   made_reference : (p : List (List ℕ)) (servant : List ℕ) (s : Standing) → (with_reference c run p servant s).made ≤ s.made + 1
   made_reference p servant s =
-      elim (live_at s p) as (λ o. made_in (elim o [ Some n ↦ (elim (servant_number c servant) [ Some k ↦ (if is_implicit c s n k then with_made_activation c run p servant s else s) | None ↦ s ]) | None ↦ s ]) ≤ s.made + 1) [
-        | Some n ↦ elim (servant_number c servant) as (λ o. made_in (elim o [ Some k ↦ (if is_implicit c s n k then with_made_activation c run p servant s else s) | None ↦ s ]) ≤ s.made + 1) [
-          | Some k ↦ cond_both (is_implicit c s n k) (with_made_activation c run p servant s) s (λ t. t.made ≤ s.made + 1) (λ _. omega arith) (λ _. no_more s.made)
+      elim (live_at s p) as (λ o. made_in
+      (elim o [
+        | Some n ↦
+            (elim (servant_number c servant) [ Some k ↦ (if is_implicit c s n k then with_made_activation c run p servant s else s) | None ↦ s ])
+        | None ↦ s
+      ]) ≤ s.made + 1) [
+        | Some n ↦ elim (servant_number c servant) as (λ o. made_in (elim o [
+          | Some k ↦
+              (if is_implicit c s n k then with_made_activation c run p servant s else s)
+          | None ↦ s
+        ]) ≤ s.made + 1) [
+          | Some k ↦
+              cond_both (is_implicit c s n k) (with_made_activation c run p servant s) s (λ t. t.made ≤ s.made + 1) (λ _. omega arith) (λ _. no_more s.made)
           | None ↦ no_more s.made
         ]
         | None ↦ no_more s.made
@@ -277,7 +308,8 @@ module _ (c : Config) (run : ℕ) where
   made_command (Some (Manager name (Hold wait))) s = no_more s.made
   made_command (Some (Manager name (Discard wait))) s = no_more s.made
   made_command (Some (Manager name (DeactivateAll true wait))) s =
-      elim (manager_number c name) as (λ o. made_in (elim o [ Some m ↦ with_manager_off c m s | None ↦ s ]) ≤ s.made + 1) [ Some m ↦ no_more s.made | None ↦ no_more s.made ]
+      elim (manager_number c name) as (λ o. made_in (elim o [ Some m ↦ with_manager_off c m s | None ↦ s ]) ≤ s.made + 1)
+      [ Some m ↦ no_more s.made | None ↦ no_more s.made ]
   made_command (Some (Manager name (DeactivateAll false wait))) s = no_more s.made
   made_command (Some (Create p)) s = no_more s.made
   made_command (Some (Destroy p etherealize wait)) s = no_more s.made
@@ -350,7 +382,8 @@ module _ (c : Config) (run : ℕ) where
   made_step past (Left conn) s = same_made s.made
   made_step past (Collect conn a) s = same_made s.made
   made_step past (Admit w r v) s =
-      subst (λ n. (with_command c run (command_done past (Admit w r v)) (with_admitted r (key_in (call_of past r)) v s)).made ≤ n + one_if (is_some (command_done past (Admit w r v)))) (made_admitted r (key_in (call_of past r)) v s)
+      subst (λ n. (with_command c run (command_done past (Admit w r v)) (with_admitted r (key_in (call_of past r)) v s)).made ≤ n + one_if
+      (is_some (command_done past (Admit w r v)))) (made_admitted r (key_in (call_of past r)) v s)
       (made_command (command_done past (Admit w r v)) (with_admitted r (key_in (call_of past r)) v s))
   made_step past (Tried w a) s = by_same _ _ (made_tried (arrival_in (stage past w)) a s)
   made_step past (Incarnated w a) s = by_same _ _ (made_incarnated (stage past w) a s)
@@ -368,7 +401,9 @@ module _ (c : Config) (run : ℕ) where
 
   made_object : (o : ObjectConf) (s : Standing) → (with_object run o s).made ≤ s.made + 1
   made_object o s =
-      elim o.oid as (λ oid. made_in (elim oid [ Some i ↦ with_activation (number_at s o.adapter) o.adapter i (Complete (NamedServant o.servant)) s | None ↦ with_activation (number_at s o.adapter) o.adapter (made_id run (suc s.made)) (Complete (NamedServant o.servant)) (with_made s) ]) ≤ s.made + 1)
+      elim o.oid as (λ oid. made_in
+      (elim oid
+      [ Some i ↦ with_activation (number_at s o.adapter) o.adapter i (Complete (NamedServant o.servant)) s | None ↦ with_activation (number_at s o.adapter) o.adapter (made_id run (suc s.made)) (Complete (NamedServant o.servant)) (with_made s) ]) ≤ s.made + 1)
       [ Some i ↦ no_more s.made | None ↦ omega arith ]
 
   made_objects : (os : List ObjectConf) (s : Standing) → (with_objects run os s).made ≤ s.made + length os
@@ -376,7 +411,8 @@ module _ (c : Config) (run : ℕ) where
   made_objects (o ∷ os) s = (let one = made_object o s in let more = made_objects os (with_object run o s) in omega (arith, one, more))
 
   made_opening : (opening c run).made ≤ length c.objects
-  made_opening = (let all = made_objects c.objects (with_boots c.adapters root_alone) in let none = made_boots c.adapters root_alone in omega (arith, all, none))
+  made_opening =
+      (let all = made_objects c.objects (with_boots c.adapters root_alone) in let none = made_boots c.adapters root_alone in omega (arith, all, none))
 
 module _ (c : Config) (run limit : ℕ) where
   pub messages : (h : List Entry) → IsLegal c run limit h → AreMessages c run h
@@ -390,7 +426,9 @@ module _ (c : Config) (run limit : ℕ) where
 
       flights_object : (o : ObjectConf) (s : Standing) → (with_object run o s).flights ≡ s.flights
       flights_object o s =
-          elim o.oid as (λ oid. flights_in (elim oid [ Some i ↦ with_activation (number_at s o.adapter) o.adapter i (Complete (NamedServant o.servant)) s | None ↦ with_activation (number_at s o.adapter) o.adapter (made_id run (suc s.made)) (Complete (NamedServant o.servant)) (with_made s) ]) ≡ s.flights)
+          elim o.oid as (λ oid. flights_in
+          (elim oid
+          [ Some i ↦ with_activation (number_at s o.adapter) o.adapter i (Complete (NamedServant o.servant)) s | None ↦ with_activation (number_at s o.adapter) o.adapter (made_id run (suc s.made)) (Complete (NamedServant o.servant)) (with_made s) ]) ≡ s.flights)
           [ Some i ↦ refl | None ↦ refl ]
 
       flights_objects : (os : List ObjectConf) (s : Standing) → (with_objects run os s).flights ≡ s.flights

@@ -24,11 +24,14 @@ made_long : (run ordinal : ℕ) → length (made_id run ordinal) ≡ 8
 made_long run ordinal = refl
 
 -- an id whose ordinal wasn't made yet is none that the adapter has
-not_yet : (c : Config) (run made : ℕ) (p : List (List ℕ)) → run < 2 ^ 32 → suc made < 2 ^ 32 → makes_ids (policies_at c p) ≡ true → is_bad_id c run made p (made_id run (suc made)) ≡ true
+not_yet : (c : Config) (run made : ℕ) (p : List (List ℕ)) → run < 2 ^ 32 → suc made < 2 ^ 32 → makes_ids (policies_at c p) ≡ true
+    → is_bad_id c run made p (made_id run (suc made)) ≡ true
 not_yet c run made p small_run small makes =
     let later : nat_lt made (suc made) ≡ true = lt-ltb _ _ (omega arith) in
     ap₂ (λ a b. a && b) makes
-    (or_second (not (length (made_id run (suc made)) == 8)) ((from_be_bytes w32 (take 4 (made_id run (suc made))) == run) && ((from_be_bytes w32 (drop 4 (made_id run (suc made))) == 0) || nat_lt made (from_be_bytes w32 (drop 4 (made_id run (suc made))))))
+    (or_second (not (length (made_id run (suc made)) == 8))
+    ((from_be_bytes w32 (take 4 (made_id run (suc made))) == run) &&
+    ((from_be_bytes w32 (drop 4 (made_id run (suc made))) == 0) || nat_lt made (from_be_bytes w32 (drop 4 (made_id run (suc made))))))
     (ap₂ (λ a b. a && b) (eq-eqb _ _ (made_run run (suc made) small_run))
     (or_second (from_be_bytes w32 (drop 4 (made_id run (suc made))) == 0) (nat_lt made (from_be_bytes w32 (drop 4 (made_id run (suc made)))))
     (ap (λ n. nat_lt made n) (made_ordinal run (suc made) small) ∙ later))))
@@ -49,9 +52,18 @@ module _ (c : Config) (run : ℕ) (s : Standing) (sound : IsSound c run s) (smal
   next_fits p =
       false_from_ne_true (is_bad_id c run (suc s.made) p (made_id run (suc s.made)))
       (λ bad.
-      let parts = and_parts (makes_ids (policies_at c p)) (not (length (made_id run (suc s.made)) == 8) || ((from_be_bytes w32 (take 4 (made_id run (suc s.made))) == run) && ((from_be_bytes w32 (drop 4 (made_id run (suc s.made))) == 0) || nat_lt (suc s.made) (from_be_bytes w32 (drop 4 (made_id run (suc s.made))))))) bad in
-      let inner = and_parts (from_be_bytes w32 (take 4 (made_id run (suc s.made))) == run) ((from_be_bytes w32 (drop 4 (made_id run (suc s.made))) == 0) || nat_lt (suc s.made) (from_be_bytes w32 (drop 4 (made_id run (suc s.made))))) parts.1 in
-      elim (or_cases (from_be_bytes w32 (drop 4 (made_id run (suc s.made))) == 0) (nat_lt (suc s.made) (from_be_bytes w32 (drop 4 (made_id run (suc s.made))))) inner.1) [
+      let parts =
+      and_parts (makes_ids (policies_at c p))
+      (not (length (made_id run (suc s.made)) == 8) ||
+      ((from_be_bytes w32 (take 4 (made_id run (suc s.made))) == run) &&
+      ((from_be_bytes w32 (drop 4 (made_id run (suc s.made))) == 0) || nat_lt (suc s.made) (from_be_bytes w32 (drop 4 (made_id run (suc s.made))))))) bad in
+      let inner =
+      and_parts (from_be_bytes w32 (take 4 (made_id run (suc s.made))) == run)
+      ((from_be_bytes w32 (drop 4 (made_id run (suc s.made))) == 0) || nat_lt (suc s.made) (from_be_bytes w32 (drop 4 (made_id run (suc s.made))))) parts.1 in
+      elim (or_cases (from_be_bytes w32 (drop 4 (made_id run (suc s.made))) == 0)
+      (nat_lt (suc s.made) (from_be_bytes w32 (drop 4 (made_id run (suc s.made))))) inner.1) [
         | inl is_zero ↦ (let e : suc s.made ≡ 0 = sym (made_ordinal run (suc s.made) small) ∙ eqb-true _ _ is_zero in omega arith)
-        | inr is_later ↦ (let less : suc s.made < from_be_bytes w32 (drop 4 (made_id run (suc s.made))) = ltb-true _ _ is_later in let e = made_ordinal run (suc s.made) small in omega arith)
+        | inr is_later ↦
+            (let less : suc s.made < from_be_bytes w32 (drop 4 (made_id run (suc s.made))) = ltb-true _ _ is_later in
+            let e = made_ordinal run (suc s.made) small in omega arith)
       ])

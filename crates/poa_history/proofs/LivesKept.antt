@@ -89,14 +89,29 @@ module _ (c : Config) (run : ℕ) where
   mapped_shape : (s : Standing) (f : Activation → Activation) → Shape s.activations (map f s.activations)
   mapped_shape s f = as_many (length-map s.activations f)
 
-  off_shape : (s : Standing) (name : List ℕ) → Shape s.activations (activations_in (elim (manager_number c name) [ Some m ↦ with_manager_off c m s | None ↦ s ]))
-  off_shape s name = elim (manager_number c name) as (λ o. Shape s.activations (activations_in (elim o [ Some m ↦ with_manager_off c m s | None ↦ s ]))) [ Some m ↦ mapped_shape s _ | None ↦ as_many refl ]
+  off_shape : (s : Standing) (name : List ℕ)
+      → Shape s.activations (activations_in (elim (manager_number c name) [ Some m ↦ with_manager_off c m s | None ↦ s ]))
+  off_shape s name =
+      elim (manager_number c name) as (λ o. Shape s.activations (activations_in (elim o [ Some m ↦ with_manager_off c m s | None ↦ s ])))
+      [ Some m ↦ mapped_shape s _ | None ↦ as_many refl ]
 
   reference_shape : (s : Standing) (p : List (List ℕ)) (servant : List ℕ) → Shape s.activations (with_reference c run p servant s).activations
   reference_shape s p servant =
-      elim (live_at s p) as (λ o. Shape s.activations (activations_in (elim o [ Some n ↦ (elim (servant_number c servant) [ Some k ↦ (if is_implicit c s n k then with_made_activation c run p servant s else s) | None ↦ s ]) | None ↦ s ]))) [
-        | Some n ↦ elim (servant_number c servant) as (λ o. Shape s.activations (activations_in (elim o [ Some k ↦ (if is_implicit c s n k then with_made_activation c run p servant s else s) | None ↦ s ]))) [
-          | Some k ↦ cond_both (is_implicit c s n k) (with_made_activation c run p servant s) s (λ t. Shape s.activations t.activations) (λ _. one_more _ refl refl) (λ _. as_many refl)
+      elim (live_at s p) as (λ o. Shape s.activations
+      (activations_in
+      (elim o [
+        | Some n ↦
+            (elim (servant_number c servant) [ Some k ↦ (if is_implicit c s n k then with_made_activation c run p servant s else s) | None ↦ s ])
+        | None ↦ s
+      ]))) [
+        | Some n ↦ elim (servant_number c servant) as (λ o. Shape s.activations (activations_in (elim o [
+          | Some k ↦
+              (if is_implicit c s n k then with_made_activation c run p servant s else s)
+          | None ↦ s
+        ]))) [
+          | Some k ↦
+              cond_both (is_implicit c s n k) (with_made_activation c run p servant s) s (λ t. Shape s.activations t.activations) (λ _. one_more _ refl refl)
+              (λ _. as_many refl)
           | None ↦ as_many refl
         ]
         | None ↦ as_many refl
@@ -166,15 +181,23 @@ module _ (c : Config) (run : ℕ) where
   etherealized_shape s (Ran r) = as_many refl
   etherealized_shape s (Removing n) = mapped_shape s _
 
-  admit_shape : (past : List Entry) (s : Standing) (w r : ℕ) (v : Verdict) (call : Option Call) → call_of past r ≡ call → Shape s.activations (changed c run past (Admit w r v) s).activations
+  admit_shape : (past : List Entry) (s : Standing) (w r : ℕ) (v : Verdict) (call : Option Call) → call_of past r ≡ call
+      → Shape s.activations (changed c run past (Admit w r v) s).activations
   admit_shape past s w r v None at =
-      subst (λ d. Shape s.activations (with_command c run d (with_admitted r (key_in (call_of past r)) v s)).activations) (sym (cond_both (is_accepted v) (command_in (call_of past r)) None (λ o. o ≡ None) (λ _. ap command_in at) (λ _. refl))) (admitted_shape s r (key_in (call_of past r)) v)
+      subst (λ d. Shape s.activations (with_command c run d (with_admitted r (key_in (call_of past r)) v s)).activations)
+      (sym (cond_both (is_accepted v) (command_in (call_of past r)) None (λ o. o ≡ None) (λ _. ap command_in at) (λ _. refl)))
+      (admitted_shape s r (key_in (call_of past r)) v)
   admit_shape past s w r v (Some (Request head target operation body)) at =
-      subst (λ d. Shape s.activations (with_command c run d (with_admitted r (key_in (call_of past r)) v s)).activations) (sym (cond_both (is_accepted v) (command_in (call_of past r)) None (λ o. o ≡ None) (λ _. ap command_in at) (λ _. refl))) (admitted_shape s r (key_in (call_of past r)) v)
+      subst (λ d. Shape s.activations (with_command c run d (with_admitted r (key_in (call_of past r)) v s)).activations)
+      (sym (cond_both (is_accepted v) (command_in (call_of past r)) None (λ o. o ≡ None) (λ _. ap command_in at) (λ _. refl)))
+      (admitted_shape s r (key_in (call_of past r)) v)
   admit_shape past s w r v (Some (Locate head target)) at =
-      subst (λ d. Shape s.activations (with_command c run d (with_admitted r (key_in (call_of past r)) v s)).activations) (sym (cond_both (is_accepted v) (command_in (call_of past r)) None (λ o. o ≡ None) (λ _. ap command_in at) (λ _. refl))) (admitted_shape s r (key_in (call_of past r)) v)
+      subst (λ d. Shape s.activations (with_command c run d (with_admitted r (key_in (call_of past r)) v s)).activations)
+      (sym (cond_both (is_accepted v) (command_in (call_of past r)) None (λ o. o ≡ None) (λ _. ap command_in at) (λ _. refl)))
+      (admitted_shape s r (key_in (call_of past r)) v)
   admit_shape past s w r v (Some (Line number command)) at =
-      subst (λ k. Shape s.activations (with_command c run (command_done past (Admit w r v)) (with_admitted r k v s)).activations) (sym (ap key_in at)) (command_shape s (command_done past (Admit w r v)))
+      subst (λ k. Shape s.activations (with_command c run (command_done past (Admit w r v)) (with_admitted r k v s)).activations) (sym (ap key_in at))
+      (command_shape s (command_done past (Admit w r v)))
 
   pub changed_shape : (past : List Entry) (s : Standing) (e : Entry) → Shape s.activations (changed c run past e s).activations
   changed_shape past s (Entered conn) = as_many refl
@@ -192,17 +215,22 @@ module _ (c : Config) (run : ℕ) where
   changed_shape past s (Abandon w) = as_many refl
 
   -- what stands at the next place is new, and has the next number
-  next_is : (past : List Entry) (e : Entry) (a : Activation) → slice_get (standing c run (e ∷ past)).activations (length (standing c run past).activations) ≡ Some a → a.number ≡ length (standing c run past).activations
+  next_is : (past : List Entry) (e : Entry) (a : Activation)
+      → slice_get (standing c run (e ∷ past)).activations (length (standing c run past).activations) ≡ Some a
+      → a.number ≡ length (standing c run past).activations
   next_is past e a got =
       let s = standing c run past in
       let t = changed c run past e s in
       let found = got_image (let_out c t) t.activations (length s.activations) a got in
       elim (changed_shape past s e) [
         | as_many same ↦ absurd (let low = slice_get_within t.activations (length s.activations) found.0 found.1 in omega (arith, low, same))
-        | one_more b number grown ↦ ap (λ x. x.number) found.2 ∙ ((later_let_out c t found.0).number ∙ (ap (λ x. x.number) (got_last s.activations b found.0 (subst (λ xs. slice_get xs (length s.activations) ≡ Some found.0) grown found.1)) ∙ number))
+        | one_more b number grown ↦ ap (λ x. x.number) found.2
+            ∙ ((later_let_out c t found.0).number
+            ∙ (ap (λ x. x.number) (got_last s.activations b found.0 (subst (λ xs. slice_get xs (length s.activations) ≡ Some found.0) grown found.1)) ∙ number))
       ]
 
-module _ (c : Config) (run limit : ℕ) (past : List Entry) (e : Entry) (may : MayFollow c run limit past e) (sound : IsSound c run (standing c run past)) (moves : MayMove c run past (standing c run past) sound e) (held_ : IsManned c run past) where
+module _ (c : Config) (run limit : ℕ) (past : List Entry) (e : Entry) (may : MayFollow c run limit past e) (sound : IsSound c run (standing c run past))
+    (moves : MayMove c run past (standing c run past) sound e) (held_ : IsManned c run past) where
   abbrev s : Standing
   s = standing c run past
 
@@ -210,7 +238,10 @@ module _ (c : Config) (run limit : ℕ) (past : List Entry) (e : Entry) (may : M
   activation_found a there =
       elim (find (λ b. b.number == a.number) s.activations) as (λ o. find (λ b. b.number == a.number) s.activations ≡ o → o ≡ Some a) [
         | None ↦ λ none. absurd (find_none (λ b. b.number == a.number) a s.activations none there (eq-eqb a.number a.number refl))
-        | Some b ↦ λ found. (let is = find_in (λ x. x.number == a.number) b s.activations found in ap (λ x. Some x) (sound.activation_alone b a is.0 there (eqb-true b.number a.number is.1)))
+        | Some b ↦
+            λ found.
+            (let is = find_in (λ x. x.number == a.number) b s.activations found in
+            ap (λ x. Some x) (sound.activation_alone b a is.0 there (eqb-true b.number a.number is.1)))
       ] refl
 
   numbered_found : (n : ℕ) (a : Activation) → In a s.activations → a.number ≡ n → activation_numbered s n ≡ Some a
@@ -234,7 +265,12 @@ module _ (c : Config) (run limit : ℕ) (past : List Entry) (e : Entry) (may : M
           elim it.how [
             | active a there at of_id is_active' same ↦ (let f : Serve a.number ≡ Serve n = same in let number : a.number ≡ n = cc in
                 let parts = and_parts (is_complete a) (not a.ending) is_active' in
-                record { it = a; begun = numbered_found n a there number; complete = parts.0; mapped = false_from_ne_true a.out (λ out. true≢false (sym (held_.out_ending a there out) ∙ not_true a.ending parts.1)) })
+                record {
+                  it = a;
+                  begun = numbered_found n a there number;
+                  complete = parts.0;
+                  mapped = false_from_ne_true a.out (λ out. true≢false (sym (held_.out_ending a there out) ∙ not_true a.ending parts.1));
+                })
             | preset name same ↦ absurd (let f : Preset name ≡ Serve n = same in cc)
             | located name same ↦ absurd (let f : Locator name ≡ Serve n = same in cc)
             | incarnated activator idle same ↦ absurd (let f : Incarnate (length s.activations) ≡ Serve n = same in cc)
@@ -265,7 +301,9 @@ module _ (c : Config) (run limit : ℕ) (past : List Entry) (e : Entry) (may : M
   lives_takeout : (w n : ℕ) (etherealize : Bool) → e ≡ TakeOut w n etherealize → IsRemovable s n etherealize
   lives_takeout w n etherealize is =
       let it = takeout_is c run past w n etherealize (subst (λ x. MayFollow c run limit past x) is may) in
-      let due = and_parts (is_complete it.it && (is_ending it.it && (has_activator c it.it.path && not it.it.out))) (not (is_used s.flights it.it.number) && not (is_changing c s.activations it.it.adapter)) it.due in
+      let due =
+      and_parts (is_complete it.it && (is_ending it.it && (has_activator c it.it.path && not it.it.out)))
+      (not (is_used s.flights it.it.number) && not (is_changing c s.activations it.it.adapter)) it.due in
       let complete = and_parts (is_complete it.it) (is_ending it.it && (has_activator c it.it.path && not it.it.out)) due.0 in
       let ends = and_parts (is_ending it.it) (has_activator c it.it.path && not it.it.out) complete.1 in
       record {
@@ -274,7 +312,9 @@ module _ (c : Config) (run limit : ℕ) (past : List Entry) (e : Entry) (may : M
         complete = complete.0;
         ending = ends.0;
         mapped = not_true it.it.out (and_parts (has_activator c it.it.path) (not it.it.out) ends.1).1;
-        unused = ap (is_used s.flights) (sym it.numbered) ∙ not_true (is_used s.flights it.it.number) (and_parts (not (is_used s.flights it.it.number)) (not (is_changing c s.activations it.it.adapter)) due.1).0;
+        unused = ap (is_used s.flights) (sym it.numbered)
+            ∙ not_true (is_used s.flights it.it.number)
+            (and_parts (not (is_used s.flights it.it.number)) (not (is_changing c s.activations it.it.adapter)) due.1).0;
         told = sym it.told;
       }
 
@@ -292,7 +332,8 @@ module _ (c : Config) (run limit : ℕ) (past : List Entry) (e : Entry) (may : M
         out = ap (λ x. x.out) (sym same) ∙ holds.3;
         loud = ap (λ x. x.quiet) (sym same) ∙ holds.4;
         first = ap (λ x. x.etherealized) (sym same) ∙ holds.5;
-        unused = ap (is_used s.flights) (sym (eqb-true it.it.number it.number there.1)) ∙ out_unused c run past held_ sound it.it there.0 (ap (λ x. x.out) (sym same) ∙ holds.3);
+        unused = ap (is_used s.flights) (sym (eqb-true it.it.number it.number there.1))
+            ∙ out_unused c run past held_ sound it.it there.0 (ap (λ x. x.out) (sym same) ∙ holds.3);
         cleanup_is = sym it.cleanup_is;
         remaining_is = sym it.remaining_is;
       }
@@ -316,10 +357,12 @@ module _ (c : Config) (run limit : ℕ) (past : List Entry) (e : Entry) (may : M
   over_before : (a : Activation) → IsBegun c run past s e a → (b : Activation) → In b s.activations → b.adapter ≡ a.adapter → b.oid ≡ a.oid → is_over c b ≡ true
   over_before a fresh b there at of_id =
       elim fresh.how [
-        | incarnating w r n key same has adapter path oid phase ↦ ((moves.admits w r (Incarnate n) key same has).begins n refl).over b there (at ∙ adapter) (of_id ∙ oid)
+        | incarnating w r n key same has adapter path oid phase ↦
+            ((moves.admits w r (Incarnate n) key same has).begins n refl).over b there (at ∙ adapter) (of_id ∙ oid)
         | activating p servant done adapter path oid phase ↦ (moves.does (Activate p servant) done).over b there (at ∙ adapter) (of_id ∙ oid)
         | activating_id p oid' servant done adapter path oid phase ↦ (moves.does (ActivateId p oid' servant) done).over b there (at ∙ adapter) (of_id ∙ oid)
-        | referring p servant n k done lives known implicit adapter path oid phase ↦ (moves.does (Reference p servant) done n k lives known implicit).over b there (at ∙ adapter) (of_id ∙ oid)
+        | referring p servant n k done lives known implicit adapter path oid phase ↦
+            (moves.does (Reference p servant) done n k lives known implicit).over b there (at ∙ adapter) (of_id ∙ oid)
       ]
 
   freely : BeginsFreely c run past e
@@ -330,7 +373,9 @@ module _ (c : Config) (run limit : ℕ) (past : List Entry) (e : Entry) (may : M
         | begun fresh ↦ record {
           number = number;
           free = all_by (λ b. is_of a.adapter a.oid b ≡ true → is_over c b ≡ true) s.activations
-              (λ b there of_it. (let parts = and_parts (b.adapter == a.adapter) (same_bytes b.oid a.oid) of_it in over_before a fresh b there (eqb-true b.adapter a.adapter parts.0) (bytes_same b.oid a.oid parts.1)));
+              (λ b there of_it.
+              (let parts = and_parts (b.adapter == a.adapter) (same_bytes b.oid a.oid) of_it in
+              over_before a fresh b there (eqb-true b.adapter a.adapter parts.0) (bytes_same b.oid a.oid parts.1)));
         }
       ]
 
@@ -341,7 +386,8 @@ module _ (c : Config) (run limit : ℕ) (past : List Entry) (e : Entry) (may : M
 opened_not_over : (c : Config) (run : ℕ) (a : Activation) → In a (opening c run).activations → is_over c a ≡ false
 opened_not_over c run a there =
     let opens = all_open c run a there in
-    ap₂ (λ phase out. (elim phase [ Void ↦ true | Begun ↦ false | Complete t ↦ false ]) || (out && (a.quiet || (not (has_activator c a.path) || a.etherealized)))) opens.1.1 opens.0
+    ap₂ (λ phase out. (elim phase [ Void ↦ true | Begun ↦ false | Complete t ↦ false ]) ||
+    (out && (a.quiet || (not (has_activator c a.path) || a.etherealized)))) opens.1.1 opens.0
 
 opens_freely : (c : Config) (run : ℕ) → IsGiven c run → OpensFreely c run
 opens_freely c run given a b a_in b_in at of_id =

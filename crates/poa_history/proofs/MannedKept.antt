@@ -50,7 +50,9 @@ use Rattle.poa_history.proofs.LegalSound.{legal_sound}
 use Rattle.poa_history.proofs.StagesFrom.{maker, stage_other, own, held_admitted, begun_flight, flight_says, brings_flights, brings_activations, arrival_before, removal_before, begun_before, flight_kept, arrival_after, admitted_other}
 
 -- what runs goes on, where its arrival stays admitted and in flight, and activations go on
-running_kept : (c : Config) (h g : List Entry) (s t : Standing) (r : ℕ) → admitted g r ≡ admitted h r → ((activation : Option ℕ) → IsFlying s r activation → IsFlying t r activation) → ((a : Activation) → In a s.activations → (b : Activation) × In b t.activations × IsLater c a b) → IsRunning h s r → IsRunning g t r
+running_kept : (c : Config) (h g : List Entry) (s t : Standing) (r : ℕ) → admitted g r ≡ admitted h r
+    → ((activation : Option ℕ) → IsFlying s r activation → IsFlying t r activation)
+    → ((a : Activation) → In a s.activations → (b : Activation) × In b t.activations × IsLater c a b) → IsRunning h s r → IsRunning g t r
 running_kept c h g s t r same flies later it = record {
   verdict = it.verdict;
   by = same ∙ it.by;
@@ -59,7 +61,8 @@ running_kept c h g s t r same flies later it = record {
   served = λ n names. (let a = it.served n names in let b = later a.0 a.1 in (b.0, b.1, b.2.number ∙ a.2, (a.3.0, b.2.served a.3.0 a.3.1)));
 }
 
-module _ (c : Config) (run limit : ℕ) (past : List Entry) (e : Entry) (may : MayFollow c run limit past e) (sound : IsSound c run (standing c run past)) (after : IsSound c run (standing c run (e ∷ past))) (given : IsGivenAlone c run) (held_ : IsManned c run past) where
+module _ (c : Config) (run limit : ℕ) (past : List Entry) (e : Entry) (may : MayFollow c run limit past e) (sound : IsSound c run (standing c run past))
+    (after : IsSound c run (standing c run (e ∷ past))) (given : IsGivenAlone c run) (held_ : IsManned c run past) where
   abbrev s : Standing
   s = standing c run past
 
@@ -79,7 +82,8 @@ module _ (c : Config) (run limit : ℕ) (past : List Entry) (e : Entry) (may : M
   later = step_later c run past e
 
   -- what an activation is when what has ended went
-  settle_in : (a : Activation) → In a s1.activations → (b : Activation) × In b t.activations × (b.number ≡ a.number) × (b.adapter ≡ a.adapter) × (b.phase ≡ a.phase) × (b.quiet ≡ a.quiet) × (b.etherealized ≡ a.etherealized) × (a.out ≡ true → b.out ≡ true)
+  settle_in : (a : Activation) → In a s1.activations → (b : Activation) × In b t.activations × (b.number ≡ a.number) × (b.adapter ≡ a.adapter)
+      × (b.phase ≡ a.phase) × (b.quiet ≡ a.quiet) × (b.etherealized ≡ a.etherealized) × (a.out ≡ true → b.out ≡ true)
   settle_in a there =
       (let_out c s1 a, image_in (let_out c s1) a s1.activations there, kept (λ x. x.number) refl, kept (λ x. x.adapter) refl, kept (λ x. x.phase) refl, kept (λ x. x.quiet) refl, kept (λ x. x.etherealized) refl, (later_let_out c s1 a).out)
     where
@@ -108,20 +112,28 @@ module _ (c : Config) (run limit : ℕ) (past : List Entry) (e : Entry) (may : M
     other_holds : (b : Stage) → stage past w ≡ b → Holds past s b → Holds (e ∷ past) t b
     other_holds Free is holds = tt
     other_holds (Trying r) is holds = (same_admitted r (ap arrival_in is) ∙ holds.0, still_flying r (ap arrival_in is) None holds.1)
-    other_holds (Incarnating r n) is holds = (same_admitted r (ap arrival_in is) ∙ holds.0, still_flying r (ap arrival_in is) (Some n) holds.1, still_begun holds.2)
+    other_holds (Incarnating r n) is holds =
+        (same_admitted r (ap arrival_in is) ∙ holds.0, still_flying r (ap arrival_in is) (Some n) holds.1, still_begun holds.2)
       where
-        still_begun : ((a : Activation) × In a s.activations × (a.number ≡ n) × (a.phase ≡ Begun)) → (b : Activation) × In b t.activations × (b.number ≡ n) × (b.phase ≡ Begun)
+        still_begun : ((a : Activation) × In a s.activations × (a.number ≡ n) × (a.phase ≡ Begun)) → (b : Activation) × In b t.activations × (b.number ≡ n)
+            × (b.phase ≡ Begun)
         still_begun (a, there, at_n, begins_) =
             let (b, there', goes) = later a there in (
               b,
               there',
               goes.number ∙ at_n,
               elim (activation_from c run past e b there') [
-                | activation_begun fresh ↦ absurd (let low = sound.counted a there in let f : b.number ≡ a.number = goes.number in let g : b.number ≡ length s.activations = fresh.number in omega (arith, low, f, g))
+                | activation_begun fresh ↦
+                    absurd (let low = sound.counted a there in let f : b.number ≡ a.number = goes.number in
+                    let g : b.number ≡ length s.activations = fresh.number in omega (arith, low, f, g))
                 | activation_stood a' was step ↦ (let same : a' ≡ a = sound.activation_alone a' a was there (sym step.later.number ∙ goes.number) in
                     elim step.came [
                       | inl kept ↦ kept ∙ (ap (λ x. x.phase) same ∙ begins_)
-                      | inr came ↦ absurd (other (ap maker came.1.same ∙ ap (λ x. Some x) (held_.begun_alone came.1.worker w came.1.arrival r n (came.1.begun ∙ ap (λ m. Incarnating came.1.arrival m) (ap (λ x. x.number) same ∙ at_n)) is)))
+                      | inr came ↦
+                          absurd (other
+                          (ap maker came.1.same ∙ ap (λ x. Some x)
+                          (held_.begun_alone came.1.worker w came.1.arrival r n
+                          (came.1.begun ∙ ap (λ m. Incarnating came.1.arrival m) (ap (λ x. x.number) same ∙ at_n)) is)))
                     ])
               ],
             )
@@ -129,11 +141,14 @@ module _ (c : Config) (run limit : ℕ) (past : List Entry) (e : Entry) (may : M
     other_holds (Ran r) is holds = still_running r (ap arrival_in is) holds
     other_holds (Removing n) is holds = still_removed holds
       where
-        still_removed : ((a : Activation) × In a s.activations × (a.number ≡ n) × (a.out ≡ true) × (a.quiet ≡ false) × (a.etherealized ≡ false)) → (b : Activation) × In b t.activations × (b.number ≡ n) × (b.out ≡ true) × (b.quiet ≡ false) × (b.etherealized ≡ false)
+        still_removed : ((a : Activation) × In a s.activations × (a.number ≡ n) × (a.out ≡ true) × (a.quiet ≡ false) × (a.etherealized ≡ false))
+            → (b : Activation) × In b t.activations × (b.number ≡ n) × (b.out ≡ true) × (b.quiet ≡ false) × (b.etherealized ≡ false)
         still_removed (a, there, at_n, out, loud, untold) =
             let (b, there', goes) = later a there in
             elim (activation_from c run past e b there') [
-              | activation_begun fresh ↦ absurd (let low = sound.counted a there in let f : b.number ≡ a.number = goes.number in let g : b.number ≡ length s.activations = fresh.number in omega (arith, low, f, g))
+              | activation_begun fresh ↦
+                  absurd (let low = sound.counted a there in let f : b.number ≡ a.number = goes.number in
+                  let g : b.number ≡ length s.activations = fresh.number in omega (arith, low, f, g))
               | activation_stood a' was step ↦ (let same : a' ≡ a = sound.activation_alone a' a was there (sym step.later.number ∙ goes.number) in (
                 b,
                 there',
@@ -145,7 +160,9 @@ module _ (c : Config) (run limit : ℕ) (past : List Entry) (e : Entry) (may : M
                 ]),
                 false_from_ne_true b.etherealized (λ told. elim (step.told_back told) [
                   | inl before ↦ true≢false (sym before ∙ (ap (λ x. x.etherealized) same ∙ untold))
-                  | inr tells ↦ other (ap maker tells.3 ∙ ap (λ x. Some x) (held_.removal_alone tells.0 w n (tells.4 ∙ ap (λ m. Removing m) (ap (λ x. x.number) same ∙ at_n)) is))
+                  | inr tells ↦
+                      other (ap maker tells.3 ∙ ap (λ x. Some x)
+                      (held_.removal_alone tells.0 w n (tells.4 ∙ ap (λ m. Removing m) (ap (λ x. x.number) same ∙ at_n)) is))
                 ]),
               ))
             ]
@@ -153,10 +170,12 @@ module _ (c : Config) (run limit : ℕ) (past : List Entry) (e : Entry) (may : M
   -- the worker's own entry
   module _ (w : ℕ) where
     -- a flight of the arrival, by the Admit of this entry
-    begun_flying : (r : ℕ) (u : Verdict) (key : Key) (f : Flight) → e ≡ Admit w r u → is_accepted u ≡ false → key_in (call_of past r) ≡ Some key → flight_for s r key u ≡ Some f → In f t.flights
+    begun_flying : (r : ℕ) (u : Verdict) (key : Key) (f : Flight) → e ≡ Admit w r u → is_accepted u ≡ false → key_in (call_of past r) ≡ Some key
+        → flight_for s r key u ≡ Some f → In f t.flights
     begun_flying r u key f is none has for_ =
         subst (λ y. In f (changed c run past y s).flights) (sym is)
-        (subst (λ d. In f (with_command c run d (with_admitted r (key_in (call_of past r)) u s)).flights) (ap (λ b. if b then command_in (call_of past r) else None) (sym none))
+        (subst (λ d. In f (with_command c run d (with_admitted r (key_in (call_of past r)) u s)).flights)
+        (ap (λ b. if b then command_in (call_of past r) else None) (sym none))
         (subst (λ k. In f (with_admitted r k u s).flights) (sym has) (begun_flight s r key u f for_)))
 
     admitted_now : (r : ℕ) (u : Verdict) → e ≡ Admit w r u → admitted (e ∷ past) r ≡ Some u
@@ -181,11 +200,13 @@ module _ (c : Config) (run limit : ℕ) (past : List Entry) (e : Entry) (may : M
           verdict = Serve n;
           by = admitted_now r (Serve n) is;
           run = refl;
-          flying = (record { arrival = r; adapter = adapter_met (walk s.nodes key.0.path); activation = Some n; child = None }, begun_flying r (Serve n) key.0 _ is refl key.1 refl, refl, refl);
+          flying =
+              (record { arrival = r; adapter = adapter_met (walk s.nodes key.0.path); activation = Some n; child = None }, begun_flying r (Serve n) key.0 _ is refl key.1 refl, refl, refl);
           served = λ m names. elim told.how [
             | active a there at of_id is_active' same ↦ (let f : Serve a.number ≡ Serve n = same in let g : a.number ≡ n = cc in
                 let nm : Some n ≡ Some m = names in let nm' : n ≡ m = cc in
-                let (b, there', goes) = later a there in let phase = complete_phase a is_active' in (b, there', goes.number ∙ (g ∙ nm'), (phase.0, goes.served phase.0 phase.1)))
+                let (b, there', goes) = later a there in let phase = complete_phase a is_active' in
+                (b, there', goes.number ∙ (g ∙ nm'), (phase.0, goes.served phase.0 phase.1)))
             | preset name same ↦ absurd (let f : Preset name ≡ Serve n = same in cc)
             | located name same ↦ absurd (let f : Locator name ≡ Serve n = same in cc)
             | begun_served activator idle same ↦ absurd (let f : Incarnate (length s.activations) ≡ Serve n = same in cc)
@@ -196,16 +217,31 @@ module _ (c : Config) (run limit : ℕ) (past : List Entry) (e : Entry) (may : M
     holds_other r u name (inl which) is =
         let is' : e ≡ Admit w r (Preset name) = is ∙ ap (λ x. Admit w r x) which in
         let key = keyed r (Preset name) is' refl in
-        record { verdict = Preset name; by = admitted_now r (Preset name) is'; run = refl; flying = (record { arrival = r; adapter = adapter_met (walk s.nodes key.0.path); activation = None; child = None }, begun_flying r (Preset name) key.0 _ is' refl key.1 refl, refl, refl); served = λ m names. absurd (let f : None ≡ Some m = names in cc) }
+        record {
+          verdict = Preset name;
+          by = admitted_now r (Preset name) is';
+          run = refl;
+          flying =
+              (record { arrival = r; adapter = adapter_met (walk s.nodes key.0.path); activation = None; child = None }, begun_flying r (Preset name) key.0 _ is' refl key.1 refl, refl, refl);
+          served = λ m names. absurd (let f : None ≡ Some m = names in cc);
+        }
     holds_other r u name (inr which) is =
         let is' : e ≡ Admit w r (Locator name) = is ∙ ap (λ x. Admit w r x) which in
         let key = keyed r (Locator name) is' refl in
-        record { verdict = Locator name; by = admitted_now r (Locator name) is'; run = refl; flying = (record { arrival = r; adapter = adapter_met (walk s.nodes key.0.path); activation = None; child = None }, begun_flying r (Locator name) key.0 _ is' refl key.1 refl, refl, refl); served = λ m names. absurd (let f : None ≡ Some m = names in cc) }
+        record {
+          verdict = Locator name;
+          by = admitted_now r (Locator name) is';
+          run = refl;
+          flying =
+              (record { arrival = r; adapter = adapter_met (walk s.nodes key.0.path); activation = None; child = None }, begun_flying r (Locator name) key.0 _ is' refl key.1 refl, refl, refl);
+          served = λ m names. absurd (let f : None ≡ Some m = names in cc);
+        }
 
     next_begun : (r n : ℕ) → e ≡ Admit w r (Incarnate n) → n ≡ length s.activations
     next_begun r n is =
         let key = keyed r (Incarnate n) is refl in
-        let told = served_by c run past sound w r (Incarnate n) key.0 refl (admission_is c run past w r (Incarnate n) (as_this (Admit w r (Incarnate n)) is)).told key.1 in
+        let told =
+        served_by c run past sound w r (Incarnate n) key.0 refl (admission_is c run past w r (Incarnate n) (as_this (Admit w r (Incarnate n)) is)).told key.1 in
         elim told.how [
           | active a there at of_id is_active' same ↦ absurd (let f : Serve a.number ≡ Incarnate n = same in cc)
           | preset name same ↦ absurd (let f : Preset name ≡ Incarnate n = same in cc)
@@ -214,10 +250,26 @@ module _ (c : Config) (run limit : ℕ) (past : List Entry) (e : Entry) (may : M
         ]
 
     -- the activation that the Admit begins
-    begun_activation : (r n : ℕ) (key : Key) → e ≡ Admit w r (Incarnate n) → key_in (call_of past r) ≡ Some key → (b : Activation) × In b t.activations × (b.number ≡ length s.activations) × (b.phase ≡ Begun) × (b.adapter ≡ adapter_met (walk s.nodes key.path))
+    begun_activation : (r n : ℕ) (key : Key) → e ≡ Admit w r (Incarnate n) → key_in (call_of past r) ≡ Some key → (b : Activation) × In b t.activations
+        × (b.number ≡ length s.activations) × (b.phase ≡ Begun) × (b.adapter ≡ adapter_met (walk s.nodes key.path))
     begun_activation r n key is has =
-        let a : Activation = record { number = length s.activations; adapter = adapter_met (walk s.nodes key.path); path = key.path; oid = key.oid; phase = Begun; ending = false; quiet = false; out = false; cleanup = false; remaining = false; etherealized = false } in
-        let there : In a s1.activations = subst (λ y. In a (changed c run past y s).activations) (sym is) (subst (λ k. In a (with_admitted r k (Incarnate n) s).activations) (sym has) (in_back a s.activations)) in
+        let a : Activation =
+        record {
+          number = length s.activations;
+          adapter = adapter_met (walk s.nodes key.path);
+          path = key.path;
+          oid = key.oid;
+          phase = Begun;
+          ending = false;
+          quiet = false;
+          out = false;
+          cleanup = false;
+          remaining = false;
+          etherealized = false;
+        } in
+        let there : In a s1.activations =
+        subst (λ y. In a (changed c run past y s).activations) (sym is)
+        (subst (λ k. In a (with_admitted r k (Incarnate n) s).activations) (sym has) (in_back a s.activations)) in
         let b = settle_in a there in
         (b.0, b.1, b.2, b.4, b.3)
 
@@ -227,7 +279,13 @@ module _ (c : Config) (run limit : ℕ) (past : List Entry) (e : Entry) (may : M
         let next = next_begun r n is in
         let b = begun_activation r n key.0 is key.1 in (
           admitted_now r (Incarnate n) is,
-          (record { arrival = r; adapter = adapter_met (walk s.nodes key.0.path); activation = Some (length s.activations); child = None }, begun_flying r (Incarnate n) key.0 _ is refl key.1 refl, refl, ap (λ x. Some x) (sym next)),
+          (
+            record { arrival = r; adapter = adapter_met (walk s.nodes key.0.path); activation = Some (length s.activations); child = None },
+            begun_flying r
+                (Incarnate n) key.0 _ is refl key.1 refl,
+            refl,
+            ap (λ x. Some x) (sym next),
+          ),
           (b.0, b.1, b.2 ∙ sym next, b.3),
         )
 
@@ -271,17 +329,21 @@ module _ (c : Config) (run limit : ℕ) (past : List Entry) (e : Entry) (may : M
             let phase = comes_complete a it yes_ in
             let y : Activation = at_number it.number (come_to (phase_by c it.number a)) x in
             let activations : s1.activations ≡ map (at_number it.number (come_to (phase_by c it.number a))) s.activations =
-            ap (λ z. (changed c run past z s).activations) is ∙ (ap (λ b. (with_incarnated c b a s).activations) it.begun ∙ brings_activations c s it.arrival it.number a yes_) in
-            let in_y : In y s1.activations = subst (λ as'. In y as') (sym activations) (image_in (at_number it.number (come_to (phase_by c it.number a))) x s.activations there) in
+            ap (λ z. (changed c run past z s).activations) is
+            ∙ (ap (λ b. (with_incarnated c b a s).activations) it.begun ∙ brings_activations c s it.arrival it.number a yes_) in
+            let in_y : In y s1.activations =
+            subst (λ as'. In y as') (sym activations) (image_in (at_number it.number (come_to (phase_by c it.number a))) x s.activations there) in
             let y_is : y ≡ record x { phase = phase_by c it.number a } =
             ap (λ b. if b then come_to (phase_by c it.number a) x else x) (eq-eqb x.number it.number numbered)
-            ∙ ap (λ p. if (elim p as (λ _. Bool) [ Begun ↦ true | Complete u ↦ false | Void ↦ false ]) then record x { phase = phase_by c it.number a } else x) begins_ in
+            ∙ ap (λ p. if (elim p as (λ _. Bool) [ Begun ↦ true | Complete u ↦ false | Void ↦ false ]) then record x { phase = phase_by c it.number a } else x)
+            begins_ in
             let b = settle_in y in_y in
             record {
               verdict = Incarnate it.number;
               by = ap (λ z. admitted (z ∷ past) it.arrival) is ∙ by;
               run = refl;
-              flying = (f, subst (λ fs. In f fs) (sym (ap (λ z. (changed c run past z s).flights) is ∙ brings_flights c s (stage past w) a yes_)) flying, at, of_it);
+              flying =
+                  (f, subst (λ fs. In f fs) (sym (ap (λ z. (changed c run past z s).flights) is ∙ brings_flights c s (stage past w) a yes_)) flying, at, of_it);
               served = λ m names. (let f : Some it.number ≡ Some m = names in let g : it.number ≡ m = cc in
                   (b.0, b.1, b.2 ∙ (ap (λ z. z.number) y_is ∙ (numbered ∙ g)), (phase.0, b.4 ∙ (ap (λ z. z.phase) y_is ∙ phase.1))));
             }
@@ -297,11 +359,20 @@ module _ (c : Config) (run limit : ℕ) (past : List Entry) (e : Entry) (may : M
     holds_takeout : (n : ℕ) → e ≡ TakeOut w n true → Holds (e ∷ past) t (Removing n)
     holds_takeout n is =
         let it = takeout_is c run past w n true (as_this (TakeOut w n true) is) in
-        let due = and_parts (is_complete it.it && (is_ending it.it && (has_activator c it.it.path && not it.it.out))) (not (is_used s.flights it.it.number) && not (is_changing c s.activations it.it.adapter)) it.due in
-        let in_ : it.it.out ≡ false = not_true it.it.out (and_parts (has_activator c it.it.path) (not it.it.out) (and_parts (is_ending it.it) (has_activator c it.it.path && not it.it.out) (and_parts (is_complete it.it) (is_ending it.it && (has_activator c it.it.path && not it.it.out)) due.0).1).1).1 in
+        let due =
+        and_parts (is_complete it.it && (is_ending it.it && (has_activator c it.it.path && not it.it.out)))
+        (not (is_used s.flights it.it.number) && not (is_changing c s.activations it.it.adapter)) it.due in
+        let in_ : it.it.out ≡ false =
+        not_true it.it.out
+        (and_parts (has_activator c it.it.path) (not it.it.out)
+        (and_parts (is_ending it.it) (has_activator c it.it.path && not it.it.out)
+        (and_parts (is_complete it.it) (is_ending it.it && (has_activator c it.it.path && not it.it.out)) due.0).1).1).1 in
         let y : Activation = at_number n (λ a. record a { out = true; remaining = is_elsewhere s.activations a }) it.it in
-        let in_y : In y s1.activations = subst (λ z. In y (changed c run past z s).activations) (sym is) (image_in (at_number n (λ a. record a { out = true; remaining = is_elsewhere s.activations a })) it.it s.activations it.there) in
-        let y_is : y ≡ record it.it { out = true; remaining = is_elsewhere s.activations it.it } = ap (λ b. if b then record it.it { out = true; remaining = is_elsewhere s.activations it.it } else it.it) (eq-eqb it.it.number n it.numbered) in
+        let in_y : In y s1.activations =
+        subst (λ z. In y (changed c run past z s).activations) (sym is)
+        (image_in (at_number n (λ a. record a { out = true; remaining = is_elsewhere s.activations a })) it.it s.activations it.there) in
+        let y_is : y ≡ record it.it { out = true; remaining = is_elsewhere s.activations it.it } =
+        ap (λ b. if b then record it.it { out = true; remaining = is_elsewhere s.activations it.it } else it.it) (eq-eqb it.it.number n it.numbered) in
         let b = settle_in y in_y in (
           b.0,
           b.1,
@@ -320,7 +391,8 @@ module _ (c : Config) (run limit : ℕ) (past : List Entry) (e : Entry) (may : M
         subst (λ b. Holds (e ∷ past) t b) (sym (ap (λ z. stage (z ∷ past) w) (is ∙ ap (λ y. Tried y a) same) ∙ own w Free (stage past w))) tt)
     own_holds (Incarnated v a) is makes =
         (let vs : Some v ≡ Some w = makes in let same : v ≡ w = cc in let is' : e ≡ Incarnated w a = is ∙ ap (λ y. Incarnated y a) same in
-        subst (λ b. Holds (e ∷ past) t b) (sym (ap (λ z. stage (z ∷ past) w) is' ∙ own w (incarnated a (stage past w)) (stage past w))) (holds_incarnated a is'))
+        subst (λ b. Holds (e ∷ past) t b) (sym (ap (λ z. stage (z ∷ past) w) is' ∙ own w (incarnated a (stage past w)) (stage past w)))
+        (holds_incarnated a is'))
     own_holds (Run v) is makes =
         (let vs : Some v ≡ Some w = makes in let same : v ≡ w = cc in let is' : e ≡ Run w = is ∙ ap (λ y. Run y) same in
         subst (λ b. Holds (e ∷ past) t b) (sym (ap (λ z. stage (z ∷ past) w) is' ∙ own w (ran (stage past w)) (stage past w))) (holds_run is'))
@@ -377,15 +449,22 @@ module _ (c : Config) (run limit : ℕ) (past : List Entry) (e : Entry) (may : M
       ]
 
   -- what is taken out was in the map
-  taken_in : (w n : ℕ) (etherealize : Bool) → e ≡ TakeOut w n etherealize → (a : Activation) → In a s.activations → a.number ≡ n → (a.out ≡ false) × (a.ending ≡ true) × (is_used s.flights n ≡ false)
+  taken_in : (w n : ℕ) (etherealize : Bool) → e ≡ TakeOut w n etherealize → (a : Activation) → In a s.activations → a.number ≡ n → (a.out ≡ false)
+      × (a.ending ≡ true) × (is_used s.flights n ≡ false)
   taken_in w n etherealize is a there at =
       let it = takeout_is c run past w n etherealize (as_this (TakeOut w n etherealize) is) in
       let same : it.it ≡ a = sound.activation_alone it.it a it.there there (it.numbered ∙ sym at) in
-      let due = and_parts (is_complete it.it && (is_ending it.it && (has_activator c it.it.path && not it.it.out))) (not (is_used s.flights it.it.number) && not (is_changing c s.activations it.it.adapter)) it.due in
-      let ends = and_parts (is_ending it.it) (has_activator c it.it.path && not it.it.out) (and_parts (is_complete it.it) (is_ending it.it && (has_activator c it.it.path && not it.it.out)) due.0).1 in (
+      let due =
+      and_parts (is_complete it.it && (is_ending it.it && (has_activator c it.it.path && not it.it.out)))
+      (not (is_used s.flights it.it.number) && not (is_changing c s.activations it.it.adapter)) it.due in
+      let ends =
+      and_parts (is_ending it.it) (has_activator c it.it.path && not it.it.out)
+      (and_parts (is_complete it.it) (is_ending it.it && (has_activator c it.it.path && not it.it.out)) due.0).1 in (
         ap (λ x. x.out) (sym same) ∙ not_true it.it.out (and_parts (has_activator c it.it.path) (not it.it.out) ends.1).1,
         ap (λ x. x.ending) (sym same) ∙ (and_parts it.it.ending (not (is_void it.it)) ends.0).0,
-        ap (is_used s.flights) (sym it.numbered) ∙ not_true (is_used s.flights it.it.number) (and_parts (not (is_used s.flights it.it.number)) (not (is_changing c s.activations it.it.adapter)) due.1).0,
+        ap (is_used s.flights) (sym it.numbered)
+            ∙ not_true (is_used s.flights it.it.number)
+            (and_parts (not (is_used s.flights it.it.number)) (not (is_changing c s.activations it.it.adapter)) due.1).0,
       )
 
   removals_alone : (w v n : ℕ) → stage (e ∷ past) w ≡ Removing n → stage (e ∷ past) v ≡ Removing n → w ≡ v
@@ -443,7 +522,8 @@ module _ (c : Config) (run limit : ℕ) (past : List Entry) (e : Entry) (may : M
       elim (flight_from past s c run e f f_in) [
         | flew f_was ↦ elim (flight_from past s c run e g g_in) [
           | flew g_was ↦ held_.flight_alone f g f_was g_was same
-          | begins w r v key is has for_ ↦ absurd (let m = held_.manned f f_was in unadmitted w r v is m.0 (m.1 ∙ ap (λ x. Some x) (same ∙ (flight_says s r key v g for_).0)))
+          | begins w r v key is has for_ ↦
+              absurd (let m = held_.manned f f_was in unadmitted w r v is m.0 (m.1 ∙ ap (λ x. Some x) (same ∙ (flight_says s r key v g for_).0)))
         ]
         | begins w r v key is has for_ ↦ elim (flight_from past s c run e g g_in) [
           | flew g_was ↦ absurd (let m = held_.manned g g_was in unadmitted w r v is m.0 (m.1 ∙ ap (λ x. Some x) (sym same ∙ (flight_says s r key v f for_).0)))
@@ -456,10 +536,12 @@ module _ (c : Config) (run limit : ℕ) (past : List Entry) (e : Entry) (may : M
       ]
 
   used_by : (fs : List Flight) (f : Flight) (n : ℕ) → In f fs → f.activation ≡ Some n → is_used fs n ≡ true
-  used_by fs f n there at = any_by (λ g. elim g.activation [ Some m ↦ m == n | None ↦ false ]) f fs there (ap (λ o. elim o [ Some m ↦ m == n | None ↦ false ]) at ∙ eq-eqb n n refl)
+  used_by fs f n there at =
+      any_by (λ g. elim g.activation [ Some m ↦ m == n | None ↦ false ]) f fs there (ap (λ o. elim o [ Some m ↦ m == n | None ↦ false ]) at ∙ eq-eqb n n refl)
 
   -- an activation in which something is in flight stays in the map
-  still_mapped : (f : Flight) (n : ℕ) (a : Activation) → In f t.flights → f.activation ≡ Some n → In a s.activations → a.number ≡ n → a.out ≡ false → (TakesOut c run past s e n → ⊥) → (b : Activation) × In b t.activations × (b.number ≡ n) × (b.adapter ≡ a.adapter) × (b.out ≡ false)
+  still_mapped : (f : Flight) (n : ℕ) (a : Activation) → In f t.flights → f.activation ≡ Some n → In a s.activations → a.number ≡ n → a.out ≡ false
+      → (TakesOut c run past s e n → ⊥) → (b : Activation) × In b t.activations × (b.number ≡ n) × (b.adapter ≡ a.adapter) × (b.out ≡ false)
   still_mapped f n a flying of_it there at mapped untaken =
       let (b, there', goes) = later a there in (
         b,
@@ -479,16 +561,19 @@ module _ (c : Config) (run limit : ℕ) (past : List Entry) (e : Entry) (may : M
         ]),
       )
 
-  activations_after : (f : Flight) (n : ℕ) → In f t.flights → f.activation ≡ Some n → (b : Activation) × In b t.activations × (b.number ≡ n) × (b.adapter ≡ f.adapter) × (b.out ≡ false)
+  activations_after : (f : Flight) (n : ℕ) → In f t.flights → f.activation ≡ Some n → (b : Activation) × In b t.activations × (b.number ≡ n)
+      × (b.adapter ≡ f.adapter) × (b.out ≡ false)
   activations_after f n flying of_it =
       elim (flight_from past s c run e f flying) [
         | flew was ↦ (let (a, there, at, adapter, mapped) = held_.activations f n was of_it in
-            let b = still_mapped f n a flying of_it there at mapped (λ takes. true≢false (sym (used_by s.flights f n was of_it) ∙ (taken_in takes.0 n takes.1 takes.2 a there at).2)) in
+            let b = still_mapped f n a flying of_it there at mapped
+            (λ takes. true≢false (sym (used_by s.flights f n was of_it) ∙ (taken_in takes.0 n takes.1 takes.2 a there at).2)) in
             (b.0, b.1, b.2, b.3 ∙ adapter, b.4))
         | begins w r v key is has for_ ↦ by_verdict w r v key is has for_
       ]
     where
-      by_verdict : (w r : ℕ) (v : Verdict) (key : Key) → e ≡ Admit w r v → key_in (call_of past r) ≡ Some key → flight_for s r key v ≡ Some f → (b : Activation) × In b t.activations × (b.number ≡ n) × (b.adapter ≡ f.adapter) × (b.out ≡ false)
+      by_verdict : (w r : ℕ) (v : Verdict) (key : Key) → e ≡ Admit w r v → key_in (call_of past r) ≡ Some key → flight_for s r key v ≡ Some f → (b : Activation)
+          × In b t.activations × (b.number ≡ n) × (b.adapter ≡ f.adapter) × (b.out ≡ false)
       by_verdict w r (Serve m) key is has for_ =
           (let told = served_by c run past sound w r (Serve m) key refl (admission_is c run past w r (Serve m) (as_this (Admit w r (Serve m)) is)).told has in
           let mn : Some m ≡ Some n = ap (λ o. elim o [ Some g ↦ g.activation | None ↦ None ]) for_ ∙ of_it in
@@ -496,7 +581,8 @@ module _ (c : Config) (run limit : ℕ) (past : List Entry) (e : Entry) (may : M
           elim told.how [
             | active a there at of_id is_active' same ↦ (let g : Serve a.number ≡ Serve m = same in let number : a.number ≡ n = cc in
                 let lives : a.ending ≡ false = not_true a.ending (and_parts (is_complete a) (not a.ending) is_active').1 in
-                let b = still_mapped f n a flying of_it there number (false_from_ne_true a.out (λ out. true≢false (sym (held_.out_ending a there out) ∙ lives))) (λ takes. let x : Admit w r (Serve m) ≡ TakeOut takes.0 n takes.1 = sym is ∙ takes.2 in cc) in
+                let b = still_mapped f n a flying of_it there number (false_from_ne_true a.out (λ out. true≢false (sym (held_.out_ending a there out) ∙ lives)))
+                (λ takes. let x : Admit w r (Serve m) ≡ TakeOut takes.0 n takes.1 = sym is ∙ takes.2 in cc) in
                 (b.0, b.1, b.2, b.3 ∙ (at ∙ met), b.4))
             | preset name same ↦ absurd (let g : Preset name ≡ Serve m = same in cc)
             | located name same ↦ absurd (let g : Locator name ≡ Serve m = same in cc)
@@ -513,7 +599,9 @@ module _ (c : Config) (run limit : ℕ) (past : List Entry) (e : Entry) (may : M
             b.4 ∙ met,
             elim (activation_from c run past e b.0 b.1) [
               | activation_begun fresh ↦ fresh.out
-              | activation_stood a was step ↦ absurd (let low = sound.counted a was in let x : b.0.number ≡ a.number = step.later.number in let y : b.0.number ≡ length s.activations = b.2 in omega (arith, low, x, y))
+              | activation_stood a was step ↦
+                  absurd (let low = sound.counted a was in let x : b.0.number ≡ a.number = step.later.number in
+                  let y : b.0.number ≡ length s.activations = b.2 in omega (arith, low, x, y))
             ],
           ))
       by_verdict w r (Preset m) key is has for_ = absurd (let g : None ≡ Some n = ap (λ o. elim o [ Some g ↦ g.activation | None ↦ None ]) for_ ∙ of_it in cc)
@@ -581,10 +669,12 @@ module _ (c : Config) (run limit : ℕ) where
   pub all_manned : (h : List Entry) → IsGiven c run → IsGivenAlone c run → IsWithinLimits c limit → IsLegal c run limit h → IsManned c run h
   all_manned [] given alone within legal = opens_manned
   all_manned (e ∷ past) given alone within legal =
-      manned_step c run limit past e legal.0 (legal_sound c run limit past given within legal.1) (legal_sound c run limit (e ∷ past) given within legal) alone (all_manned past given alone within legal.1)
+      manned_step c run limit past e legal.0 (legal_sound c run limit past given within legal.1) (legal_sound c run limit (e ∷ past) given within legal) alone
+      (all_manned past given alone within legal.1)
 
 -- in what is out nothing is in flight
-pub out_unused : (c : Config) (run : ℕ) (h : List Entry) → IsManned c run h → IsSound c run (standing c run h) → (a : Activation) → In a (standing c run h).activations → a.out ≡ true → is_used (standing c run h).flights a.number ≡ false
+pub out_unused : (c : Config) (run : ℕ) (h : List Entry) → IsManned c run h → IsSound c run (standing c run h) → (a : Activation)
+    → In a (standing c run h).activations → a.out ≡ true → is_used (standing c run h).flights a.number ≡ false
 out_unused c run h held_ sound a there out =
     false_from_ne_true (is_used (standing c run h).flights a.number) (λ used.
     let f = any_in (λ g. elim g.activation [ Some m ↦ m == a.number | None ↦ false ]) (standing c run h).flights used in

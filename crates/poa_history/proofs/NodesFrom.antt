@@ -47,7 +47,8 @@ still : (s : Standing) (command : Option Command) (n : Node) → ((p : List (Lis
 still s command n none there = stood n there refl refl (ap (λ b. b || n.dying) (sym (none n.path)))
 
 module _ (s : Standing) (n : Node) where
-  from_created : (command : Option Command) (p : List (List ℕ)) → ((q : List (List ℕ)) → destroys q command ≡ false) → In n (created s.count p s.nodes) → NodeFrom s command n
+  from_created : (command : Option Command) (p : List (List ℕ)) → ((q : List (List ℕ)) → destroys q command ≡ false) → In n (created s.count p s.nodes)
+      → NodeFrom s command n
   from_created command p none there =
       elim (in_either n (record { number = s.count; path = p; dying = false }) s.nodes there) [
         | inl was ↦ still s command n none was
@@ -58,7 +59,8 @@ module _ (s : Standing) (n : Node) where
   marked_is p m =
       elim (leads_to p m.path) as (λ b. dying_in (if b then record m { dying = true } else m) ≡ (b || m.dying)) [ true ↦ refl | false ↦ refl ]
 
-  from_marked : (command : Option Command) (p : List (List ℕ)) → ((q : List (List ℕ)) → destroys q command ≡ leads_to p q) → In n (map (marked p) s.nodes) → NodeFrom s command n
+  from_marked : (command : Option Command) (p : List (List ℕ)) → ((q : List (List ℕ)) → destroys q command ≡ leads_to p q) → In n (map (marked p) s.nodes)
+      → NodeFrom s command n
   from_marked command p names there =
       let (m, was, same) = in_image (marked p) n s.nodes there in
       stood m was (ap (λ x. x.number) same ∙ marked_number p m) (ap (λ x. x.path) same ∙ marked_path p m)
@@ -67,8 +69,17 @@ module _ (s : Standing) (n : Node) where
 module _ (c : Config) (run : ℕ) where
   nodes_reference : (p : List (List ℕ)) (servant : List ℕ) (s : Standing) → (with_reference c run p servant s).nodes ≡ s.nodes
   nodes_reference p servant s =
-      elim (live_at s p) as (λ o. nodes_in (elim o [ Some n ↦ (elim (servant_number c servant) [ Some k ↦ (if is_implicit c s n k then with_made_activation c run p servant s else s) | None ↦ s ]) | None ↦ s ]) ≡ s.nodes) [
-        | Some n ↦ elim (servant_number c servant) as (λ o. nodes_in (elim o [ Some k ↦ (if is_implicit c s n k then with_made_activation c run p servant s else s) | None ↦ s ]) ≡ s.nodes) [
+      elim (live_at s p) as (λ o. nodes_in
+      (elim o [
+        | Some n ↦
+            (elim (servant_number c servant) [ Some k ↦ (if is_implicit c s n k then with_made_activation c run p servant s else s) | None ↦ s ])
+        | None ↦ s
+      ]) ≡ s.nodes) [
+        | Some n ↦ elim (servant_number c servant) as (λ o. nodes_in (elim o [
+          | Some k ↦
+              (if is_implicit c s n k then with_made_activation c run p servant s else s)
+          | None ↦ s
+        ]) ≡ s.nodes) [
           | Some k ↦ cond_both (is_implicit c s n k) (with_made_activation c run p servant s) s (λ t. t.nodes ≡ s.nodes) (λ _. refl) (λ _. refl)
           | None ↦ refl
         ]
@@ -77,8 +88,17 @@ module _ (c : Config) (run : ℕ) where
 
   count_reference : (p : List (List ℕ)) (servant : List ℕ) (s : Standing) → (with_reference c run p servant s).count ≡ s.count
   count_reference p servant s =
-      elim (live_at s p) as (λ o. count_in (elim o [ Some n ↦ (elim (servant_number c servant) [ Some k ↦ (if is_implicit c s n k then with_made_activation c run p servant s else s) | None ↦ s ]) | None ↦ s ]) ≡ s.count) [
-        | Some n ↦ elim (servant_number c servant) as (λ o. count_in (elim o [ Some k ↦ (if is_implicit c s n k then with_made_activation c run p servant s else s) | None ↦ s ]) ≡ s.count) [
+      elim (live_at s p) as (λ o. count_in
+      (elim o [
+        | Some n ↦
+            (elim (servant_number c servant) [ Some k ↦ (if is_implicit c s n k then with_made_activation c run p servant s else s) | None ↦ s ])
+        | None ↦ s
+      ]) ≡ s.count) [
+        | Some n ↦ elim (servant_number c servant) as (λ o. count_in (elim o [
+          | Some k ↦
+              (if is_implicit c s n k then with_made_activation c run p servant s else s)
+          | None ↦ s
+        ]) ≡ s.count) [
           | Some k ↦ cond_both (is_implicit c s n k) (with_made_activation c run p servant s) s (λ t. t.count ≡ s.count) (λ _. refl) (λ _. refl)
           | None ↦ refl
         ]
@@ -86,24 +106,28 @@ module _ (c : Config) (run : ℕ) where
       ]
 
   nodes_off : (name : List ℕ) (s : Standing) → nodes_in (elim (manager_number c name) [ Some m ↦ with_manager_off c m s | None ↦ s ]) ≡ s.nodes
-  nodes_off name s = elim (manager_number c name) as (λ o. nodes_in (elim o [ Some m ↦ with_manager_off c m s | None ↦ s ]) ≡ s.nodes) [ Some m ↦ refl | None ↦ refl ]
+  nodes_off name s =
+      elim (manager_number c name) as (λ o. nodes_in (elim o [ Some m ↦ with_manager_off c m s | None ↦ s ]) ≡ s.nodes) [ Some m ↦ refl | None ↦ refl ]
 
   count_off : (name : List ℕ) (s : Standing) → count_in (elim (manager_number c name) [ Some m ↦ with_manager_off c m s | None ↦ s ]) ≡ s.count
-  count_off name s = elim (manager_number c name) as (λ o. count_in (elim o [ Some m ↦ with_manager_off c m s | None ↦ s ]) ≡ s.count) [ Some m ↦ refl | None ↦ refl ]
+  count_off name s =
+      elim (manager_number c name) as (λ o. count_in (elim o [ Some m ↦ with_manager_off c m s | None ↦ s ]) ≡ s.count) [ Some m ↦ refl | None ↦ refl ]
 
   node_command : (command : Option Command) (s : Standing) (n : Node) → In n (with_command c run command s).nodes → NodeFrom s command n
   node_command None s n there = still s None n (λ p. refl) there
   node_command (Some (Manager name ActivateAll)) s n there = still s (Some (Manager name ActivateAll)) n (λ p. refl) there
   node_command (Some (Manager name (Hold wait))) s n there = still s (Some (Manager name (Hold wait))) n (λ p. refl) there
   node_command (Some (Manager name (Discard wait))) s n there = still s (Some (Manager name (Discard wait))) n (λ p. refl) there
-  node_command (Some (Manager name (DeactivateAll true wait))) s n there = still s (Some (Manager name (DeactivateAll true wait))) n (λ p. refl) (subst (λ ns. In n ns) (nodes_off name s) there)
+  node_command (Some (Manager name (DeactivateAll true wait))) s n there =
+      still s (Some (Manager name (DeactivateAll true wait))) n (λ p. refl) (subst (λ ns. In n ns) (nodes_off name s) there)
   node_command (Some (Manager name (DeactivateAll false wait))) s n there = still s (Some (Manager name (DeactivateAll false wait))) n (λ p. refl) there
   node_command (Some (Create p)) s n there = from_created s n (Some (Create p)) p (λ q. refl) there
   node_command (Some (Destroy p etherealize wait)) s n there = from_marked s n (Some (Destroy p etherealize wait)) p (λ q. refl) there
   node_command (Some (Activate p servant)) s n there = still s (Some (Activate p servant)) n (λ q. refl) there
   node_command (Some (ActivateId p oid servant)) s n there = still s (Some (ActivateId p oid servant)) n (λ q. refl) there
   node_command (Some (Deactivate p oid)) s n there = still s (Some (Deactivate p oid)) n (λ q. refl) there
-  node_command (Some (Reference p servant)) s n there = still s (Some (Reference p servant)) n (λ q. refl) (subst (λ ns. In n ns) (nodes_reference p servant s) there)
+  node_command (Some (Reference p servant)) s n there =
+      still s (Some (Reference p servant)) n (λ q. refl) (subst (λ ns. In n ns) (nodes_reference p servant s) there)
   node_command (Some (PresetLine p servant)) s n there = still s (Some (PresetLine p servant)) n (λ q. refl) there
   node_command (Some (ForwardLine p endpoint)) s n there = still s (Some (ForwardLine p endpoint)) n (λ q. refl) there
   node_command (Some (Unforward p)) s n there = still s (Some (Unforward p)) n (λ q. refl) there
@@ -190,7 +214,8 @@ module _ (c : Config) (run : ℕ) where
   kept_fewer r s n there = still s None n (λ q. refl) (subst (λ ns. In n ns) (nodes_fewer r s) there)
 
   node_tried : (r : Option ℕ) (answer : Attempt) (s : Standing) (n : Node) → In n (with_tried r answer s).nodes → NodeFrom s None n
-  node_tried r (Yes k) s n there = moved s (without_flight r s) None n (nodes_fewer r s) (count_fewer r s) (node_child (child_tried s.flights r) (without_flight r s) n there)
+  node_tried r (Yes k) s n there =
+      moved s (without_flight r s) None n (nodes_fewer r s) (count_fewer r s) (node_child (child_tried s.flights r) (without_flight r s) n there)
   node_tried r No s n there = kept_fewer r s n there
   node_tried r Raised s n there = kept_fewer r s n there
   node_tried r ParentDying s n there = kept_fewer r s n there
@@ -248,7 +273,8 @@ module _ (c : Config) (run : ℕ) where
   node_from past (Left conn) s n there = still s None n (λ q. refl) there
   node_from past (Collect conn a) s n there = still s None n (λ q. refl) there
   node_from past (Admit w r v) s n there =
-      moved s (with_admitted r (key_in (call_of past r)) v s) (command_done past (Admit w r v)) n (nodes_admitted r (key_in (call_of past r)) v s) (count_admitted r (key_in (call_of past r)) v s)
+      moved s (with_admitted r (key_in (call_of past r)) v s) (command_done past (Admit w r v)) n (nodes_admitted r (key_in (call_of past r)) v s)
+      (count_admitted r (key_in (call_of past r)) v s)
       (node_command (command_done past (Admit w r v)) (with_admitted r (key_in (call_of past r)) v s) n there)
   node_from past (Tried w a) s n there = node_tried (arrival_in (stage past w)) a s n there
   node_from past (Incarnated w a) s n there = still s None n (λ q. refl) (subst (λ ns. In n ns) (nodes_incarnated (stage past w) a s) there)
@@ -265,7 +291,8 @@ module _ (c : Config) (run : ℕ) where
   count_from past (Left conn) s = count_same _ _ refl
   count_from past (Collect conn a) s = count_same _ _ refl
   count_from past (Admit w r v) s =
-      (let more = count_command (command_done past (Admit w r v)) (with_admitted r (key_in (call_of past r)) v s) in let same = count_admitted r (key_in (call_of past r)) v s in omega (arith, more, same))
+      (let more = count_command (command_done past (Admit w r v)) (with_admitted r (key_in (call_of past r)) v s) in
+      let same = count_admitted r (key_in (call_of past r)) v s in omega (arith, more, same))
   count_from past (Tried w a) s = count_tried (arrival_in (stage past w)) a s
   count_from past (Incarnated w a) s = count_same _ _ (count_incarnated (stage past w) a s)
   count_from past (Run w) s = count_same _ _ refl
@@ -277,5 +304,8 @@ module _ (c : Config) (run : ℕ) where
   -- the same of what stands after the entry
   pub node_before : (past : List Entry) (e : Entry) (n : Node) → In n (standing c run (e ∷ past)).nodes → NodeFrom (standing c run past) (command_done past e) n
   node_before past e n there =
-      let after : Standing = record (changed c run past e (standing c run past)) { activations = map (let_out c (changed c run past e (standing c run past))) (changed c run past e (standing c run past)).activations } in
-      node_from past e (standing c run past) n (in_kept (λ m. is_root m.path || not (is_done_with c after m)) n (changed c run past e (standing c run past)).nodes there).0
+      let after : Standing =
+      record (changed c run past e (standing c run past))
+      { activations = map (let_out c (changed c run past e (standing c run past))) (changed c run past e (standing c run past)).activations } in
+      node_from past e (standing c run past) n
+      (in_kept (λ m. is_root m.path || not (is_done_with c after m)) n (changed c run past e (standing c run past)).nodes there).0

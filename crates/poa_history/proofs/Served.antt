@@ -66,14 +66,20 @@ module _ (c : Config) (run : ℕ) (past : List Entry) (sound : IsSound c run (st
     abbrev facts : Facts
     facts = facts_met c run past s locate (is_crowded past r) (key_fact run (target_of call)) key (walk s.nodes key.path)
 
-    active_by : (n : ℕ) → slot_of c s.activations met key.oid ≡ ActiveAs n → (a : Activation) × In a s.activations × (is_of met key.oid a ≡ true) × (is_active a ≡ true) × (a.number ≡ n)
+    active_by : (n : ℕ) → slot_of c s.activations met key.oid ≡ ActiveAs n → (a : Activation) × In a s.activations × (is_of met key.oid a ≡ true)
+        × (is_active a ≡ true) × (a.number ≡ n)
     active_by n slot =
-        elim (find (λ a. is_of met key.oid a && is_active a) s.activations) as (λ o. find (λ a. is_of met key.oid a && is_active a) s.activations ≡ o → (elim o [ Some a ↦ ActiveAs a.number | None ↦ elim (find (λ a. is_of met key.oid a && not (is_over c a)) s.activations) [ Some a ↦ Busy a.number | None ↦ Free ] ]) ≡ ActiveAs n → (a : Activation) × In a s.activations × (is_of met key.oid a ≡ true) × (is_active a ≡ true) × (a.number ≡ n)) [
+        elim (find (λ a. is_of met key.oid a && is_active a) s.activations) as (λ o. find (λ a. is_of met key.oid a && is_active a) s.activations ≡ o
+        → (elim o
+        [ Some a ↦ ActiveAs a.number | None ↦ elim (find (λ a. is_of met key.oid a && not (is_over c a)) s.activations) [ Some a ↦ Busy a.number | None ↦ Free ] ]) ≡ ActiveAs n → (a : Activation) × In a s.activations × (is_of met key.oid a ≡ true) × (is_active a ≡ true) × (a.number ≡ n)) [
           | Some a ↦ λ found same.
               (let there = find_in (λ b. is_of met key.oid b && is_active b) a s.activations found in
               let parts = and_parts (is_of met key.oid a) (is_active a) there.1 in
               (a, there.0, parts.0, parts.1, (let e : ActiveAs a.number ≡ ActiveAs n = same in cc)))
-          | None ↦ λ _ same. absurd (elim (find (λ a. is_of met key.oid a && not (is_over c a)) s.activations) as (λ o. (elim o [ Some a ↦ Busy a.number | None ↦ Free ]) ≡ ActiveAs n → ⊥)
+          | None ↦
+              λ _ same. absurd
+              (elim (find (λ a. is_of met key.oid a && not (is_over c a)) s.activations) as (λ o. (elim o [ Some a ↦ Busy a.number | None ↦ Free ]) ≡ ActiveAs n
+              → ⊥)
               [ Some a ↦ λ e. (let f : Busy a.number ≡ ActiveAs n = e in cc) | None ↦ λ e. (let f : Free ≡ ActiveAs n = e in cc) ] same)
         ] refl slot
 
@@ -86,7 +92,8 @@ module _ (c : Config) (run : ℕ) (past : List Entry) (sound : IsSound c run (st
     how_by (locates name same) = located name same
     how_by (incarnates free asks same) = incarnated (ap₂ (λ a b. a && b) (ap₂ (λ a b. a && b) asks.retains asks.manages) asks.ruled) asks.idle same
 
-    by_found : (found : Found) → Tells s.nodes key.path found → walk_fact found ≡ MeetsAdapter → (n : Node) × In n s.nodes × (n.number ≡ adapter_met found) × (n.path ≡ key.path) × (n.dying ≡ false)
+    by_found : (found : Found) → Tells s.nodes key.path found → walk_fact found ≡ MeetsAdapter → (n : Node) × In n s.nodes × (n.number ≡ adapter_met found)
+        × (n.path ≡ key.path) × (n.dying ≡ false)
     by_found (Live k) tells is = tells
     by_found (Dying k) tells is = absurd (let e : MeetsDying ≡ MeetsAdapter = is in cc)
     by_found (Missing k depth) tells is = absurd (let e : MeetsMissing ≡ MeetsAdapter = is in cc)
@@ -101,7 +108,8 @@ module _ (c : Config) (run : ℕ) (past : List Entry) (sound : IsSound c run (st
           numbered = numbered;
           placed = placed;
           living = living;
-          alone = λ single. false_from_ne_true (is_running s.flights met) (λ running. true≢false (sym (ap₂ (λ a b. a && b) (ap not told.request) (ap₂ (λ a b. a && b) single running)) ∙ told.alone));
+          alone = λ single. false_from_ne_true (is_running s.flights met)
+              (λ running. true≢false (sym (ap₂ (λ a b. a && b) (ap not told.request) (ap₂ (λ a b. a && b) single running)) ∙ told.alone));
           how = how_by told.how;
         }
 
@@ -113,9 +121,17 @@ module _ (c : Config) (run : ℕ) (past : List Entry) (sound : IsSound c run (st
       by_call (Some (Line number command)) at told' has' = absurd (let e : None ≡ Some key = has' in cc)
       by_call (Some (Request head target operation body)) at told' has' =
           by_row runs (is_locate (Some (Request head target operation body))) (Some (Request head target operation body))
-          (ap (λ k. first_row (facts_met c run past s (is_locate (Some (Request head target operation body))) (is_crowded past r) (key_fact run (target_of (Some (Request head target operation body)))) k (walk s.nodes k.path)) w) (sym (ap key_or_none has'))
-          ∙ (ap (λ q. first_row (facts_met c run past s (is_locate q) (is_crowded past r) (key_fact run (target_of q)) (key_or_none (key_in q)) (walk s.nodes (key_or_none (key_in q)).path)) w) (sym at) ∙ chosen_go (first_row (facts_of c run past r) w) v told'))
+          (ap (λ k. first_row
+          (facts_met c run past s (is_locate (Some (Request head target operation body))) (is_crowded past r)
+          (key_fact run (target_of (Some (Request head target operation body)))) k (walk s.nodes k.path)) w) (sym (ap key_or_none has'))
+          ∙ (ap (λ q. first_row
+          (facts_met c run past s (is_locate q) (is_crowded past r) (key_fact run (target_of q)) (key_or_none (key_in q))
+          (walk s.nodes (key_or_none (key_in q)).path)) w) (sym at) ∙ chosen_go (first_row (facts_of c run past r) w) v told'))
       by_call (Some (Locate head target)) at told' has' =
           by_row runs (is_locate (Some (Locate head target))) (Some (Locate head target))
-          (ap (λ k. first_row (facts_met c run past s (is_locate (Some (Locate head target))) (is_crowded past r) (key_fact run (target_of (Some (Locate head target)))) k (walk s.nodes k.path)) w) (sym (ap key_or_none has'))
-          ∙ (ap (λ q. first_row (facts_met c run past s (is_locate q) (is_crowded past r) (key_fact run (target_of q)) (key_or_none (key_in q)) (walk s.nodes (key_or_none (key_in q)).path)) w) (sym at) ∙ chosen_go (first_row (facts_of c run past r) w) v told'))
+          (ap (λ k. first_row
+          (facts_met c run past s (is_locate (Some (Locate head target))) (is_crowded past r) (key_fact run (target_of (Some (Locate head target)))) k
+          (walk s.nodes k.path)) w) (sym (ap key_or_none has'))
+          ∙ (ap (λ q. first_row
+          (facts_met c run past s (is_locate q) (is_crowded past r) (key_fact run (target_of q)) (key_or_none (key_in q))
+          (walk s.nodes (key_or_none (key_in q)).path)) w) (sym at) ∙ chosen_go (first_row (facts_of c run past r) w) v told'))

@@ -30,12 +30,16 @@ pub none_by : {A : Type 0} (test : A → Bool) (x : A) (xs : List A) → In x xs
 none_by test x xs is none = false_from_ne_true (test x) (λ passes. let e : false ≡ true = sym none ∙ any_by test x xs is passes in cc)
 
 -- where one test passes all that another does, and the first passes none, neither does the other
-pub none_of_fewer : {A : Type 0} (test other : A → Bool) → ((x : A) → other x ≡ true → test x ≡ true) → (xs : List A) → list_any test xs ≡ false → list_any other xs ≡ false
+pub none_of_fewer : {A : Type 0} (test other : A → Bool) → ((x : A) → other x ≡ true → test x ≡ true) → (xs : List A) → list_any test xs ≡ false
+    → list_any other xs ≡ false
 none_of_fewer test other fewer [] none = refl
 none_of_fewer test other fewer (x ∷ xs) none =
     let here : test x ≡ false = none_by test x (x ∷ xs) (inl refl) none in
-    let there : list_any test xs ≡ false = false_from_ne_true (list_any test xs) (λ some. let e : false ≡ true = sym none ∙ (elim (test x) as (λ b. (b || list_any test xs) ≡ true) [ true ↦ refl | false ↦ some ]) in cc) in
-    ap₂ (λ a b. a || b) (false_from_ne_true (other x) (λ passes. let e : false ≡ true = sym here ∙ fewer x passes in cc)) (none_of_fewer test other fewer xs there)
+    let there : list_any test xs ≡ false =
+    false_from_ne_true (list_any test xs)
+    (λ some. let e : false ≡ true = sym none ∙ (elim (test x) as (λ b. (b || list_any test xs) ≡ true) [ true ↦ refl | false ↦ some ]) in cc) in
+    ap₂ (λ a b. a || b) (false_from_ne_true (other x) (λ passes. let e : false ≡ true = sym here ∙ fewer x passes in cc))
+    (none_of_fewer test other fewer xs there)
 
 pub or_first : (x y : Bool) → x ≡ true → (x || y) ≡ true
 or_first true y e = refl
@@ -59,7 +63,9 @@ module _ (c : Config) (run : ℕ) (s : Standing) (sound : IsSound c run s) where
       cond_both (is_left c s a) (record a { out = true }) a (λ b. is_over c b ≡ true)
       (λ _. elim (or_cases (is_void a) (is_finished c a) over) [
         | inl void ↦ or_first (is_void a) (is_finished c (record a { out = true })) void
-        | inr finished ↦ or_second (is_void a) (a.quiet || (not (has_activator c a.path) || a.etherealized)) (and_parts a.out (a.quiet || (not (has_activator c a.path) || a.etherealized)) finished).1
+        | inr finished ↦
+            or_second (is_void a) (a.quiet || (not (has_activator c a.path) || a.etherealized))
+            (and_parts a.out (a.quiet || (not (has_activator c a.path) || a.etherealized)) finished).1
       ])
       (λ _. over)
 
@@ -87,19 +93,25 @@ module _ (c : Config) (run : ℕ) (s : Standing) (sound : IsSound c run s) where
       under_in [] is = is
       under_in (n ∷ ns) is =
           elim (or_cases ((n.number == k) && leads_to q n.path) (stands_under ns q k) is) [
-            | inl here ↦ (let parts = and_parts (n.number == k) (leads_to q n.path) here in or_first _ (stands_under ns p k) (ap₂ (λ a b. a && b) parts.0 (leads_through p q n.path leads parts.1)))
+            | inl here ↦
+                (let parts = and_parts (n.number == k) (leads_to q n.path) here in
+                or_first _ (stands_under ns p k) (ap₂ (λ a b. a && b) parts.0 (leads_through p q n.path leads parts.1)))
             | inr more ↦ or_second ((n.number == k) && leads_to p n.path) (stands_under ns p k) (under_in ns more)
           ]
 
   pub clear_longer : (p q : List (List ℕ)) → leads_to p q ≡ true → is_clear c s p ≡ true → is_clear c s q ≡ true
   clear_longer p q leads clear =
-      let parts = and_parts (not (list_any (λ f. stands_under s.nodes p f.adapter) s.flights)) (not (list_any (λ a. not (is_over c a) && stands_under s.nodes p a.adapter) s.activations)) clear in
+      let parts =
+      and_parts (not (list_any (λ f. stands_under s.nodes p f.adapter) s.flights))
+      (not (list_any (λ a. not (is_over c a) && stands_under s.nodes p a.adapter) s.activations)) clear in
       ap₂ (λ a b. a && b)
       (not_false (list_any (λ f. stands_under s.nodes q f.adapter) s.flights)
-      (none_of_fewer (λ f. stands_under s.nodes p f.adapter) (λ f. stands_under s.nodes q f.adapter) (λ f. under_longer p q f.adapter leads) s.flights (not_true _ parts.0)))
+      (none_of_fewer (λ f. stands_under s.nodes p f.adapter) (λ f. stands_under s.nodes q f.adapter) (λ f. under_longer p q f.adapter leads) s.flights
+      (not_true _ parts.0)))
       (not_false (list_any (λ a. not (is_over c a) && stands_under s.nodes q a.adapter) s.activations)
       (none_of_fewer (λ a. not (is_over c a) && stands_under s.nodes p a.adapter) (λ a. not (is_over c a) && stands_under s.nodes q a.adapter)
-      (λ a both. (let two = and_parts (not (is_over c a)) (stands_under s.nodes q a.adapter) both in ap₂ (λ x y. x && y) two.0 (under_longer p q a.adapter leads two.1)))
+      (λ a both.
+      (let two = and_parts (not (is_over c a)) (stands_under s.nodes q a.adapter) both in ap₂ (λ x y. x && y) two.0 (under_longer p q a.adapter leads two.1)))
       s.activations (not_true _ parts.1)))
 
   goes_parts : (n : Node) → stays n ≡ false → (is_root n.path ≡ false) × (n.dying ≡ true) × (is_clear c s n.path ≡ true)
@@ -108,7 +120,8 @@ module _ (c : Config) (run : ℕ) (s : Standing) (sound : IsSound c run s) where
         | inl root ↦ absurd (let e : true ≡ false = sym (or_first (is_root n.path) (not (is_done_with c s n)) root) ∙ goes in cc)
         | inr below ↦ elim (cases_Bool (is_done_with c s n)) [
           | inl done ↦ (let parts = and_parts n.dying (is_clear c s n.path) done in (below, parts.0, parts.1))
-          | inr not_done ↦ absurd (let e : true ≡ false = sym (or_second (is_root n.path) (not (is_done_with c s n)) (not_false (is_done_with c s n) not_done)) ∙ goes in cc)
+          | inr not_done ↦
+              absurd (let e : true ≡ false = sym (or_second (is_root n.path) (not (is_done_with c s n)) (not_false (is_done_with c s n) not_done)) ∙ goes in cc)
         ]
       ]
 
@@ -123,7 +136,9 @@ module _ (c : Config) (run : ℕ) (s : Standing) (sound : IsSound c run s) where
   may_drop : MayDrop s.nodes stays
   may_drop = record {
     root = λ n is at. or_first (is_root n.path) (not (is_done_with c s n)) (ap is_root at);
-    along = λ n m is is' leads goes. (let parts = goes_parts n goes in goes_by m (root_leads n.path m.path leads parts.0) (sound.tree.below n m is is' leads parts.1) (clear_longer n.path m.path leads parts.2));
+    along = λ n m is is' leads goes.
+        (let parts = goes_parts n goes in
+        goes_by m (root_leads n.path m.path leads parts.0) (sound.tree.below n m is is' leads parts.1) (clear_longer n.path m.path leads parts.2));
   }
 
   -- the adapter in which something is in flight, or an activation isn't over, stays
@@ -135,8 +150,12 @@ module _ (c : Config) (run : ℕ) (s : Standing) (sound : IsSound c run s) where
       elim (cases_Bool (stays n)) [
         | inl stands ↦ stands
         | inr goes ↦ (let parts = goes_parts n goes in
-            let none = not_true _ (and_parts (not (list_any (λ g. stands_under s.nodes n.path g.adapter) s.flights)) (not (list_any (λ a. not (is_over c a) && stands_under s.nodes n.path a.adapter) s.activations)) parts.2).0 in
-            absurd (let e : false ≡ true = sym none ∙ any_by (λ g. stands_under s.nodes n.path g.adapter) f s.flights is (is_under_itself n f.adapter is' same) in cc))
+            let none =
+            not_true _
+            (and_parts (not (list_any (λ g. stands_under s.nodes n.path g.adapter) s.flights))
+            (not (list_any (λ a. not (is_over c a) && stands_under s.nodes n.path a.adapter) s.activations)) parts.2).0 in
+            absurd (let e : false ≡ true =
+            sym none ∙ any_by (λ g. stands_under s.nodes n.path g.adapter) f s.flights is (is_under_itself n f.adapter is' same) in cc))
       ]
 
   pub activation_stays : (a : Activation) (n : Node) → In a s.activations → is_over c a ≡ false → In n s.nodes → n.number ≡ a.adapter → stays n ≡ true
@@ -144,8 +163,13 @@ module _ (c : Config) (run : ℕ) (s : Standing) (sound : IsSound c run s) where
       elim (cases_Bool (stays n)) [
         | inl stands ↦ stands
         | inr goes ↦ (let parts = goes_parts n goes in
-            let none = not_true _ (and_parts (not (list_any (λ g. stands_under s.nodes n.path g.adapter) s.flights)) (not (list_any (λ b. not (is_over c b) && stands_under s.nodes n.path b.adapter) s.activations)) parts.2).1 in
-            absurd (let e : false ≡ true = sym none ∙ any_by (λ b. not (is_over c b) && stands_under s.nodes n.path b.adapter) a s.activations is (ap₂ (λ x y. x && y) (not_false (is_over c a) lives) (is_under_itself n a.adapter is' same)) in cc))
+            let none =
+            not_true _
+            (and_parts (not (list_any (λ g. stands_under s.nodes n.path g.adapter) s.flights))
+            (not (list_any (λ b. not (is_over c b) && stands_under s.nodes n.path b.adapter) s.activations)) parts.2).1 in
+            absurd (let e : false ≡ true =
+            sym none ∙ any_by (λ b. not (is_over c b) && stands_under s.nodes n.path b.adapter) a s.activations is
+            (ap₂ (λ x y. x && y) (not_false (is_over c a) lives) (is_under_itself n a.adapter is' same)) in cc))
       ]
 
   trials_left : (f : Flight) (p : List (List ℕ)) → In f s.flights → f.child ≡ Some p → IsMissingChild (filter stays s.nodes) f.adapter p
@@ -166,7 +190,15 @@ module _ (c : Config) (run : ℕ) (s : Standing) (sound : IsSound c run s) where
     homes = λ f is. (let was = sound.homes f is in (was.0, kept_in stays was.0 s.nodes was.1 (flight_stays f was.0 is was.1 was.2), was.2));
     trials = trials_left;
     trial_alone = sound.trial_alone;
-    owners = λ a is lives. (let was = sound.owners a is lives in record { node = was.node; stands = kept_in stays was.node s.nodes was.stands (activation_stays a was.node is lives was.stands was.numbered); numbered = was.numbered; placed = was.placed });
+    owners =
+        λ a is lives.
+        (let was = sound.owners a is lives in
+        record {
+          node = was.node;
+          stands = kept_in stays was.node s.nodes was.stands (activation_stays a was.node is lives was.stands was.numbered);
+          numbered = was.numbered;
+          placed = was.placed;
+        });
     counted = sound.counted;
     activation_alone = sound.activation_alone;
     life_alone = sound.life_alone;

@@ -52,7 +52,10 @@ module _ (c : Config) (run : ℕ) (s : Standing) (sound : IsSound c run s) where
       homes = λ f is. (let was = sound.homes f is in (was.0, in_created was.0 was.1, was.2));
       trials = trials_created;
       trial_alone = sound.trial_alone;
-      owners = λ a is lives. (let was = sound.owners a is lives in record { node = was.node; stands = in_created was.node was.stands; numbered = was.numbered; placed = was.placed });
+      owners =
+          λ a is lives.
+          (let was = sound.owners a is lives in
+          record { node = was.node; stands = in_created was.node was.stands; numbered = was.numbered; placed = was.placed });
       counted = sound.counted;
       activation_alone = sound.activation_alone;
       life_alone = sound.life_alone;
@@ -81,7 +84,15 @@ module _ (c : Config) (run : ℕ) (s : Standing) (sound : IsSound c run s) where
       homes = λ f is. (let was = sound.homes f is in (marked p was.0, image_in (marked p) was.0 s.nodes was.1, marked_number p was.0 ∙ was.2));
       trials = trials_marked;
       trial_alone = sound.trial_alone;
-      owners = λ a is lives. (let was = sound.owners a is lives in record { node = marked p was.node; stands = image_in (marked p) was.node s.nodes was.stands; numbered = marked_number p was.node ∙ was.numbered; placed = marked_path p was.node ∙ was.placed });
+      owners =
+          λ a is lives.
+          (let was = sound.owners a is lives in
+          record {
+            node = marked p was.node;
+            stands = image_in (marked p) was.node s.nodes was.stands;
+            numbered = marked_number p was.node ∙ was.numbered;
+            placed = marked_path p was.node ∙ was.placed;
+          });
       counted = sound.counted;
       activation_alone = sound.activation_alone;
       life_alone = sound.life_alone;
@@ -150,7 +161,8 @@ module _ (c : Config) (run : ℕ) (s : Standing) (sound : IsSound c run s) where
 
   module _ (k : ℕ) (p : List (List ℕ)) (oid : List ℕ) (phase : Phase) (may : MayLive k p oid) where
     abbrev begun : Activation
-    begun = record { number = length s.activations; adapter = k; path = p; oid = oid; phase = phase; ending = false; quiet = false; out = false; cleanup = false; remaining = false; etherealized = false }
+    begun = record
+        { number = length s.activations; adapter = k; path = p; oid = oid; phase = phase; ending = false; quiet = false; out = false; cleanup = false; remaining = false; etherealized = false }
 
     one_longer : length (s.activations ++ begun ∷ []) ≡ suc (length s.activations)
     one_longer = (let e = length-append s.activations (begun ∷ []) in omega arith)
@@ -179,7 +191,8 @@ module _ (c : Config) (run : ℕ) (s : Standing) (sound : IsSound c run s) where
     ended_before a b was new same_adapter same_oid lives =
         let e : true ≡ false = sym (may.over a was (same_adapter ∙ ap (λ x. x.adapter) new) (same_oid ∙ ap (λ x. x.oid) new)) ∙ lives in cc
 
-    life_alone_begun : (a b : Activation) → In a (s.activations ++ begun ∷ []) → In b (s.activations ++ begun ∷ []) → a.adapter ≡ b.adapter → a.oid ≡ b.oid → is_over c a ≡ false → is_over c b ≡ false → a ≡ b
+    life_alone_begun : (a b : Activation) → In a (s.activations ++ begun ∷ []) → In b (s.activations ++ begun ∷ []) → a.adapter ≡ b.adapter → a.oid ≡ b.oid
+        → is_over c a ≡ false → is_over c b ≡ false → a ≡ b
     life_alone_begun a b is is' same_adapter same_oid lives lives' =
         elim (in_either a begun s.activations is) [
           | inl was ↦ elim (in_either b begun s.activations is') [
@@ -206,7 +219,8 @@ module _ (c : Config) (run : ℕ) (s : Standing) (sound : IsSound c run s) where
       counted = counted_begun;
       activation_alone = activation_alone_begun;
       life_alone = life_alone_begun;
-      ids = λ a is. elim (in_either a begun s.activations is) [ inl was ↦ sound.ids a was | inr new ↦ subst (λ x. is_bad_id c run s.made x.path x.oid ≡ false) (sym new) may.made ];
+      ids = λ a is. elim (in_either a begun s.activations is)
+          [ inl was ↦ sound.ids a was | inr new ↦ subst (λ x. is_bad_id c run s.made x.path x.oid ≡ false) (sym new) may.made ];
     }
 
   -- what changes an activation leaves its number, adapter, path and id, and what is over stays so
@@ -229,15 +243,18 @@ module _ (c : Config) (run : ℕ) (s : Standing) (sound : IsSound c run s) where
     counted_after : (a : Activation) → In a (map f s.activations) → a.number < length (map f s.activations)
     counted_after a is =
         let was = in_image f a s.activations is in
-        subst (λ n. a.number < n) (sym (length-map s.activations f)) (subst (λ n. n < length s.activations) (sym (number_of_image was.0 a was.2)) (sound.counted was.0 was.1))
+        subst (λ n. a.number < n) (sym (length-map s.activations f))
+        (subst (λ n. n < length s.activations) (sym (number_of_image was.0 a was.2)) (sound.counted was.0 was.1))
 
     activation_alone_after : (a b : Activation) → In a (map f s.activations) → In b (map f s.activations) → a.number ≡ b.number → a ≡ b
     activation_alone_after a b is is' same =
         let was = in_image f a s.activations is in
         let was' = in_image f b s.activations is' in
-        was.2 ∙ (ap f (sound.activation_alone was.0 was'.0 was.1 was'.1 (sym (number_of_image was.0 a was.2) ∙ (same ∙ number_of_image was'.0 b was'.2))) ∙ sym was'.2)
+        was.2 ∙ (ap f (sound.activation_alone was.0 was'.0 was.1 was'.1 (sym (number_of_image was.0 a was.2) ∙ (same ∙ number_of_image was'.0 b was'.2)))
+        ∙ sym was'.2)
 
-    life_alone_after : (a b : Activation) → In a (map f s.activations) → In b (map f s.activations) → a.adapter ≡ b.adapter → a.oid ≡ b.oid → is_over c a ≡ false → is_over c b ≡ false → a ≡ b
+    life_alone_after : (a b : Activation) → In a (map f s.activations) → In b (map f s.activations) → a.adapter ≡ b.adapter → a.oid ≡ b.oid
+        → is_over c a ≡ false → is_over c b ≡ false → a ≡ b
     life_alone_after a b is is' same_adapter same_oid lives lives' =
         let was = in_image f a s.activations is in
         let was' = in_image f b s.activations is' in
@@ -270,5 +287,8 @@ module _ (c : Config) (run : ℕ) (s : Standing) (sound : IsSound c run s) where
       counted = counted_after;
       activation_alone = activation_alone_after;
       life_alone = life_alone_after;
-      ids = λ a is. (let was = in_image f a s.activations is in ap₂ (λ q i. is_bad_id c run s.made q i) (ap (λ x. x.path) was.2 ∙ follows.path_kept was.0) (ap (λ x. x.oid) was.2 ∙ follows.oid_kept was.0) ∙ sound.ids was.0 was.1);
+      ids = λ a is.
+          (let was = in_image f a s.activations is in
+          ap₂ (λ q i. is_bad_id c run s.made q i) (ap (λ x. x.path) was.2 ∙ follows.path_kept was.0) (ap (λ x. x.oid) was.2 ∙ follows.oid_kept was.0)
+          ∙ sound.ids was.0 was.1);
     }

@@ -50,21 +50,31 @@ stage_other (Arrive conn size call) past w other = refl
 stage_other (Filled conn size) past w other = refl
 stage_other (Left conn) past w other = refl
 stage_other (Collect conn a) past w other = refl
-stage_other (Admit v r u) past w other = cond_both (v == w) (begun_by r u) (stage past w) (λ x. x ≡ stage past w) (λ same. absurd (other (ap (λ x. Some x) (eqb-true v w same)))) (λ _. refl)
-stage_other (Tried v a) past w other = cond_both (v == w) Free (stage past w) (λ x. x ≡ stage past w) (λ same. absurd (other (ap (λ x. Some x) (eqb-true v w same)))) (λ _. refl)
-stage_other (Incarnated v a) past w other = cond_both (v == w) (incarnated a (stage past w)) (stage past w) (λ x. x ≡ stage past w) (λ same. absurd (other (ap (λ x. Some x) (eqb-true v w same)))) (λ _. refl)
-stage_other (Run v) past w other = cond_both (v == w) (ran (stage past w)) (stage past w) (λ x. x ≡ stage past w) (λ same. absurd (other (ap (λ x. Some x) (eqb-true v w same)))) (λ _. refl)
-stage_other (Done v) past w other = cond_both (v == w) Free (stage past w) (λ x. x ≡ stage past w) (λ same. absurd (other (ap (λ x. Some x) (eqb-true v w same)))) (λ _. refl)
-stage_other (TakeOut v n true) past w other = cond_both (v == w) (Removing n) (stage past w) (λ x. x ≡ stage past w) (λ same. absurd (other (ap (λ x. Some x) (eqb-true v w same)))) (λ _. refl)
-stage_other (TakeOut v n false) past w other = cond_both (v == w) Free (stage past w) (λ x. x ≡ stage past w) (λ same. absurd (other (ap (λ x. Some x) (eqb-true v w same)))) (λ _. refl)
-stage_other (Etherealized v x y) past w other = cond_both (v == w) Free (stage past w) (λ x. x ≡ stage past w) (λ same. absurd (other (ap (λ x. Some x) (eqb-true v w same)))) (λ _. refl)
+stage_other (Admit v r u) past w other =
+    cond_both (v == w) (begun_by r u) (stage past w) (λ x. x ≡ stage past w) (λ same. absurd (other (ap (λ x. Some x) (eqb-true v w same)))) (λ _. refl)
+stage_other (Tried v a) past w other =
+    cond_both (v == w) Free (stage past w) (λ x. x ≡ stage past w) (λ same. absurd (other (ap (λ x. Some x) (eqb-true v w same)))) (λ _. refl)
+stage_other (Incarnated v a) past w other =
+    cond_both (v == w) (incarnated a (stage past w)) (stage past w) (λ x. x ≡ stage past w) (λ same. absurd (other (ap (λ x. Some x) (eqb-true v w same))))
+    (λ _. refl)
+stage_other (Run v) past w other =
+    cond_both (v == w) (ran (stage past w)) (stage past w) (λ x. x ≡ stage past w) (λ same. absurd (other (ap (λ x. Some x) (eqb-true v w same)))) (λ _. refl)
+stage_other (Done v) past w other =
+    cond_both (v == w) Free (stage past w) (λ x. x ≡ stage past w) (λ same. absurd (other (ap (λ x. Some x) (eqb-true v w same)))) (λ _. refl)
+stage_other (TakeOut v n true) past w other =
+    cond_both (v == w) (Removing n) (stage past w) (λ x. x ≡ stage past w) (λ same. absurd (other (ap (λ x. Some x) (eqb-true v w same)))) (λ _. refl)
+stage_other (TakeOut v n false) past w other =
+    cond_both (v == w) Free (stage past w) (λ x. x ≡ stage past w) (λ same. absurd (other (ap (λ x. Some x) (eqb-true v w same)))) (λ _. refl)
+stage_other (Etherealized v x y) past w other =
+    cond_both (v == w) Free (stage past w) (λ x. x ≡ stage past w) (λ same. absurd (other (ap (λ x. Some x) (eqb-true v w same)))) (λ _. refl)
 stage_other (Abandon v) past w other = refl
 
 pub own : {A : Type 0} (w : ℕ) (x y : A) → (if w == w then x else y) ≡ x
 own w x y = ap (λ b. if b then x else y) (eq-eqb w w refl)
 
 -- an arrival that a worker is at is admitted
-pub held_admitted : (h : List Entry) (s : Standing) (begun : Stage) (r : ℕ) → Holds h s begun → arrival_in begun ≡ Some r → (v : Verdict) × (admitted h r ≡ Some v)
+pub held_admitted : (h : List Entry) (s : Standing) (begun : Stage) (r : ℕ) → Holds h s begun → arrival_in begun ≡ Some r → (v : Verdict)
+    × (admitted h r ≡ Some v)
 held_admitted h s Free r holds at = absurd (let e : None ≡ Some r = at in cc)
 held_admitted h s (Trying q) r holds at = (let e : Some q ≡ Some r = at in let same : q ≡ r = cc in (Try, ap (admitted h) (sym same) ∙ holds.0))
 held_admitted h s (Incarnating q n) r holds at = (let e : Some q ≡ Some r = at in let same : q ≡ r = cc in (Incarnate n, ap (admitted h) (sym same) ∙ holds.0))
@@ -89,7 +99,8 @@ flights_tried s q No = refl
 flights_tried s q Raised = refl
 flights_tried s q ParentDying = refl
 
-pub stays_incarnated : (c : Config) (s : Standing) (begun : Stage) (answer : Incarnation) (f : Flight) → In f s.flights → ((x : ℕ) → arrival_in begun ≡ Some x → f.arrival ≡ x → ⊥) → In f (with_incarnated c begun answer s).flights
+pub stays_incarnated : (c : Config) (s : Standing) (begun : Stage) (answer : Incarnation) (f : Flight) → In f s.flights
+    → ((x : ℕ) → arrival_in begun ≡ Some x → f.arrival ≡ x → ⊥) → In f (with_incarnated c begun answer s).flights
 stays_incarnated c s (Incarnating r n) (Fresh m) f there other = there
 stays_incarnated c s (Incarnating r n) (Named name) f there other = there
 stays_incarnated c s (Incarnating r n) Double f there other = kept_in (λ g. not (g.arrival == r)) f s.flights there (not_at r f (other r refl))
@@ -125,11 +136,29 @@ stays_admitted s r (Some key) (Answer x) f there = there
 stays_admitted s r (Some key) Wait f there = there
 
 pub begun_flight : (s : Standing) (r : ℕ) (key : Key) (v : Verdict) (f : Flight) → flight_for s r key v ≡ Some f → In f (with_admitted r (Some key) v s).flights
-begun_flight s r key (Serve n) f is = (let e : Some (record { arrival = r; adapter = adapter_met (walk s.nodes key.path); activation = Some n; child = None }) ≡ Some f = is in let same : record { arrival = r; adapter = adapter_met (walk s.nodes key.path); activation = Some n; child = None } ≡ f = cc in subst (λ g. In g (with_admitted r (Some key) (Serve n) s).flights) same (in_back _ s.flights))
-begun_flight s r key (Preset n) f is = (let e : Some (record { arrival = r; adapter = adapter_met (walk s.nodes key.path); activation = None; child = None }) ≡ Some f = is in let same : record { arrival = r; adapter = adapter_met (walk s.nodes key.path); activation = None; child = None } ≡ f = cc in subst (λ g. In g (with_admitted r (Some key) (Preset n) s).flights) same (in_back _ s.flights))
-begun_flight s r key (Locator n) f is = (let e : Some (record { arrival = r; adapter = adapter_met (walk s.nodes key.path); activation = None; child = None }) ≡ Some f = is in let same : record { arrival = r; adapter = adapter_met (walk s.nodes key.path); activation = None; child = None } ≡ f = cc in subst (λ g. In g (with_admitted r (Some key) (Locator n) s).flights) same (in_back _ s.flights))
-begun_flight s r key (Incarnate n) f is = (let e : Some (record { arrival = r; adapter = adapter_met (walk s.nodes key.path); activation = Some (length s.activations); child = None }) ≡ Some f = is in let same : record { arrival = r; adapter = adapter_met (walk s.nodes key.path); activation = Some (length s.activations); child = None } ≡ f = cc in subst (λ g. In g (with_admitted r (Some key) (Incarnate n) s).flights) same (in_back _ s.flights))
-begun_flight s r key Try f is = (let e : Some (record { arrival = r; adapter = adapter_met (walk s.nodes key.path); activation = None; child = Some (child_met (walk s.nodes key.path) key.path) }) ≡ Some f = is in let same : record { arrival = r; adapter = adapter_met (walk s.nodes key.path); activation = None; child = Some (child_met (walk s.nodes key.path) key.path) } ≡ f = cc in subst (λ g. In g (with_admitted r (Some key) Try s).flights) same (in_back _ s.flights))
+begun_flight s r key (Serve n) f is =
+    (let e : Some (record { arrival = r; adapter = adapter_met (walk s.nodes key.path); activation = Some n; child = None }) ≡ Some f = is in
+    let same : record { arrival = r; adapter = adapter_met (walk s.nodes key.path); activation = Some n; child = None } ≡ f = cc in
+    subst (λ g. In g (with_admitted r (Some key) (Serve n) s).flights) same (in_back _ s.flights))
+begun_flight s r key (Preset n) f is =
+    (let e : Some (record { arrival = r; adapter = adapter_met (walk s.nodes key.path); activation = None; child = None }) ≡ Some f = is in
+    let same : record { arrival = r; adapter = adapter_met (walk s.nodes key.path); activation = None; child = None } ≡ f = cc in
+    subst (λ g. In g (with_admitted r (Some key) (Preset n) s).flights) same (in_back _ s.flights))
+begun_flight s r key (Locator n) f is =
+    (let e : Some (record { arrival = r; adapter = adapter_met (walk s.nodes key.path); activation = None; child = None }) ≡ Some f = is in
+    let same : record { arrival = r; adapter = adapter_met (walk s.nodes key.path); activation = None; child = None } ≡ f = cc in
+    subst (λ g. In g (with_admitted r (Some key) (Locator n) s).flights) same (in_back _ s.flights))
+begun_flight s r key (Incarnate n) f is =
+    (let e : Some (record { arrival = r; adapter = adapter_met (walk s.nodes key.path); activation = Some (length s.activations); child = None }) ≡ Some f =
+    is in let same : record { arrival = r; adapter = adapter_met (walk s.nodes key.path); activation = Some (length s.activations); child = None } ≡ f = cc in
+    subst (λ g. In g (with_admitted r (Some key) (Incarnate n) s).flights) same (in_back _ s.flights))
+begun_flight s r key Try f is =
+    (let e : Some
+    (record { arrival = r; adapter = adapter_met (walk s.nodes key.path); activation = None; child = Some (child_met (walk s.nodes key.path) key.path) }) ≡ Some
+    f = is in
+    let same : record
+    { arrival = r; adapter = adapter_met (walk s.nodes key.path); activation = None; child = Some (child_met (walk s.nodes key.path) key.path) } ≡ f = cc in
+    subst (λ g. In g (with_admitted r (Some key) Try s).flights) same (in_back _ s.flights))
 begun_flight s r key (Refuse x) f is = absurd (let e : None ≡ Some f = is in cc)
 begun_flight s r key (Forward x) f is = absurd (let e : None ≡ Some f = is in cc)
 begun_flight s r key Addressing f is = absurd (let e : None ≡ Some f = is in cc)
@@ -139,7 +168,8 @@ begun_flight s r key (Answer x) f is = absurd (let e : None ≡ Some f = is in c
 begun_flight s r key Wait f is = absurd (let e : None ≡ Some f = is in cc)
 
 -- what a flight that an Admit begins says
-pub flight_says : (s : Standing) (r : ℕ) (key : Key) (v : Verdict) (f : Flight) → flight_for s r key v ≡ Some f → (f.arrival ≡ r) × (is_begin v ≡ true) × (arrival_in (begun_by r v) ≡ Some r)
+pub flight_says : (s : Standing) (r : ℕ) (key : Key) (v : Verdict) (f : Flight) → flight_for s r key v ≡ Some f → (f.arrival ≡ r) × (is_begin v ≡ true)
+    × (arrival_in (begun_by r v) ≡ Some r)
 flight_says s r key (Serve n) f is = (ap (λ o. elim o [ Some g ↦ g.arrival | None ↦ r ]) (sym is), refl, refl)
 flight_says s r key (Preset n) f is = (ap (λ o. elim o [ Some g ↦ g.arrival | None ↦ r ]) (sym is), refl, refl)
 flight_says s r key (Locator n) f is = (ap (λ o. elim o [ Some g ↦ g.arrival | None ↦ r ]) (sym is), refl, refl)
@@ -200,7 +230,8 @@ begun_only r q n Wait at = absurd (let e : Free ≡ Incarnating q n = at in cc)
 pub incarnated_at : (a : Incarnation) (b : Stage) (r : ℕ) → arrival_in (incarnated a b) ≡ Some r → arrival_in b ≡ Some r
 incarnated_at a Free r at = at
 incarnated_at a (Trying q) r at = absurd (let e : None ≡ Some r = at in cc)
-incarnated_at a (Incarnating q n) r at = cond_both (brings a) (Serving q) Free (λ x. arrival_in x ≡ Some r → Some q ≡ Some r) (λ _ is. is) (λ _ is. absurd (let e : None ≡ Some r = is in cc)) at
+incarnated_at a (Incarnating q n) r at =
+    cond_both (brings a) (Serving q) Free (λ x. arrival_in x ≡ Some r → Some q ≡ Some r) (λ _ is. is) (λ _ is. absurd (let e : None ≡ Some r = is in cc)) at
 incarnated_at a (Serving q) r at = absurd (let e : None ≡ Some r = at in cc)
 incarnated_at a (Ran q) r at = absurd (let e : None ≡ Some r = at in cc)
 incarnated_at a (Removing n) r at = at
@@ -230,22 +261,45 @@ ran_never (Ran q) x no_ran no_free at = no_free at
 ran_never (Removing n) x no_ran no_free at = no_free at
 
 -- where a worker is at an arrival, or at a removal, after an entry, it was so or the entry begins it
-pub arrival_before : (e : Entry) (past : List Entry) (w r : ℕ) → arrival_in (stage (e ∷ past) w) ≡ Some r → (arrival_in (stage past w) ≡ Some r) ⊎ ((v : Verdict) × (e ≡ Admit w r v) × (is_begin v ≡ true))
+pub arrival_before : (e : Entry) (past : List Entry) (w r : ℕ) → arrival_in (stage (e ∷ past) w) ≡ Some r → (arrival_in (stage past w) ≡ Some r)
+    ⊎ ((v : Verdict) × (e ≡ Admit w r v) × (is_begin v ≡ true))
 arrival_before (Entered conn) past w r at = inl at
 arrival_before (Arrive conn size call) past w r at = inl at
 arrival_before (Filled conn size) past w r at = inl at
 arrival_before (Left conn) past w r at = inl at
 arrival_before (Collect conn a) past w r at = inl at
 arrival_before (Admit v q u) past w r at =
-    cond_both (v == w) (begun_by q u) (stage past w) (λ x. arrival_in x ≡ Some r → (arrival_in (stage past w) ≡ Some r) ⊎ ((u' : Verdict) × (Admit v q u ≡ Admit w r u') × (is_begin u' ≡ true)))
+    cond_both (v == w) (begun_by q u) (stage past w)
+    (λ x. arrival_in x ≡ Some r → (arrival_in (stage past w) ≡ Some r) ⊎ ((u' : Verdict) × (Admit v q u ≡ Admit w r u') × (is_begin u' ≡ true)))
     (λ same is. (let told = begun_at q r u is in inr (u, ap₂ (λ x y. Admit x y u) (eqb-true v w same) told.1, told.0))) (λ _ is. inl is) at
-arrival_before (Tried v a) past w r at = cond_both (v == w) Free (stage past w) (λ x. arrival_in x ≡ Some r → (arrival_in (stage past w) ≡ Some r) ⊎ ((u : Verdict) × (Tried v a ≡ Admit w r u) × (is_begin u ≡ true))) (λ _ is. absurd (let f : None ≡ Some r = is in cc)) (λ _ is. inl is) at
-arrival_before (Incarnated v a) past w r at = cond_both (v == w) (incarnated a (stage past w)) (stage past w) (λ x. arrival_in x ≡ Some r → (arrival_in (stage past w) ≡ Some r) ⊎ ((u : Verdict) × (Incarnated v a ≡ Admit w r u) × (is_begin u ≡ true))) (λ _ is. inl (incarnated_at a (stage past w) r is)) (λ _ is. inl is) at
-arrival_before (Run v) past w r at = cond_both (v == w) (ran (stage past w)) (stage past w) (λ x. arrival_in x ≡ Some r → (arrival_in (stage past w) ≡ Some r) ⊎ ((u : Verdict) × (Run v ≡ Admit w r u) × (is_begin u ≡ true))) (λ _ is. inl (ran_at (stage past w) r is)) (λ _ is. inl is) at
-arrival_before (Done v) past w r at = cond_both (v == w) Free (stage past w) (λ x. arrival_in x ≡ Some r → (arrival_in (stage past w) ≡ Some r) ⊎ ((u : Verdict) × (Done v ≡ Admit w r u) × (is_begin u ≡ true))) (λ _ is. absurd (let f : None ≡ Some r = is in cc)) (λ _ is. inl is) at
-arrival_before (TakeOut v n true) past w r at = cond_both (v == w) (Removing n) (stage past w) (λ x. arrival_in x ≡ Some r → (arrival_in (stage past w) ≡ Some r) ⊎ ((u : Verdict) × (TakeOut v n true ≡ Admit w r u) × (is_begin u ≡ true))) (λ _ is. absurd (let f : None ≡ Some r = is in cc)) (λ _ is. inl is) at
-arrival_before (TakeOut v n false) past w r at = cond_both (v == w) Free (stage past w) (λ x. arrival_in x ≡ Some r → (arrival_in (stage past w) ≡ Some r) ⊎ ((u : Verdict) × (TakeOut v n false ≡ Admit w r u) × (is_begin u ≡ true))) (λ _ is. absurd (let f : None ≡ Some r = is in cc)) (λ _ is. inl is) at
-arrival_before (Etherealized v x y) past w r at = cond_both (v == w) Free (stage past w) (λ b. arrival_in b ≡ Some r → (arrival_in (stage past w) ≡ Some r) ⊎ ((u : Verdict) × (Etherealized v x y ≡ Admit w r u) × (is_begin u ≡ true))) (λ _ is. absurd (let f : None ≡ Some r = is in cc)) (λ _ is. inl is) at
+arrival_before (Tried v a) past w r at =
+    cond_both (v == w) Free (stage past w)
+    (λ x. arrival_in x ≡ Some r → (arrival_in (stage past w) ≡ Some r) ⊎ ((u : Verdict) × (Tried v a ≡ Admit w r u) × (is_begin u ≡ true)))
+    (λ _ is. absurd (let f : None ≡ Some r = is in cc)) (λ _ is. inl is) at
+arrival_before (Incarnated v a) past w r at =
+    cond_both (v == w) (incarnated a (stage past w)) (stage past w)
+    (λ x. arrival_in x ≡ Some r → (arrival_in (stage past w) ≡ Some r) ⊎ ((u : Verdict) × (Incarnated v a ≡ Admit w r u) × (is_begin u ≡ true)))
+    (λ _ is. inl (incarnated_at a (stage past w) r is)) (λ _ is. inl is) at
+arrival_before (Run v) past w r at =
+    cond_both (v == w) (ran (stage past w)) (stage past w)
+    (λ x. arrival_in x ≡ Some r → (arrival_in (stage past w) ≡ Some r) ⊎ ((u : Verdict) × (Run v ≡ Admit w r u) × (is_begin u ≡ true)))
+    (λ _ is. inl (ran_at (stage past w) r is)) (λ _ is. inl is) at
+arrival_before (Done v) past w r at =
+    cond_both (v == w) Free (stage past w)
+    (λ x. arrival_in x ≡ Some r → (arrival_in (stage past w) ≡ Some r) ⊎ ((u : Verdict) × (Done v ≡ Admit w r u) × (is_begin u ≡ true)))
+    (λ _ is. absurd (let f : None ≡ Some r = is in cc)) (λ _ is. inl is) at
+arrival_before (TakeOut v n true) past w r at =
+    cond_both (v == w) (Removing n) (stage past w)
+    (λ x. arrival_in x ≡ Some r → (arrival_in (stage past w) ≡ Some r) ⊎ ((u : Verdict) × (TakeOut v n true ≡ Admit w r u) × (is_begin u ≡ true)))
+    (λ _ is. absurd (let f : None ≡ Some r = is in cc)) (λ _ is. inl is) at
+arrival_before (TakeOut v n false) past w r at =
+    cond_both (v == w) Free (stage past w)
+    (λ x. arrival_in x ≡ Some r → (arrival_in (stage past w) ≡ Some r) ⊎ ((u : Verdict) × (TakeOut v n false ≡ Admit w r u) × (is_begin u ≡ true)))
+    (λ _ is. absurd (let f : None ≡ Some r = is in cc)) (λ _ is. inl is) at
+arrival_before (Etherealized v x y) past w r at =
+    cond_both (v == w) Free (stage past w)
+    (λ b. arrival_in b ≡ Some r → (arrival_in (stage past w) ≡ Some r) ⊎ ((u : Verdict) × (Etherealized v x y ≡ Admit w r u) × (is_begin u ≡ true)))
+    (λ _ is. absurd (let f : None ≡ Some r = is in cc)) (λ _ is. inl is) at
 arrival_before (Abandon v) past w r at = inl at
 
 pub removal_before : (e : Entry) (past : List Entry) (w n : ℕ) → stage (e ∷ past) w ≡ Removing n → (stage past w ≡ Removing n) ⊎ (e ≡ TakeOut w n true)
@@ -254,30 +308,69 @@ removal_before (Arrive conn size call) past w n at = inl at
 removal_before (Filled conn size) past w n at = inl at
 removal_before (Left conn) past w n at = inl at
 removal_before (Collect conn a) past w n at = inl at
-removal_before (Admit v q u) past w n at = cond_both (v == w) (begun_by q u) (stage past w) (λ x. x ≡ Removing n → (stage past w ≡ Removing n) ⊎ (Admit v q u ≡ TakeOut w n true)) (λ _ is. absurd (begun_never q n u is)) (λ _ is. inl is) at
-removal_before (Tried v a) past w n at = cond_both (v == w) Free (stage past w) (λ x. x ≡ Removing n → (stage past w ≡ Removing n) ⊎ (Tried v a ≡ TakeOut w n true)) (λ _ is. absurd (let f : Free ≡ Removing n = is in cc)) (λ _ is. inl is) at
-removal_before (Incarnated v a) past w n at = cond_both (v == w) (incarnated a (stage past w)) (stage past w) (λ x. x ≡ Removing n → (stage past w ≡ Removing n) ⊎ (Incarnated v a ≡ TakeOut w n true)) (λ _ is. absurd (incarnated_never a (stage past w) (Removing n) (λ q f. cc) (λ f. cc) is)) (λ _ is. inl is) at
-removal_before (Run v) past w n at = cond_both (v == w) (ran (stage past w)) (stage past w) (λ x. x ≡ Removing n → (stage past w ≡ Removing n) ⊎ (Run v ≡ TakeOut w n true)) (λ _ is. absurd (ran_never (stage past w) (Removing n) (λ q f. cc) (λ f. cc) is)) (λ _ is. inl is) at
-removal_before (Done v) past w n at = cond_both (v == w) Free (stage past w) (λ x. x ≡ Removing n → (stage past w ≡ Removing n) ⊎ (Done v ≡ TakeOut w n true)) (λ _ is. absurd (let f : Free ≡ Removing n = is in cc)) (λ _ is. inl is) at
-removal_before (TakeOut v m true) past w n at = cond_both (v == w) (Removing m) (stage past w) (λ x. x ≡ Removing n → (stage past w ≡ Removing n) ⊎ (TakeOut v m true ≡ TakeOut w n true)) (λ same is. inr (let f : Removing m ≡ Removing n = is in let g : m ≡ n = cc in ap₂ (λ x y. TakeOut x y true) (eqb-true v w same) g)) (λ _ is. inl is) at
-removal_before (TakeOut v m false) past w n at = cond_both (v == w) Free (stage past w) (λ x. x ≡ Removing n → (stage past w ≡ Removing n) ⊎ (TakeOut v m false ≡ TakeOut w n true)) (λ _ is. absurd (let f : Free ≡ Removing n = is in cc)) (λ _ is. inl is) at
-removal_before (Etherealized v x y) past w n at = cond_both (v == w) Free (stage past w) (λ b. b ≡ Removing n → (stage past w ≡ Removing n) ⊎ (Etherealized v x y ≡ TakeOut w n true)) (λ _ is. absurd (let f : Free ≡ Removing n = is in cc)) (λ _ is. inl is) at
+removal_before (Admit v q u) past w n at =
+    cond_both (v == w) (begun_by q u) (stage past w) (λ x. x ≡ Removing n → (stage past w ≡ Removing n) ⊎ (Admit v q u ≡ TakeOut w n true))
+    (λ _ is. absurd (begun_never q n u is)) (λ _ is. inl is) at
+removal_before (Tried v a) past w n at =
+    cond_both (v == w) Free (stage past w) (λ x. x ≡ Removing n → (stage past w ≡ Removing n) ⊎ (Tried v a ≡ TakeOut w n true))
+    (λ _ is. absurd (let f : Free ≡ Removing n = is in cc)) (λ _ is. inl is) at
+removal_before (Incarnated v a) past w n at =
+    cond_both (v == w) (incarnated a (stage past w)) (stage past w) (λ x. x ≡ Removing n → (stage past w ≡ Removing n) ⊎ (Incarnated v a ≡ TakeOut w n true))
+    (λ _ is. absurd (incarnated_never a (stage past w) (Removing n) (λ q f. cc) (λ f. cc) is)) (λ _ is. inl is) at
+removal_before (Run v) past w n at =
+    cond_both (v == w) (ran (stage past w)) (stage past w) (λ x. x ≡ Removing n → (stage past w ≡ Removing n) ⊎ (Run v ≡ TakeOut w n true))
+    (λ _ is. absurd (ran_never (stage past w) (Removing n) (λ q f. cc) (λ f. cc) is)) (λ _ is. inl is) at
+removal_before (Done v) past w n at =
+    cond_both (v == w) Free (stage past w) (λ x. x ≡ Removing n → (stage past w ≡ Removing n) ⊎ (Done v ≡ TakeOut w n true))
+    (λ _ is. absurd (let f : Free ≡ Removing n = is in cc)) (λ _ is. inl is) at
+removal_before (TakeOut v m true) past w n at =
+    cond_both (v == w) (Removing m) (stage past w) (λ x. x ≡ Removing n → (stage past w ≡ Removing n) ⊎ (TakeOut v m true ≡ TakeOut w n true))
+    (λ same is. inr (let f : Removing m ≡ Removing n = is in let g : m ≡ n = cc in ap₂ (λ x y. TakeOut x y true) (eqb-true v w same) g)) (λ _ is. inl is) at
+removal_before (TakeOut v m false) past w n at =
+    cond_both (v == w) Free (stage past w) (λ x. x ≡ Removing n → (stage past w ≡ Removing n) ⊎ (TakeOut v m false ≡ TakeOut w n true))
+    (λ _ is. absurd (let f : Free ≡ Removing n = is in cc)) (λ _ is. inl is) at
+removal_before (Etherealized v x y) past w n at =
+    cond_both (v == w) Free (stage past w) (λ b. b ≡ Removing n → (stage past w ≡ Removing n) ⊎ (Etherealized v x y ≡ TakeOut w n true))
+    (λ _ is. absurd (let f : Free ≡ Removing n = is in cc)) (λ _ is. inl is) at
 removal_before (Abandon v) past w n at = inl at
 
-pub begun_before : (e : Entry) (past : List Entry) (w r n : ℕ) → stage (e ∷ past) w ≡ Incarnating r n → (stage past w ≡ Incarnating r n) ⊎ ((q : ℕ) × (e ≡ Admit w q (Incarnate n)))
+pub begun_before : (e : Entry) (past : List Entry) (w r n : ℕ) → stage (e ∷ past) w ≡ Incarnating r n → (stage past w ≡ Incarnating r n)
+    ⊎ ((q : ℕ) × (e ≡ Admit w q (Incarnate n)))
 begun_before (Entered conn) past w r n at = inl at
 begun_before (Arrive conn size call) past w r n at = inl at
 begun_before (Filled conn size) past w r n at = inl at
 begun_before (Left conn) past w r n at = inl at
 begun_before (Collect conn a) past w r n at = inl at
-begun_before (Admit v q u) past w r n at = cond_both (v == w) (begun_by q u) (stage past w) (λ x. x ≡ Incarnating r n → (stage past w ≡ Incarnating r n) ⊎ ((p : ℕ) × (Admit v q u ≡ Admit w p (Incarnate n)))) (λ same is. inr (q, ap₂ (λ x y. Admit x q y) (eqb-true v w same) (begun_only q r n u is))) (λ _ is. inl is) at
-begun_before (Tried v a) past w r n at = cond_both (v == w) Free (stage past w) (λ x. x ≡ Incarnating r n → (stage past w ≡ Incarnating r n) ⊎ ((p : ℕ) × (Tried v a ≡ Admit w p (Incarnate n)))) (λ _ is. absurd (let f : Free ≡ Incarnating r n = is in cc)) (λ _ is. inl is) at
-begun_before (Incarnated v a) past w r n at = cond_both (v == w) (incarnated a (stage past w)) (stage past w) (λ x. x ≡ Incarnating r n → (stage past w ≡ Incarnating r n) ⊎ ((p : ℕ) × (Incarnated v a ≡ Admit w p (Incarnate n)))) (λ _ is. absurd (incarnated_never a (stage past w) (Incarnating r n) (λ q f. cc) (λ f. cc) is)) (λ _ is. inl is) at
-begun_before (Run v) past w r n at = cond_both (v == w) (ran (stage past w)) (stage past w) (λ x. x ≡ Incarnating r n → (stage past w ≡ Incarnating r n) ⊎ ((p : ℕ) × (Run v ≡ Admit w p (Incarnate n)))) (λ _ is. absurd (ran_never (stage past w) (Incarnating r n) (λ q f. cc) (λ f. cc) is)) (λ _ is. inl is) at
-begun_before (Done v) past w r n at = cond_both (v == w) Free (stage past w) (λ x. x ≡ Incarnating r n → (stage past w ≡ Incarnating r n) ⊎ ((p : ℕ) × (Done v ≡ Admit w p (Incarnate n)))) (λ _ is. absurd (let f : Free ≡ Incarnating r n = is in cc)) (λ _ is. inl is) at
-begun_before (TakeOut v m true) past w r n at = cond_both (v == w) (Removing m) (stage past w) (λ x. x ≡ Incarnating r n → (stage past w ≡ Incarnating r n) ⊎ ((p : ℕ) × (TakeOut v m true ≡ Admit w p (Incarnate n)))) (λ _ is. absurd (let f : Removing m ≡ Incarnating r n = is in cc)) (λ _ is. inl is) at
-begun_before (TakeOut v m false) past w r n at = cond_both (v == w) Free (stage past w) (λ x. x ≡ Incarnating r n → (stage past w ≡ Incarnating r n) ⊎ ((p : ℕ) × (TakeOut v m false ≡ Admit w p (Incarnate n)))) (λ _ is. absurd (let f : Free ≡ Incarnating r n = is in cc)) (λ _ is. inl is) at
-begun_before (Etherealized v x y) past w r n at = cond_both (v == w) Free (stage past w) (λ b. b ≡ Incarnating r n → (stage past w ≡ Incarnating r n) ⊎ ((p : ℕ) × (Etherealized v x y ≡ Admit w p (Incarnate n)))) (λ _ is. absurd (let f : Free ≡ Incarnating r n = is in cc)) (λ _ is. inl is) at
+begun_before (Admit v q u) past w r n at =
+    cond_both (v == w) (begun_by q u) (stage past w)
+    (λ x. x ≡ Incarnating r n → (stage past w ≡ Incarnating r n) ⊎ ((p : ℕ) × (Admit v q u ≡ Admit w p (Incarnate n))))
+    (λ same is. inr (q, ap₂ (λ x y. Admit x q y) (eqb-true v w same) (begun_only q r n u is))) (λ _ is. inl is) at
+begun_before (Tried v a) past w r n at =
+    cond_both (v == w) Free (stage past w) (λ x. x ≡ Incarnating r n → (stage past w ≡ Incarnating r n) ⊎ ((p : ℕ) × (Tried v a ≡ Admit w p (Incarnate n))))
+    (λ _ is. absurd (let f : Free ≡ Incarnating r n = is in cc)) (λ _ is. inl is) at
+begun_before (Incarnated v a) past w r n at =
+    cond_both (v == w) (incarnated a (stage past w)) (stage past w)
+    (λ x. x ≡ Incarnating r n → (stage past w ≡ Incarnating r n) ⊎ ((p : ℕ) × (Incarnated v a ≡ Admit w p (Incarnate n))))
+    (λ _ is. absurd (incarnated_never a (stage past w) (Incarnating r n) (λ q f. cc) (λ f. cc) is)) (λ _ is. inl is) at
+begun_before (Run v) past w r n at =
+    cond_both (v == w) (ran (stage past w)) (stage past w)
+    (λ x. x ≡ Incarnating r n → (stage past w ≡ Incarnating r n) ⊎ ((p : ℕ) × (Run v ≡ Admit w p (Incarnate n))))
+    (λ _ is. absurd (ran_never (stage past w) (Incarnating r n) (λ q f. cc) (λ f. cc) is)) (λ _ is. inl is) at
+begun_before (Done v) past w r n at =
+    cond_both (v == w) Free (stage past w) (λ x. x ≡ Incarnating r n → (stage past w ≡ Incarnating r n) ⊎ ((p : ℕ) × (Done v ≡ Admit w p (Incarnate n))))
+    (λ _ is. absurd (let f : Free ≡ Incarnating r n = is in cc)) (λ _ is. inl is) at
+begun_before (TakeOut v m true) past w r n at =
+    cond_both (v == w) (Removing m) (stage past w)
+    (λ x. x ≡ Incarnating r n → (stage past w ≡ Incarnating r n) ⊎ ((p : ℕ) × (TakeOut v m true ≡ Admit w p (Incarnate n))))
+    (λ _ is. absurd (let f : Removing m ≡ Incarnating r n = is in cc)) (λ _ is. inl is) at
+begun_before (TakeOut v m false) past w r n at =
+    cond_both (v == w) Free (stage past w)
+    (λ x. x ≡ Incarnating r n → (stage past w ≡ Incarnating r n) ⊎ ((p : ℕ) × (TakeOut v m false ≡ Admit w p (Incarnate n))))
+    (λ _ is. absurd (let f : Free ≡ Incarnating r n = is in cc)) (λ _ is. inl is) at
+begun_before (Etherealized v x y) past w r n at =
+    cond_both (v == w) Free (stage past w)
+    (λ b. b ≡ Incarnating r n → (stage past w ≡ Incarnating r n) ⊎ ((p : ℕ) × (Etherealized v x y ≡ Admit w p (Incarnate n))))
+    (λ _ is. absurd (let f : Free ≡ Incarnating r n = is in cc)) (λ _ is. inl is) at
 begun_before (Abandon v) past w r n at = inl at
 
 -- an incarnation that brings a servant leaves what is in flight, and brings the activation to its servant
@@ -293,30 +386,36 @@ brings_flights c s (Serving r) a brings_ = refl
 brings_flights c s (Ran r) a brings_ = refl
 brings_flights c s (Removing n) a brings_ = refl
 
-pub brings_activations : (c : Config) (s : Standing) (q n : ℕ) (a : Incarnation) → brings a ≡ true → (with_incarnated c (Incarnating q n) a s).activations ≡ map (at_number n (come_to (phase_by c n a))) s.activations
+pub brings_activations : (c : Config) (s : Standing) (q n : ℕ) (a : Incarnation) → brings a ≡ true
+    → (with_incarnated c (Incarnating q n) a s).activations ≡ map (at_number n (come_to (phase_by c n a))) s.activations
 brings_activations c s q n (Fresh m) brings_ = refl
 brings_activations c s q n (Named name) brings_ = refl
 brings_activations c s q n Double brings_ = absurd (let f : false ≡ true = brings_ in cc)
 brings_activations c s q n (ForwardTo x) brings_ = absurd (let f : false ≡ true = brings_ in cc)
 brings_activations c s q n (Raise x) brings_ = absurd (let f : false ≡ true = brings_ in cc)
 
-pub gone_incarnated : (c : Config) (s : Standing) (q n : ℕ) (a : Incarnation) (f : Flight) → brings a ≡ false → In f (with_incarnated c (Incarnating q n) a s).flights → f.arrival ≡ q → ⊥
+pub gone_incarnated : (c : Config) (s : Standing) (q n : ℕ) (a : Incarnation) (f : Flight) → brings a ≡ false
+    → In f (with_incarnated c (Incarnating q n) a s).flights → f.arrival ≡ q → ⊥
 gone_incarnated c s q n (Fresh m) f none there at = absurd (let x : true ≡ false = none in cc)
 gone_incarnated c s q n (Named name) f none there at = absurd (let x : true ≡ false = none in cc)
 gone_incarnated c s q n Double f none there at = true≢false (sym (in_kept (λ g. not (g.arrival == q)) f s.flights there).1 ∙ ap not (eq-eqb f.arrival q at))
-gone_incarnated c s q n (ForwardTo x) f none there at = true≢false (sym (in_kept (λ g. not (g.arrival == q)) f s.flights there).1 ∙ ap not (eq-eqb f.arrival q at))
+gone_incarnated c s q n (ForwardTo x) f none there at =
+    true≢false (sym (in_kept (λ g. not (g.arrival == q)) f s.flights there).1 ∙ ap not (eq-eqb f.arrival q at))
 gone_incarnated c s q n (Raise x) f none there at = true≢false (sym (in_kept (λ g. not (g.arrival == q)) f s.flights there).1 ∙ ap not (eq-eqb f.arrival q at))
 
 -- a flight stays whose worker doesn't make the entry
-pub flight_kept : (c : Config) (run : ℕ) (past : List Entry) (s : Standing) (e : Entry) (f : Flight) → In f s.flights → ((v q : ℕ) → maker e ≡ Some v → arrival_in (stage past v) ≡ Some q → f.arrival ≡ q → ⊥) → In f (changed c run past e s).flights
+pub flight_kept : (c : Config) (run : ℕ) (past : List Entry) (s : Standing) (e : Entry) (f : Flight) → In f s.flights
+    → ((v q : ℕ) → maker e ≡ Some v → arrival_in (stage past v) ≡ Some q → f.arrival ≡ q → ⊥) → In f (changed c run past e s).flights
 flight_kept c run past s (Entered conn) f there other = there
 flight_kept c run past s (Arrive conn size call) f there other = there
 flight_kept c run past s (Filled conn size) f there other = there
 flight_kept c run past s (Left conn) f there other = there
 flight_kept c run past s (Collect conn a) f there other = there
 flight_kept c run past s (Admit v r u) f there other =
-    subst (λ fs. In f fs) (sym (flights_command c run (command_done past (Admit v r u)) (with_admitted r (key_in (call_of past r)) u s))) (stays_admitted s r (key_in (call_of past r)) u f there)
-flight_kept c run past s (Tried v a) f there other = subst (λ fs. In f fs) (sym (flights_tried s (arrival_in (stage past v)) a)) (stays_fewer s (arrival_in (stage past v)) f there (λ x. other v x refl))
+    subst (λ fs. In f fs) (sym (flights_command c run (command_done past (Admit v r u)) (with_admitted r (key_in (call_of past r)) u s)))
+    (stays_admitted s r (key_in (call_of past r)) u f there)
+flight_kept c run past s (Tried v a) f there other =
+    subst (λ fs. In f fs) (sym (flights_tried s (arrival_in (stage past v)) a)) (stays_fewer s (arrival_in (stage past v)) f there (λ x. other v x refl))
 flight_kept c run past s (Incarnated v a) f there other = stays_incarnated c s (stage past v) a f there (λ x. other v x refl)
 flight_kept c run past s (Run v) f there other = there
 flight_kept c run past s (Done v) f there other = stays_fewer s (arrival_in (stage past v)) f there (λ x. other v x refl)
@@ -332,7 +431,8 @@ module _ (c : Config) (run limit : ℕ) (past : List Entry) where
   Ended e r = (f : Flight) → In f (changed c run past e (standing c run past)).flights → f.arrival ≡ r → ⊥
 
   -- a worker stays at its arrival, or the arrival isn't in flight any more
-  pub arrival_after : (e : Entry) → MayFollow c run limit past e → (w r : ℕ) → arrival_in (stage past w) ≡ Some r → (arrival_in (stage (e ∷ past) w) ≡ Some r) ⊎ Ended e r
+  pub arrival_after : (e : Entry) → MayFollow c run limit past e → (w r : ℕ) → arrival_in (stage past w) ≡ Some r → (arrival_in (stage (e ∷ past) w) ≡ Some r)
+      ⊎ Ended e r
   arrival_after (Entered conn) may w r at = inl at
   arrival_after (Arrive conn size call) may w r at = inl at
   arrival_after (Filled conn size) may w r at = inl at
@@ -344,7 +444,8 @@ module _ (c : Config) (run limit : ℕ) (past : List Entry) where
   arrival_after (Tried v a) may w r at =
       cond_both (v == w) Free (stage past w) (λ x. (arrival_in x ≡ Some r) ⊎ Ended (Tried v a) r)
       (λ same. inr (λ f there. gone_fewer (standing c run past) r f
-      (subst (λ o. In f (without_flight o (standing c run past)).flights) (ap (λ x. arrival_in (stage past x)) (eqb-true v w same) ∙ at) (subst (λ fs. In f fs) (flights_tried (standing c run past) (arrival_in (stage past v)) a) there))))
+      (subst (λ o. In f (without_flight o (standing c run past)).flights) (ap (λ x. arrival_in (stage past x)) (eqb-true v w same) ∙ at)
+      (subst (λ fs. In f fs) (flights_tried (standing c run past) (arrival_in (stage past v)) a) there))))
       (λ _. inl at)
   arrival_after (Incarnated v a) may w r at =
       cond_both (v == w) (incarnated a (stage past w)) (stage past w) (λ x. (arrival_in x ≡ Some r) ⊎ Ended (Incarnated v a) r)
@@ -354,7 +455,9 @@ module _ (c : Config) (run limit : ℕ) (past : List Entry) where
       let qr : it.arrival ≡ r = cc in
       elim (cases_Bool (brings a)) [
         | inl yes_ ↦ inl (ap (λ b. arrival_in (incarnated a b)) mine ∙ (ap (λ b. arrival_in (if b then Serving it.arrival else Free)) yes_ ∙ rs))
-        | inr none ↦ inr (λ f there is. gone_incarnated c (standing c run past) it.arrival it.number a f none (subst (λ b. In f (with_incarnated c b a (standing c run past)).flights) it.begun there) (is ∙ sym qr))
+        | inr none ↦
+            inr (λ f there is. gone_incarnated c (standing c run past) it.arrival it.number a f none
+            (subst (λ b. In f (with_incarnated c b a (standing c run past)).flights) it.begun there) (is ∙ sym qr))
       ]))
       (λ _. inl at)
   arrival_after (Run v) may w r at =
@@ -365,7 +468,9 @@ module _ (c : Config) (run limit : ℕ) (past : List Entry) where
       (λ _. inl at)
   arrival_after (Done v) may w r at =
       cond_both (v == w) Free (stage past w) (λ x. (arrival_in x ≡ Some r) ⊎ Ended (Done v) r)
-      (λ same. inr (λ f there. gone_fewer (standing c run past) r f (subst (λ o. In f (without_flight o (standing c run past)).flights) (ap (λ x. arrival_in (stage past x)) (eqb-true v w same) ∙ at) there)))
+      (λ same. inr
+      (λ f there. gone_fewer (standing c run past) r f
+      (subst (λ o. In f (without_flight o (standing c run past)).flights) (ap (λ x. arrival_in (stage past x)) (eqb-true v w same) ∙ at) there)))
       (λ _. inl at)
   arrival_after (TakeOut v n true) may w r at =
       cond_both (v == w) (Removing n) (stage past w) (λ x. (arrival_in x ≡ Some r) ⊎ Ended (TakeOut v n true) r)
@@ -375,11 +480,14 @@ module _ (c : Config) (run limit : ℕ) (past : List Entry) where
       (λ same. free_nothing v w r (takeout_is c run past v n false may).free (eqb-true v w same) at) (λ _. inl at)
   arrival_after (Etherealized v x y) may w r at =
       cond_both (v == w) Free (stage past w) (λ b. (arrival_in b ≡ Some r) ⊎ Ended (Etherealized v x y) r)
-      (λ same. absurd (let f : None ≡ Some r = sym (ap arrival_in (removal_is c run past v x y may).begun) ∙ (ap (λ z. arrival_in (stage past z)) (eqb-true v w same) ∙ at) in cc)) (λ _. inl at)
+      (λ same. absurd
+      (let f : None ≡ Some r = sym (ap arrival_in (removal_is c run past v x y may).begun)
+      ∙ (ap (λ z. arrival_in (stage past z)) (eqb-true v w same) ∙ at) in cc)) (λ _. inl at)
   arrival_after (Abandon v) may w r at = inl at
 
   -- an arrival that another worker is at stays admitted as it was
-  pub admitted_other : (e : Entry) → MayFollow c run limit past e → (w r : ℕ) → (maker e ≡ Some w → ⊥) → (u : Verdict) → admitted past r ≡ Some u → ((v : ℕ) → arrival_in (stage past v) ≡ Some r → v ≡ w) → admitted (e ∷ past) r ≡ admitted past r
+  pub admitted_other : (e : Entry) → MayFollow c run limit past e → (w r : ℕ) → (maker e ≡ Some w → ⊥) → (u : Verdict) → admitted past r ≡ Some u
+      → ((v : ℕ) → arrival_in (stage past v) ≡ Some r → v ≡ w) → admitted (e ∷ past) r ≡ admitted past r
   admitted_other (Entered conn) may w r other u is alone = refl
   admitted_other (Arrive conn size call) may w r other u is alone = refl
   admitted_other (Filled conn size) may w r other u is alone = refl
@@ -387,11 +495,15 @@ module _ (c : Config) (run limit : ℕ) (past : List Entry) where
   admitted_other (Collect conn a) may w r other u is alone = refl
   admitted_other (Admit v q x) may w r other u is alone =
       cond_both (q == r) (Some x) (admitted past r) (λ o. o ≡ admitted past r)
-      (λ same. absurd (let f : false ≡ true = ap is_none (sym (ap (admitted past) (eqb-true q r same) ∙ is)) ∙ (admission_is c run past v q x may).unadmitted in cc)) (λ _. refl)
+      (λ same. absurd
+      (let f : false ≡ true = ap is_none (sym (ap (admitted past) (eqb-true q r same) ∙ is)) ∙ (admission_is c run past v q x may).unadmitted in cc))
+      (λ _. refl)
   admitted_other (Tried v (Yes k)) may w r other u is alone =
       (let it = trial_is c run past v (Yes k) may in
       cond_both (is_at r (arrival_in (stage past v))) None (admitted past r) (λ o. o ≡ admitted past r)
-      (λ same. absurd (other (ap (λ x. Some x) (alone v (ap arrival_in it.begun ∙ ap (λ x. Some x) (eqb-true it.arrival r (sym (ap (λ b. is_at r (arrival_in b)) it.begun) ∙ same))))))) (λ _. refl))
+      (λ same. absurd
+      (other (ap (λ x. Some x)
+      (alone v (ap arrival_in it.begun ∙ ap (λ x. Some x) (eqb-true it.arrival r (sym (ap (λ b. is_at r (arrival_in b)) it.begun) ∙ same))))))) (λ _. refl))
   admitted_other (Tried v No) may w r other u is alone = refl
   admitted_other (Tried v Raised) may w r other u is alone = refl
   admitted_other (Tried v ParentDying) may w r other u is alone = refl

@@ -60,7 +60,8 @@ no_admit c s w r v (Removing n) is = by_activation (activation_numbered s n) is
     by_activation (Some a) some_ = (let e : Some (Etherealized w a.cleanup a.remaining) ≡ Some (Admit w r v) = some_ in cc)
 
 -- an answer of an adapter activator goes on with a trial
-only_trial : (c : Config) (s : Standing) (w k : ℕ) (begun : Stage) → going_on c s w begun ≡ Some (Tried w (Yes k)) → (r : ℕ) × (begun ≡ Trying r) × (attempt c s r ≡ Yes k)
+only_trial : (c : Config) (s : Standing) (w k : ℕ) (begun : Stage) → going_on c s w begun ≡ Some (Tried w (Yes k)) → (r : ℕ) × (begun ≡ Trying r)
+    × (attempt c s r ≡ Yes k)
 only_trial c s w k Free is = absurd (let e : None ≡ Some (Tried w (Yes k)) = is in cc)
 only_trial c s w k (Trying q) is = (q, refl, (let e : Some (Tried w (attempt c s q)) ≡ Some (Tried w (Yes k)) = is in cc))
 only_trial c s w k (Incarnating q n) is = absurd (by_activation (activation_numbered s n) is)
@@ -95,17 +96,27 @@ module _ (c : Config) (run : ℕ) (past : List Entry) (w r : ℕ) (v : Verdict) 
       ]
 
 module _ (c : Config) (run : ℕ) (past : List Entry) (sound : IsSound c run (standing c run past)) where
-  by_call : (w r : ℕ) (v : Verdict) (key : Key) (call : Option Call) → call_of past r ≡ call → verdict_on c run past r w call ≡ Some v → key_in call ≡ Some key → MayAdmit c run (standing c run past) sound r key v
+  by_call : (w r : ℕ) (v : Verdict) (key : Key) (call : Option Call) → call_of past r ≡ call → verdict_on c run past r w call ≡ Some v → key_in call ≡ Some key
+      → MayAdmit c run (standing c run past) sound r key v
   by_call w r v key None at told has = absurd (let e : None ≡ Some key = has in cc)
   by_call w r v key (Some (Line number command)) at told has = absurd (let e : None ≡ Some key = has in cc)
   by_call w r v key (Some (Request head target operation body)) at told has =
-      may_admit c run (standing c run past) sound r key past (is_locate (Some (Request head target operation body))) (is_crowded past r) (Some (Request head target operation body)) w v
-      (ap (λ k. first_row (facts_met c run past (standing c run past) (is_locate (Some (Request head target operation body))) (is_crowded past r) (key_fact run (target_of (Some (Request head target operation body)))) k (walk (standing c run past).nodes k.path)) w) (sym (ap key_or_none has))
-      ∙ (ap (λ q. first_row (facts_met c run past (standing c run past) (is_locate q) (is_crowded past r) (key_fact run (target_of q)) (key_or_none (key_in q)) (walk (standing c run past).nodes (key_or_none (key_in q)).path)) w) (sym at) ∙ chosen_go (first_row (facts_of c run past r) w) v told))
+      may_admit c run (standing c run past) sound r key past (is_locate (Some (Request head target operation body))) (is_crowded past r)
+      (Some (Request head target operation body)) w v
+      (ap (λ k. first_row
+      (facts_met c run past (standing c run past) (is_locate (Some (Request head target operation body))) (is_crowded past r)
+      (key_fact run (target_of (Some (Request head target operation body)))) k (walk (standing c run past).nodes k.path)) w) (sym (ap key_or_none has))
+      ∙ (ap (λ q. first_row
+      (facts_met c run past (standing c run past) (is_locate q) (is_crowded past r) (key_fact run (target_of q)) (key_or_none (key_in q))
+      (walk (standing c run past).nodes (key_or_none (key_in q)).path)) w) (sym at) ∙ chosen_go (first_row (facts_of c run past r) w) v told))
   by_call w r v key (Some (Locate head target)) at told has =
       may_admit c run (standing c run past) sound r key past (is_locate (Some (Locate head target))) (is_crowded past r) (Some (Locate head target)) w v
-      (ap (λ k. first_row (facts_met c run past (standing c run past) (is_locate (Some (Locate head target))) (is_crowded past r) (key_fact run (target_of (Some (Locate head target)))) k (walk (standing c run past).nodes k.path)) w) (sym (ap key_or_none has))
-      ∙ (ap (λ q. first_row (facts_met c run past (standing c run past) (is_locate q) (is_crowded past r) (key_fact run (target_of q)) (key_or_none (key_in q)) (walk (standing c run past).nodes (key_or_none (key_in q)).path)) w) (sym at) ∙ chosen_go (first_row (facts_of c run past r) w) v told))
+      (ap (λ k. first_row
+      (facts_met c run past (standing c run past) (is_locate (Some (Locate head target))) (is_crowded past r)
+      (key_fact run (target_of (Some (Locate head target)))) k (walk (standing c run past).nodes k.path)) w) (sym (ap key_or_none has))
+      ∙ (ap (λ q. first_row
+      (facts_met c run past (standing c run past) (is_locate q) (is_crowded past r) (key_fact run (target_of q)) (key_or_none (key_in q))
+      (walk (standing c run past).nodes (key_or_none (key_in q)).path)) w) (sym at) ∙ chosen_go (first_row (facts_of c run past r) w) v told))
 
   module _ (small_run : run < 2 ^ 32) (small : suc (standing c run past).made < 2 ^ 32) (rule : ImplicitMakes c) where
     fresh : FreshIds c run (standing c run past) sound
@@ -114,7 +125,8 @@ module _ (c : Config) (run : ℕ) (past : List Entry) (sound : IsSound c run (st
     fits : NextFits c run (standing c run past) sound
     fits = next_fits c run (standing c run past) sound small_run small
 
-    by_command : (command : Command) (v : Verdict) → command_verdict c run past (standing c run past) command ≡ Some v → is_accepted v ≡ true → MayDo c run (standing c run past) sound command
+    by_command : (command : Command) (v : Verdict) → command_verdict c run past (standing c run past) command ≡ Some v → is_accepted v ≡ true
+        → MayDo c run (standing c run past) sound command
     unfolding command_verdict
     by_command (Manager name order) v told accepted = tt
     by_command (Create p) v told accepted = may_create c run (standing c run past) sound p v told accepted
@@ -130,26 +142,33 @@ module _ (c : Config) (run : ℕ) (past : List Entry) (sound : IsSound c run (st
         placed n lives = (live_tells (standing c run past) p n lives).1
 
         implied : (n : Node) (k : ℕ) → is_implicit c (standing c run past) n k ≡ true → activates_implicitly (policies_at c n.path) ≡ true
-        implied n k is = (and_parts (retains (policies_at c n.path)) (activates_implicitly (policies_at c n.path)) (and_parts (is_none (referred c (standing c run past) n k)) (retains (policies_at c n.path) && activates_implicitly (policies_at c n.path)) is).1).1
+        implied n k is =
+            (and_parts (retains (policies_at c n.path)) (activates_implicitly (policies_at c n.path))
+            (and_parts (is_none (referred c (standing c run past) n k)) (retains (policies_at c n.path) && activates_implicitly (policies_at c n.path)) is).1).1
     by_command (Preset p servant) v told accepted = tt
     by_command (Forward p endpoint) v told accepted = tt
     by_command (Unforward p) v told accepted = tt
     by_command Shutdown v told accepted = tt
     by_command (Bad word) v told accepted = tt
 
-    by_line : (w r : ℕ) (v : Verdict) (call : Option Call) (command : Command) → verdict_on c run past r w call ≡ Some v → is_accepted v ≡ true → command_in call ≡ Some command → MayDo c run (standing c run past) sound command
+    by_line : (w r : ℕ) (v : Verdict) (call : Option Call) (command : Command) → verdict_on c run past r w call ≡ Some v → is_accepted v ≡ true
+        → command_in call ≡ Some command → MayDo c run (standing c run past) sound command
     by_line w r v None command told accepted is = absurd (let e : None ≡ Some command = is in cc)
     by_line w r v (Some (Request head target operation body)) command told accepted is = absurd (let e : None ≡ Some command = is in cc)
     by_line w r v (Some (Locate head target)) command told accepted is = absurd (let e : None ≡ Some command = is in cc)
     by_line w r v (Some (Line number d)) command told accepted is =
-        (let e : Some d ≡ Some command = is in let same : d ≡ command = cc in subst (λ x. MayDo c run (standing c run past) sound x) same (by_command d v told accepted))
+        (let e : Some d ≡ Some command = is in let same : d ≡ command = cc in
+        subst (λ x. MayDo c run (standing c run past) sound x) same (by_command d v told accepted))
 
     -- a command that an entry does was admitted by it
-    done_by : (limit : ℕ) (e : Entry) (command : Command) → MayFollow c run limit past e → command_done past e ≡ Some command → MayDo c run (standing c run past) sound command
+    done_by : (limit : ℕ) (e : Entry) (command : Command) → MayFollow c run limit past e → command_done past e ≡ Some command
+        → MayDo c run (standing c run past) sound command
     done_by limit (Admit w r v) command may done =
         by_line w r v (call_of past r) command (admitted_for c run past w r v may)
-        (elim (cases_Bool (is_accepted v)) [ inl accepted ↦ accepted | inr no_ ↦ absurd (let e : None ≡ Some command = ap (λ b. if b then command_in (call_of past r) else None) (sym no_) ∙ done in cc) ])
-        (elim (cases_Bool (is_accepted v)) [ inl accepted ↦ ap (λ b. if b then command_in (call_of past r) else None) (sym accepted) ∙ done | inr no_ ↦ absurd (let e : None ≡ Some command = ap (λ b. if b then command_in (call_of past r) else None) (sym no_) ∙ done in cc) ])
+        (elim (cases_Bool (is_accepted v))
+        [ inl accepted ↦ accepted | inr no_ ↦ absurd (let e : None ≡ Some command = ap (λ b. if b then command_in (call_of past r) else None) (sym no_) ∙ done in cc) ])
+        (elim (cases_Bool (is_accepted v))
+        [ inl accepted ↦ ap (λ b. if b then command_in (call_of past r) else None) (sym accepted) ∙ done | inr no_ ↦ absurd (let e : None ≡ Some command = ap (λ b. if b then command_in (call_of past r) else None) (sym no_) ∙ done in cc) ])
     done_by limit (Entered conn) command may done = absurd (let e : None ≡ Some command = done in cc)
     done_by limit (Arrive conn size call) command may done = absurd (let e : None ≡ Some command = done in cc)
     done_by limit (Filled conn size) command may done = absurd (let e : None ≡ Some command = done in cc)
@@ -163,22 +182,27 @@ module _ (c : Config) (run : ℕ) (past : List Entry) (sound : IsSound c run (st
     done_by limit (Etherealized w x y) command may done = absurd (let e : None ≡ Some command = done in cc)
     done_by limit (Abandon w) command may done = absurd (let e : None ≡ Some command = done in cc)
 
-    made_by : (w k : ℕ) → IsTurn c run past w (Tried w (Yes k)) → MayMake c run (standing c run past) sound (child_tried (standing c run past).flights (arrival_in (stage past w)))
+    made_by : (w k : ℕ) → IsTurn c run past w (Tried w (Yes k))
+        → MayMake c run (standing c run past) sound (child_tried (standing c run past).flights (arrival_in (stage past w)))
     made_by w k is =
         elim (turned c run past w (Tried w (Yes k)) is.next) [
           | goes_on goes ↦ (let (r, at, yes_) = only_trial c (standing c run past) w k (stage past w) goes in
-              subst (λ begun. MayMake c run (standing c run past) sound (child_tried (standing c run past).flights (arrival_in begun))) (sym at) (may_make c run (standing c run past) sound r k yes_))
+              subst (λ begun. MayMake c run (standing c run past) sound (child_tried (standing c run past).flights (arrival_in begun))) (sym at)
+              (may_make c run (standing c run past) sound r k yes_))
           | takes a free there due same ↦ absurd (let e : TakeOut w a.number (not a.quiet) ≡ Tried w (Yes k) = same in cc)
           | admits q u free less unadmitted told same ↦ absurd (let e : Admit w q u ≡ Tried w (Yes k) = same in cc)
         ]
 
     pub may_move : (limit : ℕ) (e : Entry) → MayFollow c run limit past e → MayMove c run past (standing c run past) sound e
     may_move limit e may = record {
-      admits = λ w r v key same has. by_call w r v key (call_of past r) refl (admitted_for c run past w r v (subst (λ x. MayFollow c run limit past x) same may)) has;
+      admits =
+          λ w r v key same has. by_call w r v key (call_of past r) refl
+          (admitted_for c run past w r v (subst (λ x. MayFollow c run limit past x) same may)) has;
       does = λ command done. done_by limit e command may done;
       makes = λ w k same. made_by w k (subst (λ x. MayFollow c run limit past x) same may);
     }
 
     -- what stands after a legal entry is sound where what stood before it was
     pub step_sound : (limit : ℕ) (e : Entry) → MayFollow c run limit past e → IsSound c run (standing c run (e ∷ past))
-    step_sound limit e may = settled_sound c run (changed c run past e (standing c run past)) (changed_sound c run past (standing c run past) sound e (may_move limit e may))
+    step_sound limit e may =
+        settled_sound c run (changed c run past e (standing c run past)) (changed_sound c run past (standing c run past) sound e (may_move limit e may))

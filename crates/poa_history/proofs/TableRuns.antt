@@ -70,7 +70,8 @@ module _ (f : Facts) (v : Verdict) where
     served {A} u then_ = cond_both f.locate _ _ (λ x. Go x ≡ Go v → A) (λ _. never Here refl) (λ request same. then_ request (let e : Go u ≡ Go v = same in cc))
 
     inactive : {A : Type 0} → inactive_rule f ≡ Go v → A
-    inactive {A} = cond_both (is_transient f.key) _ _ (λ c. c ≡ Go v → A) (λ _. refused ObjAdapter MANAGER_INACTIVE) (λ _. forwarded f.entry ObjAdapter MANAGER_INACTIVE)
+    inactive {A} =
+        cond_both (is_transient f.key) _ _ (λ c. c ≡ Go v → A) (λ _. refused ObjAdapter MANAGER_INACTIVE) (λ _. forwarded f.entry ObjAdapter MANAGER_INACTIVE)
 
     through_state : {A : Type 0} (state : ManagerState) (on : Choice) → (on ≡ Go v → A) → state_rule f state on ≡ Go v → A
     through_state Holding on then_ same = never_held _ same
@@ -94,12 +95,14 @@ module _ (f : Facts) (v : Verdict) where
     by_default None = refused ObjAdapter NO_DEFAULT_SERVANT
     by_default (Some name) = served (Preset name) (λ request same. (request, presets name same))
 
-    by_manager : f.slot ≡ Free ⊎ (is_retain f.policies.retention ≡ false) → is_servant_manager f.policies.processing ≡ true → unmade f ≡ false → manager_rows f ≡ Go v → Runs
+    by_manager : f.slot ≡ Free ⊎ (is_retain f.policies.retention ≡ false) → is_servant_manager f.policies.processing ≡ true → unmade f ≡ false
+        → manager_rows f ≡ Go v → Runs
     by_manager free manages made = cond_both (not f.rules) _ _ (λ c. c ≡ Go v → Runs) (λ _. refused ObjAdapter NO_SERVANT_MANAGER)
         (λ ruled. cond_both (is_retain f.policies.retention) _ _ (λ c. c ≡ Go v → Runs)
         (λ retains. cond_both f.locate _ _ (λ c. c ≡ Go v → Runs) (λ _. never Here refl)
         (λ request. cond_both f.busy _ _ (λ c. c ≡ Go v → Runs) (λ _. never_held _)
-        (λ idle same. (request, incarnates (free_by free retains) (record { retains = retains; manages = manages; ruled = ruled_by f.rules ruled; made = made; idle = idle }) (let e : Go (Incarnate f.next) ≡ Go v = same in cc)))))
+        (λ idle same.
+        (request, incarnates (free_by free retains) (record { retains = retains; manages = manages; ruled = ruled_by f.rules ruled; made = made; idle = idle }) (let e : Go (Incarnate f.next) ≡ Go v = same in cc)))))
         (λ _. by_locator))
       where
         free_by : f.slot ≡ Free ⊎ (is_retain f.policies.retention ≡ false) → is_retain f.policies.retention ≡ true → f.slot ≡ Free
@@ -112,7 +115,8 @@ module _ (f : Facts) (v : Verdict) where
 
     by_processing : f.slot ≡ Free ⊎ (is_retain f.policies.retention ≡ false) → (p : Policy) → f.policies.processing ≡ p → processing_rows f p ≡ Go v → Runs
     by_processing free DefaultServant at = by_default f.preset
-    by_processing free ServantManager at = cond_both (unmade f) _ _ (λ c. c ≡ Go v → Runs) (λ _. refused ObjectNotExist NOT_ACTIVE) (λ made. by_manager free (ap is_servant_manager at) made)
+    by_processing free ServantManager at =
+        cond_both (unmade f) _ _ (λ c. c ≡ Go v → Runs) (λ _. refused ObjectNotExist NOT_ACTIVE) (λ made. by_manager free (ap is_servant_manager at) made)
     by_processing free _ at = refused ObjectNotExist NOT_ACTIVE
 
     by_map : (slot : MapFact) → f.slot ≡ slot → map_rows f slot ≡ Go v → Runs
@@ -121,7 +125,9 @@ module _ (f : Facts) (v : Verdict) where
     by_map Free at = by_processing (inl at) f.policies.processing refl
 
     by_object : object_rows f ≡ Go v → Runs
-    by_object = cond_both (is_retain f.policies.retention) _ _ (λ c. c ≡ Go v → Runs) (λ _. by_map f.slot refl) (λ loose. by_processing (inr loose) f.policies.processing refl)
+    by_object =
+        cond_both (is_retain f.policies.retention) _ _ (λ c. c ≡ Go v → Runs) (λ _. by_map f.slot refl)
+        (λ loose. by_processing (inr loose) f.policies.processing refl)
 
     pub record RunsWhere (worker : ℕ) : Type 0 where
       pub found : f.walk ≡ Found
@@ -141,8 +147,12 @@ module _ (f : Facts) (v : Verdict) where
 
     by_walk : (worker : ℕ) (walk : WalkFact) → f.walk ≡ walk → walk_rows f worker walk ≡ Go v → RunsWhere worker
     by_walk worker Dying at = refused Transiently ADAPTER_DYING
-    by_walk worker Missing at = cond_both (is_transient f.key) _ _ (λ c. c ≡ Go v → RunsWhere worker) (λ _. refused ObjectNotExist OTHER_LIFESPAN) (λ _. through_state f.state (trial_rows f) no_trial)
-    by_walk worker Found at = cond_both f.differs _ _ (λ c. c ≡ Go v → RunsWhere worker) (λ _. refused ObjectNotExist OTHER_LIFESPAN) (λ _. through_state f.state (thread_rows f worker) (by_thread worker at))
+    by_walk worker Missing at =
+        cond_both (is_transient f.key) _ _ (λ c. c ≡ Go v → RunsWhere worker) (λ _. refused ObjectNotExist OTHER_LIFESPAN)
+        (λ _. through_state f.state (trial_rows f) no_trial)
+    by_walk worker Found at =
+        cond_both f.differs _ _ (λ c. c ≡ Go v → RunsWhere worker) (λ _. refused ObjectNotExist OTHER_LIFESPAN)
+        (λ _. through_state f.state (thread_rows f worker) (by_thread worker at))
 
     by_key : (worker : ℕ) (key : KeyFact) → key_rows f worker key ≡ Go v → RunsWhere worker
     by_key worker Absent = never Addressing refl

@@ -85,7 +85,8 @@ module _ (P : Choice → Bool) (alone : AsksAlone P) (f : Facts) where
 
   by_activator : unmade f ≡ false → is_retain f.policies.retention ≡ true → P (activator_rows f) ≡ true → AsksServant
   by_activator made retains = cond_both f.locate _ _ (λ c. P c ≡ true → AsksServant) (λ _. never alone.no_here)
-      (λ _. cond_both f.busy _ _ (λ c. P c ≡ true → AsksServant) (λ _. never (alone.no_held _)) (λ _ passes. record { retains = retains; made = made; passes = passes }))
+      (λ _. cond_both f.busy _ _ (λ c. P c ≡ true → AsksServant) (λ _. never (alone.no_held _))
+      (λ _ passes. record { retains = retains; made = made; passes = passes }))
 
   by_manager : unmade f ≡ false → P (manager_rows f) ≡ true → AsksServant
   by_manager made = cond_both (not f.rules) _ _ (λ c. P c ≡ true → AsksServant) (λ _. never (refused ObjAdapter NO_SERVANT_MANAGER))
@@ -93,7 +94,8 @@ module _ (P : Choice → Bool) (alone : AsksAlone P) (f : Facts) where
 
   by_processing : (p : Policy) → P (processing_rows f p) ≡ true → AsksServant
   by_processing DefaultServant = never (no_default f.preset)
-  by_processing ServantManager = cond_both (unmade f) _ _ (λ c. P c ≡ true → AsksServant) (λ _. never (refused ObjectNotExist NOT_ACTIVE)) (λ made. by_manager made)
+  by_processing ServantManager =
+      cond_both (unmade f) _ _ (λ c. P c ≡ true → AsksServant) (λ _. never (refused ObjectNotExist NOT_ACTIVE)) (λ made. by_manager made)
   by_processing _ = never (refused ObjectNotExist NOT_ACTIVE)
 
   by_map : (slot : MapFact) → P (map_rows f slot) ≡ true → (slot ≡ Free) × AsksServant
@@ -123,7 +125,8 @@ module _ (P : Choice → Bool) (alone : AsksAlone P) (f : Facts) where
       (λ _. never (forwarded f.entry _ (refused ObjectNotExist NO_ADAPTER))))
 
   by_missing : P (missing_rows f) ≡ true → (f.trial ≡ false) × (P (Go Try) ≡ true)
-  by_missing = cond_both (is_transient f.key) _ _ (λ c. P c ≡ true → (f.trial ≡ false) × (P (Go Try) ≡ true)) (λ _. never (refused ObjectNotExist OTHER_LIFESPAN))
+  by_missing =
+      cond_both (is_transient f.key) _ _ (λ c. P c ≡ true → (f.trial ≡ false) × (P (Go Try) ≡ true)) (λ _. never (refused ObjectNotExist OTHER_LIFESPAN))
       (λ _. through_state f.state (trial_rows f) by_trial)
 
   pub data Asks : Type 0 where

@@ -36,24 +36,32 @@ pub data Turned (c : Config) (run : ℕ) (past : List Entry) (w : ℕ) (e : Entr
   -- what was begun goes on
   goes_on : going_on c (standing c run past) w (stage past w) ≡ Some e → Turned c run past w e
   -- an activation that is due is taken out
-  takes : (a : Activation) → stage past w ≡ Free → In a (standing c run past).activations → is_due c (standing c run past) a ≡ true → TakeOut w a.number (not a.quiet) ≡ e → Turned c run past w e
+  takes : (a : Activation) → stage past w ≡ Free → In a (standing c run past).activations → is_due c (standing c run past) a ≡ true
+      → TakeOut w a.number (not a.quiet) ≡ e → Turned c run past w e
   -- an arrival that is unadmitted and isn't held is admitted
-  admits : (r : ℕ) (v : Verdict) → stage past w ≡ Free → r < arrivals past → is_unadmitted past r ≡ true → verdict c run past r w ≡ Some v → Admit w r v ≡ e → Turned c run past w e
+  admits : (r : ℕ) (v : Verdict) → stage past w ≡ Free → r < arrivals past → is_unadmitted past r ≡ true → verdict c run past r w ≡ Some v → Admit w r v ≡ e
+      → Turned c run past w e
 
 module _ (c : Config) (run : ℕ) (past : List Entry) (w : ℕ) (e : Entry) where
   admitted_by : (r : ℕ) → stage past w ≡ Free → r < arrivals past → admission_of c run past w r ≡ Some e → Turned c run past w e
   admitted_by r free less given =
-      elim (is_unadmitted past r) as (λ b. is_unadmitted past r ≡ b → (if b then option_map (λ v. Admit w r v) (verdict c run past r w) else None) ≡ Some e → Turned c run past w e) [
-        | true ↦ λ unadmitted same. (let found = mapped_by (λ v. Admit w r v) (verdict c run past r w) e same in admits r found.0 free less unadmitted found.1 found.2)
+      elim (is_unadmitted past r) as (λ b. is_unadmitted past r ≡ b → (if b then option_map (λ v. Admit w r v) (verdict c run past r w) else None) ≡ Some e
+      → Turned c run past w e) [
+        | true ↦
+            λ unadmitted same.
+            (let found = mapped_by (λ v. Admit w r v) (verdict c run past r w) e same in admits r found.0 free less unadmitted found.1 found.2)
         | false ↦ λ _ none. absurd (let f : None ≡ Some e = none in cc)
       ] refl given
 
   free_turn : stage past w ≡ Free → option_or (removal c (standing c run past) w) (admission c run past w) ≡ Some e → Turned c run past w e
   free_turn free given =
-      elim (removal c (standing c run past) w) as (λ o. removal c (standing c run past) w ≡ o → option_or o (admission c run past w) ≡ Some e → Turned c run past w e) [
+      elim (removal c (standing c run past) w) as (λ o. removal c (standing c run past) w ≡ o → option_or o (admission c run past w) ≡ Some e
+      → Turned c run past w e) [
         | Some taken ↦ λ is same.
-            (let found = mapped_by (λ a. TakeOut w a.number (not a.quiet)) (find (is_due c (standing c run past)) (standing c run past).activations) e (is ∙ same) in
-            let there = find_in (is_due c (standing c run past)) found.0 (standing c run past).activations found.1 in takes found.0 free there.0 there.1 found.2)
+            (let found =
+            mapped_by (λ a. TakeOut w a.number (not a.quiet)) (find (is_due c (standing c run past)) (standing c run past).activations) e (is ∙ same) in
+            let there = find_in (is_due c (standing c run past)) found.0 (standing c run past).activations found.1 in
+            takes found.0 free there.0 there.1 found.2)
         | None ↦ λ _ same. (let found = given_by (admission_of c run past w) (arrivals past) e same in admitted_by found.0 free found.1 found.2)
       ] refl given
 

@@ -32,10 +32,12 @@ pub data GoesOn (c : Config) (s : Standing) (w : ℕ) (begun : Stage) (e : Entry
 going : (c : Config) (s : Standing) (w : ℕ) (begun : Stage) (e : Entry) → going_on c s w begun ≡ Some e → GoesOn c s w begun e
 going c s w Free e is = absurd (let f : None ≡ Some e = is in cc)
 going c s w (Trying r) e is = tries r refl (let f : Some (Tried w (attempt c s r)) ≡ Some e = is in cc)
-going c s w (Incarnating r n) e is = (let found = mapped_by (λ a. Incarnated w (brought c s a)) (activation_numbered s n) e is in incarnates r n found.0 refl found.1 found.2)
+going c s w (Incarnating r n) e is =
+    (let found = mapped_by (λ a. Incarnated w (brought c s a)) (activation_numbered s n) e is in incarnates r n found.0 refl found.1 found.2)
 going c s w (Serving r) e is = runs r refl (let f : Some (Run w) ≡ Some e = is in cc)
 going c s w (Ran r) e is = ends r refl (let f : Some (Done w) ≡ Some e = is in cc)
-going c s w (Removing n) e is = (let found = mapped_by (λ a. Etherealized w a.cleanup a.remaining) (activation_numbered s n) e is in removes n found.0 refl found.1 found.2)
+going c s w (Removing n) e is =
+    (let found = mapped_by (λ a. Etherealized w a.cleanup a.remaining) (activation_numbered s n) e is in removes n found.0 refl found.1 found.2)
 
 module _ (c : Config) (run : ℕ) (past : List Entry) (w : ℕ) where
   abbrev s : Standing
@@ -119,7 +121,9 @@ module _ (c : Config) (run : ℕ) (past : List Entry) (w : ℕ) where
       elim (turned c run past w (Incarnated w answer) is.next) [
         | goes_on goes ↦ elim (going c s w (stage past w) (Incarnated w answer) goes) [
           | tries q at same ↦ absurd (let e : Tried w (attempt c s q) ≡ Incarnated w answer = same in cc)
-          | incarnates q n a at found same ↦ (let e : Incarnated w (brought c s a) ≡ Incarnated w answer = same in record { arrival = q; number = n; it = a; begun = at; found = found; told = cc })
+          | incarnates q n a at found same ↦
+              (let e : Incarnated w (brought c s a) ≡ Incarnated w answer = same in
+              record { arrival = q; number = n; it = a; begun = at; found = found; told = cc })
           | runs q at same ↦ absurd (let e : Run w ≡ Incarnated w answer = same in cc)
           | ends q at same ↦ absurd (let e : Done w ≡ Incarnated w answer = same in cc)
           | removes n a at found same ↦ absurd (let e : Etherealized w a.cleanup a.remaining ≡ Incarnated w answer = same in cc)
@@ -166,7 +170,9 @@ module _ (c : Config) (run : ℕ) (past : List Entry) (w : ℕ) where
           | ends q at same ↦ absurd (let e : Done w ≡ TakeOut w n etherealize = same in cc)
           | removes m a at found same ↦ absurd (let e : Etherealized w a.cleanup a.remaining ≡ TakeOut w n etherealize = same in cc)
         ]
-        | takes a free there due same ↦ (let e : TakeOut w a.number (not a.quiet) ≡ TakeOut w n etherealize = same in record { it = a; free = free; there = there; due = due; numbered = cc; told = cc })
+        | takes a free there due same ↦
+            (let e : TakeOut w a.number (not a.quiet) ≡ TakeOut w n etherealize = same in
+            record { it = a; free = free; there = there; due = due; numbered = cc; told = cc })
         | admits q u free less unadmitted told same ↦ absurd (let e : Admit w q u ≡ TakeOut w n etherealize = same in cc)
       ]
 
@@ -178,7 +184,9 @@ module _ (c : Config) (run : ℕ) (past : List Entry) (w : ℕ) where
           | incarnates q n a at found same ↦ absurd (let e : Incarnated w (brought c s a) ≡ Etherealized w cleanup remaining = same in cc)
           | runs q at same ↦ absurd (let e : Run w ≡ Etherealized w cleanup remaining = same in cc)
           | ends q at same ↦ absurd (let e : Done w ≡ Etherealized w cleanup remaining = same in cc)
-          | removes n a at found same ↦ (let e : Etherealized w a.cleanup a.remaining ≡ Etherealized w cleanup remaining = same in record { number = n; it = a; begun = at; found = found; cleanup_is = cc; remaining_is = cc })
+          | removes n a at found same ↦
+              (let e : Etherealized w a.cleanup a.remaining ≡ Etherealized w cleanup remaining = same in
+              record { number = n; it = a; begun = at; found = found; cleanup_is = cc; remaining_is = cc })
         ]
         | takes a free there due same ↦ absurd (let e : TakeOut w a.number (not a.quiet) ≡ Etherealized w cleanup remaining = same in cc)
         | admits q u free less unadmitted told same ↦ absurd (let e : Admit w q u ≡ Etherealized w cleanup remaining = same in cc)

@@ -46,10 +46,32 @@ begins_test (Go (Incarnate n)) = true
 begins_test choice = false
 
 tries_alone : AsksAlone tries_test
-tries_alone = record { no_held = λ _. refl; no_refuse = λ _. refl; no_unknown = refl; no_forward = λ _. refl; no_addressing = refl; no_here = refl; no_serve = λ _. refl; no_preset = λ _. refl; no_locator = λ _. refl }
+tries_alone =
+    record {
+      no_held = λ _. refl;
+      no_refuse = λ _. refl;
+      no_unknown = refl;
+      no_forward = λ _. refl;
+      no_addressing = refl;
+      no_here = refl;
+      no_serve = λ _. refl;
+      no_preset = λ _. refl;
+      no_locator = λ _. refl;
+    }
 
 begins_alone : AsksAlone begins_test
-begins_alone = record { no_held = λ _. refl; no_refuse = λ _. refl; no_unknown = refl; no_forward = λ _. refl; no_addressing = refl; no_here = refl; no_serve = λ _. refl; no_preset = λ _. refl; no_locator = λ _. refl }
+begins_alone =
+    record {
+      no_held = λ _. refl;
+      no_refuse = λ _. refl;
+      no_unknown = refl;
+      no_forward = λ _. refl;
+      no_addressing = refl;
+      no_here = refl;
+      no_serve = λ _. refl;
+      no_preset = λ _. refl;
+      no_locator = λ _. refl;
+    }
 
 -- the front of a path up to the name behind a shorter one
 take_one_more : (q : List (List ℕ)) (x : List ℕ) (more : List (List ℕ)) → take (suc (length q)) (q ++ x ∷ more) ≡ q ++ x ∷ []
@@ -65,7 +87,8 @@ module _ (c : Config) (run : ℕ) (s : Standing) (sound : IsSound c run s) where
 
 module _ (c : Config) (run : ℕ) (s : Standing) (sound : IsSound c run s) (r : ℕ) (key : Key) where
   -- the walk meets a missing child that isn't tried
-  may_fly : (found : Found) → Tells s.nodes key.path found → walk_fact found ≡ MeetsMissing → is_tried s.flights (child_met found key.path) ≡ false → MayFly c run s sound (record { arrival = r; adapter = adapter_met found; activation = None; child = Some (child_met found key.path) })
+  may_fly : (found : Found) → Tells s.nodes key.path found → walk_fact found ≡ MeetsMissing → is_tried s.flights (child_met found key.path) ≡ false
+      → MayFly c run s sound (record { arrival = r; adapter = adapter_met found; activation = None; child = Some (child_met found key.path) })
   may_fly (Live k) tells is none = absurd (let e : MeetsAdapter ≡ MeetsMissing = is in cc)
   may_fly (Dying k) tells is none = absurd (let e : MeetsDying ≡ MeetsMissing = is in cc)
   may_fly (Missing k depth) tells is none =
@@ -74,7 +97,17 @@ module _ (c : Config) (run : ℕ) (s : Standing) (sound : IsSound c run s) (r : 
       let child : take (suc depth) key.path ≡ parent.path ++ x ∷ [] = ap₂ (λ d p. take (suc d) p) deep whole ∙ take_one_more parent.path x more in
       record {
         home = (parent, stands, numbered);
-        missing = λ p tries. (let same : take (suc depth) key.path ≡ p = cc in record { parent = parent; name = x; stands = stands; numbered = numbered; child = sym same ∙ child; free = subst (λ q. IsFreePath s.nodes q) (sym child ∙ same) free });
+        missing =
+            λ p tries.
+            (let same : take (suc depth) key.path ≡ p = cc in
+            record {
+              parent = parent;
+              name = x;
+              stands = stands;
+              numbered = numbered;
+              child = sym same ∙ child;
+              free = subst (λ q. IsFreePath s.nodes q) (sym child ∙ same) free;
+            });
         untried = λ p tries. (let same : take (suc depth) key.path ≡ p = cc in untried_by c run s sound p (ap (λ q. is_tried s.flights q) (sym same) ∙ none));
       }
 
@@ -93,8 +126,11 @@ module _ (c : Config) (run : ℕ) (s : Standing) (sound : IsSound c run s) (r : 
         ] free)
       ]
 
-  may_live : (found : Found) → Tells s.nodes key.path found → walk_fact found ≡ MeetsAdapter → slot_of c s.activations (adapter_met found) key.oid ≡ Free → is_bad_id c run s.made key.path key.oid ≡ false → MayLive c run s sound (adapter_met found) key.path key.oid
-  may_live (Live k) tells is free made = (let (n, stands, numbered, placed, living) = tells in record { node = n; stands = stands; numbered = numbered; placed = placed; over = over_by k free; made = made })
+  may_live : (found : Found) → Tells s.nodes key.path found → walk_fact found ≡ MeetsAdapter → slot_of c s.activations (adapter_met found) key.oid ≡ Free
+      → is_bad_id c run s.made key.path key.oid ≡ false → MayLive c run s sound (adapter_met found) key.path key.oid
+  may_live (Live k) tells is free made =
+      (let (n, stands, numbered, placed, living) = tells in
+      record { node = n; stands = stands; numbered = numbered; placed = placed; over = over_by k free; made = made })
   may_live (Dying k) tells is free made = absurd (let e : MeetsDying ≡ MeetsAdapter = is in cc)
   may_live (Missing k depth) tells is free made = absurd (let e : MeetsMissing ≡ MeetsAdapter = is in cc)
 
@@ -109,9 +145,16 @@ module _ (c : Config) (run : ℕ) (s : Standing) (sound : IsSound c run s) (r : 
     good_id : is_retain (policies_at c key.path).retention ≡ true → unmade facts ≡ false → is_bad_id c run s.made key.path key.oid ≡ false
     good_id retains made =
         false_from_ne_true (is_bad_id c run s.made key.path key.oid)
-        (λ bad. true≢false (sym (ap₂ (λ a b. a && b) retains (ap₂ (λ a b. a && b) (and_parts (makes_ids (policies_at c key.path)) (not (length key.oid == 8) || ((from_be_bytes w32 (take 4 key.oid) == run) && ((from_be_bytes w32 (drop 4 key.oid) == 0) || nat_lt s.made (from_be_bytes w32 (drop 4 key.oid))))) bad).0 bad)) ∙ made))
+        (λ bad. true≢false
+        (sym (ap₂ (λ a b. a && b) retains
+        (ap₂ (λ a b. a && b)
+        (and_parts (makes_ids (policies_at c key.path))
+        (not (length key.oid == 8) ||
+        ((from_be_bytes w32 (take 4 key.oid) == run) && ((from_be_bytes w32 (drop 4 key.oid) == 0) || nat_lt s.made (from_be_bytes w32 (drop 4 key.oid)))))
+        bad).0 bad)) ∙ made))
 
-    tries_by : first_row facts w ≡ Go Try → MayFly c run s sound (record { arrival = r; adapter = adapter_met (walk s.nodes key.path); activation = None; child = Some (child_met (walk s.nodes key.path) key.path) })
+    tries_by : first_row facts w ≡ Go Try → MayFly c run s sound
+        (record { arrival = r; adapter = adapter_met (walk s.nodes key.path); activation = None; child = Some (child_met (walk s.nodes key.path) key.path) })
     tries_by chosen_try =
         elim (asked tries_test tries_alone facts w (ap tries_test chosen_try)) [
           | servant is free asks ↦ absurd (let e : false ≡ true = asks.passes in cc)

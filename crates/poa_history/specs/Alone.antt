@@ -22,7 +22,8 @@ RunsAlone c s =
 
 -- at most one incarnation or etherealization is unfinished in an adapter
 abbrev pub ChangesAlone : Config → Standing → Type 0
-ChangesAlone c s = (a b : Activation) → In a s.activations → In b s.activations → a.adapter ≡ b.adapter → is_unfinished c a ≡ true → is_unfinished c b ≡ true → a ≡ b
+ChangesAlone c s = (a b : Activation) → In a s.activations → In b s.activations → a.adapter ≡ b.adapter → is_unfinished c a ≡ true
+    → is_unfinished c b ≡ true → a ≡ b
 
 -- under UNIQUE_ID a servant is in the map of an adapter by at most one activation
 abbrev pub IsMappedAlone : Config → Standing → Type 0

@@ -54,10 +54,17 @@ with_request r key n s = with_flight (record { arrival = r; adapter = adapter_me
 -- an adapter activator is asked for the missing child
 abbrev pub with_trial : ℕ → Key → Standing → Standing
 with_trial r key s =
-    with_flight (record { arrival = r; adapter = adapter_met (walk s.nodes key.path); activation = None; child = Some (child_met (walk s.nodes key.path) key.path) }) s
+    with_flight
+    (record {
+      arrival = r;
+      adapter = adapter_met (walk s.nodes key.path);
+      activation = None;
+      child = Some (child_met (walk s.nodes key.path) key.path);
+    }) s
 
 abbrev pub with_incarnation : ℕ → Key → Standing → Standing
-with_incarnation r key s = with_activation (adapter_met (walk s.nodes key.path)) key.path key.oid Begun (with_request r key (Some (length s.activations)) s)
+with_incarnation r key s =
+    with_activation (adapter_met (walk s.nodes key.path)) key.path key.oid Begun (with_request r key (Some (length s.activations)) s)
 
 -- what the Admit of a request begins
 abbrev pub with_admitted : ℕ → Option Key → Verdict → Standing → Standing
@@ -94,11 +101,13 @@ with_made_activation c run p servant s = with_activation (number_at s p) p (made
 
 abbrev pub with_reference : Config → ℕ → List (List ℕ) → List ℕ → Standing → Standing
 with_reference c run p servant s =
-    elim (live_at s p) [ Some n ↦ (elim (servant_number c servant) [ Some k ↦ (if is_implicit c s n k then with_made_activation c run p servant s else s) | None ↦ s ]) | None ↦ s ]
+    elim (live_at s p)
+    [ Some n ↦ (elim (servant_number c servant) [ Some k ↦ (if is_implicit c s n k then with_made_activation c run p servant s else s) | None ↦ s ]) | None ↦ s ]
 
 -- what a command that is done changes
 abbrev pub with_command : Config → ℕ → Option Command → Standing → Standing
-with_command c run (Some (Manager name (DeactivateAll true wait))) s = elim (manager_number c name) [ Some m ↦ with_manager_off c m s | None ↦ s ]
+with_command c run (Some (Manager name (DeactivateAll true wait))) s =
+    elim (manager_number c name) [ Some m ↦ with_manager_off c m s | None ↦ s ]
 with_command c run (Some (Create p)) s = with_node p s
 with_command c run (Some (Destroy p etherealize wait)) s = with_destroyed p etherealize s
 with_command c run (Some (Activate p servant)) s = with_made_activation c run p servant s
@@ -138,7 +147,11 @@ with_incarnated c stage answer s = s
 
 -- the same servant is in the map of the same adapter by another activation
 abbrev pub is_elsewhere : List Activation → Activation → Bool
-is_elsewhere activations a = list_any (λ b. not (b.number == a.number) && ((b.adapter == a.adapter) && (is_mapped b && (elim a.phase [ Complete s ↦ has_servant s b | Begun ↦ false | Void ↦ false ])))) activations
+is_elsewhere activations a =
+    list_any
+    (λ b. not (b.number == a.number) &&
+    ((b.adapter == a.adapter) && (is_mapped b && (elim a.phase [ Complete s ↦ has_servant s b | Begun ↦ false | Void ↦ false ]))))
+    activations
 
 abbrev pub with_takeout : ℕ → Standing → Standing
 with_takeout n s = with_activations (at_number n (λ a. record a { out = true; remaining = is_elsewhere s.activations a })) s
@@ -149,7 +162,8 @@ with_etherealized stage s = s
 
 -- what an entry changes, after the entries before it
 abbrev pub changed : Config → ℕ → List Entry → Entry → Standing → Standing
-changed c run past (Admit w r verdict) s = with_command c run (command_done past (Admit w r verdict)) (with_admitted r (key_in (call_of past r)) verdict s)
+changed c run past (Admit w r verdict) s =
+    with_command c run (command_done past (Admit w r verdict)) (with_admitted r (key_in (call_of past r)) verdict s)
 changed c run past (Tried w answer) s = with_tried (arrival_in (stage past w)) answer s
 changed c run past (Incarnated w answer) s = with_incarnated c (stage past w) answer s
 changed c run past (Done w) s = without_flight (arrival_in (stage past w)) s

@@ -119,7 +119,8 @@ deactivate_row c s p oid =
 -- the activation by which a servant has its one reference
 abbrev pub referred : Config → Standing → Node → ℕ → Option Activation
 referred c s n k =
-    if retains (policies_at c n.path) && is_unique (policies_at c n.path) then find (λ a. (a.adapter == n.number) && (is_mapped a && has_servant (Named k) a)) s.activations else None
+    if retains (policies_at c n.path) && is_unique (policies_at c n.path) then find
+    (λ a. (a.adapter == n.number) && (is_mapped a && has_servant (Named k) a)) s.activations else None
 
 -- the servant is activated under a system-made id
 abbrev pub is_implicit : Config → Standing → Node → ℕ → Bool
@@ -130,7 +131,9 @@ reference_row c run s p servant =
     with_live s p (λ n. with_servant c servant (λ k.
     elim (referred c s n k) [
       | Some a ↦ Some (Answer (GoodIor (reference_text c run n.number p a.oid k)))
-      | None ↦ (if is_implicit c s n k then Some (Answer (GoodIor (reference_text c run n.number p (made_id run (suc s.made)) k))) else refusal ServantNotActive)
+      | None ↦
+          (if is_implicit c s n k then Some (Answer (GoodIor (reference_text c run n.number p (made_id run (suc s.made)) k))) else refusal
+          ServantNotActive)
     ]))
 
 abbrev pub preset_row : Config → Standing → List (List ℕ) → List ℕ → Option Verdict

@@ -23,7 +23,8 @@ destroys p command = false
 -- since the adapter of this number and path was created, it or one above it was destroyed
 abbrev pub was_destroyed : Config → ℕ → List Entry → ℕ → List (List ℕ) → Bool
 was_destroyed c run [] k p = false
-was_destroyed c run (e ∷ past) k p = (nat_lt k (standing c run past).count && destroys p (command_done past e)) || was_destroyed c run past k p
+was_destroyed c run (e ∷ past) k p =
+    (nat_lt k (standing c run past).count && destroys p (command_done past e)) || was_destroyed c run past k p
 
 -- the second adapter is a child of the first
 abbrev pub IsChildOf : Node → Node → Type 0

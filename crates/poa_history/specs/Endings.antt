@@ -19,7 +19,8 @@ abbrev pub ends : Config → Standing → Activation → Option Command → Bool
 ends c s a (Some (Deactivate p oid)) = is_of (number_at s p) oid a
 ends c s a (Some (Destroy p etherealize wait)) = stands_under s.nodes p a.adapter
 ends c s a (Some Shutdown) = stands_under s.nodes [] a.adapter
-ends c s a (Some (Manager name (DeactivateAll true wait))) = elim (manager_number c name) [ Some m ↦ has_activator c a.path && (manager_at c a.path == m) | None ↦ false ]
+ends c s a (Some (Manager name (DeactivateAll true wait))) =
+    elim (manager_number c name) [ Some m ↦ has_activator c a.path && (manager_at c a.path == m) | None ↦ false ]
 ends c s a command = false
 
 -- it is a destroy that etherealizes nothing
@@ -29,7 +30,8 @@ keeps_servants command = false
 
 -- the activation was begun by then, and the entry ends it
 abbrev pub is_ended_by : Config → ℕ → List Entry → Entry → Activation → Bool
-is_ended_by c run past e a = nat_lt a.number (length (standing c run past).activations) && ends c (standing c run past) a (command_done past e)
+is_ended_by c run past e a =
+    nat_lt a.number (length (standing c run past).activations) && ends c (standing c run past) a (command_done past e)
 
 -- since its begin some entry ended it
 abbrev pub was_ended : Config → ℕ → List Entry → Activation → Bool
@@ -39,4 +41,5 @@ was_ended c run (e ∷ past) a = is_ended_by c run past e a || was_ended c run p
 -- the first of these was a destroy that etherealizes nothing
 abbrev pub was_quieted : Config → ℕ → List Entry → Activation → Bool
 was_quieted c run [] a = false
-was_quieted c run (e ∷ past) a = if was_ended c run past a then was_quieted c run past a else is_ended_by c run past e a && keeps_servants (command_done past e)
+was_quieted c run (e ∷ past) a =
+    if was_ended c run past a then was_quieted c run past a else is_ended_by c run past e a && keeps_servants (command_done past e)

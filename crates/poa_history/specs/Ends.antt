@@ -27,7 +27,8 @@ let_out c s a = if is_left c s a then record a { out = true } else a
 -- nothing is in flight at the path or below it, and its activations are over
 abbrev pub is_clear : Config → Standing → List (List ℕ) → Bool
 is_clear c s p =
-    not (list_any (λ f. stands_under s.nodes p f.adapter) s.flights) && not (list_any (λ a. not (is_over c a) && stands_under s.nodes p a.adapter) s.activations)
+    not (list_any (λ f. stands_under s.nodes p f.adapter) s.flights) && not
+    (list_any (λ a. not (is_over c a) && stands_under s.nodes p a.adapter) s.activations)
 
 -- being destroyed, with nothing left to end in it or below it
 abbrev pub is_done_with : Config → Standing → Node → Bool

@@ -33,16 +33,19 @@ pub record IsRunning (h : List Entry) (s : Standing) (r : ℕ) : Type 0 where
   pub by : admitted h r ≡ Some verdict
   pub run : runs (Go verdict) ≡ true
   pub flying : IsFlying s r (named (Some verdict))
-  pub served : (n : ℕ) → named (Some verdict) ≡ Some n → (a : Activation) × In a s.activations × (a.number ≡ n) × ((t : Sid) × (a.phase ≡ Complete t))
+  pub served : (n : ℕ) → named (Some verdict) ≡ Some n → (a : Activation) × In a s.activations × (a.number ≡ n)
+      × ((t : Sid) × (a.phase ≡ Complete t))
 
 -- what holds of what a worker has begun
 abbrev pub Holds : List Entry → Standing → Stage → Type 0
 Holds h s Free = Unit {0}
 Holds h s (Trying r) = (admitted h r ≡ Some Try) × IsFlying s r None
-Holds h s (Incarnating r n) = (admitted h r ≡ Some (Incarnate n)) × IsFlying s r (Some n) × ((a : Activation) × In a s.activations × (a.number ≡ n) × (a.phase ≡ Begun))
+Holds h s (Incarnating r n) = (admitted h r ≡ Some (Incarnate n)) × IsFlying s r (Some n)
+    × ((a : Activation) × In a s.activations × (a.number ≡ n) × (a.phase ≡ Begun))
 Holds h s (Serving r) = IsRunning h s r
 Holds h s (Ran r) = IsRunning h s r
-Holds h s (Removing n) = (a : Activation) × In a s.activations × (a.number ≡ n) × (a.out ≡ true) × (a.quiet ≡ false) × (a.etherealized ≡ false)
+Holds h s (Removing n) = (a : Activation) × In a s.activations × (a.number ≡ n) × (a.out ≡ true) × (a.quiet ≡ false)
+    × (a.etherealized ≡ false)
 
 pub record IsManned (c : Config) (run : ℕ) (h : List Entry) : Type 0 where
   pub stages : (w : ℕ) → Holds h (standing c run h) (stage h w)
@@ -54,7 +57,8 @@ pub record IsManned (c : Config) (run : ℕ) (h : List Entry) : Type 0 where
   pub manned : (f : Flight) → In f (standing c run h).flights → (w : ℕ) × (arrival_in (stage h w) ≡ Some f.arrival)
   pub flight_alone : (f g : Flight) → In f (standing c run h).flights → In g (standing c run h).flights → f.arrival ≡ g.arrival → f ≡ g
   -- what is in flight in an activation is so in its adapter, and it isn't out
-  pub activations : (f : Flight) (n : ℕ) → In f (standing c run h).flights → f.activation ≡ Some n → (a : Activation) × In a (standing c run h).activations × (a.number ≡ n) × (a.adapter ≡ f.adapter) × (a.out ≡ false)
+  pub activations : (f : Flight) (n : ℕ) → In f (standing c run h).flights → f.activation ≡ Some n → (a : Activation)
+      × In a (standing c run h).activations × (a.number ≡ n) × (a.adapter ≡ f.adapter) × (a.out ≡ false)
   -- what is out was ending, and what was etherealized is out
   pub out_ending : (a : Activation) → In a (standing c run h).activations → a.out ≡ true → a.ending ≡ true
   pub told_out : (a : Activation) → In a (standing c run h).activations → a.etherealized ≡ true → a.out ≡ true

@@ -31,7 +31,9 @@ key_tried (lifespan ∷ rest) = if lifespan == 0 then key_behind (Some (stamp_in
 
 -- names of 1 to 64 bytes, at most 16 of them, and an id of at most 256
 abbrev pub is_within : Key → Bool
-is_within key = (list_all (λ name. nat_lt 0 (length name) && nat_le (length name) 64) key.path && nat_le (length key.path) 16) && nat_le (length key.oid) 256
+is_within key =
+    (list_all (λ name. nat_lt 0 (length name) && nat_le (length name) 64) key.path && nat_le (length key.path) 16) && nat_le
+    (length key.oid) 256
 
 abbrev pub if_spelled : List ℕ → Key → Option Key
 if_spelled bytes key = if is_within key && same_bytes (key_spelling key) bytes then Some key else None

@@ -58,7 +58,8 @@ abbrev pub KeepsLives : Config → ℕ → List Entry → Entry → Type 0
 KeepsLives c run past (Run w) =
     (r n : ℕ) → stage past w ≡ Serving r → named (admitted past r) ≡ Some n → IsServable (standing c run past) n
 KeepsLives c run past (Admit w r verdict) =
-    ((n : ℕ) → verdict ≡ Serve n → IsServable (standing c run past) n) × ((n : ℕ) → verdict ≡ Incarnate n → n ≡ length (standing c run past).activations)
+    ((n : ℕ) → verdict ≡ Serve n → IsServable (standing c run past) n)
+    × ((n : ℕ) → verdict ≡ Incarnate n → n ≡ length (standing c run past).activations)
 KeepsLives c run past (TakeOut w n etherealize) = IsRemovable (standing c run past) n etherealize
 KeepsLives c run past (Etherealized w cleanup remaining) = IsEtherealizable (standing c run past) (stage past w) cleanup remaining
 KeepsLives c run past e = Unit {0}

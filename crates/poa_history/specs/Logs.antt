@@ -54,7 +54,8 @@ start_of c m = if m == 0 then c.root else elim (slice_get c.managers (pred m)) [
 -- the state of the last command on the manager that was done, else the configured start
 abbrev pub manager_state : Config → List Entry → ℕ → ManagerState
 manager_state c [] m = start_of c m
-manager_state c (e ∷ past) m = elim (order_for c m (command_done past e)) [ Some order ↦ ordered_state order | None ↦ manager_state c past m ]
+manager_state c (e ∷ past) m =
+    elim (order_for c m (command_done past e)) [ Some order ↦ ordered_state order | None ↦ manager_state c past m ]
 
 -- what a command sets as the default servant of a path
 abbrev pub preset_by : List (List ℕ) → Option Command → Option (List ℕ)

@@ -8,7 +8,8 @@ use Rattle.poa_history.specs.Templates.{policies_at, lasts}
 
 -- a persistent key has no stamp; a transient one has the run and the adapter's number (CORBA 3.3 Part 1, section 15.3.8)
 abbrev pub key_for : Config → ℕ → ℕ → List (List ℕ) → List ℕ → Key
-key_for c run k p oid = record { stamp = if lasts (policies_at c p) then None else Some (record { run = run; number = k }); path = p; oid = oid }
+key_for c run k p oid =
+    record { stamp = if lasts (policies_at c p) then None else Some (record { run = run; number = k }); path = p; oid = oid }
 
 -- the repository id of a configured servant's interface
 abbrev pub type_of : Config → ℕ → List ℕ

@@ -105,7 +105,8 @@ abbrev pub reply_tried : Config → List Entry → Option Call → Attempt → R
 reply_tried c past call Raised = raised_to call activator_raised
 reply_tried c past call Dying = raised_to call adapter_dying
 reply_tried c past call answer =
-    elim (forward_of c past (key_or_none (key_in call)).path) [ Some endpoint ↦ forwarded_to call endpoint | None ↦ raised_to call not_exist_omg ]
+    elim (forward_of c past (key_or_none (key_in call)).path)
+    [ Some endpoint ↦ forwarded_to call endpoint | None ↦ raised_to call not_exist_omg ]
 
 abbrev pub reply_incarnated : Option Call → Incarnation → Option Reply
 reply_incarnated call Double = Some (raised_to call servant_double)
@@ -120,10 +121,17 @@ reply_run c run opened past (Some s) call = Some (Ended (acted (state_of c run o
 
 -- the reply that the entry fixes for the arrival that it decides
 abbrev pub reply_by : Config → ℕ → Stored → List Entry → Entry → ℕ → Option Reply
-reply_by c run opened past (Admit w a verdict) r = if a == r then reply_admitted (call_of past r) verdict else Some (AnswerReply (number_of (call_of past r)) Good)
-reply_by c run opened past (Tried w answer) r = if is_at r (arrival_in (stage past w)) then Some (reply_tried c past (call_of past r) answer) else Some (AnswerReply (number_of (call_of past r)) Good)
-reply_by c run opened past (Incarnated w answer) r = if is_at r (arrival_in (stage past w)) then reply_incarnated (call_of past r) answer else Some (AnswerReply (number_of (call_of past r)) Good)
-reply_by c run opened past (Run w) r = if is_at r (arrival_in (stage past w)) then reply_run c run opened past (servant_run c run past (stage past w)) (call_run past (stage past w)) else Some (AnswerReply (number_of (call_of past r)) Good)
+reply_by c run opened past (Admit w a verdict) r =
+    if a == r then reply_admitted (call_of past r) verdict else Some (AnswerReply (number_of (call_of past r)) Good)
+reply_by c run opened past (Tried w answer) r =
+    if is_at r (arrival_in (stage past w)) then Some (reply_tried c past (call_of past r) answer) else Some
+    (AnswerReply (number_of (call_of past r)) Good)
+reply_by c run opened past (Incarnated w answer) r =
+    if is_at r (arrival_in (stage past w)) then reply_incarnated (call_of past r) answer else Some
+    (AnswerReply (number_of (call_of past r)) Good)
+reply_by c run opened past (Run w) r =
+    if is_at r (arrival_in (stage past w)) then reply_run c run opened past (servant_run c run past (stage past w))
+    (call_run past (stage past w)) else Some (AnswerReply (number_of (call_of past r)) Good)
 reply_by c run opened past e r = Some (AnswerReply (number_of (call_of past r)) Good)
 
 -- the reply that an arrival's deciding entry fixes

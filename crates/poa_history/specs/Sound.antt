@@ -32,7 +32,8 @@ pub record IsSound (c : Config) (run : ℕ) (s : Standing) : Type 0 where
   pub counted : (a : Activation) → In a s.activations → a.number < length s.activations
   pub activation_alone : (a b : Activation) → In a s.activations → In b s.activations → a.number ≡ b.number → a ≡ b
   -- of one id of one adapter at most one activation isn't over
-  pub life_alone : (a b : Activation) → In a s.activations → In b s.activations → a.adapter ≡ b.adapter → a.oid ≡ b.oid → is_over c a ≡ false → is_over c b ≡ false → a ≡ b
+  pub life_alone : (a b : Activation) → In a s.activations → In b s.activations → a.adapter ≡ b.adapter → a.oid ≡ b.oid
+      → is_over c a ≡ false → is_over c b ≡ false → a ≡ b
   -- where an adapter makes its ids, each that it has is eight bytes, and one of this run was made
   pub ids : (a : Activation) → In a s.activations → is_bad_id c run s.made a.path a.oid ≡ false
 

@@ -108,7 +108,9 @@ abbrev pub is_stored_by : Standing → Stage → List (List ℕ) → List ℕ �
 is_stored_by s (Removing n) p oid =
     elim (activation_numbered s n) [
       | None ↦ None
-      | Some a ↦ (if same_path a.path p && same_bytes a.oid oid then (elim a.phase [ Complete t ↦ fresh_only t | Begun ↦ None | Void ↦ None ]) else None)
+      | Some a ↦
+          (if same_path a.path p && same_bytes a.oid oid then
+          (elim a.phase [ Complete t ↦ fresh_only t | Begun ↦ None | Void ↦ None ]) else None)
     ]
 is_stored_by s begun p oid = None
 
@@ -117,10 +119,12 @@ abbrev mutual
   pub state_of : Config → ℕ → Stored → List Entry → Sid → State
   state_of c run opened [] s = configured_state c s
   state_of c run opened (Run w ∷ past) s =
-      if is_servant s (servant_run c run past (stage past w)) then (acted (state_of c run opened past s) (call_run past (stage past w))).0 else state_of c run opened past s
+      if is_servant s (servant_run c run past (stage past w)) then
+      (acted (state_of c run opened past s) (call_run past (stage past w))).0 else state_of c run opened past s
   state_of c run opened (Incarnated w (Fresh n) ∷ past) s =
       if same_servant s (FreshServant n)
-      then elim (activation_numbered (standing c run past) n) [ Some a ↦ restored (kind_brought c a) (stored c run opened past a.path a.oid) | None ↦ Fault ]
+      then elim (activation_numbered (standing c run past) n)
+      [ Some a ↦ restored (kind_brought c a) (stored c run opened past a.path a.oid) | None ↦ Fault ]
       else state_of c run opened past s
   state_of c run opened (e ∷ past) s = state_of c run opened past s
 

@@ -11,7 +11,16 @@ use Rattle.poa_tree.specs.Paths.{same_bytes, same_path}
 
 -- the policies of the root: the defaults, but implicit activation (CORBA 3.3 Part 1, section 15.3.9)
 abbrev pub root_policies : PolicySet
-root_policies = record { thread = OrbCtrl; lifespan = Transient; uniqueness = UniqueId; assignment = SystemId; implicit = Implicit; retention = Retain; processing = MapOnly }
+root_policies =
+    record {
+      thread = OrbCtrl;
+      lifespan = Transient;
+      uniqueness = UniqueId;
+      assignment = SystemId;
+      implicit = Implicit;
+      retention = Retain;
+      processing = MapOnly;
+    }
 
 -- the configured entry of a path
 abbrev pub entry_of : Config → List (List ℕ) → Option AdapterConf
@@ -19,7 +28,8 @@ entry_of c p = find (λ a. same_path a.path p) c.adapters
 
 -- the root's template; only its adapter activator is configured
 abbrev pub root_template : Option Children → AdapterConf
-root_template children = record { path = []; policies = root_policies; manager = 0; boot = true; children = children; preset = None; rules = [] }
+root_template children =
+    record { path = []; policies = root_policies; manager = 0; boot = true; children = children; preset = None; rules = [] }
 
 -- from which an adapter of this path is created
 abbrev pub template : Config → List (List ℕ) → Option AdapterConf
@@ -62,11 +72,13 @@ lasts p = is_persistent p.lifespan
 
 -- the adapter has a servant activator (CORBA 3.3 Part 1, section 15.3.6)
 abbrev pub has_activator : Config → List (List ℕ) → Bool
-has_activator c p = retains (policies_at c p) && uses_servant_manager (policies_at c p) && (elim (rules_at c p) [ [] ↦ false | _ ∷ _ ↦ true ])
+has_activator c p =
+    retains (policies_at c p) && uses_servant_manager (policies_at c p) && (elim (rules_at c p) [ [] ↦ false | _ ∷ _ ↦ true ])
 
 -- the number of a manager: 0 is `root`, and the configured ones follow
 abbrev pub manager_number : Config → List ℕ → Option ℕ
-manager_number c name = if same_bytes name (codes "root") then Some 0 else option_map suc (position (λ m. same_bytes m.name name) c.managers)
+manager_number c name =
+    if same_bytes name (codes "root") then Some 0 else option_map suc (position (λ m. same_bytes m.name name) c.managers)
 
 -- the number of a servant is its place in the configuration
 abbrev pub servant_number : Config → List ℕ → Option ℕ

@@ -44,7 +44,10 @@ put_here set p = put_at (kind_of p) set p ∙ rw (same_itself (kind_of p)) where
 -- a kind is known by its number
 kind_at : ℕ → PolicyKind
 kind_at n =
-    if n == 0 then kind.Thread else (if n == 1 then kind.Lifespan else (if n == 2 then kind.Uniqueness else (if n == 3 then kind.Assignment else (if n == 4 then kind.Implicit else (if n == 5 then kind.Retention else kind.Processing)))))
+    if n == 0 then kind.Thread else
+    (if n == 1 then kind.Lifespan else
+    (if n == 2 then kind.Uniqueness else
+    (if n == 3 then kind.Assignment else (if n == 4 then kind.Implicit else (if n == 5 then kind.Retention else kind.Processing)))))
 
 kind_at-number_of : (k : PolicyKind) → kind_at (number_of k) ≡ k
 unfolding kind_at
@@ -90,7 +93,8 @@ is_set_over set [] own = own
 is_set_over set (p ∷ ps) own = is_set_over (put set p) ps (is_set_put set p own)
 
 -- at each kind, the listed policies over a set are those of any set that has them, or the first set's
-listed_or : (k : PolicyKind) (set whole : PolicySet) (ps : List Policy) → AllByRecursion (Has whole) ps → (of_kind k (listed_over set ps) ≡ of_kind k whole) ⊎ (of_kind k (listed_over set ps) ≡ of_kind k set)
+listed_or : (k : PolicyKind) (set whole : PolicySet) (ps : List Policy) → AllByRecursion (Has whole) ps → (of_kind k (listed_over set ps) ≡ of_kind k whole)
+    ⊎ (of_kind k (listed_over set ps) ≡ of_kind k set)
 listed_or k set whole [] has = inr refl
 listed_or k set whole (p ∷ ps) has =
     elim (listed_or k (put set p) whole ps has.1) [
@@ -102,7 +106,8 @@ listed_or k set whole (p ∷ ps) has =
     ]
 
 -- a need that the whole meets is met where each side is the whole's or harmless
-needs_met : (this that : Policy → Bool) (p q p' q' mild ready : Policy) → this mild ≡ false → that ready ≡ true → (p ≡ p') ⊎ (p ≡ mild) → (q ≡ q') ⊎ (q ≡ ready) → needs this that p' q' ≡ true → needs this that p q ≡ true
+needs_met : (this that : Policy → Bool) (p q p' q' mild ready : Policy) → this mild ≡ false → that ready ≡ true → (p ≡ p') ⊎ (p ≡ mild) → (q ≡ q') ⊎ (q ≡ ready)
+    → needs this that p' q' ≡ true → needs this that p q ≡ true
 needs_met this that p q p' q' mild ready calm meets left right met =
     elim left [
       | inr mildly ↦ rw (mildly, calm)
@@ -115,7 +120,9 @@ needs_met this that p q p' q' mild ready calm meets left right met =
 -- what is true of the three rules together
 pub kept : (set : PolicySet) → is_none (first_broken set) ≡ true → (r : Rule) → keeps r set ≡ true
 kept set none = λ r. each r (parts (keeps MapOnlyRetains set) (keeps DefaultServantIsShared set) (keeps ImplicitMakesIds set) none) where
-  parts : (a b c : Bool) → is_none (if not a then Some MapOnlyRetains else (if not b then Some DefaultServantIsShared else (if not c then Some ImplicitMakesIds else None))) ≡ true → (a ≡ true) × (b ≡ true) × (c ≡ true)
+  parts : (a b c : Bool)
+      → is_none (if not a then Some MapOnlyRetains else (if not b then Some DefaultServantIsShared else (if not c then Some ImplicitMakesIds else None))) ≡ true
+      → (a ≡ true) × (b ≡ true) × (c ≡ true)
   parts true true true h = (refl, refl, refl)
   parts true true false h = absurd (false≢true h)
   parts true false c h = absurd (false≢true h)
@@ -132,7 +139,9 @@ Fails MapOnlyRetains a b c = a ≡ false
 Fails DefaultServantIsShared a b c = b ≡ false
 Fails ImplicitMakesIds a b c = c ≡ false
 
-fails_first : (a b c : Bool) (r : Rule) → (if not a then Some MapOnlyRetains else (if not b then Some DefaultServantIsShared else (if not c then Some ImplicitMakesIds else None))) ≡ Some r → Fails r a b c
+fails_first : (a b c : Bool) (r : Rule)
+    → (if not a then Some MapOnlyRetains else (if not b then Some DefaultServantIsShared else (if not c then Some ImplicitMakesIds else None))) ≡ Some r
+    → Fails r a b c
 fails_first false b c MapOnlyRetains first = refl
 fails_first true false c DefaultServantIsShared first = refl
 fails_first true true false ImplicitMakesIds first = refl
@@ -140,20 +149,26 @@ fails_first _ _ _ _ first = cc
 
 pub broken : (set : PolicySet) (r : Rule) → first_broken set ≡ Some r → keeps r set ≡ false
 broken set MapOnlyRetains first = fails_first (keeps MapOnlyRetains set) (keeps DefaultServantIsShared set) (keeps ImplicitMakesIds set) MapOnlyRetains first
-broken set DefaultServantIsShared first = fails_first (keeps MapOnlyRetains set) (keeps DefaultServantIsShared set) (keeps ImplicitMakesIds set) DefaultServantIsShared first
-broken set ImplicitMakesIds first = fails_first (keeps MapOnlyRetains set) (keeps DefaultServantIsShared set) (keeps ImplicitMakesIds set) ImplicitMakesIds first
+broken set DefaultServantIsShared first =
+    fails_first (keeps MapOnlyRetains set) (keeps DefaultServantIsShared set) (keeps ImplicitMakesIds set) DefaultServantIsShared first
+broken set ImplicitMakesIds first =
+    fails_first (keeps MapOnlyRetains set) (keeps DefaultServantIsShared set) (keeps ImplicitMakesIds set) ImplicitMakesIds first
 
 -- the rules that a completion keeps are kept on the harmless policies
 keeps_mildly : (r : Rule) (set : PolicySet) (ps : List Policy) → AllByRecursion (Has set) ps → keeps r set ≡ true → keeps r (listed_over harmless ps) ≡ true
 keeps_mildly MapOnlyRetains set ps has met =
-    needs_met is_map_only is_retain _ _ set.processing set.retention ServantManager Retain refl refl (listed_or kind.Processing harmless set ps has) (listed_or kind.Retention harmless set ps has) met
+    needs_met is_map_only is_retain _ _ set.processing set.retention ServantManager Retain refl refl (listed_or kind.Processing harmless set ps has)
+    (listed_or kind.Retention harmless set ps has) met
 keeps_mildly DefaultServantIsShared set ps has met =
-    needs_met is_default_servant is_multiple_id _ _ set.processing set.uniqueness ServantManager MultipleId refl refl (listed_or kind.Processing harmless set ps has) (listed_or kind.Uniqueness harmless set ps has) met
+    needs_met is_default_servant is_multiple_id _ _ set.processing set.uniqueness ServantManager MultipleId refl refl
+    (listed_or kind.Processing harmless set ps has) (listed_or kind.Uniqueness harmless set ps has) met
 keeps_mildly ImplicitMakesIds set ps has met =
     let (ids, map) = and_parts _ _ met in
     rw (
-      needs_met is_implicit is_system_id _ _ set.implicit set.assignment NoImplicit SystemId refl refl (listed_or kind.Implicit harmless set ps has) (listed_or kind.Assignment harmless set ps has) ids,
-      needs_met is_implicit is_retain _ _ set.implicit set.retention NoImplicit Retain refl refl (listed_or kind.Implicit harmless set ps has) (listed_or kind.Retention harmless set ps has) map,
+      needs_met is_implicit is_system_id _ _ set.implicit set.assignment NoImplicit SystemId refl refl (listed_or kind.Implicit harmless set ps has)
+          (listed_or kind.Assignment harmless set ps has) ids,
+      needs_met is_implicit is_retain _ _ set.implicit set.retention NoImplicit Retain refl refl (listed_or kind.Implicit harmless set ps has)
+          (listed_or kind.Retention harmless set ps has) map,
     )
 
 none_broken : (set : PolicySet) → ((r : Rule) → keeps r set ≡ true) → is_none (first_broken set) ≡ true

@@ -24,12 +24,14 @@ apart false false false l = refl
 pub once_more : (ps : List Policy) (p : Policy) → once (ps ++ p ∷ []) ≡ (once ps && not (list_any (λ q. same_kind q p) ps))
 once_more [] p = refl
 once_more (q ∷ ps) p =
-    rw (list_any-append (same_kind q) ps (p ∷ []), once_more ps p) (apart (list_any (same_kind q) ps) (once ps) (same_kind q p) (list_any (λ r. same_kind r p) ps))
+    rw (list_any-append (same_kind q) ps (p ∷ []), once_more ps p)
+    (apart (list_any (same_kind q) ps) (once ps) (same_kind q p) (list_any (λ r. same_kind r p) ps))
 
 pub listed_over_more : (set : PolicySet) (ps : List Policy) (p : Policy) → listed_over set (ps ++ p ∷ []) ≡ put (listed_over set ps) p
 listed_over_more set ps p = fold-append put set ps (p ∷ [])
 
-pub last_place_more : (test : Policy → Bool) (ps : List Policy) (p : Policy) → last_place test (ps ++ p ∷ []) ≡ (if test p then length ps else last_place test ps)
+pub last_place_more : (test : Policy → Bool) (ps : List Policy) (p : Policy)
+    → last_place test (ps ++ p ∷ []) ≡ (if test p then length ps else last_place test ps)
 last_place_more test [] p = elim (cases_Bool (test p)) [ inl here ↦ rw here | inr other ↦ rw other ]
 last_place_more test (q ∷ ps) p =
     elim (cases_Bool (test p)) [

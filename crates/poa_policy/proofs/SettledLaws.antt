@@ -53,7 +53,8 @@ named_listed r ps bad =
       | inr none ↦ absurd (false≢true (sym bad ∙ kept_by r none))
     ]
   where
-    default_at : (r : Rule) (k : PolicyKind) → names r k ≡ true → list_any (λ p. names r (kind_of p)) ps ≡ false → of_kind k (listed_over defaults ps) ≡ of_kind k defaults
+    default_at : (r : Rule) (k : PolicyKind) → names r k ≡ true → list_any (λ p. names r (kind_of p)) ps ≡ false
+        → of_kind k (listed_over defaults ps) ≡ of_kind k defaults
     default_at r k named none = unlisted k defaults ps (not_listed r k ps named none)
 
     kept_by : (r : Rule) → list_any (λ p. names r (kind_of p)) ps ≡ false → keeps r (listed_over defaults ps) ≡ true
@@ -62,12 +63,19 @@ named_listed r ps bad =
     kept_by ImplicitMakesIds none = rw (default_at ImplicitMakesIds kind.Implicit refl none)
 
 -- what the search for the first spoiler finds
-spoiler_law : (done rest : List Policy) → completable done ≡ true → MatchOption (first_spoiler done rest) (completable (done ++ rest) ≡ true) (λ i. Spoils (done ++ rest) i)
+spoiler_law : (done rest : List Policy) → completable done ≡ true
+    → MatchOption (first_spoiler done rest) (completable (done ++ rest) ≡ true) (λ i. Spoils (done ++ rest) i)
 spoiler_law done [] can = rw append-nil can
 spoiler_law done (p ∷ rest) can =
     elim (cases_Bool (completable (done ++ p ∷ []))) [
       | inl still ↦ rw (still, ← append_assoc done (p ∷ []) rest) (spoiler_law (done ++ p ∷ []) rest still)
-      | inr spoiled ↦ rw spoiled (record { within = omega (arith, length-append done (p ∷ rest)); before = rw (take-append_seam done (p ∷ rest)) (can_complete done can); after = λ other. false≢true (sym spoiled ∙ completable_from (done ++ p ∷ []) (rw (take-append-add done (p ∷ rest) 1) at other)) })
+      | inr spoiled ↦
+          rw spoiled
+          (record {
+            within = omega (arith, length-append done (p ∷ rest));
+            before = rw (take-append_seam done (p ∷ rest)) (can_complete done can);
+            after = λ other. false≢true (sym spoiled ∙ completable_from (done ++ p ∷ []) (rw (take-append-add done (p ∷ rest) 1) at other));
+          })
     ]
 
 by_default : (ps : List Policy) → completable ps ≡ true → Settled ps (settled_by (first_broken (listed_over defaults ps)) (listed_over defaults ps) ps)

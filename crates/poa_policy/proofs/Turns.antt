@@ -29,7 +29,8 @@ pub record Reached (ps : List Policy) (i : ℕ) (set filled : PolicySet) : Type 
 numbers_of : List Policy → List ℕ
 numbers_of ps = map (λ q. number_of (kind_of q)) ps
 
-numbers_apart : (p : Policy) (ps : List Policy) → list_any (same_kind p) ps ≡ false → AllByRecursion (λ n. eqb (number_of (kind_of p)) n ≡ false) (numbers_of ps)
+numbers_apart : (p : Policy) (ps : List Policy) → list_any (same_kind p) ps ≡ false
+    → AllByRecursion (λ n. eqb (number_of (kind_of p)) n ≡ false) (numbers_of ps)
 unfolding numbers_of
 numbers_apart p [] none = tt
 numbers_apart p (q ∷ ps) none = let (here, rest) = or_parts (same_kind p q) (list_any (same_kind p) ps) none in (here, numbers_apart p ps rest)
@@ -65,10 +66,13 @@ numbers_below (p ∷ ps) q some =
 
 pub once_short : (ps : List Policy) → once ps ≡ true → length ps ≤ 7
 unfolding numbers_of
-once_short ps single = subst (λ n. n ≤ 7) (length-map ps (λ q. number_of (kind_of q))) (length-le_from_distinct_below (numbers_of ps) 7 (numbers_distinct ps single) (numbers_below ps))
+once_short ps single =
+    subst (λ n. n ≤ 7) (length-map ps (λ q. number_of (kind_of q)))
+    (length-le_from_distinct_below (numbers_of ps) 7 (numbers_distinct ps single) (numbers_below ps))
 
 -- one more policy is passed, or spoils the list
-spoiler_more : (ps : List Policy) (i : ℕ) → i < length ps → first_spoiler (take i ps) (drop i ps) ≡ (if completable (take (i + 1) ps) then first_spoiler (take (i + 1) ps) (drop (i + 1) ps) else Some i)
+spoiler_more : (ps : List Policy) (i : ℕ) → i < length ps
+    → first_spoiler (take i ps) (drop i ps) ≡ (if completable (take (i + 1) ps) then first_spoiler (take (i + 1) ps) (drop (i + 1) ps) else Some i)
 spoiler_more ps i lt =
     rw (drop_more ps i OrbCtrl lt, take_more ps i OrbCtrl lt, length-take-le i ps (omega arith))
 
@@ -108,7 +112,8 @@ answers_bad ps i set filled lt inv bad =
     let here : first_spoiler (take i ps) (drop i ps) ≡ Some i = rw spoiled at (spoiler_more ps i lt) in
     answers ps (Err (record { index = i })) (ap (λ o. settled_unless o ps) (sym here ∙ inv.same))
 
-pub answers_end : (ps : List Policy) (i : ℕ) (set filled : PolicySet) (rule : Option Rule) → length ps ≤ i → Reached ps i set filled → rule ≡ first_broken set → Answers ps (settled_by rule set ps)
+pub answers_end : (ps : List Policy) (i : ℕ) (set filled : PolicySet) (rule : Option Rule) → length ps ≤ i → Reached ps i set filled → rule ≡ first_broken set
+    → Answers ps (settled_by rule set ps)
 unfolding the_settled
 answers_end ps i set filled rule past inv first =
     let all : set ≡ listed_over defaults ps = inv.settles ∙ ap (listed_over defaults) (take_all i ps past) in

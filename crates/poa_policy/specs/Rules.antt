@@ -17,7 +17,8 @@ needs this that p q = not (this p) || that q
 abbrev pub keeps : Rule → PolicySet → Bool
 keeps MapOnlyRetains set = needs is_map_only is_retain set.processing set.retention
 keeps DefaultServantIsShared set = needs is_default_servant is_multiple_id set.processing set.uniqueness
-keeps ImplicitMakesIds set = needs is_implicit is_system_id set.implicit set.assignment && needs is_implicit is_retain set.implicit set.retention
+keeps ImplicitMakesIds set =
+    needs is_implicit is_system_id set.implicit set.assignment && needs is_implicit is_retain set.implicit set.retention
 
 -- the kinds that a rule names
 abbrev pub names : Rule → PolicyKind → Bool
@@ -39,8 +40,26 @@ first_broken set =
 
 -- the default of each kind
 abbrev pub defaults : PolicySet
-defaults = record { thread = OrbCtrl; lifespan = Transient; uniqueness = UniqueId; assignment = SystemId; implicit = NoImplicit; retention = Retain; processing = MapOnly }
+defaults =
+    record {
+      thread = OrbCtrl;
+      lifespan = Transient;
+      uniqueness = UniqueId;
+      assignment = SystemId;
+      implicit = NoImplicit;
+      retention = Retain;
+      processing = MapOnly;
+    }
 
 -- one policy of each kind by which no rule can be broken
 abbrev pub harmless : PolicySet
-harmless = record { thread = OrbCtrl; lifespan = Transient; uniqueness = MultipleId; assignment = SystemId; implicit = NoImplicit; retention = Retain; processing = ServantManager }
+harmless =
+    record {
+      thread = OrbCtrl;
+      lifespan = Transient;
+      uniqueness = MultipleId;
+      assignment = SystemId;
+      implicit = NoImplicit;
+      retention = Retain;
+      processing = ServantManager;
+    }

@@ -35,4 +35,5 @@ pub path_same : (p q : List (List ℕ)) → same_path p q ≡ true → p ≡ q
 path_same [] [] same = refl
 path_same [] (y ∷ q) same = absurd (let e : false ≡ true = same in cc)
 path_same (x ∷ p) [] same = absurd (let e : false ≡ true = same in cc)
-path_same (x ∷ p) (y ∷ q) same = let parts = and_parts (same_bytes x y) (same_path p q) same in ap₂ (λ a b. a ∷ b) (bytes_same x y parts.0) (path_same p q parts.1)
+path_same (x ∷ p) (y ∷ q) same = let parts = and_parts (same_bytes x y) (same_path p q) same in
+    ap₂ (λ a b. a ∷ b) (bytes_same x y parts.0) (path_same p q parts.1)

@@ -16,7 +16,8 @@ module _ (ns : List Node) (count : ℕ) (p : List (List ℕ)) (tree : IsTree ns 
   fresh_number : (n : Node) → In n ns → n.number ≡ count → ⊥
   fresh_number n is same = (let below = tree.numbered n is in omega arith)
 
-  alone_by : {B : Type 0} (f : Node → B) → ((n m : Node) → In n ns → In m ns → f n ≡ f m → n ≡ m) → ((n : Node) → In n ns → f n ≡ f new → ⊥) → (n m : Node) → In n (created count p ns) → In m (created count p ns) → f n ≡ f m → n ≡ m
+  alone_by : {B : Type 0} (f : Node → B) → ((n m : Node) → In n ns → In m ns → f n ≡ f m → n ≡ m) → ((n : Node) → In n ns → f n ≡ f new → ⊥) → (n m : Node)
+      → In n (created count p ns) → In m (created count p ns) → f n ≡ f m → n ≡ m
   alone_by f old none n m is is' same =
       elim (in_either n new ns is) [
         | inl a ↦ elim (in_either m new ns is') [
@@ -36,7 +37,8 @@ module _ (ns : List Node) (count : ℕ) (p : List (List ℕ)) (tree : IsTree ns 
         | inr a ↦ (let same : n.number ≡ count = ap (λ x. x.number) a in omega arith)
       ]
 
-  closed_after : (n : Node) (q : List (List ℕ)) (x : List ℕ) → In n (created count p ns) → n.path ≡ q ++ x ∷ [] → (m : Node) × In m (created count p ns) × (m.path ≡ q)
+  closed_after : (n : Node) (q : List (List ℕ)) (x : List ℕ) → In n (created count p ns) → n.path ≡ q ++ x ∷ [] → (m : Node) × In m (created count p ns)
+      × (m.path ≡ q)
   closed_after n q x is at =
       elim (in_either n new ns is) [
         | inl a ↦ (let found = tree.closed n q x a at in (found.0, in_front found.0 new ns found.1, found.2))
@@ -80,7 +82,8 @@ marked_path p n = cond_both (leads_to p n.path) (record n { dying = true }) n (�
 -- an adapter that is being destroyed after it was so before, or is at the path or below it
 pub marked_dying : (p : List (List ℕ)) (n : Node) → (marked p n).dying ≡ true → (n.dying ≡ true) ⊎ (leads_to p n.path ≡ true)
 marked_dying p n =
-    cond_both (leads_to p n.path) (record n { dying = true }) n (λ m. m.dying ≡ true → (n.dying ≡ true) ⊎ (leads_to p n.path ≡ true)) (λ leads _. inr leads) (λ _ dying. inl dying)
+    cond_both (leads_to p n.path) (record n { dying = true }) n (λ m. m.dying ≡ true → (n.dying ≡ true) ⊎ (leads_to p n.path ≡ true)) (λ leads _. inr leads)
+    (λ _ dying. inl dying)
 
 pub dying_marked : (p : List (List ℕ)) (n : Node) → (n.dying ≡ true) ⊎ (leads_to p n.path ≡ true) → (marked p n).dying ≡ true
 dying_marked p n why =
@@ -88,7 +91,8 @@ dying_marked p n why =
     (λ other. elim why [ inl dying ↦ dying | inr leads ↦ absurd (let e : false ≡ true = sym other ∙ leads in cc) ])
 
 module _ (ns : List Node) (count : ℕ) (p : List (List ℕ)) (tree : IsTree ns count) where
-  alone_marked : {B : Type 0} (f : Node → B) → ((n : Node) → f (marked p n) ≡ f n) → ((n m : Node) → In n ns → In m ns → f n ≡ f m → n ≡ m) → (n m : Node) → In n (map (marked p) ns) → In m (map (marked p) ns) → f n ≡ f m → n ≡ m
+  alone_marked : {B : Type 0} (f : Node → B) → ((n : Node) → f (marked p n) ≡ f n) → ((n m : Node) → In n ns → In m ns → f n ≡ f m → n ≡ m) → (n m : Node)
+      → In n (map (marked p) ns) → In m (map (marked p) ns) → f n ≡ f m → n ≡ m
   alone_marked f kept old n m is is' same =
       let a = in_image (marked p) n ns is in
       let b = in_image (marked p) m ns is' in
@@ -98,7 +102,8 @@ module _ (ns : List Node) (count : ℕ) (p : List (List ℕ)) (tree : IsTree ns 
   numbered_marked n is =
       let a = in_image (marked p) n ns is in subst (λ k. k < count) (sym (ap (λ x. x.number) a.2 ∙ marked_number p a.0)) (tree.numbered a.0 a.1)
 
-  closed_marked : (n : Node) (q : List (List ℕ)) (x : List ℕ) → In n (map (marked p) ns) → n.path ≡ q ++ x ∷ [] → (m : Node) × In m (map (marked p) ns) × (m.path ≡ q)
+  closed_marked : (n : Node) (q : List (List ℕ)) (x : List ℕ) → In n (map (marked p) ns) → n.path ≡ q ++ x ∷ [] → (m : Node) × In m (map (marked p) ns)
+      × (m.path ≡ q)
   closed_marked n q x is at =
       let a = in_image (marked p) n ns is in
       let found = tree.closed a.0 q x a.1 (sym (ap (λ y. y.path) a.2 ∙ marked_path p a.0) ∙ at) in
@@ -109,7 +114,8 @@ module _ (ns : List Node) (count : ℕ) (p : List (List ℕ)) (tree : IsTree ns 
       let a = in_image (marked p) n ns is in
       let b = in_image (marked p) m ns is' in
       let paths : leads_to a.0.path b.0.path ≡ true =
-      subst (λ q. leads_to a.0.path q ≡ true) (ap (λ y. y.path) b.2 ∙ marked_path p b.0) (subst (λ q. leads_to q m.path ≡ true) (ap (λ y. y.path) a.2 ∙ marked_path p a.0) leads) in
+      subst (λ q. leads_to a.0.path q ≡ true) (ap (λ y. y.path) b.2 ∙ marked_path p b.0)
+      (subst (λ q. leads_to q m.path ≡ true) (ap (λ y. y.path) a.2 ∙ marked_path p a.0) leads) in
       ap (λ y. y.dying) b.2
       ∙ dying_marked p b.0
       (elim (marked_dying p a.0 (sym (ap (λ y. y.dying) a.2) ∙ dying)) [
@@ -131,11 +137,13 @@ module _ (ns : List Node) (count : ℕ) (stays : Node → Bool) (tree : IsTree n
   was : (n : Node) → In n (filter stays ns) → In n ns
   was n is = (in_kept stays n ns is).0
 
-  closed_dropped : (n : Node) (q : List (List ℕ)) (x : List ℕ) → In n (filter stays ns) → n.path ≡ q ++ x ∷ [] → (m : Node) × In m (filter stays ns) × (m.path ≡ q)
+  closed_dropped : (n : Node) (q : List (List ℕ)) (x : List ℕ) → In n (filter stays ns) → n.path ≡ q ++ x ∷ [] → (m : Node) × In m (filter stays ns)
+      × (m.path ≡ q)
   closed_dropped n q x is at =
       let kept = in_kept stays n ns is in
       let found = tree.closed n q x kept.0 at in
-      let leads : leads_to found.0.path n.path ≡ true = subst (λ r. leads_to found.0.path r ≡ true) (sym at) (subst (λ r. leads_to r (q ++ x ∷ []) ≡ true) (sym found.2) (leads_on q (x ∷ []))) in
+      let leads : leads_to found.0.path n.path ≡ true =
+      subst (λ r. leads_to found.0.path r ≡ true) (sym at) (subst (λ r. leads_to r (q ++ x ∷ []) ≡ true) (sym found.2) (leads_on q (x ∷ []))) in
       elim (cases_Bool (stays found.0)) [
         | inl passes ↦ (found.0, kept_in stays found.0 ns found.1 passes, found.2)
         | inr goes ↦ absurd (let e : true ≡ false = sym kept.1 ∙ may.along found.0 n found.1 kept.0 leads goes in cc)

@@ -23,7 +23,8 @@ node_missing ns p none n is at = find_none (λ m. same_path m.path p) n ns none 
 abbrev pub Tells : List Node → List (List ℕ) → Found → Type 0
 Tells ns whole (Live k) = (n : Node) × In n ns × (n.number ≡ k) × (n.path ≡ whole) × (n.dying ≡ false)
 Tells ns whole (Dying k) = (n : Node) × In n ns × (n.number ≡ k) × (n.dying ≡ true)
-Tells ns whole (Missing k depth) = (n : Node) × In n ns × (n.number ≡ k) × (n.dying ≡ false) × (depth ≡ length n.path) × ((x : List ℕ) × (more : List (List ℕ)) × (whole ≡ n.path ++ x ∷ more) × IsFreePath ns (n.path ++ x ∷ []))
+Tells ns whole (Missing k depth) = (n : Node) × In n ns × (n.number ≡ k) × (n.dying ≡ false) × (depth ≡ length n.path)
+    × ((x : List ℕ) × (more : List (List ℕ)) × (whole ≡ n.path ++ x ∷ more) × IsFreePath ns (n.path ++ x ∷ []))
 
 walk_from_tells : (ns : List Node) (here : Node) (p whole : List (List ℕ)) → In here ns → whole ≡ here.path ++ p → Tells ns whole (walk_from ns here p)
 walk_from_tells ns here [] whole is at =
@@ -32,7 +33,9 @@ walk_from_tells ns here [] whole is at =
       | false ↦ λ lives. (here, is, refl, sym (append-nil here.path) ∙ sym at, lives)
     ] refl
 walk_from_tells ns here (x ∷ p) whole is at =
-    elim here.dying as (λ b. here.dying ≡ b → Tells ns whole (if b then Dying here.number else (elim (node_at ns (here.path ++ x ∷ [])) [ Some n ↦ walk_from ns n p | None ↦ Missing here.number (length here.path) ]))) [
+    elim here.dying as (λ b. here.dying ≡ b → Tells ns whole
+    (if b then Dying here.number else
+    (elim (node_at ns (here.path ++ x ∷ [])) [ Some n ↦ walk_from ns n p | None ↦ Missing here.number (length here.path) ]))) [
       | true ↦ λ dying. (here, is, refl, dying)
       | false ↦ λ lives. elim (node_at ns (here.path ++ x ∷ [])) as (λ found. node_at ns (here.path ++ x ∷ []) ≡ found → Tells ns whole (elim found [ Some n ↦ walk_from ns n p | None ↦ Missing here.number (length here.path) ])) [
         | Some n ↦ λ found. (let there = node_found ns (here.path ++ x ∷ []) n found in

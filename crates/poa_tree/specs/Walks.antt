@@ -9,7 +9,8 @@ use Rattle.poa_tree.specs.Nodes.{node_at}
 abbrev pub walk_from : List Node → Node → List (List ℕ) → Found
 walk_from ns here [] = if here.dying then Dying here.number else Live here.number
 walk_from ns here (x ∷ p) =
-    if here.dying then Dying here.number else elim (node_at ns (here.path ++ x ∷ [])) [ Some n ↦ walk_from ns n p | None ↦ Missing here.number (length here.path) ]
+    if here.dying then Dying here.number else elim (node_at ns (here.path ++ x ∷ []))
+    [ Some n ↦ walk_from ns n p | None ↦ Missing here.number (length here.path) ]
 
 abbrev pub walk : List Node → List (List ℕ) → Found
 walk ns p = elim (node_at ns []) [ Some root ↦ walk_from ns root p | None ↦ Missing 0 0 ]

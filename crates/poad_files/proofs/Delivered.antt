@@ -14,7 +14,8 @@ pub record Delivered (held_old held_new : Option (List ℕ)) (bytes rest : List 
 pub delivered_none : (held : Option (List ℕ)) (bytes : List ℕ) → Delivered held held bytes bytes
 delivered_none held bytes = record { front = []; cut = refl; gained = told_here held _ (λ old. sym (append-nil old)) }
 
-pub delivered_more : (a b c : Option (List ℕ)) (bytes rest : List ℕ) (n : ℕ) → Delivered a b bytes rest → IfTold b c (λ old new. new ≡ old ++ take n rest) → Delivered a c bytes (drop n rest)
+pub delivered_more : (a b c : Option (List ℕ)) (bytes rest : List ℕ) (n : ℕ) → Delivered a b bytes rest → IfTold b c (λ old new. new ≡ old ++ take n rest)
+    → Delivered a c bytes (drop n rest)
 delivered_more a b c bytes rest n d more = record {
   front = d.front ++ take n rest;
   cut = d.cut ∙ (ap (λ (back : List ℕ). d.front ++ back) (sym (take-append-drop n rest)) ∙ sym (append_assoc d.front (take n rest) (drop n rest)));
@@ -22,11 +23,18 @@ delivered_more a b c bytes rest n d more = record {
 }
 
 pub delivered_all : (a b : Option (List ℕ)) (bytes rest : List ℕ) → Delivered a b bytes rest → rest ≡ [] → IfTold a b (Hands true bytes)
-delivered_all a b bytes rest d none = told_so a b _ _ (λ x y p. p ∙ ap (λ (front : List ℕ). x ++ front) (sym (d.cut ∙ (ap (λ (back : List ℕ). d.front ++ back) none ∙ append-nil d.front)))) d.gained
+delivered_all a b bytes rest d none =
+    told_so a b _ _ (λ x y p. p ∙ ap (λ (front : List ℕ). x ++ front) (sym (d.cut ∙ (ap (λ (back : List ℕ). d.front ++ back) none ∙ append-nil d.front))))
+    d.gained
 
-pub delivered_part : (a b c : Option (List ℕ)) (bytes rest : List ℕ) → Delivered a b bytes rest → IfTold b c (λ old new. new ≡ old) → IfTold a c (Hands false bytes)
-delivered_part a b c bytes rest d same = told_then a b c _ _ _ (λ x y z p q. (length d.front, q ∙ (p ∙ ap (λ (front : List ℕ). x ++ front) (sym (ap (take (length d.front)) d.cut ∙ take_at d.front rest _ refl))))) d.gained same
+pub delivered_part : (a b c : Option (List ℕ)) (bytes rest : List ℕ) → Delivered a b bytes rest → IfTold b c (λ old new. new ≡ old)
+    → IfTold a c (Hands false bytes)
+delivered_part a b c bytes rest d same =
+    told_then a b c _ _ _
+    (λ x y z p q. (length d.front, q ∙ (p ∙ ap (λ (front : List ℕ). x ++ front) (sym (ap (take (length d.front)) d.cut ∙ take_at d.front rest _ refl)))))
+    d.gained same
 
 -- the same, where the code cuts the rest
-pub delivered_on : (a b c : Option (List ℕ)) (bytes rest : List ℕ) (n : ℕ) → Delivered a b bytes rest → IfTold b c (λ old new. new ≡ old ++ take n rest) → Delivered a c bytes (take (length rest - n) (drop n rest))
+pub delivered_on : (a b c : Option (List ℕ)) (bytes rest : List ℕ) (n : ℕ) → Delivered a b bytes rest → IfTold b c (λ old new. new ≡ old ++ take n rest)
+    → Delivered a c bytes (take (length rest - n) (drop n rest))
 delivered_on a b c bytes rest n d more = subst (Delivered a c bytes) (sym (take_rest rest n)) (delivered_more a b c bytes rest n d more)

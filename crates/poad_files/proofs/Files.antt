@@ -16,7 +16,8 @@ use Rattle.poad_files.proofs.Told.{told_then, told_here}
 use Rattle.poad_files.proofs.Causes.{cause_still, cause_from}
 
 -- the configuration of a content that was taken
-pub config_taken : (name content : List ℕ) (r : Result Config Status) (old new : Option Contents) → IsHeld name config_limit content old new → ReadsConfig content r → TakesConfig name r old new
+pub config_taken : (name content : List ℕ) (r : Result Config Status) (old new : Option Contents) → IsHeld name config_limit content old new
+    → ReadsConfig content r → TakesConfig name r old new
 config_taken name content (Ok config) old new held reads = record { content = content; held = held; reads = reads }
 config_taken name content (Err (status.ConfigRefused fault)) old new held reads = record { content = content; held = held; reads = reads }
 config_taken name content (Err status.WantMemory) old new held reads = tt
@@ -26,7 +27,8 @@ pub config_untaken : (name : List ℕ) (s : Status) (old new : Option Contents) 
 config_untaken name (status.ConfigRefused fault) old new r = absurd r
 config_untaken name _ old new r = r
 
-pub script_taken : (name content : List ℕ) (r : Result Script Status) (old new : Option Contents) → IsHeld name script_limit content old new → ReadsScript content r → TakesScript name r old new
+pub script_taken : (name content : List ℕ) (r : Result Script Status) (old new : Option Contents) → IsHeld name script_limit content old new
+    → ReadsScript content r → TakesScript name r old new
 script_taken name content (Ok script) old new held reads = record { content = content; held = held; reads = reads }
 script_taken name content (Err (status.ScriptRefused line)) old new held reads = record { content = content; held = held; reads = reads }
 script_taken name content (Err status.WantMemory) old new held reads = tt
@@ -47,7 +49,8 @@ pub same_held : (h : Option (List ℕ)) → GainsNothing h h
 same_held h = told_here h (λ old new. new ≡ old) (λ x. refl)
 
 -- what is printed of a file that isn't taken
-pub filed_untaken : (asked : Asked) (name : List ℕ) (s : Status) (a b : Option Contents) (h : Option (List ℕ)) → Refused name config_limit s a b → Filed asked name s a b h h
+pub filed_untaken : (asked : Asked) (name : List ℕ) (s : Status) (a b : Option Contents) (h : Option (List ℕ)) → Refused name config_limit s a b
+    → Filed asked name s a b h h
 filed_untaken asked name status.NoFile a b h r = (r, same_held h)
 filed_untaken asked name status.FileTooLong a b h r = (r, same_held h)
 filed_untaken asked name status.FileFault a b h r = same_held h
@@ -55,14 +58,16 @@ filed_untaken asked name status.WantMemory a b h r = same_held h
 filed_untaken asked name _ a b h r = absurd r
 
 -- and of one that is
-filed_taken : (asked : Asked) (name content : List ℕ) (s : Status) (a b : Option Contents) (h k : Option (List ℕ)) → IsHeld name config_limit content a b → Printed asked content s h k → Filed asked name s a b h k
+filed_taken : (asked : Asked) (name content : List ℕ) (s : Status) (a b : Option Contents) (h k : Option (List ℕ)) → IsHeld name config_limit content a b
+    → Printed asked content s h k → Filed asked name s a b h k
 filed_taken asked name content status.NoFile a b h k held p = absurd p
 filed_taken asked name content status.FileTooLong a b h k held p = absurd p
 filed_taken asked name content status.FileFault a b h k held p = absurd p
 filed_taken asked name content status.WantMemory a b h k held p = p
 filed_taken asked name content _ a b h k held p = record { content = content; held = held; printed = p }
 
-pub filed_read : (asked : Asked) (name content bytes : List ℕ) (s : Status) (a b : Option Contents) (h k : Option (List ℕ)) → bytes ≡ content → IsHeld name config_limit content a b → Printed asked bytes s h k → Filed asked name s a b h k
+pub filed_read : (asked : Asked) (name content bytes : List ℕ) (s : Status) (a b : Option Contents) (h k : Option (List ℕ)) → bytes ≡ content
+    → IsHeld name config_limit content a b → Printed asked bytes s h k → Filed asked name s a b h k
 filed_read asked name content bytes s a b h k same held p = filed_taken asked name content s a b h k held (subst (λ (x : List ℕ). Printed asked x s h k) same p)
 
 pub holds_on : (a b c : Option Contents) → IfTold a b HoldsStill → IfTold b c HoldsStill → IfTold a c HoldsStill

@@ -58,12 +58,14 @@ pub record OfContent (name : List ℕ) (limit : ℕ) (Reads : List ℕ → Type 
 
 abbrev pub TakesConfig : List ℕ → Result Config Status → Option Contents → Option Contents → Type 0
 TakesConfig name (Ok config) old new = OfContent name config_limit (λ content. ReadsConfig content (Ok config)) old new
-TakesConfig name (Err (ConfigRefused fault)) old new = OfContent name config_limit (λ content. ReadsConfig content (Err (ConfigRefused fault))) old new
+TakesConfig name (Err (ConfigRefused fault)) old new =
+    OfContent name config_limit (λ content. ReadsConfig content (Err (ConfigRefused fault))) old new
 TakesConfig name (Err status) old new = Refused name config_limit status old new
 
 abbrev pub TakesScript : List ℕ → Result Script Status → Option Contents → Option Contents → Type 0
 TakesScript name (Ok script) old new = OfContent name script_limit (λ content. ReadsScript content (Ok script)) old new
-TakesScript name (Err (ScriptRefused line)) old new = OfContent name script_limit (λ content. ReadsScript content (Err (ScriptRefused line))) old new
+TakesScript name (Err (ScriptRefused line)) old new =
+    OfContent name script_limit (λ content. ReadsScript content (Err (ScriptRefused line))) old new
 TakesScript name (Err status) old new = Refused name script_limit status old new
 
 -- each name holds what it held

@@ -35,19 +35,27 @@ lines_begin text rows none = record {
 }
 
 -- what the next line gives
-line_next : (text : List ℕ) (rows : List Connection) (steps : List ScriptStep) (number : ℕ) (rest l after : List ℕ) (so_far : LinesRead text rows steps number rest)
+line_next : (text : List ℕ) (rows : List Connection) (steps : List ScriptStep) (number : ℕ) (rest l after : List ℕ)
+    (so_far : LinesRead text rows steps number rest)
     → lines_of rest ≡ l ∷ lines_of after
-    → script_of text ≡ behind_steps steps (with_line so_far.past number (λ line. script_from (line ∷ so_far.past) (number + 1) (lines_of after)) (line_at number (line_of l)))
+    → script_of text ≡ behind_steps steps
+    (with_line so_far.past number (λ line. script_from (line ∷ so_far.past) (number + 1) (lines_of after)) (line_at number (line_of l)))
 line_next text rows steps number rest l after so_far cut = sym so_far.read ∙ ap (λ ls. behind_steps steps (script_from so_far.past number ls)) cut
 
 -- and where it is a line
-line_read : (text : List ℕ) (rows : List Connection) (steps : List ScriptStep) (number : ℕ) (rest l after : List ℕ) (line : ScriptLine) (test : Bool) (so_far : LinesRead text rows steps number rest)
+line_read : (text : List ℕ) (rows : List Connection) (steps : List ScriptStep) (number : ℕ) (rest l after : List ℕ) (line : ScriptLine) (test : Bool)
+    (so_far : LinesRead text rows steps number rest)
     → lines_of rest ≡ l ∷ lines_of after → line_at number (line_of l) ≡ Ok line → allowed_by rows (role_of line) ≡ test
-    → script_of text ≡ behind_steps steps (cond test (behind_steps (numbered number (step_of (connections (line ∷ so_far.past)) line)) (script_from (line ∷ so_far.past) (number + 1) (lines_of after))) (Err number))
+    → script_of text ≡ behind_steps steps
+    (cond test
+    (behind_steps (numbered number (step_of (connections (line ∷ so_far.past)) line)) (script_from (line ∷ so_far.past) (number + 1) (lines_of after)))
+    (Err number))
 line_read text rows steps number rest l after line test so_far cut is allows =
     line_next text rows steps number rest l after so_far cut
     ∙ ap (λ r. behind_steps steps (with_line so_far.past number (λ line. script_from (line ∷ so_far.past) (number + 1) (lines_of after)) r)) is
-    ∙ ap (λ b. behind_steps steps (cond b (behind_steps (numbered number (step_of (connections (line ∷ so_far.past)) line)) (script_from (line ∷ so_far.past) (number + 1) (lines_of after))) (Err number)))
+    ∙ ap (λ b. behind_steps steps
+    (cond b (behind_steps (numbered number (step_of (connections (line ∷ so_far.past)) line)) (script_from (line ∷ so_far.past) (number + 1) (lines_of after)))
+    (Err number)))
     (sym (stands rows so_far.past line so_far.known) ∙ allows)
 
 -- one more line was read
@@ -62,8 +70,10 @@ lines_step text rows rows' steps steps' number rest l after line so_far cut shor
       past = line ∷ so_far.past;
       known = known;
       read =
-          ap (λ all. behind_steps all (script_from (line ∷ so_far.past) (number + 1) (lines_of after))) (put ∙ ap (λ ns. steps ++ numbered number (step_of ns line)) known.named)
-          ∙ behind_both steps (numbered number (step_of (connections (line ∷ so_far.past)) line)) (script_from (line ∷ so_far.past) (number + 1) (lines_of after))
+          ap (λ all. behind_steps all (script_from (line ∷ so_far.past) (number + 1) (lines_of after)))
+          (put ∙ ap (λ ns. steps ++ numbered number (step_of ns line)) known.named)
+          ∙ behind_both steps (numbered number (step_of (connections (line ∷ so_far.past)) line))
+          (script_from (line ∷ so_far.past) (number + 1) (lines_of after))
           ∙ sym (line_read text rows steps number rest l after line true so_far cut is allows);
       bound = omega (arith, so_far.bound);
     }

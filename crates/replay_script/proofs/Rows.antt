@@ -38,7 +38,8 @@ allowed_none End = refl
 allowed_none Collect = refl
 
 names_by : (test : Bool) (name : List ℕ) (role : Role) (r : Connection) (rs : List Connection) → names (noted name role rs) ≡ entered name (names rs)
-    → names (cond test (record { name = r.name; traffic = with_role role r.traffic } ∷ rs) (r ∷ noted name role rs)) ≡ cond test (r.name ∷ names rs) (r.name ∷ entered name (names rs))
+    → names (cond test (record { name = r.name; traffic = with_role role r.traffic } ∷ rs) (r ∷ noted name role rs)) ≡ cond test (r.name ∷ names rs)
+    (r.name ∷ entered name (names rs))
 names_by true name role r rs h = refl
 names_by false name role r rs h = ap (λ ns. r.name ∷ ns) h
 
@@ -62,7 +63,8 @@ traffic_by : (test : Bool) (n name : List ℕ) (role : Role) (r : Connection) (r
     → traffic_of n (cond test (record { name = r.name; traffic = with_role role r.traffic } ∷ rs) (r ∷ noted name role rs))
     ≡ cond (bytes_eq name n) (with_role role (traffic_of n (r ∷ rs))) (traffic_of n (r ∷ rs))
 traffic_by true n name role r rs is h =
-    subst (λ w. cond (bytes_eq r.name n) (with_role role r.traffic) (traffic_of n rs) ≡ cond (bytes_eq w n) (with_role role (traffic_of n (r ∷ rs))) (traffic_of n (r ∷ rs)))
+    subst (λ w. cond (bytes_eq r.name n) (with_role role r.traffic) (traffic_of n rs) ≡ cond (bytes_eq w n) (with_role role (traffic_of n (r ∷ rs)))
+    (traffic_of n (r ∷ rs)))
     ((bytes_decides r.name name).0 is) (changed_here (bytes_eq r.name n) (with_role role) r.traffic (traffic_of n rs))
 traffic_by false n name role r rs is h =
     changed_behind (bytes_eq r.name n) (bytes_eq name n)
@@ -115,7 +117,8 @@ known_further rows past l known = record {
 }
 
 at_by : (test : Bool) (name : List ℕ) (role : Role) (r : Connection) (rs : List Connection) (row : Connection)
-    → (place_in name (names rs) < length rs → row ≡ slice_index_or rs (place_in name (names rs)) row → slice_set rs (place_in name (names rs)) (record { name = row.name; traffic = with_role role row.traffic }) ≡ noted name role rs)
+    → (place_in name (names rs) < length rs → row ≡ slice_index_or rs (place_in name (names rs)) row
+    → slice_set rs (place_in name (names rs)) (record { name = row.name; traffic = with_role role row.traffic }) ≡ noted name role rs)
     → cond test 0 (suc (place_in name (names rs))) < length (r ∷ rs) → row ≡ slice_index_or (r ∷ rs) (cond test 0 (suc (place_in name (names rs)))) row
     → slice_set (r ∷ rs) (cond test 0 (suc (place_in name (names rs)))) (record { name = row.name; traffic = with_role role row.traffic })
     ≡ cond test (record { name = r.name; traffic = with_role role r.traffic } ∷ rs) (r ∷ noted name role rs)

@@ -47,7 +47,9 @@ void_phase a = by_phase a.phase
 over_later : (c : Config) (a b : Activation) → IsLater c a b → is_over c a ≡ true → is_over c b ≡ true
 over_later c a b later over =
     elim (or_cases (is_void a) (is_finished c a) over) [
-      | inl void ↦ or_first (is_void b) (is_finished c b) (ap (λ p. elim p as (λ _. Bool) [ Void ↦ true | Begun ↦ false | Complete s ↦ false ]) (later.void (void_phase a void)))
+      | inl void ↦
+          or_first (is_void b) (is_finished c b)
+          (ap (λ p. elim p as (λ _. Bool) [ Void ↦ true | Begun ↦ false | Complete s ↦ false ]) (later.void (void_phase a void)))
       | inr finished ↦ or_second (is_void b) (is_finished c b) (later.finished finished)
     ]
 
@@ -57,9 +59,12 @@ module _ (c : Config) (run limit : ℕ) where
 
   none_begun : (past : List Entry) (e : Entry) (b : Activation) → worker_of e ≡ None → BegunBy c run past (standing c run past) e b → ⊥
   none_begun past e b none (incarnating w r n key same key_is adapter path oid phase) = (let f : Some w ≡ None = ap worker_of (sym same) ∙ none in cc)
-  none_begun past e b none (activating p servant done adapter path oid phase) = (let f : Some (Activate p servant) ≡ None = sym done ∙ none_done past e none in cc)
-  none_begun past e b none (activating_id p oid servant done adapter path oid_is phase) = (let f : Some (ActivateId p oid servant) ≡ None = sym done ∙ none_done past e none in cc)
-  none_begun past e b none (referring p servant n k done live servant_is implicit adapter path oid phase) = (let f : Some (Reference p servant) ≡ None = sym done ∙ none_done past e none in cc)
+  none_begun past e b none (activating p servant done adapter path oid phase) =
+      (let f : Some (Activate p servant) ≡ None = sym done ∙ none_done past e none in cc)
+  none_begun past e b none (activating_id p oid servant done adapter path oid_is phase) =
+      (let f : Some (ActivateId p oid servant) ≡ None = sym done ∙ none_done past e none in cc)
+  none_begun past e b none (referring p servant n k done live servant_is implicit adapter path oid phase) =
+      (let f : Some (Reference p servant) ≡ None = sym done ∙ none_done past e none in cc)
 
   over_after : (past : List Entry) (e : Entry) → worker_of e ≡ None → AreOver past → AreOver (e ∷ past)
   over_after past e none over b there =

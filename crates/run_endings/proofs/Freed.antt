@@ -35,7 +35,8 @@ module _ (g : Givens) (h : List Entry) (is : IsHistory g h) (w : ℕ) (idle : tu
   s = standing g.config g.run h
 
   manned : IsManned g.config g.run h
-  manned = all_manned g.config g.run g.limit h (given g.config g.run g.limit h is) (alone g.config g.run g.limit h is) (within g.config g.run g.limit h is) is.legal
+  manned =
+      all_manned g.config g.run g.limit h (given g.config g.run g.limit h is) (alone g.config g.run g.limit h is) (within g.config g.run g.limit h is) is.legal
 
   goes_none : (b : Stage) → stage h w ≡ b → (b ≡ Free → ⊥) → going_on g.config s w b ≡ None
   goes_none b at busy = goes_with g.config g.run g.limit h w None b idle at busy
@@ -52,12 +53,14 @@ module _ (g : Givens) (h : List Entry) (is : IsHistory g h) (w : ℕ) (idle : tu
       by_stage (Incarnating r n) at =
           (let holds : Holds h s (Incarnating r n) = subst (λ b. Holds h s b) at (manned.stages w) in
           let a = holds.2 in
-          absurd (there_is n a.0 a.1 a.2 (none_of_map (λ x. Incarnated w (brought g.config s x)) (activation_numbered s n) (goes_none (Incarnating r n) at (λ f. cc)))))
+          absurd (there_is n a.0 a.1 a.2
+          (none_of_map (λ x. Incarnated w (brought g.config s x)) (activation_numbered s n) (goes_none (Incarnating r n) at (λ f. cc)))))
       by_stage (Serving r) at = absurd (let e : Some (Run w) ≡ None = goes_none (Serving r) at (λ f. cc) in cc)
       by_stage (Ran r) at = absurd (let e : Some (Done w) ≡ None = goes_none (Ran r) at (λ f. cc) in cc)
       by_stage (Removing n) at =
           (let holds : Holds h s (Removing n) = subst (λ b. Holds h s b) at (manned.stages w) in
-          absurd (there_is n holds.0 holds.1 holds.2 (none_of_map (λ x. Etherealized w x.cleanup x.remaining) (activation_numbered s n) (goes_none (Removing n) at (λ f. cc)))))
+          absurd (there_is n holds.0 holds.1 holds.2
+          (none_of_map (λ x. Etherealized w x.cleanup x.remaining) (activation_numbered s n) (goes_none (Removing n) at (λ f. cc)))))
 
 -- nothing is given where no number below the bound gives anything
 none_given : {A : Type 0} (give : ℕ → Option A) (k : ℕ) → ((r : ℕ) → r < k → give r ≡ None) → first_given give k ≡ None
@@ -68,9 +71,12 @@ first_of : {A : Type 0} (o p : Option A) → option_or o p ≡ None → o ≡ No
 first_of None p is = refl
 first_of (Some x) p is = absurd (let e : Some x ≡ None = is in cc)
 
-module _ (g : Givens) (h : List Entry) (w : ℕ) (idle : turn g.config g.run h w ≡ None) (free : (v : ℕ) → stage h v ≡ Free) (admitted : (r : ℕ) → r < arrivals h → is_unadmitted h r ≡ false) where
+module _ (g : Givens) (h : List Entry) (w : ℕ) (idle : turn g.config g.run h w ≡ None) (free : (v : ℕ) → stage h v ≡ Free)
+    (admitted : (r : ℕ) → r < arrivals h → is_unadmitted h r ≡ false) where
   none_admitted : (v : ℕ) → admission g.config g.run h v ≡ None
-  none_admitted v = none_given (admission_of g.config g.run h v) (arrivals h) (λ r less. ap (λ b. if b then option_map (λ u. Admit v r u) (verdict g.config g.run h r v) else None) (admitted r less))
+  none_admitted v =
+      none_given (admission_of g.config g.run h v) (arrivals h)
+      (λ r less. ap (λ b. if b then option_map (λ u. Admit v r u) (verdict g.config g.run h r v) else None) (admitted r less))
 
   none_due : find (is_due g.config (standing g.config g.run h)) (standing g.config g.run h).activations ≡ None
   unfolding turn

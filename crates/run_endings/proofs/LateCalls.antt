@@ -29,7 +29,8 @@ pub left_since : (more h : List Entry) (conn : ℕ) → has_left h conn ≡ true
 left_since [] h conn left = left
 left_since (e ∷ more) h conn left = left_still e (more ++ h) conn (left_since more h conn left)
 
-module _ (c : Config) (run limit : ℕ) (h : List Entry) (left : (conn : ℕ) → 0 < conn → conn < connections h → has_left h conn ≡ true) (r conn : ℕ) (after : arrivals h ≤ r) where
+module _ (c : Config) (run limit : ℕ) (h : List Entry) (left : (conn : ℕ) → 0 < conn → conn < connections h → has_left h conn ≡ true) (r conn : ℕ)
+    (after : arrivals h ≤ r) where
   abbrev IsLate : Type 0
   IsLate = (conn ≡ 0) ⊎ (connections h ≤ conn)
 

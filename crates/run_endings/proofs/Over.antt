@@ -22,7 +22,8 @@ history_before g more h is = record {
   legal = legal_before g.config g.run g.limit (given g.config g.run g.limit (more ++ h) is) (within g.config g.run g.limit (more ++ h) is) more h is.legal;
 }
 
-pub closed_over : (g : Givens) (more h : List Entry) (worker : ℕ) → IsHistory g (more ++ h) → IsClosed g worker h → ((w : ℕ) → stage h w ≡ Free) → HasNoTurn more → IsOver g more h
+pub closed_over : (g : Givens) (more h : List Entry) (worker : ℕ) → IsHistory g (more ++ h) → IsClosed g worker h → ((w : ℕ) → stage h w ≡ Free)
+    → HasNoTurn more → IsOver g more h
 closed_over g more h worker is closed free none =
     let then_ : IsAllOver g.config g.run h = shut_ends g h (history_before g more h is) closed.shut (all_idle g h worker closed.idle free closed.admitted) in
     record {

@@ -71,13 +71,25 @@ line_is (Some (Line number (Unforward p))) is = absurd (let e : false ≡ true =
 line_is (Some (Line number (BadLine word))) is = absurd (let e : false ≡ true = is in cc)
 
 later : (e : Entry) (past : List Entry) → IsAdmitted past → IsAdmitted (e ∷ past)
-later e past it = record { more = e ∷ it.more; past = it.past; worker = it.worker; arrival = it.arrival; number = it.number; verdict = it.verdict; split = ap (λ l. e ∷ l) it.split; call = it.call }
+later e past it =
+    record {
+      more = e ∷ it.more;
+      past = it.past;
+      worker = it.worker;
+      arrival = it.arrival;
+      number = it.number;
+      verdict = it.verdict;
+      split = ap (λ l. e ∷ l) it.split;
+      call = it.call;
+    }
 
 admitted_at : (h : List Entry) → is_shut h ≡ true → IsAdmitted h
 admitted_at [] is = absurd (let e : false ≡ true = is in cc)
 admitted_at (Admit w r v ∷ past) is =
     elim (or_cases (is_shut_by (call_of past r)) (is_shut past) is) [
-      | inl now ↦ (let line = line_is (call_of past r) now in record { more = []; past = past; worker = w; arrival = r; number = line.number; verdict = v; split = refl; call = line.is })
+      | inl now ↦
+          (let line = line_is (call_of past r) now in
+          record { more = []; past = past; worker = w; arrival = r; number = line.number; verdict = v; split = refl; call = line.is })
       | inr was ↦ later (Admit w r v) past (admitted_at past was)
     ]
 admitted_at (Entered conn ∷ past) is = later (Entered conn) past (admitted_at past is)
@@ -101,7 +113,9 @@ module _ (g : Givens) (h : List Entry) (is : IsHistory g h) (shut : is_shut h �
   e = Admit it.worker it.arrival it.verdict
 
   legal_then : IsLegal g.config g.run g.limit (e ∷ it.past)
-  legal_then = legal_before g.config g.run g.limit (given g.config g.run g.limit h is) (within g.config g.run g.limit h is) it.more (e ∷ it.past) (subst (IsLegal g.config g.run g.limit) it.split is.legal)
+  legal_then =
+      legal_before g.config g.run g.limit (given g.config g.run g.limit h is) (within g.config g.run g.limit h is) it.more (e ∷ it.past)
+      (subst (IsLegal g.config g.run g.limit) it.split is.legal)
 
   abbrev s : Standing
   s = standing g.config g.run it.past
@@ -121,7 +135,8 @@ module _ (g : Givens) (h : List Entry) (is : IsHistory g h) (shut : is_shut h �
   -- the table's row of a `shutdown`
   told : with_live s [] (λ n. good) ≡ Some it.verdict
   unfolding command_verdict
-  told = ap (verdict_on g.config g.run it.past it.arrival it.worker) (sym it.call) ∙ (admission_is g.config g.run it.past it.worker it.arrival it.verdict legal_then.0).told
+  told = ap (verdict_on g.config g.run it.past it.arrival it.worker) (sym it.call)
+      ∙ (admission_is g.config g.run it.past it.worker it.arrival it.verdict legal_then.0).told
 
   -- it did destroy the root, or was refused since that was being destroyed
   abbrev IsDestroyed : Type 0
@@ -137,15 +152,19 @@ module _ (g : Givens) (h : List Entry) (is : IsHistory g h) (shut : is_shut h �
   before_this dying =
       or_second (nat_lt root.number s.count && destroys [] (command_done it.past e)) (was_destroyed g.config g.run it.past root.number [])
       (ap (was_destroyed g.config g.run it.past root.number) (sym root_path)
-      ∙ (sym (dying_is g.config g.run g.limit it.past (given g.config g.run g.limit h is) (within g.config g.run g.limit h is) legal_then.1 root root_there) ∙ dying))
+      ∙ (sym (dying_is g.config g.run g.limit it.past (given g.config g.run g.limit h is) (within g.config g.run g.limit h is) legal_then.1 root root_there)
+      ∙ dying))
 
-  by_dying : (n : Node) → node_at s.nodes [] ≡ Some n → (b : Bool) → n.dying ≡ b → (elim (if b then None else Some n) as (λ _. Option Verdict) [ Some m ↦ good | None ↦ refusal AdapterNonExistent ]) ≡ Some it.verdict → IsDestroyed
+  by_dying : (n : Node) → node_at s.nodes [] ≡ Some n → (b : Bool) → n.dying ≡ b
+      → (elim (if b then None else Some n) as (λ _. Option Verdict) [ Some m ↦ good | None ↦ refusal AdapterNonExistent ]) ≡ Some it.verdict → IsDestroyed
   by_dying n found true dying verdict_is =
       (let there = node_found s.nodes [] n found in
       before_this (ap (λ m. m.dying) (sound_then.tree.path_alone root n root_there there.0 (root_path ∙ sym there.1)) ∙ dying))
   by_dying n found false dying verdict_is = by_this (let same : Some (Answer Good) ≡ Some it.verdict = verdict_is in cc)
 
-  by_node : (o : Option Node) → node_at s.nodes [] ≡ o → (elim (elim o as (λ _. Option Node) [ Some n ↦ (if n.dying then None else Some n) | None ↦ None ]) as (λ _. Option Verdict) [ Some m ↦ good | None ↦ refusal AdapterNonExistent ]) ≡ Some it.verdict → IsDestroyed
+  by_node : (o : Option Node) → node_at s.nodes [] ≡ o
+      → (elim (elim o as (λ _. Option Node) [ Some n ↦ (if n.dying then None else Some n) | None ↦ None ]) as (λ _. Option Verdict)
+      [ Some m ↦ good | None ↦ refusal AdapterNonExistent ]) ≡ Some it.verdict → IsDestroyed
   by_node None none verdict_is = absurd (node_missing s.nodes [] none root root_there root_path)
   by_node (Some n) found verdict_is = by_dying n found n.dying refl verdict_is
 
@@ -163,7 +182,10 @@ module _ (g : Givens) (h : List Entry) (is : IsHistory g h) (shut : is_shut h �
       dying_is g.config g.run g.limit h (given g.config g.run g.limit h is) (within g.config g.run g.limit h is) is.legal n there
       ∙ (ap₂ (was_destroyed g.config g.run h) number at
       ∙ (ap (λ x. was_destroyed g.config g.run x root.number []) it.split
-      ∙ destroyed_since g.config g.run g.limit (given g.config g.run g.limit h is) (within g.config g.run g.limit h is) it.more (e ∷ it.past) root.number [] destroyed))
+      ∙ destroyed_since g.config g.run g.limit (given g.config g.run g.limit h is) (within g.config g.run g.limit h is) it.more (e ∷ it.past) root.number
+      [] destroyed))
 
   pub shut_ends : AreIdle g.config g.run h → IsAllOver g.config g.run h
-  shut_ends idle = dying_over g.config g.run g.limit (given g.config g.run g.limit h is) (alone g.config g.run g.limit h is) (within g.config g.run g.limit h is) h is.legal idle root_dying
+  shut_ends idle =
+      dying_over g.config g.run g.limit (given g.config g.run g.limit h is) (alone g.config g.run g.limit h is)
+      (within g.config g.run g.limit h is) h is.legal idle root_dying

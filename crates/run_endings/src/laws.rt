@@ -25,10 +25,12 @@ pub fn idle_workers_are_free()
 /// Where one worker has closed, no worker has begun anything, and from then on none makes an entry, the run is over for
 /// good.
 pub fn closed_runs_are_over()
-    ensures { (g : Givens) (more h : List Entry) (worker : ℕ) → IsHistory g (more ++ h) → IsClosed g worker h → ((w : ℕ) → stage h w ≡ Free) → HasNoTurn more → IsOver g more h }
+    ensures { (g : Givens) (more h : List Entry) (worker : ℕ) → IsHistory g (more ++ h) → IsClosed g worker h → ((w : ℕ) → stage h w ≡ Free)
+        → HasNoTurn more → IsOver g more h }
 {}
 
 /// Once a worker has closed, a call can still arrive only on the first connection, or on one that entered since.
 pub fn late_calls_come_on_late_connections()
-    ensures { (g : Givens) (more h : List Entry) (worker r conn : ℕ) → IsHistory g (more ++ h) → IsClosed g worker h → arrivals h ≤ r → r < arrivals (more ++ h) → conn_of (more ++ h) r ≡ Some conn → (conn ≡ 0) ⊎ (connections h ≤ conn) }
+    ensures { (g : Givens) (more h : List Entry) (worker r conn : ℕ) → IsHistory g (more ++ h) → IsClosed g worker h → arrivals h ≤ r
+        → r < arrivals (more ++ h) → conn_of (more ++ h) r ≡ Some conn → (conn ≡ 0) ⊎ (connections h ≤ conn) }
 {}

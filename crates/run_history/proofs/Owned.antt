@@ -22,12 +22,14 @@ least_passes test (suc n) r is = by_first (least test n) (λ k first. least_pass
     by_last true passes is = (let e : Some n ≡ Some r = is in let same : n ≡ r = cc in subst (λ k. test k ≡ true) same passes)
     by_last false _ is = absurd (let e : None ≡ Some r = is in cc)
 
-    by_first : (o : Option ℕ) → ((k : ℕ) → least test n ≡ Some k → test k ≡ true) → least test n ≡ o → option_or o (if test n then Some n else None) ≡ Some r → test r ≡ true
+    by_first : (o : Option ℕ) → ((k : ℕ) → least test n ≡ Some k → test k ≡ true) → least test n ≡ o → option_or o (if test n then Some n else None) ≡ Some r
+        → test r ≡ true
     by_first None passes _ is = by_last (test n) refl is
     by_first (Some k) passes first is = passes r (first ∙ is)
 
 -- a reply that is given next is asked on the connection
-next_asked : (c : Config) (run : ℕ) (whole : List Entry) (conn : ℕ) (h : List Entry) (r : ℕ) → next_within c run whole conn h ≡ Some r → is_asked whole conn r ≡ true
+next_asked : (c : Config) (run : ℕ) (whole : List Entry) (conn : ℕ) (h : List Entry) (r : ℕ) → next_within c run whole conn h ≡ Some r
+    → is_asked whole conn r ≡ true
 next_asked c run whole conn [] r is = absurd (let e : None ≡ Some r = is in cc)
 next_asked c run whole conn (e ∷ past) r is = by_past (next_within c run whole conn past) (λ k was. next_asked c run whole conn past k was) refl is
   where
@@ -80,12 +82,17 @@ module _ (c : Config) (run limit : ℕ) where
   pub next_low : (h : List Entry) → IsLegal c run limit h → (conn r : ℕ) → next_reply c run h conn ≡ Some r → conn < connections h
   next_low h legal conn r is = conn_low h legal r conn (asked_on h conn r (next_asked c run h conn h r is))
 
-  own_low : (e : Entry) (past : List Entry) → IsLegal c run limit past → MayFollow c run limit past e → (conn : ℕ) → owner_of e ≡ Some conn → conn < connections (e ∷ past)
-  own_low (Entered k) past legal may conn is = (let e : Some k ≡ Some conn = is in let same : k ≡ conn = cc in let at : k ≡ connections past = may.0 in omega (arith, same, at))
-  own_low (Arrive k size call) past legal may conn is = (let e : Some k ≡ Some conn = is in let same : k ≡ conn = cc in subst (λ n. n < connections past) same may.open_.entered)
-  own_low (Filled k size) past legal may conn is = (let e : Some k ≡ Some conn = is in let same : k ≡ conn = cc in subst (λ n. n < connections past) same may.open_.entered)
+  own_low : (e : Entry) (past : List Entry) → IsLegal c run limit past → MayFollow c run limit past e → (conn : ℕ) → owner_of e ≡ Some conn
+      → conn < connections (e ∷ past)
+  own_low (Entered k) past legal may conn is =
+      (let e : Some k ≡ Some conn = is in let same : k ≡ conn = cc in let at : k ≡ connections past = may.0 in omega (arith, same, at))
+  own_low (Arrive k size call) past legal may conn is =
+      (let e : Some k ≡ Some conn = is in let same : k ≡ conn = cc in subst (λ n. n < connections past) same may.open_.entered)
+  own_low (Filled k size) past legal may conn is =
+      (let e : Some k ≡ Some conn = is in let same : k ≡ conn = cc in subst (λ n. n < connections past) same may.open_.entered)
   own_low (Left k) past legal may conn is = (let e : Some k ≡ Some conn = is in let same : k ≡ conn = cc in subst (λ n. n < connections past) same may.entered)
-  own_low (Collect k a) past legal may conn is = (let e : Some k ≡ Some conn = is in let same : k ≡ conn = cc in subst (λ n. n < connections past) same (next_low past legal k a may))
+  own_low (Collect k a) past legal may conn is =
+      (let e : Some k ≡ Some conn = is in let same : k ≡ conn = cc in subst (λ n. n < connections past) same (next_low past legal k a may))
   own_low (Admit w r v) past legal may conn is = absurd (let e : None ≡ Some conn = is in cc)
   own_low (Tried w a) past legal may conn is = absurd (let e : None ≡ Some conn = is in cc)
   own_low (Incarnated w a) past legal may conn is = absurd (let e : None ≡ Some conn = is in cc)

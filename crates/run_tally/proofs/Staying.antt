@@ -11,19 +11,22 @@ use Rattle.run_tally.specs.Leaving.{is_staying, staying}
 -- at most all pass
 pub count_few : (p : ℕ → Bool) (n : ℕ) → count_below p n ≤ n
 count_few p zero = omega arith
-count_few p (suc n) = (let before = count_few p n in cond_both (p n) 1 0 (λ x. count_below p n + x ≤ suc n) (λ _. omega (arith, before)) (λ _. omega (arith, before)))
+count_few p (suc n) =
+    (let before = count_few p n in cond_both (p n) 1 0 (λ x. count_below p n + x ≤ suc n) (λ _. omega (arith, before)) (λ _. omega (arith, before)))
 
 pub count_same : (p q : ℕ → Bool) (n : ℕ) → ((k : ℕ) → k < n → p k ≡ q k) → count_below p n ≡ count_below q n
 count_same p q zero same = refl
 count_same p q (suc n) same = ap₂ (λ x b. x + (if b then 1 else 0)) (count_same p q n (λ k below. same k (omega (arith, below)))) (same n (omega arith))
 
 -- one of them doesn't pass any more
-pub count_less : (p q : ℕ → Bool) (x n : ℕ) → x < n → p x ≡ true → q x ≡ false → ((k : ℕ) → (x == k) ≡ false → p k ≡ q k) → count_below p n ≡ count_below q n + 1
+pub count_less : (p q : ℕ → Bool) (x n : ℕ) → x < n → p x ≡ true → q x ≡ false → ((k : ℕ) → (x == k) ≡ false → p k ≡ q k)
+    → count_below p n ≡ count_below q n + 1
 count_less p q x zero below was isn't same = absurd (omega (arith, below))
 count_less p q x (suc n) below was isn't same =
     elim (x == n) as (λ b. (x == n) ≡ b → count_below p (suc n) ≡ count_below q (suc n) + 1) [
       | true ↦ (λ at. (let here : x ≡ n = eqb-true x n at in
-          let others : count_below p n ≡ count_below q n = count_same p q n (λ k low. same k (ne_eqb x k (λ is. (let e : x ≡ k = is in absurd (omega (arith, low, here, e)))))) in
+          let others : count_below p n ≡ count_below q n =
+          count_same p q n (λ k low. same k (ne_eqb x k (λ is. (let e : x ≡ k = is in absurd (omega (arith, low, here, e)))))) in
           ap (λ b. count_below p n + (if b then 1 else 0)) (ap p (sym here) ∙ was)
           ∙ ap (λ m. m + 1) others
           ∙ sym (ap (λ b. count_below q n + (if b then 1 else 0) + 1) (ap q (sym here) ∙ isn't) ∙ sum_zero (count_below q n))))
@@ -47,8 +50,10 @@ count_near p q x zero same = omega arith
 count_near p q x (suc n) same =
     elim (x == n) as (λ b. (x == n) ≡ b → count_below p (suc n) ≤ count_below q (suc n) + 1) [
       | true ↦ (λ at. (let here : x ≡ n = eqb-true x n at in
-          let others : count_below p n ≡ count_below q n = count_same p q n (λ k low. same k (ne_eqb x k (λ is. (let e : x ≡ k = is in absurd (omega (arith, low, here, e)))))) in
-          cond_both (p n) 1 0 (λ x. count_below p n + x ≤ count_below q n + (if q n then 1 else 0) + 1) (λ _. more_one _ _ _ others) (λ _. more_none _ _ _ others)))
+          let others : count_below p n ≡ count_below q n =
+          count_same p q n (λ k low. same k (ne_eqb x k (λ is. (let e : x ≡ k = is in absurd (omega (arith, low, here, e)))))) in
+          cond_both (p n) 1 0 (λ x. count_below p n + x ≤ count_below q n + (if q n then 1 else 0) + 1) (λ _. more_one _ _ _ others)
+          (λ _. more_none _ _ _ others)))
       | false ↦ (λ other. (let before : count_below p n ≤ count_below q n + 1 = count_near p q x n same in
           ap_le (count_below p n) (count_below q n) (if p n then 1 else 0) (if q n then 1 else 0) before (ap (λ b. if b then 1 else 0) (same n other))))
     ] refl
@@ -63,7 +68,8 @@ count_near p q x (suc n) same =
     ap_le a b c d less is = omega (arith, less, is)
 
 -- one more enters, and it hasn't left
-pub staying_more : (past : List Entry) (conn s : ℕ) → conn ≡ connections past → conn < 4000000 → has_left past conn ≡ false → s ≡ staying past (connections past)
+pub staying_more : (past : List Entry) (conn s : ℕ) → conn ≡ connections past → conn < 4000000 → has_left past conn ≡ false
+    → s ≡ staying past (connections past)
     → (if conn == 0 then s else min (s + 1) (2 ^ 64 - 1)) ≡ staying (Entered conn ∷ past) (connections (Entered conn ∷ past))
 staying_more past conn s next few there is =
     let n = connections past in

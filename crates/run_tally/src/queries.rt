@@ -78,7 +78,8 @@ pub fn is_taken(limit: u64, call: &Call, size: u64, tally: &Tally) -> bool
 /// Whether nothing more can come, where so many calls are unadmitted: a `shutdown` was admitted, every
 /// connection but the first has left, and every call is admitted.
 pub fn is_run_over(tally: &Tally, unadmitted: u64) -> bool
-    ensures { (h : List Entry) → IsTally h tally.now → result ≡ (leaving.is_shut h && (leaving.are_gone h (calls.connections h) && (unadmitted == 0))) }
+    ensures { (h : List Entry) → IsTally h tally.now
+        → result ≡ (leaving.is_shut h && (leaving.are_gone h (calls.connections h) && (unadmitted == 0))) }
 {
     tally.shut && tally.staying == 0 && unadmitted == 0
 }

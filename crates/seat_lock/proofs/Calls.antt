@@ -12,7 +12,8 @@ use Rattle.seat_lock.proofs.Totals.{in_longer}
 
 -- what was made stays made
 pub in_made : {E : Type 0} (x : ℕ) (mine : List ℕ) (log new : List E) → In x mine → In x (made_by mine log new)
-in_made x mine log new i = (elim (eqb (length new) (length log)) as (λ t. In x (cond t mine (mine ++ length log ∷ []))) [ true ↦ i | false ↦ in_longer x mine (length log) i ])
+in_made x mine log new i =
+    (elim (eqb (length new) (length log)) as (λ t. In x (cond t mine (mine ++ length log ∷ []))) [ true ↦ i | false ↦ in_longer x mine (length log) i ])
 
 -- an entry stays where it is as its history grows
 pub at_prefix : {E : Type 0} (short long : List E) (x : ℕ) (e : E) → IsPrefix short long → get_elem? short x ≡ some e → get_elem? long x ≡ some e

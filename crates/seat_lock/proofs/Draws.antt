@@ -17,7 +17,8 @@ use Rattle.seat_lock.proofs.Rounds.{round_more}
 use Rattle.seat_lock.proofs.Kept.{stands_longer, holds_still, not_in_line}
 
 module _ {T G E : Type 0} (givens : T → G) (history : T → List E) (owner : E → Option ℕ) (all : G) (base : ℕ) where
-  pub draws : (n id : ℕ) (me : Me (Option T) (View G E)) → me.0.stage ≡ Idle → Allows (InOrder givens history owner all base) n id me 1 (λ k. (k + 1) % 2 ^ 64) (drew (step n 1 1 0 none) me)
+  pub draws : (n id : ℕ) (me : Me (Option T) (View G E)) → me.0.stage ≡ Idle
+      → Allows (InOrder givens history owner all base) n id me 1 (λ k. (k + 1) % 2 ^ 64) (drew (step n 1 1 0 none) me)
   draws n id me idle s r one at small =
       let next : ℕ = slice_index s.words 1 in
       let served : ℕ = slice_index s.words 0 in
@@ -39,7 +40,8 @@ module _ {T G E : Type 0} (givens : T → G) (history : T → List E) (owner : E
           line = r.line ++ id ∷ [];
           place = r.place;
           wide = omega arith;
-          next_is = there ∙ (ap (λ (z : ℕ). (z + 1) % 2 ^ 64) r.next_is ∙ (round_more served (length r.line) (2 ^ 64) ∙ ap (λ (z : ℕ). z % 2 ^ 64) (omega arith)));
+          next_is =
+              there ∙ (ap (λ (z : ℕ). (z + 1) % 2 ^ 64) r.next_is ∙ (round_more served (length r.line) (2 ^ 64) ∙ ap (λ (z : ℕ). z % 2 ^ 64) (omega arith)));
           homes_are = r.homes_are;
           holds = holds_still givens history all r.log s.views id me.0 w at (λ t. let q : holding me.0.stage ≡ 1 = ap holding t in omega arith) r.place r.holds;
           in_line = λ k j q. subst (λ (z : ℕ). Has z (set s.views id w) k j) (sym here) (⊎_elim

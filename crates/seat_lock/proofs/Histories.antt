@@ -59,7 +59,8 @@ module _ {E : Type 0} (owner : E → Option ℕ) where
   pub entering_found : (c : ℕ) (log : List E) → entering owner c log < length log → Belongs owner log (entering owner c log) c
   entering_found c [] h = absurd (omega arith)
   entering_found c (e ∷ es) h =
-      (elim (is_of c (owner e)) as (λ t. is_of c (owner e) ≡ t → cond t 0 (suc (entering owner c es)) < suc (length es) → Belongs owner (e ∷ es) (cond t 0 (suc (entering owner c es))) c) [
+      (elim (is_of c (owner e)) as (λ t. is_of c (owner e) ≡ t → cond t 0 (suc (entering owner c es)) < suc (length es)
+      → Belongs owner (e ∷ es) (cond t 0 (suc (entering owner c es))) c) [
         | true ↦ λ own _. (e, refl, is_of-same c (owner e) own)
         | false ↦ λ _ low. entering_found c es (omega arith)
       ]) refl h
@@ -68,7 +69,8 @@ module _ {E : Type 0} (owner : E → Option ℕ) where
   pub entering_stays : (c : ℕ) (log more : List E) → entering owner c log < length log → entering owner c (log ++ more) ≡ entering owner c log
   entering_stays c [] more h = absurd (omega arith)
   entering_stays c (e ∷ es) more h =
-      (elim (is_of c (owner e)) as (λ t. cond t 0 (suc (entering owner c es)) < suc (length es) → cond t 0 (suc (entering owner c (es ++ more))) ≡ cond t 0 (suc (entering owner c es))) [
+      (elim (is_of c (owner e)) as (λ t. cond t 0 (suc (entering owner c es)) < suc (length es)
+      → cond t 0 (suc (entering owner c (es ++ more))) ≡ cond t 0 (suc (entering owner c es))) [
         | true ↦ λ _. refl
         | false ↦ λ low. ap suc (entering_stays c es more (omega arith))
       ]) h
@@ -94,7 +96,8 @@ module _ {E : Type 0} (owner : E → Option ℕ) where
   belongs_longer log more x c b = (b.0, at_longer log more x b.0 b.1, b.2)
 
   -- the positions stay closed as the history gets an entry more
-  pub closed_more : (log : List E) (e : E) (mine : List ℕ) → ((x : ℕ) → In x mine → x < length log) → IsClosed owner log mine → IsClosed owner (log ++ e ∷ []) mine
+  pub closed_more : (log : List E) (e : E) (mine : List ℕ) → ((x : ℕ) → In x mine → x < length log) → IsClosed owner log mine
+      → IsClosed owner (log ++ e ∷ []) mine
   closed_more log e mine low closed x c i b = ⊎_elim
       (λ (old : get_elem? log x ≡ some b.0).
       let there = closed x c i (b.0, old, b.2) in
@@ -103,15 +106,18 @@ module _ {E : Type 0} (owner : E → Option ℕ) where
       (at_push log e b.0 x b.1)
 
   -- they stay closed with the new entry too, where that may be made
-  pub closed_push : (log : List E) (e : E) (mine : List ℕ) → ((x : ℕ) → In x mine → x < length log) → IsClosed owner log mine → MayMake owner log mine e → IsClosed owner (log ++ e ∷ []) (mine ++ length log ∷ [])
+  pub closed_push : (log : List E) (e : E) (mine : List ℕ) → ((x : ℕ) → In x mine → x < length log) → IsClosed owner log mine → MayMake owner log mine e
+      → IsClosed owner (log ++ e ∷ []) (mine ++ length log ∷ [])
   closed_push log e mine low closed may x c i b = ⊎_elim
       (λ (old : In x mine). in_longer _ mine (length log) (closed_more log e mine low closed x c old b))
       (λ (is : x ≡ length log).
       let ends : get_elem? (log ++ e ∷ []) (length log) ≡ some b.0 = subst (λ (k : ℕ). get_elem? (log ++ e ∷ []) k ≡ some b.0) is b.1 in
       let own : owner e ≡ Some c = ap owner (one_at (log ++ e ∷ []) (length log) e b.0 (at_last log e (length log) refl) ends) ∙ b.2 in
       ⊎_elim
-      (λ (none : (y : ℕ) → Belongs owner log y c → ⊥). subst (λ (k : ℕ). In k (mine ++ length log ∷ [])) (sym (entering_new c log e none own)) (in_last (length log) mine))
-      (λ (there : In (entering owner c log) mine). subst (λ (k : ℕ). In k (mine ++ length log ∷ [])) (sym (entering_stays c log (e ∷ []) (low _ there))) (in_longer _ mine (length log) there))
+      (λ (none : (y : ℕ) → Belongs owner log y c → ⊥). subst (λ (k : ℕ). In k (mine ++ length log ∷ [])) (sym (entering_new c log e none own))
+      (in_last (length log) mine))
+      (λ (there : In (entering owner c log) mine). subst (λ (k : ℕ). In k (mine ++ length log ∷ [])) (sym (entering_stays c log (e ∷ []) (low _ there)))
+      (in_longer _ mine (length log) there))
       (may c own))
       (in_added x (length log) mine i)
 

@@ -20,17 +20,20 @@ use Rattle.seat_lock.proofs.Kept.{line_short, mine_low, mine_high, made_once, ow
 
 module _ {T G E : Type 0} where
   -- the place in line of a seat that holds a ticket
-  place_of : (served : ℕ) → served < 2 ^ 64 → (log : List E) (line : List ℕ) (place : Place T) (j : ℕ) (v : View G E) (st : Stage) → holding st ≡ 1 → Stands served log line place j v st
+  place_of : (served : ℕ) → served < 2 ^ 64 → (log : List E) (line : List ℕ) (place : Place T) (j : ℕ) (v : View G E) (st : Stage) → holding st ≡ 1
+      → Stands served log line place j v st
       → (k : ℕ) × (get_elem? line k ≡ some j) × (v.ticket ≡ (served + k) % 2 ^ 64)
   place_of served small log line place j v Idle one h = absurd (omega arith)
   place_of served small log line place j v Waiting one h = h
   place_of served small log line place j v Turn one h = (0, h.0, h.1 ∙ (sym (mod-eq_of_lt small) ∙ ap (λ (z : ℕ). z % 2 ^ 64) (omega arith)))
   place_of served small log line place j v Spent one h = absurd (omega arith)
 
-  turn_of : (served : ℕ) (log : List E) (line : List ℕ) (place : Place T) (j : ℕ) (v : View G E) (st : Stage) → st ≡ Turn → Stands served log line place j v st → (v.ticket ≡ served) × (place ≡ out j) × (v.kept ≡ log)
+  turn_of : (served : ℕ) (log : List E) (line : List ℕ) (place : Place T) (j : ℕ) (v : View G E) (st : Stage) → st ≡ Turn → Stands served log line place j v st
+      → (v.ticket ≡ served) × (place ≡ out j) × (v.kept ≡ log)
   turn_of served log line place j v st e h = let t = subst (λ (x : Stage). Stands served log line place j v x) e h in (t.1, t.2, t.3)
 
-  spent_of : (served : ℕ) (log : List E) (line : List ℕ) (place : Place T) (j : ℕ) (v : View G E) (st : Stage) → st ≡ Spent → Stands served log line place j v st → (v.seen ≡ []) × (v.mine ≡ []) × (v.room ≡ 0)
+  spent_of : (served : ℕ) (log : List E) (line : List ℕ) (place : Place T) (j : ℕ) (v : View G E) (st : Stage) → st ≡ Spent
+      → Stands served log line place j v st → (v.seen ≡ []) × (v.mine ≡ []) × (v.room ≡ 0)
   spent_of served log line place j v st e h = subst (λ (x : Stage). Stands served log line place j v x) e h
 
 module _ {G E : Type 0} where
@@ -50,14 +53,17 @@ holding_one Waiting h = refl
 holding_one Turn h = refl
 holding_one Spent h = absurd (omega arith)
 
-module _ {T G E : Type 0} (givens : T → G) (history : T → List E) (owner : E → Option ℕ) (all : G) (base : ℕ) (s : State (Option T) (View G E)) (r : InOrder givens history owner all base s) where
+module _ {T G E : Type 0} (givens : T → G) (history : T → List E) (owner : E → Option ℕ) (all : G) (base : ℕ) (s : State (Option T) (View G E))
+    (r : InOrder givens history owner all base s) where
   -- no value is at home while a seat has it
   no_home : (x : T) (j : ℕ) → r.place ≡ out j → s.homes ≡ some (Some x) ∷ [] → ⊥
   no_home x j is e = let both : none ∷ [] ≡ some (Some x) ∷ [] = ap homes_at (sym is) ∙ (sym r.homes_are ∙ e) in cc
 
   -- the value at home is the one that the rule speaks of
-  home_is : (x : T) → s.homes ≡ some (Some x) ∷ [] → (p : Place T) → r.place ≡ p → Holds givens history all r.log s.views p → (history x ≡ r.log) × (givens x ≡ all)
-  home_is x e (home y) is h = let both : some (Some y) ∷ [] ≡ some (Some x) ∷ [] = ap homes_at (sym is) ∙ (sym r.homes_are ∙ e) in let same : y ≡ x = cc in subst (λ (z : T). (history z ≡ r.log) × (givens z ≡ all)) same h
+  home_is : (x : T) → s.homes ≡ some (Some x) ∷ [] → (p : Place T) → r.place ≡ p → Holds givens history all r.log s.views p → (history x ≡ r.log)
+      × (givens x ≡ all)
+  home_is x e (home y) is h = let both : some (Some y) ∷ [] ≡ some (Some x) ∷ [] = ap homes_at (sym is) ∙ (sym r.homes_are ∙ e) in let same : y ≡ x = cc in
+      subst (λ (z : T). (history z ≡ r.log) × (givens z ≡ all)) same h
   home_is x e (out j) is h = absurd (no_home x j is e)
 
   home_or_turn : (p : Place T) → r.place ≡ p → Holds givens history all r.log s.views p → (SomeTurn s.views → ⊥) → (x : T) × (s.homes ≡ some (Some x) ∷ [])
@@ -65,7 +71,8 @@ module _ {T G E : Type 0} (givens : T → G) (history : T → List E) (owner : E
   home_or_turn (out j) is h no_turn = absurd (no_turn (j, h.0, h.1, h.2))
 
   module _ (small : slice_index s.words 0 < 2 ^ 64) where
-    place_at : (j : ℕ) (v : View G E) → get_elem? s.views j ≡ some v → holding v.stage ≡ 1 → (k : ℕ) × (get_elem? r.line k ≡ some j) × (v.ticket ≡ (slice_index s.words 0 + k) % 2 ^ 64)
+    place_at : (j : ℕ) (v : View G E) → get_elem? s.views j ≡ some v → holding v.stage ≡ 1 → (k : ℕ) × (get_elem? r.line k ≡ some j)
+        × (v.ticket ≡ (slice_index s.words 0 + k) % 2 ^ 64)
     place_at j v at one = place_of (slice_index s.words 0) small r.log r.line r.place j v v.stage one (r.each j v at).stands
 
     once : (k : ℕ) → k < total tickets s.views → total (has_ticket ((slice_index s.words 0 + k) % 2 ^ 64)) s.views ≡ 1
@@ -104,7 +111,8 @@ module _ {T G E : Type 0} (givens : T → G) (history : T → List E) (owner : E
       made_is_new = λ j x v at i. (mine_low givens history owner all base s r j v at x i, mine_high givens history owner all base s r j v at x i);
       new_is_made = λ x low high. let one = r.new x low high in total_some (λ (u : View G E). times x u.mine) s.views (omega arith);
       each_closed = λ j v at. (r.each j v at).closed;
-      spent_is_empty = λ j v at spent. let e = spent_of (slice_index s.words 0) r.log r.line r.place j v v.stage spent (r.each j v at).stands in (ap holding spent, e.0, e.1, e.2);
+      spent_is_empty = λ j v at spent. let e = spent_of (slice_index s.words 0) r.log r.line r.place j v v.stage spent (r.each j v at).stands in
+          (ap holding spent, e.0, e.1, e.2);
       same_givens = λ j v at used. ((r.each j v at).knows used).0;
       home_givens = λ x e. (home_is x e r.place refl r.holds).1;
       each_owns_all = λ j v at. owns givens history owner all base s r j v at;

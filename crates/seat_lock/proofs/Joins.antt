@@ -40,7 +40,8 @@ module _ {E : Type 0} where
   ]) refl
 
   -- where the shorter history begins the longer, both begin the longer
-  pub both_begin : (a b : List E) → (length (shorter a b) ≤ length (longer a b) → IsPrefix (shorter a b) (longer a b)) → IsPrefix a (longer a b) × IsPrefix b (longer a b)
+  pub both_begin : (a b : List E) → (length (shorter a b) ≤ length (longer a b) → IsPrefix (shorter a b) (longer a b)) → IsPrefix a (longer a b)
+      × IsPrefix b (longer a b)
   both_begin a b = (elim (ltb (length a) (length b)) as (λ t. ltb (length a) (length b) ≡ t → (length (cond t a b) ≤ length (cond t b a) → IsPrefix (cond t a b) (cond t b a)) → IsPrefix a (cond t b a) × IsPrefix b (cond t b a)) [
     | true ↦ λ h p. (let l = ltb-true (length a) (length b) h in (p (omega arith), prefix_self b))
     | false ↦ λ h p. (let l = ltb-false (length a) (length b) h in (prefix_self a, p (omega arith)))
@@ -53,23 +54,49 @@ module _ {T G E : Type 0} (givens : T → G) (history : T → List E) (owner : E
   -- a seat that holds nothing changes what it knows: the line stays, and so does the value's place
   module _ (id : ℕ) (v w : View G E) (s : State (Option T) (View G E)) (r : L s) (idle : v.stage ≡ Idle) (at : get_elem? s.views id ≡ some v) where
     line_still : (k j : ℕ) → get_elem? r.line k ≡ some j → Has (slice_index s.words 0) (set s.views id w) k j
-    line_still k j q = let h = r.in_line k j q in (h.0, set_else s.views id j w (not_in_line givens history owner all base s r id v at (ap holding idle) k j q) ∙ h.1, h.2, h.3)
+    line_still k j q = let h = r.in_line k j q in
+        (h.0, set_else s.views id j w (not_in_line givens history owner all base s r id v at (ap holding idle) k j q) ∙ h.1, h.2, h.3)
 
     place_still : Holds givens history all r.log (set s.views id w) r.place
     place_still = holds_still givens history all r.log s.views id v w at (λ t. let c : Turn ≡ Idle = sym t ∙ idle in cc) r.place r.holds
 
-  module _ (served : ℕ) (log : List E) (line : List ℕ) (place : Place T) (id : ℕ) (v : View G E) (f : Fits owner all base served log line place id v) (idle : v.stage ≡ Idle) where
+  module _ (served : ℕ) (log : List E) (line : List ℕ) (place : Place T) (id : ℕ) (v : View G E) (f : Fits owner all base served log line place id v)
+      (idle : v.stage ≡ Idle) where
     used : in_use v.stage ≡ 1
     used = ap in_use idle
 
     fits_left : Fits owner all base served log line place id (left_of v)
-    fits_left = record { stands = subst (λ (st : Stage). Stands served log line place id (left_of v) st) (sym idle) tt; saw = f.saw; keeps = f.keeps; closed = f.closed; within = f.within; knows = f.knows }
+    fits_left =
+        record {
+          stands = subst (λ (st : Stage). Stands served log line place id (left_of v) st) (sym idle) tt;
+          saw = f.saw;
+          keeps = f.keeps;
+          closed = f.closed;
+          within = f.within;
+          knows = f.knows;
+        }
 
     fits_right : (j : ℕ) → Fits owner all base served log line place j (right_of v)
-    fits_right j = record { stands = tt; saw = f.saw; keeps = prefix_none log; closed = λ x c i b. absurd (omega arith); within = λ x i. absurd (omega arith); knows = λ _. f.knows used }
+    fits_right j =
+        record {
+          stands = tt;
+          saw = f.saw;
+          keeps = prefix_none log;
+          closed = λ x c i b. absurd (omega arith);
+          within = λ x i. absurd (omega arith);
+          knows = λ _. f.knows used;
+        }
 
     fits_settled : Fits owner all base served log line place id (settled v)
-    fits_settled = record { stands = subst (λ (st : Stage). Stands served log line place id (settled v) st) (sym idle) tt; saw = f.saw; keeps = prefix_none log; closed = f.closed; within = f.within; knows = f.knows }
+    fits_settled =
+        record {
+          stands = subst (λ (st : Stage). Stands served log line place id (settled v) st) (sym idle) tt;
+          saw = f.saw;
+          keeps = prefix_none log;
+          closed = f.closed;
+          within = f.within;
+          knows = f.knows;
+        }
 
     fits_both : (j : ℕ) (w : View G E) → Fits owner all base served log line place j w → Fits owner all base served log line place id (both_of v w)
     fits_both j w g = record {
@@ -84,7 +111,15 @@ module _ {T G E : Type 0} (givens : T → G) (history : T → List E) (owner : E
     }
 
   fits_spent : (served : ℕ) (log : List E) (line : List ℕ) (place : Place T) (j : ℕ) → Fits owner all base served log line place j spent_view
-  fits_spent served log line place j = record { stands = (refl, refl, refl); saw = prefix_none log; keeps = prefix_none log; closed = λ x c i b. absurd (omega arith); within = λ x i. absurd (omega arith); knows = λ u. absurd (omega arith) }
+  fits_spent served log line place j =
+      record {
+        stands = (refl, refl, refl);
+        saw = prefix_none log;
+        keeps = prefix_none log;
+        closed = λ x c i b. absurd (omega arith);
+        within = λ x i. absurd (omega arith);
+        knows = λ u. absurd (omega arith);
+      }
 
   pub splits : (id : ℕ) (v : View G E) → v.stage ≡ Idle → 0 < v.room → Splits L id v (left_of v) (right_of v)
   splits id v idle room s r at =
@@ -94,7 +129,8 @@ module _ {T G E : Type 0} (givens : T → G) (history : T → List E) (owner : E
       let vs : List (View G E) = set s.views id w in
       let f = r.each id v at in
       let made : (x : ℕ) → total (λ (u : View G E). times x u.mine) (vs ++ n ∷ []) ≡ total (λ (u : View G E). times x u.mine) s.views =
-      λ x. (let t = total_push (λ (u : View G E). times x u.mine) vs n in let e = same_total (λ (u : View G E). times x u.mine) s.views id v w at refl in omega arith) in
+      λ x. (let t = total_push (λ (u : View G E). times x u.mine) vs n in let e = same_total (λ (u : View G E). times x u.mine) s.views id v w at refl in
+      omega arith) in
       record {
         log = r.log;
         line = r.line;
@@ -104,15 +140,19 @@ module _ {T G E : Type 0} (givens : T → G) (history : T → List E) (owner : E
         homes_are = r.homes_are;
         holds = holds_longer givens history all r.log vs n r.place (place_still id v w s r idle at);
         in_line = λ k j q. let h = line_still id v w s r idle at k j q in (h.0, at_longer vs (n ∷ []) j h.0 h.1, h.2, h.3);
-        counted = let t = total_push (tickets {G = G} {E = E}) vs n in let e = same_total (tickets {G = G} {E = E}) s.views id v w at refl in let c = r.counted in omega arith;
-        whole = let t = total_push (weight {G = G} {E = E}) vs n in let e = total_set (weight {G = G} {E = E}) s.views id v w at in let c = r.whole in omega arith;
+        counted = let t = total_push (tickets {G = G} {E = E}) vs n in let e = same_total (tickets {G = G} {E = E}) s.views id v w at refl in
+            let c = r.counted in omega arith;
+        whole = let t = total_push (weight {G = G} {E = E}) vs n in let e = total_set (weight {G = G} {E = E}) s.views id v w at in let c = r.whole in
+            omega arith;
         grown = r.grown;
         old = λ x h. made x ∙ r.old x h;
         new = λ x h i. made x ∙ r.new x h i;
         future = λ x h. made x ∙ r.future x h;
         each = λ j u q. ⊎_elim
-            (λ (o : get_elem? vs j ≡ some u). each_set (λ i a. Fits owner all base served r.log r.line r.place i a) s.views id w (fits_left served r.log r.line r.place id v f idle) (λ i a _ p. r.each i a p) j u o)
-            (λ (o : (j ≡ length vs) × (n ≡ u)). subst (λ (a : View G E). Fits owner all base served r.log r.line r.place j a) o.1 (fits_right served r.log r.line r.place id v f idle j))
+            (λ (o : get_elem? vs j ≡ some u). each_set (λ i a. Fits owner all base served r.log r.line r.place i a) s.views id w
+            (fits_left served r.log r.line r.place id v f idle) (λ i a _ p. r.each i a p) j u o)
+            (λ (o : (j ≡ length vs) × (n ≡ u)). subst (λ (a : View G E). Fits owner all base served r.log r.line r.place j a) o.1
+            (fits_right served r.log r.line r.place id v f idle j))
             (at_push vs n u j q);
       }
 
@@ -130,7 +170,8 @@ module _ {T G E : Type 0} (givens : T → G) (history : T → List E) (owner : E
       let one_v : in_use v.stage ≡ 1 = ap in_use idle in
       let one_w : in_use w.stage ≡ 1 = ap in_use still in
       let made : (x : ℕ) → total (λ (u : View G E). times x u.mine) us ≡ total (λ (u : View G E). times x u.mine) s.views =
-      λ x. (let t = total_set (λ (u : View G E). times x u.mine) s.views id v b at in let e = total_set (λ (u : View G E). times x u.mine) vs other w spent_view at' in let q = times_both x v.mine w.mine in omega arith) in
+      λ x. (let t = total_set (λ (u : View G E). times x u.mine) s.views id v b at in
+      let e = total_set (λ (u : View G E). times x u.mine) vs other w spent_view at' in let q = times_both x v.mine w.mine in omega arith) in
       record {
         log = r.log;
         line = r.line;
@@ -138,16 +179,21 @@ module _ {T G E : Type 0} (givens : T → G) (history : T → List E) (owner : E
         wide = r.wide;
         next_is = r.next_is;
         homes_are = r.homes_are;
-        holds = holds_still givens history all r.log vs other w spent_view at' (λ t. let c : Turn ≡ Idle = sym t ∙ still in cc) r.place (place_still id v b s r idle at);
-        in_line = λ k j q. let h = line_still id v b s r idle at k j q in (h.0, set_else vs other j spent_view (not_in_line givens history owner all base s r other w there none_w k j q) ∙ h.1, h.2, h.3);
-        counted = same_total (tickets {G = G} {E = E}) vs other w spent_view at' (sym none_w) ∙ (same_total (tickets {G = G} {E = E}) s.views id v b at (sym none_v) ∙ r.counted);
-        whole = let t = total_set (weight {G = G} {E = E}) s.views id v b at in let e = total_set (weight {G = G} {E = E}) vs other w spent_view at' in let c = r.whole in omega arith;
+        holds = holds_still givens history all r.log vs other w spent_view at' (λ t. let c : Turn ≡ Idle = sym t ∙ still in cc) r.place
+            (place_still id v b s r idle at);
+        in_line = λ k j q. let h = line_still id v b s r idle at k j q in
+            (h.0, set_else vs other j spent_view (not_in_line givens history owner all base s r other w there none_w k j q) ∙ h.1, h.2, h.3);
+        counted = same_total (tickets {G = G} {E = E}) vs other w spent_view at' (sym none_w)
+            ∙ (same_total (tickets {G = G} {E = E}) s.views id v b at (sym none_v) ∙ r.counted);
+        whole = let t = total_set (weight {G = G} {E = E}) s.views id v b at in let e = total_set (weight {G = G} {E = E}) vs other w spent_view at' in
+            let c = r.whole in omega arith;
         grown = r.grown;
         old = λ x h. made x ∙ r.old x h;
         new = λ x h i. made x ∙ r.new x h i;
         future = λ x h. made x ∙ r.future x h;
         each = each_set (λ i a. Fits owner all base served r.log r.line r.place i a) vs other spent_view (fits_spent served r.log r.line r.place other)
-            (λ j u _ q. each_set (λ i a. Fits owner all base served r.log r.line r.place i a) s.views id b (fits_both served r.log r.line r.place id v f idle other w g) (λ i a _ p. r.each i a p) j u q);
+            (λ j u _ q. each_set (λ i a. Fits owner all base served r.log r.line r.place i a) s.views id b
+            (fits_both served r.log r.line r.place id v f idle other w g) (λ i a _ p. r.each i a p) j u q);
       }
 
   pub learns : (n id : ℕ) (me : Me (Option T) (View G E)) → me.0.stage ≡ Idle → Allows L n id me 0 (λ k. k) (learned (step n 0 0 0 none) me)
@@ -156,7 +202,8 @@ module _ {T G E : Type 0} (givens : T → G) (history : T → List E) (owner : E
       let w : View G E = settled v in
       let served : ℕ = slice_index s.words 0 in
       let f = r.each id v at in
-      let made : (x : ℕ) → total (λ (u : View G E). times x u.mine) (set s.views id w) ≡ total (λ (u : View G E). times x u.mine) s.views = λ x. same_total (λ (u : View G E). times x u.mine) s.views id v w at refl in (
+      let made : (x : ℕ) → total (λ (u : View G E). times x u.mine) (set s.views id w) ≡ total (λ (u : View G E). times x u.mine) s.views =
+      λ x. same_total (λ (u : View G E). times x u.mine) s.views id v w at refl in (
         w,
         keeps,
         tt,
@@ -175,7 +222,8 @@ module _ {T G E : Type 0} (givens : T → G) (history : T → List E) (owner : E
           old = λ x h. made x ∙ r.old x h;
           new = λ x h i. made x ∙ r.new x h i;
           future = λ x h. made x ∙ r.future x h;
-          each = each_set (λ i a. Fits owner all base served r.log r.line r.place i a) s.views id w (fits_settled served r.log r.line r.place id v f idle) (λ i a _ p. r.each i a p);
+          each = each_set (λ i a. Fits owner all base served r.log r.line r.place i a) s.views id w (fits_settled served r.log r.line r.place id v f idle)
+              (λ i a _ p. r.each i a p);
         },
         (
           refl,
@@ -203,7 +251,8 @@ module _ {T G E : Type 0} (givens : T → G) (history : T → List E) (owner : E
     new = λ y low high. absurd (omega arith);
     future = λ y h. refl;
     each = λ j v q. ⊎_elim (λ (o : get_elem? [] j ≡ some v). absurd (some-ne-none v (sym o)))
-        (λ (o : (j ≡ 0) × (first_view (givens x) (history x) ≡ v)). subst (λ (u : View G E). Fits owner (givens x) (length (history x)) (get_or words 0 0) (history x) [] (home x) j u) o.1 record {
+        (λ (o : (j ≡ 0) × (first_view (givens x) (history x) ≡ v)). subst
+        (λ (u : View G E). Fits owner (givens x) (length (history x)) (get_or words 0 0) (history x) [] (home x) j u) o.1 record {
           stands = tt;
           saw = prefix_self (history x);
           keeps = prefix_none (history x);
@@ -215,19 +264,24 @@ module _ {T G E : Type 0} (givens : T → G) (history : T → List E) (owner : E
   }
 
   -- the same where the value is known through another name, and the slots through their list
-  pub opens_with : (x key : T) → key ≡ x → (words : List ℕ) (slots : List (Option T)) → slots ≡ Some x ∷ [] → 2 ≤ length words → get_or words 0 0 ≡ 0 → get_or words 1 0 ≡ 0
+  pub opens_with : (x key : T) → key ≡ x → (words : List ℕ) (slots : List (Option T)) → slots ≡ Some x ∷ [] → 2 ≤ length words → get_or words 0 0 ≡ 0
+      → get_or words 1 0 ≡ 0
       → InOrder givens history owner (givens key) (length (history key)) (opening words slots (first_view (givens key) (history key)))
   opens_with x key e words slots is wide zero_th one_th =
-      subst (λ (l : List (Option T)). InOrder givens history owner (givens key) (length (history key)) (opening words l (first_view (givens key) (history key)))) (ap (λ (y : T). Some y ∷ []) e ∙ sym is) (opens key words wide zero_th one_th)
+      subst (λ (l : List (Option T)). InOrder givens history owner (givens key) (length (history key))
+      (opening words l (first_view (givens key) (history key)))) (ap (λ (y : T). Some y ∷ []) e ∙ sym is) (opens key words wide zero_th one_th)
 
 module _ {G E : Type 0} where
   -- what the load after a join tells
-  pub unites : (v w m n : View G E) → m ≡ both_of v w → n ≡ settled m → ((x : ℕ) → times x m.mine ≤ 1) → (length m.kept ≤ length m.seen → IsPrefix m.kept m.seen) → Unites v w n
+  pub unites : (v w m n : View G E) → m ≡ both_of v w → n ≡ settled m → ((x : ℕ) → times x m.mine ≤ 1)
+      → (length m.kept ≤ length m.seen → IsPrefix m.kept m.seen) → Unites v w n
   unites v w m n joined is once begins =
       let start : Unites v w (settled (both_of v w)) =
       (let b = both_begin v.seen w.seen (subst (λ (u : View G E). length u.kept ≤ length u.seen → IsPrefix u.kept u.seen) joined begins) in record {
         first = b.0;
         second = b.1;
-        apart = λ x. (let t = times_both x v.mine w.mine in let o : times x (v.mine ++ w.mine) ≤ 1 = subst (λ (u : View G E). times x u.mine ≤ 1) joined (once x) in omega arith);
+        apart = λ x.
+            (let t = times_both x v.mine w.mine in let o : times x (v.mine ++ w.mine) ≤ 1 = subst (λ (u : View G E). times x u.mine ≤ 1) joined (once x) in
+            omega arith);
       }) in
       subst (Unites v w) (sym (is ∙ ap settled joined)) start

@@ -25,14 +25,16 @@ holding_le Spent = omega arith
 
 module _ {T G E : Type 0} where
   -- a place in line stays what it is as the line grows
-  pub stands_longer : (served : ℕ) (log : List E) (line more : List ℕ) (place : Place T) (j : ℕ) (v : View G E) (st : Stage) → Stands served log line place j v st → Stands served log (line ++ more) place j v st
+  pub stands_longer : (served : ℕ) (log : List E) (line more : List ℕ) (place : Place T) (j : ℕ) (v : View G E) (st : Stage)
+      → Stands served log line place j v st → Stands served log (line ++ more) place j v st
   stands_longer served log line more place j v Idle h = tt
   stands_longer served log line more place j v Waiting h = (h.0, at_longer line more h.0 j h.1, h.2)
   stands_longer served log line more place j v Turn h = (at_longer line more 0 j h.0, h.1, h.2, h.3)
   stands_longer served log line more place j v Spent h = h
 
   -- a spent seat made nothing
-  pub spent_mine : (served : ℕ) (log : List E) (line : List ℕ) (place : Place T) (j : ℕ) (v : View G E) (st : Stage) → in_use st ≡ 0 → Stands served log line place j v st → v.mine ≡ []
+  pub spent_mine : (served : ℕ) (log : List E) (line : List ℕ) (place : Place T) (j : ℕ) (v : View G E) (st : Stage) → in_use st ≡ 0
+      → Stands served log line place j v st → v.mine ≡ []
   spent_mine served log line place j v Idle z h = absurd (omega arith)
   spent_mine served log line place j v Waiting z h = absurd (omega arith)
   spent_mine served log line place j v Turn z h = absurd (omega arith)
@@ -40,18 +42,22 @@ module _ {T G E : Type 0} where
 
 module _ {T G E : Type 0} (givens : T → G) (history : T → List E) (all : G) (log : List E) (views : List (View G E)) where
   -- the value stays where it is as a seat without it changes
-  pub holds_still : (id : ℕ) (v w : View G E) → get_elem? views id ≡ some v → v.stage ≢ Turn → (place : Place T) → Holds givens history all log views place → Holds givens history all log (set views id w) place
+  pub holds_still : (id : ℕ) (v w : View G E) → get_elem? views id ≡ some v → v.stage ≢ Turn → (place : Place T) → Holds givens history all log views place
+      → Holds givens history all log (set views id w) place
   holds_still id v w at not (home x) h = h
-  holds_still id v w at not (out j) h = (h.0, set_else views id j w (λ e. not (subst (λ (u : View G E). u.stage ≡ Turn) (one_at views id h.0 v (subst (λ (z : ℕ). get_elem? views z ≡ some h.0) e h.1) at) h.2)) ∙ h.1, h.2)
+  holds_still id v w at not (out j) h =
+      (h.0, set_else views id j w (λ e. not (subst (λ (u : View G E). u.stage ≡ Turn) (one_at views id h.0 v (subst (λ (z : ℕ). get_elem? views z ≡ some h.0) e h.1) at) h.2)) ∙ h.1, h.2)
 
   pub holds_longer : (w : View G E) (place : Place T) → Holds givens history all log views place → Holds givens history all log (views ++ w ∷ []) place
   holds_longer w (home x) h = h
   holds_longer w (out j) h = (h.0, at_longer views (w ∷ []) j h.0 h.1, h.2)
 
-module _ {T G E : Type 0} (givens : T → G) (history : T → List E) (owner : E → Option ℕ) (all : G) (base : ℕ) (s : State (Option T) (View G E)) (r : InOrder givens history owner all base s) where
+module _ {T G E : Type 0} (givens : T → G) (history : T → List E) (owner : E → Option ℕ) (all : G) (base : ℕ) (s : State (Option T) (View G E))
+    (r : InOrder givens history owner all base s) where
   -- fewer tickets than numbers
   pub line_short : length r.line ≤ 1025
-  line_short = let h = total_le (tickets {G = G} {E = E}) weight (λ v. let l = holding_le v.stage in omega arith) s.views in let c = r.counted in let w = r.whole in omega arith
+  line_short = let h = total_le (tickets {G = G} {E = E}) weight (λ v. let l = holding_le v.stage in omega arith) s.views in let c = r.counted in
+      let w = r.whole in omega arith
 
   -- no entry was made twice
   pub made_once : (x : ℕ) → total (λ (u : View G E). times x u.mine) s.views ≤ 1
@@ -69,7 +75,9 @@ module _ {T G E : Type 0} (givens : T → G) (history : T → List E) (owner : E
         omega arith
 
     pub mine_low : (x : ℕ) → In x v.mine → base ≤ x
-    mine_low x i = dite (dec_le base x) (λ h. h) (λ h. let t = total_at (λ (u : View G E). times x u.mine) s.views j v at in let z = r.old x (lt_of_not-le h) in absurd (omega arith))
+    mine_low x i =
+        dite (dec_le base x) (λ h. h)
+        (λ h. let t = total_at (λ (u : View G E). times x u.mine) s.views j v at in let z = r.old x (lt_of_not-le h) in absurd (omega arith))
 
     pub mine_high : (x : ℕ) → In x v.mine → x < length r.log
     mine_high x i = let f = r.each j v at in let h = f.within x i in let p = prefix_below v.seen r.log f.saw in omega arith

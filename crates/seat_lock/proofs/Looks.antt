@@ -22,11 +22,13 @@ use Rattle.seat_lock.proofs.Kept.{line_short, knows_all}
 
 module _ {T G E : Type 0} where
   -- where the seat waits, its place in line
-  place_in_line : (served : ℕ) (log : List E) (line : List ℕ) (place : Place T) (j : ℕ) (v : View G E) (st : Stage) → st ≡ Waiting → Stands served log line place j v st → (k : ℕ) × (get_elem? line k ≡ some j) × (v.ticket ≡ (served + k) % 2 ^ 64)
+  place_in_line : (served : ℕ) (log : List E) (line : List ℕ) (place : Place T) (j : ℕ) (v : View G E) (st : Stage) → st ≡ Waiting
+      → Stands served log line place j v st → (k : ℕ) × (get_elem? line k ≡ some j) × (v.ticket ≡ (served + k) % 2 ^ 64)
   place_in_line served log line place j v st e h = subst (λ (x : Stage). Stands served log line place j v x) e h
 
   -- what the other seats' stages say, once the value is out with the first in line
-  stands_out : (served : ℕ) (log : List E) (line : List ℕ) (x : T) (id j : ℕ) (v : View G E) (st : Stage) → Stands served log line (home x) j v st → Stands {T = T} served log line (out id) j v st
+  stands_out : (served : ℕ) (log : List E) (line : List ℕ) (x : T) (id j : ℕ) (v : View G E) (st : Stage) → Stands served log line (home x) j v st
+      → Stands {T = T} served log line (out id) j v st
   stands_out served log line x id j v Idle h = tt
   stands_out served log line x id j v Waiting h = h
   stands_out served log line x id j v Turn h = let e = h.2 in cc
@@ -40,7 +42,8 @@ module _ {T G E : Type 0} (givens : T → G) (history : T → List E) (owner : E
   Hit s id v x = L record { words = s.words; homes = none ∷ []; views = set s.views id (turned_to v (slice_index s.words 0) (history x)) }
 
   -- the first in line finds the value at home, and takes it
-  hits : (id : ℕ) (v : View G E) (s : State (Option T) (View G E)) (r : L s) → v.stage ≡ Waiting → get_elem? s.views id ≡ some v → slice_index s.words 0 ≡ v.ticket
+  hits : (id : ℕ) (v : View G E) (s : State (Option T) (View G E)) (r : L s) → v.stage ≡ Waiting → get_elem? s.views id ≡ some v
+      → slice_index s.words 0 ≡ v.ticket
       → get_elem? r.line 0 ≡ some id → (x : T) → r.place ≡ home x → (history x ≡ r.log) × (givens x ≡ all) → Hit s id v x × Taken givens history owner v x
   hits id v s r waits at mine first x at_home lies =
       let served : ℕ = slice_index s.words 0 in
@@ -96,7 +99,8 @@ module _ {T G E : Type 0} (givens : T → G) (history : T → List E) (owner : E
       × looked givens history owner (step n 0 0 0 none) me (slice_index s.words 0) (w, carried_after me.1 a)
 
   -- its ticket is served: the value can't be out with another seat, which would be first in line too
-  hit_at : (n id : ℕ) (me : Me (Option T) (View G E)) (s : State (Option T) (View G E)) (r : L s) → me.0.stage ≡ Waiting → get_elem? s.views id ≡ some me.0 → slice_index s.words 0 ≡ me.0.ticket
+  hit_at : (n id : ℕ) (me : Me (Option T) (View G E)) (s : State (Option T) (View G E)) (r : L s) → me.0.stage ≡ Waiting → get_elem? s.views id ≡ some me.0
+      → slice_index s.words 0 ≡ me.0.ticket
       → get_elem? r.line 0 ≡ some id → (p : Place T) → r.place ≡ p → Holds givens history all r.log s.views p → Looks n id me s
   hit_at n id me s r waits at mine first (home x) is lies =
       let served : ℕ = slice_index s.words 0 in
@@ -106,18 +110,21 @@ module _ {T G E : Type 0} (givens : T → G) (history : T → List E) (owner : E
         w,
         takes 0 (Some x),
         subst (λ (hs : List (maybe.Option (Option T))). get_elem? hs 0 ≡ some (some (Some x))) (sym homes) refl,
-        subst (λ (hs : List (maybe.Option (Option T))). L record { words = set s.words 0 served; homes = hs; views = set s.views id w }) (sym (ap (λ (hs : List (maybe.Option (Option T))). set hs 0 none) homes))
+        subst (λ (hs : List (maybe.Option (Option T))). L record { words = set s.words 0 served; homes = hs; views = set s.views id w })
+            (sym (ap (λ (hs : List (maybe.Option (Option T))). set hs 0 none) homes))
             (subst (λ (ws : List ℕ). L record { words = ws; homes = none ∷ []; views = set s.views id w }) (sym (set_self s.words 0)) hit.0),
         ((λ _. (x, refl, hit.1)), (λ miss. absurd (miss mine))),
       )
   hit_at n id me s r waits at mine first (out j) is lies =
       let g = r.each j lies.0 lies.1 in
-      let turn : Stands (slice_index s.words 0) r.log r.line r.place j lies.0 Turn = subst (λ (st : Stage). Stands (slice_index s.words 0) r.log r.line r.place j lies.0 st) lies.2 g.stands in
+      let turn : Stands (slice_index s.words 0) r.log r.line r.place j lies.0 Turn =
+      subst (λ (st : Stage). Stands (slice_index s.words 0) r.log r.line r.place j lies.0 st) lies.2 g.stands in
       let same : j ≡ id = one_at r.line 0 j id turn.0 first in
       let still : lies.0 ≡ me.0 = one_at s.views id lies.0 me.0 (subst (λ (z : ℕ). get_elem? s.views z ≡ some lies.0) same lies.1) at in
       let clash : Turn ≡ Waiting = sym lies.2 ∙ (ap (λ (u : View G E). u.stage) still ∙ waits) in cc
 
-  pub looks : (n id : ℕ) (me : Me (Option T) (View G E)) → me.0.stage ≡ Waiting → Allows L n id me 0 (λ k. k) (looked givens history owner (step n 0 0 0 none) me)
+  pub looks : (n id : ℕ) (me : Me (Option T) (View G E)) → me.0.stage ≡ Waiting
+      → Allows L n id me 0 (λ k. k) (looked givens history owner (step n 0 0 0 none) me)
   looks n id me waits s r one at small =
       let served : ℕ = slice_index s.words 0 in
       let p = place_in_line served r.log r.line r.place id me.0 me.0.stage waits (r.each id me.0 at).stands in

@@ -32,7 +32,8 @@ record Grows {E : Type 0} (owner : E → Option ℕ) (log new : List E) (mine mo
   own : IsClosed owner new more
 
 module _ {E : Type 0} (owner : E → Option ℕ) where
-  grows : (log mine_kept new : List E) (mine : List ℕ) → mine_kept ≡ log → ((x : ℕ) → In x mine → x < length log) → IsClosed owner log mine → MayPut owner mine_kept mine new → Grows owner log new mine (made_by mine mine_kept new)
+  grows : (log mine_kept new : List E) (mine : List ℕ) → mine_kept ≡ log → ((x : ℕ) → In x mine → x < length log) → IsClosed owner log mine
+      → MayPut owner mine_kept mine new → Grows owner log new mine (made_by mine mine_kept new)
   grows log kept new mine is low closed may = ⊎_elim
       (λ (same : new ≡ kept).
       let still : new ≡ log = same ∙ is in
@@ -64,8 +65,12 @@ module _ {E : Type 0} (owner : E → Option ℕ) where
       }))
       may
 
-  made_below : (mine : List ℕ) (log new : List E) (more : List ℕ) → Grows owner log new mine more → ((x : ℕ) → In x mine → x < length log) → (x : ℕ) → In x more → x < length new
-  made_below mine log new more g low x i = dite (dec_le (length new) x) (λ far. let m = g.beyond x far in let b = low x (omega arith) in let p = prefix_below log new g.begins in absurd (omega arith)) (λ near. lt_of_not-le near)
+  made_below : (mine : List ℕ) (log new : List E) (more : List ℕ) → Grows owner log new mine more → ((x : ℕ) → In x mine → x < length log) → (x : ℕ) → In x more
+      → x < length new
+  made_below mine log new more g low x i =
+      dite (dec_le (length new) x)
+      (λ far. let m = g.beyond x far in let b = low x (omega arith) in let p = prefix_below log new g.begins in absurd (omega arith))
+      (λ near. lt_of_not-le near)
 
 -- a place behind the first is one nearer once the first is gone
 nearer : (served : ℕ) (first : ℕ) (others : List ℕ) (j t : ℕ) → j ≢ first → (k : ℕ) → get_elem? (first ∷ others) k ≡ some j → t ≡ (served + k) % 2 ^ 64
@@ -92,7 +97,8 @@ module _ {T G E : Type 0} (givens : T → G) (history : T → List E) (owner : E
   L = InOrder givens history owner all base
 
   -- the words and views after the first in line has put x back
-  puts : (id : ℕ) (v : View G E) (x : T) (s : State (Option T) (View G E)) (r : L s) → v.stage ≡ Turn → v.givens ≡ Some (givens x) → get_elem? s.views id ≡ some v → slice_index s.words 0 < 2 ^ 64
+  puts : (id : ℕ) (v : View G E) (x : T) (s : State (Option T) (View G E)) (r : L s) → v.stage ≡ Turn → v.givens ≡ Some (givens x)
+      → get_elem? s.views id ≡ some v → slice_index s.words 0 < 2 ^ 64
       → Grows owner r.log (history x) v.mine (made_by v.mine v.kept (history x)) → (others : List ℕ) → r.line ≡ id ∷ others → v.ticket ≡ slice_index s.words 0
       → L record { words = set s.words 0 ((slice_index s.words 0 + 1) % 2 ^ 64); homes = some (Some x) ∷ []; views = set s.views id (passed_on v (history x)) }
   puts id v x s r turn gave at small g others is ticket =
@@ -108,7 +114,8 @@ module _ {T G E : Type 0} (givens : T → G) (history : T → List E) (owner : E
       let used : in_use v.stage ≡ 1 = ap in_use turn in
       let f = r.each id v at in
       let below : length r.log ≤ length h = prefix_below r.log h g.begins in
-      let sum : (y : ℕ) → total (λ (u : View G E). times y u.mine) (set s.views id w) + times y v.mine ≡ total (λ (u : View G E). times y u.mine) s.views + times y w.mine = λ y. total_set (λ (u : View G E). times y u.mine) s.views id v w at in
+      let sum : (y : ℕ) → total (λ (u : View G E). times y u.mine) (set s.views id w) + times y v.mine ≡ total
+      (λ (u : View G E). times y u.mine) s.views + times y w.mine = λ y. total_set (λ (u : View G E). times y u.mine) s.views id v w at in
       let F : ℕ → ℕ → View G E → Type 0 = λ z j u. Fits owner all base z h others (home x) j u in
       let with_givens : Some (givens x) ≡ Some all = sym gave ∙ (f.knows used).0 in
       record {
@@ -116,7 +123,10 @@ module _ {T G E : Type 0} (givens : T → G) (history : T → List E) (owner : E
         line = others;
         place = home x;
         wide = let l = length-set s.words 0 next in let wide = r.wide in omega arith;
-        next_is = there ∙ (r.next_is ∙ (ap (λ (z : ℕ). (served + z) % 2 ^ 64) long ∙ (sym (round_next served (length others) (2 ^ 64)) ∙ ap (λ (z : ℕ). (z + length others) % 2 ^ 64) (sym here))));
+        next_is =
+            there ∙ (r.next_is
+            ∙ (ap (λ (z : ℕ). (served + z) % 2 ^ 64) long
+            ∙ (sym (round_next served (length others) (2 ^ 64)) ∙ ap (λ (z : ℕ). (z + length others) % 2 ^ 64) (sym here))));
         homes_are = refl;
         holds = (refl, (let q : givens x ≡ all = cc in q));
         in_line = λ k j q. subst (λ (z : ℕ). Has z (set s.views id w) k j) (sym here) (
@@ -134,7 +144,8 @@ module _ {T G E : Type 0} (givens : T → G) (history : T → List E) (owner : E
         old = λ y low. let t = sum y in let o = r.old y low in let l = r.grown in let m = g.same y (omega arith) in omega arith;
         new = λ y low high. let t = sum y in dite (dec_le (length r.log) y)
             (λ end.
-            let is_end : y ≡ length r.log = ⊎_elim (λ (e : length h ≡ length r.log). absurd (omega arith)) (λ (e : length h ≡ length r.log + 1). omega arith) g.longer in
+            let is_end : y ≡ length r.log =
+            ⊎_elim (λ (e : length h ≡ length r.log). absurd (omega arith)) (λ (e : length h ≡ length r.log + 1). omega arith) g.longer in
             let o = r.future y end in
             let m = g.last (omega arith) in
             let m' : times y w.mine ≡ times y v.mine + 1 = subst (λ (z : ℕ). times z w.mine ≡ times z v.mine + 1) (sym is_end) m in omega arith)
@@ -146,11 +157,14 @@ module _ {T G E : Type 0} (givens : T → G) (history : T → List E) (owner : E
               saw = prefix_self h;
               keeps = prefix_none h;
               closed = g.own;
-              within = λ y i. made_below owner v.mine r.log h (made_by v.mine v.kept h) g (λ z low. let b = f.within z low in let p = prefix_below v.seen r.log f.saw in omega arith) y i;
+              within =
+                  λ y i. made_below owner v.mine r.log h (made_by v.mine v.kept h) g
+                  (λ z low. let b = f.within z low in let p = prefix_below v.seen r.log f.saw in omega arith) y i;
               knows = λ _. f.knows used;
             }
             (λ i a n p. let k = r.each i a p in record {
-              stands = stands_home served r.log h id others r.place x i a a.stage n (subst (λ (l : List ℕ). Stands served r.log l r.place i a a.stage) is k.stands);
+              stands =
+                  stands_home served r.log h id others r.place x i a a.stage n (subst (λ (l : List ℕ). Stands served r.log l r.place i a a.stage) is k.stands);
               saw = prefix_through a.seen r.log h k.saw g.begins;
               keeps = prefix_through a.kept r.log h k.keeps g.begins;
               closed = g.others a.mine (λ z low. let b = k.within z low in let p = prefix_below a.seen r.log k.saw in omega arith) k.closed;
@@ -159,7 +173,8 @@ module _ {T G E : Type 0} (givens : T → G) (history : T → List E) (owner : E
             }) j u q);
       }
 
-  passes : (n id : ℕ) (me : Me (Option T) (View G E)) (x : T) → me.1 ≡ (0, Some x) ∷ [] → me.0.stage ≡ Turn → me.0.givens ≡ Some (givens x) → MayPut owner me.0.kept me.0.mine (history x)
+  passes : (n id : ℕ) (me : Me (Option T) (View G E)) (x : T) → me.1 ≡ (0, Some x) ∷ [] → me.0.stage ≡ Turn → me.0.givens ≡ Some (givens x)
+      → MayPut owner me.0.kept me.0.mine (history x)
       → Allows L n id me 0 (λ k. (k + 1) % 2 ^ 64) (passed givens history owner (step n 0 1 0 none) me)
   unfolding puts
   passes n id me x held turn gave may s r one at small =
@@ -179,14 +194,18 @@ module _ {T G E : Type 0} (givens : T → G) (history : T → List E) (owner : E
         gives,
         tt,
         subst (λ (c : List (ℕ × Option T)). L record { words = set s.words 0 next; homes = put_back s.homes c; views = set s.views id w }) (sym held)
-            (subst (λ (hs : List (maybe.Option (Option T))). L record { words = set s.words 0 next; homes = hs; views = set s.views id w }) (sym back) home_again),
+            (subst (λ (hs : List (maybe.Option (Option T))). L record { words = set s.words 0 next; homes = hs; views = set s.views id w })
+            (sym back) home_again),
         (x, held, ap (λ (c : List (ℕ × Option T)). (w, rest c)) held, knows),
       )
 
   -- the same where the seat before the step is known by an equation
-  pub passes_after : (n id : ℕ) (v : View G E) (me : Me (Option T) (View G E)) (x : T) → me ≡ (v, (0, Some x) ∷ []) → v.stage ≡ Turn → v.givens ≡ Some (givens x) → MayPut owner v.kept v.mine (history x)
+  pub passes_after : (n id : ℕ) (v : View G E) (me : Me (Option T) (View G E)) (x : T) → me ≡ (v, (0, Some x) ∷ []) → v.stage ≡ Turn
+      → v.givens ≡ Some (givens x) → MayPut owner v.kept v.mine (history x)
       → Allows L n id me 0 (λ k. (k + 1) % 2 ^ 64) (passed givens history owner (step n 0 1 0 none) me)
-  passes_after n id v me x is turn gave may = subst (λ (m : Me (Option T) (View G E)). Allows L n id m 0 (λ k. (k + 1) % 2 ^ 64) (passed givens history owner (step n 0 1 0 none) m)) (sym is) (passes n id (v, (0, Some x) ∷ []) x refl turn gave may)
+  passes_after n id v me x is turn gave may =
+      subst (λ (m : Me (Option T) (View G E)). Allows L n id m 0 (λ k. (k + 1) % 2 ^ 64) (passed givens history owner (step n 0 1 0 none) m)) (sym is)
+      (passes n id (v, (0, Some x) ∷ []) x refl turn gave may)
 
 module _ {G E : Type 0} where
   -- what a put adds to the positions that the seat made

@@ -16,7 +16,8 @@ round_one : (a j k m : ℕ) → j < m → k < m → j ≤ k → (a + j) % m ≡ 
 round_one a j k m hj hk le e = let h : a + j ≡ a + k = one_turn (a + j) (a + k) m (omega arith) (omega arith) e in omega arith
 
 pub round_same : (a j k m : ℕ) → j < m → k < m → (a + j) % m ≡ (a + k) % m → j ≡ k
-round_same a j k m hj hk e = dite (dec_le j k) (λ le. round_one a j k m hj hk le e) (λ n. sym (round_one a k j m hk hj (let l = lt_of_not-le n in omega arith) (sym e)))
+round_same a j k m hj hk e =
+    dite (dec_le j k) (λ le. round_one a j k m hj hk le e) (λ n. sym (round_one a k j m hk hj (let l = lt_of_not-le n in omega arith) (sym e)))
 
 -- a distance below m that ends where it began is none
 pub round_first : (a k m : ℕ) → a < m → k < m → (a + k) % m ≡ a → k ≡ 0

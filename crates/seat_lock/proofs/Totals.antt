@@ -34,7 +34,8 @@ module _ {A : Type 0} where
   at_rest (x ∷ xs) a e = (xs, λ i. some-injective x a e i ∷ xs)
 
   -- what holds of each element still does once one of them is changed
-  pub each_set : (F : ℕ → A → Type 0) (l : List A) (i : ℕ) (w : A) → F i w → ((j : ℕ) (v : A) → j ≢ i → get_elem? l j ≡ some v → F j v) → (j : ℕ) (v : A) → get_elem? (set l i w) j ≡ some v → F j v
+  pub each_set : (F : ℕ → A → Type 0) (l : List A) (i : ℕ) (w : A) → F i w → ((j : ℕ) (v : A) → j ≢ i → get_elem? l j ≡ some v → F j v) → (j : ℕ) (v : A)
+      → get_elem? (set l i w) j ≡ some v → F j v
   each_set F l i w here there j v e = ⊎_elim
       (λ (h : (j ≡ i) × (w ≡ v)). subst (λ (k : ℕ). F k v) (sym h.0) (subst (F i) h.1 here))
       (λ (h : (j ≢ i) × (get_elem? l j ≡ some v)). there j v h.0 h.1) (at_set l i j w v e)
@@ -78,10 +79,13 @@ module _ {A : Type 0} where
     total_none (x ∷ xs) h = let z = h 0 x refl in let t = total_none xs (λ i a e. h (suc i) a e) in omega arith
 
     -- one element counts 1, and no other counts
-    pub total_one : (l : List A) (j : ℕ) (v : A) → get_elem? l j ≡ some v → f v ≡ 1 → ((i : ℕ) (a : A) → get_elem? l i ≡ some a → i ≢ j → f a ≡ 0) → total f l ≡ 1
+    pub total_one : (l : List A) (j : ℕ) (v : A) → get_elem? l j ≡ some v → f v ≡ 1 → ((i : ℕ) (a : A) → get_elem? l i ≡ some a → i ≢ j → f a ≡ 0)
+        → total f l ≡ 1
     total_one [] j v e one h = absurd (some-ne-none v (sym e))
-    total_one (x ∷ xs) zero v e one h = let q : f x ≡ f v = ap f (some-injective x v e) in let t = total_none xs (λ i a at. h (suc i) a at (λ z. omega arith)) in omega arith
-    total_one (x ∷ xs) (suc j) v e one h = let z = h 0 x refl (λ q. omega arith) in let t = total_one xs j v e one (λ i a at n. h (suc i) a at (λ q. n (omega arith))) in omega arith
+    total_one (x ∷ xs) zero v e one h = let q : f x ≡ f v = ap f (some-injective x v e) in
+        let t = total_none xs (λ i a at. h (suc i) a at (λ z. omega arith)) in omega arith
+    total_one (x ∷ xs) (suc j) v e one h = let z = h 0 x refl (λ q. omega arith) in
+        let t = total_one xs j v e one (λ i a at n. h (suc i) a at (λ q. n (omega arith))) in omega arith
 
   pub total_le : (f g : A → ℕ) → ((a : A) → f a ≤ g a) → (l : List A) → total f l ≤ total g l
   total_le f g h [] = omega arith

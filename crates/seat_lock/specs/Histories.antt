@@ -43,7 +43,8 @@ module _ {E : Type 0} (owner : E → Option ℕ) where
   abbrev pub OwnsAll : List E → List ℕ → Type 0
   OwnsAll log mine = (x c : ℕ) → Belongs log x c → In (entering c log) mine → In x mine
 
-  -- who made the entries at these positions may make this one: of no connection, of one that has no entry yet, or of one whose entering entry it made
+  -- who made the entries at these positions may make this one: of no connection, of one that has no entry yet, or of one whose entering
+  -- entry it made
   abbrev pub MayMake : List E → List ℕ → E → Type 0
   MayMake log mine e = (c : ℕ) → owner e ≡ Some c → ((x : ℕ) → Belongs log x c → ⊥) ⊎ In (entering c log) mine
 

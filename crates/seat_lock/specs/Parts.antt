@@ -17,7 +17,8 @@ module _ {G E : Type 0} where
   abbrev pub SomeTurn : List (View G E) → Type 0
   SomeTurn views = (j : ℕ) × (v : View G E) × (get_elem? views j ≡ some v) × (v.stage ≡ Turn)
 
-module _ {T G E : Type 0} (givens : T → G) (history : T → List E) (owner : E → Option ℕ) (all : G) (base : ℕ) (s : State (Option T) (View G E)) where
+module _ {T G E : Type 0} (givens : T → G) (history : T → List E) (owner : E → Option ℕ) (all : G) (base : ℕ)
+    (s : State (Option T) (View G E)) where
   -- the one history: of the value where that is home, and else the one that the view with the turn keeps
   pub record IsHistory (log : List E) : Type 0 where
     pub at_home : (x : T) → s.homes ≡ some (Some x) ∷ [] → history x ≡ log
@@ -29,7 +30,8 @@ module _ {T G E : Type 0} (givens : T → G) (history : T → List E) (owner : E
     -- the next ticket is the served number plus the number of views with a ticket
     pub next_ticket : slice_index s.words 1 ≡ (slice_index s.words 0 + total tickets s.views) % 2 ^ 64
     -- the tickets are the numbers from the served one to below the next one, each in exactly one view
-    pub tickets_between : (j : ℕ) (v : View G E) → get_elem? s.views j ≡ some v → holding v.stage ≡ 1 → (k : ℕ) × (k < total tickets s.views) × (v.ticket ≡ (slice_index s.words 0 + k) % 2 ^ 64)
+    pub tickets_between : (j : ℕ) (v : View G E) → get_elem? s.views j ≡ some v → holding v.stage ≡ 1 → (k : ℕ)
+        × (k < total tickets s.views) × (v.ticket ≡ (slice_index s.words 0 + k) % 2 ^ 64)
     pub tickets_once : (k : ℕ) → k < total tickets s.views → total (has_ticket ((slice_index s.words 0 + k) % 2 ^ 64)) s.views ≡ 1
     -- the views that aren't spent and the rooms are 1,025 together
     pub rooms : total weight s.views ≡ 1025
@@ -47,7 +49,8 @@ module _ {T G E : Type 0} (givens : T → G) (history : T → List E) (owner : E
     -- who made an entry of a connection made its entering entry
     pub each_closed : (j : ℕ) (v : View G E) → get_elem? s.views j ≡ some v → IsClosed owner log v.mine
     -- a spent view has nothing; it holds no ticket
-    pub spent_is_empty : (j : ℕ) (v : View G E) → get_elem? s.views j ≡ some v → v.stage ≡ Spent → (holding v.stage ≡ 0) × (v.seen ≡ []) × (v.mine ≡ []) × (v.room ≡ 0)
+    pub spent_is_empty : (j : ℕ) (v : View G E) → get_elem? s.views j ≡ some v → v.stage ≡ Spent → (holding v.stage ≡ 0) × (v.seen ≡ [])
+        × (v.mine ≡ []) × (v.room ≡ 0)
     -- all others have the givens of the first value, and so has the value at home
     pub same_givens : (j : ℕ) (v : View G E) → get_elem? s.views j ≡ some v → in_use v.stage ≡ 1 → v.givens ≡ Some all
     pub home_givens : (x : T) → s.homes ≡ some (Some x) ∷ [] → givens x ≡ all

@@ -1,5 +1,7 @@
--- The rule between any two steps of the lock. Word 0 is the number that is served, word 1 the next ticket; the slot has the value, or the seat that has the turn does.
--- `line` is the seats that hold tickets, in their order. So each ticket is the served number and its place in line, and a step adds a seat at the end or takes the first one away.
+-- The rule between any two steps of the lock. Word 0 is the number that is served, word 1 the next ticket; the slot has the value, or the
+-- seat that has the turn does.
+-- `line` is the seats that hold tickets, in their order. So each ticket is the served number and its place in line, and a step adds a seat
+-- at the end or takes the first one away.
 use Rattle.std.specs.Prelude.{◌≡◌, ℕ, ◌+◌, ◌%◌, ◌^◌, ◌<◌, ◌≤◌, List, [], ◌∷◌, length, Option, Some, slice_index}
 use mathlib.Core.Option.{some, none}
 use mathlib.Core.Option as maybe
@@ -40,7 +42,8 @@ module _ {T G E : Type 0} (served : ℕ) (log : List E) (line : List ℕ) (place
   Stands Spent = (v.seen ≡ []) × (v.mine ≡ []) × (v.room ≡ 0)
 
 -- the seat j fits the one history
-pub record Fits {T G E : Type 0} (owner : E → Option ℕ) (all : G) (base served : ℕ) (log : List E) (line : List ℕ) (place : Place T) (j : ℕ) (v : View G E) : Type 0 where
+pub record Fits {T G E : Type 0} (owner : E → Option ℕ) (all : G) (base served : ℕ) (log : List E) (line : List ℕ) (place : Place T) (j : ℕ)
+    (v : View G E) : Type 0 where
   pub stands : Stands served log line place j v v.stage
   pub saw : IsPrefix v.seen log
   pub keeps : IsPrefix v.kept log
@@ -49,7 +52,8 @@ pub record Fits {T G E : Type 0} (owner : E → Option ℕ) (all : G) (base serv
   pub knows : in_use v.stage ≡ 1 → (v.givens ≡ Some all) × (v.base ≡ base)
 
 -- `all` is what the first value was made with, and `base` the length of its history
-pub record InOrder {T G E : Type 0} (givens : T → G) (history : T → List E) (owner : E → Option ℕ) (all : G) (base : ℕ) (s : State (Option T) (View G E)) : Type 0 where
+pub record InOrder {T G E : Type 0} (givens : T → G) (history : T → List E) (owner : E → Option ℕ) (all : G) (base : ℕ)
+    (s : State (Option T) (View G E)) : Type 0 where
   pub log : List E
   pub line : List ℕ
   pub place : Place T

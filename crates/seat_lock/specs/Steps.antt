@@ -16,10 +16,12 @@ module _ {T G E : Type 0} where
 
   -- after a join: nothing was made twice, and the shorter history begins the longer one
   abbrev pub learned : Step (Option T) → Me (Option T) (View G E) → ℕ → Me (Option T) (View G E) → Type 0
-  learned st m n m' = (m' ≡ (settled m.0, m.1)) × ((x : ℕ) → times x m.0.mine ≤ 1) × (length m.0.kept ≤ length m.0.seen → IsPrefix m.0.kept m.0.seen)
+  learned st m n m' = (m' ≡ (settled m.0, m.1)) × ((x : ℕ) → times x m.0.mine ≤ 1)
+      × (length m.0.kept ≤ length m.0.seen → IsPrefix m.0.kept m.0.seen)
 
 module _ {E : Type 0} (owner : E → Option ℕ) where
-  -- what a seat knows of a history that is the whole one: it begins with what was seen, and of each connection whose entering entry the seat made, the seat made every entry
+  -- what a seat knows of a history that is the whole one: it begins with what was seen, and of each connection whose entering entry the
+  -- seat made, the seat made every entry
   pub record Knows {G : Type 0} (v : View G E) (h : List E) : Type 0 where
     pub saw : IsPrefix v.seen h
     pub closed : IsClosed owner h v.mine
@@ -42,7 +44,8 @@ module _ {T G E : Type 0} (givens : T → G) (history : T → List E) (owner : E
 
   -- the value is home, and the seat knows all of its history
   abbrev pub passed : Step (Option T) → Me (Option T) (View G E) → ℕ → Me (Option T) (View G E) → Type 0
-  passed st m n m' = (x : T) × (m.1 ≡ (0, Some x) ∷ []) × (m' ≡ (passed_on m.0 (history x), [])) × Knows owner (passed_on m.0 (history x)) (history x)
+  passed st m n m' = (x : T) × (m.1 ≡ (0, Some x) ∷ []) × (m' ≡ (passed_on m.0 (history x), []))
+      × Knows owner (passed_on m.0 (history x)) (history x)
 
 -- what a join tells: both had seen a beginning of what is now seen, and no entry was made by both
 pub record Unites {G E : Type 0} (v w both : View G E) : Type 0 where

@@ -40,34 +40,86 @@ module _ {G E : Type 0} where
 
   -- with the ticket n
   abbrev pub drawn : View G E → ℕ → View G E
-  drawn v n = record { stage = Waiting; ticket = n; kept = v.kept; givens = v.givens; base = v.base; seen = v.seen; mine = v.mine; room = v.room }
+  drawn v n =
+      record { stage = Waiting; ticket = n; kept = v.kept; givens = v.givens; base = v.base; seen = v.seen; mine = v.mine; room = v.room }
 
   -- with the ticket n served, and the history h taken
   abbrev pub turned_to : View G E → ℕ → List E → View G E
-  turned_to v n h = record { stage = Turn; ticket = n; kept = h; givens = v.givens; base = v.base; seen = v.seen; mine = v.mine; room = v.room }
+  turned_to v n h =
+      record { stage = Turn; ticket = n; kept = h; givens = v.givens; base = v.base; seen = v.seen; mine = v.mine; room = v.room }
 
   -- with the history h put back
   abbrev pub passed_on : View G E → List E → View G E
-  passed_on v h = record { stage = Idle; ticket = 0; kept = []; givens = v.givens; base = v.base; seen = h; mine = made_by v.mine v.kept h; room = v.room }
+  passed_on v h =
+      record {
+        stage = Idle;
+        ticket = 0;
+        kept = [];
+        givens = v.givens;
+        base = v.base;
+        seen = h;
+        mine = made_by v.mine v.kept h;
+        room = v.room;
+      }
 
   -- with a seat split off, and that seat
   abbrev pub left_of : View G E → View G E
-  left_of v = record { stage = v.stage; ticket = v.ticket; kept = v.kept; givens = v.givens; base = v.base; seen = v.seen; mine = v.mine; room = v.room - 1 }
+  left_of v =
+      record {
+        stage = v.stage;
+        ticket = v.ticket;
+        kept = v.kept;
+        givens = v.givens;
+        base = v.base;
+        seen = v.seen;
+        mine = v.mine;
+        room = v.room - 1;
+      }
 
   abbrev pub right_of : View G E → View G E
   right_of v = record { stage = Idle; ticket = 0; kept = []; givens = v.givens; base = v.base; seen = v.seen; mine = []; room = 0 }
 
   -- with another seat joined in; what is kept is the shorter history until the next step
   abbrev pub both_of : View G E → View G E → View G E
-  both_of v w = record { stage = Idle; ticket = 0; kept = shorter v.seen w.seen; givens = v.givens; base = v.base; seen = longer v.seen w.seen; mine = v.mine ++ w.mine; room = v.room + w.room + 1 }
+  both_of v w =
+      record {
+        stage = Idle;
+        ticket = 0;
+        kept = shorter v.seen w.seen;
+        givens = v.givens;
+        base = v.base;
+        seen = longer v.seen w.seen;
+        mine = v.mine ++ w.mine;
+        room = v.room + w.room + 1;
+      }
 
   -- with no history kept
   abbrev pub settled : View G E → View G E
-  settled v = record { stage = v.stage; ticket = v.ticket; kept = []; givens = v.givens; base = v.base; seen = v.seen; mine = v.mine; room = v.room }
+  settled v =
+      record {
+        stage = v.stage;
+        ticket = v.ticket;
+        kept = [];
+        givens = v.givens;
+        base = v.base;
+        seen = v.seen;
+        mine = v.mine;
+        room = v.room;
+      }
 
   -- with another seat joined in
   abbrev pub joined_view : View G E → View G E → View G E
-  joined_view v w = record { stage = Idle; ticket = 0; kept = []; givens = v.givens; base = v.base; seen = longer v.seen w.seen; mine = v.mine ++ w.mine; room = v.room + w.room + 1 }
+  joined_view v w =
+      record {
+        stage = Idle;
+        ticket = 0;
+        kept = [];
+        givens = v.givens;
+        base = v.base;
+        seen = longer v.seen w.seen;
+        mine = v.mine ++ w.mine;
+        room = v.room + w.room + 1;
+      }
 
   -- the seat that was joined into another
   abbrev pub spent_view : View G E

@@ -73,7 +73,8 @@ impl<T: Chronicle> SeatLock<T> {
         ensures free { IsFree seat.new }
         ensures view { view seat.new ≡ passed_on (view seat.old) (T.history value) }
         ensures none_made { T.history value ≡ (view seat.old).kept → (view seat.new).mine ≡ (view seat.old).mine }
-        ensures one_made { (e : T.Entry) → T.history value ≡ (view seat.old).kept ++ e ∷ [] → (view seat.new).mine ≡ (view seat.old).mine ++ length (view seat.old).kept ∷ [] }
+        ensures one_made { (e : T.Entry) → T.history value ≡ (view seat.old).kept ++ e ∷ []
+            → (view seat.new).mine ≡ (view seat.old).mine ++ length (view seat.old).kept ∷ [] }
         ensures known { Knows T.owner (view seat.new) (T.history value) }
     {
         let shared = &self.table.shared;

@@ -43,13 +43,17 @@ use Rattle.servant_states.proofs.FreshFrom.{kept, comes, fresh_from, found_activ
 use Rattle.servant_states.proofs.QuietHolds.{kept_where, room_later}
 
 -- what leaves the map keeps its fresh servant
-pub let_out_keeps : (c : Config) (s : Standing) (a : Activation) → (keeps_fresh (let_out c s a) ≡ keeps_fresh a) × ((let_out c s a).number ≡ a.number) × ((let_out c s a).etherealized ≡ a.etherealized)
-let_out_keeps c s a = cond_both (is_left c s a) (record a { out = true }) a (λ x. (keeps_fresh x ≡ keeps_fresh a) × (x.number ≡ a.number) × (x.etherealized ≡ a.etherealized)) (λ _. (refl, refl, refl)) (λ _. (refl, refl, refl))
+pub let_out_keeps : (c : Config) (s : Standing) (a : Activation) → (keeps_fresh (let_out c s a) ≡ keeps_fresh a) × ((let_out c s a).number ≡ a.number)
+    × ((let_out c s a).etherealized ≡ a.etherealized)
+let_out_keeps c s a =
+    cond_both (is_left c s a) (record a { out = true }) a (λ x. (keeps_fresh x ≡ keeps_fresh a) × (x.number ≡ a.number) × (x.etherealized ≡ a.etherealized))
+    (λ _. (refl, refl, refl)) (λ _. (refl, refl, refl))
 
 module _ (c : Config) (s : Standing) (a : Activation) (m : ℕ) where
   no_fresh : (k : ℕ) → named_or_double c s a k ≡ Fresh m → ⊥
   no_fresh k =
-      elim (is_unique (policies_at c a.path) && is_in_map s.activations a.adapter (NamedServant k)) as (λ b. (elim b [ true ↦ Double | false ↦ elim (servant_name c k) [ Some name ↦ Named name | None ↦ Raise not_active ] ]) ≡ Fresh m → ⊥) [
+      elim (is_unique (policies_at c a.path) && is_in_map s.activations a.adapter (NamedServant k)) as (λ b.
+      (elim b [ true ↦ Double | false ↦ elim (servant_name c k) [ Some name ↦ Named name | None ↦ Raise not_active ] ]) ≡ Fresh m → ⊥) [
         | true ↦ λ is. (let e : Double ≡ Fresh m = is in cc)
         | false ↦ elim (servant_name c k) as (λ o. (elim o [ Some name ↦ Named name | None ↦ Raise not_active ]) ≡ Fresh m → ⊥) [
           | Some name ↦ λ is. (let e : Named name ≡ Fresh m = is in cc)
@@ -57,7 +61,9 @@ module _ (c : Config) (s : Standing) (a : Activation) (m : ℕ) where
         ]
       ]
 
-  by_gives : (g : Gives) → (elim g [ FreshKind kind ↦ Fresh a.number | Servant k ↦ named_or_double c s a k | ForwardTo endpoint ↦ Forward endpoint | RaiseThis exception ↦ Raise exception ]) ≡ Fresh m → m ≡ a.number
+  by_gives : (g : Gives)
+      → (elim g
+      [ FreshKind kind ↦ Fresh a.number | Servant k ↦ named_or_double c s a k | ForwardTo endpoint ↦ Forward endpoint | RaiseThis exception ↦ Raise exception ]) ≡ Fresh m → m ≡ a.number
   by_gives (FreshKind kind) is = (let e : Fresh a.number ≡ Fresh m = is in cc)
   by_gives (Servant k) is = absurd (no_fresh k is)
   by_gives (ForwardTo endpoint) is = absurd (let e : Forward endpoint ≡ Fresh m = is in cc)
@@ -71,7 +77,8 @@ module _ (c : Config) (s : Standing) (a : Activation) (m : ℕ) where
         | Some rule ↦ by_gives rule.gives
       ]
 
-module _ (c : Config) (run limit : ℕ) (opened : Stored) (past : List Entry) (w m : ℕ) (given : IsGiven c run) (alone : IsGivenAlone c run) (within : IsWithinLimits c limit) (legal : IsLegal c run limit (Incarnated w (Fresh m) ∷ past)) where
+module _ (c : Config) (run limit : ℕ) (opened : Stored) (past : List Entry) (w m : ℕ) (given : IsGiven c run) (alone : IsGivenAlone c run)
+    (within : IsWithinLimits c limit) (legal : IsLegal c run limit (Incarnated w (Fresh m) ∷ past)) where
   abbrev s : Standing
   s = standing c run past
 
@@ -104,9 +111,11 @@ module _ (c : Config) (run limit : ℕ) (opened : Stored) (past : List Entry) (w
       let there = found_activation s turn.number turn.it turn.found in
       let own : turn.it.number ≡ m = sym (brought_number c s turn.it m turn.told) in
       let same : turn.number ≡ m = sym there.1 ∙ own in
-      let holds : flying.Holds past s (Incarnating turn.arrival turn.number) = subst (λ b. flying.Holds past s b) turn.begun ((all_manned c run limit past given alone within legal.1).stages w) in
+      let holds : flying.Holds past s (Incarnating turn.arrival turn.number) =
+      subst (λ b. flying.Holds past s b) turn.begun ((all_manned c run limit past given alone within legal.1).stages w) in
       let begun_activation = holds.2 in
-      let is_it : begun_activation.0 ≡ turn.it = sound.activation_alone begun_activation.0 turn.it begun_activation.1 there.0 (begun_activation.2 ∙ sym there.1) in
+      let is_it : begun_activation.0 ≡ turn.it =
+      sound.activation_alone begun_activation.0 turn.it begun_activation.1 there.0 (begun_activation.2 ∙ sym there.1) in
       let phase : turn.it.phase ≡ Begun = ap (λ x. x.phase) (sym is_it) ∙ begun_activation.3 in
       record {
         it = turn.it;
@@ -116,7 +125,11 @@ module _ (c : Config) (run limit : ℕ) (opened : Stored) (past : List Entry) (w
         found = ap (activation_numbered s) (sym same) ∙ turn.found;
         begun_ = turn.begun ∙ ap (λ n. Incarnating turn.arrival n) same;
         was = phase;
-        untold = false_from_ne_true turn.it.etherealized (λ told. true≢false (sym (out_complete c run limit given alone within past legal.1 turn.it there.0 ((all_manned c run limit past given alone within legal.1).told_out turn.it there.0 told))
+        untold =
+            false_from_ne_true turn.it.etherealized
+            (λ told. true≢false
+            (sym (out_complete c run limit given alone within past legal.1 turn.it there.0
+            ((all_manned c run limit past given alone within legal.1).told_out turn.it there.0 told))
             ∙ ap (λ p. elim p [ Complete u ↦ true | Begun ↦ false | Void ↦ false ]) phase));
       }
 
@@ -132,7 +145,8 @@ module _ (c : Config) (run limit : ℕ) (opened : Stored) (past : List Entry) (w
       let y_is : y ≡ record of_it.it { phase = Complete (FreshServant m) } =
       ap (λ b. if b then come_to (Complete (FreshServant m)) of_it.it else of_it.it) (eq-eqb of_it.it.number m of_it.number)
       ∙ ap (λ b. if b then record of_it.it { phase = Complete (FreshServant m) } else of_it.it) begun_is in
-      let in_y : In y s1.activations = subst (λ b. In y (with_incarnated c b (Fresh m) s).activations) (sym of_it.begun_) (image_in comes_to of_it.it s.activations of_it.there) in
+      let in_y : In y s1.activations =
+      subst (λ b. In y (with_incarnated c b (Fresh m) s).activations) (sym of_it.begun_) (image_in comes_to of_it.it s.activations of_it.there) in
       let out = let_out_keeps c s1 y in
       kept_by c run t after m (let_out c s1 y) (image_in (let_out c s1) y s1.activations in_y) (out.1 ∙ (ap (λ x. x.number) y_is ∙ of_it.number))
       (out.0 ∙ (ap keeps_fresh y_is ∙ ap not of_it.untold))
@@ -151,14 +165,21 @@ module _ (c : Config) (run limit : ℕ) (opened : Stored) (past : List Entry) (w
   abbrev brought_in : Option Activation → State
   brought_in o = elim o [ Some a ↦ restored (kind_brought c a) (stored c run opened past a.path a.oid) | None ↦ Fault ]
 
-  module _ (old new : Kept) (holds : Holds c run opened past old) (of_it : IsOf) (brings : IsBrought m of_it.it.path of_it.it.oid (restored (kind_brought c of_it.it) (stored_in old of_it.it.path of_it.it.oid)) old new) where
-    fresh_after : (n : ℕ) → (if n == m then Some (restored (kind_brought c of_it.it) (stored_in old of_it.it.path of_it.it.oid)) else fresh_at old n) ≡ (if is_kept t n then Some (if n == m then brought_in (activation_numbered s m) else state_of c run opened past (FreshServant n)) else None)
+  module _ (old new : Kept) (holds : Holds c run opened past old) (of_it : IsOf)
+      (brings : IsBrought m of_it.it.path of_it.it.oid (restored (kind_brought c of_it.it) (stored_in old of_it.it.path of_it.it.oid)) old new) where
+    fresh_after : (n : ℕ) → (if n == m then Some (restored (kind_brought c of_it.it) (stored_in old of_it.it.path of_it.it.oid)) else fresh_at old n) ≡
+        (if is_kept t n then Some (if n == m then brought_in (activation_numbered s m) else state_of c run opened past (FreshServant n)) else None)
     fresh_after n =
-        elim (n == m) as (λ b. (n == m) ≡ b → (if b then Some (restored (kind_brought c of_it.it) (stored_in old of_it.it.path of_it.it.oid)) else fresh_at old n) ≡ (if is_kept t n then Some (if b then brought_in (activation_numbered s m) else state_of c run opened past (FreshServant n)) else None)) [
+        elim (n == m) as (λ b. (n == m) ≡ b
+        → (if b then Some (restored (kind_brought c of_it.it) (stored_in old of_it.it.path of_it.it.oid)) else fresh_at old n) ≡
+        (if is_kept t n then Some (if b then brought_in (activation_numbered s m) else state_of c run opened past (FreshServant n)) else None)) [
           | true ↦ λ same.
               (ap (λ x. Some x) (ap (restored (kind_brought c of_it.it)) (holds.stored of_it.it.path of_it.it.oid) ∙ ap brought_in (sym of_it.found))
               ∙ ap (λ b. if b then Some (brought_in (activation_numbered s m)) else None) (sym (ap (is_kept t) (eqb-true n m same) ∙ comes_kept of_it)))
-          | false ↦ λ other. (holds.fresh n ∙ ap (λ b. if b then Some (state_of c run opened past (FreshServant n)) else None) (sym (others_kept of_it n (eqb-false n m other))))
+          | false ↦
+              λ other.
+              (holds.fresh n ∙ ap (λ b. if b then Some (state_of c run opened past (FreshServant n)) else None)
+              (sym (others_kept of_it n (eqb-false n m other))))
         ] refl
 
     room_after : (b : Activation) → In b t.activations → keeps_fresh b ≡ true → IsReserved new.store b.path b.oid
@@ -169,11 +190,13 @@ module _ (c : Config) (run limit : ℕ) (opened : Stored) (past : List Entry) (w
               (reserved-insert old.store of_it.it.path of_it.it.oid (slots.stored old.store of_it.it.path of_it.it.oid) a.path a.oid (holds.room a was kept_))
           | comes a was later coming ↦
               (let same_worker : w ≡ coming.worker = (let f : Incarnated w (Fresh m) ≡ Incarnated coming.worker (Fresh coming.servant) = coming.same in cc) in
-              let stages : Incarnating of_it.arrival m ≡ Incarnating coming.arrival a.number = sym of_it.begun_ ∙ (ap (stage past) same_worker ∙ coming.begun_) in
+              let stages : Incarnating of_it.arrival m ≡ Incarnating coming.arrival a.number = sym of_it.begun_
+              ∙ (ap (stage past) same_worker ∙ coming.begun_) in
               let at : m ≡ a.number = cc in
               let same : a ≡ of_it.it = sound.activation_alone a of_it.it was of_it.there (sym at ∙ sym of_it.number) in
               room_later c (with_room old.store of_it.it.path of_it.it.oid) a b later
-              (subst (λ x. IsReserved (with_room old.store of_it.it.path of_it.it.oid) x.path x.oid) (sym same) (reserved-with_room old.store of_it.it.path of_it.it.oid)))
+              (subst (λ x. IsReserved (with_room old.store of_it.it.path of_it.it.oid) x.path x.oid) (sym same)
+              (reserved-with_room old.store of_it.it.path of_it.it.oid)))
         ])
 
     brought_then : Holds c run opened (e ∷ past) new

@@ -28,7 +28,8 @@ use Rattle.servant_states.proofs.BroughtHolds.{IsOf, is_of_it, brought_holds}
 use Rattle.servant_states.proofs.StoredHolds.{ended_holds, room_held}
 
 -- an entry that runs, incarnates and etherealizes nothing is quiet
-pub quiet_unless : (e : Entry) → ((w : ℕ) (answer : Incarnation) → e ≡ Incarnated w answer → ⊥) → ((w : ℕ) → e ≡ Run w → ⊥) → ((w : ℕ) (cleanup remaining : Bool) → e ≡ Etherealized w cleanup remaining → ⊥) → is_quiet e ≡ true
+pub quiet_unless : (e : Entry) → ((w : ℕ) (answer : Incarnation) → e ≡ Incarnated w answer → ⊥) → ((w : ℕ) → e ≡ Run w → ⊥)
+    → ((w : ℕ) (cleanup remaining : Bool) → e ≡ Etherealized w cleanup remaining → ⊥) → is_quiet e ≡ true
 quiet_unless (Entered conn) incarnates runs ends = refl
 quiet_unless (Arrive conn size call) incarnates runs ends = refl
 quiet_unless (Filled conn size) incarnates runs ends = refl
@@ -57,7 +58,8 @@ module _ (c : Config) (e : Entry) (begun : Stage) (call : Option Call) (runs : O
   run_then w is new activations k =
       subst (λ x. Holds c k.run k.opened (x ∷ k.past) new) (sym is)
       (run_holds c k.run k.limit k.opened k.past w k.given k.alone k.within (subst (λ x. IsLegal c k.run k.limit (x ∷ k.past)) is k.legal) old new k.holds
-      (subst (λ x. IsActed (servant_run c k.run k.past (stage k.past w)) x old new) (call_runs w is k) (subst (λ x. IsActed x call old new) (runs_are w is k) activations)))
+      (subst (λ x. IsActed (servant_run c k.run k.past (stage k.past w)) x old new) (call_runs w is k)
+      (subst (λ x. IsActed x call old new) (runs_are w is k) activations)))
 
   pub run_tells_then : (w : ℕ) → e ≡ Run w → (outcome : Option Outcome) → outcome ≡ outcome_in runs call old → TellsThen c e begun call runs s old outcome
   run_tells_then w is outcome told k =
@@ -66,26 +68,33 @@ module _ (c : Config) (e : Entry) (begun : Stage) (call : Option Call) (runs : O
       (run_tells c k.run k.limit k.opened k.past w k.given k.alone k.within (subst (λ x. IsLegal c k.run k.limit (x ∷ k.past)) is k.legal) old k.holds call)
       ∙ ap (λ x. outcome_told c k.run k.opened k.past x runs call) (sym is)
 
-  pub told_then : {E : Type 0} (r : Result (Option Outcome) E) (w : ℕ) → e ≡ Run w → IfOk r (λ outcome. outcome ≡ outcome_in runs call old) → IfOk r (λ outcome. TellsThen c e begun call runs s old outcome)
-  told_then r w is = IfOk-weaker r (λ outcome. outcome ≡ outcome_in runs call old) (λ outcome. TellsThen c e begun call runs s old outcome) (λ outcome told. run_tells_then w is outcome told)
+  pub told_then : {E : Type 0} (r : Result (Option Outcome) E) (w : ℕ) → e ≡ Run w → IfOk r (λ outcome. outcome ≡ outcome_in runs call old)
+      → IfOk r (λ outcome. TellsThen c e begun call runs s old outcome)
+  told_then r w is =
+      IfOk-weaker r (λ outcome. outcome ≡ outcome_in runs call old) (λ outcome. TellsThen c e begun call runs s old outcome)
+      (λ outcome told. run_tells_then w is outcome told)
 
-  its : (w m : ℕ) (is : e ≡ Incarnated w (Fresh m)) (k : Comes c e begun call runs s old) → IsOf c k.run k.limit k.opened k.past w m k.given k.alone k.within (subst (λ x. IsLegal c k.run k.limit (x ∷ k.past)) is k.legal)
+  its : (w m : ℕ) (is : e ≡ Incarnated w (Fresh m)) (k : Comes c e begun call runs s old)
+      → IsOf c k.run k.limit k.opened k.past w m k.given k.alone k.within (subst (λ x. IsLegal c k.run k.limit (x ∷ k.past)) is k.legal)
   its w m is k = is_of_it c k.run k.limit k.opened k.past w m k.given k.alone k.within (subst (λ x. IsLegal c k.run k.limit (x ∷ k.past)) is k.legal)
 
   -- the worker brings the servant of the activation that it is at
   brought_of : (w m : ℕ) (is : e ≡ Incarnated w (Fresh m)) (k : Comes c e begun call runs s old) → stage k.past w ≡ Incarnating (its w m is k).arrival m
   brought_of w m is k = (its w m is k).begun_
 
-  pub incarnated_then : (w : ℕ) (answer : Incarnation) → e ≡ Incarnated w answer → (new : Kept) → Incarnates c answer s old new → HoldsThen c e begun call runs s old new
+  pub incarnated_then : (w : ℕ) (answer : Incarnation) → e ≡ Incarnated w answer → (new : Kept) → Incarnates c answer s old new
+      → HoldsThen c e begun call runs s old new
   incarnated_then w (Fresh m) is new brings = λ k.
       subst (λ x. Holds c k.run k.opened (x ∷ k.past) new) (sym is)
-      (brought_holds c k.run k.limit k.opened k.past w m k.given k.alone k.within (subst (λ x. IsLegal c k.run k.limit (x ∷ k.past)) is k.legal) old new k.holds (subst (λ o. Brings c m o old new) (k.stands.worked w m (ap works_on (brought_of w m is k))) brings))
+      (brought_holds c k.run k.limit k.opened k.past w m k.given k.alone k.within (subst (λ x. IsLegal c k.run k.limit (x ∷ k.past)) is k.legal) old new k.holds
+      (subst (λ o. Brings c m o old new) (k.stands.worked w m (ap works_on (brought_of w m is k))) brings))
   incarnated_then w (Named name) is new same = subst (HoldsThen c e begun call runs s old) (sym same) (quiet_then (ap is_quiet is))
   incarnated_then w Double is new same = subst (HoldsThen c e begun call runs s old) (sym same) (quiet_then (ap is_quiet is))
   incarnated_then w (Forward x) is new same = subst (HoldsThen c e begun call runs s old) (sym same) (quiet_then (ap is_quiet is))
   incarnated_then w (Raise x) is new same = subst (HoldsThen c e begun call runs s old) (sym same) (quiet_then (ap is_quiet is))
 
-  removed_at : (w : ℕ) (cleanup remaining : Bool) → e ≡ Etherealized w cleanup remaining → (k : Comes c e begun call runs s old) → removed s begun ≡ removed (standing c k.run k.past) (stage k.past w)
+  removed_at : (w : ℕ) (cleanup remaining : Bool) → e ≡ Etherealized w cleanup remaining → (k : Comes c e begun call runs s old)
+      → removed s begun ≡ removed (standing c k.run k.past) (stage k.past w)
   removed_at w cleanup remaining is k = ap (removed s) (k.at_stage w (ap worker_of is)) ∙ removed_same (stage k.past w) refl
     where
       removed_same : (b : Stage) → stage k.past w ≡ b → removed s b ≡ removed (standing c k.run k.past) b
@@ -99,12 +108,15 @@ module _ (c : Config) (e : Entry) (begun : Stage) (call : Option Call) (runs : O
   pub room_then : (w : ℕ) (cleanup remaining : Bool) → e ≡ Etherealized w cleanup remaining → Comes c e begun call runs s old → HasRoom (removed s begun) old
   room_then w cleanup remaining is k =
       subst (λ o. HasRoom o old) (sym (removed_at w cleanup remaining is k))
-      (room_held c k.run k.limit k.opened k.past w cleanup remaining k.given k.alone k.within (subst (λ x. IsLegal c k.run k.limit (x ∷ k.past)) is k.legal) old k.holds)
+      (room_held c k.run k.limit k.opened k.past w cleanup remaining k.given k.alone k.within
+      (subst (λ x. IsLegal c k.run k.limit (x ∷ k.past)) is k.legal) old k.holds)
 
-  pub ended_then : (w : ℕ) (cleanup remaining : Bool) → e ≡ Etherealized w cleanup remaining → (new : Kept) → Etherealizes (removed s begun) old new → HoldsThen c e begun call runs s old new
+  pub ended_then : (w : ℕ) (cleanup remaining : Bool) → e ≡ Etherealized w cleanup remaining → (new : Kept) → Etherealizes (removed s begun) old new
+      → HoldsThen c e begun call runs s old new
   ended_then w cleanup remaining is new ends k =
       subst (λ x. Holds c k.run k.opened (x ∷ k.past) new) (sym is)
-      (ended_holds c k.run k.limit k.opened k.past w cleanup remaining k.given k.alone k.within (subst (λ x. IsLegal c k.run k.limit (x ∷ k.past)) is k.legal) old new k.holds
+      (ended_holds c k.run k.limit k.opened k.past w cleanup remaining k.given k.alone k.within
+      (subst (λ x. IsLegal c k.run k.limit (x ∷ k.past)) is k.legal) old new k.holds
       (subst (λ o. Etherealizes o old new) (removed_at w cleanup remaining is k) ends))
 
   pub quiet_tells : is_quiet e ≡ true → TellsThen c e begun call runs s old None

@@ -27,11 +27,15 @@ use Rattle.poa_history.proofs.ActivationsFrom.{phase_by, IsBegun, incarnating, a
 use Rattle.servant_states.specs.Holds.{is_fresh, keeps_fresh, is_kept_by, is_kept}
 
 -- the activation of a number is the one that stands by it
-pub activation_found : (c : Config) (run : ℕ) (s : Standing) → IsSound c run s → (n : ℕ) (a : Activation) → In a s.activations → a.number ≡ n → activation_numbered s n ≡ Some a
+pub activation_found : (c : Config) (run : ℕ) (s : Standing) → IsSound c run s → (n : ℕ) (a : Activation) → In a s.activations → a.number ≡ n
+    → activation_numbered s n ≡ Some a
 activation_found c run s sound n a there at =
     elim (find (λ b. b.number == n) s.activations) as (λ o. find (λ b. b.number == n) s.activations ≡ o → o ≡ Some a) [
       | None ↦ λ none. absurd (find_none (λ b. b.number == n) a s.activations none there (eq-eqb a.number n at))
-      | Some b ↦ λ found. (let is = find_in (λ x. x.number == n) b s.activations found in ap (λ x. Some x) (sound.activation_alone b a is.0 there (eqb-true b.number n is.1 ∙ sym at)))
+      | Some b ↦
+          λ found.
+          (let is = find_in (λ x. x.number == n) b s.activations found in
+          ap (λ x. Some x) (sound.activation_alone b a is.0 there (eqb-true b.number n is.1 ∙ sym at)))
     ] refl
 
 -- it is one that stands
@@ -40,12 +44,14 @@ found_activation s n a found = (let is = find_in (λ b. b.number == n) a s.activ
 
 pub kept_is : (s : Standing) (n : ℕ) → is_kept s n ≡ true → (a : Activation) × In a s.activations × (a.number ≡ n) × (keeps_fresh a ≡ true)
 kept_is s n is =
-    elim (activation_numbered s n) as (λ o. activation_numbered s n ≡ o → is_kept_by o ≡ true → (a : Activation) × In a s.activations × (a.number ≡ n) × (keeps_fresh a ≡ true)) [
+    elim (activation_numbered s n) as (λ o. activation_numbered s n ≡ o → is_kept_by o ≡ true → (a : Activation) × In a s.activations × (a.number ≡ n)
+    × (keeps_fresh a ≡ true)) [
       | None ↦ λ _ none. absurd (let e : false ≡ true = none in cc)
       | Some a ↦ λ found keeps. (let there = found_activation s n a found in (a, there.0, there.1, keeps))
     ] refl is
 
-pub kept_by : (c : Config) (run : ℕ) (s : Standing) → IsSound c run s → (n : ℕ) (a : Activation) → In a s.activations → a.number ≡ n → keeps_fresh a ≡ true → is_kept s n ≡ true
+pub kept_by : (c : Config) (run : ℕ) (s : Standing) → IsSound c run s → (n : ℕ) (a : Activation) → In a s.activations → a.number ≡ n → keeps_fresh a ≡ true
+    → is_kept s n ≡ true
 kept_by c run s sound n a there at keeps = ap is_kept_by (activation_found c run s sound n a there at) ∙ keeps
 
 pub keeps_parts : (a : Activation) → keeps_fresh a ≡ true → (is_fresh a.phase ≡ true) × (a.etherealized ≡ false)
@@ -62,7 +68,8 @@ fresh_phase Void is = absurd (let e : false ≡ true = is in cc)
 
 -- a configured servant is no fresh one
 named_unfresh : (c : Config) (name : List ℕ) → is_fresh (servant_of c name) ≡ false
-named_unfresh c name = elim (servant_number c name) as (λ o. is_fresh (elim o [ Some k ↦ Complete (NamedServant k) | None ↦ Void ]) ≡ false) [ Some k ↦ refl | None ↦ refl ]
+named_unfresh c name =
+    elim (servant_number c name) as (λ o. is_fresh (elim o [ Some k ↦ Complete (NamedServant k) | None ↦ Void ]) ≡ false) [ Some k ↦ refl | None ↦ refl ]
 
 fresh_answer : (c : Config) (n : ℕ) (answer : Incarnation) → is_fresh (phase_by c n answer) ≡ true → (m : ℕ) × (answer ≡ Fresh m)
 fresh_answer c n (Fresh m) is = (m, refl)
@@ -104,20 +111,33 @@ module _ (c : Config) (run : ℕ) (past : List Entry) (e : Entry) where
       elim (activation_from c run past e b there) [
         | begun new ↦ absurd (true≢false (sym parts.0 ∙ not_begun b new))
         | stood a was step ↦ elim step.came [
-          | inl same ↦ kept a was step.later (keeps_from a (ap is_fresh (sym same) ∙ parts.0) (false_from_ne_true a.etherealized (λ told. true≢false (sym (step.later.etherealized told) ∙ parts.1))))
+          | inl same ↦
+              kept a was step.later
+              (keeps_from a (ap is_fresh (sym same) ∙ parts.0)
+              (false_from_ne_true a.etherealized (λ told. true≢false (sym (step.later.etherealized told) ∙ parts.1))))
           | inr come ↦ (let brings = come.1 in
               let answer = fresh_answer c a.number brings.answer (ap is_fresh brings.phase_is ∙ parts.0) in
-              comes a was step.later (record { worker = brings.worker; arrival = brings.arrival; servant = answer.0; same = brings.same ∙ ap (λ x. Incarnated brings.worker x) answer.1; begun_ = brings.begun; was = come.0 }))
+              comes a was step.later
+              (record {
+                worker = brings.worker;
+                arrival = brings.arrival;
+                servant = answer.0;
+                same = brings.same ∙ ap (λ x. Incarnated brings.worker x) answer.1;
+                begun_ = brings.begun;
+                was = come.0;
+              }))
         ]
       ]
 
   -- it is kept until the entry tells that it was etherealized
-  pub fresh_to : IsSound c run (standing c run past) → (a : Activation) → In a (standing c run past).activations → keeps_fresh a ≡ true → ((b : Activation) × In b (standing c run (e ∷ past)).activations × (b.number ≡ a.number) × (keeps_fresh b ≡ true)) ⊎ Tells a.number
+  pub fresh_to : IsSound c run (standing c run past) → (a : Activation) → In a (standing c run past).activations → keeps_fresh a ≡ true
+      → ((b : Activation) × In b (standing c run (e ∷ past)).activations × (b.number ≡ a.number) × (keeps_fresh b ≡ true)) ⊎ Tells a.number
   fresh_to sound a there keeps =
       let parts = keeps_parts a keeps in
       let phase = fresh_phase a.phase parts.0 in
       let (b, in_b, later) = step_later c run past e a there in
-      elim b.etherealized as (λ t. b.etherealized ≡ t → ((b : Activation) × In b (standing c run (e ∷ past)).activations × (b.number ≡ a.number) × (keeps_fresh b ≡ true)) ⊎ Tells a.number) [
+      elim b.etherealized as (λ t. b.etherealized ≡ t
+      → ((b : Activation) × In b (standing c run (e ∷ past)).activations × (b.number ≡ a.number) × (keeps_fresh b ≡ true)) ⊎ Tells a.number) [
         | false ↦ λ untold. inl (b, in_b, later.number, keeps_from b (ap is_fresh (later.served (FreshServant phase.0) phase.1)) untold)
         | true ↦ λ told. elim (activation_from c run past e b in_b) [
           | begun new ↦ absurd (true≢false (sym told ∙ new.etherealized))

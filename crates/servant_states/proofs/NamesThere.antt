@@ -58,16 +58,25 @@ preset_done : (c : Config) (s : Standing) (p : List (List ℕ)) (servant : List 
 preset_done c s p servant = by_live (live_at s p)
   where
     by_refusal : {A : Type 0} (u : Verdict) → is_accepted u ≡ false → IsDoneBy (Some u) A
-    by_refusal u not_done v is done = absurd (let e : Some u ≡ Some v = is in let same : u ≡ v = cc in true≢false (sym done ∙ ap is_accepted (sym same) ∙ not_done))
+    by_refusal u not_done v is done =
+        absurd (let e : Some u ≡ Some v = is in let same : u ≡ v = cc in true≢false (sym done ∙ ap is_accepted (sym same) ∙ not_done))
 
     by_servant : (o : Option ℕ) → servant_number c servant ≡ o → IsDoneBy (elim o [ Some k ↦ good | None ↦ refusal NoServant ]) (IsThere c servant)
     by_servant (Some k) at = λ v is done. (k, at)
     by_servant None at = by_refusal (AnswerWith (No NoServant)) refl
 
     by_policy : IsDoneBy (if not (uses_default_servant (policies_at c p)) then refusal WrongPolicy else with_servant c servant (λ k. good)) (IsThere c servant)
-    by_policy = cond_both (not (uses_default_servant (policies_at c p))) _ _ (λ o. IsDoneBy o (IsThere c servant)) (λ _. by_refusal (AnswerWith (No WrongPolicy)) refl) (λ _. by_servant (servant_number c servant) refl)
+    by_policy =
+        cond_both (not (uses_default_servant (policies_at c p))) _ _ (λ o. IsDoneBy o (IsThere c servant)) (λ _. by_refusal (AnswerWith (No WrongPolicy)) refl)
+        (λ _. by_servant (servant_number c servant) refl)
 
-    by_live : (o : Option Node) → IsDoneBy (elim o [ Some n ↦ (if not (uses_default_servant (policies_at c p)) then refusal WrongPolicy else with_servant c servant (λ k. good)) | None ↦ refusal AdapterNonExistent ]) (IsThere c servant)
+    by_live : (o : Option Node)
+        → IsDoneBy
+        (elim o [
+          | Some n ↦ (if not (uses_default_servant (policies_at c p)) then refusal WrongPolicy else with_servant c servant (λ k. good))
+          | None ↦
+              refusal AdapterNonExistent
+        ]) (IsThere c servant)
     by_live (Some n) = by_policy
     by_live None = by_refusal (AnswerWith (No AdapterNonExistent)) refl
 
@@ -80,7 +89,8 @@ module _ (c : Config) (run limit : ℕ) (alone : IsGivenAlone c run) where
   configured_there None name is = absurd (let e : None ≡ Some name = is in cc)
 
   -- what an entry sets
-  set_there : (past : List Entry) (e : Entry) → MayFollow c run limit past e → (p : List (List ℕ)) (name : List ℕ) → preset_by p (command_done past e) ≡ Some name → IsThere c name
+  set_there : (past : List Entry) (e : Entry) → MayFollow c run limit past e → (p : List (List ℕ)) (name : List ℕ)
+      → preset_by p (command_done past e) ≡ Some name → IsThere c name
   unfolding command_verdict
   set_there past (Admit w r v) may p name is = by_done (is_accepted v) refl (call_of past r) refl is
     where
@@ -90,9 +100,12 @@ module _ (c : Config) (run limit : ℕ) (alone : IsGivenAlone c run) where
       told : verdict_on c run past r w (call_of past r) ≡ Some v
       told = admitted_for c run past w r v may
 
-      by_line : (number : ℕ) (command : Command) → is_accepted v ≡ true → command_verdict c run past (standing c run past) command ≡ Some v → preset_by p (Some command) ≡ Some name → IsThere c name
+      by_line : (number : ℕ) (command : Command) → is_accepted v ≡ true → command_verdict c run past (standing c run past) command ≡ Some v
+          → preset_by p (Some command) ≡ Some name → IsThere c name
       by_line number (PresetLine q servant) done says = cond_both (same_path q p) (Some servant) None (λ o. o ≡ Some name → IsThere c name)
-          (λ _ is. (let e : Some servant ≡ Some name = is in let same : servant ≡ name = cc in subst (IsThere c) same (preset_done c (standing c run past) q servant v says done)))
+          (λ _ is.
+          (let e : Some servant ≡ Some name = is in let same : servant ≡ name = cc in
+          subst (IsThere c) same (preset_done c (standing c run past) q servant v says done)))
           (λ _. none_set)
       by_line number (Manager m order) done says = none_set
       by_line number (Create q) done says = none_set
@@ -112,7 +125,8 @@ module _ (c : Config) (run limit : ℕ) (alone : IsGivenAlone c run) where
       by_call (Some (Locate head target)) at done = none_set
       by_call None at done = none_set
 
-      by_done : (done : Bool) → is_accepted v ≡ done → (call : Option Call) → call_of past r ≡ call → preset_by p (if done then command_in call else None) ≡ Some name → IsThere c name
+      by_done : (done : Bool) → is_accepted v ≡ done → (call : Option Call) → call_of past r ≡ call
+          → preset_by p (if done then command_in call else None) ≡ Some name → IsThere c name
       by_done true is call at = by_call call at is
       by_done false is call at = none_set
   set_there past (Entered conn) may p name is = absurd (let x : None ≡ Some name = is in cc)
@@ -133,7 +147,8 @@ module _ (c : Config) (run limit : ℕ) (alone : IsGivenAlone c run) where
   preset_there [] legal p name is = configured_there (template_or_root c p).preset name is
   preset_there (e ∷ past) legal p name is = by_set (preset_there past legal.1 p name) (preset_by p (command_done past e)) refl is
     where
-      by_set : (preset_of c past p ≡ Some name → IsThere c name) → (o : Option (List ℕ)) → preset_by p (command_done past e) ≡ o → (elim o [ Some servant ↦ Some servant | None ↦ preset_of c past p ]) ≡ Some name → IsThere c name
+      by_set : (preset_of c past p ≡ Some name → IsThere c name) → (o : Option (List ℕ)) → preset_by p (command_done past e) ≡ o
+          → (elim o [ Some servant ↦ Some servant | None ↦ preset_of c past p ]) ≡ Some name → IsThere c name
       by_set before (Some servant) at was = set_there past e legal.0 p name (at ∙ was)
       by_set before None at was = before was
 
@@ -151,7 +166,9 @@ module _ (c : Config) (run limit : ℕ) (alone : IsGivenAlone c run) where
       by_rule : (o : Option RuleConf) → located_by c o ≡ Servant name → IsThere c name
       by_rule None = no_rule
       by_rule (Some rule) =
-          elim rule.gives as (λ g. (elim g as (λ _. Located) [ FreshKind kind ↦ NoRule | ServantGiven k ↦ elim (servant_name c k) [ Some x ↦ Servant x | None ↦ NoRule ] | ForwardTo endpoint ↦ ByForward endpoint | RaiseThis exception ↦ ByRaise exception ]) ≡ Servant name → IsThere c name) [
+          elim rule.gives as (λ g.
+          (elim g as (λ _. Located)
+          [ FreshKind kind ↦ NoRule | ServantGiven k ↦ elim (servant_name c k) [ Some x ↦ Servant x | None ↦ NoRule ] | ForwardTo endpoint ↦ ByForward endpoint | RaiseThis exception ↦ ByRaise exception ]) ≡ Servant name → IsThere c name) [
             | FreshKind kind ↦ no_rule
             | ServantGiven k ↦ by_number k (servant_name c k) refl
             | ForwardTo endpoint ↦ λ is. absurd (let e : ByForward endpoint ≡ Servant name = is in cc)
@@ -159,18 +176,26 @@ module _ (c : Config) (run limit : ℕ) (alone : IsGivenAlone c run) where
           ]
 
   -- what an Admit names is there
-  verdict_there : (past : List Entry) (w r : ℕ) (v : Verdict) → IsLegal c run limit past → verdict_on c run past r w (call_of past r) ≡ Some v → NamesThere c (Some v)
+  verdict_there : (past : List Entry) (w r : ℕ) (v : Verdict) → IsLegal c run limit past → verdict_on c run past r w (call_of past r) ≡ Some v
+      → NamesThere c (Some v)
   verdict_there past w r v legal told = by_verdict v told
     where
-      told_by : (u : Verdict) → is_begin u ≡ true → (call : Option Call) → call_of past r ≡ call → verdict_on c run past r w call ≡ Some u → verdict_on c run past r w (call_of past r) ≡ Some u → IsTold (facts_of c run past r) (Go u)
+      told_by : (u : Verdict) → is_begin u ≡ true → (call : Option Call) → call_of past r ≡ call → verdict_on c run past r w call ≡ Some u
+          → verdict_on c run past r w (call_of past r) ≡ Some u → IsTold (facts_of c run past r) (Go u)
       told_by u begins None at says _ = absurd (let e : None ≡ Some u = says in cc)
-      told_by u begins (Some (Line number command)) at says whole = absurd (let found = begin_keyed c run past w r u begins whole in let e : None ≡ Some found.0 = ap key_in (sym at) ∙ found.1 in cc)
-      told_by u begins (Some (Request head target operation body)) at says _ = subst (IsTold (facts_of c run past r)) (chosen_go (first_row (facts_of c run past r) w) u says) (names_told (facts_of c run past r) w)
-      told_by u begins (Some (Locate head target)) at says _ = subst (IsTold (facts_of c run past r)) (chosen_go (first_row (facts_of c run past r) w) u says) (names_told (facts_of c run past r) w)
+      told_by u begins (Some (Line number command)) at says whole =
+          absurd (let found = begin_keyed c run past w r u begins whole in let e : None ≡ Some found.0 = ap key_in (sym at) ∙ found.1 in cc)
+      told_by u begins (Some (Request head target operation body)) at says _ =
+          subst (IsTold (facts_of c run past r)) (chosen_go (first_row (facts_of c run past r) w) u says) (names_told (facts_of c run past r) w)
+      told_by u begins (Some (Locate head target)) at says _ =
+          subst (IsTold (facts_of c run past r)) (chosen_go (first_row (facts_of c run past r) w) u says) (names_told (facts_of c run past r) w)
 
       by_verdict : (u : Verdict) → verdict_on c run past r w (call_of past r) ≡ Some u → NamesThere c (Some u)
-      by_verdict (Preset name) is = preset_there past legal (key_or_none (key_in (call_of past r))).path name (told_by (Preset name) refl (call_of past r) refl is is)
-      by_verdict (Locator name) is = located_there (key_or_none (key_in (call_of past r))).path (key_or_none (key_in (call_of past r))).oid name (told_by (Locator name) refl (call_of past r) refl is is)
+      by_verdict (Preset name) is =
+          preset_there past legal (key_or_none (key_in (call_of past r))).path name (told_by (Preset name) refl (call_of past r) refl is is)
+      by_verdict (Locator name) is =
+          located_there (key_or_none (key_in (call_of past r))).path (key_or_none (key_in (call_of past r))).oid name
+          (told_by (Locator name) refl (call_of past r) refl is is)
       by_verdict (Serve n) is = tt
       by_verdict (Incarnate n) is = tt
       by_verdict Try is = tt
@@ -187,7 +212,8 @@ module _ (c : Config) (run limit : ℕ) (alone : IsGivenAlone c run) where
   admitted_there [] legal r = tt
   admitted_there (Admit w a v ∷ past) legal r =
       cond_both (a == r) _ _ (NamesThere c) (λ _. verdict_there past w a v legal.1 (admitted_for c run past w a v legal.0)) (λ _. admitted_there past legal.1 r)
-  admitted_there (Tried w (Yes n) ∷ past) legal r = cond_both (is_at r (arrival_in (stage past w))) _ _ (NamesThere c) (λ _. tt) (λ _. admitted_there past legal.1 r)
+  admitted_there (Tried w (Yes n) ∷ past) legal r =
+      cond_both (is_at r (arrival_in (stage past w))) _ _ (NamesThere c) (λ _. tt) (λ _. admitted_there past legal.1 r)
   admitted_there (Tried w NoChild ∷ past) legal r = admitted_there past legal.1 r
   admitted_there (Tried w Raised ∷ past) legal r = admitted_there past legal.1 r
   admitted_there (Tried w Dying ∷ past) legal r = admitted_there past legal.1 r

@@ -43,7 +43,8 @@ mapped_if : (b : Bool) (f : State → State) (x : State) → option_map f (if b 
 mapped_if true f x = refl
 mapped_if false f x = refl
 
-module _ (c : Config) (run limit : ℕ) (opened : Stored) (past : List Entry) (e : Entry) (given : IsGiven c run) (within : IsWithinLimits c limit) (legal : IsLegal c run limit (e ∷ past)) where
+module _ (c : Config) (run limit : ℕ) (opened : Stored) (past : List Entry) (e : Entry) (given : IsGiven c run) (within : IsWithinLimits c limit)
+    (legal : IsLegal c run limit (e ∷ past)) where
   abbrev s : Standing
   s = standing c run past
 
@@ -73,7 +74,8 @@ module _ (c : Config) (run limit : ℕ) (opened : Stored) (past : List Entry) (e
       ]
 
   -- of one number the same holds before and after
-  pub kept_where : (n : ℕ) → ((a : Activation) → In a s.activations → a.number ≡ n → IsComing c run past e a → ⊥) → (is_kept s n ≡ true → Tells c run past e n → ⊥) → is_kept t n ≡ is_kept s n
+  pub kept_where : (n : ℕ) → ((a : Activation) → In a s.activations → a.number ≡ n → IsComing c run past e a → ⊥)
+      → (is_kept s n ≡ true → Tells c run past e n → ⊥) → is_kept t n ≡ is_kept s n
   kept_where n uncoming untold =
       same_test (is_kept t n) (is_kept s n)
       (λ is. elim (kept_before n is) [ inl was ↦ was | inr come ↦ absurd (uncoming come.0 come.1 come.2 come.3) ])
@@ -81,9 +83,11 @@ module _ (c : Config) (run limit : ℕ) (opened : Stored) (past : List Entry) (e
 
   module _ (leaves : leaves_fresh e ≡ true) where
     pub kept_same : (n : ℕ) → is_kept t n ≡ is_kept s n
-    kept_same n = kept_where n (λ a there at coming. true≢false (sym leaves ∙ ap leaves_fresh coming.same)) (λ _ tells. true≢false (sym leaves ∙ ap leaves_fresh tells.3))
+    kept_same n =
+        kept_where n (λ a there at coming. true≢false (sym leaves ∙ ap leaves_fresh coming.same)) (λ _ tells. true≢false (sym leaves ∙ ap leaves_fresh tells.3))
 
-    room_same : (store : Slots) → ((a : Activation) → In a s.activations → keeps_fresh a ≡ true → IsReserved store a.path a.oid) → (b : Activation) → In b t.activations → keeps_fresh b ≡ true → IsReserved store b.path b.oid
+    room_same : (store : Slots) → ((a : Activation) → In a s.activations → keeps_fresh a ≡ true → IsReserved store a.path a.oid) → (b : Activation)
+        → In b t.activations → keeps_fresh b ≡ true → IsReserved store b.path b.oid
     room_same store room b there keeps =
         elim (fresh_from c run past e b there keeps) [
           | kept a was later kept_ ↦ room_later c store a b later (room a was kept_)
@@ -91,12 +95,15 @@ module _ (c : Config) (run limit : ℕ) (opened : Stored) (past : List Entry) (e
         ]
 
     -- the states change by a function
-    pub changed_holds : (f : Sid → State → State) → ((u : Sid) → state_of c run opened (e ∷ past) u ≡ f u (state_of c run opened past u)) → ((p : List (List ℕ)) (oid : List ℕ) → stored c run opened (e ∷ past) p oid ≡ stored c run opened past p oid)
-        → (old new : Kept) → Holds c run opened past old → ((k : ℕ) → state_in new (NamedServant k) ≡ f (NamedServant k) (state_in old (NamedServant k))) → ((n : ℕ) → fresh_at new n ≡ option_map (f (FreshServant n)) (fresh_at old n)) → new.store ≡ old.store
+    pub changed_holds : (f : Sid → State → State) → ((u : Sid) → state_of c run opened (e ∷ past) u ≡ f u (state_of c run opened past u))
+        → ((p : List (List ℕ)) (oid : List ℕ) → stored c run opened (e ∷ past) p oid ≡ stored c run opened past p oid)
+        → (old new : Kept) → Holds c run opened past old → ((k : ℕ) → state_in new (NamedServant k) ≡ f (NamedServant k) (state_in old (NamedServant k)))
+        → ((n : ℕ) → fresh_at new n ≡ option_map (f (FreshServant n)) (fresh_at old n)) → new.store ≡ old.store
         → Holds c run opened (e ∷ past) new
     changed_holds f states_ stored_ old new holds configured fresh store = record {
       configured = λ k. configured k ∙ ap (f (NamedServant k)) (holds.configured k) ∙ sym (states_ (NamedServant k));
-      fresh = λ n. fresh n ∙ ap (option_map (f (FreshServant n))) (holds.fresh n) ∙ mapped_if (is_kept s n) (f (FreshServant n)) (state_of c run opened past (FreshServant n))
+      fresh = λ n. fresh n ∙ ap (option_map (f (FreshServant n))) (holds.fresh n)
+          ∙ mapped_if (is_kept s n) (f (FreshServant n)) (state_of c run opened past (FreshServant n))
           ∙ ap₂ (λ b x. if b then Some x else None) (sym (kept_same n)) (sym (states_ (FreshServant n)));
       room = room_same new.store (λ a there keeps. subst (λ x. IsReserved x a.path a.oid) (sym store) (holds.room a there keeps));
       stored = λ p oid. ap (λ x. stored_in (record old { store = x }) p oid) store ∙ holds.stored p oid ∙ sym (stored_ p oid);
@@ -157,6 +164,8 @@ itself : (o : Option State) → o ≡ option_map (λ x. x) o
 itself None = refl
 itself (Some x) = refl
 
-pub quiet_holds : (c : Config) (run limit : ℕ) (opened : Stored) (past : List Entry) (e : Entry) → IsGiven c run → IsWithinLimits c limit → IsLegal c run limit (e ∷ past) → is_quiet e ≡ true → (old : Kept) → Holds c run opened past old → Holds c run opened (e ∷ past) old
+pub quiet_holds : (c : Config) (run limit : ℕ) (opened : Stored) (past : List Entry) (e : Entry) → IsGiven c run → IsWithinLimits c limit
+    → IsLegal c run limit (e ∷ past) → is_quiet e ≡ true → (old : Kept) → Holds c run opened past old → Holds c run opened (e ∷ past) old
 quiet_holds c run limit opened past e given within legal quiet old holds =
-    changed_holds c run limit opened past e given within legal (quiet_leaves e quiet) (λ u x. x) (state_same c run opened past e quiet) (stored_same c run opened past e quiet) old old holds (λ k. refl) (λ n. itself (fresh_at old n)) refl
+    changed_holds c run limit opened past e given within legal (quiet_leaves e quiet) (λ u x. x) (state_same c run opened past e quiet)
+    (stored_same c run opened past e quiet) old old holds (λ k. refl) (λ n. itself (fresh_at old n)) refl

@@ -28,14 +28,16 @@ below_none place (e ∷ es) below =
       | Greater ↦ λ h. absurd h
     ] below
 
-later_sorted : (e : Place × Option State) (es : List (Place × Option State)) → T (is_sorted place_cmp (e ∷ es)) → T (below_all place_cmp e.0 es) × T (is_sorted place_cmp es)
+later_sorted : (e : Place × Option State) (es : List (Place × Option State)) → T (is_sorted place_cmp (e ∷ es)) → T (below_all place_cmp e.0 es)
+    × T (is_sorted place_cmp es)
 later_sorted e es sorted = parts (below_all place_cmp e.0 es) (is_sorted place_cmp es) sorted
   where
     parts : (a b : Bool) → T (a && b) → T a × T b
     parts true b is = (tt, is)
     parts false b is = absurd is
 
-tied_none : (place : Place) (e : Place × Option State) (es : List (Place × Option State)) → place_cmp place e.0 ≡ Equal → T (is_sorted place_cmp (e ∷ es)) → find place_cmp place es ≡ None
+tied_none : (place : Place) (e : Place × Option State) (es : List (Place × Option State)) → place_cmp place e.0 ≡ Equal → T (is_sorted place_cmp (e ∷ es))
+    → find place_cmp place es ≡ None
 tied_none place e es tied sorted = ap (λ x. find place_cmp x es) (same_place place e.0 tied) ∙ below_none e.0 es (later_sorted e es sorted).0
 
 rows_stored : (es : List (Place × Option State)) → T (is_sorted place_cmp es) → (slots : Slots) (p : List (List ℕ)) (oid : List ℕ) →
@@ -43,15 +45,21 @@ rows_stored : (es : List (Place × Option State)) → T (is_sorted place_cmp es)
 rows_stored [] sorted slots p oid = refl
 rows_stored ((k, None) ∷ es) sorted slots p oid =
     rows_stored es (later_sorted (k, None) es sorted).1 slots p oid
-    ∙ elim (place_cmp (p, oid) k) as (λ r. place_cmp (p, oid) k ≡ r → option_or (filled (find place_cmp (p, oid) es)) (stored slots p oid) ≡ option_or (filled (if is_eq r then Some None else find place_cmp (p, oid) es)) (stored slots p oid)) [
+    ∙ elim (place_cmp (p, oid) k) as (λ r. place_cmp (p, oid) k ≡ r
+    → option_or (filled (find place_cmp (p, oid) es)) (stored slots p oid) ≡ option_or (filled (if is_eq r then Some None else find place_cmp (p, oid) es))
+    (stored slots p oid)) [
       | Less ↦ λ _. refl
       | Equal ↦ λ tied. ap (λ o. option_or (filled o) (stored slots p oid)) (tied_none (p, oid) (k, None) es tied sorted)
       | Greater ↦ λ _. refl
     ] refl
 rows_stored ((k, Some state) ∷ es) sorted slots p oid =
     rows_stored es (later_sorted (k, Some state) es sorted).1 (with_state (with_room slots k.0 k.1) k.0 k.1 state) p oid
-    ∙ ap (option_or (filled (find place_cmp (p, oid) es))) (stored-with_state (with_room slots k.0 k.1) k.0 k.1 state p oid ∙ ap (λ x. if is_eq (place_cmp (p, oid) k) then Some state else x) (stored-with_room slots k.0 k.1 p oid))
-    ∙ elim (place_cmp (p, oid) k) as (λ r. place_cmp (p, oid) k ≡ r → option_or (filled (find place_cmp (p, oid) es)) (if is_eq r then Some state else stored slots p oid) ≡ option_or (filled (if is_eq r then Some (Some state) else find place_cmp (p, oid) es)) (stored slots p oid)) [
+    ∙ ap (option_or (filled (find place_cmp (p, oid) es)))
+    (stored-with_state (with_room slots k.0 k.1) k.0 k.1 state p oid
+    ∙ ap (λ x. if is_eq (place_cmp (p, oid) k) then Some state else x) (stored-with_room slots k.0 k.1 p oid))
+    ∙ elim (place_cmp (p, oid) k) as (λ r. place_cmp (p, oid) k ≡ r
+    → option_or (filled (find place_cmp (p, oid) es)) (if is_eq r then Some state else stored slots p oid) ≡ option_or
+    (filled (if is_eq r then Some (Some state) else find place_cmp (p, oid) es)) (stored slots p oid)) [
       | Less ↦ λ _. refl
       | Equal ↦ λ tied. ap (λ o. option_or (filled o) (Some state)) (tied_none (p, oid) (k, Some state) es tied sorted)
       | Greater ↦ λ _. refl
@@ -61,7 +69,8 @@ or_none : (o : Option State) → option_or o None ≡ o
 or_none None = refl
 or_none (Some x) = refl
 
-pub rows_copied : (slots copy : Slots) → copy ≡ with_rows (states slots) finite.empty → (p : List (List ℕ)) (oid : List ℕ) → stored copy p oid ≡ stored slots p oid
+pub rows_copied : (slots copy : Slots) → copy ≡ with_rows (states slots) finite.empty → (p : List (List ℕ)) (oid : List ℕ)
+    → stored copy p oid ≡ stored slots p oid
 rows_copied slots copy is p oid =
     ap (λ x. stored x p oid) is
     ∙ (rows_stored (finite.entries slots) (finite.entries_sorted slots) finite.empty p oid

@@ -49,7 +49,8 @@ phase_from (Complete u) t is = (let e : Some u ≡ Some t = is in ap (λ x. Comp
 phase_from Begun t is = absurd (let e : None ≡ Some t = is in cc)
 phase_from Void t is = absurd (let e : None ≡ Some t = is in cc)
 
-module _ (c : Config) (run limit : ℕ) (opened : Stored) (past : List Entry) (w : ℕ) (given : IsGiven c run) (alone : IsGivenAlone c run) (within : IsWithinLimits c limit) (legal : IsLegal c run limit (Run w ∷ past)) where
+module _ (c : Config) (run limit : ℕ) (opened : Stored) (past : List Entry) (w : ℕ) (given : IsGiven c run) (alone : IsGivenAlone c run)
+    (within : IsWithinLimits c limit) (legal : IsLegal c run limit (Run w ∷ past)) where
   abbrev s : Standing
   s = standing c run past
 
@@ -62,7 +63,9 @@ module _ (c : Config) (run limit : ℕ) (opened : Stored) (past : List Entry) (w
       let there = found_activation s m may.it may.begun in
       let phase : may.it.phase ≡ Complete (FreshServant n) = phase_from may.it.phase (FreshServant n) (ap servant_of_activation (sym may.begun) ∙ has) in
       let own : n ≡ may.it.number = (stands_alone c run limit past given alone within legal.1).fresh may.it n there.0 phase in
-      let untold = false_from_ne_true may.it.etherealized (λ told. true≢false (sym ((all_manned c run limit past given alone within legal.1).told_out may.it there.0 told) ∙ may.mapped)) in
+      let untold =
+      false_from_ne_true may.it.etherealized
+      (λ told. true≢false (sym ((all_manned c run limit past given alone within legal.1).told_out may.it there.0 told) ∙ may.mapped)) in
       kept_by c run s sound n may.it there.0 (sym own) (keeps_from may.it (ap is_fresh phase) untold)
 
   -- the servant that runs is kept, where it is a fresh one
@@ -70,8 +73,10 @@ module _ (c : Config) (run limit : ℕ) (opened : Stored) (past : List Entry) (w
   runs_kept n = by_stage (stage past w) refl
     where
       by_verdict : (r : ℕ) (v : Option Verdict) → stage past w ≡ Serving r → admitted past r ≡ v → servant_by c s v ≡ Some (FreshServant n) → is_kept s n ≡ true
-      by_verdict r (Some (Serve m)) at by is = serves_kept m n ((has_lifetime c run limit (Run w ∷ past) given alone within legal).kept.0 r m at (ap named by)) is
-      by_verdict r (Some (Incarnate m)) at by is = serves_kept m n ((has_lifetime c run limit (Run w ∷ past) given alone within legal).kept.0 r m at (ap named by)) is
+      by_verdict r (Some (Serve m)) at by is =
+          serves_kept m n ((has_lifetime c run limit (Run w ∷ past) given alone within legal).kept.0 r m at (ap named by)) is
+      by_verdict r (Some (Incarnate m)) at by is =
+          serves_kept m n ((has_lifetime c run limit (Run w ∷ past) given alone within legal).kept.0 r m at (ap named by)) is
       by_verdict r (Some (Preset name)) at by is = absurd (not_named c name n is)
       by_verdict r (Some (Locator name)) at by is = absurd (not_named c name n is)
       by_verdict r (Some Try) at by is = absurd (let e : None ≡ Some (FreshServant n) = is in cc)
@@ -92,15 +97,21 @@ module _ (c : Config) (run limit : ℕ) (opened : Stored) (past : List Entry) (w
       by_stage (Ran r) at is = absurd (let e : None ≡ Some (FreshServant n) = is in cc)
       by_stage (Removing m) at is = absurd (let e : None ≡ Some (FreshServant n) = is in cc)
 
-  pub run_holds : (old new : Kept) → Holds c run opened past old → IsActed (servant_run c run past (stage past w)) (call_run past (stage past w)) old new → Holds c run opened (Run w ∷ past) new
+  pub run_holds : (old new : Kept) → Holds c run opened past old → IsActed (servant_run c run past (stage past w)) (call_run past (stage past w)) old new
+      → Holds c run opened (Run w ∷ past) new
   run_holds old new holds activations =
-      changed_holds c run limit opened past (Run w) given within legal refl (λ u x. after_run u (servant_run c run past (stage past w)) (call_run past (stage past w)) x) (λ u. refl) (λ p oid. refl) old new holds activations.configured activations.fresh activations.store
+      changed_holds c run limit opened past (Run w) given within legal refl
+      (λ u x. after_run u (servant_run c run past (stage past w)) (call_run past (stage past w)) x) (λ u. refl)
+      (λ p oid. refl) old new holds activations.configured activations.fresh activations.store
 
   -- its outcome is that of its state
-  pub run_tells : (old : Kept) → Holds c run opened past old → (call : Option Call) → outcome_in (servant_run c run past (stage past w)) call old ≡ option_map (λ u. (acted (state_of c run opened past u) call).1) (servant_run c run past (stage past w))
+  pub run_tells : (old : Kept) → Holds c run opened past old → (call : Option Call)
+      → outcome_in (servant_run c run past (stage past w)) call old ≡ option_map (λ u. (acted (state_of c run opened past u) call).1)
+      (servant_run c run past (stage past w))
   run_tells old holds call = by_servant (servant_run c run past (stage past w)) refl
     where
-      by_servant : (runs : Option Sid) → servant_run c run past (stage past w) ≡ runs → outcome_in runs call old ≡ option_map (λ u. (acted (state_of c run opened past u) call).1) runs
+      by_servant : (runs : Option Sid) → servant_run c run past (stage past w) ≡ runs
+          → outcome_in runs call old ≡ option_map (λ u. (acted (state_of c run opened past u) call).1) runs
       by_servant None is = refl
       by_servant (Some (NamedServant k)) is = ap (λ x. Some (acted x call).1) (holds.configured k)
       by_servant (Some (FreshServant n)) is =

@@ -30,7 +30,8 @@ use Rattle.servant_states.specs.Runs.{HasServant}
 use Rattle.servant_states.proofs.FreshFrom.{activation_found}
 use Rattle.servant_states.proofs.NamesThere.{IsThere, NamesThere, admitted_there}
 
-module _ (c : Config) (run limit : ℕ) (h : List Entry) (given : IsGiven c run) (alone : IsGivenAlone c run) (within : IsWithinLimits c limit) (legal : IsLegal c run limit h) where
+module _ (c : Config) (run limit : ℕ) (h : List Entry) (given : IsGiven c run) (alone : IsGivenAlone c run) (within : IsWithinLimits c limit)
+    (legal : IsLegal c run limit h) where
   abbrev s : Standing
   s = standing c run h
 
@@ -38,14 +39,18 @@ module _ (c : Config) (run limit : ℕ) (h : List Entry) (given : IsGiven c run)
   sound = legal_sound c run limit h given within legal
 
   -- by an activation that has one
-  by_activation : (n : ℕ) → ((a : Activation) × In a s.activations × (a.number ≡ n) × ((t : Sid) × (a.phase ≡ Complete t))) → (t : Sid) × (servant_of_activation (activation_numbered s n) ≡ Some t)
-  by_activation n (a, there, at, (t, phase)) = (t, ap servant_of_activation (activation_found c run s sound n a there at) ∙ ap (λ p. servant_of_activation (Some (record a { phase = p }))) phase)
+  by_activation : (n : ℕ) → ((a : Activation) × In a s.activations × (a.number ≡ n) × ((t : Sid) × (a.phase ≡ Complete t))) → (t : Sid)
+      × (servant_of_activation (activation_numbered s n) ≡ Some t)
+  by_activation n (a, there, at, (t, phase)) =
+      (t, ap servant_of_activation (activation_found c run s sound n a there at) ∙ ap (λ p. servant_of_activation (Some (record a { phase = p }))) phase)
 
   -- by its name
   by_name : (name : List ℕ) → IsThere c name → (t : Sid) × ((elim (servant_number c name) [ Some k ↦ Some (NamedServant k) | None ↦ None ]) ≡ Some t)
   by_name name (k, is) = (NamedServant k, ap (λ o. elim o [ Some j ↦ Some (NamedServant j) | None ↦ None ]) is)
 
-  by_verdict : (v : Verdict) → runs (Go v) ≡ true → ((n : ℕ) → named (Some v) ≡ Some n → (a : Activation) × In a s.activations × (a.number ≡ n) × ((t : Sid) × (a.phase ≡ Complete t))) → NamesThere c (Some v) → (t : Sid) × (servant_by c s (Some v) ≡ Some t)
+  by_verdict : (v : Verdict) → runs (Go v) ≡ true
+      → ((n : ℕ) → named (Some v) ≡ Some n → (a : Activation) × In a s.activations × (a.number ≡ n) × ((t : Sid) × (a.phase ≡ Complete t)))
+      → NamesThere c (Some v) → (t : Sid) × (servant_by c s (Some v) ≡ Some t)
   by_verdict (Serve n) ran served there = by_activation n (served n refl)
   by_verdict (Incarnate n) ran served there = by_activation n (served n refl)
   by_verdict (Preset name) ran served there = by_name name there

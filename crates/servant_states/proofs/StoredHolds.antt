@@ -88,7 +88,8 @@ stores_none (Complete (NamedServant k)) is = refl
 stores_none Begun is = refl
 stores_none Void is = refl
 
-module _ (c : Config) (run limit : ℕ) (opened : Stored) (past : List Entry) (w : ℕ) (cleanup remaining : Bool) (given : IsGiven c run) (alone : IsGivenAlone c run) (within : IsWithinLimits c limit) (legal : IsLegal c run limit (Etherealized w cleanup remaining ∷ past)) where
+module _ (c : Config) (run limit : ℕ) (opened : Stored) (past : List Entry) (w : ℕ) (cleanup remaining : Bool) (given : IsGiven c run)
+    (alone : IsGivenAlone c run) (within : IsWithinLimits c limit) (legal : IsLegal c run limit (Etherealized w cleanup remaining ∷ past)) where
   abbrev s : Standing
   s = standing c run past
 
@@ -118,15 +119,25 @@ module _ (c : Config) (run limit : ℕ) (opened : Stored) (past : List Entry) (w
   is_of_it =
       let turn = removal_is c run past w cleanup remaining legal.0 in
       let there = found_activation s turn.number turn.it turn.found in
-      let holds : flying.Holds past s (Removing turn.number) = subst (λ b. flying.Holds past s b) turn.begun ((all_manned c run limit past given alone within legal.1).stages w) in
+      let holds : flying.Holds past s (Removing turn.number) =
+      subst (λ b. flying.Holds past s b) turn.begun ((all_manned c run limit past given alone within legal.1).stages w) in
       let is_it : holds.0 ≡ turn.it = sound.activation_alone holds.0 turn.it holds.1 there.0 (holds.2 ∙ sym there.1) in
-      record { number = turn.number; it = turn.it; there = there.0; numbered = there.1; found = turn.found; begun_ = turn.begun; untold = ap (λ x. x.etherealized) (sym is_it) ∙ holds.5 }
+      record {
+        number = turn.number;
+        it = turn.it;
+        there = there.0;
+        numbered = there.1;
+        found = turn.found;
+        begun_ = turn.begun;
+        untold = ap (λ x. x.etherealized) (sym is_it) ∙ holds.5;
+      }
 
   removed_is : (of_it : IsOf) → removed s (stage past w) ≡ removed_of (Some of_it.it)
   removed_is of_it = ap (removed s) of_it.begun_ ∙ ap removed_of of_it.found
 
   -- what the definition stores
-  stores_is : (of_it : IsOf) (p : List (List ℕ)) (oid : List ℕ) → is_stored_by s (stage past w) p oid ≡ (if same_path of_it.it.path p && same_bytes of_it.it.oid oid then (leaver of_it.it.phase) else None)
+  stores_is : (of_it : IsOf) (p : List (List ℕ)) (oid : List ℕ)
+      → is_stored_by s (stage past w) p oid ≡ (if same_path of_it.it.path p && same_bytes of_it.it.oid oid then (leaver of_it.it.phase) else None)
   stores_is of_it p oid =
       ap (λ b. is_stored_by s b p oid) of_it.begun_
       ∙ ap (λ o. elim o [ None ↦ None | Some a ↦ (if same_path a.path p && same_bytes a.oid oid then (leaver a.phase) else None) ]) of_it.found
@@ -139,10 +150,14 @@ module _ (c : Config) (run limit : ℕ) (opened : Stored) (past : List Entry) (w
   told_then of_it b there at =
       let s1 : Standing = changed c run past e s in
       let y : Activation = at_number of_it.number told of_it.it in
-      let y_is : y ≡ record of_it.it { etherealized = true } = ap (λ z. if z then record of_it.it { etherealized = true } else of_it.it) (eq-eqb of_it.it.number of_it.number of_it.numbered) in
-      let in_y : In y s1.activations = subst (λ z. In y (with_etherealized z s).activations) (sym of_it.begun_) (image_in (at_number of_it.number told) of_it.it s.activations of_it.there) in
+      let y_is : y ≡ record of_it.it { etherealized = true } =
+      ap (λ z. if z then record of_it.it { etherealized = true } else of_it.it) (eq-eqb of_it.it.number of_it.number of_it.numbered) in
+      let in_y : In y s1.activations =
+      subst (λ z. In y (with_etherealized z s).activations) (sym of_it.begun_) (image_in (at_number of_it.number told) of_it.it s.activations of_it.there) in
       let out = let_out_keeps c s1 y in
-      let same : let_out c s1 y ≡ b = after.activation_alone (let_out c s1 y) b (image_in (let_out c s1) y s1.activations in_y) there (out.1 ∙ (ap (λ x. x.number) y_is ∙ (of_it.numbered ∙ sym at))) in
+      let same : let_out c s1 y ≡ b =
+      after.activation_alone (let_out c s1 y) b (image_in (let_out c s1) y s1.activations in_y) there
+      (out.1 ∙ (ap (λ x. x.number) y_is ∙ (of_it.numbered ∙ sym at))) in
       ap (λ x. x.etherealized) (sym same) ∙ (out.2 ∙ ap (λ x. x.etherealized) y_is)
 
   -- so it is kept no longer
@@ -190,7 +205,9 @@ module _ (c : Config) (run limit : ℕ) (opened : Stored) (past : List Entry) (w
       configured = holds.configured;
       fresh = λ n. holds.fresh n ∙ ap (λ b. if b then Some (state_of c run opened past (FreshServant n)) else None) (sym (others_kept of_it n (unkept n)));
       room = kept_room old holds;
-      stored = λ p oid. holds.stored p oid ∙ sym (ap (λ o. elim o [ Some u ↦ Some (state_of c run opened past u) | None ↦ stored c run opened past p oid ]) (nothing p oid));
+      stored =
+          λ p oid. holds.stored p oid
+          ∙ sym (ap (λ o. elim o [ Some u ↦ Some (state_of c run opened past u) | None ↦ stored c run opened past p oid ]) (nothing p oid));
     }
       where
         unkept : (n : ℕ) → is_kept s n ≡ true → n ≡ of_it.number → ⊥
@@ -204,15 +221,20 @@ module _ (c : Config) (run limit : ℕ) (opened : Stored) (past : List Entry) (w
         neither false o is = refl
 
         nothing : (p : List (List ℕ)) (oid : List ℕ) → is_stored_by s (stage past w) p oid ≡ None
-        nothing p oid = stores_is of_it p oid ∙ neither (same_path of_it.it.path p && same_bytes of_it.it.oid oid) (leaver of_it.it.phase) (stores_none of_it.it.phase none)
+        nothing p oid =
+            stores_is of_it p oid ∙ neither (same_path of_it.it.path p && same_bytes of_it.it.oid oid) (leaver of_it.it.phase) (stores_none of_it.it.phase none)
 
     -- else its state is stored
-    stored_then : (n : ℕ) → fresh_number of_it.it.phase ≡ Some n → (new : Kept) → IsStored n of_it.it.path of_it.it.oid (state_of c run opened past (FreshServant n)) old new → Holds c run opened (e ∷ past) new
+    stored_then : (n : ℕ) → fresh_number of_it.it.phase ≡ Some n → (new : Kept)
+        → IsStored n of_it.it.path of_it.it.oid (state_of c run opened past (FreshServant n)) old new → Holds c run opened (e ∷ past) new
     stored_then n has new stores = record {
       configured = λ k. ap (λ xs. unwrap_or (slice_get xs k) Fault) stores.configured ∙ holds.configured k;
       fresh = λ m. stores.fresh m ∙ fresh_after m;
-      room = λ b there keeps. subst (λ x. IsReserved x b.path b.oid) (sym stores.store) (reserved-insert old.store of_it.it.path of_it.it.oid (Some (state_of c run opened past (FreshServant n))) b.path b.oid (kept_room old holds b there keeps));
-      stored = λ p oid. ap (λ x. slots.stored x p oid) stores.store ∙ (stored-with_state old.store of_it.it.path of_it.it.oid (state_of c run opened past (FreshServant n)) p oid ∙ stored_after p oid);
+      room = λ b there keeps. subst (λ x. IsReserved x b.path b.oid) (sym stores.store)
+          (reserved-insert old.store of_it.it.path of_it.it.oid (Some (state_of c run opened past (FreshServant n))) b.path b.oid
+          (kept_room old holds b there keeps));
+      stored = λ p oid. ap (λ x. slots.stored x p oid) stores.store
+          ∙ (stored-with_state old.store of_it.it.path of_it.it.oid (state_of c run opened past (FreshServant n)) p oid ∙ stored_after p oid);
     }
       where
         was : (n ≡ of_it.number) × (is_kept s n ≡ true)
@@ -220,27 +242,42 @@ module _ (c : Config) (run limit : ℕ) (opened : Stored) (past : List Entry) (w
 
         fresh_after : (m : ℕ) → (if m == n then None else fresh_at old m) ≡ (if is_kept t m then Some (state_of c run opened past (FreshServant m)) else None)
         fresh_after m =
-            elim (m == n) as (λ b. (m == n) ≡ b → (if b then None else fresh_at old m) ≡ (if is_kept t m then Some (state_of c run opened past (FreshServant m)) else None)) [
-              | true ↦ λ same. ap (λ b. if b then Some (state_of c run opened past (FreshServant m)) else None) (sym (ap (is_kept t) (eqb-true m n same ∙ was.0) ∙ gone_then of_it))
-              | false ↦ λ other. (holds.fresh m ∙ ap (λ b. if b then Some (state_of c run opened past (FreshServant m)) else None) (sym (others_kept of_it m (λ _ at. eqb-false m n other (at ∙ sym was.0)))))
+            elim (m == n) as (λ b. (m == n) ≡ b → (if b then None else fresh_at old m) ≡
+            (if is_kept t m then Some (state_of c run opened past (FreshServant m)) else None)) [
+              | true ↦
+                  λ same. ap (λ b. if b then Some (state_of c run opened past (FreshServant m)) else None)
+                  (sym (ap (is_kept t) (eqb-true m n same ∙ was.0) ∙ gone_then of_it))
+              | false ↦
+                  λ other.
+                  (holds.fresh m ∙ ap (λ b. if b then Some (state_of c run opened past (FreshServant m)) else None)
+                  (sym (others_kept of_it m (λ _ at. eqb-false m n other (at ∙ sym was.0)))))
             ] refl
 
-        by_place : (b : Bool) (x : Option State) → (if b then Some (state_of c run opened past (FreshServant n)) else x) ≡ (elim (if b then Some (FreshServant n) else None) [ Some u ↦ Some (state_of c run opened past u) | None ↦ x ])
+        by_place : (b : Bool) (x : Option State)
+            → (if b then Some (state_of c run opened past (FreshServant n)) else x) ≡
+            (elim (if b then Some (FreshServant n) else None) [ Some u ↦ Some (state_of c run opened past u) | None ↦ x ])
         by_place true x = refl
         by_place false x = refl
 
-        stored_after : (p : List (List ℕ)) (oid : List ℕ) → (if is_eq (place_cmp (p, oid) (of_it.it.path, of_it.it.oid)) then Some (state_of c run opened past (FreshServant n)) else slots.stored old.store p oid) ≡ stored c run opened (e ∷ past) p oid
+        stored_after : (p : List (List ℕ)) (oid : List ℕ)
+            → (if is_eq (place_cmp (p, oid) (of_it.it.path, of_it.it.oid)) then Some
+            (state_of c run opened past (FreshServant n)) else slots.stored old.store p oid) ≡ stored c run opened (e ∷ past) p oid
         stored_after p oid =
             ap₂ (λ b x. if b then Some (state_of c run opened past (FreshServant n)) else x) (place_is p oid of_it.it.path of_it.it.oid) (holds.stored p oid)
             ∙ (by_place (same_path of_it.it.path p && same_bytes of_it.it.oid oid) (stored c run opened past p oid)
             ∙ sym (ap (λ o. elim o [ Some u ↦ Some (state_of c run opened past u) | None ↦ stored c run opened past p oid ])
-            (stores_is of_it p oid ∙ ap (λ x. if same_path of_it.it.path p && same_bytes of_it.it.oid oid then (leaver x) else None) (number_of of_it.it.phase n has))))
+            (stores_is of_it p oid ∙ ap (λ x. if same_path of_it.it.path p && same_bytes of_it.it.oid oid then (leaver x) else None)
+            (number_of of_it.it.phase n has))))
 
     pub ended_then : (new : Kept) → Etherealizes (removed_of (Some of_it.it)) old new → Holds c run opened (e ∷ past) new
     ended_then new =
-        elim (fresh_number of_it.it.phase) as (λ o. fresh_number of_it.it.phase ≡ o → Etherealizes (option_map (λ n. (of_it.it, n)) o) old new → Holds c run opened (e ∷ past) new) [
+        elim (fresh_number of_it.it.phase) as (λ o. fresh_number of_it.it.phase ≡ o → Etherealizes (option_map (λ n. (of_it.it, n)) o) old new
+        → Holds c run opened (e ∷ past) new) [
           | None ↦ λ none same. subst (Holds c run opened (e ∷ past)) (sym same) (none_then none)
-          | Some n ↦ λ has ends. stored_then n has new (subst (λ o. Stores n of_it.it.path of_it.it.oid o old new) (holds.fresh n ∙ ap (λ b. if b then Some (state_of c run opened past (FreshServant n)) else None) (was_kept n has).1) ends)
+          | Some n ↦
+              λ has ends. stored_then n has new
+              (subst (λ o. Stores n of_it.it.path of_it.it.oid o old new)
+              (holds.fresh n ∙ ap (λ b. if b then Some (state_of c run opened past (FreshServant n)) else None) (was_kept n has).1) ends)
         ] refl
 
   pub ended_holds : (old new : Kept) → Holds c run opened past old → Etherealizes (removed s (stage past w)) old new → Holds c run opened (e ∷ past) new

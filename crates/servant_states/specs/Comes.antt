@@ -33,7 +33,8 @@ worker_of e = None
 
 -- the history, with what a run is given, to which the laws of histories apply; what its worker has begun, what stands, and
 -- the call and the servant of a run are those of the history
-pub record Comes (c : Config) (e : Entry) (begun : Stage) (call : Option Call) (runs : Option Sid) (s : Standing) (servants : Kept) : Type 0 where
+pub record Comes (c : Config) (e : Entry) (begun : Stage) (call : Option Call) (runs : Option Sid) (s : Standing)
+    (servants : Kept) : Type 0 where
   pub run : ℕ
   pub limit : ℕ
   pub opened : Stored
@@ -58,7 +59,8 @@ outcome_told c run opened past (Run w) runs call = option_map (λ t. (acted (sta
 outcome_told c run opened past e runs call = None
 
 abbrev pub TellsThen : Config → Entry → Stage → Option Call → Option Sid → Standing → Kept → Option Outcome → Type 0
-TellsThen c e begun call runs s old outcome = (k : Comes c e begun call runs s old) → outcome ≡ outcome_told c k.run k.opened k.past e runs call
+TellsThen c e begun call runs s old outcome = (k : Comes c e begun call runs s old)
+    → outcome ≡ outcome_told c k.run k.opened k.past e runs call
 
 -- the entries for which memory may be wanting
 abbrev pub may_want : Entry → Bool

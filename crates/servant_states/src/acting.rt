@@ -46,8 +46,10 @@ fn act_configured(
     call: Option<&Call>,
 ) -> Result<Outcome, WantMemory>
     ensures ok { OnOk result ((k : ℕ) → unwrap_or (slice_get configured.new.items k) Held.Fault
-        ≡ (if k == number then (acted (unwrap_or (slice_get configured.old.items k) Held.Fault) (option_copied call.entry)).0 else unwrap_or (slice_get configured.old.items k) Held.Fault)) }
-    ensures outcome { IfOk result (λ outcome. outcome ≡ (acted (unwrap_or (slice_get configured.old.items number) Held.Fault) (option_copied call.entry)).1) }
+        ≡ (if k == number then (acted (unwrap_or (slice_get configured.old.items k) Held.Fault) (option_copied call.entry)).0 else unwrap_or
+        (slice_get configured.old.items k) Held.Fault)) }
+    ensures outcome { IfOk result
+        (λ outcome. outcome ≡ (acted (unwrap_or (slice_get configured.old.items number) Held.Fault) (option_copied call.entry)).1) }
     ensures err { OnErr result (configured.new.items ≡ configured.old.items) }
 {
     let place = number as usize;
@@ -66,8 +68,10 @@ fn act_fresh(
     call: Option<&Call>,
 ) -> Result<Outcome, WantMemory>
     ensures ok { OnOk result ((n : ℕ) → tree.get nat_cmp fresh.new n
-        ≡ (if n == number then option_map (λ s. (acted s (option_copied call.entry)).0) (tree.get nat_cmp fresh.old n) else tree.get nat_cmp fresh.old n)) }
-    ensures outcome { IfOk result (λ outcome. outcome ≡ (acted (unwrap_or (tree.get nat_cmp fresh.old number) Held.Fault) (option_copied call.entry)).1) }
+        ≡ (if n == number then option_map (λ s. (acted s (option_copied call.entry)).0)
+        (tree.get nat_cmp fresh.old n) else tree.get nat_cmp fresh.old n)) }
+    ensures outcome { IfOk result
+        (λ outcome. outcome ≡ (acted (unwrap_or (tree.get nat_cmp fresh.old number) Held.Fault) (option_copied call.entry)).1) }
     ensures err { OnErr result (fresh.new.entries ≡ fresh.old.entries) }
 {
     match fresh.get_mut(&number) {

@@ -46,7 +46,8 @@ pub fn bring(
     standing: &Standing,
     servants: &mut Servants,
 ) -> Result<(), WantMemory>
-    ensures ok { OnOk result (Brings config.now number (turns.activation_numbered (seen standing.now) number) (kept_in servants.old) (kept_in servants.new)) }
+    ensures ok { OnOk result
+        (Brings config.now number (turns.activation_numbered (seen standing.now) number) (kept_in servants.old) (kept_in servants.new)) }
     ensures err { OnErr result (IsUnchanged (kept_in servants.old) (kept_in servants.new)) }
 {
     match activation_numbered(standing, number) {

@@ -35,25 +35,30 @@ module _ (c : Config) (run limit : ℕ) where
   pub entered_low : (h : List Entry) (x k : ℕ) → IsLegal c run limit h → get_elem? (reverse h) x ≡ some (Entered k) → k < connections h
   entered_low [] x k legal at = absurd (some-ne-none (Entered k) (sym at))
   entered_low (e ∷ past) x k legal at = ⊎_elim
-      (λ (old : get_elem? (reverse past) x ≡ some (Entered k)). (let low = entered_low past x k legal.1 old in let more = more_connections e past in omega arith))
+      (λ (old : get_elem? (reverse past) x ≡ some (Entered k)).
+      (let low = entered_low past x k legal.1 old in let more = more_connections e past in omega arith))
       (λ (new : (x ≡ length past) × (e ≡ Entered k)).
       (let next = entered_next e past k legal.0 new.1 in
       let grown : connections (e ∷ past) ≡ suc (connections past) = ap (λ d. connections (d ∷ past)) new.1 in omega arith))
       (which_stands e past x (Entered k) at)
 
-  once_by : (h : List Entry) (x y k : ℕ) → IsLegal c run limit h → get_elem? (reverse h) x ≡ some (Entered k) → get_elem? (reverse h) y ≡ some (Entered k) → x ≡ y
+  once_by : (h : List Entry) (x y k : ℕ) → IsLegal c run limit h → get_elem? (reverse h) x ≡ some (Entered k) → get_elem? (reverse h) y ≡ some (Entered k)
+      → x ≡ y
   once_by [] x y k legal at _ = absurd (some-ne-none (Entered k) (sym at))
   once_by (e ∷ past) x y k legal at at' = ⊎_elim
       (λ (old : get_elem? (reverse past) x ≡ some (Entered k)). ⊎_elim
       (λ (old' : get_elem? (reverse past) y ≡ some (Entered k)). once_by past x y k legal.1 old old')
-      (λ (new' : (y ≡ length past) × (e ≡ Entered k)). absurd (let next = entered_next e past k legal.0 new'.1 in let low = entered_low past x k legal.1 old in omega arith))
+      (λ (new' : (y ≡ length past) × (e ≡ Entered k)). absurd
+      (let next = entered_next e past k legal.0 new'.1 in let low = entered_low past x k legal.1 old in omega arith))
       (which_stands e past y (Entered k) at'))
       (λ (new : (x ≡ length past) × (e ≡ Entered k)). ⊎_elim
-      (λ (old' : get_elem? (reverse past) y ≡ some (Entered k)). absurd (let next = entered_next e past k legal.0 new.1 in let low = entered_low past y k legal.1 old' in omega arith))
+      (λ (old' : get_elem? (reverse past) y ≡ some (Entered k)). absurd
+      (let next = entered_next e past k legal.0 new.1 in let low = entered_low past y k legal.1 old' in omega arith))
       (λ (new' : (y ≡ length past) × (e ≡ Entered k)). new.0 ∙ sym new'.0)
       (which_stands e past y (Entered k) at'))
       (which_stands e past x (Entered k) at)
 
 pub entered_once : (g : Givens) (log : List Entry) (x y k : ℕ) → IsLog g log → get_elem? log x ≡ some (Entered k) → get_elem? log y ≡ some (Entered k) → x ≡ y
 entered_once g log x y k is at at' =
-    once_by g.config g.run g.limit (reverse log) x y k is.legal (subst (λ l. get_elem? l x ≡ some (Entered k)) (sym (reverse-reverse log)) at) (subst (λ l. get_elem? l y ≡ some (Entered k)) (sym (reverse-reverse log)) at')
+    once_by g.config g.run g.limit (reverse log) x y k is.legal (subst (λ l. get_elem? l x ≡ some (Entered k)) (sym (reverse-reverse log)) at)
+    (subst (λ l. get_elem? l y ≡ some (Entered k)) (sym (reverse-reverse log)) at')

@@ -17,7 +17,8 @@ use Rattle.serve_pieces.specs.Visits.{Visit, Visited, EachVisited, IsGone, conn_
 use Rattle.serve_pieces.proofs.Places.{in_either, in_first, in_second, stood_before}
 
 -- an entry is explained by more connections and workers too, and as the journal grows
-pub explained_more : (conns workers conns' workers' : List ℕ) (short long : List Entry) (place : ℕ) → ((c : ℕ) → In c conns → In c conns') → ((w : ℕ) → In w workers → In w workers') → IsPrefix short long → IsExplained conns workers short place → IsExplained conns' workers' long place
+pub explained_more : (conns workers conns' workers' : List ℕ) (short long : List Entry) (place : ℕ) → ((c : ℕ) → In c conns → In c conns')
+    → ((w : ℕ) → In w workers → In w workers') → IsPrefix short long → IsExplained conns workers short place → IsExplained conns' workers' long place
 explained_more conns workers conns' workers' short long place more_conns more_workers p it = record {
   entry = it.entry;
   stands = at_prefix short long place it.entry p it.stands;
@@ -34,7 +35,8 @@ pub record Adds (v w : View Givens Entry) (made : List ℕ) : Type 0 where
   pub kept : (place : ℕ) → In place v.mine → In place w.mine
   pub either : (place : ℕ) → In place w.mine → In place v.mine ⊎ In place made
 
-pub adds_behind : (v w : View Givens Entry) (made : List ℕ) → IsPrefix v.seen w.seen → ((place : ℕ) → In place v.mine → place < length v.seen) → w.mine ≡ v.mine ++ made → Adds v w made
+pub adds_behind : (v w : View Givens Entry) (made : List ℕ) → IsPrefix v.seen w.seen → ((place : ℕ) → In place v.mine → place < length v.seen)
+    → w.mine ≡ v.mine ++ made → Adds v w made
 adds_behind v w made grows within mine = record {
   grows = grows;
   within = within;
@@ -44,7 +46,8 @@ adds_behind v w made grows within mine = record {
 
 module _ (v w : View Givens Entry) (made : List ℕ) (adds : Adds v w made) where
   pub owns_later : (c : ℕ) → Owns v c → Owns w c
-  owns_later c owns = record { place = owns.place; made = adds.kept owns.place owns.made; entered = at_prefix v.seen w.seen owns.place (Entered c) adds.grows owns.entered }
+  owns_later c owns =
+      record { place = owns.place; made = adds.kept owns.place owns.made; entered = at_prefix v.seen w.seen owns.place (Entered c) adds.grows owns.entered }
 
   -- none of those places is one of the connection
   abbrev pub IsApart : ℕ → Type 0
@@ -72,7 +75,8 @@ module _ (v w : View Givens Entry) (made : List ℕ) (adds : Adds v w made) wher
     in_conn : (o : Option ℕ) (c : ℕ) → o ≡ Some c → In c (conn_in o)
     in_conn o c is = subst (λ p. In c (conn_in p)) (sym is) (let one = times_here c in omega arith)
 
-    pub each_later : (visits : List (Visit L)) → ((c : ℕ) → In c (conns_of visits) → IsApart c) → EachVisited g peer shown visits v → EachVisited g peer shown visits w
+    pub each_later : (visits : List (Visit L)) → ((c : ℕ) → In c (conns_of visits) → IsApart c) → EachVisited g peer shown visits v
+        → EachVisited g peer shown visits w
     each_later [] apart each = tt
     each_later (x ∷ earlier) apart each = (
       visited_later x (λ c is. apart c (in_first c (conn_in x.session.conn) (conns_of earlier) (in_conn x.session.conn c is))) each.0,

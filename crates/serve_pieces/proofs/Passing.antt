@@ -10,14 +10,16 @@ module _ {L : Type 0} where
   passes_none None = tt
   passes_none (Some a) = record { left = refl; back = refl; out = refl }
 
-  passed_one : (visits : List (Visit L)) (x : Visit L) (a b c d : Standing L) → Passes visits a b → Opens (door.Link x.before) b c → TakesBack x.after x.session c d → Passes (x ∷ visits) a d
+  passed_one : (visits : List (Visit L)) (x : Visit L) (a b c d : Standing L) → Passes visits a b → Opens (door.Link x.before) b c
+      → TakesBack x.after x.session c d → Passes (x ∷ visits) a d
   passed_one visits x a b c d so_far opened taken = record {
     left = so_far.left ∙ ap (given visits) (opened.0 ∙ ap (λ l. x.before ∷ l) (sym (ap (λ s. s.left) taken)));
     back = ap (λ s. s.back) taken ∙ ap (λ l. l ++ (x.after, x.session) ∷ []) (opened.2 ∙ so_far.back);
     out = (let less : d.out ≡ c.out - 1 = ap (λ s. s.out) taken in let more = opened.1 in let same = so_far.out in omega arith);
   }
 
-  pub passed_on : (visits : List (Visit L)) (x : Visit L) (s t u w : Option (Standing L)) → IfTold s t (Passes visits) → IfTold t u (Opens (door.Link x.before)) → IfTold u w (TakesBack x.after x.session) → IfTold s w (Passes (x ∷ visits))
+  pub passed_on : (visits : List (Visit L)) (x : Visit L) (s t u w : Option (Standing L)) → IfTold s t (Passes visits) → IfTold t u (Opens (door.Link x.before))
+      → IfTold u w (TakesBack x.after x.session) → IfTold s w (Passes (x ∷ visits))
   passed_on visits x None None None None p q r = tt
   passed_on visits x (Some a) (Some b) (Some c) (Some d) p q r = passed_one visits x a b c d p q r
   passed_on visits x (Some a) None u w p q r = absurd p

@@ -52,7 +52,8 @@ module _ (e : Entry) (past : List Entry) where
 pub place_stands : (h : List Entry) (c x : ℕ) → In x (places_by h c) → Belongs owner_of (reverse h) x c
 place_stands [] c x there = absurd (omega arith)
 place_stands (e ∷ past) c x there =
-    elim (is_at c (owner_of e)) as (λ b. is_at c (owner_of e) ≡ b → In x (if b then places_by past c ++ length past ∷ [] else places_by past c) → Belongs owner_of (reverse (e ∷ past)) x c) [
+    elim (is_at c (owner_of e)) as (λ b. is_at c (owner_of e) ≡ b → In x (if b then places_by past c ++ length past ∷ [] else places_by past c)
+    → Belongs owner_of (reverse (e ∷ past)) x c) [
       | true ↦ λ own i. ⊎_elim
           (λ (old : In x (places_by past c)). earlier (place_stands past c x old))
           (λ (new : x ≡ length past). (e, subst (λ k. get_elem? (reverse (e ∷ past)) k ≡ some e) (sym new) (newest_stands e past), at_owner c (owner_of e) own))
@@ -69,7 +70,8 @@ stands_at_place (e ∷ past) c x b =
     elim (is_at c (owner_of e)) as (λ t. is_at c (owner_of e) ≡ t → In x (if t then places_by past c ++ length past ∷ [] else places_by past c)) [
       | true ↦ λ own. ⊎_elim
           (λ (old : get_elem? (reverse past) x ≡ some b.0). in_longer x (places_by past c) (length past) (stands_at_place past c x (b.0, old, b.2)))
-          (λ (new : (x ≡ length past) × (e ≡ b.0)). subst (λ k. In k (places_by past c ++ length past ∷ [])) (sym new.0) (in_last (length past) (places_by past c)))
+          (λ (new : (x ≡ length past) × (e ≡ b.0)). subst (λ k. In k (places_by past c ++ length past ∷ [])) (sym new.0)
+          (in_last (length past) (places_by past c)))
           (which_stands e past x b.0 b.1)
       | false ↦ λ other. ⊎_elim
           (λ (old : get_elem? (reverse past) x ≡ some b.0). stands_at_place past c x (b.0, old, b.2))
@@ -78,6 +80,7 @@ stands_at_place (e ∷ past) c x b =
     ] refl
 
 -- what stands at a place that a beginning has stands there in the beginning
-pub stood_before : (short long : List Entry) (x : ℕ) (e : Entry) → IsPrefix short long → x < length short → get_elem? long x ≡ some e → get_elem? short x ≡ some e
+pub stood_before : (short long : List Entry) (x : ℕ) (e : Entry) → IsPrefix short long → x < length short → get_elem? long x ≡ some e
+    → get_elem? short x ≡ some e
 stood_before short long x e p low at =
     (let there = at_there short x low in there.1 ∙ ap some (one_at long x there.0 e (at_prefix short long x there.0 p there.1) at))

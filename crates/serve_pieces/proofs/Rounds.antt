@@ -29,7 +29,8 @@ stopped Full end stops = ((let e : Some (NotRunning Full) ≡ Some end = stops i
 stopped Shut end stops = ((let e : Some (NotRunning Shut) ≡ Some end = stops in cc), λ (q : Shut ≡ Running). cc)
 stopped (Abandoned w) end stops = ((let e : Some (NotRunning (Abandoned w)) ≡ Some end = stops in cc), λ (q : Abandoned w ≡ Running). cc)
 
-module _ {A L : Type 0} (g : Givens) (peer : Peer) (shown : L → Shown) (standing : A → Option (Standing L)) (faults : A → ℕ) (first : View Givens Entry) (closed : A) where
+module _ {A L : Type 0} (g : Givens) (peer : Peer) (shown : L → Shown) (standing : A → Option (Standing L)) (faults : A → ℕ) (first : View Givens Entry)
+    (closed : A) where
   abbrev AttendsTo : List (Visit L) → View Givens Entry → A → Type 0
   AttendsTo visits v door = Attending {A = A} {L = L} g peer shown standing faults first closed visits v door
 
@@ -42,7 +43,8 @@ module _ {A L : Type 0} (g : Givens) (peer : Peer) (shown : L → Shown) (standi
 
   -- the door is asked once more, and goes on
   pub rounds_more : (v w : View Givens Entry) (before after : A) (refused refused' : Option FullNumbers) (r : Received) → Rounds v before refused
-      → ((visits : List (Visit L)) → AttendsTo visits v before → AsReceived {A = A} {L = L} g peer shown standing faults first closed visits r w after) → refused' ≡ noted refused r → ending_of r ≡ None → Rounds w after refused'
+      → ((visits : List (Visit L)) → AttendsTo visits v before → AsReceived {A = A} {L = L} g peer shown standing faults first closed visits r w after)
+      → refused' ≡ noted refused r → ending_of r ≡ None → Rounds w after refused'
   rounds_more v w before after refused refused' (received.Served session) so_far more is none =
       (let it = more so_far.0 so_far.1 in
       (it.0 ∷ so_far.0, it.2, is ∙ (ap (λ o. earlier o (refusal_of session)) so_far.2 ∙ ap (λ s. earlier (least_refusal so_far.0) (refusal_of s)) (sym it.1))))
@@ -51,8 +53,10 @@ module _ {A L : Type 0} (g : Givens) (peer : Peer) (shown : L → Shown) (standi
   rounds_more v w before after refused refused' received.Failed so_far more is none = absurd (let e : Some DoorFailed ≡ None = none in cc)
 
   -- or it ends
-  pub rounds_end : (v w : View Givens Entry) (before after : A) (refused refused' : Option FullNumbers) (r : Received) (end : PieceEnd) → Rounds v before refused
-      → ((visits : List (Visit L)) → AttendsTo visits v before → AsReceived {A = A} {L = L} g peer shown standing faults first closed visits r w after) → refused' ≡ noted refused r → ending_of r ≡ Some end → DoorServed {A = A} {L = L} g peer shown standing faults first w closed after refused' end
+  pub rounds_end : (v w : View Givens Entry) (before after : A) (refused refused' : Option FullNumbers) (r : Received) (end : PieceEnd)
+      → Rounds v before refused
+      → ((visits : List (Visit L)) → AttendsTo visits v before → AsReceived {A = A} {L = L} g peer shown standing faults first closed visits r w after)
+      → refused' ≡ noted refused r → ending_of r ≡ Some end → DoorServed {A = A} {L = L} g peer shown standing faults first w closed after refused' end
   rounds_end v w before after refused refused' (received.Served session) end so_far more is ends = absurd (let e : None ≡ Some end = ends in cc)
   rounds_end v w before after refused refused' received.Nothing end so_far more is ends = absurd (let e : None ≡ Some end = ends in cc)
   rounds_end v w before after refused refused' received.End end so_far more is ends =
@@ -67,7 +71,8 @@ module _ {A L : Type 0} (g : Givens) (peer : Peer) (shown : L → Shown) (standi
       (record { visits = so_far.0; attends = it.0; passes = it.1; refused_is = is ∙ so_far.2; cause = it.2 }))
 
   -- a look at the phase
-  module _ (v w : View Givens Entry) (door : A) (refused : Option FullNumbers) (so_far : Rounds v door refused) (given : first.givens ≡ Some g) (phase : Phase) (looked : Event (λ old new. (new ≡ old) × (phase ≡ phase_of old.history)) v w) where
+  module _ (v w : View Givens Entry) (door : A) (refused : Option FullNumbers) (so_far : Rounds v door refused) (given : first.givens ≡ Some g) (phase : Phase)
+      (looked : Event (λ old new. (new ≡ old) × (phase ≡ phase_of old.history)) v w) where
     pub rounds_looked : Rounds w door refused
     rounds_looked =
         let event = looked g (so_far.1.attends.given ∙ given) in (

@@ -54,7 +54,8 @@ attends_none g peer shown v none = record {
     nowhere : (place : ℕ) → In place v.mine → ⊥
     nowhere place there = (let none_there : In place [] = subst (In place) none there in omega arith)
 
-module _ {L : Type 0} (g : Givens) (peer : Peer) (shown : L → Shown) (visits : List (Visit L)) (first v w : View Givens Entry) (so_far : Attends g peer shown visits first v) (x : Visit L) (served : Served g peer v w (shown x.before) (shown x.after) x.session) where
+module _ {L : Type 0} (g : Givens) (peer : Peer) (shown : L → Shown) (visits : List (Visit L)) (first v w : View Givens Entry)
+    (so_far : Attends g peer shown visits first v) (x : Visit L) (served : Served g peer v w (shown x.before) (shown x.after) x.session) where
   -- no connection entered
   module _ (none : x.session.conn ≡ None) (mine : w.mine ≡ v.mine) where
     adds_none : Adds v w []
@@ -70,7 +71,9 @@ module _ {L : Type 0} (g : Givens) (peer : Peer) (shown : L → Shown) (visits :
       base = served.base ∙ so_far.base;
       room = served.room ∙ so_far.room;
       ledger = record {
-        explained = λ place there. explained_more (conns_of visits) [] (conns_of (x ∷ visits)) [] v.seen w.seen place (λ c i. subst (In c) (sym same_conns) i) (λ k i. i) served.grows (so_far.ledger.explained place (subst (In place) mine there));
+        explained =
+            λ place there. explained_more (conns_of visits) [] (conns_of (x ∷ visits)) [] v.seen w.seen place (λ c i. subst (In c) (sym same_conns) i)
+            (λ k i. i) served.grows (so_far.ledger.explained place (subst (In place) mine there));
         closed = served.knows.closed;
         within = served.knows.within;
         owned = λ c i. owns_later v w [] adds_none c (so_far.ledger.owned c (subst (In c) same_conns i));
@@ -94,7 +97,8 @@ module _ {L : Type 0} (g : Givens) (peer : Peer) (shown : L → Shown) (visits :
     new_one : (d : ℕ) → In d (conns_of visits) → d ≡ c → ⊥
     new_one d there same =
         let owns = so_far.ledger.owned d there in
-        let old : get_elem? w.seen owns.place ≡ some (Entered c) = subst (λ k. get_elem? w.seen owns.place ≡ some (Entered k)) same (at_prefix v.seen w.seen owns.place (Entered d) served.grows owns.entered) in
+        let old : get_elem? w.seen owns.place ≡ some (Entered c) =
+        subst (λ k. get_elem? w.seen owns.place ≡ some (Entered k)) same (at_prefix v.seen w.seen owns.place (Entered d) served.grows owns.entered) in
         let is : owns.place ≡ told.place = entered_once g w.seen owns.place told.place c served.runs old told.entered in
         let low = at_below v.seen owns.place (Entered d) owns.entered in
         let high = told.later in omega arith
@@ -109,7 +113,8 @@ module _ {L : Type 0} (g : Givens) (peer : Peer) (shown : L → Shown) (visits :
     own_new : Owns w c
     own_new = record {
       place = told.place;
-      made = subst (In told.place) (sym told.mine) (in_second told.place v.mine (places c w.seen) (belongs_placed w.seen c told.place (Entered c, told.entered, refl)));
+      made = subst (In told.place) (sym told.mine)
+          (in_second told.place v.mine (places c w.seen) (belongs_placed w.seen c told.place (Entered c, told.entered, refl)));
       entered = told.entered;
     }
 
@@ -130,14 +135,16 @@ module _ {L : Type 0} (g : Givens) (peer : Peer) (shown : L → Shown) (visits :
       room = served.room ∙ so_far.room;
       ledger = record {
         explained = λ place there. subst (λ l. IsExplained l [] w.seen place) (sym more_conns) (⊎_elim
-            (λ (old : In place v.mine). explained_more (conns_of visits) [] (c ∷ conns_of visits) [] v.seen w.seen place (λ d i. in_second d (c ∷ []) (conns_of visits) i) (λ k i. i) served.grows (so_far.ledger.explained place old))
+            (λ (old : In place v.mine). explained_more (conns_of visits) [] (c ∷ conns_of visits) [] v.seen w.seen place
+            (λ d i. in_second d (c ∷ []) (conns_of visits) i) (λ k i. i) served.grows (so_far.ledger.explained place old))
             (λ (new : In place (places c w.seen)). (let b = place_belongs w.seen c place new in
             record { entry = b.0; stands = b.1; of = inl (c, in_first c (c ∷ []) (conns_of visits) (let one = times_here c in omega arith), b.2) }))
             (in_either place v.mine (places c w.seen) (subst (In place) told.mine there)));
         closed = served.knows.closed;
         within = served.knows.within;
         owned = λ d i. ⊎_elim
-            (λ (new : In d (c ∷ [])). dite (ℕ_discrete d c) (λ (same : d ≡ c). subst (Owns w) (sym same) own_new) (λ (other : d ≡ c → ⊥). absurd (let none = times_else d c other in omega arith)))
+            (λ (new : In d (c ∷ [])). dite (ℕ_discrete d c) (λ (same : d ≡ c). subst (Owns w) (sym same) own_new)
+            (λ (other : d ≡ c → ⊥). absurd (let none = times_else d c other in omega arith)))
             (λ (old : In d (conns_of visits)). owns_later v w (places c w.seen) adds_places d (so_far.ledger.owned d old))
             (in_either d (c ∷ []) (conns_of visits) (subst (In d) more_conns i));
         once = λ d. subst (λ l. times d l ≤ 1) (sym more_conns) (once_more d);
@@ -155,7 +162,9 @@ module _ {L : Type 0} (g : Givens) (peer : Peer) (shown : L → Shown) (visits :
       );
     }
 
-  by_conn : (o : Option ℕ) → x.session.conn ≡ o → MatchOption o (RefusedAs peer v w (shown x.before) (shown x.after) x.session.end) (λ c. ServedAs g peer v w (shown x.before) (shown x.after) c x.session.end) → Attends g peer shown (x ∷ visits) first w
+  by_conn : (o : Option ℕ) → x.session.conn ≡ o
+      → MatchOption o (RefusedAs peer v w (shown x.before) (shown x.after) x.session.end)
+      (λ c. ServedAs g peer v w (shown x.before) (shown x.after) c x.session.end) → Attends g peer shown (x ∷ visits) first w
   by_conn None is refused = attends_refused is refused.mine
   by_conn (Some c) is told = attends_entered c is told
 

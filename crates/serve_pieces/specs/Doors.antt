@@ -24,7 +24,8 @@ use Rattle.serve_pieces.specs.Refusals.{least_refusal}
 use Rattle.serve_pieces.specs.Visits.{Visit, conns_of, EachVisited, Passes}
 
 -- between two views of a seat that had made nothing it made the entries of these visits, and no others
-pub record Attends {L : Type 0} (g : Givens) (peer : Peer) (shown : L → Shown) (visits : List (Visit L)) (old new : View Givens Entry) : Type 0 where
+pub record Attends {L : Type 0} (g : Givens) (peer : Peer) (shown : L → Shown) (visits : List (Visit L))
+    (old new : View Givens Entry) : Type 0 where
   pub grows : IsPrefix old.seen new.seen
   pub given : new.givens ≡ old.givens
   pub base : new.base ≡ old.base
@@ -59,7 +60,8 @@ module _ {A L : Type 0} (g : Givens) (peer : Peer) (shown : L → Shown) (standi
 
   -- what comes of asking it once more
   abbrev pub AsReceived : View Givens Entry → A → List (Visit L) → Received → View Givens Entry → A → Type 0
-  AsReceived first closed visits (received.Served session) v door = (x : Visit L) × (x.session ≡ session) × Attending first closed (x ∷ visits) v door
+  AsReceived first closed visits (received.Served session) v door = (x : Visit L) × (x.session ≡ session)
+      × Attending first closed (x ∷ visits) v door
   AsReceived first closed visits received.Nothing v door = Attending first closed visits v door
   AsReceived first closed visits received.End v door = Attending first closed visits v door × IfSome (standing door) (λ s. s.left ≡ [])
   AsReceived first closed visits received.Failed v door =

@@ -38,4 +38,5 @@ module _ {A G L : Type 0} (g : Givens) (shown : L → Shown) (standing : A → O
   abbrev pub Keeps : Task A G → View Givens Entry → Ran A → Type 0
   Keeps (Lane door) old ran = DoorKept g Client shown standing faults door old ran
   Keeps (Admin door) old ran = DoorKept g Administrator shown standing faults door old ran
-  Keeps (Worker worker gate) old ran = (ran.door ≡ None) × (ran.refused ≡ None) × ((end : WorkEnd) × (ran.end ≡ Worked end) × WorkedAs g worker old ran.seat.me.0 end)
+  Keeps (Worker worker gate) old ran = (ran.door ≡ None) × (ran.refused ≡ None)
+      × ((end : WorkEnd) × (ran.end ≡ Worked end) × WorkedAs g worker old ran.seat.me.0 end)

@@ -42,7 +42,8 @@ pub fn attend<R: Wait, A: Acceptor>(
     ensures seat { IsIdle shared.now seat.new }
     ensures ready { IsReady shared.now aid.new.seat }
     ensures aids { Aids aid.old.seat aid.new.seat }
-    ensures served { (g : Givens) → (view seat.old).givens ≡ Some g → DoorServed g peer A.Link.shown A.standing A.faults (view seat.old) (view seat.new) door.old door.new result.refused result.end }
+    ensures served { (g : Givens) → (view seat.old).givens ≡ Some g
+        → DoorServed g peer A.Link.shown A.standing A.faults (view seat.old) (view seat.new) door.old door.new result.refused result.end }
 {
     let mut refused = None;
     for _ in rt.forever() {

@@ -68,7 +68,9 @@ module _ {A L : Type 0} (g : Givens) (shown : L → Shown) (standing : A → Opt
     admin = inr (refl, refl, λ (none : Some want ≡ None). cc);
   }
 
-  pub doors_short : (old new : Doors A) (want : Want) (lost : Bool) (v w : View Givens Entry) → new.admin ≡ old.admin → new.lanes ≡ old.lanes → AreServed {A = A} {L = L} g shown standing faults [] (short_of want lost) v w → DoorsServed {A = A} {L = L} g shown standing faults old new (short_of want lost) v w
+  pub doors_short : (old new : Doors A) (want : Want) (lost : Bool) (v w : View Givens Entry) → new.admin ≡ old.admin → new.lanes ≡ old.lanes
+      → AreServed {A = A} {L = L} g shown standing faults [] (short_of want lost) v w
+      → DoorsServed {A = A} {L = L} g shown standing faults old new (short_of want lost) v w
   doors_short old new want lost v w admin lanes served = record {
     tours = [];
     attended = record {
@@ -84,13 +86,16 @@ module _ {A L : Type 0} (g : Givens) (shown : L → Shown) (standing : A → Opt
   }
 
   -- the administrators' door is joined
-  module _ {G : Type 0} (task : Task A G) (old new : Doors A) (v v' w j : View Givens Entry) (outcome : Outcome) (kept : IsKept v v') (room : v'.room + 1 ≡ v.room)
+  module _ {G : Type 0} (task : Task A G) (old new : Doors A) (v v' w j : View Givens Entry) (outcome : Outcome) (kept : IsKept v v')
+      (room : v'.room + 1 ≡ v.room)
       (inner : LanesServed {A = A} {L = L} g shown standing faults old.lanes.items new.lanes.items outcome v' w)
-      (first : View Givens Entry) (first_room : first.room ≡ 0) (door : Option A) (refused : Option Full) (end : PieceEnd) (joined : IsJoined {A = A} {G = G} {L = L} shown standing faults task first w j door refused end)
+      (first : View Givens Entry) (first_room : first.room ≡ 0) (door : Option A) (refused : Option Full) (end : PieceEnd)
+      (joined : IsJoined {A = A} {G = G} {L = L} shown standing faults task first w j door refused end)
       (keeps : DoorKept {A = A} {L = L} g Administrator shown standing faults old.admin first joined.ran) (back : door ≡ Some new.admin) where
     pub doors_more : DoorsServed {A = A} {L = L} g shown standing faults old new (with_door refused end outcome) v j
     doors_more = record {
-      tours = tour_of g shown standing faults Administrator task old.admin inner.tours v v' w j outcome kept room inner.served first first_room door refused end joined keeps ∷ inner.tours;
+      tours = tour_of g shown standing faults Administrator task old.admin inner.tours v v' w j outcome kept room inner.served first first_room door refused end
+          joined keeps ∷ inner.tours;
       attended = record {
         lanes = inner.tours;
         rest = inner.rest;
@@ -98,13 +103,17 @@ module _ {A L : Type 0} (g : Givens) (shown : L → Shown) (standing : A → Opt
         after = inner.after;
         all = inner.all;
         clients = inner.clients;
-        admin = inl (tour_of g shown standing faults Administrator task old.admin inner.tours v v' w j outcome kept room inner.served first first_room door refused end joined keeps, refl, refl, refl, sym (back_is keeps.0 new.admin door joined.ran.door joined.door_is keeps.1 back));
+        admin = inl
+            (tour_of g shown standing faults Administrator task old.admin inner.tours v v' w j outcome kept room inner.served first first_room door refused end joined keeps, refl, refl, refl, sym (back_is keeps.0 new.admin door joined.ran.door joined.door_is keeps.1 back));
       };
-      served = more_served g shown standing faults Administrator task old.admin inner.tours v v' w j outcome kept room inner.served first first_room door refused end joined keeps;
+      served =
+          more_served g shown standing faults Administrator task old.admin inner.tours v v' w j outcome kept room inner.served first first_room door refused end
+          joined keeps;
     }
 
   -- the doors were served, and a piece wasn't started
-  pub all_short : (old new : Doors A) (outcome : Outcome) (v w : View Givens Entry) → (outcome.short ≡ None → ⊥) → DoorsServed {A = A} {L = L} g shown standing faults old new outcome v w → AllServed {A = A} {L = L} g shown standing faults 0 old new outcome v w
+  pub all_short : (old new : Doors A) (outcome : Outcome) (v w : View Givens Entry) → (outcome.short ≡ None → ⊥)
+      → DoorsServed {A = A} {L = L} g shown standing faults old new outcome v w → AllServed {A = A} {L = L} g shown standing faults 0 old new outcome v w
   all_short old new outcome v w short served = record {
     same = served.served.same;
     tours = served.tours;
@@ -121,7 +130,8 @@ module _ {A L : Type 0} (g : Givens) (shown : L → Shown) (standing : A → Opt
   }
 
   -- the doors were served, all of them
-  module _ (old new : Doors A) (outcome : Outcome) (v w : View Givens Entry) (given : v.givens ≡ Some g) (calm : outcome.short ≡ None) (served : DoorsServed {A = A} {L = L} g shown standing faults old new outcome v w) where
+  module _ (old new : Doors A) (outcome : Outcome) (v w : View Givens Entry) (given : v.givens ≡ Some g) (calm : outcome.short ≡ None)
+      (served : DoorsServed {A = A} {L = L} g shown standing faults old new outcome v w) where
     held : Holds {A = A} {L = L} g shown standing faults None served.tours [] w
     held = (let it = served.served.calm calm in subst (λ o. Holds {A = A} {L = L} g shown standing faults o served.tours [] w) it.0 (served.served.holds it.1))
 
@@ -130,7 +140,8 @@ module _ {A L : Type 0} (g : Givens) (shown : L → Shown) (standing : A → Opt
 
     module _ (x : View Givens Entry) (lost : Bool) (same : IsSameSeat w x) (says : lost ≡ false → Says w x) where
       same_all : IsSameSeat v x
-      same_all = record { given = same.given ∙ served.served.same.given; base = same.base ∙ served.served.same.base; room = same.room ∙ served.served.same.room }
+      same_all =
+          record { given = same.given ∙ served.served.same.given; base = same.base ∙ served.served.same.base; room = same.room ∙ served.served.same.room }
 
       by_loss : (b : Bool) → lost ≡ b → AllServed {A = A} {L = L} g shown standing faults 0 old new (with_loss lost outcome) v x
       by_loss true is = record {
@@ -148,7 +159,8 @@ module _ {A L : Type 0} (g : Givens) (shown : L → Shown) (standing : A → Opt
         worked = λ _ _ k low. absurd (omega arith);
       }
       by_loss false is =
-          let it : IsSaid {A = A} {L = L} g shown standing faults served.tours [] w held x = says_shutdown g shown standing faults served.tours [] w x (served.served.same.given ∙ given) held (says is) in
+          let it : IsSaid {A = A} {L = L} g shown standing faults served.tours [] w held x =
+          says_shutdown g shown standing faults served.tours [] w x (served.served.same.given ∙ given) held (says is) in
           record {
             same = same_all;
             tours = served.tours;
@@ -168,7 +180,9 @@ module _ {A L : Type 0} (g : Givens) (shown : L → Shown) (standing : A → Opt
       all_shut = by_loss lost refl
 
   -- a worker wasn't started
-  pub workers_short : (count : ℕ) (doors : Doors A) (want : Want) (lost : Bool) (v w : View Givens Entry) → AreServed {A = A} {L = L} g shown standing faults [] (short_of want lost) v w → AllServed {A = A} {L = L} g shown standing faults count doors doors (short_of want lost) v w
+  pub workers_short : (count : ℕ) (doors : Doors A) (want : Want) (lost : Bool) (v w : View Givens Entry)
+      → AreServed {A = A} {L = L} g shown standing faults [] (short_of want lost) v w
+      → AllServed {A = A} {L = L} g shown standing faults count doors doors (short_of want lost) v w
   workers_short count doors want lost v w served = record {
     same = served.same;
     tours = [];
@@ -185,15 +199,18 @@ module _ {A L : Type 0} (g : Givens) (shown : L → Shown) (standing : A → Opt
   }
 
   -- a worker is joined
-  module _ {G : Type 0} (task : Task A G) (fewer count : ℕ) (next : count ≡ fewer + 1) (old new : Doors A) (v v' w j : View Givens Entry) (outcome : Outcome) (kept : IsKept v v') (room : v'.room + 1 ≡ v.room)
+  module _ {G : Type 0} (task : Task A G) (fewer count : ℕ) (next : count ≡ fewer + 1) (old new : Doors A) (v v' w j : View Givens Entry) (outcome : Outcome)
+      (kept : IsKept v v') (room : v'.room + 1 ≡ v.room)
       (inner : AllServed {A = A} {L = L} g shown standing faults fewer old new outcome v' w)
-      (first : View Givens Entry) (first_room : first.room ≡ 0) (fresh : first.mine ≡ []) (door : Option A) (refused : Option Full) (end : PieceEnd) (joined : IsJoined {A = A} {G = G} {L = L} shown standing faults task first w j door refused end)
+      (first : View Givens Entry) (first_room : first.room ≡ 0) (fresh : first.mine ≡ []) (door : Option A) (refused : Option Full) (end : PieceEnd)
+      (joined : IsJoined {A = A} {G = G} {L = L} shown standing faults task first w j door refused end)
       (ended : WorkEnd) (end_is : joined.ran.end ≡ Worked ended) (worked : WorkedAs g fewer first joined.ran.seat.me.0 ended) where
     same_worker : IsSameSeat v j
     same_worker = record {
       given = ap (λ x. x.givens) joined.joined ∙ (inner.same.given ∙ kept.given);
       base = ap (λ x. x.base) joined.joined ∙ (inner.same.base ∙ kept.base);
-      room = (let r : j.room ≡ w.room + joined.ran.seat.me.0.room + 1 = ap (λ x. x.room) joined.joined in let none : joined.ran.seat.me.0.room ≡ 0 = worked.room ∙ first_room in let same = inner.same.room in omega arith);
+      room = (let r : j.room ≡ w.room + joined.ran.seat.me.0.room + 1 = ap (λ x. x.room) joined.joined in
+          let none : joined.ran.seat.me.0.room ≡ 0 = worked.room ∙ first_room in let same = inner.same.room in omega arith);
     }
 
     not_yet : In fewer (workers_in inner.shifts) → ⊥
@@ -205,7 +222,8 @@ module _ {A L : Type 0} (g : Givens) (shown : L → Shown) (standing : A → Opt
         let is : ended ≡ Closed = cc in
         subst (λ e. WorkedAs g fewer first joined.ran.seat.me.0 e) is worked
 
-    by_end : (b : Bool) → (outcome.lost || is_loss end) ≡ b → AllServed {A = A} {L = L} g shown standing faults count old new (with_loss (is_loss end) outcome) v j
+    by_end : (b : Bool) → (outcome.lost || is_loss end) ≡ b
+        → AllServed {A = A} {L = L} g shown standing faults count old new (with_loss (is_loss end) outcome) v j
     by_end true is = record {
       same = same_worker;
       tours = inner.tours;
@@ -232,8 +250,10 @@ module _ {A L : Type 0} (g : Givens) (shown : L → Shown) (standing : A → Opt
           own = inner.own;
           word = inner.word;
           shifts = record { worker = fewer; stood = joined.ran.seat.me.0.seen } ∷ inner.shifts;
-          holds = λ _. holds_worker g shown standing faults inner.own inner.tours inner.shifts w joined.ran.seat.me.0 j (inner.holds parts.0) fewer not_yet first fresh (closed parts.1) joined.unites mine;
-          last = λ none _. last_worker g shown standing faults inner.own inner.tours inner.shifts w joined.ran.seat.me.0 j (inner.holds parts.0) fewer not_yet first fresh (closed parts.1) joined.unites mine (inner.last none parts.0);
+          holds = λ _. holds_worker g shown standing faults inner.own inner.tours inner.shifts w joined.ran.seat.me.0 j
+              (inner.holds parts.0) fewer not_yet first fresh (closed parts.1) joined.unites mine;
+          last = λ none _. last_worker g shown standing faults inner.own inner.tours inner.shifts w joined.ran.seat.me.0 j
+              (inner.holds parts.0) fewer not_yet first fresh (closed parts.1) joined.unites mine (inner.last none parts.0);
           below = λ k there. ⊎_elim
               (λ (here : In k (fewer ∷ [])). (let same = one_in k fewer here in omega arith))
               (λ (old_ : In k (workers_in inner.shifts)). (let low = inner.below k old_ in omega arith))

@@ -92,8 +92,12 @@ shut_by_others : (h : List Entry) → NoneSaid h → is_shut h ≡ true → is_s
 shut_by_others [] none is = is
 shut_by_others (Admit w r v ∷ past) none is =
     elim (or_cases (is_shut_by (call_of past r)) (is_shut past) is) [
-      | inl now ↦ or_first (is_shut_by (call_of past r) && not (is_at 0 (conn_of past r))) (is_shut_by_others past) (ap₂ (λ x y. x && not y) now (not_first past r (none_before (Admit w r v) past none)))
-      | inr was ↦ or_second (is_shut_by (call_of past r) && not (is_at 0 (conn_of past r))) (is_shut_by_others past) (shut_by_others past (none_before (Admit w r v) past none) was)
+      | inl now ↦
+          or_first (is_shut_by (call_of past r) && not (is_at 0 (conn_of past r))) (is_shut_by_others past)
+          (ap₂ (λ x y. x && not y) now (not_first past r (none_before (Admit w r v) past none)))
+      | inr was ↦
+          or_second (is_shut_by (call_of past r) && not (is_at 0 (conn_of past r))) (is_shut_by_others past)
+          (shut_by_others past (none_before (Admit w r v) past none) was)
     ]
 shut_by_others (Entered k ∷ past) none is = shut_by_others past (none_before (Entered k) past none) is
 shut_by_others (Arrive k size call ∷ past) none is = shut_by_others past (none_before (Arrive k size call) past none) is
@@ -113,7 +117,8 @@ first_gave : (h : List Entry) (w : ℕ) → first_abandoned h ≡ Some w → is_
 first_gave [] w is = absurd (let e : None ≡ Some w = is in cc)
 first_gave (Abandon v ∷ past) w is = by_past (first_abandoned past) refl is (λ k was. first_gave past k was)
   where
-    by_past : (o : Option ℕ) → first_abandoned past ≡ o → option_or o (Some v) ≡ Some w → ((k : ℕ) → first_abandoned past ≡ Some k → is_abandoned past k ≡ true) → is_abandoned (Abandon v ∷ past) w ≡ true
+    by_past : (o : Option ℕ) → first_abandoned past ≡ o → option_or o (Some v) ≡ Some w → ((k : ℕ) → first_abandoned past ≡ Some k → is_abandoned past k ≡ true)
+        → is_abandoned (Abandon v ∷ past) w ≡ true
     by_past None none now earlier = (let e : Some v ≡ Some w = now in let same : v ≡ w = cc in abandoned_now w (Abandon v) past (ap Abandon same))
     by_past (Some k) some_ was earlier = abandoned_still w (Abandon v) past (earlier w (some_ ∙ was))
 first_gave (Entered k ∷ past) w is = first_gave past w is
@@ -148,7 +153,8 @@ why_stopped h phase is other = by_facts (first_abandoned h) (is_shut h) (is_fill
     by_facts None false true gave shut filled at = by_filled filled
     by_facts None false false gave shut filled at = absurd (other at)
 
-module _ {A L : Type 0} (g : Givens) (shown : L → Shown) (standing_of : A → Option (Standing L)) (faults : A → ℕ) (v : View Givens Entry) (log : List Entry) (seen : log ≡ v.seen) (going : NoneGaveUp log) where
+module _ {A L : Type 0} (g : Givens) (shown : L → Shown) (standing_of : A → Option (Standing L)) (faults : A → ℕ) (v : View Givens Entry) (log : List Entry)
+    (seen : log ≡ v.seen) (going : NoneGaveUp log) where
   module _ (t : Tour A L) (none : NoneSaid (reverse t.stood)) (it : HasToured {A = A} {L = L} g shown standing_of faults t v) where
     p : IsPrefix t.stood log
     p = subst (IsPrefix t.stood) (sym seen) it.later
@@ -156,13 +162,16 @@ module _ {A L : Type 0} (g : Givens) (shown : L → Shown) (standing_of : A → 
     whole_is : reverse log ≡ reverse p.0 ++ reverse t.stood
     whole_is = reversed_more t.stood log p.0 p.1
 
-    by_end : (end : PieceEnd) → t.end ≡ end → DoorHasCause end (standing_of t.served) (faults t.closed) (faults t.served) (reverse t.stood) → IsEnded {A = A} {L = L} standing_of faults log t
-    by_end DoorEnd is cause = record { why = inl cause.0; failed = λ other. absurd (let e : DoorEnd ≡ DoorFailed = sym is ∙ other in cc); steady = λ _. cause.1 }
+    by_end : (end : PieceEnd) → t.end ≡ end → DoorHasCause end (standing_of t.served) (faults t.closed) (faults t.served) (reverse t.stood)
+        → IsEnded {A = A} {L = L} standing_of faults log t
+    by_end DoorEnd is cause =
+        record { why = inl cause.0; failed = λ other. absurd (let e : DoorEnd ≡ DoorFailed = sym is ∙ other in cc); steady = λ _. cause.1 }
     by_end DoorFailed is cause = record { why = inr (inl cause); failed = λ _. cause; steady = λ other. absurd (other is) }
     by_end (NotRunning phase) is cause = record {
       why = elim (why_stopped (reverse t.stood) phase cause.0 cause.1) [
         | by_abandon w gave ↦ absurd (true≢false (sym (ap (λ l. is_abandoned l w) whole_is ∙ abandoned_since w (reverse p.0) (reverse t.stood) gave) ∙ going w))
-        | by_shut shut ↦ inr (inr (inr (ap is_shut_by_others whole_is ∙ shut_since (reverse p.0) (reverse t.stood) (shut_by_others (reverse t.stood) none shut))))
+        | by_shut shut ↦
+            inr (inr (inr (ap is_shut_by_others whole_is ∙ shut_since (reverse p.0) (reverse t.stood) (shut_by_others (reverse t.stood) none shut))))
         | by_filled filled ↦ inr (inr (inl (ap is_filled whole_is ∙ filled_since (reverse p.0) (reverse t.stood) filled)))
       ];
       failed = λ other. absurd (let e : NotRunning phase ≡ DoorFailed = sym is ∙ other in cc);
@@ -173,10 +182,13 @@ module _ {A L : Type 0} (g : Givens) (shown : L → Shown) (standing_of : A → 
     tour_ended : IsEnded {A = A} {L = L} standing_of faults log t
     tour_ended = by_end t.end refl it.cause
 
-  pub each_ended : (tours : List (Tour A L)) → (n : ℕ) → AreBefore {A = A} {L = L} n tours → ((t : Tour A L) → length t.stood ≤ n → IsPrefix t.stood v.seen → NoneSaid (reverse t.stood)) → EachToured {A = A} {L = L} g shown standing_of faults tours v → EachEnded {A = A} {L = L} standing_of faults log tours
+  pub each_ended : (tours : List (Tour A L)) → (n : ℕ) → AreBefore {A = A} {L = L} n tours
+      → ((t : Tour A L) → length t.stood ≤ n → IsPrefix t.stood v.seen → NoneSaid (reverse t.stood))
+      → EachToured {A = A} {L = L} g shown standing_of faults tours v → EachEnded {A = A} {L = L} standing_of faults log tours
   each_ended [] n before none each = tt
   each_ended (t ∷ more) n before none each = (tour_ended t (none t before.0 each.0.later) each.0, each_ended more n before.1 none each.1)
 
-  pub each_passed : (tours : List (Tour A L)) → EachToured {A = A} {L = L} g shown standing_of faults tours v → EachPassed {A = A} {L = L} standing_of faults tours
+  pub each_passed : (tours : List (Tour A L)) → EachToured {A = A} {L = L} g shown standing_of faults tours v
+      → EachPassed {A = A} {L = L} standing_of faults tours
   each_passed [] each = tt
   each_passed (t ∷ more) each = (each.0.passes, each_passed more each.1)

@@ -67,7 +67,8 @@ module _ (g : Givens) (v : View Givens Entry) where
       (λ (most : length rest.0.stood ≤ length s.stood). (s, each.0, (omega arith, shorter_more (length rest.0.stood) (length s.stood) (t ∷ more) most rest.2)))
       (cases_lt (length s.stood) (length rest.0.stood))
 
-  pub shift_within : (n : ℕ) (shifts : List Shift) (w : ℕ) → EachWorked g shifts v → AreShorter n shifts → In w (workers_in shifts) → (s : Shift) × (s.worker ≡ w) × HasWorked g s v × (length s.stood ≤ n)
+  pub shift_within : (n : ℕ) (shifts : List Shift) (w : ℕ) → EachWorked g shifts v → AreShorter n shifts → In w (workers_in shifts) → (s : Shift)
+      × (s.worker ≡ w) × HasWorked g s v × (length s.stood ≤ n)
   shift_within n [] w each shorter there = absurd (omega arith)
   shift_within n (s ∷ more) w each shorter there = ⊎_elim
       (λ (here : In w (s.worker ∷ [])). (s, sym (one_in w s.worker here), each.0, shorter.0))
@@ -76,7 +77,8 @@ module _ (g : Givens) (v : View Givens Entry) where
 
 -- the visit by which a connection entered
 module _ {A L : Type 0} (g : Givens) (shown : L → Shown) (standing_of : A → Option (Standing L)) (faults : A → ℕ) (v : View Givens Entry) where
-  pub visit_of : (peer : Peer) (visits : List (Visit L)) (c : ℕ) → EachVisited g peer shown visits v → In c (conns_of visits) → (x : Visit L) × Visited g peer shown x v × (x.session.conn ≡ Some c)
+  pub visit_of : (peer : Peer) (visits : List (Visit L)) (c : ℕ) → EachVisited g peer shown visits v → In c (conns_of visits) → (x : Visit L)
+      × Visited g peer shown x v × (x.session.conn ≡ Some c)
   visit_of peer [] c each there = absurd (omega arith)
   visit_of peer (x ∷ earlier) c each there = ⊎_elim
       (λ (here : In c (conn_in x.session.conn)). (x, each.0, own_conn x.session.conn here))
@@ -87,14 +89,17 @@ module _ {A L : Type 0} (g : Givens) (shown : L → Shown) (standing_of : A → 
       own_conn None here = absurd (omega arith)
       own_conn (Some d) here = ap Some (sym (one_in c d here))
 
-  pub tour_visit : (tours : List (Tour A L)) (c : ℕ) → EachToured {A = A} {L = L} g shown standing_of faults tours v → In c (conns_in tours) → (peer : Peer) × (x : Visit L) × Visited g peer shown x v × (x.session.conn ≡ Some c)
+  pub tour_visit : (tours : List (Tour A L)) (c : ℕ) → EachToured {A = A} {L = L} g shown standing_of faults tours v → In c (conns_in tours) → (peer : Peer)
+      × (x : Visit L) × Visited g peer shown x v × (x.session.conn ≡ Some c)
   tour_visit [] c each there = absurd (omega arith)
   tour_visit (t ∷ more) c each there = ⊎_elim
       (λ (here : In c (conns_of t.visits)). (let it = visit_of t.peer t.visits c each.0.each here in (t.peer, it.0, it.1, it.2)))
       (λ (later : In c (conns_in more)). tour_visit more c each.1 later)
       (in_either c (conns_of t.visits) (conns_in more) there)
 
-module _ {A L : Type 0} (g : Givens) (shown : L → Shown) (standing_of : A → Option (Standing L)) (faults : A → ℕ) (own : Option (ℕ × Entry)) (tours : List (Tour A L)) (s : Shift) (others : List Shift) (v : View Givens Entry) (holds : Holds {A = A} {L = L} g shown standing_of faults own tours (s ∷ others) v)
+module _ {A L : Type 0} (g : Givens) (shown : L → Shown) (standing_of : A → Option (Standing L)) (faults : A → ℕ) (own : Option (ℕ × Entry))
+    (tours : List (Tour A L)) (s : Shift) (others : List Shift) (v : View Givens Entry)
+    (holds : Holds {A = A} {L = L} g shown standing_of faults own tours (s ∷ others) v)
     (log : List Entry) (is_whole : IsWhole v log) (runs : IsLog g log) (first_one : In 0 (workers_in (s ∷ others))) where
   abbrev last : (r : Shift) × HasWorked g r v × AreShorter (length r.stood) (s ∷ others)
   last = longest g v s others holds.shifts_are
@@ -157,7 +162,8 @@ module _ {A L : Type 0} (g : Givens) (shown : L → Shown) (standing_of : A → 
   some_of w there =
       let k = shift_within g v (length stood) (s ∷ others) w holds.shifts_are last.2 there in
       let p : IsPrefix k.0.stood stood = prefix_shorter k.0.stood stood v.seen k.2.later last.1.later k.3 in
-      let free : stage (reverse k.0.stood) w ≡ Free = subst (λ x. stage (reverse k.0.stood) x ≡ Free) k.1 (freed g (reverse k.0.stood) (history_of k.0.stood k.2.later) k.0.worker k.2.closed.idle) in
+      let free : stage (reverse k.0.stood) w ≡ Free =
+      subst (λ x. stage (reverse k.0.stood) x ≡ Free) k.1 (freed g (reverse k.0.stood) (history_of k.0.stood k.2.later) k.0.worker k.2.closed.idle) in
       ap (λ l. stage l w) (reversed_more k.0.stood stood p.0 p.1)
       ∙ (stage_stays w (reverse p.0) (reverse k.0.stood) (all_behind (λ e. worker_of e ≡ Some w → ⊥) k.0.stood p.0 (λ x e far at works.
       (let at' : get_elem? stood x ≡ some e = subst (λ l. get_elem? l x ≡ some e) (sym p.1) at in
@@ -166,7 +172,9 @@ module _ {A L : Type 0} (g : Givens) (shown : L → Shown) (standing_of : A → 
       ∙ free)
 
   all_free : (w : ℕ) → stage (reverse stood) w ≡ Free
-  all_free w = dite (ℕ_discrete (times w (workers_in (s ∷ others))) 0) (λ (none : times w (workers_in (s ∷ others)) ≡ 0). none_of w none) (λ (there : times w (workers_in (s ∷ others)) ≡ 0 → ⊥). some_of w (omega arith))
+  all_free w =
+      dite (ℕ_discrete (times w (workers_in (s ∷ others))) 0) (λ (none : times w (workers_in (s ∷ others)) ≡ 0). none_of w none)
+      (λ (there : times w (workers_in (s ∷ others)) ≡ 0 → ⊥). some_of w (omega arith))
 
   ended : IsOver g more (reverse stood)
   ended = closed_over g more (reverse stood) last.0.worker runs_is last.1.closed all_free none_behind
@@ -174,16 +182,20 @@ module _ {A L : Type 0} (g : Givens) (shown : L → Shown) (standing_of : A → 
   -- a connection that entered since then sent nothing
   silent : (c x size : ℕ) (call : Call) → 0 < c → connections (reverse stood) ≤ c → get_elem? log x ≡ some (Arrive c size call) → ⊥
   silent c x size call above late_ at =
-      let there = came_by_door {A = A} {L = L} g shown standing_of faults own tours (s ∷ others) v holds log is_whole runs c x (Arrive c size call) at refl above in
+      let there =
+      came_by_door {A = A} {L = L} g shown standing_of faults own tours (s ∷ others) v holds log is_whole runs c x (Arrive c size call) at refl above in
       let it = tour_visit {A = A} {L = L} g shown standing_of faults v tours c holds.tours_are there in
       by_told it.0 it.1 it.2 it.3 (it.2.gone c it.3).quiet it.1.session.conn it.3 it.2.served.told
     where
-      by_told : (peer : Peer) (y : Visit L) (visited : Visited g peer shown y v) → y.session.conn ≡ Some c → ((place : ℕ) → In place v.mine → Belongs owner_of v.seen place c → place < length visited.closing.seen)
-          → (o : Option ℕ) → o ≡ Some c → MatchOption o (RefusedAs peer visited.opening visited.closing (shown y.before) (shown y.after) y.session.end) (λ d. ServedAs g peer visited.opening visited.closing (shown y.before) (shown y.after) d y.session.end) → ⊥
+      by_told : (peer : Peer) (y : Visit L) (visited : Visited g peer shown y v) → y.session.conn ≡ Some c
+          → ((place : ℕ) → In place v.mine → Belongs owner_of v.seen place c → place < length visited.closing.seen)
+          → (o : Option ℕ) → o ≡ Some c → MatchOption o (RefusedAs peer visited.opening visited.closing (shown y.before) (shown y.after) y.session.end)
+          (λ d. ServedAs g peer visited.opening visited.closing (shown y.before) (shown y.after) d y.session.end) → ⊥
       by_told peer y visited conn quiet None is told = (let f : None ≡ Some c = is in cc)
       by_told peer y visited conn quiet (Some d) is told_d =
           (let same : d ≡ c = cc in
-          let told : ServedAs g peer visited.opening visited.closing (shown y.before) (shown y.after) c y.session.end = subst (λ k. ServedAs g peer visited.opening visited.closing (shown y.before) (shown y.after) k y.session.end) same told_d in
+          let told : ServedAs g peer visited.opening visited.closing (shown y.before) (shown y.after) c y.session.end =
+          subst (λ k. ServedAs g peer visited.opening visited.closing (shown y.before) (shown y.after) k y.session.end) same told_d in
           let in_v = seen_at x (Arrive c size call) at in
           let low = quiet x (made_at x (Arrive c size call) at) (Arrive c size call, in_v, refl) in
           let stands = stood_before visited.closing.seen v.seen x (Arrive c size call) visited.later low in_v in
@@ -191,16 +203,21 @@ module _ {A L : Type 0} (g : Givens) (shown : L → Shown) (standing_of : A → 
           (λ (before : told.place < length stood). absurd
           (let entered = at_prefix visited.closing.seen v.seen told.place (Entered c) visited.later told.entered in
           let old = stood_before stood v.seen told.place (Entered c) last.1.later before entered in
-          let less = entered_low g.config g.run g.limit (reverse stood) told.place c (history_of stood last.1.later).legal (subst (λ l. get_elem? l told.place ≡ some (Entered c)) (sym (reverse-reverse stood)) old) in omega arith))
+          let less =
+          entered_low g.config g.run g.limit (reverse stood) told.place c (history_of stood last.1.later).legal
+          (subst (λ l. get_elem? l told.place ≡ some (Entered c)) (sym (reverse-reverse stood)) old) in omega arith))
           (λ (after : length stood ≤ told.place). after)
           (cases_lt told.place (length stood)) in
           let below = at_below visited.closing.seen told.place (Entered c) told.entered in
           let p : IsPrefix stood visited.closing.seen = prefix_shorter stood visited.closing.seen v.seen last.1.later visited.later (omega arith) in
           let back = reverse-reverse visited.closing.seen in
-          let is_late_ : is_late c visited.closing.seen ≡ true = late_behind stood last.1.closed.shut (reverse visited.closing.seen) c told.place (subst (IsPrefix stood) (sym back) p) far
+          let is_late_ : is_late c visited.closing.seen ≡ true =
+          late_behind stood last.1.closed.shut (reverse visited.closing.seen) c told.place (subst (IsPrefix stood) (sym back) p) far
           (subst (λ l. get_elem? l told.place ≡ some (Entered c)) (sym back) told.entered)
-          (λ z at'. entered_once g visited.closing.seen z told.place c visited.served.runs (subst (λ l. get_elem? l z ≡ some (Entered c)) back at') told.entered) in
-          none_arrived (reverse visited.closing.seen) c x size call (told.silent is_late_) (subst (λ l. get_elem? l x ≡ some (Arrive c size call)) (sym back) stands))
+          (λ z at'. entered_once g visited.closing.seen z told.place c visited.served.runs
+          (subst (λ l. get_elem? l z ≡ some (Entered c)) back at') told.entered) in
+          none_arrived (reverse visited.closing.seen) c x size call (told.silent is_late_)
+          (subst (λ l. get_elem? l x ≡ some (Arrive c size call)) (sym back) stands))
 
   answered : (k c : ℕ) → k < arrivals (reverse log) → conn_of (reverse log) k ≡ Some c → 0 < c → decided g.config g.run (reverse log) k ≡ true
   answered k c low of above = ⊎_elim
@@ -208,8 +225,10 @@ module _ {A L : Type 0} (g : Givens) (shown : L → Shown) (standing_of : A → 
       (λ (after : arrivals (reverse stood) ≤ k). absurd (⊎_elim
       (λ (first : c ≡ 0). (omega arith))
       (λ (since : connections (reverse stood) ≤ c).
-      (let at = arrived_at (reverse log) k c of in silent c at.0 at.1 at.2 above since (subst (λ l. get_elem? l at.0 ≡ some (Arrive c at.1 at.2)) (reverse-reverse log) at.3)))
-      (late g.config g.run g.limit (reverse stood) last.1.closed.left k c after more runs_is.legal (subst (λ l. k < arrivals l) whole_is low) (subst (λ l. conn_of l k ≡ Some c) whole_is of))))
+      (let at = arrived_at (reverse log) k c of in
+      silent c at.0 at.1 at.2 above since (subst (λ l. get_elem? l at.0 ≡ some (Arrive c at.1 at.2)) (reverse-reverse log) at.3)))
+      (late g.config g.run g.limit (reverse stood) last.1.closed.left k c after more runs_is.legal (subst (λ l. k < arrivals l) whole_is low)
+      (subst (λ l. conn_of l k ≡ Some c) whole_is of))))
       (cases_lt k (arrivals (reverse stood)))
 
   pub run_over : IsRunOver g log

@@ -57,8 +57,10 @@ module _ (log : List Entry) (place : ℕ) (help : IsHelpAt log place) where
       (let longer : length stood ≤ length help.before = (let at = help.place_is in omega arith) in
       let before : IsPrefix help.before log = prefix_through help.before (help.before ++ help.entry ∷ []) log (help.entry ∷ [], refl) help.stands in
       let inside : IsPrefix stood help.before = prefix_shorter stood help.before log p before longer in
-      let shut_then : is_shut (reverse help.before) ≡ true = shut_behind stood shut (reverse help.before) (subst (IsPrefix stood) (sym (reverse-reverse help.before)) inside) in
-      true≢false (sym shut_then ∙ running_open (first_abandoned (reverse help.before)) (is_shut (reverse help.before)) (is_filled (reverse help.before)) help.running)))
+      let shut_then : is_shut (reverse help.before) ≡ true =
+      shut_behind stood shut (reverse help.before) (subst (IsPrefix stood) (sym (reverse-reverse help.before)) inside) in
+      true≢false
+      (sym shut_then ∙ running_open (first_abandoned (reverse help.before)) (is_shut (reverse help.before)) (is_filled (reverse help.before)) help.running)))
       (cases_lt place (length stood))
 
 -- the turns of a seat that adds these places to what it made
@@ -68,7 +70,8 @@ turns_more v j made adds few many more new old place w there own = ⊎_elim
     (λ (i : In place v.mine). ⊎_elim
     (λ (a : In w few). inl (more w a))
     (λ (help : IsHelpAt v.seen place). inr (help_stays v.seen j.seen place adds.grows help))
-    (old place w i (record { entry = own.entry; stands = stood_before v.seen j.seen place own.entry adds.grows (adds.within place i) own.stands; own = own.own })))
+    (old place w i
+    (record { entry = own.entry; stands = stood_before v.seen j.seen place own.entry adds.grows (adds.within place i) own.stands; own = own.own })))
     (λ (i : In place made). new place w i own)
     (adds.either place there)
 

@@ -27,7 +27,8 @@ use Rattle.serve_run.proofs.JoiningDoors.{each_toured}
 use Rattle.serve_run.proofs.Numbers.{here_in}
 use Rattle.serve_run.proofs.Uniting.{adds_other, ledger_both, other_apart}
 
-module _ {A L : Type 0} (g : Givens) (shown : L → Shown) (standing : A → Option (Standing L)) (faults : A → ℕ) (own : Option (ℕ × Entry)) (tours : List (Tour A L))
+module _ {A L : Type 0} (g : Givens) (shown : L → Shown) (standing : A → Option (Standing L)) (faults : A → ℕ) (own : Option (ℕ × Entry))
+    (tours : List (Tour A L))
     (v u j : View Givens Entry) (holds : Holds {A = A} {L = L} g shown standing faults own tours [] v)
     (first : View Givens Entry) (fresh : first.mine ≡ []) (helps : Helps first u) (unites : Unites v u j) (mine : j.mine ≡ v.mine ++ u.mine) where
   other : Ledger [] (0 ∷ []) u
@@ -99,9 +100,11 @@ aid_given v w (Some s) joined = ap (λ x. x.givens) joined.0
 aid_given v w None joined = ap (λ x. x.givens) joined
 
 -- lanes were served in between, and the aid made turns
-module _ {A L : Type 0} (g : Givens) (shown : L → Shown) (standing : A → Option (Standing L)) (faults : A → ℕ) (v w u j : View Givens Entry) (given : v.givens ≡ Some g) (some_room : 0 < v.room)
+module _ {A L : Type 0} (g : Givens) (shown : L → Shown) (standing : A → Option (Standing L)) (faults : A → ℕ) (v w u j : View Givens Entry)
+    (given : v.givens ≡ Some g) (some_room : 0 < v.room)
     (tours : List (Tour A L)) (outcome : Outcome) (served : AreServed {A = A} {L = L} g shown standing faults tours outcome w u) where
-  pub are_aided : (aid back : Option SeatOf) → IsSplit v aid w → Aids aid back → AidJoined u back j → AreServed {A = A} {L = L} g shown standing faults tours outcome v j
+  pub are_aided : (aid back : Option SeatOf) → IsSplit v aid w → Aids aid back → AidJoined u back j
+      → AreServed {A = A} {L = L} g shown standing faults tours outcome v j
   are_aided (Some s) (Some t) split aids joined =
       let helps : Helps (view s) (view t) = aids g (ap (λ x. x.givens) split.1 ∙ given) in
       record {
@@ -118,7 +121,8 @@ module _ {A L : Type 0} (g : Givens) (shown : L → Shown) (standing : A → Opt
         refused_is = served.refused_is;
         own = served.own;
         word = served.word;
-        holds = λ kept. holds_aid g shown standing faults served.own tours u (view t) j (served.holds kept) (view s) (ap (λ x. x.mine) split.1) helps joined.1 (ap (λ x. x.mine) joined.0);
+        holds = λ kept. holds_aid g shown standing faults served.own tours u (view t) j (served.holds kept) (view s) (ap (λ x. x.mine) split.1) helps joined.1
+            (ap (λ x. x.mine) joined.0);
         calm = served.calm;
       }
   are_aided None None split aids joined = subst (λ x. AreServed {A = A} {L = L} g shown standing faults tours outcome x j) split
@@ -126,9 +130,11 @@ module _ {A L : Type 0} (g : Givens) (shown : L → Shown) (standing : A → Opt
   are_aided (Some s) None split aids joined = absurd aids
   are_aided None (Some t) split aids joined = absurd aids
 
-pub lanes_aided : {A L : Type 0} (g : Givens) (shown : L → Shown) (standing : A → Option (Standing L)) (faults : A → ℕ) (v w u j : View Givens Entry) → v.givens ≡ Some g → 0 < v.room
+pub lanes_aided : {A L : Type 0} (g : Givens) (shown : L → Shown) (standing : A → Option (Standing L)) (faults : A → ℕ) (v w u j : View Givens Entry)
+    → v.givens ≡ Some g → 0 < v.room
     → (lanes lanes' : List A) (outcome : Outcome) → LanesServed {A = A} {L = L} g shown standing faults lanes lanes' outcome w u
-    → (aid back : Option SeatOf) → IsSplit v aid w → Aids aid back → AidJoined u back j → LanesServed {A = A} {L = L} g shown standing faults lanes lanes' outcome v j
+    → (aid back : Option SeatOf) → IsSplit v aid w → Aids aid back → AidJoined u back j
+    → LanesServed {A = A} {L = L} g shown standing faults lanes lanes' outcome v j
 lanes_aided g shown standing faults v w u j given some_room lanes lanes' outcome served aid back split aids joined = record {
   tours = served.tours;
   rest = served.rest;

@@ -31,13 +31,15 @@ module _ (v j : View Givens Entry) (made : List ℕ) (adds : Adds v j made) wher
   worked_later g s apart it = record {
     later = prefix_through s.stood v.seen j.seen it.later adds.grows;
     quiet = λ place there own. ⊎_elim
-        (λ (i : In place v.mine). it.quiet place i (record { entry = own.entry; stands = stood_before v.seen j.seen place own.entry adds.grows (adds.within place i) own.stands; own = own.own }))
+        (λ (i : In place v.mine). it.quiet place i
+        (record { entry = own.entry; stands = stood_before v.seen j.seen place own.entry adds.grows (adds.within place i) own.stands; own = own.own }))
         (λ (i : In place made). absurd (apart place i own))
         (adds.either place there);
     closed = it.closed;
   }
 
-  pub each_worked : (g : Givens) (shifts : List Shift) → ((w : ℕ) → In w (workers_in shifts) → (place : ℕ) → In place made → IsWorkersAt w j.seen place → ⊥) → EachWorked g shifts v → EachWorked g shifts j
+  pub each_worked : (g : Givens) (shifts : List Shift) → ((w : ℕ) → In w (workers_in shifts) → (place : ℕ) → In place made → IsWorkersAt w j.seen place → ⊥)
+      → EachWorked g shifts v → EachWorked g shifts j
   each_worked g [] apart each = tt
   each_worked g (s ∷ more) apart each = (
     worked_later g s (apart s.worker (in_first s.worker (s.worker ∷ []) (workers_in more) (let one = times_here s.worker in omega arith))) each.0,
@@ -45,7 +47,8 @@ module _ (v j : View Givens Entry) (made : List ℕ) (adds : Adds v j made) wher
   )
 
   module _ {A L : Type 0} (g : Givens) (shown : L → Shown) (standing : A → Option (Standing L)) (faults : A → ℕ) where
-    pub toured_later : (t : Tour A L) → ((c : ℕ) → In c (conns_of t.visits) → (place : ℕ) → In place made → Belongs owner_of j.seen place c → ⊥) → HasToured g shown standing faults t v → HasToured g shown standing faults t j
+    pub toured_later : (t : Tour A L) → ((c : ℕ) → In c (conns_of t.visits) → (place : ℕ) → In place made → Belongs owner_of j.seen place c → ⊥)
+        → HasToured g shown standing faults t v → HasToured g shown standing faults t j
     toured_later t apart it = record {
       each = each_later v j made adds g t.peer shown t.visits apart it.each;
       passes = it.passes;
@@ -54,15 +57,19 @@ module _ (v j : View Givens Entry) (made : List ℕ) (adds : Adds v j made) wher
       cause = it.cause;
     }
 
-    pub each_toured : (tours : List (Tour A L)) → ((c : ℕ) → In c (conns_in tours) → (place : ℕ) → In place made → Belongs owner_of j.seen place c → ⊥) → EachToured g shown standing faults tours v → EachToured g shown standing faults tours j
+    pub each_toured : (tours : List (Tour A L)) → ((c : ℕ) → In c (conns_in tours) → (place : ℕ) → In place made → Belongs owner_of j.seen place c → ⊥)
+        → EachToured g shown standing faults tours v → EachToured g shown standing faults tours j
     each_toured [] apart each = tt
     each_toured (t ∷ more) apart each = (
       toured_later t (λ c i. apart c (in_first c (conns_of t.visits) (conns_in more) i)) each.0,
       each_toured more (λ c i. apart c (in_second c (conns_of t.visits) (conns_in more) i)) each.1,
     )
 
-module _ {A L : Type 0} (g : Givens) (shown : L → Shown) (standing : A → Option (Standing L)) (faults : A → ℕ) (own : Option (ℕ × Entry)) (tours : List (Tour A L)) (shifts : List Shift) (v u j : View Givens Entry) (holds : Holds {A = A} {L = L} g shown standing faults own tours shifts v)
-    (peer : Peer) (closed door : A) (refused : Option Full) (end : PieceEnd) (first : View Givens Entry) (served : DoorServed {A = A} {L = L} g peer shown standing faults first u closed door refused end) (unites : Unites v u j) (mine : j.mine ≡ v.mine ++ u.mine) where
+module _ {A L : Type 0} (g : Givens) (shown : L → Shown) (standing : A → Option (Standing L)) (faults : A → ℕ) (own : Option (ℕ × Entry))
+    (tours : List (Tour A L)) (shifts : List Shift) (v u j : View Givens Entry) (holds : Holds {A = A} {L = L} g shown standing faults own tours shifts v)
+    (peer : Peer) (closed door : A) (refused : Option Full) (end : PieceEnd) (first : View Givens Entry)
+    (served : DoorServed {A = A} {L = L} g peer shown standing faults first u closed door refused end) (unites : Unites v u j)
+    (mine : j.mine ≡ v.mine ++ u.mine) where
   abbrev pub tour : Tour A L
   tour = record { peer = peer; closed = closed; served = door; visits = served.visits; refused = refused; end = end; stood = u.seen }
 
@@ -73,10 +80,14 @@ module _ {A L : Type 0} (g : Givens) (shown : L → Shown) (standing : A → Opt
   adds' = adds_one v u j unites mine (0 ∷ conns_in tours) (conns_of served.visits) (0 ∷ workers_in shifts) [] holds.ledger served.attends.ledger
 
   apart : (c : ℕ) → In c (0 ∷ conns_in tours) → (place : ℕ) → In place u.mine → Belongs owner_of j.seen place c → ⊥
-  apart c i = other_apart v u j unites mine (0 ∷ conns_in tours) (conns_of served.visits) (0 ∷ workers_in shifts) [] holds.ledger served.attends.ledger c (holds.ledger.owned c i)
+  apart c i =
+      other_apart v u j unites mine (0 ∷ conns_in tours) (conns_of served.visits) (0 ∷ workers_in shifts) [] holds.ledger served.attends.ledger c
+      (holds.ledger.owned c i)
 
   apart' : (c : ℕ) → In c (conns_of served.visits) → (place : ℕ) → In place v.mine → Belongs owner_of j.seen place c → ⊥
-  apart' c i = one_apart v u j unites mine (0 ∷ conns_in tours) (conns_of served.visits) (0 ∷ workers_in shifts) [] holds.ledger served.attends.ledger c (served.attends.ledger.owned c i)
+  apart' c i =
+      one_apart v u j unites mine (0 ∷ conns_in tours) (conns_of served.visits) (0 ∷ workers_in shifts) [] holds.ledger served.attends.ledger c
+      (served.attends.ledger.owned c i)
 
   -- a door's seat made no entry of a worker
   no_turns : (w place : ℕ) → In place u.mine → IsWorkersAt w j.seen place → ⊥
@@ -95,7 +106,8 @@ module _ {A L : Type 0} (g : Givens) (shown : L → Shown) (standing : A → Opt
   holds_door = record {
     ledger = ledger_both v u j unites mine (0 ∷ conns_in tours) (conns_of served.visits) (0 ∷ workers_in shifts) [] holds.ledger served.attends.ledger
         (0 ∷ conns_in (tour ∷ tours)) (0 ∷ workers_in shifts) ledger_count (λ w i. i) (λ w i. absurd (omega arith));
-    turns_are = turns_more v j u.mine adds (workers_in shifts) (workers_in shifts) (λ w i. i) (λ place w i own. absurd (no_turns w place i own)) holds.turns_are;
+    turns_are =
+        turns_more v j u.mine adds (workers_in shifts) (workers_in shifts) (λ w i. i) (λ place w i own. absurd (no_turns w place i own)) holds.turns_are;
     tours_are = (
       toured_later u j v.mine adds' g shown standing faults tour apart'
           (record { each = served.attends.each; passes = served.passes; refused_is = served.refused_is; later = prefix_self u.seen; cause = served.cause }),

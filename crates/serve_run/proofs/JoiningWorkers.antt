@@ -40,8 +40,10 @@ module _ (g : Givens) (worker : ℕ) (first u : View Givens Entry) (fresh : firs
     once = λ c. omega arith;
   }
 
-module _ {A L : Type 0} (g : Givens) (shown : L → Shown) (standing : A → Option (Standing L)) (faults : A → ℕ) (own : Option (ℕ × Entry)) (tours : List (Tour A L)) (shifts : List Shift) (v u j : View Givens Entry) (holds : Holds {A = A} {L = L} g shown standing faults own tours shifts v)
-    (worker : ℕ) (new_one : In worker (workers_in shifts) → ⊥) (first : View Givens Entry) (fresh : first.mine ≡ []) (worked : Worked g worker first u Closed) (unites : Unites v u j) (mine : j.mine ≡ v.mine ++ u.mine) where
+module _ {A L : Type 0} (g : Givens) (shown : L → Shown) (standing : A → Option (Standing L)) (faults : A → ℕ) (own : Option (ℕ × Entry))
+    (tours : List (Tour A L)) (shifts : List Shift) (v u j : View Givens Entry) (holds : Holds {A = A} {L = L} g shown standing faults own tours shifts v)
+    (worker : ℕ) (new_one : In worker (workers_in shifts) → ⊥) (first : View Givens Entry) (fresh : first.mine ≡ []) (worked : Worked g worker first u Closed)
+    (unites : Unites v u j) (mine : j.mine ≡ v.mine ++ u.mine) where
   abbrev pub shift : Shift
   shift = record { worker = worker; stood = u.seen }
 
@@ -72,7 +74,8 @@ module _ {A L : Type 0} (g : Givens) (shown : L → Shown) (standing : A → Opt
   before place there at = ⊎_elim
       (λ (i : In worker (workers_in shifts)). absurd (new_one i))
       (λ (help : IsHelpAt v.seen place). help_early j.seen place (help_stays v.seen j.seen place unites.first help) u.seen unites.second worked.cause.shut)
-      (holds.turns_are place worker there (record { entry = at.entry; stands = stood_before v.seen j.seen place at.entry unites.first (holds.ledger.within place there) at.stands; own = at.own }))
+      (holds.turns_are place worker there
+      (record { entry = at.entry; stands = stood_before v.seen j.seen place at.entry unites.first (holds.ledger.within place there) at.stands; own = at.own }))
 
   -- each entry that its seat made is one of it
   is_own : (place w : ℕ) → In place u.mine → IsWorkersAt w j.seen place → In w (workers_in (shift ∷ shifts))
@@ -96,7 +99,9 @@ module _ {A L : Type 0} (g : Givens) (shown : L → Shown) (standing : A → Opt
   holds_worker = record {
     ledger = ledger_both v u j unites mine (0 ∷ conns_in tours) [] (0 ∷ workers_in shifts) (worker ∷ []) holds.ledger other
         (0 ∷ conns_in tours) (0 ∷ workers_in (shift ∷ shifts)) (λ c. omega arith) more_workers own_worker;
-    turns_are = turns_more v j u.mine adds (workers_in shifts) (workers_in (shift ∷ shifts)) (λ w i. in_second w (worker ∷ []) (workers_in shifts) i) (λ place w i at. inl (is_own place w i at)) holds.turns_are;
+    turns_are =
+        turns_more v j u.mine adds (workers_in shifts) (workers_in (shift ∷ shifts)) (λ w i. in_second w (worker ∷ []) (workers_in shifts) i)
+        (λ place w i at. inl (is_own place w i at)) holds.turns_are;
     tours_are = each_toured v j u.mine adds g shown standing faults tours (λ c i. apart c (in_second c (0 ∷ []) (conns_in tours) i)) holds.tours_are;
     shifts_are = (
       record {

@@ -27,7 +27,9 @@ use Rattle.serve_pieces.proofs.Places.{earlier_stands, newest_stands, which_stan
 
 -- the entry behind a beginning
 pub next_stands : (short rest : List Entry) (e : Entry) → get_elem? (short ++ e ∷ rest) (length short) ≡ some e
-next_stands short rest e = subst (λ l. get_elem? l (length short) ≡ some e) (append_assoc short (e ∷ []) rest) (at_longer (short ++ e ∷ []) rest (length short) e (at_last short e (length short) refl))
+next_stands short rest e =
+    subst (λ l. get_elem? l (length short) ≡ some e) (append_assoc short (e ∷ []) rest)
+    (at_longer (short ++ e ∷ []) rest (length short) e (at_last short e (length short) refl))
 
 -- what holds of each entry behind a beginning, place by place, holds of the rest in the other order
 module _ (P : Entry → Type 0) where
@@ -43,7 +45,9 @@ module _ (P : Entry → Type 0) where
   all_behind short [] each = tt
   all_behind short (e ∷ rest) each =
       subst AllOf (sym (reverse-cons e rest)) (all_last (reverse rest) e
-      (all_behind (short ++ e ∷ []) rest (λ x d far at. each x d (let long = length-append short (e ∷ []) in omega arith) (subst (λ l. get_elem? l x ≡ some d) (append_assoc short (e ∷ []) rest) at)))
+      (all_behind (short ++ e ∷ []) rest
+      (λ x d far at. each x d (let long = length-append short (e ∷ []) in omega arith)
+      (subst (λ l. get_elem? l x ≡ some d) (append_assoc short (e ∷ []) rest) at)))
       (each (length short) e (omega arith) (next_stands short rest e)))
 
 pub no_turn_of : (more : List Entry) → AllOf (λ e. worker_of e ≡ None) more → HasNoTurn more
@@ -95,7 +99,8 @@ shut_since [] past was = was
 shut_since (e ∷ more) past was = shut_still e (more ++ past) (shut_since more past was)
 
 -- where a call arrived
-pub arrived_at : (h : List Entry) (r c : ℕ) → conn_of h r ≡ Some c → (x : ℕ) × (size : ℕ) × (call : Call) × (get_elem? (reverse h) x ≡ some (Arrive c size call))
+pub arrived_at : (h : List Entry) (r c : ℕ) → conn_of h r ≡ Some c → (x : ℕ) × (size : ℕ) × (call : Call)
+    × (get_elem? (reverse h) x ≡ some (Arrive c size call))
 arrived_at [] r c is = absurd (let f : None ≡ Some c = is in cc)
 arrived_at (Arrive k size call ∷ past) r c is =
     dite (ℕ_discrete r (arrivals past))
@@ -103,21 +108,29 @@ arrived_at (Arrive k size call ∷ past) r c is =
     (let own : Some k ≡ Some c = sym (ap (λ b. if b then Some k else conn_of past r) (eq-eqb r (arrivals past) now)) ∙ is in
     let same : k ≡ c = cc in
     (length past, size, call, newest_stands (Arrive k size call) past ∙ ap (λ n. some (Arrive n size call)) same)))
-    (λ (before : r ≡ arrivals past → ⊥). later (Arrive k size call) past c (arrived_at past r c (sym (ap (λ b. if b then Some k else conn_of past r) (ne_eqb r (arrivals past) before)) ∙ is)))
+    (λ (before : r ≡ arrivals past → ⊥). later (Arrive k size call) past c
+    (arrived_at past r c (sym (ap (λ b. if b then Some k else conn_of past r) (ne_eqb r (arrivals past) before)) ∙ is)))
   where
-    later : (e : Entry) (past' : List Entry) (c' : ℕ) → (x : ℕ) × (size' : ℕ) × (call' : Call) × (get_elem? (reverse past') x ≡ some (Arrive c' size' call')) → (x : ℕ) × (size' : ℕ) × (call' : Call) × (get_elem? (reverse (e ∷ past')) x ≡ some (Arrive c' size' call'))
+    later : (e : Entry) (past' : List Entry) (c' : ℕ) → (x : ℕ) × (size' : ℕ) × (call' : Call) × (get_elem? (reverse past') x ≡ some (Arrive c' size' call'))
+        → (x : ℕ) × (size' : ℕ) × (call' : Call) × (get_elem? (reverse (e ∷ past')) x ≡ some (Arrive c' size' call'))
     later e past' c' it = (it.0, it.1, it.2, earlier_stands e past' it.0 (Arrive c' it.1 it.2) it.3)
 arrived_at (Entered k ∷ past) r c is = (let it = arrived_at past r c is in (it.0, it.1, it.2, earlier_stands (Entered k) past it.0 (Arrive c it.1 it.2) it.3))
-arrived_at (Filled k size ∷ past) r c is = (let it = arrived_at past r c is in (it.0, it.1, it.2, earlier_stands (Filled k size) past it.0 (Arrive c it.1 it.2) it.3))
+arrived_at (Filled k size ∷ past) r c is =
+    (let it = arrived_at past r c is in (it.0, it.1, it.2, earlier_stands (Filled k size) past it.0 (Arrive c it.1 it.2) it.3))
 arrived_at (Left k ∷ past) r c is = (let it = arrived_at past r c is in (it.0, it.1, it.2, earlier_stands (Left k) past it.0 (Arrive c it.1 it.2) it.3))
-arrived_at (Collect k a ∷ past) r c is = (let it = arrived_at past r c is in (it.0, it.1, it.2, earlier_stands (Collect k a) past it.0 (Arrive c it.1 it.2) it.3))
-arrived_at (Admit w q v ∷ past) r c is = (let it = arrived_at past r c is in (it.0, it.1, it.2, earlier_stands (Admit w q v) past it.0 (Arrive c it.1 it.2) it.3))
+arrived_at (Collect k a ∷ past) r c is =
+    (let it = arrived_at past r c is in (it.0, it.1, it.2, earlier_stands (Collect k a) past it.0 (Arrive c it.1 it.2) it.3))
+arrived_at (Admit w q v ∷ past) r c is =
+    (let it = arrived_at past r c is in (it.0, it.1, it.2, earlier_stands (Admit w q v) past it.0 (Arrive c it.1 it.2) it.3))
 arrived_at (Tried w a ∷ past) r c is = (let it = arrived_at past r c is in (it.0, it.1, it.2, earlier_stands (Tried w a) past it.0 (Arrive c it.1 it.2) it.3))
-arrived_at (Incarnated w a ∷ past) r c is = (let it = arrived_at past r c is in (it.0, it.1, it.2, earlier_stands (Incarnated w a) past it.0 (Arrive c it.1 it.2) it.3))
+arrived_at (Incarnated w a ∷ past) r c is =
+    (let it = arrived_at past r c is in (it.0, it.1, it.2, earlier_stands (Incarnated w a) past it.0 (Arrive c it.1 it.2) it.3))
 arrived_at (Run w ∷ past) r c is = (let it = arrived_at past r c is in (it.0, it.1, it.2, earlier_stands (Run w) past it.0 (Arrive c it.1 it.2) it.3))
 arrived_at (Done w ∷ past) r c is = (let it = arrived_at past r c is in (it.0, it.1, it.2, earlier_stands (Done w) past it.0 (Arrive c it.1 it.2) it.3))
-arrived_at (TakeOut w n x ∷ past) r c is = (let it = arrived_at past r c is in (it.0, it.1, it.2, earlier_stands (TakeOut w n x) past it.0 (Arrive c it.1 it.2) it.3))
-arrived_at (Etherealized w x y ∷ past) r c is = (let it = arrived_at past r c is in (it.0, it.1, it.2, earlier_stands (Etherealized w x y) past it.0 (Arrive c it.1 it.2) it.3))
+arrived_at (TakeOut w n x ∷ past) r c is =
+    (let it = arrived_at past r c is in (it.0, it.1, it.2, earlier_stands (TakeOut w n x) past it.0 (Arrive c it.1 it.2) it.3))
+arrived_at (Etherealized w x y ∷ past) r c is =
+    (let it = arrived_at past r c is in (it.0, it.1, it.2, earlier_stands (Etherealized w x y) past it.0 (Arrive c it.1 it.2) it.3))
 arrived_at (Abandon w ∷ past) r c is = (let it = arrived_at past r c is in (it.0, it.1, it.2, earlier_stands (Abandon w) past it.0 (Arrive c it.1 it.2) it.3))
 
 -- who sent a call has an arrival
@@ -127,10 +140,13 @@ not_empty (y ∷ l) x is = (let f : y ∷ (l ++ x ∷ []) ≡ [] = is in cc)
 
 has_arrived : (c : ℕ) (e : Entry) (past : List Entry) (size : ℕ) (call : Call) → e ≡ Arrive c size call → arrived_by (e ∷ past) c ≡ [] → ⊥
 has_arrived c e past size call is none = not_empty (arrived_by past c) (record { call = call; size = size })
-    (sym (ap (λ b. if b then arrived_by past c ++ record { call = call; size = size } ∷ [] else arrived_by past c) (eq-eqb c c refl)) ∙ (ap (λ d. arrived_by (d ∷ past) c) (sym is) ∙ none))
+    (sym (ap (λ b. if b then arrived_by past c ++ record { call = call; size = size } ∷ [] else arrived_by past c) (eq-eqb c c refl))
+    ∙ (ap (λ d. arrived_by (d ∷ past) c) (sym is) ∙ none))
 
 arrived_more : (c : ℕ) (e : Entry) (past : List Entry) → arrived_by (e ∷ past) c ≡ [] → arrived_by past c ≡ []
-arrived_more c (Arrive k size call) past none = cond_both (k == c) (arrived_by past c ++ record { call = call; size = size } ∷ []) (arrived_by past c) (λ l. l ≡ [] → arrived_by past c ≡ []) (λ _ full. absurd (not_empty (arrived_by past c) (record { call = call; size = size }) full)) (λ _ same. same) none
+arrived_more c (Arrive k size call) past none =
+    cond_both (k == c) (arrived_by past c ++ record { call = call; size = size } ∷ []) (arrived_by past c) (λ l. l ≡ [] → arrived_by past c ≡ [])
+    (λ _ full. absurd (not_empty (arrived_by past c) (record { call = call; size = size }) full)) (λ _ same. same) none
 arrived_more c (Entered k) past none = none
 arrived_more c (Filled k size) past none = none
 arrived_more c (Left k) past none = none
@@ -172,9 +188,12 @@ late_still c (Abandon w) past other was = was
 
 module _ (stood : List Entry) (shut : is_shut (reverse stood) ≡ true) where
   pub shut_behind : (past : List Entry) → IsPrefix stood (reverse past) → is_shut past ≡ true
-  shut_behind past p = subst (λ l. is_shut l ≡ true) (sym (sym (reverse-reverse past) ∙ reversed_more stood (reverse past) p.0 p.1)) (shut_since (reverse p.0) (reverse stood) shut)
+  shut_behind past p =
+      subst (λ l. is_shut l ≡ true) (sym (sym (reverse-reverse past) ∙ reversed_more stood (reverse past) p.0 p.1))
+      (shut_since (reverse p.0) (reverse stood) shut)
 
-  pub late_behind : (h : List Entry) (c x : ℕ) → IsPrefix stood (reverse h) → length stood ≤ x → get_elem? (reverse h) x ≡ some (Entered c) → ((y : ℕ) → get_elem? (reverse h) y ≡ some (Entered c) → y ≡ x) → is_late_by h c ≡ true
+  pub late_behind : (h : List Entry) (c x : ℕ) → IsPrefix stood (reverse h) → length stood ≤ x → get_elem? (reverse h) x ≡ some (Entered c)
+      → ((y : ℕ) → get_elem? (reverse h) y ≡ some (Entered c) → y ≡ x) → is_late_by h c ≡ true
   late_behind [] c x p far at once = absurd (some-ne-none (Entered c) (sym at))
   late_behind (e ∷ past) c x p far at once = ⊎_elim
       (λ (old : get_elem? (reverse past) x ≡ some (Entered c)).
@@ -184,6 +203,7 @@ module _ (stood : List Entry) (shut : is_shut (reverse stood) ≡ true) where
       (late_behind past c x p' far old (λ y at'. once y (earlier_stands e past y (Entered c) at')))))
       (λ (new : (x ≡ length past) × (e ≡ Entered c)).
       (let long = length-reverse past in
-      let p' : IsPrefix stood (reverse past) = prefix_shorter stood (reverse past) (reverse (e ∷ past)) p (e ∷ [], reverse-cons e past) (let at_ = new.0 in omega arith) in
+      let p' : IsPrefix stood (reverse past) =
+      prefix_shorter stood (reverse past) (reverse (e ∷ past)) p (e ∷ [], reverse-cons e past) (let at_ = new.0 in omega arith) in
       late_now c e past new.1 (shut_behind past p')))
       (which_stands e past x (Entered c) at)

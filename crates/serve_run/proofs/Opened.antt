@@ -14,14 +14,17 @@ use Rattle.serve_run.specs.Holding.{Holds}
 use Rattle.serve_run.specs.Opened.{IsOpened}
 use Rattle.serve_run.proofs.Opening.{holds_first}
 
-pub opened : (g : Givens) (conn : ℕ) (h : List Entry) (none : h ≡ []) (r : Result ℕ EnterFault) (is : r ≡ Ok conn) (v w : View Givens Entry) (begins : v ≡ first_view g (reverse h)) → Event (λ old new. Enters old r new) v w → IsOpened g w
+pub opened : (g : Givens) (conn : ℕ) (h : List Entry) (none : h ≡ []) (r : Result ℕ EnterFault) (is : r ≡ Ok conn) (v w : View Givens Entry)
+    (begins : v ≡ first_view g (reverse h)) → Event (λ old new. Enters old r new) v w → IsOpened g w
 opened g conn h none r is v w begins event =
     let at : v ≡ first_view g [] = begins ∙ ap (λ l. first_view g (reverse l)) none in
     let one : Event (λ old new. Enters old (Ok conn) new) v w = subst (λ x. Event (λ old new. Enters old x new) v w) is event in
     record { conn = conn; entered = subst (λ x. Event (λ old new. Enters old (Ok conn) new) x w) at one }
 
 module _ (g : Givens) (v : View Givens Entry) (o : IsOpened g v) where
-  event : (h : List Entry) × Turns g (first_view g []) h v × Enters (record { config = g.config; run = g.run; limit = g.limit; opening = g.opening; history = h }) (Ok o.conn) (record { config = g.config; run = g.run; limit = g.limit; opening = g.opening; history = reverse v.seen })
+  event : (h : List Entry) × Turns g (first_view g []) h v
+      × Enters (record { config = g.config; run = g.run; limit = g.limit; opening = g.opening; history = h }) (Ok o.conn)
+      (record { config = g.config; run = g.run; limit = g.limit; opening = g.opening; history = reverse v.seen })
   event = o.entered g refl
 
   pub opened_given : v.givens ≡ Some g
@@ -33,6 +36,7 @@ module _ (g : Givens) (v : View Givens Entry) (o : IsOpened g v) where
   pub opened_base : v.base ≡ 0
   opened_base = event.1.base
 
-  pub opened_holds : {A L : Type 0} (shown : L → Shown) (standing : A → Option (Standing L)) (faults : A → ℕ) → Holds {A = A} {L = L} g shown standing faults None [] [] v
+  pub opened_holds : {A L : Type 0} (shown : L → Shown) (standing : A → Option (Standing L)) (faults : A → ℕ)
+      → Holds {A = A} {L = L} g shown standing faults None [] [] v
   opened_holds shown standing faults =
       holds_first g shown standing faults (first_view g []) v event.0 o.conn refl refl refl event.1 event.2.0 (ap (λ l. l.history) event.2.2)

@@ -35,7 +35,8 @@ no_length [] none = refl
 no_length (e ∷ h) none = absurd (omega arith)
 
 module _ {A L : Type 0} (g : Givens) (shown : L → Shown) (standing : A → Option (Standing L)) (faults : A → ℕ) where
-  module _ (v w : View Givens Entry) (h : List Entry) (conn : ℕ) (fresh : v.mine ≡ []) (room : v.room ≡ 1024) (base : v.base ≡ 0) (t : Turns g v h w) (number : conn ≡ connections h) (is : past w ≡ Entered conn ∷ h) where
+  module _ (v w : View Givens Entry) (h : List Entry) (conn : ℕ) (fresh : v.mine ≡ []) (room : v.room ≡ 1024) (base : v.base ≡ 0) (t : Turns g v h w)
+      (number : conn ≡ connections h) (is : past w ≡ Entered conn ∷ h) where
     mine : w.mine ≡ length h ∷ []
     mine = t.one_made (Entered conn) is ∙ ap (λ l. l ++ length h ∷ []) fresh
 
@@ -63,7 +64,11 @@ module _ {A L : Type 0} (g : Givens) (shown : L → Shown) (standing : A → Opt
         closed = t.knows.closed;
         within = t.knows.within;
         owned = λ c there. (let c_is = one_in c 0 there in
-            record { place = length h; made = subst (In (length h)) (sym mine) (here_in (length h)); entered = stands ∙ ap (λ k. some (Entered k)) (sym c_is) });
+            record {
+              place = length h;
+              made = subst (In (length h)) (sym mine) (here_in (length h));
+              entered = stands ∙ ap (λ k. some (Entered k)) (sym c_is);
+            });
         once = λ c. once_at_most c;
       };
       turns_are = λ place k there at. absurd
@@ -77,9 +82,13 @@ module _ {A L : Type 0} (g : Givens) (shown : L → Shown) (standing : A → Opt
     }
       where
         once_at_most : (c : ℕ) → times c (0 ∷ []) ≤ 1
-        once_at_most c = dite (ℕ_discrete c 0) (λ (same : c ≡ 0). (let one = times_here 0 in let two : times c (0 ∷ []) ≡ times 0 (0 ∷ []) = ap (λ k. times k (0 ∷ [])) same in omega arith)) (λ (other : c ≡ 0 → ⊥). (let none = times_else c 0 other in omega arith))
+        once_at_most c =
+            dite (ℕ_discrete c 0)
+            (λ (same : c ≡ 0). (let one = times_here 0 in let two : times c (0 ∷ []) ≡ times 0 (0 ∷ []) = ap (λ k. times k (0 ∷ [])) same in omega arith))
+            (λ (other : c ≡ 0 → ⊥). (let none = times_else c 0 other in omega arith))
 
-  module _ (tours : List (Tour A L)) (shifts : List Shift) (v : View Givens Entry) (holds : Holds {A = A} {L = L} g shown standing faults None tours shifts v) where
+  module _ (tours : List (Tour A L)) (shifts : List Shift) (v : View Givens Entry)
+      (holds : Holds {A = A} {L = L} g shown standing faults None tours shifts v) where
     -- its own connection is there
     pub connection_held : HoldsConnection v 0
     connection_held = record {
@@ -99,7 +108,14 @@ module _ {A L : Type 0} (g : Givens) (shown : L → Shown) (standing : A → Opt
 
     module _ (w : View Givens Entry) (given : v.givens ≡ Some g) where
       nothing_said : (h : List Entry) → Turns g v h w → past w ≡ h → IsSaid w
-      nothing_said h t is = record { own = None; word = tt; holds_it = holds_looked g shown standing faults tours shifts v w h t None is holds; last = record { ended = λ place e same. absurd (let f : None ≡ Some (place, e) = same in cc); left = λ place e same. absurd (let f : None ≡ Some (place, e) = same in cc) } }
+      nothing_said h t is =
+          record {
+            own = None;
+            word = tt;
+            holds_it = holds_looked g shown standing faults tours shifts v w h t None is holds;
+            last = record
+                { ended = λ place e same. absurd (let f : None ≡ Some (place, e) = same in cc); left = λ place e same. absurd (let f : None ≡ Some (place, e) = same in cc) };
+          }
 
       pub said : (r : Result ℕ ArriveFault) → Event (λ old new. Arrives 0 (Line 1 Shutdown) 8 old r new) v w → IsSaid w
       said (Ok r) event =
@@ -114,7 +130,8 @@ module _ {A L : Type 0} (g : Givens) (shown : L → Shown) (standing : A → Opt
       said (Err (arrive_fault.Limit calls bytes)) event =
           (let it = event g given in by_filled it.0 it.1 (is_filled it.0) it.2.1)
         where
-          by_filled : (h : List Entry) → Turns g v h w → (b : Bool) → life_at g (past w) ≡ (if b then life_at g h else with_entry (Filled 0 8) (life_at g h)) → IsSaid w
+          by_filled : (h : List Entry) → Turns g v h w → (b : Bool) → life_at g (past w) ≡ (if b then life_at g h else with_entry (Filled 0 8) (life_at g h))
+              → IsSaid w
           by_filled h t true is = nothing_said h t (ap (λ l. l.history) is)
           by_filled h t false is =
               (let one : past w ≡ Filled 0 8 ∷ h = ap (λ l. l.history) is in

@@ -36,7 +36,8 @@ use Rattle.serve_run.proofs.Helping.{help_going}
 use Rattle.serve_run.proofs.Numbers.{no_worker, one_in}
 
 -- the shift of a worker
-pub shift_of : (g : Givens) (v : View Givens Entry) (shifts : List Shift) (w : ℕ) → EachWorked g shifts v → In w (workers_in shifts) → (s : Shift) × (s.worker ≡ w) × HasWorked g s v
+pub shift_of : (g : Givens) (v : View Givens Entry) (shifts : List Shift) (w : ℕ) → EachWorked g shifts v → In w (workers_in shifts) → (s : Shift)
+    × (s.worker ≡ w) × HasWorked g s v
 shift_of g v [] w each there = absurd (omega arith)
 shift_of g v (s ∷ more) w each there = ⊎_elim
     (λ (here : In w (s.worker ∷ [])). (s, sym (one_in w s.worker here), each.0))
@@ -48,17 +49,22 @@ none_after : (c : ℕ) (short rest : List Entry) → ((x : ℕ) → length short
 none_after c short [] none = tt
 none_after c short (e ∷ rest) none = (
   (λ own. none (length short) (omega arith) (e, at_next, own)),
-  none_after c (short ++ e ∷ []) rest (λ x far b. none x (let long = length-append short (e ∷ []) in omega arith) (subst (λ l. Belongs owner_of l x c) (append_assoc short (e ∷ []) rest) b)),
+  none_after c (short ++ e ∷ []) rest
+      (λ x far b. none x (let long = length-append short (e ∷ []) in omega arith) (subst (λ l. Belongs owner_of l x c) (append_assoc short (e ∷ []) rest) b)),
 )
   where
     at_next : get_elem? (short ++ e ∷ rest) (length short) ≡ some e
-    at_next = subst (λ l. get_elem? l (length short) ≡ some e) (append_assoc short (e ∷ []) rest) (at_longer (short ++ e ∷ []) rest (length short) e (at_last short e (length short) refl))
+    at_next =
+        subst (λ l. get_elem? l (length short) ≡ some e) (append_assoc short (e ∷ []) rest)
+        (at_longer (short ++ e ∷ []) rest (length short) e (at_last short e (length short) refl))
 
 -- a session stays what it is while others make entries of the run
 abbrev pub Stays : Givens → Type 0
-Stays g = (peer : Peer) (log more : List Entry) (c : ℕ) (text out : List ℕ) (end : SessionEnd) → IsLog g (log ++ more) → HasNone c more → Session g peer log c text out end → Session g peer (log ++ more) c text out end
+Stays g = (peer : Peer) (log more : List Entry) (c : ℕ) (text out : List ℕ) (end : SessionEnd) → IsLog g (log ++ more) → HasNone c more
+    → Session g peer log c text out end → Session g peer (log ++ more) c text out end
 
-module _ {A L : Type 0} (g : Givens) (shown : L → Shown) (standing : A → Option (Standing L)) (faults : A → ℕ) (own : Option (ℕ × Entry)) (tours : List (Tour A L)) (shifts : List Shift) (v : View Givens Entry) (holds : Holds {A = A} {L = L} g shown standing faults own tours shifts v)
+module _ {A L : Type 0} (g : Givens) (shown : L → Shown) (standing : A → Option (Standing L)) (faults : A → ℕ) (own : Option (ℕ × Entry))
+    (tours : List (Tour A L)) (shifts : List Shift) (v : View Givens Entry) (holds : Holds {A = A} {L = L} g shown standing faults own tours shifts v)
     (log : List Entry) (is_whole : IsWhole v log) (runs : IsLog g log) where
   -- each place of the journal is explained
   pub made : (x : ℕ) (e : Entry) → get_elem? log x ≡ some e → In x v.mine
@@ -87,7 +93,8 @@ module _ {A L : Type 0} (g : Givens) (shown : L → Shown) (standing : A → Opt
       (λ (o : IsOfWorkers (0 ∷ workers_in shifts) it.entry). absurd (no_worker it.entry c o.0 (ap owner_of same ∙ owned) o.2))
       it.of
 
-  by_shift : (w x : ℕ) (e : Entry) → In w (workers_in shifts) → get_elem? log x ≡ some e → worker_of e ≡ Some w → (s : Shift) × (s.worker ≡ w) × HasWorked g s v × (x < length s.stood)
+  by_shift : (w x : ℕ) (e : Entry) → In w (workers_in shifts) → get_elem? log x ≡ some e → worker_of e ≡ Some w → (s : Shift) × (s.worker ≡ w) × HasWorked g s v
+      × (x < length s.stood)
   by_shift w x e there at works =
       let s = shift_of g v shifts w holds.shifts_are there in
       (s.0, s.1, s.2, s.2.quiet x (made x e at) (record { entry = e; stands = in_seen x e at; own = works ∙ ap Some (sym s.1) }))
@@ -98,7 +105,8 @@ module _ {A L : Type 0} (g : Givens) (shown : L → Shown) (standing : A → Opt
       let s = by_shift w x (Abandon w) i there refl in
       let stood : get_elem? s.0.stood x ≡ some (Abandon w) = stood_before s.0.stood v.seen x (Abandon w) s.2.later s.3 (in_seen x (Abandon w) there) in
       let gave : is_abandoned (reverse s.0.stood) s.0.worker ≡ true = stands_abandoned (reverse s.0.stood) s.0.worker x
-      (subst (λ l. get_elem? l x ≡ some (Abandon s.0.worker)) (sym (reverse-reverse s.0.stood)) (subst (λ k. get_elem? s.0.stood x ≡ some (Abandon k)) (sym s.1) stood)) in
+      (subst (λ l. get_elem? l x ≡ some (Abandon s.0.worker)) (sym (reverse-reverse s.0.stood))
+      (subst (λ k. get_elem? s.0.stood x ≡ some (Abandon k)) (sym s.1) stood)) in
       true≢false (sym gave ∙ s.2.closed.going)
 
   -- nobody gave the run up
@@ -124,19 +132,25 @@ module _ {A L : Type 0} (g : Givens) (shown : L → Shown) (standing : A → Opt
         came_by_door c at.0 (Entered c) there refl above);
     only = λ c there.
         (let owns = holds.ledger.owned c (in_second c (0 ∷ []) (conns_in tours) there) in
-        let entered : get_elem? (reverse (reverse log)) owns.place ≡ some (Entered c) = subst (λ l. get_elem? l owns.place ≡ some (Entered c)) (sym (reverse-reverse log ∙ is_whole.seen)) owns.entered in
+        let entered : get_elem? (reverse (reverse log)) owns.place ≡ some (Entered c) =
+        subst (λ l. get_elem? l owns.place ≡ some (Entered c)) (sym (reverse-reverse log ∙ is_whole.seen)) owns.entered in
         (above c there, entered_low g.config g.run g.limit (reverse log) owns.place c runs.legal entered));
     once = λ c. (let all_once = holds.ledger.once c in let t = times_both c (0 ∷ []) (conns_in tours) in omega arith);
   }
     where
       above : (c : ℕ) → In c (conns_in tours) → 0 < c
       above c there = dite (ℕ_discrete c 0)
-          (λ (zero_ : c ≡ 0). absurd (let there' : In 0 (conns_in tours) = subst (λ k. In k (conns_in tours)) zero_ there in let once = holds.ledger.once 0 in let here = times_here 0 in omega arith))
+          (λ (zero_ : c ≡ 0). absurd
+          (let there' : In 0 (conns_in tours) = subst (λ k. In k (conns_in tours)) zero_ there in let once = holds.ledger.once 0 in let here = times_here 0 in
+          omega arith))
           (λ (other : c ≡ 0 → ⊥). omega arith)
 
   -- and their sessions are what they are by the whole journal
   module _ (stays : Stays g) where
-    session_is : (peer : Peer) (x : Visit L) → Visited g peer shown x v → (c : ℕ) → x.session.conn ≡ Some c → (opening closing : View Givens Entry) → IsPrefix closing.seen v.seen → ((place : ℕ) → In place v.mine → Belongs owner_of v.seen place c → place < length closing.seen) → ServedAs g peer opening closing (shown x.before) (shown x.after) c x.session.end → IsSession g peer log (shown x.before) (shown x.after) c x.session.end
+    session_is : (peer : Peer) (x : Visit L) → Visited g peer shown x v → (c : ℕ) → x.session.conn ≡ Some c → (opening closing : View Givens Entry)
+        → IsPrefix closing.seen v.seen → ((place : ℕ) → In place v.mine → Belongs owner_of v.seen place c → place < length closing.seen)
+        → ServedAs g peer opening closing (shown x.before) (shown x.after) c x.session.end
+        → IsSession g peer log (shown x.before) (shown x.after) c x.session.end
     session_is peer x visited c is opening closing later quiet told =
         let grown : log ≡ closing.seen ++ later.0 = is_whole.seen ∙ later.1 in
         let none : HasNone c later.0 = none_after c closing.seen later.0 (λ k far b.
@@ -147,7 +161,9 @@ module _ {A L : Type 0} (g : Givens) (shown : L → Shown) (standing : A → Opt
           out = told.out;
           moved = told.moved;
           few = told.few;
-          session = subst (λ l. Session g peer l c told.text told.out x.session.end) (sym grown) (stays peer closing.seen later.0 c told.text told.out x.session.end (subst (IsLog g) grown runs) none told.session);
+          session =
+              subst (λ l. Session g peer l c told.text told.out x.session.end) (sym grown)
+              (stays peer closing.seen later.0 c told.text told.out x.session.end (subst (IsLog g) grown runs) none told.session);
           stood = told.stood;
           left = subst (λ l. IsPrefix l log) told.left (later.0, grown);
           cause = told.cause;
@@ -156,10 +172,14 @@ module _ {A L : Type 0} (g : Givens) (shown : L → Shown) (standing : A → Opt
           dry = told.dry;
         }
 
-    visit_is : (peer : Peer) (x : Visit L) → Visited g peer shown x v → MatchOption x.session.conn (IsTurnedAway log x.session.end) (λ c. IsSession g peer log (shown x.before) (shown x.after) c x.session.end)
+    visit_is : (peer : Peer) (x : Visit L) → Visited g peer shown x v
+        → MatchOption x.session.conn (IsTurnedAway log x.session.end) (λ c. IsSession g peer log (shown x.before) (shown x.after) c x.session.end)
     visit_is peer x visited = by_conn x.session.conn refl visited.served.told
       where
-        by_conn : (o : Option ℕ) → x.session.conn ≡ o → MatchOption o (RefusedAs peer visited.opening visited.closing (shown x.before) (shown x.after) x.session.end) (λ c. ServedAs g peer visited.opening visited.closing (shown x.before) (shown x.after) c x.session.end) → MatchOption o (IsTurnedAway log x.session.end) (λ c. IsSession g peer log (shown x.before) (shown x.after) c x.session.end)
+        by_conn : (o : Option ℕ) → x.session.conn ≡ o
+            → MatchOption o (RefusedAs peer visited.opening visited.closing (shown x.before) (shown x.after) x.session.end)
+            (λ c. ServedAs g peer visited.opening visited.closing (shown x.before) (shown x.after) c x.session.end)
+            → MatchOption o (IsTurnedAway log x.session.end) (λ c. IsSession g peer log (shown x.before) (shown x.after) c x.session.end)
         by_conn None is told = (visited.closing.seen, subst (IsPrefix visited.closing.seen) (sym is_whole.seen) visited.later, told.cause)
         by_conn (Some c) is told = session_is peer x visited c is visited.opening visited.closing visited.later (visited.gone c is).quiet told
 
@@ -167,6 +187,7 @@ module _ {A L : Type 0} (g : Givens) (shown : L → Shown) (standing : A → Opt
     visits_are peer [] each = tt
     visits_are peer (x ∷ earlier) each = (visit_is peer x each.0, visits_are peer earlier each.1)
 
-    pub sessions_are : (some_tours : List (Tour A L)) → EachToured {A = A} {L = L} g shown standing faults some_tours v → EachDoor {A = A} {L = L} g shown log some_tours
+    pub sessions_are : (some_tours : List (Tour A L)) → EachToured {A = A} {L = L} g shown standing faults some_tours v
+        → EachDoor {A = A} {L = L} g shown log some_tours
     sessions_are [] each = tt
     sessions_are (t ∷ more) each = (visits_are t.peer t.visits each.0.each, sessions_are more each.1)

@@ -30,7 +30,8 @@ some_pair k place e d p q = λ i. Some (p i, q i)
 pub place_of : (p q : ℕ × Entry) → Some p ≡ Some q → p.0 ≡ q.0
 place_of p q same = (let e : p ≡ q = cc in ap (λ r. r.0) e)
 
-module _ {A L : Type 0} (g : Givens) (shown : L → Shown) (standing : A → Option (Standing L)) (faults : A → ℕ) (tours : List (Tour A L)) (shifts : List Shift) where
+module _ {A L : Type 0} (g : Givens) (shown : L → Shown) (standing : A → Option (Standing L)) (faults : A → ℕ) (tours : List (Tour A L))
+    (shifts : List Shift) where
   abbrev HoldsIt : Option (ℕ × Entry) → View Givens Entry → Type 0
   HoldsIt own v = Holds {A = A} {L = L} g shown standing faults own tours shifts v
 
@@ -40,27 +41,36 @@ module _ {A L : Type 0} (g : Givens) (shown : L → Shown) (standing : A → Opt
       let adds = adds_behind v w [] grows holds.ledger.within (mine ∙ sym (append-nil v.mine)) in
       record {
         ledger = record {
-          explained = λ place there. explained_more (0 ∷ conns_in tours) (0 ∷ workers_in shifts) (0 ∷ conns_in tours) (0 ∷ workers_in shifts) v.seen w.seen place (λ c i. i) (λ k i. i) grows (holds.ledger.explained place (subst (In place) mine there));
+          explained =
+              λ place there. explained_more (0 ∷ conns_in tours) (0 ∷ workers_in shifts) (0 ∷ conns_in tours) (0 ∷ workers_in shifts) v.seen w.seen place
+              (λ c i. i) (λ k i. i) grows (holds.ledger.explained place (subst (In place) mine there));
           closed = subst (IsClosed owner_of w.seen) (sym mine) (closed_longer owner_of v.seen w.seen grows v.mine holds.ledger.within holds.ledger.closed);
-          within = λ place there. (let low = holds.ledger.within place (subst (In place) mine there) in let long = prefix_below v.seen w.seen grows in omega arith);
+          within =
+              λ place there. (let low = holds.ledger.within place (subst (In place) mine there) in let long = prefix_below v.seen w.seen grows in omega arith);
           owned = λ c i. owns_later v w [] adds c (holds.ledger.owned c i);
           once = holds.ledger.once;
         };
         turns_are = turns_more v w [] adds (workers_in shifts) (workers_in shifts) (λ k i. i) (λ place k there. absurd (omega arith)) holds.turns_are;
         tours_are = each_toured v w [] adds g shown standing faults tours (λ c i place there b. omega arith) holds.tours_are;
         shifts_are = each_worked v w [] adds g shifts (λ k i place there at. omega arith) holds.shifts_are;
-        own_is = λ place e there stands is. (let old = subst (In place) mine there in holds.own_is place e old (stood_before v.seen w.seen place e grows (holds.ledger.within place old) stands) is);
+        own_is =
+            λ place e there stands is.
+            (let old = subst (In place) mine there in
+            holds.own_is place e old (stood_before v.seen w.seen place e grows (holds.ledger.within place old) stands) is);
       }
 
-  pub last_same : (own : Option (ℕ × Entry)) (v w : View Givens Entry) → IsPrefix v.seen w.seen → w.mine ≡ v.mine → HoldsIt own v → IsLast {A = A} {L = L} own tours v → IsLast {A = A} {L = L} own tours w
+  pub last_same : (own : Option (ℕ × Entry)) (v w : View Givens Entry) → IsPrefix v.seen w.seen → w.mine ≡ v.mine → HoldsIt own v
+      → IsLast {A = A} {L = L} own tours v → IsLast {A = A} {L = L} own tours w
   last_same own v w grows mine holds last = record {
     ended = last.ended;
-    left = λ place e is k c there i b. (let old = subst (In k) mine there in last.left place e is k c old i (belongs_before owner_of v.seen w.seen grows k c (holds.ledger.within k old) b));
+    left = λ place e is k c there i b.
+        (let old = subst (In k) mine there in last.left place e is k c old i (belongs_before owner_of v.seen w.seen grows k c (holds.ledger.within k old) b));
   }
 
   module _ (v w : View Givens Entry) (h : List Entry) (t : Turns g v h w) where
     found_after : IsPrefix v.seen (reverse h)
-    found_after = (reverse t.goes_on.more, ap reverse t.goes_on.is ∙ (reverse-append t.goes_on.more (past v) ∙ ap (λ l. l ++ reverse t.goes_on.more) (reverse-reverse v.seen)))
+    found_after =
+        (reverse t.goes_on.more, ap reverse t.goes_on.is ∙ (reverse-append t.goes_on.more (past v) ∙ ap (λ l. l ++ reverse t.goes_on.more) (reverse-reverse v.seen)))
 
     pub same_seen : past w ≡ h → IsPrefix v.seen w.seen
     same_seen is = subst (IsPrefix v.seen) (sym (sym (reverse-reverse w.seen) ∙ ap reverse is)) found_after
@@ -111,19 +121,24 @@ module _ {A L : Type 0} (g : Givens) (shown : L → Shown) (standing : A → Opt
       holds_own = record {
         ledger = record {
           explained = λ place there. ⊎_elim
-              (λ (i : In place v.mine). explained_more (0 ∷ conns_in tours) (0 ∷ workers_in shifts) (0 ∷ conns_in tours) (0 ∷ workers_in shifts) v.seen w.seen place (λ c k. k) (λ k x. x) grows (holds.ledger.explained place i))
-              (λ (at : place ≡ length h). record { entry = e; stands = subst (λ k. get_elem? w.seen k ≡ some e) (sym at) one_stands; of = inl (0, in_first 0 (0 ∷ []) (conns_in tours) (here_in 0), of) })
+              (λ (i : In place v.mine). explained_more (0 ∷ conns_in tours) (0 ∷ workers_in shifts) (0 ∷ conns_in tours)
+              (0 ∷ workers_in shifts) v.seen w.seen place (λ c k. k) (λ k x. x) grows (holds.ledger.explained place i))
+              (λ (at : place ≡ length h). record
+              { entry = e; stands = subst (λ k. get_elem? w.seen k ≡ some e) (sym at) one_stands; of = inl (0, in_first 0 (0 ∷ []) (conns_in tours) (here_in 0), of) })
               (in_added place (length h) v.mine (subst (In place) mine there));
           closed = t.knows.closed;
           within = t.knows.within;
           owned = λ c i. owns_later v w (length h ∷ []) adds c (holds.ledger.owned c i);
           once = holds.ledger.once;
         };
-        turns_are = turns_more v w (length h ∷ []) adds (workers_in shifts) (workers_in shifts) (λ k i. i) (λ place k there at. absurd (none_works k place there at)) holds.turns_are;
+        turns_are =
+            turns_more v w (length h ∷ []) adds (workers_in shifts) (workers_in shifts) (λ k i. i)
+            (λ place k there at. absurd (none_works k place there at)) holds.turns_are;
         tours_are = each_toured v w (length h ∷ []) adds g shown standing faults tours not_other holds.tours_are;
         shifts_are = each_worked v w (length h ∷ []) adds g shifts (λ k i. none_works k) holds.shifts_are;
         own_is = λ place d there stands is_own. ⊎_elim
-            (λ (i : In place v.mine). own_before place d (holds.own_is place d i (stood_before v.seen w.seen place d grows (holds.ledger.within place i) stands) is_own))
+            (λ (i : In place v.mine). own_before place d
+            (holds.own_is place d i (stood_before v.seen w.seen place d grows (holds.ledger.within place i) stands) is_own))
             (λ (at : place ≡ length h). inr (some_pair (length h) place e d (sym at) (only place d at stands)))
             (in_added place (length h) v.mine (subst (In place) mine there));
       }
@@ -132,13 +147,15 @@ module _ {A L : Type 0} (g : Givens) (shown : L → Shown) (standing : A → Opt
           own_before place d (inl first) = inl first
           own_before place d (inr none) = absurd (let f : None ≡ Some (place, d) = none in cc)
 
-      before : (n : ℕ) → length v.seen ≤ n → (some_tours : List (Tour A L)) → EachToured {A = A} {L = L} g shown standing faults some_tours v → AreBefore {A = A} {L = L} n some_tours
+      before : (n : ℕ) → length v.seen ≤ n → (some_tours : List (Tour A L)) → EachToured {A = A} {L = L} g shown standing faults some_tours v
+          → AreBefore {A = A} {L = L} n some_tours
       before n far [] each = tt
       before n far (t ∷ more) each = ((let low = prefix_below t.stood v.seen each.0.later in omega arith), before n far more each.1)
 
       pub last_own : IsLast {A = A} {L = L} (Some (length h, e)) tours w
       last_own = record {
-        ended = λ place d same. (let at : length h ≡ place = place_of (length h, e) (place, d) same in let far = longer in before place (omega arith) tours holds.tours_are);
+        ended = λ place d same.
+            (let at : length h ≡ place = place_of (length h, e) (place, d) same in let far = longer in before place (omega arith) tours holds.tours_are);
         left = λ place d same k c there i b.
             (let at : length h ≡ place = place_of (length h, e) (place, d) same in
             ⊎_elim

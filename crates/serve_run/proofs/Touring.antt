@@ -45,10 +45,12 @@ pub some_same : {A G : Type 0} (back task : Task A G) (door lane : A) → back �
 some_same back task door lane same is was = (let e : Some door ≡ Some lane = sym is ∙ (ap task_door same ∙ was) in cc)
 
 module _ {A L : Type 0} (g : Givens) (shown : L → Shown) (standing : A → Option (Standing L)) (faults : A → ℕ) where
-  pub holds_kept : (own : Option (ℕ × Entry)) (tours : List (Tour A L)) (shifts : List Shift) (v w : View Givens Entry) → IsKept v w → Holds {A = A} {L = L} g shown standing faults own tours shifts v → Holds {A = A} {L = L} g shown standing faults own tours shifts w
+  pub holds_kept : (own : Option (ℕ × Entry)) (tours : List (Tour A L)) (shifts : List Shift) (v w : View Givens Entry) → IsKept v w
+      → Holds {A = A} {L = L} g shown standing faults own tours shifts v → Holds {A = A} {L = L} g shown standing faults own tours shifts w
   holds_kept own tours shifts v w kept holds = holds_same g shown standing faults tours shifts own v w (same_prefix v w kept) kept.mine holds
 
-  pub none_served : (v : View Givens Entry) → Holds {A = A} {L = L} g shown standing faults None [] [] v → AreServed {A = A} {L = L} g shown standing faults [] good v v
+  pub none_served : (v : View Givens Entry) → Holds {A = A} {L = L} g shown standing faults None [] [] v
+      → AreServed {A = A} {L = L} g shown standing faults [] good v v
   none_served v holds = record {
     same = record { given = refl; base = refl; room = refl };
     failed_is = refl;
@@ -59,7 +61,8 @@ module _ {A L : Type 0} (g : Givens) (shown : L → Shown) (standing : A → Opt
     calm = λ _. (refl, refl);
   }
 
-  pub no_lanes : (lanes lanes' : List A) (v : View Givens Entry) → lanes ≡ lanes' ++ [] → length lanes ≡ 0 → Holds {A = A} {L = L} g shown standing faults None [] [] v → LanesServed {A = A} {L = L} g shown standing faults lanes lanes' good v v
+  pub no_lanes : (lanes lanes' : List A) (v : View Givens Entry) → lanes ≡ lanes' ++ [] → length lanes ≡ 0
+      → Holds {A = A} {L = L} g shown standing faults None [] [] v → LanesServed {A = A} {L = L} g shown standing faults lanes lanes' good v v
   no_lanes lanes lanes' v same none holds = record {
     tours = [];
     rest = [];
@@ -71,18 +74,23 @@ module _ {A L : Type 0} (g : Givens) (shown : L → Shown) (standing : A → Opt
   }
 
   -- the end of the run is called for
-  module _ (tours : List (Tour A L)) (shifts : List Shift) (v w : View Givens Entry) (given : v.givens ≡ Some g) (holds : Holds {A = A} {L = L} g shown standing faults None tours shifts v) where
+  module _ (tours : List (Tour A L)) (shifts : List Shift) (v w : View Givens Entry) (given : v.givens ≡ Some g)
+      (holds : Holds {A = A} {L = L} g shown standing faults None tours shifts v) where
     pub says_shutdown : Says v w → IsSaid {A = A} {L = L} g shown standing faults tours shifts v holds w
     says_shutdown says = record { own = it.own; word = it.word; holds_it = it.holds_it; last = it.last }
       where
         looked : Holds {A = A} {L = L} g shown standing faults None tours shifts says.between
-        looked = (let event = says.looked g given in holds_looked g shown standing faults tours shifts v says.between event.0 event.1 None (ap (λ l. l.history) event.2) holds)
+        looked =
+            (let event = says.looked g given in
+            holds_looked g shown standing faults tours shifts v says.between event.0 event.1 None (ap (λ l. l.history) event.2) holds)
 
         it : IsSaid {A = A} {L = L} g shown standing faults tours shifts says.between looked w
-        it = (let event = says.looked g given in said g shown standing faults tours shifts says.between looked w (event.1.given ∙ given) says.answer says.arrived)
+        it = (let event = says.looked g given in
+            said g shown standing faults tours shifts says.between looked w (event.1.given ∙ given) says.answer says.arrived)
 
   -- a piece isn't started, and the end of the run is called for at once
-  module _ (v v' w : View Givens Entry) (given : v.givens ≡ Some g) (kept : IsKept v v') (room : v'.room ≡ v.room) (same : IsSameSeat v' w) (holds : Holds {A = A} {L = L} g shown standing faults None [] [] v) (want : Want) (lost : Bool) (says : lost ≡ false → Says v' w) where
+  module _ (v v' w : View Givens Entry) (given : v.givens ≡ Some g) (kept : IsKept v v') (room : v'.room ≡ v.room) (same : IsSameSeat v' w)
+      (holds : Holds {A = A} {L = L} g shown standing faults None [] [] v) (want : Want) (lost : Bool) (says : lost ≡ false → Says v' w) where
     by_lost : (b : Bool) → lost ≡ b → AreServed {A = A} {L = L} g shown standing faults [] (short_of want lost) v w
     by_lost true is = record {
       same = record { given = same.given ∙ kept.given; base = same.base ∙ kept.base; room = same.room ∙ room };
@@ -120,20 +128,32 @@ module _ {A L : Type 0} (g : Givens) (shown : L → Shown) (standing : A → Opt
     }
 
   -- a door's piece is joined
-  module _ {G : Type 0} (peer : Peer) (task : Task A G) (closed : A) (tours : List (Tour A L)) (v v' w j : View Givens Entry) (outcome : Outcome) (kept : IsKept v v') (room : v'.room + 1 ≡ v.room) (inner : AreServed {A = A} {L = L} g shown standing faults tours outcome v' w)
-      (first : View Givens Entry) (first_room : first.room ≡ 0) (door : Option A) (refused : Option Full) (end : PieceEnd) (joined : IsJoined {A = A} {G = G} {L = L} shown standing faults task first w j door refused end)
+  module _ {G : Type 0} (peer : Peer) (task : Task A G) (closed : A) (tours : List (Tour A L)) (v v' w j : View Givens Entry) (outcome : Outcome)
+      (kept : IsKept v v') (room : v'.room + 1 ≡ v.room) (inner : AreServed {A = A} {L = L} g shown standing faults tours outcome v' w)
+      (first : View Givens Entry) (first_room : first.room ≡ 0) (door : Option A) (refused : Option Full) (end : PieceEnd)
+      (joined : IsJoined {A = A} {G = G} {L = L} shown standing faults task first w j door refused end)
       (keeps : DoorKept {A = A} {L = L} g peer shown standing faults closed first joined.ran) where
     abbrev served : DoorServed {A = A} {L = L} g peer shown standing faults first joined.ran.seat.me.0 closed keeps.0 joined.ran.refused joined.ran.end
     served = keeps.2
 
     abbrev pub tour_of : Tour A L
-    tour_of = record { peer = peer; closed = closed; served = keeps.0; visits = served.visits; refused = joined.ran.refused; end = joined.ran.end; stood = joined.ran.seat.me.0.seen }
+    tour_of =
+        record {
+          peer = peer;
+          closed = closed;
+          served = keeps.0;
+          visits = served.visits;
+          refused = joined.ran.refused;
+          end = joined.ran.end;
+          stood = joined.ran.seat.me.0.seen;
+        }
 
     pub same_joined : IsSameSeat v j
     same_joined = record {
       given = ap (λ x. x.givens) joined.joined ∙ (inner.same.given ∙ kept.given);
       base = ap (λ x. x.base) joined.joined ∙ (inner.same.base ∙ kept.base);
-      room = (let r : j.room ≡ w.room + joined.ran.seat.me.0.room + 1 = ap (λ x. x.room) joined.joined in let none : joined.ran.seat.me.0.room ≡ 0 = served.attends.room ∙ first_room in let same = inner.same.room in omega arith);
+      room = (let r : j.room ≡ w.room + joined.ran.seat.me.0.room + 1 = ap (λ x. x.room) joined.joined in
+          let none : joined.ran.seat.me.0.room ≡ 0 = served.attends.room ∙ first_room in let same = inner.same.room in omega arith);
     }
 
     pub more_served : AreServed {A = A} {L = L} g shown standing faults (tour_of ∷ tours) (with_door refused end outcome) v j
@@ -143,15 +163,19 @@ module _ {A L : Type 0} (g : Givens) (shown : L → Shown) (standing : A → Opt
       refused_is = ap₂ earlier inner.refused_is joined.refused_is;
       own = inner.own;
       word = inner.word;
-      holds = λ lost. holds_door g shown standing faults inner.own tours [] w joined.ran.seat.me.0 j (inner.holds lost) peer closed keeps.0 joined.ran.refused joined.ran.end first served joined.unites (ap (λ x. x.mine) joined.joined);
+      holds = λ lost. holds_door g shown standing faults inner.own tours [] w joined.ran.seat.me.0 j
+          (inner.holds lost) peer closed keeps.0 joined.ran.refused joined.ran.end first served joined.unites (ap (λ x. x.mine) joined.joined);
       calm = inner.calm;
     }
 
   -- the lane's piece is joined
-  module _ {G : Type 0} (task : Task A G) (lane : A) (lanes front front' lanes' : List A) (v v' w j : View Givens Entry) (outcome : Outcome) (kept : IsKept v v') (room : v'.room + 1 ≡ v.room) (popped : lanes ≡ front ++ lane ∷ [])
+  module _ {G : Type 0} (task : Task A G) (lane : A) (lanes front front' lanes' : List A) (v v' w j : View Givens Entry) (outcome : Outcome)
+      (kept : IsKept v v') (room : v'.room + 1 ≡ v.room) (popped : lanes ≡ front ++ lane ∷ [])
       (inner : LanesServed {A = A} {L = L} g shown standing faults front front' outcome v' w)
-      (first : View Givens Entry) (first_room : first.room ≡ 0) (door : Option A) (refused : Option Full) (end : PieceEnd) (joined : IsJoined {A = A} {G = G} {L = L} shown standing faults task first w j door refused end)
-      (keeps : DoorKept {A = A} {L = L} g Client shown standing faults lane first joined.ran) (back : A) (back_is_ : door ≡ Some back) (pushed : lanes' ≡ front' ++ back ∷ []) where
+      (first : View Givens Entry) (first_room : first.room ≡ 0) (door : Option A) (refused : Option Full) (end : PieceEnd)
+      (joined : IsJoined {A = A} {G = G} {L = L} shown standing faults task first w j door refused end)
+      (keeps : DoorKept {A = A} {L = L} g Client shown standing faults lane first joined.ran) (back : A) (back_is_ : door ≡ Some back)
+      (pushed : lanes' ≡ front' ++ back ∷ []) where
     pub lanes_more : LanesServed {A = A} {L = L} g shown standing faults lanes lanes' (with_door refused end outcome) v j
     lanes_more = record {
       tours = tour_of Client task lane inner.tours v v' w j outcome kept room inner.served first first_room door refused end joined keeps ∷ inner.tours;
@@ -170,5 +194,7 @@ pub kept_both : (u v w : View Givens Entry) → IsKept u v → IsKept v w → Is
 kept_both u v w a b = record { seen = b.seen ∙ a.seen; mine = b.mine ∙ a.mine; given = b.given ∙ a.given; base = b.base ∙ a.base }
 
 -- where a lane is left there is room for it
-pub some_last : {A : Type 0} (lanes front : List A) (lane : A) (count : ℕ) (v : View Givens Entry) → count ≡ length lanes → lanes ≡ front ++ lane ∷ [] → count + count ≤ v.room → 0 < v.room
-some_last lanes front lane count v counted popped room = (let long : length lanes ≡ length front + 1 = ap length popped ∙ length-append front (lane ∷ []) in omega arith)
+pub some_last : {A : Type 0} (lanes front : List A) (lane : A) (count : ℕ) (v : View Givens Entry) → count ≡ length lanes → lanes ≡ front ++ lane ∷ []
+    → count + count ≤ v.room → 0 < v.room
+some_last lanes front lane count v counted popped room =
+    (let long : length lanes ≡ length front + 1 = ap length popped ∙ length-append front (lane ∷ []) in omega arith)

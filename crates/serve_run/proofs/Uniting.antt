@@ -18,14 +18,16 @@ use Rattle.serve_pieces.proofs.Places.{in_either, in_first, in_second}
 use Rattle.serve_run.proofs.Closing.{closed_longer}
 
 -- one of the two seats, and the place at which a connection of it entered
-module _ (v j : View Givens Entry) (grows : IsPrefix v.seen j.seen) (closed : IsClosed owner_of v.seen v.mine) (within : (x : ℕ) → In x v.mine → x < length v.seen) where
+module _ (v j : View Givens Entry) (grows : IsPrefix v.seen j.seen) (closed : IsClosed owner_of v.seen v.mine)
+    (within : (x : ℕ) → In x v.mine → x < length v.seen) where
   entering_in : (c x : ℕ) → In x v.mine → Belongs owner_of j.seen x c → In (entering owner_of c j.seen) v.mine
   entering_in c x there b = closed_longer owner_of v.seen j.seen grows v.mine within closed x c there b
 
   pub entering_owned : (c : ℕ) → Owns v c → In (entering owner_of c j.seen) v.mine
   entering_owned c owns = entering_in c owns.place owns.made (Entered c, at_prefix v.seen j.seen owns.place (Entered c) grows owns.entered, refl)
 
-module _ (v u j : View Givens Entry) (unites : Unites v u j) (mine : j.mine ≡ v.mine ++ u.mine) (A B X Y : List ℕ) (one : Ledger A X v) (other : Ledger B Y u) where
+module _ (v u j : View Givens Entry) (unites : Unites v u j) (mine : j.mine ≡ v.mine ++ u.mine) (A B X Y : List ℕ) (one : Ledger A X v)
+    (other : Ledger B Y u) where
   pub adds_other : Adds v j u.mine
   adds_other = record {
     grows = unites.first;
@@ -39,7 +41,8 @@ module _ (v u j : View Givens Entry) (unites : Unites v u j) (mine : j.mine ≡ 
     grows = unites.second;
     within = other.within;
     kept = λ place there. subst (In place) (sym mine) (in_second place v.mine u.mine there);
-    either = λ place there. ⊎_elim (λ (i : In place v.mine). inr i) (λ (i : In place u.mine). inl i) (in_either place v.mine u.mine (subst (In place) mine there));
+    either =
+        λ place there. ⊎_elim (λ (i : In place v.mine). inr i) (λ (i : In place u.mine). inl i) (in_either place v.mine u.mine (subst (In place) mine there));
   }
 
   -- the other seat made no entry of a connection of the one
@@ -59,15 +62,19 @@ module _ (v u j : View Givens Entry) (unites : Unites v u j) (mine : j.mine ≡ 
       let apart = unites.apart k in omega (arith, mine_, theirs, apart)
 
   pub owned_once : (c : ℕ) → Owns v c → Owns u c → ⊥
-  owned_once c owns owns' = other_apart c owns owns'.place owns'.made (Entered c, at_prefix u.seen j.seen owns'.place (Entered c) unites.second owns'.entered, refl)
+  owned_once c owns owns' =
+      other_apart c owns owns'.place owns'.made (Entered c, at_prefix u.seen j.seen owns'.place (Entered c) unites.second owns'.entered, refl)
 
   -- the two ledgers are one
-  module _ (C Z : List ℕ) (both : (c : ℕ) → times c C ≡ times c A + times c B) (first_workers : (w : ℕ) → In w X → In w Z) (second_workers : (w : ℕ) → In w Y → In w Z) where
+  module _ (C Z : List ℕ) (both : (c : ℕ) → times c C ≡ times c A + times c B) (first_workers : (w : ℕ) → In w X → In w Z)
+      (second_workers : (w : ℕ) → In w Y → In w Z) where
     pub ledger_both : Ledger C Z j
     ledger_both = record {
       explained = λ place there. ⊎_elim
-          (λ (i : In place v.mine). explained_more A X C Z v.seen j.seen place (λ c k. (let t = both c in omega arith)) first_workers unites.first (one.explained place i))
-          (λ (i : In place u.mine). explained_more B Y C Z u.seen j.seen place (λ c k. (let t = both c in omega arith)) second_workers unites.second (other.explained place i))
+          (λ (i : In place v.mine). explained_more A X C Z v.seen j.seen place (λ c k. (let t = both c in omega arith)) first_workers unites.first
+          (one.explained place i))
+          (λ (i : In place u.mine). explained_more B Y C Z u.seen j.seen place (λ c k. (let t = both c in omega arith)) second_workers unites.second
+          (other.explained place i))
           (in_either place v.mine u.mine (subst (In place) mine there));
       closed = subst (IsClosed owner_of j.seen) (sym mine) (closed_both owner_of j.seen v.mine u.mine
           (closed_longer owner_of v.seen j.seen unites.first v.mine one.within one.closed)

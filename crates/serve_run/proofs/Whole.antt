@@ -91,15 +91,18 @@ module _ (g : Givens) where
       dite (ℕ_discrete c (connections past))
       (λ (new : c ≡ connections past). (length past, newest_stands (Entered k) past ∙ ap (λ n. some (Entered n)) (legal.0.0 ∙ sym new)))
       (λ (old : c ≡ connections past → ⊥). (let it = entered_at past legal.1 c (omega arith) in (it.0, earlier_stands (Entered k) past it.0 (Entered c) it.1)))
-  entered_at (Arrive k size call ∷ past) legal c low = (let it = entered_at past legal.1 c low in (it.0, earlier_stands (Arrive k size call) past it.0 (Entered c) it.1))
+  entered_at (Arrive k size call ∷ past) legal c low =
+      (let it = entered_at past legal.1 c low in (it.0, earlier_stands (Arrive k size call) past it.0 (Entered c) it.1))
   entered_at (Filled k size ∷ past) legal c low = (let it = entered_at past legal.1 c low in (it.0, earlier_stands (Filled k size) past it.0 (Entered c) it.1))
   entered_at (Left k ∷ past) legal c low = (let it = entered_at past legal.1 c low in (it.0, earlier_stands (Left k) past it.0 (Entered c) it.1))
   entered_at (Collect k a ∷ past) legal c low = (let it = entered_at past legal.1 c low in (it.0, earlier_stands (Collect k a) past it.0 (Entered c) it.1))
   entered_at (Admit v r x ∷ past) legal c low = (let it = entered_at past legal.1 c low in (it.0, earlier_stands (Admit v r x) past it.0 (Entered c) it.1))
   entered_at (Tried v a ∷ past) legal c low = (let it = entered_at past legal.1 c low in (it.0, earlier_stands (Tried v a) past it.0 (Entered c) it.1))
-  entered_at (Incarnated v a ∷ past) legal c low = (let it = entered_at past legal.1 c low in (it.0, earlier_stands (Incarnated v a) past it.0 (Entered c) it.1))
+  entered_at (Incarnated v a ∷ past) legal c low =
+      (let it = entered_at past legal.1 c low in (it.0, earlier_stands (Incarnated v a) past it.0 (Entered c) it.1))
   entered_at (Run v ∷ past) legal c low = (let it = entered_at past legal.1 c low in (it.0, earlier_stands (Run v) past it.0 (Entered c) it.1))
   entered_at (Done v ∷ past) legal c low = (let it = entered_at past legal.1 c low in (it.0, earlier_stands (Done v) past it.0 (Entered c) it.1))
   entered_at (TakeOut v n x ∷ past) legal c low = (let it = entered_at past legal.1 c low in (it.0, earlier_stands (TakeOut v n x) past it.0 (Entered c) it.1))
-  entered_at (Etherealized v x y ∷ past) legal c low = (let it = entered_at past legal.1 c low in (it.0, earlier_stands (Etherealized v x y) past it.0 (Entered c) it.1))
+  entered_at (Etherealized v x y ∷ past) legal c low =
+      (let it = entered_at past legal.1 c low in (it.0, earlier_stands (Etherealized v x y) past it.0 (Entered c) it.1))
   entered_at (Abandon v ∷ past) legal c low = (let it = entered_at past legal.1 c low in (it.0, earlier_stands (Abandon v) past it.0 (Entered c) it.1))

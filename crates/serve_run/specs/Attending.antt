@@ -18,7 +18,8 @@ use Rattle.serve_run.specs.Tours.{Tour, Shift, workers_in}
 
 -- the administrators' door was served, too
 abbrev pub IsAdminServed : {A L : Type 0} → List (Tour A L) → List (Tour A L) → Doors A → Doors A → Type 0
-IsAdminServed {A} {L} tours lanes old new = (t : Tour A L) × (tours ≡ t ∷ lanes) × (t.peer ≡ Administrator) × (t.closed ≡ old.admin) × (t.served ≡ new.admin)
+IsAdminServed {A} {L} tours lanes old new = (t : Tour A L) × (tours ≡ t ∷ lanes) × (t.peer ≡ Administrator) × (t.closed ≡ old.admin)
+    × (t.served ≡ new.admin)
 
 -- or it wasn't, as a piece wasn't started
 abbrev pub IsAdminLeft : {A L : Type 0} → List (Tour A L) → List (Tour A L) → Option Want → Doors A → Doors A → Type 0

@@ -42,7 +42,8 @@ AreBefore place (t ∷ more) = (length t.stood ≤ place) × AreBefore place mor
 -- what it made last came when all doors had ended, and the connections that entered by them had made all their entries
 pub record IsLast {A L : Type 0} (own : Option (ℕ × Entry)) (tours : List (Tour A L)) (v : View Givens Entry) : Type 0 where
   pub ended : (place : ℕ) (e : Entry) → own ≡ Some (place, e) → AreBefore place tours
-  pub left : (place : ℕ) (e : Entry) → own ≡ Some (place, e) → (k c : ℕ) → In k v.mine → In c (conns_in tours) → Belongs owner_of v.seen k c → k < place
+  pub left : (place : ℕ) (e : Entry) → own ≡ Some (place, e) → (k c : ℕ) → In k v.mine → In c (conns_in tours) → Belongs owner_of v.seen k c
+      → k < place
 
 -- what the run says on its own connection: the line `shutdown`, of eight bytes, or where that isn't taken for the limits of
 -- the run, that it fills it

@@ -53,7 +53,8 @@ module _ {L : Type 0} (g : Givens) (shown : L → Shown) (log : List Entry) wher
   abbrev pub EachSession : Peer → List (Visit L) → Type 0
   EachSession peer [] = Unit {0}
   EachSession peer (x ∷ earlier) =
-      MatchOption x.session.conn (IsTurnedAway log x.session.end) (λ c. IsSession g peer log (shown x.before) (shown x.after) c x.session.end) × EachSession peer earlier
+      MatchOption x.session.conn (IsTurnedAway log x.session.end)
+      (λ c. IsSession g peer log (shown x.before) (shown x.after) c x.session.end) × EachSession peer earlier
 
 module _ {A L : Type 0} (g : Givens) (shown : L → Shown) (log : List Entry) where
   -- each link of each door
@@ -78,7 +79,8 @@ WorkedBelow workers log = (place w : ℕ) (e : Entry) → get_elem? log place �
 -- the run is over: every activation is void or finished, and every call of a connection but the first is decided
 pub record IsRunOver (g : Givens) (log : List Entry) : Type 0 where
   pub over : (a : Activation) → IsAmong a (standing g.config g.run (reverse log)).activations → is_over g.config a ≡ true
-  pub answered : (r c : ℕ) → r < arrivals (reverse log) → conn_of (reverse log) r ≡ Some c → 0 < c → decided g.config g.run (reverse log) r ≡ true
+  pub answered : (r c : ℕ) → r < arrivals (reverse log) → conn_of (reverse log) r ≡ Some c → 0 < c
+      → decided g.config g.run (reverse log) r ≡ true
 
 -- the first connection is the run's own. It entered, and says `shutdown` at most, or that the run is full
 pub record IsFirst (last : Option (ℕ × Entry)) (log : List Entry) : Type 0 where
@@ -104,7 +106,8 @@ module _ {A L : Type 0} (standing_of : A → Option (Standing L)) (faults : A �
   -- a door ended where no link was left, or it failed, and counted that; or a call was refused for the limits of the run, or
   -- a connection but the first had it shut down. Where it didn't fail, it counted no fault
   pub record IsEnded (log : List Entry) (t : Tour A L) : Type 0 where
-    pub why : IfSome (standing_of t.served) (λ s. s.left ≡ []) ⊎ Rose (faults t.closed) (faults t.served) ⊎ (is_filled (reverse log) ≡ true) ⊎ (is_shut_by_others (reverse log) ≡ true)
+    pub why : IfSome (standing_of t.served) (λ s. s.left ≡ []) ⊎ Rose (faults t.closed) (faults t.served) ⊎ (is_filled (reverse log) ≡ true)
+        ⊎ (is_shut_by_others (reverse log) ≡ true)
     pub failed : t.end ≡ DoorFailed → Rose (faults t.closed) (faults t.served)
     pub steady : (t.end ≡ DoorFailed → ⊥) → faults t.served ≡ faults t.closed
 

@@ -26,7 +26,8 @@ pub record IsKept (old new : View Givens Entry) : Type 0 where
   pub base : new.base ≡ old.base
 
 -- a piece of this task, on a new seat of the shared core, and with this aid
-pub record IsStarted {R A G : Type 0} (shared : Shared) (task : Task A G) (aid : Option SeatOf) (v : View Givens Entry) (piece : Piece R A G) : Type 0 where
+pub record IsStarted {R A G : Type 0} (shared : Shared) (task : Task A G) (aid : Option SeatOf) (v : View Givens Entry)
+    (piece : Piece R A G) : Type 0 where
   pub shared_is : arc_value piece.shared ≡ shared
   pub task_is : piece.task ≡ task
   pub aid_is : piece.aid.seat ≡ aid
@@ -53,7 +54,8 @@ pub record IsSameSeat (old new : View Givens Entry) : Type 0 where
   pub room : new.room ≡ old.room
 
 -- a piece of the task, with the seat that was so when it was started, is joined, with what it gave back
-pub record IsJoined {A G L : Type 0} (shown : L → Shown) (standing : A → Option (Standing L)) (faults : A → ℕ) (task : Task A G) (first old new : View Givens Entry) (door : Option A) (refused : Option Full) (end : PieceEnd) : Type 0 where
+pub record IsJoined {A G L : Type 0} (shown : L → Shown) (standing : A → Option (Standing L)) (faults : A → ℕ) (task : Task A G)
+    (first old new : View Givens Entry) (door : Option A) (refused : Option Full) (end : PieceEnd) : Type 0 where
   pub ran : Ran A
   pub door_is : door ≡ ran.door
   pub refused_is : refused ≡ ran.refused

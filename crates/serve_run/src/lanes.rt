@@ -48,7 +48,8 @@ where
     ensures given { HasGivens (view seat.new) }
     ensures len { vec_len lanes.new ≡ vec_len lanes.old }
     ensures capacity { vec_capacity lanes.new ≡ vec_capacity lanes.old }
-    ensures served { (g : Givens) → (view seat.old).givens ≡ Some g → LanesServed g A.Link.shown A.standing A.faults lanes.old.items lanes.new.items result (view seat.old) (view seat.new) }
+    ensures served { (g : Givens) → (view seat.old).givens ≡ Some g
+        → LanesServed g A.Link.shown A.standing A.faults lanes.old.items lanes.new.items result (view seat.old) (view seat.new) }
     ensures threads { CountsThreads crew.old.faults crew.new.faults result.short }
 {
     let Some(lane) = lanes.pop() else {

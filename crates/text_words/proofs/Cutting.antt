@@ -60,5 +60,6 @@ pub map-filter_now : (p : List ℕ → Bool) (xs : List (Bor (List ℕ)))
     → map (λ x. x.now) (filter (λ x. p x.now) xs) ≡ filter p (map (λ x. x.now) xs)
 map-filter_now p [] = refl
 map-filter_now p (x ∷ xs) =
-    elim (p x.now) as (λ b. map (λ x. x.now) (cond b (x ∷ filter (λ x. p x.now) xs) (filter (λ x. p x.now) xs)) ≡ cond b (x.now ∷ filter p (map (λ x. x.now) xs)) (filter p (map (λ x. x.now) xs)))
+    elim (p x.now) as (λ b. map (λ x. x.now) (cond b (x ∷ filter (λ x. p x.now) xs) (filter (λ x. p x.now) xs)) ≡ cond b
+    (x.now ∷ filter p (map (λ x. x.now) xs)) (filter p (map (λ x. x.now) xs)))
     [ true ↦ ap (λ ys. x.now ∷ ys) (map-filter_now p xs) | false ↦ map-filter_now p xs ]

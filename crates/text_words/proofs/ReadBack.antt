@@ -62,7 +62,8 @@ digits_plain n (c ∷ cs) small e =
 
 pub signed_back : (z : ℤ) → IsLong z → signed_of (signed_decimal z) ≡ Some z
 signed_back (pos n) h = digits_plain n (decimal n) h refl
-signed_back (negsuc n) h = rw (number_back (2 ^ 63 + 1) (suc n) (omega arith) (omega arith), ne_eqb (suc n) 0 (λ same. omega arith)) (ap (λ k. Some (negsuc k)) (omega arith))
+signed_back (negsuc n) h =
+    rw (number_back (2 ^ 63 + 1) (suc n) (omega arith) (omega arith), ne_eqb (suc n) 0 (λ same. omega arith)) (ap (λ k. Some (negsuc k)) (omega arith))
 
 pub printed_id_back : (bytes : List ℕ) → length bytes ≤ 256 → IsBytes bytes → printed_id_of (codes "h:" ++ encode_lower bytes) ≡ Some bytes
 printed_id_back bytes short h = rw (prefixed_back (codes "h:") bytes h, le-leb (length bytes) 256 short) refl
@@ -96,7 +97,13 @@ path_back [] few all = refl
 path_back ([] ∷ ns) few all = absurd (false≢true all)
 path_back ((c ∷ cs) ∷ ns) few all =
     let parts = and_parts (is_name (c ∷ cs)) (list_all is_name ns) all in
-    rw (below_root_each ns, cut_again 47 (c ∷ cs) ns (name_lacks (c ∷ cs) parts.0) (names_lack ns parts.1), all_names_back ((c ∷ cs) ∷ ns) all, le-leb (length ((c ∷ cs) ∷ ns)) 16 few) refl
+    rw (
+      below_root_each ns,
+      cut_again 47 (c ∷ cs) ns (name_lacks (c ∷ cs) parts.0) (names_lack ns parts.1),
+      all_names_back ((c ∷ cs) ∷ ns) all,
+      le-leb
+          (length ((c ∷ cs) ∷ ns)) 16 few,
+    ) refl
 
 pub reference_back : (w : List ℕ) → is_reference w ≡ true → reference_of w ≡ Some w
 reference_back w h = rw h refl

@@ -4,12 +4,19 @@ use Rattle.adapter_state.proofs.Stated.{comes, serves_no_command, serves_no_call
 use Rattle.adapter_state.proofs.advancing.served.Goals as goal
 
 pub advance-requires : goal.advance-requires
-advance-requires c = comes c.args.config.now c.args.run c.requires.next.0 c.requires.next.1 c.requires.next.2 c.args.coming.now c.args.state.now c.requires.next.3 c.requires.kind
+advance-requires c =
+    comes c.args.config.now c.args.run c.requires.next.0 c.requires.next.1 c.requires.next.2 c.args.coming.now c.args.state.now c.requires.next.3
+    c.requires.kind
 
 pub returns-in_err-outcome-clause-err : goal.returns-in_err-outcome-clause-err
 returns-in_err-outcome-clause-err c = λ opened past state.
     at_error c.from_residual.result
-    (record { stands = state.stands; set = state.set; held = unchanged_holds c.args.config.now c.args.run opened past (kept_in c.args.state.now.servants) (kept_in c.advance.new.servants) c.in_err-outcome.ensures.err state.held })
+    (record {
+      stands = state.stands;
+      set = state.set;
+      held = unchanged_holds c.args.config.now c.args.run opened past (kept_in c.args.state.now.servants)
+          (kept_in c.advance.new.servants) c.in_err-outcome.ensures.err state.held;
+    })
 
 pub returns-clause-ok : goal.returns-clause-ok
 returns-clause-ok c = λ limit opened past next.

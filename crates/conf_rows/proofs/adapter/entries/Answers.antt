@@ -17,7 +17,13 @@ loop-i-preserved c =
     let a = c.in_ok-adapter.adapter in
     let one = adapter_after (find_in c.args.managers.now) (find_in c.args.servants.now) in
     rw c.in-Ok.ensures.items (record {
-      reached = reached_more one c.args.values.now c.loop-i.i done c.index-values-i.result a c.loop-i-test.true c.index-values-i.is inv.reached (rw (inv.reached.count, ← inv.noted, ← c.as_slice-earlier.ensures.value) c.in_ok-adapter.ensures.entry);
-      read = each_more (IsReadAfter (find_in c.args.managers.now) (find_in c.args.servants.now)) [] done a inv.read (rw (← inv.noted, ← c.as_slice-earlier.ensures.value) c.in_ok-adapter.ensures.read);
-      noted = rw (adapter_paths_more done a) (noted_next (find_in c.loop-i.paths) (find_in c.next_adapter.new.paths) (adapter_paths done) (path_text a.path) c.loop-i.i (omega (arith, length-map done (λ x. path_text x.path), inv.reached.count)) inv.noted c.in_ok-adapter.ensures.read.fresh c.in_ok-adapter.ensures.noted);
+      reached =
+          reached_more one c.args.values.now c.loop-i.i done c.index-values-i.result a c.loop-i-test.true c.index-values-i.is inv.reached
+          (rw (inv.reached.count, ← inv.noted, ← c.as_slice-earlier.ensures.value) c.in_ok-adapter.ensures.entry);
+      read = each_more (IsReadAfter (find_in c.args.managers.now) (find_in c.args.servants.now)) [] done a inv.read
+          (rw (← inv.noted, ← c.as_slice-earlier.ensures.value) c.in_ok-adapter.ensures.read);
+      noted = rw (adapter_paths_more done a)
+          (noted_next (find_in c.loop-i.paths) (find_in c.next_adapter.new.paths) (adapter_paths done) (path_text a.path) c.loop-i.i
+          (omega (arith, length-map done (λ x. path_text x.path), inv.reached.count)) inv.noted c.in_ok-adapter.ensures.read.fresh
+          c.in_ok-adapter.ensures.noted);
     })

@@ -16,7 +16,12 @@ loop-i-preserved c =
     let done = c.loop-i.managers.items in
     let m = c.in_ok-manager.manager in
     rw c.in-Ok.ensures.items (record {
-      reached = reached_more manager_after c.args.values.now c.loop-i.i done c.index-values-i.result m c.loop-i-test.true c.index-values-i.is inv.reached (rw (inv.reached.count, ← inv.noted) c.in_ok-manager.ensures.entry);
-      kept = each_more IsManager [] done m inv.kept (manager_keeps done m (find_in c.loop-i.numbers) inv.noted c.in_ok-manager.ensures.fresh c.in_ok-manager.ensures.named);
-      noted = rw (manager_names_more done m) (noted_next (find_in c.loop-i.numbers) (find_in c.next_manager.new.numbers) (manager_names done) m.name (c.loop-i.i + 1) (omega (arith, length-map done (λ x. x.name), inv.reached.count)) inv.noted c.in_ok-manager.ensures.fresh c.in_ok-manager.ensures.noted);
+      reached =
+          reached_more manager_after c.args.values.now c.loop-i.i done c.index-values-i.result m c.loop-i-test.true c.index-values-i.is inv.reached
+          (rw (inv.reached.count, ← inv.noted) c.in_ok-manager.ensures.entry);
+      kept = each_more IsManager [] done m inv.kept
+          (manager_keeps done m (find_in c.loop-i.numbers) inv.noted c.in_ok-manager.ensures.fresh c.in_ok-manager.ensures.named);
+      noted = rw (manager_names_more done m)
+          (noted_next (find_in c.loop-i.numbers) (find_in c.next_manager.new.numbers) (manager_names done) m.name (c.loop-i.i + 1)
+          (omega (arith, length-map done (λ x. x.name), inv.reached.count)) inv.noted c.in_ok-manager.ensures.fresh c.in_ok-manager.ensures.noted);
     })

@@ -12,6 +12,10 @@ loop-j-preserved c =
     let done = c.loop-j.rules.items in
     let servants = find_in c.args.servants.now in
     rw c.in-Ok.ensures.items (record {
-      reached = reached_more (rule_after c.args.i servants c.args.policies.now) c.args.values.now c.loop-j.j done c.index-values-j.result c.in_ok-rule.rule c.loop-j-test.true c.index-values-j.is inv.reached (rw inv.reached.count c.in_ok-rule.ensures.value);
-      within = all_push (λ (r : RuleConf). GivesWithin (IsNumber servants) c.args.policies.now r.gives) done c.in_ok-rule.rule inv.within c.in_ok-rule.ensures.within;
+      reached =
+          reached_more (rule_after c.args.i servants c.args.policies.now) c.args.values.now c.loop-j.j done c.index-values-j.result c.in_ok-rule.rule
+          c.loop-j-test.true c.index-values-j.is inv.reached (rw inv.reached.count c.in_ok-rule.ensures.value);
+      within =
+          all_push (λ (r : RuleConf). GivesWithin (IsNumber servants) c.args.policies.now r.gives) done c.in_ok-rule.rule inv.within
+          c.in_ok-rule.ensures.within;
     })

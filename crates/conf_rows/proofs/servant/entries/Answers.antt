@@ -16,7 +16,12 @@ loop-i-preserved c =
     let done = c.loop-i.servants.items in
     let m = c.in_ok-servant.servant in
     rw c.in-Ok.ensures.items (record {
-      reached = reached_more servant_after c.args.values.now c.loop-i.i done c.index-values-i.result m c.loop-i-test.true c.index-values-i.is inv.reached (rw (inv.reached.count, ← inv.noted) c.in_ok-servant.ensures.entry);
-      kept = each_more IsServant [] done m inv.kept (servant_keeps done m (find_in c.loop-i.numbers) inv.noted c.in_ok-servant.ensures.fresh c.in_ok-servant.ensures.named);
-      noted = rw (servant_names_more done m) (noted_next (find_in c.loop-i.numbers) (find_in c.next_servant.new.numbers) (servant_names done) m.name c.loop-i.i (omega (arith, length-map done (λ x. x.name), inv.reached.count)) inv.noted c.in_ok-servant.ensures.fresh c.in_ok-servant.ensures.noted);
+      reached =
+          reached_more servant_after c.args.values.now c.loop-i.i done c.index-values-i.result m c.loop-i-test.true c.index-values-i.is inv.reached
+          (rw (inv.reached.count, ← inv.noted) c.in_ok-servant.ensures.entry);
+      kept = each_more IsServant [] done m inv.kept
+          (servant_keeps done m (find_in c.loop-i.numbers) inv.noted c.in_ok-servant.ensures.fresh c.in_ok-servant.ensures.named);
+      noted = rw (servant_names_more done m)
+          (noted_next (find_in c.loop-i.numbers) (find_in c.next_servant.new.numbers) (servant_names done) m.name c.loop-i.i
+          (omega (arith, length-map done (λ x. x.name), inv.reached.count)) inv.noted c.in_ok-servant.ensures.fresh c.in_ok-servant.ensures.noted);
     })

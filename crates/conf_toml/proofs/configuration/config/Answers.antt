@@ -24,8 +24,12 @@ returns-clause-rules c =
       };
       managers = c.in_ok-managers.ensures.kept;
       servants = c.in_ok-servants.ensures.kept;
-      adapters = adapters_keep c.in_ok-managers.managers c.in_ok-servants.servants managers servants c.in_ok-managers.ensures.numbers c.in_ok-servants.ensures.numbers adapters read;
-      objects = objects_keep (find_in c.in_ok-adapters.paths) servants adapters c.in_ok-servants.servants c.in_ok-adapters.ensures.paths c.in_ok-servants.ensures.numbers
+      adapters =
+          adapters_keep c.in_ok-managers.managers c.in_ok-servants.servants managers servants c.in_ok-managers.ensures.numbers c.in_ok-servants.ensures.numbers
+          adapters read;
+      objects =
+          objects_keep (find_in c.in_ok-adapters.paths) servants adapters c.in_ok-servants.servants c.in_ok-adapters.ensures.paths
+          c.in_ok-servants.ensures.numbers
           (all_written managers servants [] adapters read) c.in_ok-objects.objects (rw (← c.as_slice.ensures) c.in_ok-objects.ensures.read);
       forwards = c.in_ok-forwards.ensures.kept;
     }

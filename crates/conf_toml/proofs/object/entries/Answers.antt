@@ -14,8 +14,11 @@ loop-i-preserved c =
     let o = c.in_ok-object.object in
     let one = object_after (find_in c.args.homes.now.paths.now) c.args.homes.now.adapters.now (find_in c.args.homes.now.servants.now) in
     rw c.in-Ok.ensures.items (record {
-      reached = reached_more one c.args.values.now c.loop-i.i done c.index-values-i.result o c.loop-i-test.true c.index-values-i.is inv.reached (rw (inv.reached.count, ← inv.ids, ← inv.taken) c.in_ok-object.ensures.entry);
-      read = each_more (IsReadAfter (find_in c.args.homes.now.paths.now) c.args.homes.now.adapters.now (find_in c.args.homes.now.servants.now)) [] done o inv.read (rw (← inv.ids, ← inv.taken) c.in_ok-object.ensures.read);
+      reached =
+          reached_more one c.args.values.now c.loop-i.i done c.index-values-i.result o c.loop-i-test.true c.index-values-i.is inv.reached
+          (rw (inv.reached.count, ← inv.ids, ← inv.taken) c.in_ok-object.ensures.entry);
+      read = each_more (IsReadAfter (find_in c.args.homes.now.paths.now) c.args.homes.now.adapters.now (find_in c.args.homes.now.servants.now))
+          [] done o inv.read (rw (← inv.ids, ← inv.taken) c.in_ok-object.ensures.read);
       ids = ids_next done o (find_in c.loop-i.ids) (find_in c.next_object.new.ids) inv.ids c.in_ok-object.ensures.ids;
       taken = taken_next done o (find_in c.loop-i.taken) (find_in c.next_object.new.taken) inv.taken c.in_ok-object.ensures.taken;
     })

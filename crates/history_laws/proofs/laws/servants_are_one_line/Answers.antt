@@ -2,10 +2,14 @@ use Rattle.history_laws.proofs.laws.servants_are_one_line.Goals as goal
 use Rattle.history_laws.proofs.OneServant.{one_line, line_carried, line_stored}
 
 pub returns-clause-line : goal.returns-clause-line
-returns-clause-line c = λ conf run limit h given alone within legal opened kind p oid brings are. one_line conf run limit given alone within opened kind p oid brings h legal are
+returns-clause-line c =
+    λ conf run limit h given alone within legal opened kind p oid brings are. one_line conf run limit given alone within opened kind p oid brings h legal are
 
 pub returns-clause-state : goal.returns-clause-state
-returns-clause-state c = λ conf run limit h given alone within legal opened kind p oid brings are. line_carried conf run limit given alone within opened kind p oid brings h legal are
+returns-clause-state c =
+    λ conf run limit h given alone within legal opened kind p oid brings are. line_carried conf run limit given alone within opened kind p oid brings h legal
+    are
 
 pub returns-clause-kept : goal.returns-clause-kept
-returns-clause-kept c = λ conf run limit h given alone within legal opened kind p oid brings are. line_stored conf run limit given alone within opened kind p oid brings h legal are
+returns-clause-kept c =
+    λ conf run limit h given alone within legal opened kind p oid brings are. line_stored conf run limit given alone within opened kind p oid brings h legal are

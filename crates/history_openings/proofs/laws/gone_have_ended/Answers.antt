@@ -5,7 +5,9 @@ use Rattle.history_openings.proofs.laws.gone_have_ended.Goals as goal
 use Rattle.history_openings.proofs.Opened.{given, within}
 
 pub returns-clause-ends : goal.returns-clause-ends
-returns-clause-ends c = λ conf run limit h is. ends_where conf run (standing conf run h) (legal_sound conf run limit h (given conf run limit h is) (within conf run limit h is) is.legal)
+returns-clause-ends c =
+    λ conf run limit h is. ends_where conf run (standing conf run h)
+    (legal_sound conf run limit h (given conf run limit h is) (within conf run limit h is) is.legal)
 
 pub returns-clause-stays : goal.returns-clause-stays
 returns-clause-stays c = λ conf run limit h is. stands_ungone conf run limit h (given conf run limit h is) (within conf run limit h is) is.legal

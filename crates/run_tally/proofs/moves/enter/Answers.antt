@@ -3,4 +3,6 @@ use Rattle.run_tally.proofs.Follows.{entered_is}
 use Rattle.run_tally.proofs.moves.enter.Goals as goal
 
 pub returns : goal.returns
-returns c = λ past next few is. entered_is past c.args.tally.now _ c.args.conn next few (record { calls = refl; sizes = refl; full = refl; order = refl; end = refl; gave = refl }) c.push_reserved.ensures.items c.with_one-tally.ensures is
+returns c =
+    λ past next few is. entered_is past c.args.tally.now _ c.args.conn next few
+    (record { calls = refl; sizes = refl; full = refl; order = refl; end = refl; gave = refl }) c.push_reserved.ensures.items c.with_one-tally.ensures is

@@ -3,4 +3,6 @@ use Rattle.run_tally.proofs.Follows.{left_is}
 use Rattle.run_tally.proofs.moves.leave.Goals as goal
 
 pub returns : goal.returns
-returns c = λ past open_ is. left_is past c.args.tally.now _ c.args.conn open_ (record { calls = refl; sizes = refl; full = refl; order = refl; end = refl; gave = refl }) c.mark.ensures c.without_one-tally.ensures is
+returns c =
+    λ past open_ is. left_is past c.args.tally.now _ c.args.conn open_
+    (record { calls = refl; sizes = refl; full = refl; order = refl; end = refl; gave = refl }) c.mark.ensures c.without_one-tally.ensures is

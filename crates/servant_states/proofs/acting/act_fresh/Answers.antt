@@ -11,4 +11,6 @@ pub returns-in-Some-clause-err : goal.returns-in-Some-clause-err
 returns-in-Some-clause-err c =
     let written = c.get_mut.follows.holds c.act_on.new.servant in
     let had = sym c.get_mut.ensures.value ∙ ap option_copied_mut c.in-Some.is in
-    on_err_weaker c.act_on.result (λ same. written.0 ∙ ap (set_value (is_at (nat_cmp c.args.number)) c.args.fresh.now.entries) same ∙ set_value_same (is_at (nat_cmp c.args.number)) c.args.fresh.now.entries c.in-Some.servant.now had) c.act_on.ensures.err
+    on_err_weaker c.act_on.result
+    (λ same. written.0 ∙ ap (set_value (is_at (nat_cmp c.args.number)) c.args.fresh.now.entries) same
+    ∙ set_value_same (is_at (nat_cmp c.args.number)) c.args.fresh.now.entries c.in-Some.servant.now had) c.act_on.ensures.err

@@ -9,13 +9,15 @@ pub returns-in-Run-clause-outcome : goal.returns-in-Run-clause-outcome
 returns-in-Run-clause-outcome c = told_then _ _ _ _ _ _ _ c.act.result c.in-Run.worker c.in-Run.is c.act.ensures.outcome
 
 pub returns-in_ok-incarnate-in-Incarnated-clause-ok : goal.returns-in_ok-incarnate-in-Incarnated-clause-ok
-returns-in_ok-incarnate-in-Incarnated-clause-ok c = incarnated_then _ _ _ _ _ _ _ c.in-Incarnated.worker c.in-Incarnated.answer c.in-Incarnated.is _ c.in_ok-incarnate-in-Incarnated.ensures.ok
+returns-in_ok-incarnate-in-Incarnated-clause-ok c =
+    incarnated_then _ _ _ _ _ _ _ c.in-Incarnated.worker c.in-Incarnated.answer c.in-Incarnated.is _ c.in_ok-incarnate-in-Incarnated.ensures.ok
 
 pub etherealize-requires : goal.etherealize-requires
 etherealize-requires c = room_then _ _ _ _ _ _ _ c.in-Etherealized.worker c.in-Etherealized.cleanup c.in-Etherealized.remaining c.in-Etherealized.is c.requires
 
 pub returns-in-Etherealized-clause-ok : goal.returns-in-Etherealized-clause-ok
-returns-in-Etherealized-clause-ok c = ended_then _ _ _ _ _ _ _ c.in-Etherealized.worker c.in-Etherealized.cleanup c.in-Etherealized.remaining c.in-Etherealized.is _ c.etherealize.ensures
+returns-in-Etherealized-clause-ok c =
+    ended_then _ _ _ _ _ _ _ c.in-Etherealized.worker c.in-Etherealized.cleanup c.in-Etherealized.remaining c.in-Etherealized.is _ c.etherealize.ensures
 
 pub returns-in_default : goal.returns-in_default
 returns-in_default c =

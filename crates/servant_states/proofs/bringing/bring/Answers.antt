@@ -7,4 +7,5 @@ use Rattle.servant_states.proofs.bringing.bring.Goals as goal
 pub returns-in-Some-clause-ok : goal.returns-in-Some-clause-ok
 returns-in-Some-clause-ok c =
     let found = sym (ap option_copied c.in-Some.is) ∙ c.activation_numbered.ensures in
-    on_ok_weaker c.bring_for.result (subst (λ o. Brings c.args.config.now c.args.number o (kept_in c.args.servants.now) (kept_in c.bring_for.new.servants)) found) c.bring_for.ensures.ok
+    on_ok_weaker c.bring_for.result
+    (subst (λ o. Brings c.args.config.now c.args.number o (kept_in c.args.servants.now) (kept_in c.bring_for.new.servants)) found) c.bring_for.ensures.ok

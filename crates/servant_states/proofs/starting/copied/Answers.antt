@@ -10,4 +10,5 @@ returns c =
     rows_copied c.args.store.now c.loop-row.copy
     (sym (ap (λ rows. with_rows (map row_seen rows) c.loop-row.copy) (drop_all c.loop-row.row-index c.deref-row-items.result.now c.loop-row-test.false))
     ∙ (c.loop-row.invariant
-    ∙ (ap (λ rows. with_rows rows c.new-copy.result) (ap (map row_seen) c.deref-row-items.ensures.value ∙ c.in_ok-rows.ensures) ∙ ap (λ slots. with_rows (states c.args.store.now) slots) c.new-copy.ensures)))
+    ∙ (ap (λ rows. with_rows rows c.new-copy.result) (ap (map row_seen) c.deref-row-items.ensures.value ∙ c.in_ok-rows.ensures)
+    ∙ ap (λ slots. with_rows (states c.args.store.now) slots) c.new-copy.ensures)))

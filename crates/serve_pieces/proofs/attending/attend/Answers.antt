@@ -10,20 +10,26 @@ loop-init g c = record {
   seat = c.requires.seat;
   ready = c.requires.aid;
   aids = aids_none c.args.aid.now.seat;
-  rounds = λ k given. rounds_none k c.args.peer g.A.Link.Link.shown g.A.Acceptor.standing g.A.Acceptor.faults (view c.args.seat.now) c.args.door.now c.requires.fresh;
+  rounds =
+      λ k given. rounds_none k c.args.peer g.A.Link.Link.shown g.A.Acceptor.standing g.A.Acceptor.faults
+      (view c.args.seat.now) c.args.door.now c.requires.fresh;
 }
 
 pub returns-in-Some-ending-clause-served : goal.returns-in-Some-ending-clause-served
 returns-in-Some-ending-clause-served g c = λ k given.
-    rounds_end k c.args.peer g.A.Link.Link.shown g.A.Acceptor.standing g.A.Acceptor.faults (view c.args.seat.now) c.args.door.now (view c.loop.seat) (view c.receive-received.new.seat) c.loop.door c.receive-received.new.door c.loop.refused c.noted-refused.result c.receive-received.result c.in-Some-ending.end
+    rounds_end k c.args.peer g.A.Link.Link.shown g.A.Acceptor.standing g.A.Acceptor.faults (view c.args.seat.now) c.args.door.now (view c.loop.seat)
+    (view c.receive-received.new.seat) c.loop.door c.receive-received.new.door c.loop.refused c.noted-refused.result c.receive-received.result
+    c.in-Some-ending.end
     (c.loop.invariant.rounds k given)
     (λ visits so_far. c.receive-received.ensures.received k (view c.args.seat.now) c.args.door.now visits given so_far)
     c.noted-refused.ensures (sym c.ending.ensures ∙ c.in-Some-ending.is)
 
 pub returns-in-Some-stop_in-clause-served : goal.returns-in-Some-stop_in-clause-served
 returns-in-Some-stop_in-clause-served g c = λ k given.
-    rounds_stop k c.args.peer g.A.Link.Link.shown g.A.Acceptor.standing g.A.Acceptor.faults (view c.args.seat.now) c.args.door.now (view c.receive-received.new.seat) (view c.phase-phase.new.seat) c.receive-received.new.door c.noted-refused.result
-    (rounds_more k c.args.peer g.A.Link.Link.shown g.A.Acceptor.standing g.A.Acceptor.faults (view c.args.seat.now) c.args.door.now (view c.loop.seat) (view c.receive-received.new.seat) c.loop.door c.receive-received.new.door c.loop.refused c.noted-refused.result c.receive-received.result
+    rounds_stop k c.args.peer g.A.Link.Link.shown g.A.Acceptor.standing g.A.Acceptor.faults (view c.args.seat.now) c.args.door.now
+    (view c.receive-received.new.seat) (view c.phase-phase.new.seat) c.receive-received.new.door c.noted-refused.result
+    (rounds_more k c.args.peer g.A.Link.Link.shown g.A.Acceptor.standing g.A.Acceptor.faults (view c.args.seat.now) c.args.door.now (view c.loop.seat)
+    (view c.receive-received.new.seat) c.loop.door c.receive-received.new.door c.loop.refused c.noted-refused.result c.receive-received.result
     (c.loop.invariant.rounds k given)
     (λ visits so_far. c.receive-received.ensures.received k (view c.args.seat.now) c.args.door.now visits given so_far)
     c.noted-refused.ensures (sym c.ending.ensures ∙ c.in_default.is))
@@ -36,8 +42,10 @@ loop-preserved g c = record {
   ready = c.receive-received.ensures.ready;
   aids = aids_through c.args.aid.now.seat c.loop.aid.seat c.receive-received.new.aid.seat c.loop.invariant.aids c.receive-received.ensures.aids;
   rounds = λ k given.
-      rounds_looked k c.args.peer g.A.Link.Link.shown g.A.Acceptor.standing g.A.Acceptor.faults (view c.args.seat.now) c.args.door.now (view c.receive-received.new.seat) (view c.phase-phase.new.seat) c.receive-received.new.door c.noted-refused.result
-      (rounds_more k c.args.peer g.A.Link.Link.shown g.A.Acceptor.standing g.A.Acceptor.faults (view c.args.seat.now) c.args.door.now (view c.loop.seat) (view c.receive-received.new.seat) c.loop.door c.receive-received.new.door c.loop.refused c.noted-refused.result c.receive-received.result
+      rounds_looked k c.args.peer g.A.Link.Link.shown g.A.Acceptor.standing g.A.Acceptor.faults (view c.args.seat.now) c.args.door.now
+      (view c.receive-received.new.seat) (view c.phase-phase.new.seat) c.receive-received.new.door c.noted-refused.result
+      (rounds_more k c.args.peer g.A.Link.Link.shown g.A.Acceptor.standing g.A.Acceptor.faults (view c.args.seat.now) c.args.door.now (view c.loop.seat)
+      (view c.receive-received.new.seat) c.loop.door c.receive-received.new.door c.loop.refused c.noted-refused.result c.receive-received.result
       (c.loop.invariant.rounds k given)
       (λ visits so_far. c.receive-received.ensures.received k (view c.args.seat.now) c.args.door.now visits given so_far)
       c.noted-refused.ensures (sym c.ending.ensures ∙ c.in_default.is))
@@ -45,7 +53,9 @@ loop-preserved g c = record {
 }
 
 pub returns-in-Some-ending-clause-aids : goal.returns-in-Some-ending-clause-aids
-returns-in-Some-ending-clause-aids g c = aids_through c.args.aid.now.seat c.loop.aid.seat c.receive-received.new.aid.seat c.loop.invariant.aids c.receive-received.ensures.aids
+returns-in-Some-ending-clause-aids g c =
+    aids_through c.args.aid.now.seat c.loop.aid.seat c.receive-received.new.aid.seat c.loop.invariant.aids c.receive-received.ensures.aids
 
 pub returns-in-Some-stop_in-clause-aids : goal.returns-in-Some-stop_in-clause-aids
-returns-in-Some-stop_in-clause-aids g c = aids_through c.args.aid.now.seat c.loop.aid.seat c.receive-received.new.aid.seat c.loop.invariant.aids c.receive-received.ensures.aids
+returns-in-Some-stop_in-clause-aids g c =
+    aids_through c.args.aid.now.seat c.loop.aid.seat c.receive-received.new.aid.seat c.loop.invariant.aids c.receive-received.ensures.aids

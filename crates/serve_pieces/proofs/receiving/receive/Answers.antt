@@ -13,8 +13,12 @@ returns-in-Link-clause-received g c = λ k first closed visits given so_far.
       x,
       refl,
       record {
-        attends = attends_more k c.args.peer g.A.Link.Link.shown visits first (view c.args.seat.now) (view c.serve-session.new.seat) so_far.attends x (c.serve-session.ensures.served k (so_far.attends.given ∙ given));
-        passes = passed_on visits x (g.A.Acceptor.standing closed) (g.A.Acceptor.standing c.args.door.now) (g.A.Acceptor.standing c.next.new.self) (g.A.Acceptor.standing c.give_back.new.self) so_far.passes c.in-Link.ensures.standing c.give_back.ensures.standing;
+        attends =
+            attends_more k c.args.peer g.A.Link.Link.shown visits first (view c.args.seat.now) (view c.serve-session.new.seat) so_far.attends x
+            (c.serve-session.ensures.served k (so_far.attends.given ∙ given));
+        passes =
+            passed_on visits x (g.A.Acceptor.standing closed) (g.A.Acceptor.standing c.args.door.now) (g.A.Acceptor.standing c.next.new.self)
+            (g.A.Acceptor.standing c.give_back.new.self) so_far.passes c.in-Link.ensures.standing c.give_back.ensures.standing;
         steady = c.give_back.ensures.faults ∙ (c.in-Link.ensures.counted (λ (q : door.Link c.in-Link.link ≡ door.Failed). cc) ∙ so_far.steady);
       },
     )

@@ -7,17 +7,20 @@ use Rattle.serve_run.specs.Holding.{Holds}
 use Rattle.serve_run.proofs.running.serve_core.Goals as goal
 
 pub serve_workers-doors-requires-clause-given : goal.serve_workers-doors-requires-clause-given
-serve_workers-doors-requires-clause-given g c = λ κs bounds. (givens_of c.args.core, opened_given (givens_of c.args.core) (view c.in-Some.seat) c.in-Some.ensures.opened)
+serve_workers-doors-requires-clause-given g c =
+    λ κs bounds. (givens_of c.args.core, opened_given (givens_of c.args.core) (view c.in-Some.seat) c.in-Some.ensures.opened)
 
 pub serve_workers-doors-requires-clause-room : goal.serve_workers-doors-requires-clause-room
 serve_workers-doors-requires-clause-room g c = λ κs bounds.
-    (let room = opened_room (givens_of c.args.core) (view c.in-Some.seat) c.in-Some.ensures.opened in let few = c.requires.workers.1 in let lanes = c.requires.lanes in omega arith)
+    (let room = opened_room (givens_of c.args.core) (view c.in-Some.seat) c.in-Some.ensures.opened in let few = c.requires.workers.1 in
+    let lanes = c.requires.lanes in omega arith)
 
 pub serve_workers-doors-requires-clause-begun : goal.serve_workers-doors-requires-clause-begun
 serve_workers-doors-requires-clause-begun g c = λ κs bounds k given.
     let own = opened_given (givens_of c.args.core) (view c.in-Some.seat) c.in-Some.ensures.opened in
     let same : givens_of c.args.core ≡ k = (let e : Some (givens_of c.args.core) ≡ Some k = sym own ∙ given in cc) in
-    subst (λ x. Holds {A = g.row.A.Denot} {L = g.row.A-Link.Denot} x g.A.Link.Link.shown g.A.Acceptor.standing g.A.Acceptor.faults None [] [] (view c.in-Some.seat)) same
+    subst (λ x. Holds {A = g.row.A.Denot} {L = g.row.A-Link.Denot} x g.A.Link.Link.shown g.A.Acceptor.standing g.A.Acceptor.faults None [] []
+    (view c.in-Some.seat)) same
     (opened_holds (givens_of c.args.core) (view c.in-Some.seat) c.in-Some.ensures.opened g.A.Link.Link.shown g.A.Acceptor.standing g.A.Acceptor.faults)
 
 pub returns-clause-served : goal.returns-clause-served

@@ -8,7 +8,8 @@ use Rattle.text_words.proofs.hexadecimal.text_behind.Goals as goal
 
 -- a word that begins with the prefix is the prefix and what stands behind it
 parted : (prefix word : List ℕ) (r : Option (Bor (List ℕ)))
-    → MatchOption r (bytes_eq (take (length prefix) word) prefix ≡ false) (λ x. (bytes_eq (take (length prefix) word) prefix ≡ true) × (x.now ≡ drop (length prefix) word) × (length x.now + length prefix ≡ length word))
+    → MatchOption r (bytes_eq (take (length prefix) word) prefix ≡ false)
+    (λ x. (bytes_eq (take (length prefix) word) prefix ≡ true) × (x.now ≡ drop (length prefix) word) × (length x.now + length prefix ≡ length word))
     → IfSome r (λ text. word ≡ prefix ++ text.now)
 parted prefix word None h = tt
 parted prefix word (Some x) h =

@@ -28,20 +28,23 @@ pub returns-in-Some-clause-err : goal.returns-in-Some-clause-err
 returns-in-Some-clause-err c =
     let written = c.get_mut.follows.holds c.reserve_on.new.shelf in
     let had = sym c.get_mut.ensures.value ∙ ap option_copied_mut c.in-Some.is in
-    on_err_weaker _ (unchanged_at _ _ _ c.self.view_is c.self.invariant (shelved_after_set _ _ _ _ c.self.invariant written.0 written.4 c.reserve_on.ensures.ordered)
+    on_err_weaker _
+    (unchanged_at _ _ _ c.self.view_is c.self.invariant (shelved_after_set _ _ _ _ c.self.invariant written.0 written.4 c.reserve_on.ensures.ordered)
     c.args.path.now _ _ had (written.3 (subst IsSome (sym had) refl)).0) c.reserve_on.ensures.err
 
 pub invariant_of-self-in-None : goal.invariant_of-self-in-None
 invariant_of-self-in-None c =
     let same = ap (λ m. m.entries) c.get_mut.follows.holds-at-none in
-    shelved_after_insert _ _ _ _ (subst IsShelved (sym same) c.self.invariant) c.in_ok-insert-in-None.ensures.entries c.insert.ensures.ordered c.reserve_on-in-None.ensures.ordered
+    shelved_after_insert _ _ _ _ (subst IsShelved (sym same) c.self.invariant) c.in_ok-insert-in-None.ensures.entries c.insert.ensures.ordered
+    c.reserve_on-in-None.ensures.ordered
 
 pub returns-in_ok-insert-in-None-clause-ok : goal.returns-in_ok-insert-in-None-clause-ok
 returns-in_ok-insert-in-None-clause-ok c =
     let same = ap (λ m. m.entries) c.get_mut.follows.holds-at-none in
     let before = subst IsShelved (sym same) c.self.invariant in
     let put = c.in_ok-insert-in-None.ensures in
-    room_at _ _ _ (ap slots_of same ∙ c.self.view_is) before (shelved_after_insert _ _ _ _ before put.entries c.insert.ensures.ordered c.reserve_on-in-None.ensures.ordered)
+    room_at _ _ _ (ap slots_of same ∙ c.self.view_is) before
+    (shelved_after_insert _ _ _ _ before put.entries c.insert.ensures.ordered c.reserve_on-in-None.ensures.ordered)
     c.args.path.now c.args.oid.now None c.reserve_on-in-None.new.shelf
     (ap (lookup (is_at (path_cmp c.args.path.now))) same ∙ sym c.get_mut.ensures.value ∙ ap option_copied_mut c.in-None.is)
     (at_key _ _ _ _ _ c.in_ok-try_clone-in-None.ensures.equal put.updates.0)

@@ -8,7 +8,8 @@ pub unwrap-shelf-requires : goal.unwrap-shelf-requires
 unwrap-shelf-requires c = grind (arith, common_steps, shelf_of_reserved _ _ c.self.view_is c.self.invariant _ _ c.requires, c.get_mut.ensures.value)
 
 pub set_on-requires : goal.set_on-requires
-set_on-requires c = grind (arith, common_steps, shelf_of_reserved _ _ c.self.view_is c.self.invariant _ _ c.requires, c.get_mut.ensures.value, c.unwrap-shelf.ensures)
+set_on-requires c =
+    grind (arith, common_steps, shelf_of_reserved _ _ c.self.view_is c.self.invariant _ _ c.requires, c.get_mut.ensures.value, c.unwrap-shelf.ensures)
 
 pub invariant_of-self : goal.invariant_of-self
 invariant_of-self c =
