@@ -1,2 +1,5 @@
+mod OverTests
+mod WorkedOn
+mod Answering
 pub mod Growing
 pub mod Stated

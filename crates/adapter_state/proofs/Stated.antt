@@ -21,7 +21,7 @@ use Rattle.standing_queries.specs.Answers.{AnswersAs}
 use Rattle.standing_queries.specs.Kept.{StandsFor, StandsAfter}
 use Rattle.standing_queries.specs.Seen.{seen}
 use Rattle.standing_of.specs.Entries.{stage_at, call_admitted}
-use Rattle.standing_kept.proofs.Answering.{answers}
+use Rattle.adapter_state.proofs.Answering.{answers}
 use Rattle.adapter_settings.specs.declared.settings.Settings.{Settings}
 use Rattle.adapter_settings.specs.Told.{Tells, may_grow}
 use Rattle.servant_states.specs.Holds.{Holds}

@@ -26,7 +26,7 @@ use Rattle.poa_history.proofs.OutIs.{out_complete}
 use Rattle.poa_history.proofs.StagesFrom.{removal_before}
 use Rattle.poa_history.proofs.TurnTells.{takeout_is}
 use Rattle.standing_queries.specs.Answers.{works_on}
-use Rattle.standing_kept.proofs.OverTests.{begun_lives, served_lives, untold_lives}
+use Rattle.adapter_state.proofs.OverTests.{begun_lives, served_lives, untold_lives}
 
 module _ (c : Config) (run limit : ℕ) (given : IsGiven c run) (alone : IsGivenAlone c run) (within : IsWithinLimits c limit) where
   -- an activation of an earlier number isn't one that was begun just now

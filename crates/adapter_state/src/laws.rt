@@ -1,7 +1,5 @@
-//! What is kept of what stands answers every question as what stands does. An activation that is over answers none of
+//! What is kept answers every question as what stands by the history does. An activation that is over answers none of
 //! them: its servant is in no map, its id is free, it isn't due, and no worker is at it.
-#![tactic(auto)]
-
 ghost use Rattle.std.specs.Prelude.{ℕ, List};
 ghost use Rattle.poa_base.specs.declared.Config.{Config};
 ghost use Rattle.poa_base.specs.declared.Entry.{Entry};

@@ -37,8 +37,8 @@ use Rattle.standing_queries.specs.Answers.{AnswersAs}
 use Rattle.standing_queries.proofs.Kept.{any_alike, all_alike, find_alike}
 use Rattle.standing_of.proofs.ChangesAlike.{unmapped, mapped_alike, lived_alike}
 use Rattle.standing_queries.proofs.Behind.{first_fails, second_fails}
-use Rattle.standing_kept.proofs.OverTests.{inactive, unchanging, undue}
-use Rattle.standing_kept.proofs.WorkedOn.{IsLive, worked_lives, served_there}
+use Rattle.adapter_state.proofs.OverTests.{inactive, unchanging, undue}
+use Rattle.adapter_state.proofs.WorkedOn.{IsLive, worked_lives, served_there}
 
 find_same : {A : Type 0} (test other : A → Bool) (xs : List A) → ((x : A) → test x ≡ other x) → find test xs ≡ find other xs
 find_same test other [] same = refl

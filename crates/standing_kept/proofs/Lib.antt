@@ -1,3 +1,0 @@
-mod OverTests
-mod WorkedOn
-pub mod Answering
