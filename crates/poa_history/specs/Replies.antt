@@ -119,20 +119,28 @@ abbrev pub reply_run : Config → ℕ → Stored → List Entry → Option Sid �
 reply_run c run opened past None call = None
 reply_run c run opened past (Some s) call = Some (Ended (acted (state_of c run opened past s) call).1)
 
--- the reply that the entry fixes for the arrival that it decides
+-- the arrival that an entry may answer
+abbrev pub answers_to : List Entry → Entry → Option ℕ
+answers_to past (Admit w a verdict) = Some a
+answers_to past (Tried w answer) = arrival_in (stage past w)
+answers_to past (Incarnated w answer) = arrival_in (stage past w)
+answers_to past (Run w) = arrival_in (stage past w)
+answers_to past e = None
+
+-- what the entry answers to its call
+abbrev pub answer_by : Config → ℕ → Stored → List Entry → Entry → Option Call → Option Reply
+answer_by c run opened past (Admit w a verdict) call = reply_admitted call verdict
+answer_by c run opened past (Tried w answer) call = Some (reply_tried c past call answer)
+answer_by c run opened past (Incarnated w answer) call = reply_incarnated call answer
+answer_by c run opened past (Run w) call =
+    reply_run c run opened past (servant_run c run past (stage past w)) (call_run past (stage past w))
+answer_by c run opened past e call = None
+
+-- the reply that an entry fixes for an arrival that it decides: what it answers to that, and `ok` to a command that waited
 abbrev pub reply_by : Config → ℕ → Stored → List Entry → Entry → ℕ → Option Reply
-reply_by c run opened past (Admit w a verdict) r =
-    if a == r then reply_admitted (call_of past r) verdict else Some (AnswerReply (number_of (call_of past r)) Good)
-reply_by c run opened past (Tried w answer) r =
-    if is_at r (arrival_in (stage past w)) then Some (reply_tried c past (call_of past r) answer) else Some
-    (AnswerReply (number_of (call_of past r)) Good)
-reply_by c run opened past (Incarnated w answer) r =
-    if is_at r (arrival_in (stage past w)) then reply_incarnated (call_of past r) answer else Some
-    (AnswerReply (number_of (call_of past r)) Good)
-reply_by c run opened past (Run w) r =
-    if is_at r (arrival_in (stage past w)) then reply_run c run opened past (servant_run c run past (stage past w))
-    (call_run past (stage past w)) else Some (AnswerReply (number_of (call_of past r)) Good)
-reply_by c run opened past e r = Some (AnswerReply (number_of (call_of past r)) Good)
+reply_by c run opened past e r =
+    if is_at r (answers_to past e) then answer_by c run opened past e (call_of past r)
+    else Some (AnswerReply (number_of (call_of past r)) Good)
 
 -- the reply that an arrival's deciding entry fixes
 abbrev pub reply_of : Config → ℕ → Stored → List Entry → ℕ → Option Reply
