@@ -1,14 +1,12 @@
 -- What the bytes of a key say of its parts.
-use Rattle.std.proofs.Common.{◌≡◌, ◌≢◌, ℕ, ◌<◌, ◌^◌, List, [], ◌++◌, length, arith, append-nil, sym, ◌∙◌, ap, refl, Option, Result, Ok, Err}
-use Rattle.std.specs.Prelude.{IfOk, MatchResult}
+use Rattle.std.proofs.Common.{◌≡◌, ◌≢◌, ℕ, ◌<◌, ◌^◌, List, [], ◌++◌, length, arith, append-nil, sym, ◌∙◌, ap, Option, Some, None}
+use Rattle.std.specs.Prelude.{IfSome, IfNone}
 use Rattle.std.proofs.lemmas.List.{append_cancel_left}
 use Rattle.poa_names.specs.declared.Key.{Key}
 use Rattle.poa_names.specs.declared.Stamp.{Stamp}
 use Rattle.poa_names.specs.Limits.{IsOid}
-use Rattle.object_key.specs.declared.fault.KeyFault.{KeyFault}
-use Rattle.object_key.specs.declared.fault.KeyFault.TheVariants.{BadKey, WantMemory}
 use Rattle.object_key.specs.Spelling.{key_mark, stamp_bytes, path_bytes, oid_bytes, key_spelling, IsStamp, ArePathNames, IsKey}
-use Rattle.object_key.specs.Reading.{OnBadKey, KeyReads}
+use Rattle.object_key.specs.Reading.{KeyReads}
 use Rattle.object_key.proofs.OneReading.{one_stamp, one_path, one_oid}
 
 abbrev key_with : Option Stamp → List (List ℕ) → List ℕ → Key
@@ -44,8 +42,7 @@ nothing_left oid found text left whole read =
     let short_read : length found < 2 ^ 16 = omega (arith, read.fits) in
     sym (one_oid oid found [] left short_whole short_read (sym whole.begins ∙ read.begins)).1
 
--- what is not refused as bad, where a key spells the bytes, is that key, or memory ran out
-pub read_back : (read : Result Key KeyFault) (bytes : List ℕ) → IfOk read (λ key. IsKey key × (key_spelling key ≡ bytes)) → OnBadKey read ((key : Key) → IsKey key → key_spelling key ≢ bytes) → (key : Key) → IsKey key → key_spelling key ≡ bytes → MatchResult read (λ found. found ≡ key) (λ fault. fault ≡ WantMemory)
-read_back (Ok found) bytes spelled bad key fits is = one_key found key spelled.0 fits (spelled.1 ∙ sym is)
-read_back (Err WantMemory) bytes spelled bad key fits is = refl
-read_back (Err BadKey) bytes spelled bad key fits is = absurd (bad refl key fits is)
+-- what is seen where a key spells the bytes is that key
+pub seen_back : (seen : Option Key) (bytes : List ℕ) → IfSome seen (λ key. IsKey key × (key_spelling key ≡ bytes)) → IfNone seen ((key : Key) → IsKey key → key_spelling key ≢ bytes) → (key : Key) → IsKey key → key_spelling key ≡ bytes → seen ≡ Some key
+seen_back (Some found) bytes spelled bad key fits is = ap (λ k. Some k) (one_key found key spelled.0 fits (spelled.1 ∙ sym is))
+seen_back None bytes spelled bad key fits is = absurd (bad key fits is)

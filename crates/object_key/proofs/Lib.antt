@@ -1,3 +1,4 @@
 pub mod OneReading
 pub mod Keys
+pub mod Lent
 pub mod Names

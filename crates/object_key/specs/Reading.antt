@@ -1,14 +1,8 @@
 -- What a reader of one part of a key finds at the front of a text.
-use Rattle.std.specs.Prelude.{◌≡◌, ℕ, List, ◌++◌, length, All, Result, IfErr}
+use Rattle.std.specs.Prelude.{◌≡◌, ℕ, zero, suc, List, [], ◌∷◌, ◌++◌, length, take, drop, All}
 use Rattle.std.specs.List.{flat_map}
 use Rattle.poa_names.specs.Limits.{IsName}
 use Rattle.object_key.specs.Spelling.{name_bytes}
-use Rattle.object_key.specs.declared.fault.KeyFault.{KeyFault}
-use Rattle.object_key.specs.declared.fault.KeyFault.TheVariants.{BadKey}
-
--- a fact wherever the answer is `BadKey`
-abbrev pub OnBadKey : {T : Type 0} → Result T KeyFault → Type 0 → Type 0
-OnBadKey result P = IfErr result (λ fault. fault ≡ BadKey → P)
 
 -- the text begins with the bytes of a value within its limits, and the rest stands behind them
 pub record KeyReads {A : Type 0} (bytes_of : A → List ℕ) (Fits : A → Type 0) (value : A) (text rest : List ℕ) : Type 0 where
@@ -26,3 +20,9 @@ AreNames count names = (length names ≡ count) × All IsName names
 -- names one behind the other
 abbrev pub names_bytes : List (List ℕ) → List ℕ
 names_bytes names = flat_map name_bytes names
+
+-- so many names from the front of a text, each behind an octet of its length
+abbrev pub names_of : ℕ → List ℕ → List (List ℕ)
+names_of zero text = []
+names_of (suc count) [] = []
+names_of (suc count) (len ∷ text) = take len text ∷ names_of count (drop len text)

@@ -1,5 +1,5 @@
 //! The octets of a key that aren't read yet.
-ghost use Rattle.std.specs.Prelude.{◌≡◌, ◌<◌, ◌++◌, ◌∷◌, [], ℕ, length, IsTrue, ◌↔◌, IfSome, IfNone};
+ghost use Rattle.std.specs.Prelude.{◌≡◌, ◌<◌, ◌++◌, ◌∷◌, [], ℕ, List, length, IsTrue, ◌↔◌, IfSome, IfNone};
 ghost use Rattle.std.specs.Int.{w16, w32, to_be_bytes};
 
 use std::marker::Model;
@@ -32,6 +32,22 @@ impl<'a> Unread<'a> {
         ensures { IsTrue result ↔ (self.now ≡ []) }
     {
         self.rest.is_empty()
+    }
+
+    /// All that is left.
+    pub(crate) fn rest(&self) -> &'a [u8]
+        ensures { result.now ≡ self.now }
+    {
+        self.rest
+    }
+
+    /// What was read since all of `text` was left.
+    pub(crate) fn passed(&self, text: &'a [u8]) -> &'a [u8]
+        ensures { (part : List ℕ) → text.now ≡ part ++ self.now → result.now ≡ part }
+    {
+        let len = text.len().saturating_sub(self.rest.len());
+        let (part, _) = text.split_at(len);
+        part
     }
 
     /// The next octet.
