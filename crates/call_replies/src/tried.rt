@@ -10,7 +10,7 @@ ghost use Rattle.call_replies.specs.Unmade.{reply_tried as tried_in, reply_unmad
 use crate::exceptions::{ACTIVATOR_RAISED, ADAPTER_DYING, NOT_EXIST, raised_to};
 use crate::forwards::forwarded_to;
 use adapter_settings::{Settings, forward_of};
-use poa_base::{Attempt, Call, Config, Key, Name, Reply, WantMemory};
+use poa_base::{Attempt, Call, Config, Name, Path, Reply, WantMemory};
 use standing_queries::keys::key_in;
 use std::alloc::Global;
 
@@ -30,13 +30,13 @@ fn reply_unmade(
     }
 }
 
-/// The path of a key; the root's where there is none.
-fn path_asked(key: Option<&Key>) -> &[Name]
-    ensures { result.now ≡ (key_or_none (option_copied key.entry)).path }
+/// The path of the key of a call, copied; the root's where there is none.
+fn path_asked(alloc: Global, call: Option<&Call>) -> Result<Path, WantMemory>
+    ensures { IfOk result (λ path. path ≡ (key_or_none (key_of_call (option_copied call.entry))).path) }
 {
-    match key {
-        Some(key) => key.path.as_slice(),
-        None => &[],
+    match key_in(call) {
+        Some(key) => key.path().to_path(alloc),
+        None => Ok(Path::root(alloc)),
     }
 }
 
@@ -49,8 +49,8 @@ fn reply_without_child(
 ) -> Result<Reply, WantMemory>
     ensures { IfOk result (λ reply. reply ≡ unmade config.now settings.now (option_copied call.entry) (key_or_none (key_of_call (option_copied call.entry))).path) }
 {
-    let key = key_in(alloc, call)?;
-    reply_unmade(alloc, config, settings, call, path_asked(key.as_ref()))
+    let path = path_asked(alloc, call)?;
+    reply_unmade(alloc, config, settings, call, path.as_slice())
 }
 
 /// The reply that the adapter activator's answer fixes, as the settings tell it.

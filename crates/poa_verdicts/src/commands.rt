@@ -209,7 +209,7 @@ pub fn is_bad_id(config: &Config, run: u32, made: u32, path: &[Name], oid: &[u8]
 }
 
 /// Whether one of them is of the id and active.
-fn is_any_active(activations: &[Activation], adapter: u32, oid: &Oid) -> bool
+fn is_any_active(activations: &[Activation], adapter: u32, oid: &[u8]) -> bool
     ensures { result ≡ list_any (λ a. stands.is_of adapter oid.now a && stands.is_active a) activations.now }
 {
     activations
@@ -221,11 +221,11 @@ fn is_any_active(activations: &[Activation], adapter: u32, oid: &Oid) -> bool
 fn has_active(standing: &Standing, adapter: u32, oid: &Oid) -> bool
     ensures { result ≡ list_any (λ a. stands.is_of adapter oid.now a && stands.is_active a) (seen standing.now).activations }
 {
-    is_any_active(&standing.activations, adapter, oid)
+    is_any_active(&standing.activations, adapter, oid.as_slice())
 }
 
 /// Whether one of them is of the id and not over.
-fn is_any_kept(config: &Config, activations: &[Activation], adapter: u32, oid: &Oid) -> bool
+fn is_any_kept(config: &Config, activations: &[Activation], adapter: u32, oid: &[u8]) -> bool
     ensures { result ≡ list_any (λ a. stands.is_of adapter oid.now a && not (ends.is_over config.now a)) activations.now }
 {
     activations
@@ -237,7 +237,7 @@ fn is_any_kept(config: &Config, activations: &[Activation], adapter: u32, oid: &
 fn has_kept(config: &Config, standing: &Standing, adapter: u32, oid: &Oid) -> bool
     ensures { result ≡ list_any (λ a. stands.is_of adapter oid.now a && not (ends.is_over config.now a)) (seen standing.now).activations }
 {
-    is_any_kept(config, &standing.activations, adapter, oid)
+    is_any_kept(config, &standing.activations, adapter, oid.as_slice())
 }
 
 /// What is answered where the id isn't a bad one. One that is on its way in or out holds.

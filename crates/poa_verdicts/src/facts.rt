@@ -1,21 +1,23 @@
 //! What stands about a request or a locate: the facts that the table of verdicts asks.
-ghost use Rattle.std.specs.Prelude.{◌≡◌, ◌==◌, ◌&&◌, ℕ, List, Some, None, if◌then◌else◌, find, not, option_copied, IfOk};
+ghost use Rattle.std.specs.Prelude.{◌≡◌, ◌==◌, ◌&&◌, ℕ, List, Some, None, if◌then◌else◌, find, not, option_and_then, option_copied, IfOk};
 ghost use Rattle.poa_base.specs.declared.Entry.{Entry};
 ghost use Rattle.poa_choose.specs.declared.KeyFact.TheVariants.{OtherRun, Persistent, Transient};
 ghost use Rattle.poa_history.specs.Arrivals as calls;
 ghost use Rattle.poa_history.specs.Situations as situations;
 ghost use Rattle.poa_history.specs.Ends as ends;
+ghost use Rattle.poa_history.specs.Keys as keys;
 ghost use Rattle.poa_history.specs.Standings as stands;
 ghost use Rattle.standing_queries.specs.Answers.{AnswersAs};
 ghost use Rattle.standing_queries.specs.Seen.{seen};
-ghost use Rattle.poa_tree.specs.Walks.{place_met as place_is};
+ghost use Rattle.poa_tree.specs.Walks.{place_met as place_is, walk as walk_along};
 ghost use Rattle.adapter_settings.specs.Told.{Tells};
 ghost use Rattle.poa_verdicts.specs.Said.{IsAsSaid};
 
 use crate::commands::is_bad_id;
 use crate::rules::located;
 use adapter_settings::{Settings, forward_of, manager_state, preset_of};
-use poa_base::{Bytes, Call, Config, Endpoint, Key, ManagerState, Name, Oid, Path, WantMemory};
+use object_key::KeyView;
+use poa_base::{Bytes, Call, Config, Endpoint, ManagerState, Name, Stamp, WantMemory};
 use poa_choose::{Facts, KeyFact, MapFact, WalkFact};
 use poa_history::Activation;
 use poa_tree::Found;
@@ -25,15 +27,15 @@ use standing_queries::activations::{is_active, is_begun, is_of};
 use standing_queries::calls::{is_locate, target_of};
 use standing_queries::ends::{is_finished, is_over};
 use standing_queries::flights::{is_running, is_tried};
-use standing_queries::keys::{key_in, key_of};
+use standing_queries::keys::{adapter_at, key_in};
 use standing_queries::templates::{children_at, manager_at, policies_at, rules_at};
 use std::alloc::Global;
 
 /// What a key is to this run.
-fn lifespan_fact(run: u32, key: &Key) -> KeyFact
-    ensures { result ≡ elim key.now.stamp [ None ↦ Persistent | Some stamp ↦ (if stamp.run == run then Transient else OtherRun) ] }
+fn lifespan_fact(run: u32, stamp: Option<Stamp>) -> KeyFact
+    ensures { result ≡ elim stamp [ None ↦ Persistent | Some stamp ↦ (if stamp.run == run then Transient else OtherRun) ] }
 {
-    match key.stamp {
+    match stamp {
         None => KeyFact::Persistent,
         Some(stamp) => {
             if stamp.run == run {
@@ -45,16 +47,17 @@ fn lifespan_fact(run: u32, key: &Key) -> KeyFact
     }
 }
 
-/// What the target of a call is as a key.
-fn key_fact(alloc: Global, run: u32, target: Option<&Bytes>) -> Result<KeyFact, WantMemory>
-    ensures { IfOk result (λ fact. fact ≡ situations.key_fact run (option_copied target.entry)) }
+/// What the target of a call is as a key, where `key` is the one that it spells.
+fn key_fact(run: u32, target: Option<&Bytes>, key: Option<&KeyView<'_>>) -> KeyFact
+    ensures { option_copied key.entry ≡ option_and_then keys.key_of (option_copied target.entry)
+        → result ≡ situations.key_fact run (option_copied target.entry) }
 {
-    let Some(bytes) = target else {
-        return Ok(KeyFact::Absent);
-    };
-    match key_of(alloc, bytes.as_slice())? {
-        Some(key) => Ok(lifespan_fact(run, &key)),
-        None => Ok(KeyFact::Bad),
+    if target.is_none() {
+        return KeyFact::Absent;
+    }
+    match key {
+        Some(key) => lifespan_fact(run, key.stamp()),
+        None => KeyFact::Bad,
     }
 }
 
@@ -69,25 +72,25 @@ fn walk_fact(found: Found) -> WalkFact
 }
 
 /// Whether the lifespan differs, or the number that a transient key gives.
-fn differs(config: &Config, key: &Key, adapter: u32) -> bool
-    ensures { result ≡ situations.differs config.now key.now adapter }
+fn differs(config: &Config, key: &KeyView<'_>, path: &[Name], adapter: u32) -> bool
+    ensures { path.now ≡ key.now.path → result ≡ situations.differs config.now key.now adapter }
 {
-    let lasts = policies_at(config, key.path.as_slice()).lasts();
-    match key.stamp {
+    let lasts = policies_at(config, path).lasts();
+    match key.stamp() {
         None => !lasts,
         Some(stamp) => lasts || stamp.number != adapter,
     }
 }
 
 /// Whether the activation is of the id, and active.
-pub(crate) fn is_active_of(adapter: u32, oid: &Oid, activation: &Activation) -> bool
+pub(crate) fn is_active_of(adapter: u32, oid: &[u8], activation: &Activation) -> bool
     ensures { result ≡ stands.is_of adapter oid.now activation.now && stands.is_active activation.now }
 {
     is_of(adapter, oid, activation) && is_active(activation)
 }
 
 /// The activation of the id that is active.
-fn active_of<'a>(activations: &'a [Activation], adapter: u32, oid: &Oid) -> Option<&'a Activation>
+fn active_of<'a>(activations: &'a [Activation], adapter: u32, oid: &[u8]) -> Option<&'a Activation>
     ensures { option_copied result ≡ find (λ a. stands.is_of adapter oid.now a && stands.is_active a) activations.now }
 {
     activations
@@ -96,7 +99,7 @@ fn active_of<'a>(activations: &'a [Activation], adapter: u32, oid: &Oid) -> Opti
 }
 
 /// Whether the activation is of the id, and not over.
-pub(crate) fn is_kept_of(config: &Config, adapter: u32, oid: &Oid, activation: &Activation) -> bool
+pub(crate) fn is_kept_of(config: &Config, adapter: u32, oid: &[u8], activation: &Activation) -> bool
     ensures { result ≡ stands.is_of adapter oid.now activation.now && not (ends.is_over config.now activation.now) }
 {
     is_of(adapter, oid, activation) && !is_over(config, activation)
@@ -107,7 +110,7 @@ fn kept_of<'a>(
     config: &Config,
     activations: &'a [Activation],
     adapter: u32,
-    oid: &Oid,
+    oid: &[u8],
 ) -> Option<&'a Activation>
     ensures { option_copied result ≡ find (λ a. stands.is_of adapter oid.now a && not (ends.is_over config.now a)) activations.now }
 {
@@ -117,7 +120,7 @@ fn kept_of<'a>(
 }
 
 /// What they are for an id.
-fn slot_among(config: &Config, activations: &[Activation], adapter: u32, oid: &Oid) -> MapFact
+fn slot_among(config: &Config, activations: &[Activation], adapter: u32, oid: &[u8]) -> MapFact
     ensures { result ≡ situations.slot_of config.now activations.now adapter oid.now }
 {
     match active_of(activations, adapter, oid) {
@@ -130,7 +133,7 @@ fn slot_among(config: &Config, activations: &[Activation], adapter: u32, oid: &O
 }
 
 /// What the active object map has for an id.
-fn slot_of(config: &Config, standing: &Standing, adapter: u32, oid: &Oid) -> MapFact
+fn slot_of(config: &Config, standing: &Standing, adapter: u32, oid: &[u8]) -> MapFact
     ensures { result ≡ situations.slot_of config.now (seen standing.now).activations adapter oid.now }
 {
     slot_among(config, &standing.activations, adapter, oid)
@@ -180,15 +183,15 @@ fn as_set(
     config: &Config,
     settings: &Settings,
     place: &[Name],
-    path: &Path,
+    path: &[Name],
 ) -> Result<AsSet, WantMemory>
     ensures { (past : List Entry) → Tells config.now past settings.now → IfOk result (λ set. IsAsSaid config.now past place.now path.now set) }
 {
-    let preset = match preset_of(config, settings, path.as_slice()) {
+    let preset = match preset_of(config, settings, path) {
         Some(name) => Some(name.clone()?),
         None => None,
     };
-    let entry = match forward_of(config, settings, path.as_slice()) {
+    let entry = match forward_of(config, settings, path) {
         Some(endpoint) => Some(endpoint.clone()?),
         None => None,
     };
@@ -214,13 +217,16 @@ fn facts_met(
     standing: &Standing,
     set: AsSet,
     asked: Asked,
-    key: &Key,
+    key: &KeyView<'_>,
+    path: &[Name],
     found: Found,
 ) -> Result<Facts, WantMemory>
-    ensures { (past : List Entry) → IsAsSaid config.now past (place_is found key.now.path) key.now.path set
-        → IfOk result (λ facts. facts ≡ situations.facts_met config.now run past (seen standing.now) asked.locate asked.crowded asked.key key.now found) }
+    ensures { (past : List Entry) → path.now ≡ key.now.path
+        → IsAsSaid config.now past (place_is found key.now.path) key.now.path set
+        → IfOk result (λ facts. facts ≡ situations.facts_met config.now run past (seen standing.now)
+        asked.locate asked.crowded asked.key key.now found) }
 {
-    let path = key.path.as_slice();
+    let oid = key.oid();
     let adapter = adapter_met(found);
     let place = place_met(found, path);
     Ok(Facts {
@@ -234,30 +240,61 @@ fn facts_met(
         trial: is_tried(&standing.flights, child_met(found, path)),
         tries: children_at(config, place).is_some(),
         entry: set.entry,
-        differs: differs(config, key, adapter),
+        differs: differs(config, key, path, adapter),
         policies: policies_at(config, path),
         running: is_running(&standing.flights, adapter),
-        slot: slot_of(config, standing, adapter, &key.oid),
-        bad_id: is_bad_id(config, run, standing.made, path, key.oid.as_slice()),
+        slot: slot_of(config, standing, adapter, oid),
+        bad_id: is_bad_id(config, run, standing.made, path, oid),
         preset: set.preset,
         rules: !rules_at(config, path).is_empty(),
         busy: is_changing(config, standing, adapter),
         next: standing.begun()?,
-        located: located(config, path, &key.oid)?,
+        located: located(config, path, oid)?,
     })
 }
 
-/// The key, or one that names nothing.
-fn key_or_none(alloc: Global, key: Option<Key>) -> Result<Key, WantMemory>
-    ensures { IfOk result (λ k. k ≡ situations.key_or_none key) }
+/// What stands about a key of this path.
+fn facts_at(
+    config: &Config,
+    run: u32,
+    standing: &Standing,
+    settings: &Settings,
+    asked: Asked,
+    key: &KeyView<'_>,
+    path: &[Name],
+) -> Result<Facts, WantMemory>
+    ensures { (past : List Entry) → path.now ≡ key.now.path → Tells config.now past settings.now
+        → IfOk result (λ facts. facts ≡ situations.facts_met config.now run past (seen standing.now)
+        asked.locate asked.crowded asked.key key.now (walk_along (seen standing.now).nodes key.now.path)) }
 {
-    match key {
-        Some(key) => Ok(key),
-        None => Ok(Key {
-            stamp: None,
-            path: Path::root(alloc),
-            oid: Oid::from_vec(Vec::new(alloc)).ok_or(WantMemory)?,
-        }),
+    let found = walk(&standing.nodes, path);
+    let set = as_set(config, settings, place_met(found, path), path)?;
+    facts_met(config, run, standing, set, asked, key, path, found)
+}
+
+/// What stands about a key. Its path is that of the adapter that stands there, or else a copy.
+fn facts_about(
+    alloc: Global,
+    config: &Config,
+    run: u32,
+    standing: &Standing,
+    settings: &Settings,
+    asked: Asked,
+    key: &KeyView<'_>,
+) -> Result<Facts, WantMemory>
+    ensures { (past : List Entry) → Tells config.now past settings.now
+        → IfOk result (λ facts. facts ≡ situations.facts_met config.now run past (seen standing.now)
+        asked.locate asked.crowded asked.key key.now (walk_along (seen standing.now).nodes key.now.path)) }
+{
+    match adapter_at(&standing.nodes, key.path()) {
+        Some(node) => {
+            let path = node.path.as_slice();
+            facts_at(config, run, standing, settings, asked, key, path)
+        }
+        None => {
+            let path = key.path().to_path(alloc)?;
+            facts_at(config, run, standing, settings, asked, key, path.as_slice())
+        }
     }
 }
 
@@ -275,14 +312,22 @@ pub fn facts_of(
     ensures { (past : List Entry) (r : ℕ) → AnswersAs config.now run past (seen standing.now) → Tells config.now past settings.now → crowded ≡ situations.is_crowded past r → calls.call_of past r ≡ Some call.now
         → IfOk result (λ facts. facts ≡ situations.facts_of config.now run past r) }
 {
-    let key = key_or_none(alloc, key_in(alloc, Some(call))?)?;
+    let key = key_in(Some(call));
     let asked = Asked {
         locate: is_locate(Some(call)),
         crowded,
-        key: key_fact(alloc, run, target_of(Some(call)))?,
+        key: key_fact(run, target_of(Some(call)), key.as_ref()),
     };
-    let found = walk(&standing.nodes, key.path.as_slice());
-    let place = place_met(found, key.path.as_slice());
-    let set = as_set(config, settings, place, &key.path)?;
-    facts_met(config, run, standing, set, asked, &key, found)
+    match key {
+        Some(key) => facts_about(alloc, config, run, standing, settings, asked, &key),
+        None => facts_about(
+            alloc,
+            config,
+            run,
+            standing,
+            settings,
+            asked,
+            &KeyView::empty(),
+        ),
+    }
 }

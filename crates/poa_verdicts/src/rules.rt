@@ -7,7 +7,7 @@ ghost use Rattle.poa_history.specs.Templates.{servant_name};
 ghost use Rattle.standing_queries.specs.Seen.{seen};
 
 use poa_base::{
-    Completion, Config, ExcName, Gives, Incarnation, Name, Oid, RuleConf, Sid, SysExc, WantMemory,
+    Completion, Config, ExcName, Gives, Incarnation, Name, RuleConf, Sid, SysExc, WantMemory,
     minors,
 };
 use poa_choose::Located;
@@ -24,17 +24,17 @@ const NOT_ACTIVE: SysExc = SysExc {
 };
 
 /// Whether a rule is for an id.
-fn is_for(oid: &Oid, rule: &RuleConf) -> bool
+fn is_for(oid: &[u8], rule: &RuleConf) -> bool
     ensures { result ≡ rules.matches oid.now rule.now }
 {
     match &rule.oid {
-        Some(wanted) => *wanted == *oid,
+        Some(wanted) => wanted.as_slice() == oid,
         None => true,
     }
 }
 
 /// The first rule that matches.
-pub fn rule_for<'a>(all: &'a [RuleConf], oid: &Oid) -> Option<&'a RuleConf>
+pub fn rule_for<'a>(all: &'a [RuleConf], oid: &[u8]) -> Option<&'a RuleConf>
     ensures { option_copied result ≡ rules.rule_for all.now oid.now }
 {
     all.iter().find(|rule| is_for(oid, rule))
@@ -78,7 +78,7 @@ pub fn brought(
 {
     let Some(rule) = rule_for(
         rules_at(config, activation.path.as_slice()),
-        &activation.oid,
+        activation.oid.as_slice(),
     ) else {
         return Ok(Incarnation::Raise(NOT_ACTIVE));
     };
@@ -101,7 +101,7 @@ fn located_servant(config: &Config, servant: u32) -> Result<Located, WantMemory>
 }
 
 /// What the servant locator gives for an id.
-pub fn located(config: &Config, path: &[Name], oid: &Oid) -> Result<Located, WantMemory>
+pub fn located(config: &Config, path: &[Name], oid: &[u8]) -> Result<Located, WantMemory>
     ensures { IfOk result (λ found. found ≡ rules.located config.now path.now oid.now) }
 {
     let Some(rule) = rule_for(rules_at(config, path), oid) else {

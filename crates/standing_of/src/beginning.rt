@@ -30,20 +30,14 @@ pub fn add_node(standing: &mut Standing, path: &Path) -> Result<(), WantMemory>
 }
 
 /// An activation that has begun.
-pub fn begun(
-    number: u32,
-    adapter: u32,
-    path: &Path,
-    oid: &Oid,
-    phase: Phase,
-) -> Result<Activation, WantMemory>
-    ensures { IfOk result (λ activation. activation ≡ record { number = number; adapter = adapter; path = path.now; oid = oid.now; phase = phase; ending = false; quiet = false; out = false; cleanup = false; remaining = false; etherealized = false }) }
+pub fn begun(number: u32, adapter: u32, path: Path, oid: Oid, phase: Phase) -> Activation
+    ensures { result ≡ record { number = number; adapter = adapter; path = path; oid = oid; phase = phase; ending = false; quiet = false; out = false; cleanup = false; remaining = false; etherealized = false } }
 {
-    Ok(Activation {
+    Activation {
         number,
         adapter,
-        path: path.clone()?,
-        oid: oid.clone()?,
+        path,
+        oid,
         phase,
         ending: false,
         quiet: false,
@@ -51,7 +45,7 @@ pub fn begun(
         cleanup: false,
         remaining: false,
         etherealized: false,
-    })
+    }
 }
 
 /// An activation is begun, and gets the next number.
@@ -65,7 +59,8 @@ pub fn add_activation(
     ensures ok { OnOk result (seen standing.new ≡ opens.with_activation adapter path.now oid.now phase (seen standing.old)) }
     ensures err { OnErr result (seen standing.new ≡ seen standing.old) }
 {
-    let activation = begun(standing.begun()?, adapter, path, oid, phase)?;
+    let number = standing.begun()?;
+    let activation = begun(number, adapter, path.clone()?, oid.clone()?, phase);
     standing.activations.push(activation)?;
     Ok(())
 }

@@ -118,8 +118,7 @@ fn admitted(
     if is_accepted(verdict) {
         return command(alloc, config, run, command_in(call), standing);
     }
-    let key = key_in(alloc, call)?;
-    admit(alloc, standing, arrival, key.as_ref(), verdict)
+    admit(alloc, standing, arrival, key_in(call), verdict)
 }
 
 /// What an entry changes, after the entries before it.

@@ -106,7 +106,7 @@ pub fn turn_off(config: &Config, standing: &mut Standing, manager: usize)
 fn end_of_id(adapter: u32, oid: &Oid, activation: &mut Activation)
     ensures { activation.new ≡ (if stands.is_of adapter oid.now activation.old then record activation.old { ending = true } else activation.old) }
 {
-    if is_of(adapter, oid, activation) {
+    if is_of(adapter, oid.as_slice(), activation) {
         activation.ending = true;
     }
 }

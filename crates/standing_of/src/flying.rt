@@ -4,10 +4,12 @@ ghost use Rattle.poa_history.specs.Changes as changes;
 ghost use Rattle.standing_queries.specs.Seen.{seen};
 
 use crate::beginning::begun;
-use poa_base::{Key, Name, Path, Verdict, WantMemory};
+use object_key::KeyView;
+use poa_base::{Name, Path, Verdict, WantMemory};
 use poa_history::{Flight, Phase};
 use poa_tree::walks::{adapter_met, child_met, walk};
 use standing_queries::Standing;
+use standing_queries::keys::walk_to;
 use std::alloc::Global;
 
 /// A request is admitted to the adapter of its key.
@@ -15,13 +17,13 @@ fn add_request(
     alloc: Global,
     standing: &mut Standing,
     arrival: u64,
-    key: &Key,
+    key: &KeyView<'_>,
     activation: Option<u32>,
 ) -> Result<(), WantMemory>
     ensures ok { OnOk result (seen standing.new ≡ changes.with_request arrival key.now activation (seen standing.old)) }
     ensures err { OnErr result (seen standing.new ≡ seen standing.old) }
 {
-    let adapter = adapter_met(walk(&standing.nodes, key.path.as_slice()));
+    let adapter = adapter_met(walk_to(alloc, &standing.nodes, key.path())?);
     standing.flights.push(Flight {
         arrival,
         adapter,
@@ -54,13 +56,14 @@ fn add_trial(
     alloc: Global,
     standing: &mut Standing,
     arrival: u64,
-    key: &Key,
+    key: &KeyView<'_>,
 ) -> Result<(), WantMemory>
     ensures ok { OnOk result (seen standing.new ≡ changes.with_trial arrival key.now (seen standing.old)) }
     ensures err { OnErr result (seen standing.new ≡ seen standing.old) }
 {
-    let found = walk(&standing.nodes, key.path.as_slice());
-    let child = path_of(alloc, child_met(found, key.path.as_slice()))?;
+    let path = key.path().to_path(alloc)?;
+    let found = walk(&standing.nodes, path.as_slice());
+    let child = path_of(alloc, child_met(found, path.as_slice()))?;
     standing.flights.push(Flight {
         arrival,
         adapter: adapter_met(found),
@@ -75,19 +78,15 @@ fn add_incarnation(
     alloc: Global,
     standing: &mut Standing,
     arrival: u64,
-    key: &Key,
+    key: &KeyView<'_>,
 ) -> Result<(), WantMemory>
     ensures ok { OnOk result (seen standing.new ≡ changes.with_incarnation arrival key.now (seen standing.old)) }
     ensures err { OnErr result (seen standing.new ≡ seen standing.old) }
 {
+    let number = standing.begun()?;
+    let key = key.to_key(alloc)?;
     let adapter = adapter_met(walk(&standing.nodes, key.path.as_slice()));
-    let activation = begun(
-        standing.begun()?,
-        adapter,
-        &key.path,
-        &key.oid,
-        Phase::Begun,
-    )?;
+    let activation = begun(number, adapter, key.path, key.oid, Phase::Begun);
     standing.flights.reserve(1)?;
     standing.activations.reserve(1)?;
     standing.flights.push_reserved(Flight {
@@ -105,22 +104,22 @@ pub fn admit(
     alloc: Global,
     standing: &mut Standing,
     arrival: u64,
-    key: Option<&Key>,
+    key: Option<KeyView<'_>>,
     verdict: &Verdict,
 ) -> Result<(), WantMemory>
-    ensures ok { OnOk result (seen standing.new ≡ changes.with_admitted arrival (option_copied key.entry) verdict.now (seen standing.old)) }
+    ensures ok { OnOk result (seen standing.new ≡ changes.with_admitted arrival key.entry verdict.now (seen standing.old)) }
     ensures err { OnErr result (seen standing.new ≡ seen standing.old) }
 {
     let Some(key) = key else {
         return Ok(());
     };
     match verdict {
-        Verdict::Serve(number) => add_request(alloc, standing, arrival, key, Some(*number)),
+        Verdict::Serve(number) => add_request(alloc, standing, arrival, &key, Some(*number)),
         Verdict::Preset(_) | Verdict::Locator(_) => add_request(
-            alloc, standing, arrival, key, None,
+            alloc, standing, arrival, &key, None,
         ),
-        Verdict::Incarnate(_) => add_incarnation(alloc, standing, arrival, key),
-        Verdict::Try => add_trial(alloc, standing, arrival, key),
+        Verdict::Incarnate(_) => add_incarnation(alloc, standing, arrival, &key),
+        Verdict::Try => add_trial(alloc, standing, arrival, &key),
         _ => Ok(()),
     }
 }

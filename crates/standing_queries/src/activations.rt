@@ -2,7 +2,7 @@
 ghost use Rattle.std.specs.Prelude.{◌≡◌, ◌==◌, ◌&&◌};
 ghost use Rattle.poa_history.specs.Standings as stands;
 
-use poa_base::{Oid, Sid};
+use poa_base::Sid;
 use poa_history::{Activation, Phase};
 
 /// Whether the activation has its servant.
@@ -83,8 +83,8 @@ pub fn has_servant(servant: Sid, activation: &Activation) -> bool
 }
 
 /// Whether the activation is of this id of this adapter.
-pub fn is_of(adapter: u32, oid: &Oid, activation: &Activation) -> bool
+pub fn is_of(adapter: u32, oid: &[u8], activation: &Activation) -> bool
     ensures { result ≡ stands.is_of adapter oid.now activation.now }
 {
-    activation.adapter == adapter && activation.oid == *oid
+    activation.adapter == adapter && activation.oid.as_slice() == oid
 }

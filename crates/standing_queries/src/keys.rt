@@ -1,29 +1,47 @@
-//! The key that a target spells.
+//! The key that a target spells, seen where it lies, and what stands at its path.
 ghost use Rattle.std.specs.Prelude.{◌≡◌, option_copied, IfOk};
 ghost use Rattle.poa_history.specs.Keys as keys;
+ghost use Rattle.poa_tree.specs.Nodes as tree;
+ghost use Rattle.poa_tree.specs.Walks as walks;
 
 use crate::calls::target_of;
-use object_key::{KeyFault, read_key};
-use poa_base::{Call, Key, WantMemory};
+use object_key::{KeyView, PathView, view_key};
+use poa_base::{Call, WantMemory};
+use poa_tree::walks::walk;
+use poa_tree::{Found, Node};
 use std::alloc::Global;
 
-/// The key whose spelling the bytes are, if there is one.
-pub fn key_of(alloc: Global, bytes: &[u8]) -> Result<Option<Key>, WantMemory>
-    ensures { IfOk result (λ key. key ≡ keys.key_of bytes.now) }
+/// The key whose spelling the bytes are, if there is one. Takes no memory.
+pub fn key_of(bytes: &[u8]) -> Option<KeyView<'_>>
+    ensures { result ≡ keys.key_of bytes.now }
 {
-    match read_key(alloc, bytes) {
-        Ok(key) => Ok(Some(key)),
-        Err(KeyFault::BadKey) => Ok(None),
-        Err(KeyFault::WantMemory) => Err(WantMemory),
+    view_key(bytes)
+}
+
+/// The key of a call; none where its target gives none, or no spelling of one. Takes no memory.
+pub fn key_in(call: Option<&Call>) -> Option<KeyView<'_>>
+    ensures { result ≡ keys.key_in (option_copied call.entry) }
+{
+    match target_of(call) {
+        Some(bytes) => key_of(bytes.as_slice()),
+        None => None,
     }
 }
 
-/// The key of a call; none where its target gives none, or no spelling of one.
-pub fn key_in(alloc: Global, call: Option<&Call>) -> Result<Option<Key>, WantMemory>
-    ensures { IfOk result (λ key. key ≡ keys.key_in (option_copied call.entry)) }
+/// The adapter that stands at the path of a key. Takes no memory.
+pub fn adapter_at<'a>(nodes: &'a [Node], path: &PathView<'_>) -> Option<&'a Node>
+    ensures { option_copied result ≡ tree.node_at nodes.now path.now }
 {
-    match target_of(call) {
-        Some(bytes) => key_of(alloc, bytes.as_slice()),
-        None => Ok(None),
+    nodes.iter().find(|node| path.is(node.path.as_slice()))
+}
+
+/// The walk from the root along the path of a key. Where an adapter stands there its own path is walked; else a
+/// copy, for which `WantMemory` says that no memory was left.
+pub fn walk_to(alloc: Global, nodes: &[Node], path: &PathView<'_>) -> Result<Found, WantMemory>
+    ensures { IfOk result (λ found. found ≡ walks.walk nodes.now path.now) }
+{
+    match adapter_at(nodes, path) {
+        Some(node) => Ok(walk(nodes, node.path.as_slice())),
+        None => Ok(walk(nodes, path.to_path(alloc)?.as_slice())),
     }
 }
