@@ -4,5 +4,6 @@ pub mod Bodies
 pub mod OneReading
 pub mod Refusals
 pub mod Written
+pub mod Behind
 pub mod Slices
 pub mod Lying

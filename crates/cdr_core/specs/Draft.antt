@@ -23,3 +23,8 @@ with_field field d = record d { bytes = d.bytes ++ written d.little (d.base + le
 abbrev pub with_parts : ℕ → List ℕ → List ℕ → List ℕ → Draft → Draft
 with_parts unit front middle back d =
     record d { bytes = d.bytes ++ (replicate (gap unit (d.base + length d.bytes)) 0 ++ front ++ middle ++ back) }
+
+-- nothing is written yet behind these bytes, and what follows them is aligned as what stands at this place: the place that
+-- the draft tells of the next byte is this one or a multiple of 8 beyond it
+abbrev pub draft_behind : Bool → ℕ → List ℕ → Draft
+draft_behind little place bytes = record { little = little; base = place + gap 8 (length bytes); bytes = bytes }

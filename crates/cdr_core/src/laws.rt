@@ -1,6 +1,6 @@
 //! Laws of the CDR spelling, which hold of every message. The functions do nothing: their contracts are the
 //! laws, and the lemmas of the same content are exported for the proofs of crates above.
-ghost use Rattle.cdr_core.specs.Laws.{OneReading, NoneWhereRefused, OneRefusal, OneSkip, NoSkipWhereLacking, WrittenSpells, WrittenReadsBack, StandsBehind, LiesInMessage, SliceOfSlice};
+ghost use Rattle.cdr_core.specs.Laws.{OneReading, NoneWhereRefused, OneRefusal, OneSkip, NoSkipWhereLacking, WrittenSpells, WrittenReadsBack, StandsBehind, LiesInMessage, SliceOfSlice, WrittenBehind};
 
 /// A place has at most one field of a kind, and one end of it.
 pub fn one_reading()
@@ -35,6 +35,11 @@ pub fn written_spells()
 /// What is written of a field is read back as that field, whatever follows.
 pub fn written_reads_back()
     ensures { WrittenReadsBack }
+{}
+
+/// What is written behind other bytes is what is written behind none.
+pub fn written_behind()
+    ensures { WrittenBehind }
 {}
 
 /// A view of a message stands in it behind each field that it reads.

@@ -3,7 +3,7 @@ ghost use Rattle.std.specs.Int.{w32};
 ghost use Rattle.cdr_core.specs.Field.{octet, ushort, ulong, longlong, boolean, text, octets};
 ghost use Rattle.cdr_core.specs.Spelling.{number_bytes};
 ghost use Rattle.cdr_core.specs.Cursor.{IsUnit};
-ghost use Rattle.cdr_core.specs.Draft.{Draft, empty_draft, with_field, with_parts};
+ghost use Rattle.cdr_core.specs.Draft.{Draft, empty_draft, draft_behind, with_field, with_parts};
 
 use crate::gap::padding;
 use std::alloc::{AllocError as WantMemory, Global};
@@ -42,6 +42,21 @@ impl Writer {
     {
         Writer {
             bytes: Vec::new(alloc),
+            little,
+            base,
+        }
+    }
+
+    /// A writer that goes on behind these bytes. `place` is the place of the byte that it writes next, counted from
+    /// the start of the message or encapsulation, which may begin anywhere in the bytes.
+    pub fn behind(bytes: Vec<u8>, little: bool, place: u64) -> Writer
+        requires { place < 2 ^ 32 }
+        ensures { result ≡ draft_behind little place bytes.items }
+    {
+        // The alignment of every field divides 8.
+        let base = place + padding(8, bytes.len() as u64);
+        Writer {
+            bytes,
             little,
             base,
         }

@@ -19,3 +19,4 @@ pub mod Headers
 pub mod Asking
 pub mod Answering
 pub mod Lending
+pub mod Replies

@@ -1,5 +1,5 @@
 //! System exceptions as they are told: CORBA 3.3 Part 1, A.5, and Part 2, 9.4.3.2.
-ghost use Rattle.std.specs.Prelude.{◌≡◌, ◌+◌, ◌^◌, ◌<◌, length, OnOk};
+ghost use Rattle.std.specs.Prelude.{◌≡◌, ◌+◌, ◌^◌, ◌<◌, length, take, OnOk};
 ghost use Rattle.cdr_core.specs.Fields.{with_fields};
 ghost use Rattle.giop_msg.specs.Exception.{exception_id as id_of, completion_of as completion, exception_fields};
 
@@ -14,7 +14,8 @@ pub(crate) const COMPLETED_MAYBE: u32 = 2;
 
 /// The body of a system exception: its repository id, its minor code and the completion.
 pub(crate) fn put_exception(writer: &mut Writer, raised: &SysExc) -> Result<(), WantMemory>
-    ensures { OnOk result (writer.new ≡ with_fields (exception_fields raised.now) writer.old) }
+    ensures ok { OnOk result (writer.new ≡ with_fields (exception_fields raised.now) writer.old) }
+    ensures front { take (length writer.old.bytes) writer.new.bytes ≡ writer.old.bytes }
 {
     writer.put_text(exception_id(raised.name))?;
     writer.ulong(raised.minor)?;

@@ -27,7 +27,7 @@ pub use fault::MsgFault;
 pub use incoming::Incoming;
 pub use poa_base::WantMemory;
 pub use reading::read_call;
-pub use reply::write_reply;
+pub use reply::{put_reply, write_reply};
 pub use seen::Seen;
 pub use view_fault::ViewFault;
 pub use viewing::view_call;

@@ -1,14 +1,13 @@
 //! The bytes of a reply: CORBA 3.3 Part 2, 9.4.3 and 9.4.6.
-ghost use Rattle.std.specs.Prelude.{◌≡◌, ◌≤◌, IfOk, OnOk};
+ghost use Rattle.std.specs.Prelude.{◌≡◌, ◌≤◌, ◌++◌, length, take, vec_len, IfOk, OnOk, OnErr};
 ghost use Rattle.cdr_core.specs.Fields.{with_fields};
 ghost use Rattle.ior_profile.specs.Profile.{profile_of};
-ghost use Rattle.giop_msg.specs.Outgoing.{fields_draft};
-ghost use Rattle.giop_msg.specs.Reply.{reply_bytes, reply_draft, locate_draft, reply_fields, outcome_fields, reference_fields, value_fields, reply_opening as opening_fields, reply_status as status_of, outcome_status as status_of_outcome, locate_status as status_of_locate, hides_results as hides, AnswersHead};
+ghost use Rattle.giop_msg.specs.Reply.{reply_bytes, reply_kind as kind_of_reply, content_draft, reply_fields, outcome_fields, reference_fields, value_fields, opening_of, reply_status as status_of, outcome_status as status_of_outcome, locate_status as status_of_locate, hides_results as hides, AnswersHead};
 
 use crate::exception::put_exception;
 use crate::field::put_datum;
 use crate::kind::{HEADER, LOCATE_REPLY, MINOR, REPLY};
-use crate::outgoing::framed;
+use crate::outgoing::{put_header, tell_size};
 use crate::status::{
     LOC_NEEDS_ADDRESSING_MODE, LOCATION_FORWARD, NEEDS_ADDRESSING_MODE, NO_EXCEPTION,
     OBJECT_FORWARD, OBJECT_HERE, SYSTEM_EXCEPTION, UNKNOWN_OBJECT, USER_EXCEPTION,
@@ -17,61 +16,117 @@ use cdr_core::Writer;
 use ior_profile::write_profile;
 use poa_base::{Bytes, Datum, Endpoint, Head, Outcome, Reply, WantMemory};
 use std::alloc::Global;
+use std::mem;
 
-/// The message that answers a Request or LocateRequest with this head, in its byte order and version.
-///
-/// Where the response flags are exactly 1 a result or a user exception is replaced by NO_EXCEPTION with an
-/// empty body. The completion of a system exception follows from its minor code. A forward is a reference
-/// with an empty type id and one IIOP profile. `WantMemory` is also the answer to a string or a sequence of
-/// 2^31 bytes or more, which no CDR writer takes.
+/// The message that answers a Request or LocateRequest with this head, alone: see [`put_reply`].
 pub fn write_reply(alloc: Global, head: &Head, reply: &Reply) -> Result<Bytes, WantMemory>
     requires minor { head.now.minor ≤ MINOR }
     requires answers { AnswersHead head.now reply.now }
     ensures { IfOk result (λ bytes. bytes ≡ reply_bytes head.now reply.now) }
 {
-    if head.locate {
-        let fields = locate_reply(alloc, head, reply)?;
-        return framed(alloc, head.minor, LOCATE_REPLY, head.little, &fields);
+    let mut message = Vec::new(alloc);
+    put_reply(alloc, &mut message, head, reply)?;
+    Ok(Bytes::from_vec(message))
+}
+
+/// Puts behind other bytes the message that answers a Request or LocateRequest with this head, in its byte order and
+/// version. Where memory is wanting the bytes are as they were.
+///
+/// Where the response flags are exactly 1 a result or a user exception is replaced by NO_EXCEPTION with an
+/// empty body. The completion of a system exception follows from its minor code. A forward is a reference
+/// with an empty type id and one IIOP profile. `WantMemory` is also the answer to a string or a sequence of
+/// 2^31 bytes or more, which no CDR writer takes.
+pub fn put_reply(
+    alloc: Global,
+    out: &mut Vec<u8>,
+    head: &Head,
+    reply: &Reply,
+) -> Result<(), WantMemory>
+    requires minor { head.now.minor ≤ MINOR }
+    requires answers { AnswersHead head.now reply.now }
+    ensures ok { OnOk result (out.new.items ≡ out.old.items ++ reply_bytes head.now reply.now) }
+    ensures err { OnErr result (out.new.items ≡ out.old.items) }
+{
+    let len = out.len();
+    let done = append_reply(alloc, out, head, reply);
+    if done.is_err() {
+        out.truncate(len);
     }
-    let fields = plain_reply(alloc, head, reply)?;
-    framed(alloc, head.minor, REPLY, head.little, &fields)
+    done
 }
 
-// The fields of a Reply.
-fn plain_reply(alloc: Global, head: &Head, reply: &Reply) -> Result<Vec<u8>, WantMemory>
-    ensures { IfOk result (λ bytes. bytes.items ≡ (reply_draft head.now reply.now).bytes) }
+// The same. Where memory is wanting, only some of the message may stand behind what stood there.
+fn append_reply(
+    alloc: Global,
+    out: &mut Vec<u8>,
+    head: &Head,
+    reply: &Reply,
+) -> Result<(), WantMemory>
+    ensures ok { OnOk result (out.new.items ≡ out.old.items ++ reply_bytes head.now reply.now) }
+    ensures front { take (vec_len out.old) out.new.items ≡ out.old.items }
 {
-    let mut writer = reply_opening(alloc, head, reply_status(head, reply))?;
-    put_body(alloc, &mut writer, head, reply)?;
-    Ok(writer.into_bytes())
+    let start = out.len();
+    put_header(out, head.minor, reply_kind(head), head.little)?;
+    put_content(alloc, out, head, reply)?;
+    tell_size(out, start, head.little)
 }
 
-// The fields of a LocateReply.
-fn locate_reply(alloc: Global, head: &Head, reply: &Reply) -> Result<Vec<u8>, WantMemory>
-    ensures { IfOk result (λ bytes. bytes.items ≡ (locate_draft head.now reply.now).bytes) }
+// The type of the message that answers such a head.
+fn reply_kind(head: &Head) -> u8
+    ensures { result ≡ kind_of_reply head.now }
 {
-    let mut writer = Writer::new(alloc, head.little, HEADER);
-    writer.ulong(head.id)?;
-    writer.ulong(locate_status(reply))?;
-    put_body(alloc, &mut writer, head, reply)?;
-    Ok(writer.into_bytes())
+    if head.locate { LOCATE_REPLY } else { REPLY }
 }
 
-// The fields in front of a Reply's body. The contexts, of which there are none, stand first before version 1.2.
-fn reply_opening(alloc: Global, head: &Head, status: u32) -> Result<Writer, WantMemory>
-    ensures { IfOk result (λ writer. writer ≡ fields_draft head.now.little (opening_fields head.now status)) }
+// What follows the header.
+fn put_content(
+    alloc: Global,
+    out: &mut Vec<u8>,
+    head: &Head,
+    reply: &Reply,
+) -> Result<(), WantMemory>
+    ensures ok { OnOk result (out.new.items ≡ out.old.items ++ (content_draft head.now reply.now).bytes) }
+    ensures front { take (vec_len out.old) out.new.items ≡ out.old.items }
 {
-    let mut writer = Writer::new(alloc, head.little, HEADER);
+    let bytes = mem::replace(out, Vec::new(alloc));
+    let mut writer = Writer::behind(bytes, head.little, HEADER);
+    let done = put_fields(alloc, &mut writer, head, reply);
+    *out = writer.into_bytes();
+    done
+}
+
+// The fields of a reply.
+fn put_fields(
+    alloc: Global,
+    writer: &mut Writer,
+    head: &Head,
+    reply: &Reply,
+) -> Result<(), WantMemory>
+    ensures ok { OnOk result
+        (writer.new ≡ with_fields (reply_fields head.now reply.now) (with_fields (opening_of head.now reply.now) writer.old)) }
+    ensures front { take (length writer.old.bytes) writer.new.bytes ≡ writer.old.bytes }
+{
+    put_opening(writer, head, reply)?;
+    put_body(alloc, writer, head, reply)
+}
+
+// The fields in front of the body. The contexts of a Reply, of which there are none, stand first before version 1.2.
+fn put_opening(writer: &mut Writer, head: &Head, reply: &Reply) -> Result<(), WantMemory>
+    ensures ok { OnOk result (writer.new ≡ with_fields (opening_of head.now reply.now) writer.old) }
+    ensures front { take (length writer.old.bytes) writer.new.bytes ≡ writer.old.bytes }
+{
+    if head.locate {
+        writer.ulong(head.id)?;
+        return writer.ulong(locate_status(reply));
+    }
     if head.minor == MINOR {
         writer.ulong(head.id)?;
-        writer.ulong(status)?;
-        writer.ulong(0)?;
-        return Ok(writer);
+        writer.ulong(reply_status(head, reply))?;
+        return writer.ulong(0);
     }
     writer.ulong(0)?;
     writer.ulong(head.id)?;
-    writer.ulong(status)?;
-    Ok(writer)
+    writer.ulong(reply_status(head, reply))
 }
 
 // The body of a reply.
@@ -81,7 +136,8 @@ fn put_body(
     head: &Head,
     reply: &Reply,
 ) -> Result<(), WantMemory>
-    ensures { OnOk result (writer.new ≡ with_fields (reply_fields head.now reply.now) writer.old) }
+    ensures ok { OnOk result (writer.new ≡ with_fields (reply_fields head.now reply.now) writer.old) }
+    ensures front { take (length writer.old.bytes) writer.new.bytes ≡ writer.old.bytes }
 {
     match reply {
         Reply::Outcome(outcome) => put_outcome(writer, head, outcome),
@@ -93,7 +149,8 @@ fn put_body(
 
 // The body of an outcome.
 fn put_outcome(writer: &mut Writer, head: &Head, outcome: &Outcome) -> Result<(), WantMemory>
-    ensures { OnOk result (writer.new ≡ with_fields (outcome_fields head.now outcome.now) writer.old) }
+    ensures ok { OnOk result (writer.new ≡ with_fields (outcome_fields head.now outcome.now) writer.old) }
+    ensures front { take (length writer.old.bytes) writer.new.bytes ≡ writer.old.bytes }
 {
     match outcome {
         Outcome::System(raised) => put_exception(writer, raised),
@@ -105,7 +162,8 @@ fn put_outcome(writer: &mut Writer, head: &Head, outcome: &Outcome) -> Result<()
 
 // A result, or none.
 fn put_value(writer: &mut Writer, value: &Option<Datum>) -> Result<(), WantMemory>
-    ensures { OnOk result (writer.new ≡ with_fields (value_fields value.now) writer.old) }
+    ensures ok { OnOk result (writer.new ≡ with_fields (value_fields value.now) writer.old) }
+    ensures front { take (length writer.old.bytes) writer.new.bytes ≡ writer.old.bytes }
 {
     match value {
         Some(datum) => put_datum(writer, datum),
@@ -120,7 +178,8 @@ fn put_reference(
     endpoint: &Endpoint,
     key: &[u8],
 ) -> Result<(), WantMemory>
-    ensures { OnOk result (writer.new ≡ with_fields (reference_fields (profile_of endpoint.now key.now)) writer.old) }
+    ensures ok { OnOk result (writer.new ≡ with_fields (reference_fields (profile_of endpoint.now key.now)) writer.old) }
+    ensures front { take (length writer.old.bytes) writer.new.bytes ≡ writer.old.bytes }
 {
     let profile = write_profile(alloc, endpoint, key)?;
     writer.text(b"")?;

@@ -14,5 +14,5 @@ returns c =
     ∙ ap₂ (λ (front back : List ℕ). front ++ back) (c.in_ok-bytes.ensures.items ∙ take-replicate padding 8 0 (omega arith))
     (c.deref.ensures.value
     ∙ (c.into_bytes.ensures
-    ∙ (ap (λ (d : Draft). d.bytes) (c.in_ok-put_datum.ensures ∙ ap (with_field (datum_field c.in-Some.datum)) c.new-writer.ensures)
+    ∙ (ap (λ (d : Draft). d.bytes) (c.in_ok-put_datum.ensures.ok ∙ ap (with_field (datum_field c.in-Some.datum)) c.new-writer.ensures)
     ∙ ap (λ (n : ℕ). written c.args.little n (datum_field c.in-Some.datum)) (add-zero (c.args.place + padding))))))

@@ -6,7 +6,9 @@ use Rattle.ior_profile.specs.Profile.{profile_of}
 use Rattle.giop_msg.specs.Reply.{reference_fields}
 use Rattle.giop_msg.proofs.reply.put_body.Goals as goal
 
-pub returns-in-Forward : goal.returns-in-Forward
-returns-in-Forward c =
+pub returns-in-Forward-clause-ok : goal.returns-in-Forward-clause-ok
+returns-in-Forward-clause-ok c =
     rw c.in-Forward.is
-    (subst (λ (key : List ℕ). OnOk c.put_reference.result (c.put_reference.new.writer ≡ with_fields (reference_fields (profile_of c.in-Forward.endpoint key)) c.args.writer.now)) c.as_slice.ensures c.put_reference.ensures)
+    (subst (λ (key : List ℕ). OnOk c.put_reference.result
+    (c.put_reference.new.writer ≡ with_fields (reference_fields (profile_of c.in-Forward.endpoint key)) c.args.writer.now)) c.as_slice.ensures
+    c.put_reference.ensures.ok)
