@@ -1,6 +1,6 @@
-"""Tells what a call of `add` on an object of the map costs poad and omniORB, one at a time over 1 and 8 connections:
+"""Tells what a call of `add` on an object of the map costs poad and omniORB, one at a time over 1, 4 and 8 connections:
 where the processor time goes (perf), how many system calls it makes (strace), and how many instructions and
-allocations (valgrind).
+allocations (valgrind), which for poad are also told by crates.
 
 cost.py POAD OMNI_SERVER LOAD"""
 import collections
@@ -16,7 +16,7 @@ import figures
 import sheet
 from servers import OmniOrb, Poad
 
-CONNECTIONS, SECONDS = (1, 8), 2
+CONNECTIONS, SECONDS = (1, 4, 8), 2
 STUBS = re.compile(r"__send|__libc_(recv|send|read|write)|.*epoll_(p?)wait|__poll|syscall$|entry_SYSCALL|do_syscall")
 ALLOCATES = re.compile(r"_?_?(int_)?(malloc|free|realloc|calloc|cfree)|tcache|libc::heap::|std_heap::")
 COPIES = re.compile(r"__mem|rotate")
@@ -35,10 +35,15 @@ def place_in_system(symbols):
 
 
 def place(stack):
-    """Where a sample belongs: in the system, or what the code is that runs, by its crate where it has one."""
+    """Where a sample belongs: in the system, or what the code is that runs."""
     leaf, library = stack[0]
     if "kernel" in library:
         return place_in_system([symbol for symbol, _ in stack])
+    return place_outside(leaf, library)
+
+
+def place_outside(leaf, library):
+    """Where a function outside the system belongs: what it does, or its crate where it has one, or its library."""
     if STUBS.match(leaf):
         return "into and out of calls"
     if ALLOCATES.match(leaf):
@@ -101,12 +106,34 @@ def switch(server, word):
     subprocess.run(words, check=True, stdout=subprocess.DEVNULL, stderr=subprocess.DEVNULL)
 
 
-def counted(programs, server, listing):
-    """How many instructions a call takes outside the system, and how many allocations it makes."""
-    call(programs, server, 1)
+def instructions(said):
+    """How many instructions each function took itself, with its library, by what callgrind says."""
+    names, taken, at, library, is_call = {}, collections.Counter(), None, None, False
+    for line in said.splitlines():
+        named = re.match(r"(fn|ob)=(\(\d+\))(?: (.+))?$", line)
+        if named:
+            kind, number, name = named.groups()
+            found = names.setdefault((kind, number), name)
+            at, library = (found, library) if kind == "fn" else (at, found)
+        elif line.startswith("calls="):
+            is_call = True
+        elif re.match(r"[+*\d-]", line):
+            if not is_call:
+                taken[at, library] += int(line.split()[1])
+            is_call = False
+        else:
+            # A callee or its library may be named here for the first time.
+            for kind, number, name in re.findall(r"^c(fn|ob)=(\(\d+\)) (.+)$", line):
+                names.setdefault((kind, number), name)
+    return taken
+
+
+def counted(programs, server, connections, listing):
+    """How many instructions a call takes outside the system, all and by places, and how many allocations it makes."""
+    call(programs, server, connections)
     switch(server, "on")
     before = server.value()
-    call(programs, server, 1)
+    call(programs, server, connections)
     calls = server.value() - before
     switch(server, "off")
     server.stop()
@@ -114,10 +141,10 @@ def counted(programs, server, listing):
     names = dict(re.findall(r"fn=\((\d+)\) (.+)", said))
     made = re.findall(r"cfn=\((\d+)\).*\ncalls=(\d+)", said)
     allocations = sum(int(count) for number, count in made if names.get(number) in ("malloc", "realloc", "calloc"))
-    return {
-        "instructions": int(re.search(r"totals: (\d+)", said)[1]) / calls,
-        "allocations": allocations / calls,
-    }
+    places = collections.Counter()
+    for (leaf, library), count in instructions(said).items():
+        places[place_outside(leaf, library)] += count / calls
+    return {"instructions": places.total(), "allocations": allocations / calls}, places
 
 
 def rows_of(columns, least):
@@ -131,19 +158,22 @@ def main():
     programs = figures.Programs(*sys.argv[1:])
     starts = {Poad: programs.poad, OmniOrb: programs.omni}
     with tempfile.TemporaryDirectory() as name:
-        folder, taken, made, simple = Path(name), [], [], []
+        folder, taken, made, simple, work = Path(name), [], [], [], []
         with programs.servers() as running:
             for server, connections in itertools.product(running, CONNECTIONS):
                 taken.append(shares(programs, server, connections, folder / "record"))
                 made.append(system_calls(programs, server, connections, folder / "calls"))
-        for start, program in starts.items():
-            listing = folder / start.name
-            simple.append(counted(programs, start(under_callgrind(program, listing)), listing))
+        for (start, program), connections in itertools.product(starts.items(), CONNECTIONS):
+            listing = folder / f"{start.name}.{connections}"
+            count, places = counted(programs, start(under_callgrind(program, listing)), connections, listing)
+            simple.append(count)
+            work.append(places)
     heads = [f"{start.name}, {connections}" for start in starts for connections in CONNECTIONS]
     tables = [
         sheet.table(["Processor time a call, us", *heads], rows_of(taken, 0.1)),
         sheet.table(["System calls a call", *heads], rows_of(made, 0.01)),
-        sheet.table(["A call, outside the system", *(start.name for start in starts)], rows_of(simple, 0)),
+        sheet.table(["A call, outside the system", *heads], rows_of(simple, 0)),
+        sheet.table(["Instructions a call, outside the system", *heads], rows_of(work, 50)),
     ]
     print("\n\n".join(tables))
 
