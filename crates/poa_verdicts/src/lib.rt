@@ -11,6 +11,6 @@ mod turns;
 mod verdicts;
 
 pub use looks::{Look, look_at};
-pub use rules::{brought, rule_for};
+pub use rules::brought;
 pub use turns::{attempt, flight_of, going_on, removal};
 pub use verdicts::verdict_on;

@@ -1,10 +1,10 @@
 //! The reference of an object.
 ghost use Rattle.std.specs.Prelude.{◌≡◌, IfOk};
-ghost use Rattle.servant_kinds.specs.Object.{type_id_of};
 ghost use Rattle.poa_history.specs.References as references;
 
 use ior_object::write_reference;
-use poa_base::{Bytes, Config, Endpoint, Key, Oid, Path, Stamp, State, WantMemory};
+use poa_base::{Bytes, Config, Endpoint, Key, Oid, Path, Stamp, WantMemory};
+use servant_kinds::type_id;
 use standing_queries::templates::policies_at;
 use std::alloc::Global;
 
@@ -28,18 +28,6 @@ fn key_for(
         path: path.clone()?,
         oid: oid.clone()?,
     })
-}
-
-/// The repository id of the interface of a servant that starts in this state.
-fn type_id(state: &State) -> &'static [u8]
-    ensures { result.now ≡ type_id_of state.now }
-{
-    match state {
-        State::Register(_) => b"IDL:poad/Register:1.0",
-        State::Book(_) => b"IDL:poad/Log:1.0",
-        State::Echo => b"IDL:poad/Echo:1.0",
-        State::Fault => b"IDL:poad/Fault:1.0",
-    }
 }
 
 /// The repository id of a configured servant's interface.

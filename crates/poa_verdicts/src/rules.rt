@@ -1,5 +1,5 @@
 //! What the rules of a servant manager give.
-ghost use Rattle.std.specs.Prelude.{◌≡◌, IfOk, Some, None, option_copied};
+ghost use Rattle.std.specs.Prelude.{◌≡◌, IfOk, Some, None};
 ghost use Rattle.poa_base.specs.declared.Incarnation.TheVariants.{Named, Raise};
 ghost use Rattle.poa_choose.specs.declared.Located.{Located};
 ghost use Rattle.poa_history.specs.Rules as rules;
@@ -7,12 +7,12 @@ ghost use Rattle.poa_history.specs.Templates.{servant_name};
 ghost use Rattle.standing_queries.specs.Seen.{seen};
 
 use poa_base::{
-    Completion, Config, ExcName, Gives, Incarnation, Name, RuleConf, Sid, SysExc, WantMemory,
-    minors,
+    Completion, Config, ExcName, Gives, Incarnation, Name, Sid, SysExc, WantMemory, minors,
 };
 use poa_choose::Located;
 use poa_history::Activation;
 use standing_queries::Standing;
+use standing_queries::rules::rule_for;
 use standing_queries::searches::is_in_map;
 use standing_queries::templates::{policies_at, rules_at, servant_name};
 
@@ -22,23 +22,6 @@ const NOT_ACTIVE: SysExc = SysExc {
     minor: minors::NOT_ACTIVE,
     done: Completion::No,
 };
-
-/// Whether a rule is for an id.
-fn is_for(oid: &[u8], rule: &RuleConf) -> bool
-    ensures { result ≡ rules.matches oid.now rule.now }
-{
-    match &rule.oid {
-        Some(wanted) => wanted.as_slice() == oid,
-        None => true,
-    }
-}
-
-/// The first rule that matches.
-pub fn rule_for<'a>(all: &'a [RuleConf], oid: &[u8]) -> Option<&'a RuleConf>
-    ensures { option_copied result ≡ rules.rule_for all.now oid.now }
-{
-    all.iter().find(|rule| is_for(oid, rule))
-}
 
 /// A configured servant is brought.
 fn named(config: &Config, servant: u32) -> Result<Incarnation, WantMemory>

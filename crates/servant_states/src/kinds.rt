@@ -1,29 +1,12 @@
 //! The kinds of fresh servants, and the states in which they open.
 ghost use Rattle.std.specs.Prelude.{◌≡◌, IfOk, option_copied};
-ghost use Rattle.poa_history.specs.Rules as rules;
 ghost use Rattle.poa_history.specs.States as states;
 
-use poa_base::{Config, Gives, Items, Kind, Oid, RuleConf, State, TryClone, WantMemory};
+use poa_base::{Config, Gives, Items, Kind, State, TryClone, WantMemory};
 use poa_history::Activation;
+use standing_queries::rules::rule_for;
 use standing_queries::templates::rules_at;
 use std::alloc::Global;
-
-/// Whether a rule matches an id.
-fn matches(oid: &Oid, rule: &RuleConf) -> bool
-    ensures { result ≡ rules.matches oid.now rule.now }
-{
-    match &rule.oid {
-        Some(wanted) => wanted == oid,
-        None => true,
-    }
-}
-
-/// The first rule that matches.
-fn rule_for<'a>(conf: &'a [RuleConf], oid: &Oid) -> Option<&'a RuleConf>
-    ensures { option_copied result ≡ rules.rule_for conf.now oid.now }
-{
-    conf.iter().find(|rule| matches(oid, rule))
-}
 
 /// The kind of the fresh servants that an activation's rule brings.
 pub fn kind_brought(config: &Config, activation: &Activation) -> Kind
@@ -31,7 +14,7 @@ pub fn kind_brought(config: &Config, activation: &Activation) -> Kind
 {
     match rule_for(
         rules_at(config, activation.path.as_slice()),
-        &activation.oid,
+        activation.oid.as_slice(),
     ) {
         Some(rule) => match rule.gives {
             Gives::Fresh(kind) => kind,

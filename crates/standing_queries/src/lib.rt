@@ -11,6 +11,7 @@ pub mod flights;
 pub mod ids;
 pub mod keys;
 pub mod orders;
+pub mod rules;
 pub mod searches;
 mod standing;
 pub mod templates;
