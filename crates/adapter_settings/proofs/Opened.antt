@@ -9,7 +9,8 @@ use Rattle.adapter_settings.specs.States.{start_states, state_at}
 use Rattle.poa_history.specs.Logs.{start_of}
 use Rattle.adapter_settings.specs.Told.{Tells}
 
-configured : (ms : List ManagerConf) (k : ℕ) → slice_index_or (map (λ m. m.start) ms) k Holding ≡ elim (slice_get ms k) [ Some conf ↦ conf.start | None ↦ Holding ]
+configured : (ms : List ManagerConf) (k : ℕ)
+    → slice_index_or (map (λ m. m.start) ms) k Holding ≡ elim (slice_get ms k) [ Some conf ↦ conf.start | None ↦ Holding ]
 configured [] k = refl
 configured (m ∷ ms) zero = refl
 configured (m ∷ ms) (suc k) = configured ms k

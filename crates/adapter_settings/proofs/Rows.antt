@@ -31,15 +31,20 @@ is_hidden a true x y z same = refl
 is_hidden true false x y z same = absurd (let e : true ≡ false = same in cc)
 is_hidden false false x y z same = refl
 
-put_at : {A : Type 0} (path : A → List (List ℕ)) (row : A) (rows : List A) (k : ℕ) → k < length rows → same_path (path (get_or rows k row)) (path row) ≡ true → ((j : ℕ) → j < k → same_path (path (get_or rows j row)) (path row) ≡ false) → (p : List (List ℕ)) → find (at path p) (set rows k row) ≡ cond (same_path (path row) p) (Some row) (find (at path p) rows)
+put_at : {A : Type 0} (path : A → List (List ℕ)) (row : A) (rows : List A) (k : ℕ) → k < length rows → same_path (path (get_or rows k row)) (path row) ≡ true
+    → ((j : ℕ) → j < k → same_path (path (get_or rows j row)) (path row) ≡ false) → (p : List (List ℕ))
+    → find (at path p) (set rows k row) ≡ cond (same_path (path row) p) (Some row) (find (at path p) rows)
 put_at path row [] k below here first p = absurd (omega arith)
 put_at path row (x ∷ rows) zero below here first p =
-    is_hidden (same_path (path x) p) (same_path (path row) p) (Some x) (Some row) (find (at path p) rows) (ap (λ q. same_path q p) (path_same (path x) (path row) here))
+    is_hidden (same_path (path x) p) (same_path (path row) p) (Some x) (Some row) (find (at path p) rows)
+    (ap (λ q. same_path q p) (path_same (path x) (path row) here))
 put_at path row (x ∷ rows) (suc k) below here first p =
     ap (λ o. cond (same_path (path x) p) (Some x) o) (put_at path row rows k (omega arith) here (λ j less. first (suc j) (omega arith)) p)
-    ∙ first_stays (same_path (path x) p) (same_path (path row) p) (Some x) (Some row) (find (at path p) rows) (apart (path x) (path row) p (first zero (omega arith)))
+    ∙ first_stays (same_path (path x) p) (same_path (path row) p) (Some x) (Some row) (find (at path p) rows)
+    (apart (path x) (path row) p (first zero (omega arith)))
 
-pub found_put : {A : Type 0} (path : A → List (List ℕ)) (row : A) (rows : List A) (k : ℕ) → position (at path (path row)) rows ≡ Some k → (p : List (List ℕ)) → find (at path p) (set rows k row) ≡ cond (same_path (path row) p) (Some row) (find (at path p) rows)
+pub found_put : {A : Type 0} (path : A → List (List ℕ)) (row : A) (rows : List A) (k : ℕ) → position (at path (path row)) rows ≡ Some k → (p : List (List ℕ))
+    → find (at path p) (set rows k row) ≡ cond (same_path (path row) p) (Some row) (find (at path p) rows)
 found_put path row rows k place p =
     let its = position-Some (at path (path row)) rows k row place in put_at path row rows k its.0 its.1 its.2 p
 
@@ -53,7 +58,9 @@ or_found true o row none = ap (λ x. option_or x (Some row)) (none refl)
 or_found false None row none = refl
 or_found false (Some x) row none = refl
 
-pub found_pushed : {A : Type 0} (path : A → List (List ℕ)) (row : A) (rows : List A) → position (at path (path row)) rows ≡ None → (p : List (List ℕ)) → find (at path p) (rows ++ row ∷ []) ≡ cond (same_path (path row) p) (Some row) (find (at path p) rows)
+pub found_pushed : {A : Type 0} (path : A → List (List ℕ)) (row : A) (rows : List A) → position (at path (path row)) rows ≡ None → (p : List (List ℕ))
+    → find (at path p) (rows ++ row ∷ []) ≡ cond (same_path (path row) p) (Some row) (find (at path p) rows)
 found_pushed path row rows none p =
     find-append (at path p) rows (row ∷ [])
-    ∙ or_found (same_path (path row) p) (find (at path p) rows) row (λ here. subst (λ q. find (at path q) rows ≡ None) (path_same (path row) p here) (not_found (at path (path row)) rows none))
+    ∙ or_found (same_path (path row) p) (find (at path p) rows) row
+    (λ here. subst (λ q. find (at path q) rows ≡ None) (path_same (path row) p here) (not_found (at path (path row)) rows none))

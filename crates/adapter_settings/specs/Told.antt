@@ -26,11 +26,13 @@ endpoint_row rows p = find (λ r. same_path r.path p) rows
 
 -- the path has this default servant now, and every other path what it had
 abbrev pub IsPresetSet : List (List ℕ) → List ℕ → List PresetRow → List PresetRow → Type 0
-IsPresetSet path servant old new = (p : List (List ℕ)) → preset_row new p ≡ (if same_path path p then Some (record { path = path; servant = servant }) else preset_row old p)
+IsPresetSet path servant old new = (p : List (List ℕ))
+    → preset_row new p ≡ (if same_path path p then Some (record { path = path; servant = servant }) else preset_row old p)
 
 -- the path has this endpoint now, or none, and every other path what it had
 abbrev pub IsEndpointSet : List (List ℕ) → Option Endpoint → List EndpointRow → List EndpointRow → Type 0
-IsEndpointSet path endpoint old new = (p : List (List ℕ)) → endpoint_row new p ≡ (if same_path path p then Some (record { path = path; endpoint = endpoint }) else endpoint_row old p)
+IsEndpointSet path endpoint old new = (p : List (List ℕ))
+    → endpoint_row new p ≡ (if same_path path p then Some (record { path = path; endpoint = endpoint }) else endpoint_row old p)
 
 -- the default servant of a path: the one that was set, else the configured one
 abbrev pub preset_in : Config → Settings → List (List ℕ) → Option (List ℕ)

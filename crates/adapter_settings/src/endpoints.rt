@@ -145,7 +145,8 @@ pub fn forward_of<'a>(
     path: &[Name],
 ) -> Option<&'a Endpoint>
     ensures value { option_copied result ≡ forward_in config.now settings.now path.now }
-    ensures told { (past : List Entry) → Tells config.now past settings.now → option_copied result ≡ logs.forward_of config.now past path.now }
+    ensures told { (past : List Entry) → Tells config.now past settings.now
+        → option_copied result ≡ logs.forward_of config.now past path.now }
 {
     forward_from(config, settings, path, 0)
 }

@@ -67,7 +67,8 @@ pub fn apply(
     command: Option<&Command>,
     settings: &mut Settings,
 ) -> Result<(), WantMemory>
-    ensures ok { (past : List Entry) (e : Entry) → Tells config.now past settings.old → option_copied command.entry ≡ logs.command_done past e
+    ensures ok { (past : List Entry) (e : Entry) → Tells config.now past settings.old
+        → option_copied command.entry ≡ logs.command_done past e
         → OnOk result (Tells config.now (e ∷ past) settings.new) }
     ensures err { OnErr result (settings.new ≡ settings.old) }
     ensures ends { may_grow (option_copied command.entry) ≡ false → IsOk result }

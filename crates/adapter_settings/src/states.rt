@@ -62,7 +62,8 @@ pub fn manager_state(settings: &Settings, manager: u32) -> ManagerState
 pub fn set_state(config: &Config, name: &Name, order: Order, managers: &mut Managers)
     ensures count { length managers.new ≡ length managers.old }
     ensures states { length managers.old ≡ suc (length config.now.managers) → (m : ℕ) → state_at managers.new m
-        ≡ elim (logs.order_for config.now m (Some (Command.Manager name.now order))) [ Some given ↦ logs.ordered_state given | None ↦ state_at managers.old m ] }
+        ≡ elim (logs.order_for config.now m (Some (Command.Manager name.now order)))
+        [ Some given ↦ logs.ordered_state given | None ↦ state_at managers.old m ] }
 {
     if let Some(number) = manager_number(config, name) {
         if number < managers.len() {

@@ -44,7 +44,8 @@ find_same : {A : Type 0} (test other : A → Bool) (xs : List A) → ((x : A) �
 find_same test other [] same = refl
 find_same test other (x ∷ xs) same = ap₂ (λ b o. if b then Some x else o) (same x) (find_same test other xs same)
 
-module _ (c : Config) (run limit : ℕ) (h : List Entry) (given : IsGiven c run) (alone : IsGivenAlone c run) (within : IsWithinLimits c limit) (legal : IsLegal c run limit h)
+module _ (c : Config) (run limit : ℕ) (h : List Entry) (given : IsGiven c run) (alone : IsGivenAlone c run) (within : IsWithinLimits c limit)
+    (legal : IsLegal c run limit h)
     (t : Standing) (kept : StandsAfter c run h t) where
   abbrev s : Standing
   s = standing c run h
@@ -69,17 +70,20 @@ module _ (c : Config) (run limit : ℕ) (h : List Entry) (given : IsGiven c run)
       find_alike c s.activations t.activations forgets (λ a. is_of k oid a && is_active a) (second_fails (is_of k oid forgotten) _ refl)
       (λ a there over. second_fails (is_of k oid a) _ (over_inactive a there over))
 
-  any_active_same : (k : ℕ) (oid : List ℕ) → list_any (λ a. is_of k oid a && is_active a) t.activations ≡ list_any (λ a. is_of k oid a && is_active a) s.activations
+  any_active_same : (k : ℕ) (oid : List ℕ)
+      → list_any (λ a. is_of k oid a && is_active a) t.activations ≡ list_any (λ a. is_of k oid a && is_active a) s.activations
   any_active_same k oid =
       any_alike c s.activations t.activations forgets (λ a. is_of k oid a && is_active a) (second_fails (is_of k oid forgotten) _ refl)
       (λ a there over. second_fails (is_of k oid a) _ (over_inactive a there over))
 
-  held_same : (k : ℕ) (oid : List ℕ) → find (λ a. is_of k oid a && not (is_over c a)) t.activations ≡ find (λ a. is_of k oid a && not (is_over c a)) s.activations
+  held_same : (k : ℕ) (oid : List ℕ) → find (λ a. is_of k oid a && not (is_over c a)) t.activations ≡ find
+      (λ a. is_of k oid a && not (is_over c a)) s.activations
   held_same k oid =
       find_alike c s.activations t.activations forgets (λ a. is_of k oid a && not (is_over c a)) (second_fails (is_of k oid forgotten) _ refl)
       (λ a there over. second_fails (is_of k oid a) _ (ap not over))
 
-  any_held_same : (k : ℕ) (oid : List ℕ) → list_any (λ a. is_of k oid a && not (is_over c a)) t.activations ≡ list_any (λ a. is_of k oid a && not (is_over c a)) s.activations
+  any_held_same : (k : ℕ) (oid : List ℕ) → list_any (λ a. is_of k oid a && not (is_over c a)) t.activations ≡ list_any
+      (λ a. is_of k oid a && not (is_over c a)) s.activations
   any_held_same k oid =
       any_alike c s.activations t.activations forgets (λ a. is_of k oid a && not (is_over c a)) (second_fails (is_of k oid forgotten) _ refl)
       (λ a there over. second_fails (is_of k oid a) _ (ap not over))
@@ -95,12 +99,14 @@ module _ (c : Config) (run limit : ℕ) (h : List Entry) (given : IsGiven c run)
 
   in_map_same : (k : ℕ) (sid : Sid) → is_in_map t.activations k sid ≡ is_in_map s.activations k sid
   in_map_same k sid =
-      any_alike c s.activations t.activations forgets (λ a. (a.adapter == k) && (is_mapped a && has_servant sid a)) (second_fails (forgotten.adapter == k) _ refl)
+      any_alike c s.activations t.activations forgets (λ a. (a.adapter == k) && (is_mapped a && has_servant sid a))
+      (second_fails (forgotten.adapter == k) _ refl)
       (λ a there over. second_fails (a.adapter == k) _ (first_fails _ _ (unmapped c a over)))
 
   due_same : (a : Activation) → is_due c t a ≡ is_due c s a
   due_same a =
-      ap₂ (λ fs b. (is_complete a && (is_ending a && (has_activator c a.path && not a.out))) && (not (is_used fs a.number) && not b)) flights_same (changing_same a.adapter)
+      ap₂ (λ fs b. (is_complete a && (is_ending a && (has_activator c a.path && not a.out))) && (not (is_used fs a.number) && not b)) flights_same
+      (changing_same a.adapter)
 
   removal_same : (w : ℕ) → removal c t w ≡ removal c s w
   removal_same w =
@@ -110,26 +116,35 @@ module _ (c : Config) (run limit : ℕ) (h : List Entry) (given : IsGiven c run)
 
   ended_same : (m begun : ℕ) → are_ended c t m begun ≡ are_ended c s m begun
   ended_same m begun =
-      all_alike c s.activations t.activations forgets (λ a. is_over c a || (not (nat_lt a.number begun) || not (has_activator c a.path && (manager_at c a.path == m)))) refl
+      all_alike c s.activations t.activations forgets
+      (λ a. is_over c a || (not (nat_lt a.number begun) || not (has_activator c a.path && (manager_at c a.path == m)))) refl
       (λ a there over. ap (λ b. b || (not (nat_lt a.number begun) || not (has_activator c a.path && (manager_at c a.path == m)))) over)
 
   clear_same : (p : List (List ℕ)) → is_clear c t p ≡ is_clear c s p
   clear_same p =
-      ap (λ ns. not (list_any (λ f. stands_under ns p f.adapter) t.flights) && not (list_any (λ a. not (is_over c a) && stands_under ns p a.adapter) t.activations)) nodes_same
-      ∙ ap₂ (λ fs b. not (list_any (λ f. stands_under s.nodes p f.adapter) fs) && not b) flights_same (lived_alike c s.activations t.activations forgets s.nodes p)
+      ap (λ ns. not (list_any (λ f. stands_under ns p f.adapter) t.flights) && not
+      (list_any (λ a. not (is_over c a) && stands_under ns p a.adapter) t.activations)) nodes_same
+      ∙ ap₂ (λ fs b. not (list_any (λ f. stands_under s.nodes p f.adapter) fs) && not b) flights_same
+      (lived_alike c s.activations t.activations forgets s.nodes p)
 
   gone_same : (k : ℕ) → is_gone c t k ≡ is_gone c s k
   gone_same k =
-      ap₂ (λ n ns. nat_lt k n && (elim (find (λ m. m.number == k) ns) [ Some m ↦ is_done_with c t m | None ↦ true ])) (ap (λ u. u.count) kept.stands.same) nodes_same
-      ∙ elim (find (λ m. m.number == k) s.nodes) as (λ o. (nat_lt k s.count && (elim o [ Some m ↦ is_done_with c t m | None ↦ true ])) ≡ (nat_lt k s.count && (elim o [ Some m ↦ is_done_with c s m | None ↦ true ])))
+      ap₂ (λ n ns. nat_lt k n && (elim (find (λ m. m.number == k) ns) [ Some m ↦ is_done_with c t m | None ↦ true ]))
+      (ap (λ u. u.count) kept.stands.same) nodes_same
+      ∙ elim (find (λ m. m.number == k) s.nodes) as (λ o. (nat_lt k s.count && (elim o [ Some m ↦ is_done_with c t m | None ↦ true ])) ≡
+      (nat_lt k s.count && (elim o [ Some m ↦ is_done_with c s m | None ↦ true ])))
       [ Some m ↦ ap (λ b. nat_lt k s.count && (m.dying && b)) (clear_same m.path) | None ↦ refl ]
 
   -- an activation that isn't over is found by its number
   numbered_same : (n : ℕ) → IsLive c run limit given alone within h legal n → activation_numbered t n ≡ activation_numbered s n
   numbered_same n it =
       find_alike c s.activations t.activations forgets (λ a. a.number == n)
-      (false_from_ne_true (forgotten.number == n) (λ same. (let e = eqb-true forgotten.number n same in let low = sound.counted it.0 it.1 in let at = it.2 in let few = kept.few in let many = forgets.begun in omega (arith, e, low, at, few, many))))
-      (λ a there over. false_from_ne_true (a.number == n) (λ same. (let alike : a ≡ it.0 = sound.activation_alone a it.0 there it.1 (eqb-true a.number n same ∙ sym it.2) in
+      (false_from_ne_true (forgotten.number == n)
+      (λ same.
+      (let e = eqb-true forgotten.number n same in let low = sound.counted it.0 it.1 in let at = it.2 in let few = kept.few in let many = forgets.begun in
+      omega (arith, e, low, at, few, many))))
+      (λ a there over. false_from_ne_true (a.number == n)
+      (λ same. (let alike : a ≡ it.0 = sound.activation_alone a it.0 there it.1 (eqb-true a.number n same ∙ sym it.2) in
       true≢false (sym over ∙ ap (is_over c) alike ∙ it.3))))
     where
       sound : IsSound c run s
@@ -170,5 +185,6 @@ module _ (c : Config) (run limit : ℕ) (h : List Entry) (given : IsGiven c run)
     served = served_same;
   }
 
-pub answers : (c : Config) (run limit : ℕ) (h : List Entry) → IsGiven c run → IsGivenAlone c run → IsWithinLimits c limit → IsLegal c run limit h → (t : Standing) → StandsAfter c run h t → AnswersAs c run h t
+pub answers : (c : Config) (run limit : ℕ) (h : List Entry) → IsGiven c run → IsGivenAlone c run → IsWithinLimits c limit → IsLegal c run limit h
+    → (t : Standing) → StandsAfter c run h t → AnswersAs c run h t
 answers c run limit h given alone within legal t kept = answered c run limit h given alone within legal t kept

@@ -47,7 +47,8 @@ module _ (c : Config) (a : Activation) where
   pub unchanging : (a.out ≡ true → is_complete a ≡ true) → is_over c a ≡ true → is_unfinished c a ≡ false
   unchanging complete over =
       elim (or_cases (is_void a) (is_finished c a) over) [
-        | inl void ↦ ap₂ (λ x y. x || (y && not (is_finished c a))) (unbegun void) (false_from_ne_true a.out (λ out. true≢false (sym (complete out) ∙ incomplete void)))
+        | inl void ↦
+            ap₂ (λ x y. x || (y && not (is_finished c a))) (unbegun void) (false_from_ne_true a.out (λ out. true≢false (sym (complete out) ∙ incomplete void)))
         | inr finished ↦ ap₂ (λ x y. x || y) (complete_only a.phase (complete (out_of finished))).0 (second_fails a.out _ (ap not finished))
       ]
 
@@ -63,7 +64,8 @@ module _ (c : Config) (a : Activation) where
   pub begun_lives : (a.out ≡ true → is_complete a ≡ true) → a.phase ≡ Begun → is_over c a ≡ false
   begun_lives complete begun =
       ap₂ (λ x y. x || y) (ap (λ p. elim p [ Void ↦ true | Begun ↦ false | Complete s ↦ false ]) begun)
-      (first_fails a.out _ (false_from_ne_true a.out (λ out. true≢false (sym (complete out) ∙ ap (λ p. elim p [ Complete s ↦ true | Begun ↦ false | Void ↦ false ]) begun))))
+      (first_fails a.out _
+      (false_from_ne_true a.out (λ out. true≢false (sym (complete out) ∙ ap (λ p. elim p [ Complete s ↦ true | Begun ↦ false | Void ↦ false ]) begun))))
 
   -- what has its servant and isn't out is not over
   pub served_lives : (t : Sid) → a.phase ≡ Complete t → a.out ≡ false → is_over c a ≡ false

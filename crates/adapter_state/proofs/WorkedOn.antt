@@ -37,7 +37,8 @@ module _ (c : Config) (run limit : ℕ) (given : IsGiven c run) (alone : IsGiven
       let same = it.2 in omega (arith, low, same))
 
   -- a servant activator is to be told of what a worker takes down
-  told : (h : List Entry) → IsLegal c run limit h → (w n : ℕ) → stage h w ≡ Removing n → (a : Activation) → In a (standing c run h).activations → a.number ≡ n → has_activator c a.path ≡ true
+  told : (h : List Entry) → IsLegal c run limit h → (w n : ℕ) → stage h w ≡ Removing n → (a : Activation) → In a (standing c run h).activations → a.number ≡ n
+      → has_activator c a.path ≡ true
   told [] legal w n at a there number = absurd (let e : Free ≡ Removing n = at in cc)
   told (e ∷ past) legal w n at b there number =
       elim (activation_from c run past e b there) [
@@ -46,9 +47,15 @@ module _ (c : Config) (run limit : ℕ) (given : IsGiven c run) (alone : IsGiven
             ∙ elim (removal_before e past w n at) [
               | inl was ↦ told past legal.1 w n was a is (sym step.later.number ∙ number)
               | inr takes ↦ (let it = takeout_is c run past w n true (subst (λ x. MayFollow c run limit past x) takes legal.0) in
-                  let same : it.it ≡ a = (legal_sound c run limit past given within legal.1).activation_alone it.it a it.there is (it.numbered ∙ sym (sym step.later.number ∙ number)) in
-                  let due = and_parts (is_complete it.it && (is_ending it.it && (has_activator c it.it.path && not it.it.out))) (not (is_used (standing c run past).flights it.it.number) && not (is_changing c (standing c run past).activations it.it.adapter)) it.due in
-                  let ends = and_parts (is_ending it.it) (has_activator c it.it.path && not it.it.out) (and_parts (is_complete it.it) (is_ending it.it && (has_activator c it.it.path && not it.it.out)) due.0).1 in
+                  let same : it.it ≡ a =
+                  (legal_sound c run limit past given within legal.1).activation_alone it.it a it.there is
+                  (it.numbered ∙ sym (sym step.later.number ∙ number)) in
+                  let due =
+                  and_parts (is_complete it.it && (is_ending it.it && (has_activator c it.it.path && not it.it.out)))
+                  (not (is_used (standing c run past).flights it.it.number) && not (is_changing c (standing c run past).activations it.it.adapter)) it.due in
+                  let ends =
+                  and_parts (is_ending it.it) (has_activator c it.it.path && not it.it.out)
+                  (and_parts (is_complete it.it) (is_ending it.it && (has_activator c it.it.path && not it.it.out)) due.0).1 in
                   ap (λ x. has_activator c x.path) (sym same) ∙ (and_parts (has_activator c it.it.path) (not it.it.out) ends.1).0)
             ]
       ]
@@ -77,7 +84,8 @@ module _ (c : Config) (run limit : ℕ) (given : IsGiven c run) (alone : IsGiven
     IsLive n = (a : Activation) × In a (standing c run h).activations × (a.number ≡ n) × (is_over c a ≡ false)
 
     lives_at : (w : ℕ) (begun_ : Stage) (n : ℕ) → stage h w ≡ begun_ → works_on begun_ ≡ Some n → Holds h (standing c run h) begun_ → IsLive n
-    lives_at w (Incarnating r m) n at is it = subst IsLive (let e : Some m ≡ Some n = is in let f : m ≡ n = cc in f) (it.2.0, it.2.1, it.2.2, begun_lives c it.2.0 (complete it.2.0 it.2.1) it.2.3)
+    lives_at w (Incarnating r m) n at is it =
+        subst IsLive (let e : Some m ≡ Some n = is in let f : m ≡ n = cc in f) (it.2.0, it.2.1, it.2.2, begun_lives c it.2.0 (complete it.2.0 it.2.1) it.2.3)
     lives_at w (Removing m) n at is it =
         subst IsLive (let e : Some m ≡ Some n = is in let f : m ≡ n = cc in f)
         (it.0, it.1, it.2, untold_lives c it.0 (complete it.0 it.1 it.3) (told h legal w m at it.0 it.1 it.2) it.4 it.5)

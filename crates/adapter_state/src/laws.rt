@@ -13,6 +13,7 @@ ghost use Rattle.standing_queries.specs.Kept.{StandsAfter};
 
 /// After a legal history what is kept, where some activations that are over may be forgotten, answers as what stands.
 pub fn what_is_kept_answers()
-    ensures { (c : Config) (run limit : ℕ) (h : List Entry) → IsGiven c run → IsGivenAlone c run → IsWithinLimits c limit → IsLegal c run limit h
+    ensures { (c : Config) (run limit : ℕ) (h : List Entry) → IsGiven c run → IsGivenAlone c run → IsWithinLimits c limit
+        → IsLegal c run limit h
         → (t : Standing) → StandsAfter c run h t → AnswersAs c run h t }
 {}

@@ -66,7 +66,8 @@ module _ (c : Config) (run : ℕ) (h : List Entry) (w : ℕ) where
 
   looked_go : (f : Facts) (v : Verdict) → looked f w ≡ looks.Go v → chosen (first_row f w) ≡ Some v
   looked_go f v =
-      elim (first_row f w) as (λ ch. (elim ch as (λ _. Look) [ choices.Go x ↦ looks.Go x | choices.Held cause ↦ looks.Held (hold_for f cause) ]) ≡ looks.Go v → chosen ch ≡ Some v) [
+      elim (first_row f w) as (λ ch. (elim ch as (λ _. Look) [ choices.Go x ↦ looks.Go x | choices.Held cause ↦ looks.Held (hold_for f cause) ]) ≡ looks.Go v
+      → chosen ch ≡ Some v) [
         | choices.Go x ↦ λ same. (let e : looks.Go x ≡ looks.Go v = same in let at : x ≡ v = cc in ap (λ y. Some y) at)
         | choices.Held cause ↦ λ same. absurd (let e : looks.Held (hold_for f cause) ≡ looks.Go v = same in cc)
       ]
@@ -74,9 +75,13 @@ module _ (c : Config) (run : ℕ) (h : List Entry) (w : ℕ) where
   -- a call that is looked at and held is blocked
   pub looked_held : (f : Facts) (hold : Hold) → looked f w ≡ looks.Held hold → Blocks f hold
   looked_held f hold =
-      elim (first_row f w) as (λ ch. first_row f w ≡ ch → (elim ch as (λ _. Look) [ choices.Go x ↦ looks.Go x | choices.Held cause ↦ looks.Held (hold_for f cause) ]) ≡ looks.Held hold → Blocks f hold) [
+      elim (first_row f w) as (λ ch. first_row f w ≡ ch
+      → (elim ch as (λ _. Look) [ choices.Go x ↦ looks.Go x | choices.Held cause ↦ looks.Held (hold_for f cause) ]) ≡ looks.Held hold → Blocks f hold) [
         | choices.Go x ↦ λ _ same. absurd (let e : looks.Go x ≡ looks.Held hold = same in cc)
-        | choices.Held cause ↦ λ row same. (let e : looks.Held (hold_for f cause) ≡ looks.Held hold = same in let at : hold_for f cause ≡ hold = cc in subst (λ x. Blocks f x) at (held_blocks f cause w row))
+        | choices.Held cause ↦
+            λ row same.
+            (let e : looks.Held (hold_for f cause) ≡ looks.Held hold = same in let at : hold_for f cause ≡ hold = cc in
+            subst (λ x. Blocks f x) at (held_blocks f cause w row))
       ] refl
 
   pub waiting_arrived : (r : ℕ) → is_waiting h r ≡ true → r < arrivals h
@@ -96,14 +101,16 @@ module _ (c : Config) (run : ℕ) (h : List Entry) (w : ℕ) where
         ]
       where
         by_grip : (grip : Grip) → is_asked grip w ≡ false → IsGripped c run h r grip → give r ≡ None
-        by_grip (Held hold) unasked blocks = message_verdict r waits ∙ blocks_held (facts_of c run h r) w hold blocks (λ main. ap (λ x. is_asked (Held x) w) (sym main) ∙ unasked)
+        by_grip (Held hold) unasked blocks = message_verdict r waits
+            ∙ blocks_held (facts_of c run h r) w hold blocks (λ main. ap (λ x. is_asked (Held x) w) (sym main) ∙ unasked)
         by_grip (Turn k) unasked takes = absurd (true≢false unasked)
         by_grip Loose unasked is = absurd (true≢false unasked)
 
     pub nobody_first : ((r : ℕ) → has q.ready.heap r ≡ false) → IsFirst (is_waiting h) give (arrivals h) None
     nobody_first none r less waits = held_none r less waits (λ p is low. true≢false (sym is ∙ none p))
 
-    pub ready_first : (r : ℕ) (v : Verdict) → ((p : ℕ) → has q.ready.heap p ≡ true → r ≤ p) → is_waiting h r ≡ true → looked (facts_of c run h r) w ≡ looks.Go v → IsFirst (is_waiting h) give (arrivals h) (Some (r, v))
+    pub ready_first : (r : ℕ) (v : Verdict) → ((p : ℕ) → has q.ready.heap p ≡ true → r ≤ p) → is_waiting h r ≡ true → looked (facts_of c run h r) w ≡ looks.Go v
+        → IsFirst (is_waiting h) give (arrivals h) (Some (r, v))
     ready_first r v least waits goes = (
       waiting_arrived r waits,
       waits,
@@ -116,10 +123,12 @@ module _ (c : Config) (run : ℕ) (h : List Entry) (w : ℕ) where
     placed : (r : ℕ) → r < arrivals h → is_waiting_line h r ≡ true → (i : ℕ) × (i < length items) × (slice_index_or items i 0 ≡ r)
     placed r low is = in_get r items (subst (λ xs. In r xs) (sym are) (kept_in (is_waiting_line h) r (below (arrivals h)) (below_in r (arrivals h) low) is))
 
-    pub lines_held : (n : ℕ) → length items ≤ n → ((j : ℕ) → j < n → give (slice_index_or items j 0) ≡ None) → IsFirst (is_waiting_line h) give (arrivals h) None
+    pub lines_held : (n : ℕ) → length items ≤ n → ((j : ℕ) → j < n → give (slice_index_or items j 0) ≡ None)
+        → IsFirst (is_waiting_line h) give (arrivals h) None
     lines_held n high none r low is = (let (i, less, at) = placed r low is in ap give (sym at) ∙ none i (omega (arith, less, high)))
 
-    pub line_first : (i : ℕ) (v : Verdict) → i < length items → ((j : ℕ) → j < i → give (slice_index_or items j 0) ≡ None) → give (slice_index_or items i 0) ≡ Some v → IsFirst (is_waiting_line h) give (arrivals h) (Some (slice_index_or items i 0, v))
+    pub line_first : (i : ℕ) (v : Verdict) → i < length items → ((j : ℕ) → j < i → give (slice_index_or items j 0) ≡ None)
+        → give (slice_index_or items i 0) ≡ Some v → IsFirst (is_waiting_line h) give (arrivals h) (Some (slice_index_or items i 0, v))
     line_first i v low none goes =
         let r = slice_index_or items i 0 in
         let kept = in_kept (is_waiting_line h) r (below (arrivals h)) (subst (λ xs. In r xs) are (got items i low)) in (
@@ -129,7 +138,9 @@ module _ (c : Config) (run : ℕ) (h : List Entry) (w : ℕ) where
           λ p less is. (let (j, within, at) = placed p (let top = in_below r (arrivals h) kept.0 in omega (arith, less, top)) is in
               elim (cases_lt j i) [
                 | inl before ↦ ap give (sym at) ∙ none j before
-                | inr behind ↦ absurd (let up = rises items (subst Ascends (sym are) (ascending (is_waiting_line h) (arrivals h))) i j behind within in omega (arith, up, at, less))
+                | inr behind ↦
+                    absurd (let up = rises items (subst Ascends (sym are) (ascending (is_waiting_line h) (arrivals h))) i j behind within in
+                    omega (arith, up, at, less))
               ]),
         )
       where
@@ -148,17 +159,22 @@ module _ (c : Config) (run : ℕ) (h : List Entry) (w : ℕ) where
 
   first_of : (found : Option (ℕ × Verdict)) → IsFirst (is_unadmitted h) give (arrivals h) found → admission c run h w ≡ option_map (λ a. Admit w a.0 a.1) found
   first_of None none =
-      given_none (admission_of c run h w) (arrivals h) (λ r low. cond_both (is_unadmitted h r) (option_map (λ v. Admit w r v) (give r)) None (λ o. o ≡ None) (λ is. ap (λ o. option_map (λ v. Admit w r v) o) (none r low is)) (λ _. refl))
+      given_none (admission_of c run h w) (arrivals h)
+      (λ r low. cond_both (is_unadmitted h r) (option_map (λ v. Admit w r v) (give r)) None (λ o. o ≡ None)
+      (λ is. ap (λ o. option_map (λ v. Admit w r v) o) (none r low is)) (λ _. refl))
   first_of (Some a) first =
       given_first (admission_of c run h w) (arrivals h) a.0 (Admit w a.0 a.1) first.0
       (ap₂ (λ b o. if b then option_map (λ v. Admit w a.0 v) o else None) first.1 first.2)
-      (λ r low. cond_both (is_unadmitted h r) (option_map (λ v. Admit w r v) (give r)) None (λ o. o ≡ None) (λ is. ap (λ o. option_map (λ v. Admit w r v) o) (first.3 r low is)) (λ _. refl))
+      (λ r low. cond_both (is_unadmitted h r) (option_map (λ v. Admit w r v) (give r)) None (λ o. o ≡ None)
+      (λ is. ap (λ o. option_map (λ v. Admit w r v) o) (first.3 r low is)) (λ _. refl))
 
   -- the earlier of the first line and the first request or locate is admitted
-  pub admission_is : (a b : Option (ℕ × Verdict)) → IsFirst (is_waiting_line h) give (arrivals h) a → IsFirst (is_waiting h) give (arrivals h) b → admission c run h w ≡ option_map (λ x. Admit w x.0 x.1) (earlier a b)
+  pub admission_is : (a b : Option (ℕ × Verdict)) → IsFirst (is_waiting_line h) give (arrivals h) a → IsFirst (is_waiting h) give (arrivals h) b
+      → admission c run h w ≡ option_map (λ x. Admit w x.0 x.1) (earlier a b)
   admission_is a b first second =
       first_of (earlier a b) (earlier_first (is_waiting_line h) (is_waiting h) (is_unadmitted h) give (arrivals h) kinds
-      (λ r is. (and_parts (is_unadmitted h r) (not (is_message (call_of h r))) is).0) (λ r is. (and_parts (is_unadmitted h r) (is_message (call_of h r)) is).0) a b first second)
+      (λ r is. (and_parts (is_unadmitted h r) (not (is_message (call_of h r))) is).0)
+      (λ r is. (and_parts (is_unadmitted h r) (is_message (call_of h r)) is).0) a b first second)
 
 -- what a look at a call that may not wait tells
 pub looked_waits : (b : Bool) (x : Look) (o : Option Look) (l : Look) → o ≡ (if b then Some x else None) → o ≡ Some l → (b ≡ true) × (x ≡ l)

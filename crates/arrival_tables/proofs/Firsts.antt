@@ -10,7 +10,8 @@ pub given_none : {A : Type 0} (give : ℕ → Option A) (n : ℕ) → ((r : ℕ)
 given_none give zero none = refl
 given_none give (suc n) none = ap₂ option_or (given_none give n (λ r low. none r (omega (arith, low)))) (none n (omega arith))
 
-pub given_first : {A : Type 0} (give : ℕ → Option A) (n r : ℕ) (x : A) → r < n → give r ≡ Some x → ((q : ℕ) → q < r → give q ≡ None) → first_given give n ≡ Some x
+pub given_first : {A : Type 0} (give : ℕ → Option A) (n r : ℕ) (x : A) → r < n → give r ≡ Some x → ((q : ℕ) → q < r → give q ≡ None)
+    → first_given give n ≡ Some x
 given_first give zero r x low is before = absurd (omega (arith, low))
 given_first give (suc n) r x low is before =
     elim (cases_eq r n) [
@@ -22,7 +23,8 @@ given_first give (suc n) r x low is before =
     below low' other = omega (arith, low', other)
 
 -- the earlier of the first of two kinds is the first of both
-module _ {A : Type 0} (one other both : ℕ → Bool) (give : ℕ → Option A) (n : ℕ) (parts : (r : ℕ) → both r ≡ true → (one r ≡ true) ⊎ (other r ≡ true)) (left : (r : ℕ) → one r ≡ true → both r ≡ true) (right : (r : ℕ) → other r ≡ true → both r ≡ true) where
+module _ {A : Type 0} (one other both : ℕ → Bool) (give : ℕ → Option A) (n : ℕ) (parts : (r : ℕ) → both r ≡ true → (one r ≡ true) ⊎ (other r ≡ true))
+    (left : (r : ℕ) → one r ≡ true → both r ≡ true) (right : (r : ℕ) → other r ≡ true → both r ≡ true) where
   pub earlier_first : (a b : Option (ℕ × A)) → IsFirst one give n a → IsFirst other give n b → IsFirst both give n (earlier a b)
   earlier_first None None first second = λ r low is. elim (parts r is) [ inl x ↦ first r low x | inr x ↦ second r low x ]
   earlier_first None (Some b) first second =

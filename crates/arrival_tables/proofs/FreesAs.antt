@@ -12,7 +12,8 @@ use Rattle.history_holds.specs.declared.freed.Freed.{Freed}
 use Rattle.history_holds.specs.Frees.{etherealizing}
 use Rattle.standing_queries.specs.Answers.{AnswersAs, works_on}
 
-etherealizing_at : (c : Config) (run : ℕ) (h : List Entry) (t : Standing) → AnswersAs c run h t → (w : ℕ) (b : Stage) → stage h w ≡ b → etherealizing t b ≡ etherealizing (standing c run h) b
+etherealizing_at : (c : Config) (run : ℕ) (h : List Entry) (t : Standing) → AnswersAs c run h t → (w : ℕ) (b : Stage) → stage h w ≡ b
+    → etherealizing t b ≡ etherealizing (standing c run h) b
 etherealizing_at c run h t a w (Removing n) is =
     ap (λ o. let f : Freed = record { all = false; landed = None; changed = option_map (λ x. x.adapter) o; moved = Some n } in f)
     (a.worked w n (ap works_on is))
@@ -22,5 +23,6 @@ etherealizing_at c run h t a w (Incarnating r n) is = refl
 etherealizing_at c run h t a w (Serving r) is = refl
 etherealizing_at c run h t a w (Ran r) is = refl
 
-pub etherealizing_kept : (c : Config) (run : ℕ) (h : List Entry) (t : Standing) → AnswersAs c run h t → (w : ℕ) → etherealizing t (stage h w) ≡ etherealizing (standing c run h) (stage h w)
+pub etherealizing_kept : (c : Config) (run : ℕ) (h : List Entry) (t : Standing) → AnswersAs c run h t → (w : ℕ)
+    → etherealizing t (stage h w) ≡ etherealizing (standing c run h) (stage h w)
 etherealizing_kept c run h t a w = etherealizing_at c run h t a w (stage h w) refl

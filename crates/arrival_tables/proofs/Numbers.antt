@@ -21,7 +21,8 @@ pub same_below : (p q : ℕ → Bool) (n : ℕ) → ((k : ℕ) → k < n → p k
 same_below p q zero same = refl
 same_below p q (suc n) same =
     filter-append p (below n) (n ∷ [])
-    ∙ (ap₂ (λ xs b. xs ++ cond b (n ∷ []) []) (same_below p q n (λ k less. same k (omega (arith, less)))) (same n (omega arith)) ∙ sym (filter-append q (below n) (n ∷ [])))
+    ∙ (ap₂ (λ xs b. xs ++ cond b (n ∷ []) []) (same_below p q n (λ k less. same k (omega (arith, less)))) (same n (omega arith))
+    ∙ sym (filter-append q (below n) (n ∷ [])))
 
 -- a number less
 pub one_less : (p q : ℕ → Bool) (n r : ℕ) → ((k : ℕ) → k < n → q k ≡ (p k && not (k == r))) → filter q (below n) ≡ without r (filter p (below n))
@@ -33,7 +34,8 @@ all_pass p [] pass = refl
 all_pass p (x ∷ xs) pass = ap₂ (λ b ys. cond b (x ∷ ys) ys) (pass x (inl refl)) (all_pass p xs (λ y is. pass y (inr is)))
 
 less_kept : (p : ℕ → Bool) (n r : ℕ) → n ≤ r → filter (λ x. nat_lt x r) (filter p (below n)) ≡ filter p (below n)
-less_kept p n r low = all_pass (λ x. nat_lt x r) (filter p (below n)) (λ x is. lt-ltb x r (let less = in_below x n (in_kept p x (below n) is).0 in omega (arith, less, low)))
+less_kept p n r low =
+    all_pass (λ x. nat_lt x r) (filter p (below n)) (λ x is. lt-ltb x r (let less = in_below x n (in_kept p x (below n) is).0 in omega (arith, less, low)))
 
 insert_end : (xs : List ℕ) (r : ℕ) → insert xs (length xs) r ≡ xs ++ r ∷ []
 insert_end [] r = refl
@@ -46,18 +48,24 @@ insert_more (x ∷ xs) ys (suc i) r low = ap (λ zs. x ∷ zs) (insert_more xs y
 
 pub kept_length : (p : ℕ → Bool) (xs : List ℕ) → length (filter p xs) ≤ length xs
 kept_length p [] = omega arith
-kept_length p (x ∷ xs) = (let more = kept_length p xs in cond_both (p x) (x ∷ filter p xs) (filter p xs) (λ ys. length ys ≤ suc (length xs)) (λ _. omega (arith, more)) (λ _. omega (arith, more)))
+kept_length p (x ∷ xs) =
+    (let more = kept_length p xs in
+    cond_both (p x) (x ∷ filter p xs) (filter p xs) (λ ys. length ys ≤ suc (length xs)) (λ _. omega (arith, more)) (λ _. omega (arith, more)))
 
 -- one that isn't less is put in no other place
 insert_high : (xs : List ℕ) (k r : ℕ) → r ≤ k → inserted r (xs ++ k ∷ []) ≡ inserted r xs ++ k ∷ []
 insert_high xs k r high =
-    ap (λ m. insert (xs ++ k ∷ []) m r) (ap length (filter-append (λ x. nat_lt x r) xs (k ∷ []) ∙ (ap (λ b. filter (λ x. nat_lt x r) xs ++ cond b (k ∷ []) []) not_less ∙ append-nil (filter (λ x. nat_lt x r) xs))))
+    ap (λ m. insert (xs ++ k ∷ []) m r)
+    (ap length
+    (filter-append (λ x. nat_lt x r) xs (k ∷ [])
+    ∙ (ap (λ b. filter (λ x. nat_lt x r) xs ++ cond b (k ∷ []) []) not_less ∙ append-nil (filter (λ x. nat_lt x r) xs))))
     ∙ insert_more xs (k ∷ []) (length (filter (λ x. nat_lt x r) xs)) r (kept_length (λ x. nat_lt x r) xs)
   where
     not_less : nat_lt k r ≡ false
     not_less = false_from_ne_true (nat_lt k r) (λ less. (let low = ltb-true k r less in omega (arith, low, high)))
 
-pub one_more : (p q : ℕ → Bool) (n r : ℕ) → r < n → p r ≡ false → q r ≡ true → ((k : ℕ) → k < n → (k ≡ r → ⊥) → q k ≡ p k) → filter q (below n) ≡ inserted r (filter p (below n))
+pub one_more : (p q : ℕ → Bool) (n r : ℕ) → r < n → p r ≡ false → q r ≡ true → ((k : ℕ) → k < n → (k ≡ r → ⊥) → q k ≡ p k)
+    → filter q (below n) ≡ inserted r (filter p (below n))
 one_more p q zero r less out in_ same = absurd (omega (arith, less))
 one_more p q (suc n) r less out in_ same =
     elim (cases_Bool (r == n)) [
@@ -75,11 +83,14 @@ one_more p q (suc n) r less out in_ same =
     last : r ≡ n → filter q (below (suc n)) ≡ inserted r (filter p (below (suc n)))
     last at =
         filter-append q (below n) (n ∷ [])
-        ∙ (ap₂ (λ xs b. xs ++ cond b (n ∷ []) []) (same_below q p n (λ k low. same k (omega (arith, low)) (λ is. (let e : k ≡ r = is in omega (arith, e, at, low))))) (ap q (sym at) ∙ in_)
+        ∙ (ap₂ (λ xs b. xs ++ cond b (n ∷ []) [])
+        (same_below q p n (λ k low. same k (omega (arith, low)) (λ is. (let e : k ≡ r = is in omega (arith, e, at, low))))) (ap q (sym at) ∙ in_)
         ∙ (ap (λ x. filter p (below n) ++ x ∷ []) (sym at)
         ∙ (sym (insert_end (filter p (below n)) r)
         ∙ (ap (λ xs. insert (filter p (below n)) (length xs) r) (sym (less_kept p n r (omega (arith, at))))
-        ∙ ap (inserted r) (sym (filter-append p (below n) (n ∷ []) ∙ (ap (λ b. filter p (below n) ++ cond b (n ∷ []) []) (ap p (sym at) ∙ out) ∙ append-nil (filter p (below n)))))))))
+        ∙ ap (inserted r)
+        (sym (filter-append p (below n) (n ∷ [])
+        ∙ (ap (λ b. filter p (below n) ++ cond b (n ∷ []) []) (ap p (sym at) ∙ out) ∙ append-nil (filter p (below n)))))))))
 
     before : filter q (below n) ≡ inserted r (filter p (below n)) → r < n → filter q (below (suc n)) ≡ inserted r (filter p (below (suc n)))
     before so_far low =
@@ -103,11 +114,13 @@ or_none : {A : Type 0} (a : Option A) → option_or a None ≡ a
 or_none None = refl
 or_none (Some x) = refl
 
-pub first_kept : {A : Type 0} (p : ℕ → Bool) (give : ℕ → Option A) (n : ℕ) → first_given (λ r. if p r then give r else None) n ≡ first_in give (filter p (below n))
+pub first_kept : {A : Type 0} (p : ℕ → Bool) (give : ℕ → Option A) (n : ℕ)
+    → first_given (λ r. if p r then give r else None) n ≡ first_in give (filter p (below n))
 first_kept p give zero = refl
 first_kept p give (suc n) =
     ap (λ o. option_or o (if p n then give n else None)) (first_kept p give n)
-    ∙ (cond_both (p n) (n ∷ []) [] (λ ys. option_or (first_in give (filter p (below n))) (if p n then give n else None) ≡ option_or (first_in give (filter p (below n))) (first_in give ys))
+    ∙ (cond_both (p n) (n ∷ []) []
+    (λ ys. option_or (first_in give (filter p (below n))) (if p n then give n else None) ≡ option_or (first_in give (filter p (below n))) (first_in give ys))
     (λ passes. ap (option_or (first_in give (filter p (below n)))) (ap (λ b. if b then give n else None) passes ∙ sym (or_none (give n))))
     (λ fails. ap (option_or (first_in give (filter p (below n)))) (ap (λ b. if b then give n else None) fails))
     ∙ sym (ap (first_in give) (filter-append p (below n) (n ∷ [])) ∙ first_append give (filter p (below n)) (cond (p n) (n ∷ []) [])))

@@ -54,7 +54,8 @@ conn_beyond (Abandon w ∷ past) r beyond = conn_beyond past r beyond
 -- the connection of an earlier call stays what it is
 conn_kept : (e : Entry) (past : List Entry) (r : ℕ) → r < arrivals past → conn_of (e ∷ past) r ≡ conn_of past r
 conn_kept (Arrive conn size call) past r less =
-    cond_both (r == arrivals past) (Some conn) (conn_of past r) (λ o. o ≡ conn_of past r) (λ same. absurd (let e : r ≡ arrivals past = eqb-true r (arrivals past) same in omega (arith, e, less))) (λ _. refl)
+    cond_both (r == arrivals past) (Some conn) (conn_of past r) (λ o. o ≡ conn_of past r)
+    (λ same. absurd (let e : r ≡ arrivals past = eqb-true r (arrivals past) same in omega (arith, e, less))) (λ _. refl)
 conn_kept (Entered conn) past r less = refl
 conn_kept (Filled conn size) past r less = refl
 conn_kept (Left conn) past r less = refl
@@ -70,14 +71,16 @@ conn_kept (Abandon w) past r less = refl
 
 -- what the table tells of each call
 module _ (h : List Entry) (places : List ℕ) (knows : KnowsCalls h places) (r : ℕ) where
-  told : {A : Type 0} (read : Option Entry → Option A) (is : Option A) → ((place : ℕ) → IsPlaceOf h r place → read (slice_get (reverse h) place) ≡ is) → (arrivals h ≤ r → is ≡ read None) → read (entry_of (reverse h) places r) ≡ is
+  told : {A : Type 0} (read : Option Entry → Option A) (is : Option A) → ((place : ℕ) → IsPlaceOf h r place → read (slice_get (reverse h) place) ≡ is)
+      → (arrivals h ≤ r → is ≡ read None) → read (entry_of (reverse h) places r) ≡ is
   told read is within beyond =
       elim (cases_Bool (nat_lt r (arrivals h))) [
         | inl low ↦ (let found = knows.placed r (ltb-true r (arrivals h) low) in
             ap (λ o. read (elim o [ Some place ↦ slice_get (reverse h) place | None ↦ None ])) found.1 ∙ within found.0 found.2)
         | inr high ↦ (let above = ltb-false r (arrivals h) high in
             let long = knows.counted in
-            ap (λ o. read (elim o [ Some place ↦ slice_get (reverse h) place | None ↦ None ])) (slice_get_past places r (omega (arith, above, long))) ∙ sym (beyond above))
+            ap (λ o. read (elim o [ Some place ↦ slice_get (reverse h) place | None ↦ None ])) (slice_get_past places r (omega (arith, above, long)))
+            ∙ sym (beyond above))
       ]
 
   pub call_told : call_in (entry_of (reverse h) places r) ≡ call_of h r
@@ -126,16 +129,22 @@ pub calls_kept : (e : Entry) (h : List Entry) (places : List ℕ) → arrives e 
 calls_kept e h places other knows =
     record {
       counted = knows.counted ∙ sym (same_arrivals e h other);
-      placed = λ r less. (let low : r < arrivals h = subst (λ n. r < n) (same_arrivals e h other) less in let found = knows.placed r low in (found.0, found.1, place_kept e h r found.0 low found.2));
+      placed =
+          λ r less.
+          (let low : r < arrivals h = subst (λ n. r < n) (same_arrivals e h other) less in let found = knows.placed r low in
+          (found.0, found.1, place_kept e h r found.0 low found.2));
     }
 
-pub calls_more : (conn size : ℕ) (call : Call) (h : List Entry) (places : List ℕ) → KnowsCalls h places → KnowsCalls (Arrive conn size call ∷ h) (places ++ length h ∷ [])
+pub calls_more : (conn size : ℕ) (call : Call) (h : List Entry) (places : List ℕ) → KnowsCalls h places
+    → KnowsCalls (Arrive conn size call ∷ h) (places ++ length h ∷ [])
 calls_more conn size call h places knows =
     record {
       counted = (let long = knows.counted in let more = length-append places (length h ∷ []) in omega (arith, long, more));
       placed = λ r less. elim (cases_Bool (r == arrivals h)) [
         | inl same ↦ newest r (eqb-true r (arrivals h) same)
-        | inr other ↦ (let low = lower r less other in let found = knows.placed r low in (found.0, get_front places (length h ∷ []) r found.0 found.1, place_kept (Arrive conn size call) h r found.0 low found.2))
+        | inr other ↦
+            (let low = lower r less other in let found = knows.placed r low in
+            (found.0, get_front places (length h ∷ []) r found.0 found.1, place_kept (Arrive conn size call) h r found.0 low found.2))
       ];
     }
   where
@@ -154,7 +163,8 @@ calls_more conn size call h places knows =
         conn = conn;
         size = size;
         call = call;
-        there = ap (λ es. slice_get es (length h)) (reverse-append (Arrive conn size call ∷ []) h) ∙ (ap (slice_get (reverse h ++ Arrive conn size call ∷ [])) (sym (length-reverse h)) ∙ get_end (reverse h) (Arrive conn size call));
+        there = ap (λ es. slice_get es (length h)) (reverse-append (Arrive conn size call ∷ []) h)
+            ∙ (ap (slice_get (reverse h ++ Arrive conn size call ∷ [])) (sym (length-reverse h)) ∙ get_end (reverse h) (Arrive conn size call));
         call_is = ap (λ b. if b then Some call else call_of h r) (eq-eqb r (arrivals h) same);
         conn_is = ap (λ b. if b then Some conn else conn_of h r) (eq-eqb r (arrivals h) same);
       },

@@ -32,7 +32,8 @@ use Rattle.arrival_tables.proofs.Numbers.{same_below, one_less, one_more, any_ke
 use Rattle.arrival_tables.proofs.Placing.{call_beyond}
 
 -- the newest number passes, or not
-newest : (p q : ℕ → Bool) (n : ℕ) (b : Bool) → ((k : ℕ) → k < n → q k ≡ p k) → q n ≡ b → filter q (below (suc n)) ≡ (if b then filter p (below n) ++ n ∷ [] else filter p (below n))
+newest : (p q : ℕ → Bool) (n : ℕ) (b : Bool) → ((k : ℕ) → k < n → q k ≡ p k) → q n ≡ b
+    → filter q (below (suc n)) ≡ (if b then filter p (below n) ++ n ∷ [] else filter p (below n))
 newest p q n b same is =
     filter-append q (below n) (n ∷ [])
     ∙ (ap₂ (λ xs x. xs ++ cond x (n ∷ []) []) (same_below q p n same) is
@@ -59,10 +60,16 @@ pub arrived : (conn size : ℕ) (call : Call) (past : List Entry) (old new : Que
     → IsQueue (Arrive conn size call ∷ past) new
 arrived conn size call past old new is unadmitted messages lines crowded =
     record {
-      unadmitted_are = unadmitted ∙ (ap (λ xs. xs ++ arrivals past ∷ []) is.unadmitted_are ∙ sym (newest (is_unadmitted past) (is_unadmitted past) (arrivals past) true (λ k less. refl) waits));
+      unadmitted_are =
+          unadmitted
+          ∙ (ap (λ xs. xs ++ arrivals past ∷ []) is.unadmitted_are
+          ∙ sym (newest (is_unadmitted past) (is_unadmitted past) (arrivals past) true (λ k less. refl) waits));
       messages_are = messages ∙ grown is_message old.messages.items is.messages_are;
       lines_are = lines ∙ grown (λ o. not (is_message o)) old.lines.items is.lines_are;
-      crowded_are = crowded ∙ (ap₂ (λ m xs. if nat_le 65536 m then xs ++ arrivals past ∷ [] else xs) (ap length is.messages_are ∙ sym (counted (is_waiting past) (arrivals past))) is.crowded_are
+      crowded_are =
+          crowded ∙
+          (ap₂ (λ m xs. if nat_le 65536 m then xs ++ arrivals past ∷ [] else xs)
+          (ap length is.messages_are ∙ sym (counted (is_waiting past) (arrivals past))) is.crowded_are
           ∙ sym (newest (is_crowded past) (is_crowded (Arrive conn size call ∷ past)) (arrivals past) (nat_le 65536 (waiting_messages past))
           (λ k less. not_own k (arrivals past) (nat_le 65536 (waiting_messages past)) (is_crowded past k) less)
           (own (arrivals past) (nat_le 65536 (waiting_messages past)) (is_crowded past (arrivals past)))));
@@ -73,7 +80,8 @@ arrived conn size call past old new is unadmitted messages lines crowded =
     waits = ap is_none (is.later (arrivals past) (omega arith))
 
     grown : (kind : Option Call → Bool) (items : List ℕ) → items ≡ filter (waits_as kind past) (below (arrivals past))
-        → (if kind (Some call) then items ++ arrivals past ∷ [] else items) ≡ filter (waits_as kind (Arrive conn size call ∷ past)) (below (suc (arrivals past)))
+        → (if kind (Some call) then items ++ arrivals past ∷ [] else items) ≡ filter (waits_as kind (Arrive conn size call ∷ past))
+        (below (suc (arrivals past)))
     grown kind items are =
         ap (λ xs. if kind (Some call) then xs ++ arrivals past ∷ [] else xs) are
         ∙ sym (newest (waits_as kind past) (waits_as kind (Arrive conn size call ∷ past)) (arrivals past) (kind (Some call))
@@ -105,12 +113,17 @@ swapped true false true = refl
 swapped true false false = refl
 swapped false b m = refl
 
-pub admits : (c : Config) (run limit : ℕ) (past : List Entry) (w r : ℕ) (v : Verdict) (old new : Queue) → MayFollow c run limit past (Admit w r v) → IsQueue past old
-    → new.unadmitted.items ≡ without r old.unadmitted.items → new.messages.items ≡ without r old.messages.items → new.lines.items ≡ without r old.lines.items → new.crowded.items ≡ old.crowded.items
+pub admits : (c : Config) (run limit : ℕ) (past : List Entry) (w r : ℕ) (v : Verdict) (old new : Queue) → MayFollow c run limit past (Admit w r v)
+    → IsQueue past old
+    → new.unadmitted.items ≡ without r old.unadmitted.items → new.messages.items ≡ without r old.messages.items → new.lines.items ≡ without r old.lines.items
+    → new.crowded.items ≡ old.crowded.items
     → IsQueue (Admit w r v ∷ past) new
 admits c run limit past w r v old new may is unadmitted messages lines crowded =
     record {
-      unadmitted_are = unadmitted ∙ (ap (without r) is.unadmitted_are ∙ sym (one_less (is_unadmitted past) (is_unadmitted (Admit w r v ∷ past)) (arrivals past) r (λ k less. taken k r v (admitted past k))));
+      unadmitted_are =
+          unadmitted
+          ∙ (ap (without r) is.unadmitted_are ∙ sym
+          (one_less (is_unadmitted past) (is_unadmitted (Admit w r v ∷ past)) (arrivals past) r (λ k less. taken k r v (admitted past k))));
       messages_are = messages ∙ (ap (without r) is.messages_are ∙ fewer is_message);
       lines_are = lines ∙ (ap (without r) is.lines_are ∙ fewer (λ o. not (is_message o)));
       crowded_are = crowded ∙ is.crowded_are;
@@ -119,9 +132,11 @@ admits c run limit past w r v old new may is unadmitted messages lines crowded =
           (λ _. is.later k above);
     }
   where
-    fewer : (kind : Option Call → Bool) → without r (filter (waits_as kind past) (below (arrivals past))) ≡ filter (waits_as kind (Admit w r v ∷ past)) (below (arrivals past))
+    fewer : (kind : Option Call → Bool) → without r (filter (waits_as kind past) (below (arrivals past))) ≡ filter (waits_as kind (Admit w r v ∷ past))
+        (below (arrivals past))
     fewer kind = sym (one_less (waits_as kind past) (waits_as kind (Admit w r v ∷ past)) (arrivals past) r
-        (λ k less. ap (λ b. b && kind (call_of past k)) (taken k r v (admitted past k)) ∙ swapped (is_none (admitted past k)) (not (k == r)) (kind (call_of past k))))
+        (λ k less. ap (λ b. b && kind (call_of past k)) (taken k r v (admitted past k))
+        ∙ swapped (is_none (admitted past k)) (not (k == r)) (kind (call_of past k))))
 
 -- an arrival goes back to its place
 pub put_back : (c : Config) (run : ℕ) (past : List Entry) (w n r : ℕ) (old new : Queue) → IsManned c run past → stage past w ≡ Trying r → IsQueue past old
@@ -132,7 +147,11 @@ pub put_back : (c : Config) (run : ℕ) (past : List Entry) (w n r : ℕ) (old n
     → IsQueue (Tried w (Yes n) ∷ past) new
 put_back c run past w n r old new manned trying is unadmitted messages lines crowded =
     record {
-      unadmitted_are = unadmitted ∙ (ap (inserted r) is.unadmitted_are ∙ sym (one_more (is_unadmitted past) (is_unadmitted (Tried w (Yes n) ∷ past)) (arrivals past) r low (ap is_none by) back (λ k less apart. ap is_none (stays k apart))));
+      unadmitted_are =
+          unadmitted
+          ∙ (ap (inserted r) is.unadmitted_are ∙ sym
+          (one_more (is_unadmitted past) (is_unadmitted (Tried w (Yes n) ∷ past)) (arrivals past) r low (ap is_none by) back
+          (λ k less apart. ap is_none (stays k apart))));
       messages_are = messages ∙ (ap (λ xs. if is_message (call_of past r) then inserted r xs else xs) is.messages_are ∙ sym (waiting is_message));
       lines_are = lines ∙ (ap (λ xs. if not (is_message (call_of past r)) then inserted r xs else xs) is.lines_are ∙ sym (waiting (λ o. not (is_message o))));
       crowded_are = crowded ∙ is.crowded_are;
@@ -161,14 +180,19 @@ put_back c run past w n r old new manned trying is unadmitted messages lines cro
     waits : (kind : Option Call → Bool) (k : ℕ) → (k ≡ r → ⊥) → waits_as kind (Tried w (Yes n) ∷ past) k ≡ waits_as kind past k
     waits kind k apart = ap (λ o. is_none o && kind (call_of past k)) (stays k apart)
 
-    waiting : (kind : Option Call → Bool) → filter (waits_as kind (Tried w (Yes n) ∷ past)) (below (arrivals past)) ≡ (if kind (call_of past r) then inserted r (filter (waits_as kind past) (below (arrivals past))) else filter (waits_as kind past) (below (arrivals past)))
+    waiting : (kind : Option Call → Bool) → filter (waits_as kind (Tried w (Yes n) ∷ past)) (below (arrivals past)) ≡
+        (if kind (call_of past r) then inserted r (filter (waits_as kind past) (below (arrivals past))) else filter (waits_as kind past)
+        (below (arrivals past)))
     waiting kind =
-        cond_both (kind (call_of past r)) (inserted r (filter (waits_as kind past) (below (arrivals past)))) (filter (waits_as kind past) (below (arrivals past))) (λ ys. filter (waits_as kind (Tried w (Yes n) ∷ past)) (below (arrivals past)) ≡ ys)
-        (λ passes. one_more (waits_as kind past) (waits_as kind (Tried w (Yes n) ∷ past)) (arrivals past) r low (ap (λ o. is_none o && kind (call_of past r)) by) (ap₂ (λ a b. a && b) back passes) (λ k less apart. waits kind k apart))
+        cond_both (kind (call_of past r)) (inserted r (filter (waits_as kind past) (below (arrivals past))))
+        (filter (waits_as kind past) (below (arrivals past))) (λ ys. filter (waits_as kind (Tried w (Yes n) ∷ past)) (below (arrivals past)) ≡ ys)
+        (λ passes. one_more (waits_as kind past) (waits_as kind (Tried w (Yes n) ∷ past)) (arrivals past) r low
+        (ap (λ o. is_none o && kind (call_of past r)) by) (ap₂ (λ a b. a && b) back passes) (λ k less apart. waits kind k apart))
         (λ fails. same_below (waits_as kind (Tried w (Yes n) ∷ past)) (waits_as kind past) (arrivals past) (λ k less. elim (cases_Bool (k == r)) [
           | inl same ↦ (let at : k ≡ r = eqb-true k r same in
               let none : kind (call_of past k) ≡ false = ap (λ x. kind (call_of past x)) at ∙ fails in
-              ap (λ b. is_unadmitted (Tried w (Yes n) ∷ past) k && b) none ∙ (last (is_unadmitted (Tried w (Yes n) ∷ past) k) ∙ sym (ap (λ b. is_unadmitted past k && b) none ∙ last (is_unadmitted past k))))
+              ap (λ b. is_unadmitted (Tried w (Yes n) ∷ past) k && b) none
+              ∙ (last (is_unadmitted (Tried w (Yes n) ∷ past) k) ∙ sym (ap (λ b. is_unadmitted past k && b) none ∙ last (is_unadmitted past k))))
           | inr other ↦ waits kind k (λ at. true≢false (sym (eq-eqb k r at) ∙ other))
         ]))
 
@@ -183,21 +207,35 @@ pub kept : (e : Entry) (past : List Entry) (q : Queue) → changes_queue e ≡ f
 kept (Arrive conn size call) past q other is = absurd (true≢false other)
 kept (Admit w r v) past q other is = absurd (true≢false other)
 kept (Tried w (Yes n)) past q other is = absurd (true≢false other)
-kept (Tried w No) past q other is = record { unadmitted_are = is.unadmitted_are; messages_are = is.messages_are; lines_are = is.lines_are; crowded_are = is.crowded_are; later = is.later }
-kept (Tried w Raised) past q other is = record { unadmitted_are = is.unadmitted_are; messages_are = is.messages_are; lines_are = is.lines_are; crowded_are = is.crowded_are; later = is.later }
-kept (Tried w Dying) past q other is = record { unadmitted_are = is.unadmitted_are; messages_are = is.messages_are; lines_are = is.lines_are; crowded_are = is.crowded_are; later = is.later }
-kept (Entered conn) past q other is = record { unadmitted_are = is.unadmitted_are; messages_are = is.messages_are; lines_are = is.lines_are; crowded_are = is.crowded_are; later = is.later }
-kept (Filled conn size) past q other is = record { unadmitted_are = is.unadmitted_are; messages_are = is.messages_are; lines_are = is.lines_are; crowded_are = is.crowded_are; later = is.later }
-kept (Left conn) past q other is = record { unadmitted_are = is.unadmitted_are; messages_are = is.messages_are; lines_are = is.lines_are; crowded_are = is.crowded_are; later = is.later }
-kept (Collect conn a) past q other is = record { unadmitted_are = is.unadmitted_are; messages_are = is.messages_are; lines_are = is.lines_are; crowded_are = is.crowded_are; later = is.later }
-kept (Incarnated w a) past q other is = record { unadmitted_are = is.unadmitted_are; messages_are = is.messages_are; lines_are = is.lines_are; crowded_are = is.crowded_are; later = is.later }
-kept (Run w) past q other is = record { unadmitted_are = is.unadmitted_are; messages_are = is.messages_are; lines_are = is.lines_are; crowded_are = is.crowded_are; later = is.later }
-kept (Done w) past q other is = record { unadmitted_are = is.unadmitted_are; messages_are = is.messages_are; lines_are = is.lines_are; crowded_are = is.crowded_are; later = is.later }
-kept (TakeOut w n x) past q other is = record { unadmitted_are = is.unadmitted_are; messages_are = is.messages_are; lines_are = is.lines_are; crowded_are = is.crowded_are; later = is.later }
-kept (Etherealized w x y) past q other is = record { unadmitted_are = is.unadmitted_are; messages_are = is.messages_are; lines_are = is.lines_are; crowded_are = is.crowded_are; later = is.later }
-kept (Abandon w) past q other is = record { unadmitted_are = is.unadmitted_are; messages_are = is.messages_are; lines_are = is.lines_are; crowded_are = is.crowded_are; later = is.later }
+kept (Tried w No) past q other is =
+    record { unadmitted_are = is.unadmitted_are; messages_are = is.messages_are; lines_are = is.lines_are; crowded_are = is.crowded_are; later = is.later }
+kept (Tried w Raised) past q other is =
+    record { unadmitted_are = is.unadmitted_are; messages_are = is.messages_are; lines_are = is.lines_are; crowded_are = is.crowded_are; later = is.later }
+kept (Tried w Dying) past q other is =
+    record { unadmitted_are = is.unadmitted_are; messages_are = is.messages_are; lines_are = is.lines_are; crowded_are = is.crowded_are; later = is.later }
+kept (Entered conn) past q other is =
+    record { unadmitted_are = is.unadmitted_are; messages_are = is.messages_are; lines_are = is.lines_are; crowded_are = is.crowded_are; later = is.later }
+kept (Filled conn size) past q other is =
+    record { unadmitted_are = is.unadmitted_are; messages_are = is.messages_are; lines_are = is.lines_are; crowded_are = is.crowded_are; later = is.later }
+kept (Left conn) past q other is =
+    record { unadmitted_are = is.unadmitted_are; messages_are = is.messages_are; lines_are = is.lines_are; crowded_are = is.crowded_are; later = is.later }
+kept (Collect conn a) past q other is =
+    record { unadmitted_are = is.unadmitted_are; messages_are = is.messages_are; lines_are = is.lines_are; crowded_are = is.crowded_are; later = is.later }
+kept (Incarnated w a) past q other is =
+    record { unadmitted_are = is.unadmitted_are; messages_are = is.messages_are; lines_are = is.lines_are; crowded_are = is.crowded_are; later = is.later }
+kept (Run w) past q other is =
+    record { unadmitted_are = is.unadmitted_are; messages_are = is.messages_are; lines_are = is.lines_are; crowded_are = is.crowded_are; later = is.later }
+kept (Done w) past q other is =
+    record { unadmitted_are = is.unadmitted_are; messages_are = is.messages_are; lines_are = is.lines_are; crowded_are = is.crowded_are; later = is.later }
+kept (TakeOut w n x) past q other is =
+    record { unadmitted_are = is.unadmitted_are; messages_are = is.messages_are; lines_are = is.lines_are; crowded_are = is.crowded_are; later = is.later }
+kept (Etherealized w x y) past q other is =
+    record { unadmitted_are = is.unadmitted_are; messages_are = is.messages_are; lines_are = is.lines_are; crowded_are = is.crowded_are; later = is.later }
+kept (Abandon w) past q other is =
+    record { unadmitted_are = is.unadmitted_are; messages_are = is.messages_are; lines_are = is.lines_are; crowded_are = is.crowded_are; later = is.later }
 
-pub quiet : (e : Entry) → ((conn size : ℕ) (call : Call) → e ≡ Arrive conn size call → ⊥) → ((w r : ℕ) (v : Verdict) → e ≡ Admit w r v → ⊥) → ((w : ℕ) (a : Attempt) → e ≡ Tried w a → ⊥) → changes_queue e ≡ false
+pub quiet : (e : Entry) → ((conn size : ℕ) (call : Call) → e ≡ Arrive conn size call → ⊥) → ((w r : ℕ) (v : Verdict) → e ≡ Admit w r v → ⊥)
+    → ((w : ℕ) (a : Attempt) → e ≡ Tried w a → ⊥) → changes_queue e ≡ false
 quiet (Arrive conn size call) a b t = absurd (a conn size call refl)
 quiet (Admit w r v) a b t = absurd (b w r v refl)
 quiet (Tried w x) a b t = absurd (t w x refl)

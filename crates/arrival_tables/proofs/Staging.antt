@@ -36,7 +36,8 @@ stages_kept e past stages none are =
       are = λ w less. are.are w less ∙ sym (stage_other e past w (λ made. (let f : None ≡ Some w = sym none ∙ (sym (maker_is e) ∙ made) in cc)));
     }
 
-pub stages_set : (e : Entry) (past : List Entry) (stages : List Stage) (v : ℕ) (next : Stage) → worker_of e ≡ Some v → (v < 16 → next ≡ stage (e ∷ past) v) → AreStages past stages → AreStages (e ∷ past) (slice_set stages v next)
+pub stages_set : (e : Entry) (past : List Entry) (stages : List Stage) (v : ℕ) (next : Stage) → worker_of e ≡ Some v → (v < 16 → next ≡ stage (e ∷ past) v)
+    → AreStages past stages → AreStages (e ∷ past) (slice_set stages v next)
 stages_set e past stages v next by is are =
     record {
       each = length-set stages v next ∙ are.each;
@@ -47,7 +48,8 @@ stages_set e past stages v next by is are =
             let within : v < length stages = omega (arith, low, long) in
             subst (λ x. slice_index_or (slice_set stages v next) x Free ≡ stage (e ∷ past) x) (sym at) (get_or-set_same stages v next Free within ∙ is low))
         | inr other ↦ (let apart : w ≡ v → ⊥ = λ at. true≢false (sym (eq-eqb w v at) ∙ other) in
-            get_or-set_other stages v w next Free apart ∙ (are.are w less ∙ sym (stage_other e past w (λ made. apart (let f : Some v ≡ Some w = sym by ∙ (sym (maker_is e) ∙ made) in cc)))))
+            get_or-set_other stages v w next Free apart
+            ∙ (are.are w less ∙ sym (stage_other e past w (λ made. apart (let f : Some v ≡ Some w = sym by ∙ (sym (maker_is e) ∙ made) in cc)))))
       ];
     }
 
@@ -97,5 +99,6 @@ at_none past (TakeOut v n x) by = absurd (let f : Some v ≡ None = by in cc)
 at_none past (Etherealized v x y) by = absurd (let f : Some v ≡ None = by in cc)
 at_none past (Abandon v) by = refl
 
-pub worker_stage : (c : Config) (run limit : ℕ) (past : List Entry) (e : Entry) (w : ℕ) → worker_of e ≡ Some w → MayFollow c run limit past e → (w < 16) × (stage_at past e ≡ stage past w)
+pub worker_stage : (c : Config) (run limit : ℕ) (past : List Entry) (e : Entry) (w : ℕ) → worker_of e ≡ Some w → MayFollow c run limit past e → (w < 16)
+    × (stage_at past e ≡ stage past w)
 worker_stage c run limit past e w by may = (below_16 c run limit past e may w by, at_worker past e w by)

@@ -25,7 +25,8 @@ one_taken r (x ∷ xs) zero up low same =
     ap₂ (λ b ys. cond (not b) (x ∷ ys) ys) (eq-eqb x r same) (none_taken r xs (λ again. (let less = up.0 r again in omega (arith, less, same))))
 one_taken r (x ∷ xs) (suc i) up low same =
     (let less = up.0 (slice_index_or xs i 0) (at i xs (omega (arith, low))) in
-    ap₂ (λ b ys. cond (not b) (x ∷ ys) ys) (false_from_ne_true (x == r) (λ this. (let e = eqb-true x r this in omega (arith, less, same, e)))) (one_taken r xs i up.1 (omega (arith, low)) same))
+    ap₂ (λ b ys. cond (not b) (x ∷ ys) ys) (false_from_ne_true (x == r) (λ this. (let e = eqb-true x r this in omega (arith, less, same, e))))
+    (one_taken r xs i up.1 (omega (arith, low)) same))
   where
     at : (i : ℕ) (xs : List ℕ) → i < length xs → In (slice_index_or xs i 0) xs
     at i [] low = absurd (omega (arith, low))

@@ -13,4 +13,5 @@ use Rattle.arrival_tables.specs.Told.{history}
 abbrev pub IsAnswer : Known → ℕ → Asked → Type 0
 IsAnswer k w Another = Unit {0}
 IsAnswer k w Nobody = IsFirst (is_waiting (history k)) (λ r. verdict k.config.now k.run (history k) r w) (arrivals (history k)) None
-IsAnswer k w (Ready r v) = IsFirst (is_waiting (history k)) (λ q. verdict k.config.now k.run (history k) q w) (arrivals (history k)) (Some (r, v))
+IsAnswer k w (Ready r v) =
+    IsFirst (is_waiting (history k)) (λ q. verdict k.config.now k.run (history k) q w) (arrivals (history k)) (Some (r, v))

@@ -60,7 +60,8 @@ fn conn_in(entry: Option<&Entry>) -> Option<u32>
 
 /// The call of an arrival.
 pub fn call<'a>(entries: &'a [Entry], calls: &Calls, arrival: u64) -> Option<&'a Call>
-    ensures { KnowsCalls (reverse entries.now) calls.now.places.items → option_copied result ≡ arrived.call_of (reverse entries.now) arrival }
+    ensures { KnowsCalls (reverse entries.now) calls.now.places.items
+        → option_copied result ≡ arrived.call_of (reverse entries.now) arrival }
 {
     call_in(entry_of(entries, &calls.places, arrival))
 }
@@ -74,7 +75,8 @@ pub fn conn(entries: &[Entry], calls: &Calls, arrival: u64) -> Option<u32>
 
 /// The call that an entry admits.
 pub fn call_admitted<'a>(entries: &'a [Entry], calls: &Calls, entry: &Entry) -> Option<&'a Call>
-    ensures { KnowsCalls (reverse entries.now) calls.now.places.items → option_copied result ≡ made.call_admitted (reverse entries.now) entry.now }
+    ensures { KnowsCalls (reverse entries.now) calls.now.places.items
+        → option_copied result ≡ made.call_admitted (reverse entries.now) entry.now }
 {
     match entry {
         Entry::Admit { arrival, .. } => call(entries, calls, *arrival),
@@ -84,7 +86,8 @@ pub fn call_admitted<'a>(entries: &'a [Entry], calls: &Calls, entry: &Entry) -> 
 
 /// The call of an arrival, where there is one.
 fn call_at<'a>(entries: &'a [Entry], calls: &Calls, arrival: Option<u64>) -> Option<&'a Call>
-    ensures { KnowsCalls (reverse entries.now) calls.now.places.items → option_copied result ≡ elim arrival [ Some r ↦ arrived.call_of (reverse entries.now) r | None ↦ None ] }
+    ensures { KnowsCalls (reverse entries.now) calls.now.places.items
+        → option_copied result ≡ elim arrival [ Some r ↦ arrived.call_of (reverse entries.now) r | None ↦ None ] }
 {
     match arrival {
         Some(arrival) => call(entries, calls, arrival),
@@ -124,7 +127,8 @@ pub fn reserve(calls: &mut Calls) -> Result<(), WantMemory>
 /// Takes in an entry of the journal, by its place there. Takes no memory.
 pub fn advance(entry: &Entry, place: usize, calls: &mut Calls)
     requires { placed.arrives entry.now ≡ true → vec_len calls.old.places < vec_capacity calls.old.places }
-    ensures { (past : List Entry) → place ≡ length past → KnowsCalls past calls.old.places.items → KnowsCalls (entry.now ∷ past) calls.new.places.items }
+    ensures { (past : List Entry) → place ≡ length past → KnowsCalls past calls.old.places.items
+        → KnowsCalls (entry.now ∷ past) calls.new.places.items }
 {
     if let Entry::Arrive { .. } = entry {
         calls.places.push_reserved(place);

@@ -98,7 +98,9 @@ impl<'a> Known<'a> {
     /// The first line that waits and isn't held, with its verdict.
     fn first_line(&self, alloc: Global, worker: u32) -> Result<Option<(u64, Verdict)>, WantMemory>
         requires { IsTold self.now }
-        ensures { IfOk result (λ found. IsFirst (is_waiting_line (history self.now)) (λ r. verdict self.now.config.now self.now.run (history self.now) r worker) (arrivals (history self.now)) found) }
+        ensures { IfOk result
+            (λ found. IsFirst (is_waiting_line (history self.now))
+            (λ r. verdict self.now.config.now self.now.run (history self.now) r worker) (arrivals (history self.now)) found) }
     {
         for i in 0..self.queue.lines.len() {
             let arrival = self.queue.lines[i];
@@ -112,7 +114,10 @@ impl<'a> Known<'a> {
     /// Looks at a request or a locate; none where it doesn't wait.
     fn look(&self, alloc: Global, worker: u32, arrival: u64) -> Result<Option<Look>, WantMemory>
         requires { IsTold self.now }
-        ensures { IfOk result (λ look. look ≡ (if is_waiting (history self.now) arrival then Some (looked (facts_of self.now.config.now self.now.run (history self.now) arrival) worker) else None)) }
+        ensures { IfOk result
+            (λ look. look ≡
+            (if is_waiting (history self.now) arrival then Some
+            (looked (facts_of self.now.config.now self.now.run (history self.now) arrival) worker) else None)) }
     {
         if !waits(self.queue, arrival) {
             return Ok(None);
@@ -162,7 +167,9 @@ impl<'a> Known<'a> {
         requires told { IsTold self.now }
         requires held { AreHeld self.now.config.now self.now.run (history self.now) held.old }
         ensures held { AreHeld self.now.config.now self.now.run (history self.now) held.new }
-        ensures first { IfOk result (λ found. IsFirst (is_waiting (history self.now)) (λ r. verdict self.now.config.now self.now.run (history self.now) r worker) (arrivals (history self.now)) found) }
+        ensures first { IfOk result
+            (λ found. IsFirst (is_waiting (history self.now)) (λ r. verdict self.now.config.now self.now.run (history self.now) r worker)
+            (arrivals (history self.now)) found) }
     {
         for _ in 0..u64::MAX {
             match self.ask(alloc, worker, held)? {
@@ -228,7 +235,9 @@ impl<'a> Known<'a> {
     fn going_on(&self, worker: u32, stage: Stage) -> Result<Option<Entry>, WantMemory>
         requires told { IsTold self.now }
         requires begun { stage ≡ begun.stage (history self.now) worker }
-        ensures next { IfOk result (λ entry. entry ≡ turns.going_on self.now.config.now (stands_after self.now.config.now self.now.run (history self.now)) worker stage) }
+        ensures next { IfOk result
+            (λ entry. entry ≡ turns.going_on self.now.config.now
+            (stands_after self.now.config.now self.now.run (history self.now)) worker stage) }
         ensures ends { only_ends stage ≡ true → IsOk result }
     {
         going_on(self.config, self.standing, worker, stage)

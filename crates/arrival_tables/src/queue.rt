@@ -87,7 +87,8 @@ pub fn reserve(queue: &mut Queue) -> Result<(), WantMemory>
 /// A call arrives. It is crowded where too many wait.
 fn arrive(call: &Call, arrival: u64, queue: &mut Queue)
     requires { HasPlace queue.old }
-    ensures { (past : List Entry) (conn size : ℕ) → arrival ≡ arrivals_in past → IsQueue past queue.old → IsQueue (entry_kinds.Arrive conn size call.now ∷ past) queue.new }
+    ensures { (past : List Entry) (conn size : ℕ) → arrival ≡ arrivals_in past → IsQueue past queue.old
+        → IsQueue (entry_kinds.Arrive conn size call.now ∷ past) queue.new }
 {
     let crowded = queue.messages.len() as u64 >= UNADMITTED;
     queue.unadmitted.push_back_reserved(arrival);
@@ -99,7 +100,8 @@ fn arrive(call: &Call, arrival: u64, queue: &mut Queue)
 
 /// An arrival is admitted.
 fn admit(arrival: u64, queue: &mut Queue)
-    ensures { (c : Config) (run limit : ℕ) (past : List Entry) (w : ℕ) (v : Verdict) → MayFollow c run limit past (entry_kinds.Admit w arrival v)
+    ensures { (c : Config) (run limit : ℕ) (past : List Entry) (w : ℕ) (v : Verdict)
+        → MayFollow c run limit past (entry_kinds.Admit w arrival v)
         → IsQueue past queue.old → IsQueue (entry_kinds.Admit w arrival v ∷ past) queue.new }
 {
     remove(&mut queue.unadmitted, arrival);
@@ -110,7 +112,8 @@ fn admit(arrival: u64, queue: &mut Queue)
 /// An arrival for which a child was made goes back to its place.
 fn put_back(call: Option<&Call>, arrival: u64, queue: &mut Queue)
     requires { HasPlace queue.old }
-    ensures { (c : Config) (run : ℕ) (past : List Entry) (w n : ℕ) → IsManned c run past → begun.stage past w ≡ stage_kinds.Trying arrival → option_copied call.entry ≡ call_of past arrival
+    ensures { (c : Config) (run : ℕ) (past : List Entry) (w n : ℕ) → IsManned c run past → begun.stage past w ≡ stage_kinds.Trying arrival
+        → option_copied call.entry ≡ call_of past arrival
         → IsQueue past queue.old → IsQueue (entry_kinds.Tried w (attempt_kinds.Yes n) ∷ past) queue.new }
 {
     insert(&mut queue.unadmitted, arrival);
@@ -122,8 +125,10 @@ fn put_back(call: Option<&Call>, arrival: u64, queue: &mut Queue)
 /// A trial made the child.
 fn child_made(call: Option<&Call>, arrival: Option<u64>, queue: &mut Queue)
     requires { HasPlace queue.old }
-    ensures { (c : Config) (run limit : ℕ) (past : List Entry) (w n : ℕ) → MayFollow c run limit past (entry_kinds.Tried w (attempt_kinds.Yes n)) → IsManned c run past
-        → arrival ≡ begun.arrival_in (begun.stage past w) → option_copied call.entry ≡ call_tried past (entry_kinds.Tried w (attempt_kinds.Yes n))
+    ensures { (c : Config) (run limit : ℕ) (past : List Entry) (w n : ℕ)
+        → MayFollow c run limit past (entry_kinds.Tried w (attempt_kinds.Yes n)) → IsManned c run past
+        → arrival ≡ begun.arrival_in (begun.stage past w)
+        → option_copied call.entry ≡ call_tried past (entry_kinds.Tried w (attempt_kinds.Yes n))
         → IsQueue past queue.old → IsQueue (entry_kinds.Tried w (attempt_kinds.Yes n) ∷ past) queue.new }
 {
     if let Some(arrival) = arrival {
@@ -134,7 +139,8 @@ fn child_made(call: Option<&Call>, arrival: Option<u64>, queue: &mut Queue)
 /// A trial ends.
 fn tried(answer: Attempt, call: Option<&Call>, arrival: Option<u64>, queue: &mut Queue)
     requires { may_queue (entry_kinds.Tried 0 answer) ≡ true → HasPlace queue.old }
-    ensures { (c : Config) (run limit : ℕ) (past : List Entry) (w : ℕ) → MayFollow c run limit past (entry_kinds.Tried w answer) → IsManned c run past
+    ensures { (c : Config) (run limit : ℕ) (past : List Entry) (w : ℕ) → MayFollow c run limit past (entry_kinds.Tried w answer)
+        → IsManned c run past
         → arrival ≡ begun.arrival_in (begun.stage past w) → option_copied call.entry ≡ call_tried past (entry_kinds.Tried w answer)
         → IsQueue past queue.old → IsQueue (entry_kinds.Tried w answer ∷ past) queue.new }
 {

@@ -70,7 +70,8 @@ fn worker_of(entry: &Entry) -> Option<u32>
 
 /// What the worker of an entry, where a worker makes it, has begun before.
 pub fn stage_at(workers: &Workers, entry: &Entry) -> Stage
-    ensures { (c : Config) (run limit : ℕ) (past : List Entry) → MayFollow c run limit past entry.now → KnowsWorkers past workers.now → result ≡ entries.stage_at past entry.now }
+    ensures { (c : Config) (run limit : ℕ) (past : List Entry) → MayFollow c run limit past entry.now → KnowsWorkers past workers.now
+        → result ≡ entries.stage_at past entry.now }
 {
     match worker_of(entry) {
         Some(worker) => stage(workers, worker),

@@ -50,10 +50,12 @@ waits_not (Answer x) ran = refl
 waits_not Wait ran = absurd (let e : false ≡ true = ran in cc)
 
 -- the arrival that a worker is at doesn't wait
-pub held_waits_not : (h : List Entry) (s : Standing) (begun : Stage) (r : ℕ) → Holds h s begun → is_at r (arrival_in begun) ≡ true → is_waiting (admitted h r) ≡ false
+pub held_waits_not : (h : List Entry) (s : Standing) (begun : Stage) (r : ℕ) → Holds h s begun → is_at r (arrival_in begun) ≡ true
+    → is_waiting (admitted h r) ≡ false
 held_waits_not h s (Trying q) r holds at = ap (λ x. is_waiting (admitted h x)) (sym (eqb-true q r at)) ∙ ap is_waiting holds.0
 held_waits_not h s (Incarnating q n) r holds at = ap (λ x. is_waiting (admitted h x)) (sym (eqb-true q r at)) ∙ ap is_waiting holds.0
-held_waits_not h s (Serving q) r holds at = ap (λ x. is_waiting (admitted h x)) (sym (eqb-true q r at)) ∙ ap is_waiting holds.by ∙ waits_not holds.verdict holds.run
+held_waits_not h s (Serving q) r holds at = ap (λ x. is_waiting (admitted h x)) (sym (eqb-true q r at)) ∙ ap is_waiting holds.by
+    ∙ waits_not holds.verdict holds.run
 held_waits_not h s (Ran q) r holds at = ap (λ x. is_waiting (admitted h x)) (sym (eqb-true q r at)) ∙ ap is_waiting holds.by ∙ waits_not holds.verdict holds.run
 held_waits_not h s Free r holds at = absurd (let e : false ≡ true = at in cc)
 held_waits_not h s (Removing n) r holds at = absurd (let e : false ≡ true = at in cc)
@@ -73,7 +75,8 @@ module _ (c : Config) (run : ℕ) (opened : Stored) (past : List Entry) where
   -- where it may not, it decides what waited alone
   pub record IsNot (e : Entry) : Type 0 where
     pub decided_is : (r : ℕ) → is_decided_by past e r ≡ false
-    pub reply_is : (r : ℕ) → decided c run past r ≡ false → decided c run (e ∷ past) r ≡ true → reply_by c run opened past e r ≡ Some (AnswerReply (number_of (call_of past r)) Good)
+    pub reply_is : (r : ℕ) → decided c run past r ≡ false → decided c run (e ∷ past) r ≡ true
+        → reply_by c run opened past e r ≡ Some (AnswerReply (number_of (call_of past r)) Good)
 
   pub decides_none : (e : Entry) (reply : Reply) → IsNot e → Decides c run opened past e None reply
   decides_none e reply not_ = record { target_is = λ r less. not_.decided_is r; reply_is = λ r less before after. not_.reply_is r before after }
@@ -84,16 +87,20 @@ module _ (c : Config) (run : ℕ) (opened : Stored) (past : List Entry) where
         target_is = λ r less. fixed.decided_is r;
         reply_is = λ r less before after.
             fixed.reply_is r
-            ∙ subst (λ x. reply_or_good (is_at r (arrival_at past e)) x past r ≡ Some (if is_at r (arrival_at past e) then unwrap_or x Addressing else AnswerReply (number_of (call_of past r)) Good)) (sym fixed.is)
-            (elim (is_at r (arrival_at past e)) as (λ b. reply_or_good b (Some fixed.some) past r ≡ Some (if b then fixed.some else AnswerReply (number_of (call_of past r)) Good)) [ true ↦ refl | false ↦ refl ]);
+            ∙ subst (λ x. reply_or_good (is_at r (arrival_at past e)) x past r ≡ Some
+            (if is_at r (arrival_at past e) then unwrap_or x Addressing else AnswerReply (number_of (call_of past r)) Good)) (sym fixed.is)
+            (elim (is_at r (arrival_at past e)) as (λ b. reply_or_good b (Some fixed.some) past r ≡ Some
+            (if b then fixed.some else AnswerReply (number_of (call_of past r)) Good)) [ true ↦ refl | false ↦ refl ]);
       }
 
-  unless_waits : (e : Entry) (r : ℕ) → is_decided_by past e r ≡ false → is_waiting (admitted (e ∷ past) r) ≡ false → decided c run past r ≡ false → decided c run (e ∷ past) r ≡ true → ⊥
+  unless_waits : (e : Entry) (r : ℕ) → is_decided_by past e r ≡ false → is_waiting (admitted (e ∷ past) r) ≡ false → decided c run past r ≡ false
+      → decided c run (e ∷ past) r ≡ true → ⊥
   unless_waits e r by waits before after =
       true≢false (sym after ∙ ap₂ (λ x y. x || y) by (ap₂ (λ x y. x || y) before (ap (λ b. b && settles c run (e ∷ past) r) waits)))
 
   -- an entry that speaks of no call leaves all but what waits
-  quiet_not : (e : Entry) → ((r : ℕ) → is_decided_by past e r ≡ false) → ((r : ℕ) → reply_by c run opened past e r ≡ Some (AnswerReply (number_of (call_of past r)) Good)) → IsNot e
+  quiet_not : (e : Entry) → ((r : ℕ) → is_decided_by past e r ≡ false)
+      → ((r : ℕ) → reply_by c run opened past e r ≡ Some (AnswerReply (number_of (call_of past r)) Good)) → IsNot e
   quiet_not e decides replies = record { decided_is = decides; reply_is = λ r before after. replies r }
 
   -- a verdict that isn't the end of a call
@@ -103,14 +110,18 @@ module _ (c : Config) (run : ℕ) (opened : Stored) (past : List Entry) where
       decides : (r : ℕ) → ((a == r) && is_final v) ≡ false
       decides r = ap (λ b. (a == r) && b) goes ∙ elim (a == r) as (λ b. (b && false) ≡ false) [ true ↦ refl | false ↦ refl ]
 
-      other : (r : ℕ) (u : Verdict) → ((a == r) ≡ true → reply_admitted (call_of past r) u ≡ Some (AnswerReply (number_of (call_of past r)) Good)) → (if a == r then reply_admitted (call_of past r) u else Some (AnswerReply (number_of (call_of past r)) Good)) ≡ Some (AnswerReply (number_of (call_of past r)) Good)
+      other : (r : ℕ) (u : Verdict) → ((a == r) ≡ true → reply_admitted (call_of past r) u ≡ Some (AnswerReply (number_of (call_of past r)) Good))
+          → (if a == r then reply_admitted (call_of past r) u else Some (AnswerReply (number_of (call_of past r)) Good)) ≡ Some
+          (AnswerReply (number_of (call_of past r)) Good)
       other r u at = cond_both (a == r) _ _ (λ x. x ≡ Some (AnswerReply (number_of (call_of past r)) Good)) at (λ _. refl)
 
-      contrary : (r : ℕ) (u : Verdict) → is_final u ≡ false → is_waiting (Some u) ≡ false → decided c run past r ≡ false → decided c run (Admit w a u ∷ past) r ≡ true → (a == r) ≡ true → ⊥
+      contrary : (r : ℕ) (u : Verdict) → is_final u ≡ false → is_waiting (Some u) ≡ false → decided c run past r ≡ false
+          → decided c run (Admit w a u ∷ past) r ≡ true → (a == r) ≡ true → ⊥
       contrary r u on waits before after at =
           unless_waits (Admit w a u) r (ap₂ (λ x y. x && y) at on) (ap (λ b. is_waiting (if b then Some u else admitted past r)) at ∙ waits) before after
 
-      replies : (u : Verdict) → is_final u ≡ false → (r : ℕ) → decided c run past r ≡ false → decided c run (Admit w a u ∷ past) r ≡ true → reply_by c run opened past (Admit w a u) r ≡ Some (AnswerReply (number_of (call_of past r)) Good)
+      replies : (u : Verdict) → is_final u ≡ false → (r : ℕ) → decided c run past r ≡ false → decided c run (Admit w a u ∷ past) r ≡ true
+          → reply_by c run opened past (Admit w a u) r ≡ Some (AnswerReply (number_of (call_of past r)) Good)
       replies Wait on r before after = other r Wait (λ _. refl)
       replies (Serve n) on r before after = other r (Serve n) (λ at. absurd (contrary r (Serve n) refl refl before after at))
       replies (Preset n) on r before after = other r (Preset n) (λ at. absurd (contrary r (Preset n) refl refl before after at))
@@ -125,8 +136,10 @@ module _ (c : Config) (run : ℕ) (opened : Stored) (past : List Entry) where
       replies (Answer x) on r before after = absurd (true≢false on)
 
   -- the reply is of the worker's arrival, which can't be decided
-  at_or_good : (w r : ℕ) (x : Option Reply) → (is_at r (arrival_in (stage past w)) ≡ true → ⊥) → reply_or_good (is_at r (arrival_in (stage past w))) x past r ≡ Some (AnswerReply (number_of (call_of past r)) Good)
-  at_or_good w r x never = cond_both (is_at r (arrival_in (stage past w))) _ _ (λ y. y ≡ Some (AnswerReply (number_of (call_of past r)) Good)) (λ at. absurd (never at)) (λ _. refl)
+  at_or_good : (w r : ℕ) (x : Option Reply) → (is_at r (arrival_in (stage past w)) ≡ true → ⊥)
+      → reply_or_good (is_at r (arrival_in (stage past w))) x past r ≡ Some (AnswerReply (number_of (call_of past r)) Good)
+  at_or_good w r x never =
+      cond_both (is_at r (arrival_in (stage past w))) _ _ (λ y. y ≡ Some (AnswerReply (number_of (call_of past r)) Good)) (λ at. absurd (never at)) (λ _. refl)
 
   -- a trial that made the child: its arrival is to be admitted again
   tried_not : (w n : ℕ) → IsNot (Tried w (Yes n))
@@ -141,7 +154,8 @@ module _ (c : Config) (run : ℕ) (opened : Stored) (past : List Entry) where
   brought_not manned w answer brought = record {
     decided_is = λ r. ap (λ b. not b && is_at r (arrival_in (stage past w))) brought;
     reply_is = λ r before after. at_or_good w r _ (λ at.
-        unless_waits (Incarnated w answer) r (ap (λ b. not b && is_at r (arrival_in (stage past w))) brought) (held_waits_not past (standing c run past) (stage past w) r (manned.stages w) at) before after);
+        unless_waits (Incarnated w answer) r (ap (λ b. not b && is_at r (arrival_in (stage past w))) brought)
+        (held_waits_not past (standing c run past) (stage past w) r (manned.stages w) at) before after);
   }
 
   pub is_not : IsManned c run past → (e : Entry) → may_decide e ≡ false → IsNot e
@@ -168,7 +182,8 @@ module _ (c : Config) (run : ℕ) (opened : Stored) (past : List Entry) where
 
   -- the reply of the arrival that the entry speaks of is that of its call
   swap : (b : Bool) (x y z : Option Reply) → (b ≡ true → x ≡ y) → (if b then x else z) ≡ (if b then y else z)
-  swap b x y z same = cond_both b x z (λ v. v ≡ (if b then y else z)) (λ is. same is ∙ sym (ap (λ a. if a then y else z) is)) (λ is. sym (ap (λ a. if a then y else z) is))
+  swap b x y z same =
+      cond_both b x z (λ v. v ≡ (if b then y else z)) (λ is. same is ∙ sym (ap (λ a. if a then y else z) is)) (λ is. sym (ap (λ a. if a then y else z) is))
 
   call_for : (o : Option ℕ) (r : ℕ) → is_at r o ≡ true → call_of past r ≡ option_and_then (call_of past) o
   call_for (Some x) r at = ap (call_of past) (sym (eqb-true x r at))
@@ -201,26 +216,36 @@ module _ (c : Config) (run : ℕ) (opened : Stored) (past : List Entry) where
   abbrev call_in : ℕ → Option Call
   call_in w = option_and_then (call_of past) (arrival_in (stage past w))
 
-  tried_is : (w : ℕ) (answer : Attempt) (r : ℕ) → (if is_at r (arrival_in (stage past w)) then Some (reply_tried c past (call_of past r) answer) else Some (AnswerReply (number_of (call_of past r)) Good)) ≡ reply_or_good (is_at r (arrival_in (stage past w))) (Some (reply_tried c past (call_in w) answer)) past r
-  tried_is w answer r = swap (is_at r (arrival_in (stage past w))) _ _ _ (λ at. ap (λ q. Some (reply_tried c past q answer)) (call_for (arrival_in (stage past w)) r at))
+  tried_is : (w : ℕ) (answer : Attempt) (r : ℕ)
+      → (if is_at r (arrival_in (stage past w)) then Some (reply_tried c past (call_of past r) answer) else Some
+      (AnswerReply (number_of (call_of past r)) Good)) ≡ reply_or_good (is_at r (arrival_in (stage past w)))
+      (Some (reply_tried c past (call_in w) answer)) past r
+  tried_is w answer r =
+      swap (is_at r (arrival_in (stage past w))) _ _ _ (λ at. ap (λ q. Some (reply_tried c past q answer)) (call_for (arrival_in (stage past w)) r at))
 
-  tried_fixed : (w : ℕ) (answer : Attempt) → may_decide (Tried w answer) ≡ true → IsFixed c run opened past (Tried w answer) (Some (reply_tried c past (call_in w) answer))
+  tried_fixed : (w : ℕ) (answer : Attempt) → may_decide (Tried w answer) ≡ true
+      → IsFixed c run opened past (Tried w answer) (Some (reply_tried c past (call_in w) answer))
   tried_fixed w (Yes n) may = absurd (true≢false (sym may))
   tried_fixed w No may = record { decided_is = λ r. refl; reply_is = tried_is w No; some = _; is = refl }
   tried_fixed w Raised may = record { decided_is = λ r. refl; reply_is = tried_is w Raised; some = _; is = refl }
   tried_fixed w Dying may = record { decided_is = λ r. refl; reply_is = tried_is w Dying; some = _; is = refl }
 
-  incarnated_is : (w : ℕ) (answer : Incarnation) (r : ℕ) → (if is_at r (arrival_in (stage past w)) then reply_incarnated (call_of past r) answer else Some (AnswerReply (number_of (call_of past r)) Good)) ≡ reply_or_good (is_at r (arrival_in (stage past w))) (reply_incarnated (call_in w) answer) past r
-  incarnated_is w answer r = swap (is_at r (arrival_in (stage past w))) _ _ _ (λ at. ap (λ q. reply_incarnated q answer) (call_for (arrival_in (stage past w)) r at))
+  incarnated_is : (w : ℕ) (answer : Incarnation) (r : ℕ)
+      → (if is_at r (arrival_in (stage past w)) then reply_incarnated (call_of past r) answer else Some
+      (AnswerReply (number_of (call_of past r)) Good)) ≡ reply_or_good (is_at r (arrival_in (stage past w))) (reply_incarnated (call_in w) answer) past r
+  incarnated_is w answer r =
+      swap (is_at r (arrival_in (stage past w))) _ _ _ (λ at. ap (λ q. reply_incarnated q answer) (call_for (arrival_in (stage past w)) r at))
 
-  incarnated_fixed : (w : ℕ) (answer : Incarnation) → may_decide (Incarnated w answer) ≡ true → IsFixed c run opened past (Incarnated w answer) (reply_incarnated (call_in w) answer)
+  incarnated_fixed : (w : ℕ) (answer : Incarnation) → may_decide (Incarnated w answer) ≡ true
+      → IsFixed c run opened past (Incarnated w answer) (reply_incarnated (call_in w) answer)
   incarnated_fixed w (Fresh n) may = absurd (true≢false (sym may))
   incarnated_fixed w (Named n) may = absurd (true≢false (sym may))
   incarnated_fixed w Double may = record { decided_is = λ r. refl; reply_is = incarnated_is w Double; some = _; is = refl }
   incarnated_fixed w (ForwardTo x) may = record { decided_is = λ r. refl; reply_is = incarnated_is w (ForwardTo x); some = _; is = refl }
   incarnated_fixed w (Raise x) may = record { decided_is = λ r. refl; reply_is = incarnated_is w (Raise x); some = _; is = refl }
 
-  run_fixed : (w : ℕ) (s : Sid) (outcome : Option Outcome) → servant_run c run past (stage past w) ≡ Some s → outcome ≡ Some (acted (state_of c run opened past s) (call_run past (stage past w))).1 → IsFixed c run opened past (Run w) (option_map Ended outcome)
+  run_fixed : (w : ℕ) (s : Sid) (outcome : Option Outcome) → servant_run c run past (stage past w) ≡ Some s
+      → outcome ≡ Some (acted (state_of c run opened past s) (call_run past (stage past w))).1 → IsFixed c run opened past (Run w) (option_map Ended outcome)
   run_fixed w s outcome runs_ told = record {
     decided_is = λ r. refl;
     reply_is = λ r. ap (λ o. reply_or_good (is_at r (arrival_in (stage past w))) o past r)
@@ -230,10 +255,13 @@ module _ (c : Config) (run : ℕ) (opened : Stored) (past : List Entry) where
   }
 
   module _ (begun : Stage) (call : Option Call) (settings : Settings) (outcome : Option Outcome) where
-    pub is_fixed : (e : Entry) → may_decide e ≡ true → Comes c run opened past e begun call settings outcome → IsFixed c run opened past e (reply_in c past call outcome e)
+    pub is_fixed : (e : Entry) → may_decide e ≡ true → Comes c run opened past e begun call settings outcome
+        → IsFixed c run opened past e (reply_in c past call outcome e)
     is_fixed (Admit w r v) may comes = subst (λ q. IsFixed c run opened past (Admit w r v) (reply_admitted q v)) (sym comes.call_is) (admit_fixed w r v may)
-    is_fixed (Tried w answer) may comes = subst (λ q. IsFixed c run opened past (Tried w answer) (Some (reply_tried c past q answer))) (sym comes.call_is) (tried_fixed w answer may)
-    is_fixed (Incarnated w answer) may comes = subst (λ q. IsFixed c run opened past (Incarnated w answer) (reply_incarnated q answer)) (sym comes.call_is) (incarnated_fixed w answer may)
+    is_fixed (Tried w answer) may comes =
+        subst (λ q. IsFixed c run opened past (Tried w answer) (Some (reply_tried c past q answer))) (sym comes.call_is) (tried_fixed w answer may)
+    is_fixed (Incarnated w answer) may comes =
+        subst (λ q. IsFixed c run opened past (Incarnated w answer) (reply_incarnated q answer)) (sym comes.call_is) (incarnated_fixed w answer may)
     is_fixed (Run w) may comes = run_fixed w comes.ran.0 outcome comes.ran.1 comes.ran.2
     is_fixed (Entered conn) may comes = absurd (true≢false (sym may))
     is_fixed (Arrive conn size x) may comes = absurd (true≢false (sym may))
@@ -261,11 +289,13 @@ module _ (c : Config) (run : ℕ) (opened : Stored) (past : List Entry) where
     target_is (Abandon w) may comes = absurd (true≢false (sym may))
 
     -- an entry that may decide its arrival decides it, with its reply
-    pub may_decides : (e : Entry) → may_decide e ≡ true → Comes c run opened past e begun call settings outcome → Decides c run opened past e (target_in begun e) (unwrap_or (reply_in c past call outcome e) Addressing)
+    pub may_decides : (e : Entry) → may_decide e ≡ true → Comes c run opened past e begun call settings outcome
+        → Decides c run opened past e (target_in begun e) (unwrap_or (reply_in c past call outcome e) Addressing)
     may_decides e may comes =
         subst (λ t. Decides c run opened past e t (unwrap_or (reply_in c past call outcome e) Addressing)) (sym (target_is e may comes))
         (decides_some e (reply_in c past call outcome e) (is_fixed e may comes))
 
     -- and one that may not decides none
-    pub never_decides : (e : Entry) (reply : Reply) → may_decide e ≡ false → Comes c run opened past e begun call settings outcome → Decides c run opened past e None reply
+    pub never_decides : (e : Entry) (reply : Reply) → may_decide e ≡ false → Comes c run opened past e begun call settings outcome
+        → Decides c run opened past e None reply
     never_decides e reply never comes = decides_none e reply (is_not comes.manned e never)

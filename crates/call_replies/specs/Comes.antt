@@ -26,11 +26,13 @@ call_at past e = option_and_then (call_of past) (arrival_at past e)
 -- at a Run the outcome is that of the servant that runs, in its state then
 abbrev pub HasOutcome : Config → ℕ → Stored → List Entry → Entry → Option Outcome → Type 0
 HasOutcome c run opened past (Run w) outcome =
-    (s : Sid) × (servant_run c run past (stage past w) ≡ Some s) × (outcome ≡ Some (acted (state_of c run opened past s) (call_run past (stage past w))).1)
+    (s : Sid) × (servant_run c run past (stage past w) ≡ Some s)
+    × (outcome ≡ Some (acted (state_of c run opened past s) (call_run past (stage past w))).1)
 HasOutcome c run opened past e outcome = Unit {0}
 
 -- what its worker had begun, its call, what is set and the outcome are those of the history
-pub record Comes (c : Config) (run : ℕ) (opened : Stored) (past : List Entry) (e : Entry) (begun : Stage) (call : Option Call) (settings : Settings) (outcome : Option Outcome) : Type 0 where
+pub record Comes (c : Config) (run : ℕ) (opened : Stored) (past : List Entry) (e : Entry) (begun : Stage) (call : Option Call)
+    (settings : Settings) (outcome : Option Outcome) : Type 0 where
   pub manned : IsManned c run past
   pub at_stage : begun ≡ stage_at past e
   pub call_is : call ≡ call_at past e

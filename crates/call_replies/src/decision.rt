@@ -76,7 +76,8 @@ fn reply_in(
     settings: &Settings,
     outcome: Option<Outcome>,
 ) -> Result<Option<Reply>, WantMemory>
-    ensures told { (past : List Entry) → Tells config.now past settings.now → IfOk result (λ reply. reply ≡ fixed.reply_in config.now past (option_copied call.entry) outcome entry.now) }
+    ensures told { (past : List Entry) → Tells config.now past settings.now
+        → IfOk result (λ reply. reply ≡ fixed.reply_in config.now past (option_copied call.entry) outcome entry.now) }
     ensures ends { fixed.may_decide entry.now ≡ true → fixed.may_want entry.now ≡ false → IsOk result }
 {
     match entry {
@@ -103,7 +104,8 @@ pub fn decision_of(
     settings: &Settings,
     outcome: Option<Outcome>,
 ) -> Result<Decision, WantMemory>
-    ensures decides { (run : ℕ) (opened : Stored) (past : List Entry) → Comes config.now run opened past entry.now stage (option_copied call.entry) settings.now outcome
+    ensures decides { (run : ℕ) (opened : Stored) (past : List Entry)
+        → Comes config.now run opened past entry.now stage (option_copied call.entry) settings.now outcome
         → IfOk result (λ it. Decides config.now run opened past entry.now it.target it.reply) }
     ensures none { fixed.may_decide entry.now ≡ false → IfOk result (λ it. it ≡ record { target = None; reply = Addressing }) }
     ensures ends { fixed.may_want entry.now ≡ false → IsOk result }

@@ -47,7 +47,9 @@ fn reply_without_child(
     settings: &Settings,
     call: Option<&Call>,
 ) -> Result<Reply, WantMemory>
-    ensures { IfOk result (λ reply. reply ≡ unmade config.now settings.now (option_copied call.entry) (key_or_none (key_of_call (option_copied call.entry))).path) }
+    ensures { IfOk result
+        (λ reply. reply ≡ unmade config.now settings.now (option_copied call.entry)
+        (key_or_none (key_of_call (option_copied call.entry))).path) }
 {
     let path = path_asked(alloc, call)?;
     reply_unmade(alloc, config, settings, call, path.as_slice())
@@ -79,7 +81,8 @@ pub fn reply_tried(
     call: Option<&Call>,
     answer: &Attempt,
 ) -> Result<Reply, WantMemory>
-    ensures { (past : List Entry) → Tells config.now past settings.now → IfOk result (λ reply. reply ≡ replies.reply_tried config.now past (option_copied call.entry) answer.now) }
+    ensures { (past : List Entry) → Tells config.now past settings.now
+        → IfOk result (λ reply. reply ≡ replies.reply_tried config.now past (option_copied call.entry) answer.now) }
 {
     reply_told(alloc, config, settings, call, answer)
 }

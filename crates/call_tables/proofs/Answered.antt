@@ -26,9 +26,11 @@ module _ (c : Config) (run : ℕ) (h : List Entry) (t : Standing) (answers : Ans
   come_same ordered r (Off m etherealize begun) = ap₂ (λ x y. x && (not etherealize || y)) (ap (λ u. is_quiet c u m) answers.same) (answers.ended m begun)
   come_same ordered r (Gone k) = answers.gone k
 
-  pub decided_same : (target : Option ℕ) (ordered : Option Ordered) (o : Owing) → is_decided c t target ordered o ≡ is_decided c (standing c run h) target ordered o
+  pub decided_same : (target : Option ℕ) (ordered : Option Ordered) (o : Owing)
+      → is_decided c t target ordered o ≡ is_decided c (standing c run h) target ordered o
   decided_same target ordered o =
-      elim o.wait as (λ x. (is_at o.arrival target || (elim x [ Some wait ↦ has_come c t ordered o.arrival wait | None ↦ false ])) ≡ (is_at o.arrival target || (elim x [ Some wait ↦ has_come c (standing c run h) ordered o.arrival wait | None ↦ false ])))
+      elim o.wait as (λ x. (is_at o.arrival target || (elim x [ Some wait ↦ has_come c t ordered o.arrival wait | None ↦ false ])) ≡
+      (is_at o.arrival target || (elim x [ Some wait ↦ has_come c (standing c run h) ordered o.arrival wait | None ↦ false ])))
       [ Some wait ↦ ap (λ b. is_at o.arrival target || b) (come_same ordered o.arrival wait) | None ↦ refl ]
 
   for_same : (m : ℕ) (order : Order) → wait_for m t order ≡ wait_for m (standing c run h) order
@@ -39,7 +41,8 @@ module _ (c : Config) (run : ℕ) (h : List Entry) (t : Standing) (answers : Ans
 
   pub wait_same : (command : Option Command) → wait_of c t command ≡ wait_of c (standing c run h) command
   wait_same (Some (Manager name order)) =
-      elim (manager_number c name) as (λ o. (elim o [ Some m ↦ Some (wait_for m t order) | None ↦ None ]) ≡ (elim o [ Some m ↦ Some (wait_for m (standing c run h) order) | None ↦ None ]))
+      elim (manager_number c name) as (λ o. (elim o [ Some m ↦ Some (wait_for m t order) | None ↦ None ]) ≡
+      (elim o [ Some m ↦ Some (wait_for m (standing c run h) order) | None ↦ None ]))
       [ Some m ↦ ap (λ w. Some w) (for_same m order) | None ↦ refl ]
   wait_same (Some (Destroy p etherealize wait)) = ap (λ u. wait_of c u (Some (Destroy p etherealize wait))) answers.same
   wait_same (Some (Create p)) = refl

@@ -67,7 +67,8 @@ module _ (c : Config) (run limit : ℕ) where
   at_arrived past w r legal is = stage_arrived past w r legal (at_is r (arrival_in (stage past w)) is)
 
   by_arrived : (e : Entry) (past : List Entry) (r : ℕ) → IsLegal c run limit (e ∷ past) → is_decided_by past e r ≡ true → r < arrivals past
-  by_arrived (Admit w a v) past r legal is = subst (λ x. x < arrivals past) (eqb-true a r (first (a == r) (is_final v) is)) (admission_is c run past w a v legal.0).arrived
+  by_arrived (Admit w a v) past r legal is =
+      subst (λ x. x < arrivals past) (eqb-true a r (first (a == r) (is_final v) is)) (admission_is c run past w a v legal.0).arrived
     where
       first : (x y : Bool) → (x && y) ≡ true → x ≡ true
       first true y is = refl
@@ -100,7 +101,8 @@ module _ (c : Config) (run limit : ℕ) where
   decided_arrived [] r legal is = absurd (let e : false ≡ true = is in cc)
   decided_arrived (e ∷ past) r legal is =
       by_cases (is_decided_by past e r) (decided c run past r) (is_waiting (admitted (e ∷ past) r)) (settles c run (e ∷ past) r)
-      (λ by. more e past r (by_arrived e past r legal by)) (λ was. more e past r (decided_arrived past r legal.1 was)) (λ waits. waiting_arrived (e ∷ past) r (admitted (e ∷ past) r) refl legal waits) is
+      (λ by. more e past r (by_arrived e past r legal by)) (λ was. more e past r (decided_arrived past r legal.1 was))
+      (λ waits. waiting_arrived (e ∷ past) r (admitted (e ∷ past) r) refl legal waits) is
     where
       by_cases : (x y z t : Bool) {A : Type 0} → (x ≡ true → A) → (y ≡ true → A) → (z ≡ true → A) → (x || (y || (z && t))) ≡ true → A
       by_cases true y z t a b d is = a refl
@@ -114,7 +116,9 @@ answered_decided c run [] r there = absurd there
 answered_decided c run (e ∷ past) r there =
     elim (in_both r (answered c run past) (filter (is_answered_by c run e past) (below (arrivals past))) there) [
       | inl old ↦ stays_decided c run past e r (answered_decided c run past r old)
-      | inr new ↦ (let its = in_kept (is_answered_by c run e past) r (below (arrivals past)) new in middle (asks (call_of past r)) (decided c run (e ∷ past) r) (not (decided c run past r)) its.1)
+      | inr new ↦
+          (let its = in_kept (is_answered_by c run e past) r (below (arrivals past)) new in
+          middle (asks (call_of past r)) (decided c run (e ∷ past) r) (not (decided c run past r)) its.1)
     ]
   where
     in_both : (x : ℕ) (xs ys : List ℕ) → In x (xs ++ ys) → In x xs ⊎ In x ys
@@ -136,7 +140,8 @@ found_in p x (y ∷ ys) is =
 -- what is given next was decided
 pub next_decided : (c : Config) (run : ℕ) (h : List Entry) (conn r : ℕ) → next_reply c run h conn ≡ Some r → decided c run h r ≡ true
 next_decided c run h conn r is =
-    answered_decided c run h r (found_in (λ x. is_at conn (conn_of h x) && not (is_collected h x)) r (answered c run h) (sym (within_is c run h conn h (λ _ _. refl)) ∙ is))
+    answered_decided c run h r
+    (found_in (λ x. is_at conn (conn_of h x) && not (is_collected h x)) r (answered c run h) (sym (within_is c run h conn h (λ _ _. refl)) ∙ is))
 
 pub collected_decided : (c : Config) (run limit : ℕ) (h : List Entry) (r : ℕ) → IsLegal c run limit h → is_collected h r ≡ true → decided c run h r ≡ true
 collected_decided c run limit [] r legal is = absurd (let e : false ≡ true = is in cc)
@@ -145,8 +150,10 @@ collected_decided c run limit (Collect conn a ∷ past) r legal is =
     (elim (a == r) as (λ b. (a == r) ≡ b → (b || is_collected past r) ≡ true → decided c run past r ≡ true)
     [ true ↦ (λ same _. next_decided c run past conn r (legal.0 ∙ ap (λ x. Some x) (eqb-true a r same))) | false ↦ (λ _ is. collected_decided c run limit past r legal.1 is) ] refl is)
 collected_decided c run limit (Entered conn ∷ past) r legal is = stays_decided c run past (Entered conn) r (collected_decided c run limit past r legal.1 is)
-collected_decided c run limit (Arrive conn size call ∷ past) r legal is = stays_decided c run past (Arrive conn size call) r (collected_decided c run limit past r legal.1 is)
-collected_decided c run limit (Filled conn size ∷ past) r legal is = stays_decided c run past (Filled conn size) r (collected_decided c run limit past r legal.1 is)
+collected_decided c run limit (Arrive conn size call ∷ past) r legal is =
+    stays_decided c run past (Arrive conn size call) r (collected_decided c run limit past r legal.1 is)
+collected_decided c run limit (Filled conn size ∷ past) r legal is =
+    stays_decided c run past (Filled conn size) r (collected_decided c run limit past r legal.1 is)
 collected_decided c run limit (Left conn ∷ past) r legal is = stays_decided c run past (Left conn) r (collected_decided c run limit past r legal.1 is)
 collected_decided c run limit (Admit w a v ∷ past) r legal is = stays_decided c run past (Admit w a v) r (collected_decided c run limit past r legal.1 is)
 collected_decided c run limit (Tried w a ∷ past) r legal is = stays_decided c run past (Tried w a) r (collected_decided c run limit past r legal.1 is)
@@ -154,5 +161,6 @@ collected_decided c run limit (Incarnated w a ∷ past) r legal is = stays_decid
 collected_decided c run limit (Run w ∷ past) r legal is = stays_decided c run past (Run w) r (collected_decided c run limit past r legal.1 is)
 collected_decided c run limit (Done w ∷ past) r legal is = stays_decided c run past (Done w) r (collected_decided c run limit past r legal.1 is)
 collected_decided c run limit (TakeOut w n x ∷ past) r legal is = stays_decided c run past (TakeOut w n x) r (collected_decided c run limit past r legal.1 is)
-collected_decided c run limit (Etherealized w x y ∷ past) r legal is = stays_decided c run past (Etherealized w x y) r (collected_decided c run limit past r legal.1 is)
+collected_decided c run limit (Etherealized w x y ∷ past) r legal is =
+    stays_decided c run past (Etherealized w x y) r (collected_decided c run limit past r legal.1 is)
 collected_decided c run limit (Abandon w ∷ past) r legal is = stays_decided c run past (Abandon w) r (collected_decided c run limit past r legal.1 is)

@@ -28,7 +28,8 @@ map_same [] = refl
 map_same (x ∷ xs) = ap (λ ys. x ∷ ys) (map_same xs)
 
 -- the rows as the history says that they wait
-pub waited_is : (c : Config) (run : ℕ) (past : List Entry) (e : Entry) (wait : Option Wait) → WaitIs c run past e wait → (os : List Owing) → map (waited_by e wait) os ≡ map (waited c run past e) os
+pub waited_is : (c : Config) (run : ℕ) (past : List Entry) (e : Entry) (wait : Option Wait) → WaitIs c run past e wait → (os : List Owing)
+    → map (waited_by e wait) os ≡ map (waited c run past e) os
 waited_is c run past (Admit w a v) wait is os = ap (λ x. map (set_wait a x) os) is
 waited_is c run past (Entered conn) wait is os = refl
 waited_is c run past (Arrive conn size call) wait is os = refl
@@ -43,7 +44,8 @@ waited_is c run past (TakeOut w n x) wait is os = refl
 waited_is c run past (Etherealized w x y) wait is os = refl
 waited_is c run past (Abandon w) wait is os = refl
 
-module _ (c : Config) (e : Entry) (standing : Standing) (target : Option ℕ) (reply : Reply) (wait : Option Wait) (ordered : Option Ordered) (os : List Owing) (k : Comes c e standing target reply wait ordered os) where
+module _ (c : Config) (e : Entry) (standing : Standing) (target : Option ℕ) (reply : Reply) (wait : Option Wait) (ordered : Option Ordered) (os : List Owing)
+    (k : Comes c e standing target reply wait ordered os) where
   rows : map (waited_by e wait) os ≡ map (waited c k.run k.past e) os
   rows = waited_is c k.run k.past e wait k.waits os
 
@@ -51,7 +53,8 @@ module _ (c : Config) (e : Entry) (standing : Standing) (target : Option ℕ) (r
   alone_then = subst (IsAlone target) (sym rows) (rows_alone c k.run k.limit k.opened k.past e k.manned k.legal target reply k.decides os k.owed)
 
   pub ascend_then : Ascends (arrivals_of (map (waited_by e wait) os))
-  ascend_then = subst (λ rs. Ascends (arrivals_of rs)) (sym rows) (rows_ascend c k.run k.limit k.opened k.past e k.manned k.legal target reply k.decides os k.owed)
+  ascend_then =
+      subst (λ rs. Ascends (arrivals_of rs)) (sym rows) (rows_ascend c k.run k.limit k.opened k.past e k.manned k.legal target reply k.decides os k.owed)
 
   -- the rows that the desk keeps and those that it files are those of the history
   keeps : filter (λ o. not (is_decided c standing target ordered o)) (map (waited_by e wait) os)
@@ -68,16 +71,24 @@ module _ (c : Config) (e : Entry) (standing : Standing) (target : Option ℕ) (r
       ∙ ap (λ r. filter (is_decided c (stands_after c k.run (e ∷ k.past)) target r) (map (waited_by e wait) os)) k.orders
       ∙ ap (filter (is_decided c (stands_after c k.run (e ∷ k.past)) target (ordered_by c k.past e))) rows
 
-  pub before_then : (new : List Owing) → new ≡ filter (λ o. not (is_decided c standing target ordered o)) (map (waited_by e wait) os) → AreOwedBefore c k.run k.past e new
+  pub before_then : (new : List Owing) → new ≡ filter (λ o. not (is_decided c standing target ordered o)) (map (waited_by e wait) os)
+      → AreOwedBefore c k.run k.past e new
   before_then new is =
       subst (AreOwedBefore c k.run k.past e) (sym (is ∙ keeps))
-      (record { which = owed_before c k.run k.limit k.opened k.past e k.manned k.legal target reply k.decides os k.owed; each = each_owed c k.run k.limit k.opened k.past e k.manned k.legal target reply k.decides os k.owed })
+      (record {
+        which = owed_before c k.run k.limit k.opened k.past e k.manned k.legal target reply k.decides os k.owed;
+        each = each_owed c k.run k.limit k.opened k.past e k.manned k.legal target reply k.decides os k.owed;
+      })
 
-  pub owed_then : (new : List Owing) → new ≡ filter (λ o. not (is_decided c standing target ordered o)) (map (waited_by e wait) os) → arrivals (e ∷ k.past) ≡ arrivals k.past → AreOwed c k.run (e ∷ k.past) new
+  pub owed_then : (new : List Owing) → new ≡ filter (λ o. not (is_decided c standing target ordered o)) (map (waited_by e wait) os)
+      → arrivals (e ∷ k.past) ≡ arrivals k.past → AreOwed c k.run (e ∷ k.past) new
   owed_then new is same =
-      subst (AreOwed c k.run (e ∷ k.past)) (sym (is ∙ keeps)) (owed_after c k.run k.limit k.opened k.past e k.manned k.legal target reply k.decides os k.owed same)
+      subst (AreOwed c k.run (e ∷ k.past)) (sym (is ∙ keeps))
+      (owed_after c k.run k.limit k.opened k.past e k.manned k.legal target reply k.decides os k.owed same)
 
-  pub filed_after_all : (fs new : List FiledRow) → new ≡ fs ++ map (file target reply) (filter (is_decided c standing target ordered) (map (waited_by e wait) os)) → AreLeft c k.run k.opened k.past e fs → AreFiled c k.run k.opened (e ∷ k.past) new
+  pub filed_after_all : (fs new : List FiledRow)
+      → new ≡ fs ++ map (file target reply) (filter (is_decided c standing target ordered) (map (waited_by e wait) os)) → AreLeft c k.run k.opened k.past e fs
+      → AreFiled c k.run k.opened (e ∷ k.past) new
   filed_after_all fs new is left =
       subst (AreFiled c k.run k.opened (e ∷ k.past)) (sym (is ∙ ap (λ rs. fs ++ map (file target reply) rs) files))
       (filed_then c k.run k.limit k.opened k.past e k.manned k.legal target reply k.decides os k.owed fs left.which left.each)
@@ -87,9 +98,11 @@ pub as_many_then : (now : Owing → Bool) (f : Owing → FiledRow) (g : Owing �
     → new ≡ filter (λ o. not (now o)) (map g os) → filed ≡ fs ++ map f (filter now (map g os)) → length new + length filed ≡ length os + length fs
 as_many_then now f g os new fs filed new_is filed_is =
     let new_long : length new ≡ length (filter (λ o. not (now o)) (map g os)) = ap length new_is in
-    let filed_long : length filed ≡ length fs + length (map f (filter now (map g os))) = ap length filed_is ∙ length-append fs (map f (filter now (map g os))) in
+    let filed_long : length filed ≡ length fs + length (map f (filter now (map g os))) = ap length filed_is
+    ∙ length-append fs (map f (filter now (map g os))) in
     let mapped : length (map f (filter now (map g os))) ≡ length (filter now (map g os)) = length-map (filter now (map g os)) f in
-    let parts : length (filter now (map g os)) + length (filter (λ o. not (now o)) (map g os)) ≡ length (map g os) = length-filter_both now (λ o. not (now o)) (λ _. refl) (map g os) in
+    let parts : length (filter now (map g os)) + length (filter (λ o. not (now o)) (map g os)) ≡ length (map g os) =
+    length-filter_both now (λ o. not (now o)) (λ _. refl) (map g os) in
     let whole : length (map g os) ≡ length os = length-map os g in
     omega arith
 
@@ -110,5 +123,7 @@ waits_not (Etherealized w x y) wait os none = sym (map_same os)
 waits_not (Abandon w) wait os none = sym (map_same os)
 
 -- where there was room for one more, there still is
-pub spare_then : (l l' l'' p p' p'' many many' q q' q'' : ℕ) → l'' ≤ l' → l' ≤ l → p'' ≡ p' → p' ≡ p → many' ≡ many → q'' ≡ q' → q' ≡ q → (l < p) × (many < q) → (l'' < p'') × (many' < q'')
-spare_then l l' l'' p p' p'' many many' q q' q'' a b c d e f g room = ((let h = room.0 in omega (arith, a, b, c, d, h)), (let h = room.1 in omega (arith, e, f, g, h)))
+pub spare_then : (l l' l'' p p' p'' many many' q q' q'' : ℕ) → l'' ≤ l' → l' ≤ l → p'' ≡ p' → p' ≡ p → many' ≡ many → q'' ≡ q' → q' ≡ q → (l < p) × (many < q)
+    → (l'' < p'') × (many' < q'')
+spare_then l l' l'' p p' p'' many many' q q' q'' a b c d e f g room =
+    ((let h = room.0 in omega (arith, a, b, c, d, h)), (let h = room.1 in omega (arith, e, f, g, h)))

@@ -82,12 +82,14 @@ module _ (c : Config) (run : ℕ) (past : List Entry) (e : Entry) (ordered : Opt
         ∙ ap₂ (λ b w. b || comes c (standing c run (e ∷ past)) ordered o.arrival w) at n.wait
         ∙ ap (λ b. is_at o.arrival target || b) (as_comes o.wait))
       where
-        as_comes : (w : Option Wait) → comes c (standing c run (e ∷ past)) ordered o.arrival w ≡ (elim w [ Some wait ↦ has_come c (standing c run (e ∷ past)) ordered o.arrival wait | None ↦ false ])
+        as_comes : (w : Option Wait) → comes c (standing c run (e ∷ past)) ordered o.arrival w ≡
+            (elim w [ Some wait ↦ has_come c (standing c run (e ∷ past)) ordered o.arrival wait | None ↦ false ])
         as_comes None = refl
         as_comes (Some w) = refl
 
     -- those that are decided are the ones that the entry answers
-    pub filed_which : map (λ o. o.arrival) (filter (is_decided c (standing c run (e ∷ past)) target ordered) os) ≡ filter (is_answered_by c run e past) (below (arrivals past))
+    pub filed_which : map (λ o. o.arrival) (filter (is_decided c (standing c run (e ∷ past)) target ordered) os) ≡ filter (is_answered_by c run e past)
+        (below (arrivals past))
     filed_which =
         filter_mapped (λ o. o.arrival) (is_decided c (standing c run (e ∷ past)) target ordered) (decided c run (e ∷ past)) os row_decided
         ∙ ap (filter (decided c run (e ∷ past))) rows.which
@@ -103,9 +105,11 @@ module _ (c : Config) (run : ℕ) (past : List Entry) (e : Entry) (ordered : Opt
         swapped false b d = refl
 
     -- those that aren't are owed a reply still
-    pub owed_which : map (λ o. o.arrival) (filter (λ o. not (is_decided c (standing c run (e ∷ past)) target ordered o)) os) ≡ filter (is_owed c run (e ∷ past)) (below (arrivals past))
+    pub owed_which : map (λ o. o.arrival) (filter (λ o. not (is_decided c (standing c run (e ∷ past)) target ordered o)) os) ≡ filter (is_owed c run (e ∷ past))
+        (below (arrivals past))
     owed_which =
-        filter_mapped (λ o. o.arrival) (λ o. not (is_decided c (standing c run (e ∷ past)) target ordered o)) (λ r. not (decided c run (e ∷ past) r)) os (λ o there. ap not (row_decided o there))
+        filter_mapped (λ o. o.arrival) (λ o. not (is_decided c (standing c run (e ∷ past)) target ordered o)) (λ r. not (decided c run (e ∷ past) r)) os
+        (λ o there. ap not (row_decided o there))
         ∙ ap (filter (λ r. not (decided c run (e ∷ past) r))) rows.which
         ∙ filter_twice (is_owed c run past) (λ r. not (decided c run (e ∷ past) r)) (below (arrivals past))
         ∙ filter_agrees (λ r. is_owed c run past r && not (decided c run (e ∷ past) r)) (is_owed c run (e ∷ past)) (below (arrivals past))

@@ -41,7 +41,11 @@ pub alone_rows : (target : Option ℕ) (os : List Owing) → Distinct (map (λ o
 alone_rows target [] distinct i o is at = absurd (let e : None ≡ Some o = is in cc)
 alone_rows target (x ∷ xs) distinct zero o is at = refl
 alone_rows target (x ∷ xs) distinct (suc i) o is at =
-    ap₂ (λ a b. a || b) (false_from_ne_true (is_at x.arrival target) (λ same. distinct.0 (subst (λ r. In r (map (λ y. y.arrival) xs)) (both (at_is x.arrival target same) (at_is o.arrival target at)) (image_in (λ y. y.arrival) o xs (got i xs is)))))
+    ap₂ (λ a b. a || b)
+    (false_from_ne_true (is_at x.arrival target)
+    (λ same. distinct.0
+    (subst (λ r. In r (map (λ y. y.arrival) xs)) (both (at_is x.arrival target same) (at_is o.arrival target at))
+    (image_in (λ y. y.arrival) o xs (got i xs is)))))
     (alone_rows target xs distinct.1 i o is at)
   where
     both : {a b : ℕ} → target ≡ Some a → target ≡ Some b → b ≡ a
@@ -77,7 +81,8 @@ tries_none c run limit past (Etherealized w x y) manned legal = tt
 tries_none c run limit past (Abandon w) manned legal = tt
 
 -- what is collected after an entry was decided before it
-pub collected_before : (c : Config) (run limit : ℕ) (e : Entry) (past : List Entry) (r : ℕ) → IsLegal c run limit (e ∷ past) → is_collected (e ∷ past) r ≡ true → decided c run past r ≡ true
+pub collected_before : (c : Config) (run limit : ℕ) (e : Entry) (past : List Entry) (r : ℕ) → IsLegal c run limit (e ∷ past) → is_collected (e ∷ past) r ≡ true
+    → decided c run past r ≡ true
 collected_before c run limit (Collect conn a) past r legal is =
     elim (a == r) as (λ b. (a == r) ≡ b → (b || is_collected past r) ≡ true → decided c run past r ≡ true)
     [ true ↦ (λ same _. next_decided c run past conn r (legal.0 ∙ ap (λ x. Some x) (eqb-true a r same))) | false ↦ (λ _ is. collected_decided c run limit past r legal.1 is) ] refl is
@@ -101,13 +106,16 @@ module _ (c : Config) (run limit : ℕ) (opened : Stored) (past : List Entry) (e
 
   rows_arrived : (o : Owing) → In o os → o.arrival < arrivals past
   rows_arrived o there =
-      in_below o.arrival (arrivals past) (in_kept (is_owed c run past) o.arrival (below (arrivals past)) (subst (In o.arrival) owed.which (image_in (λ x. x.arrival) o os there))).0
+      in_below o.arrival (arrivals past)
+      (in_kept (is_owed c run past) o.arrival (below (arrivals past)) (subst (In o.arrival) owed.which (image_in (λ x. x.arrival) o os there))).0
 
   pub rows_after : AreRows c run past e (ordered_by c past e) (map (waited c run past e) os)
   rows_after = rows_next c run past e os (tries_none c run limit past e manned legal) rows_arrived owed
 
   pub rows_alone : IsAlone target (map (waited c run past e) os)
-  rows_alone = alone_rows target (map (waited c run past e) os) (subst Distinct (sym rows_after.which) (distinct_kept (is_owed c run past) (below (arrivals past)) (distinct_below (arrivals past))))
+  rows_alone =
+      alone_rows target (map (waited c run past e) os)
+      (subst Distinct (sym rows_after.which) (distinct_kept (is_owed c run past) (below (arrivals past)) (distinct_below (arrivals past))))
 
   pub rows_ascend : Ascends (arrivals_of (map (waited c run past e) os))
   rows_ascend = subst Ascends (sym rows_after.which) (ascending (is_owed c run past) (arrivals past))
@@ -124,12 +132,15 @@ module _ (c : Config) (run limit : ℕ) (opened : Stored) (past : List Entry) (e
   owed_after same = record { which = owed_before ∙ ap (λ n. filter (is_owed c run (e ∷ past)) (below n)) (sym same); each = each_owed }
 
   -- the replies, once those that the entry collects are taken out
-  pub filed_then : (fs : List FiledRow) → map (λ f. f.arrival) fs ≡ filter (λ r. not (is_collected (e ∷ past) r)) (answered c run past) → ((f : FiledRow) → In f fs → IsFiled c run opened past f)
+  pub filed_then : (fs : List FiledRow) → map (λ f. f.arrival) fs ≡ filter (λ r. not (is_collected (e ∷ past) r)) (answered c run past)
+      → ((f : FiledRow) → In f fs → IsFiled c run opened past f)
       → AreFiled c run opened (e ∷ past) (fs ++ map (file target reply) (filter now (map (waited c run past e) os)))
   filed_then fs which each =
       record {
-        which = filed_after c run opened past e (ordered_by c past e) (map (waited c run past e) os) rows_after target reply decides (λ r. not (is_collected (e ∷ past) r))
-            (λ r _ fresh. ap not (false_from_ne_true (is_collected (e ∷ past) r) (λ is. true≢false (sym (collected_before c run limit e past r legal is) ∙ fresh)))) fs which;
+        which = filed_after c run opened past e (ordered_by c past e) (map (waited c run past e) os) rows_after target reply decides
+            (λ r. not (is_collected (e ∷ past) r))
+            (λ r _ fresh. ap not
+            (false_from_ne_true (is_collected (e ∷ past) r) (λ is. true≢false (sym (collected_before c run limit e past r legal is) ∙ fresh)))) fs which;
         each = each_filed c run opened past e (ordered_by c past e) (map (waited c run past e) os) rows_after target reply decides fs each;
       }
 
@@ -150,13 +161,16 @@ module _ (c : Config) (run limit : ℕ) (past : List Entry) (conn size : ℕ) (c
       ap₂ (λ b v. b || (is_waiting v && settles c run (e ∷ past) r))
       (false_from_ne_true (decided c run past r) (λ is. (let less = decided_arrived c run limit past r legal.1 is in omega (arith, less)))) not_admitted
 
-  pub new_owes : (o : Owing) → o.arrival ≡ r → o.conn ≡ conn → o.number ≡ number_of (Some call) → o.head ≡ head_of (Some call) → o.wait ≡ None → Owes c run (e ∷ past) o
+  pub new_owes : (o : Owing) → o.arrival ≡ r → o.conn ≡ conn → o.number ≡ number_of (Some call) → o.head ≡ head_of (Some call) → o.wait ≡ None
+      → Owes c run (e ∷ past) o
   new_owes o at conn_is number_is head_is wait_is =
       record {
         conn = ap (λ x. conn_of (e ∷ past) x) at ∙ own (Some conn) (conn_of past r) ∙ ap (λ x. Some x) (sym conn_is);
         number = ap (λ x. number_of (call_of (e ∷ past) x)) at ∙ ap number_of (own (Some call) (call_of past r)) ∙ sym number_is;
         head = ap (λ x. head_of (call_of (e ∷ past) x)) at ∙ ap head_of (own (Some call) (call_of past r)) ∙ sym head_is;
-        wait = ap (wait_in c run (e ∷ past)) at ∙ ap (λ v. if is_waiting v then wait_of c (standing c run (before_admit past r)) (command_in (call_of (e ∷ past) r)) else None) not_admitted ∙ sym wait_is;
+        wait = ap (wait_in c run (e ∷ past)) at ∙ ap
+            (λ v. if is_waiting v then wait_of c (standing c run (before_admit past r)) (command_in (call_of (e ∷ past) r)) else None) not_admitted
+            ∙ sym wait_is;
         current = subst (λ w. IsCurrent c (e ∷ past) o.arrival w) (sym wait_is) tt;
       }
     where
@@ -164,7 +178,8 @@ module _ (c : Config) (run limit : ℕ) (past : List Entry) (conn size : ℕ) (c
       own x y = ap (λ b. if b then x else y) (eq-eqb r r refl)
 
   -- it is owed a reply where it asks one
-  pub owed_with : (os : List Owing) (o : Owing) → map (λ x. x.arrival) os ≡ filter (is_owed c run (e ∷ past)) (below r) → ((x : Owing) → In x os → Owes c run (e ∷ past) x)
+  pub owed_with : (os : List Owing) (o : Owing) → map (λ x. x.arrival) os ≡ filter (is_owed c run (e ∷ past)) (below r)
+      → ((x : Owing) → In x os → Owes c run (e ∷ past) x)
       → o.arrival ≡ r → Owes c run (e ∷ past) o → asks (Some call) ≡ true → AreOwed c run (e ∷ past) (os ++ o ∷ [])
   owed_with os o which each at owes asked =
       record {
@@ -184,11 +199,15 @@ module _ (c : Config) (run limit : ℕ) (past : List Entry) (conn size : ℕ) (c
       in_last x (y ∷ ys) (inl same) = inl (inl same)
       in_last x (y ∷ ys) (inr more) = elim (in_last x ys more) [ inl there ↦ inl (inr there) | inr same ↦ inr same ]
 
-  pub owed_without : (os : List Owing) → map (λ x. x.arrival) os ≡ filter (is_owed c run (e ∷ past)) (below r) → ((x : Owing) → In x os → Owes c run (e ∷ past) x)
+  pub owed_without : (os : List Owing) → map (λ x. x.arrival) os ≡ filter (is_owed c run (e ∷ past)) (below r)
+      → ((x : Owing) → In x os → Owes c run (e ∷ past) x)
       → asks (Some call) ≡ false → AreOwed c run (e ∷ past) os
   owed_without os which each unasked =
       record {
-        which = which ∙ sym (filter-append (is_owed c run (e ∷ past)) (below r) (r ∷ []) ∙ ap (λ b. filter (is_owed c run (e ∷ past)) (below r) ++ cond b (r ∷ []) []) (unowed unasked) ∙ append-nil (filter (is_owed c run (e ∷ past)) (below r)));
+        which = which
+            ∙ sym (filter-append (is_owed c run (e ∷ past)) (below r) (r ∷ [])
+            ∙ ap (λ b. filter (is_owed c run (e ∷ past)) (below r) ++ cond b (r ∷ []) []) (unowed unasked)
+            ∙ append-nil (filter (is_owed c run (e ∷ past)) (below r)));
         each = each;
       }
     where

@@ -49,7 +49,8 @@ in_append x [] ys there = inr there
 in_append x (z ∷ xs) ys (inl same) = inl (inl same)
 in_append x (z ∷ xs) ys (inr more) = elim (in_append x xs ys more) [ inl a ↦ inl (inr a) | inr b ↦ inr b ]
 
-module _ (c : Config) (run : ℕ) (opened : Stored) (past : List Entry) (e : Entry) (ordered : Option Ordered) (os : List Owing) (rows : AreRows c run past e ordered os)
+module _ (c : Config) (run : ℕ) (opened : Stored) (past : List Entry) (e : Entry) (ordered : Option Ordered) (os : List Owing)
+    (rows : AreRows c run past e ordered os)
     (target : Option ℕ) (reply : Reply) (decides : Decides c run opened past e target reply) where
   -- a row that isn't decided is owed a reply still
   pub row_stays : (o : Owing) → In o (filter (λ o. not (is_decided c (standing c run (e ∷ past)) target ordered o)) os) → Owes c run (e ∷ past) o
@@ -70,16 +71,19 @@ module _ (c : Config) (run : ℕ) (opened : Stored) (past : List Entry) (e : Ent
       rest_of true b is = absurd (let x : true ≡ false = is in cc)
 
       current_of : (w : Option Wait) → IsOvertaken c (e ∷ past) ordered o.arrival w
-          → (is_at o.arrival target || (elim w [ Some wait ↦ has_come c (standing c run (e ∷ past)) ordered o.arrival wait | None ↦ false ])) ≡ false → IsCurrent c (e ∷ past) o.arrival w
+          → (is_at o.arrival target || (elim w [ Some wait ↦ has_come c (standing c run (e ∷ past)) ordered o.arrival wait | None ↦ false ])) ≡ false
+          → IsCurrent c (e ∷ past) o.arrival w
       current_of None over none = tt
       current_of (Some Nothing) over none = tt
       current_of (Some (Quiet m)) over none =
-          over ∙ rest_of (is_quiet c (standing c run (e ∷ past)) m) (is_overtaking ordered o.arrival m) (rest_of (is_at o.arrival target) (is_quiet c (standing c run (e ∷ past)) m || is_overtaking ordered o.arrival m) none)
+          over ∙ rest_of (is_quiet c (standing c run (e ∷ past)) m) (is_overtaking ordered o.arrival m)
+          (rest_of (is_at o.arrival target) (is_quiet c (standing c run (e ∷ past)) m || is_overtaking ordered o.arrival m) none)
       current_of (Some (Off m etherealize begun)) over none = tt
       current_of (Some (Gone k)) over none = tt
 
   -- what is filed of a row is the reply of its call
-  pub row_filed : (o : Owing) → In o (filter (is_decided c (standing c run (e ∷ past)) target ordered) os) → IsFiled c run opened (e ∷ past) (file target reply o)
+  pub row_filed : (o : Owing) → In o (filter (is_decided c (standing c run (e ∷ past)) target ordered) os)
+      → IsFiled c run opened (e ∷ past) (file target reply o)
   row_filed o there =
       let kept = in_kept (is_decided c (standing c run (e ∷ past)) target ordered) o os there in
       let less = (row_owed c run past e ordered os rows o kept.0).0 in
@@ -105,7 +109,8 @@ module _ (c : Config) (run : ℕ) (opened : Stored) (past : List Entry) (e : Ent
   -- the replies in their order, but for those that a test says were collected
   pub filed_after : (stands : ℕ → Bool) → ((r : ℕ) → r < arrivals past → decided c run past r ≡ false → stands r ≡ true) → (fs : List FiledRow)
       → map (λ f. f.arrival) fs ≡ filter stands (answered c run past)
-      → map (λ f. f.arrival) (fs ++ map (file target reply) (filter (is_decided c (standing c run (e ∷ past)) target ordered) os)) ≡ filter stands (answered c run (e ∷ past))
+      → map (λ f. f.arrival) (fs ++ map (file target reply) (filter (is_decided c (standing c run (e ∷ past)) target ordered) os)) ≡ filter stands
+      (answered c run (e ∷ past))
   filed_after stands fresh_stand fs which =
       let now = is_decided c (standing c run (e ∷ past)) target ordered in
       let news = filter (is_answered_by c run e past) (below (arrivals past)) in
@@ -123,7 +128,8 @@ module _ (c : Config) (run : ℕ) (opened : Stored) (past : List Entry) (e : Ent
       third false b d is = absurd (let x : false ≡ true = is in cc)
 
   pub each_filed : (fs : List FiledRow) → ((f : FiledRow) → In f fs → IsFiled c run opened past f)
-      → (f : FiledRow) → In f (fs ++ map (file target reply) (filter (is_decided c (standing c run (e ∷ past)) target ordered) os)) → IsFiled c run opened (e ∷ past) f
+      → (f : FiledRow) → In f (fs ++ map (file target reply) (filter (is_decided c (standing c run (e ∷ past)) target ordered) os))
+      → IsFiled c run opened (e ∷ past) f
   each_filed fs each f there =
       elim (in_append f fs (map (file target reply) (filter (is_decided c (standing c run (e ∷ past)) target ordered) os)) there) [
         | inl old ↦ stays_filed f (each f old)

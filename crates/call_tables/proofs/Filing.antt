@@ -19,10 +19,12 @@ use Rattle.call_tables.specs.declared.owing.Owing.{Owing}
 use Rattle.call_tables.specs.Desk.{file, IsAlone}
 
 -- a reply matters to the target alone
-pub file_same : (target : Option ℕ) (reply first : Reply) (o : Owing) → (is_at o.arrival target ≡ true → reply ≡ first) → file target reply o ≡ file target first o
+pub file_same : (target : Option ℕ) (reply first : Reply) (o : Owing) → (is_at o.arrival target ≡ true → reply ≡ first)
+    → file target reply o ≡ file target first o
 file_same target reply first o same =
     ap (λ r. record { arrival = o.arrival; conn = o.conn; head = o.head; reply = r })
-    (elim (is_at o.arrival target) as (λ b. is_at o.arrival target ≡ b → (if b then reply else AnswerReply o.number Good) ≡ (if b then first else AnswerReply o.number Good))
+    (elim (is_at o.arrival target) as (λ b. is_at o.arrival target ≡ b
+    → (if b then reply else AnswerReply o.number Good) ≡ (if b then first else AnswerReply o.number Good))
     [ true ↦ λ at. same at | false ↦ λ _. refl ] refl)
 
 files_same : (now : Owing → Bool) (target : Option ℕ) (reply first : Reply) (o : Owing) → (is_at o.arrival target ≡ true → reply ≡ first)
@@ -34,7 +36,8 @@ files_same now target reply first o same =
 -- what was filed of the first rows, and then of the next one
 pub filed_more : (now : Owing → Bool) (target : Option ℕ) (reply first : Reply) (old : List Filed) (os : List Owing) (i : ℕ) (o : Owing)
     → i < length os → o ≡ get_or os i o → (is_at o.arrival target ≡ true → reply ≡ first)
-    → (old ++ map (file target first) (filter now (take i os))) ++ map (file target reply) (filter now (o ∷ [])) ≡ old ++ map (file target first) (filter now (take (i + 1) os))
+    → (old ++ map (file target first) (filter now (take i os))) ++ map (file target reply) (filter now (o ∷ [])) ≡ old ++ map (file target first)
+    (filter now (take (i + 1) os))
 filed_more now target reply first old os i o below is same =
     let f = file target first in
     ap (λ fs. (old ++ map f (filter now (take i os))) ++ fs) (files_same now target reply first o same)
@@ -45,14 +48,16 @@ filed_more now target reply first old os i o below is same =
     ∙ ap (λ xs. old ++ map f (filter now xs)) (sym (take_more os i o below))
 
 -- what was filed isn't owed any more, so there is as much room as before
-pub room_kept : {A B : Type 0} (p : A → Bool) (f : A → B) (old : List B) (xs : List A) (room : ℕ) → length old + length xs ≤ room → length (old ++ map f (filter p xs)) + length (filter (λ x. not (p x)) xs) ≤ room
+pub room_kept : {A B : Type 0} (p : A → Bool) (f : A → B) (old : List B) (xs : List A) (room : ℕ) → length old + length xs ≤ room
+    → length (old ++ map f (filter p xs)) + length (filter (λ x. not (p x)) xs) ≤ room
 room_kept p f old xs room fits =
     let both : length (old ++ map f (filter p xs)) ≡ length old + length (map f (filter p xs)) = length-append old (map f (filter p xs)) in
     let as_many : length (map f (filter p xs)) ≡ length (filter p xs) = length-map (filter p xs) f in
     let parts : length (filter p xs) + length (filter (λ x. not (p x)) xs) ≡ length xs = length-filter_both p (λ x. not (p x)) (λ _. refl) xs in
     omega arith
 
-pub room_after : {A B : Type 0} (p : A → Bool) (f : A → B) (old : List B) (xs : List A) (new : List B) (left : List A) (room more : ℕ) → length old + length xs ≤ room
+pub room_after : {A B : Type 0} (p : A → Bool) (f : A → B) (old : List B) (xs : List A) (new : List B) (left : List A) (room more : ℕ)
+    → length old + length xs ≤ room
     → new ≡ old ++ map f (filter p xs) → left ≡ filter (λ x. not (p x)) xs → more ≡ room → length new + length left ≤ more
 room_after p f old xs new left room more fits new_is left_is more_is =
     let kept = room_kept p f old xs room fits in
@@ -63,7 +68,8 @@ room_after p f old xs new left room more fits new_is left_is more_is =
 -- the place of the first element that passes, or the one behind all
 pub found_or_behind : {A : Type 0} (p : A → Bool) (xs : List A) → unwrap_or (position p xs) (length xs) ≡ position_or_len p xs
 found_or_behind p xs =
-    elim (nat_lt (position_or_len p xs) (length xs)) as (λ b. nat_lt (position_or_len p xs) (length xs) ≡ b → unwrap_or (cond b (Some (position_or_len p xs)) None) (length xs) ≡ position_or_len p xs)
+    elim (nat_lt (position_or_len p xs) (length xs)) as (λ b. nat_lt (position_or_len p xs) (length xs) ≡ b
+    → unwrap_or (cond b (Some (position_or_len p xs)) None) (length xs) ≡ position_or_len p xs)
     [ true ↦ λ _. refl | false ↦ λ none. (let behind : length xs ≤ position_or_len p xs = ltb-false (position_or_len p xs) (length xs) none in let within : position_or_len p xs ≤ length xs = prefix_len-le-length (λ x. not (p x)) xs in omega arith) ] refl
 
 get_same : {A : Type 0} (xs : List A) (i : ℕ) (d e : A) → i < length xs → get_or xs i d ≡ get_or xs i e
@@ -72,7 +78,8 @@ get_same (x ∷ xs) zero d e below = refl
 get_same (x ∷ xs) (suc i) d e below = get_same xs i d e (omega arith)
 
 -- none of the first so many passes, nor the next one
-none_before : {A : Type 0} (p : A → Bool) (xs : List A) (i : ℕ) (x : A) → i < length xs → x ≡ get_or xs i x → list_any p (take (i + 1) xs) ≡ false → (list_any p (take i xs) ≡ false) × (p x ≡ false)
+none_before : {A : Type 0} (p : A → Bool) (xs : List A) (i : ℕ) (x : A) → i < length xs → x ≡ get_or xs i x → list_any p (take (i + 1) xs) ≡ false
+    → (list_any p (take i xs) ≡ false) × (p x ≡ false)
 none_before p xs i x below is none =
     let both : (list_any p (take i xs) || (p x || false)) ≡ false =
     sym (list_any-append p (take i xs) (x ∷ []))
@@ -119,7 +126,8 @@ filed_one target reply row old rows one at =
     ∙ ap (λ os. old ++ map (file target reply) os) (sym one)
 
 -- what is taken from the place of the first element that passes is what is found
-pub taken_is : {A : Type 0} (p : A → Bool) (xs : List A) (i : ℕ) (taken : Option A) {n : ℕ} → n ≡ length xs → i ≡ position_or_len p xs → (IsSome taken ↔ (i < n)) → IfSome taken (λ x. x ≡ get_or xs i x) → taken ≡ find p xs
+pub taken_is : {A : Type 0} (p : A → Bool) (xs : List A) (i : ℕ) (taken : Option A) {n : ℕ} → n ≡ length xs → i ≡ position_or_len p xs
+    → (IsSome taken ↔ (i < n)) → IfSome taken (λ x. x ≡ get_or xs i x) → taken ≡ find p xs
 taken_is p xs i (Some x) many at there value = first_is p xs i x at (subst (λ m. i < m) many (there.0 refl)) value
 taken_is p xs i None many at there value =
     elim (nat_lt i (length xs)) as (λ b. nat_lt i (length xs) ≡ b → None ≡ find p xs) [

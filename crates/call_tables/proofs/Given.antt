@@ -28,11 +28,15 @@ pub within_is : (c : Config) (run : ℕ) (whole : List Entry) (conn : ℕ) (h : 
 within_is c run whole conn [] same = refl
 within_is c run whole conn (e ∷ past) same =
     let earlier : (r : ℕ) → r < arrivals past → call_of whole r ≡ call_of past r =
-    λ r less. (let more : arrivals past ≤ arrivals (e ∷ past) = arrivals_kept e past in let less' : r < arrivals (e ∷ past) = omega (arith, less, more) in same r less' ∙ call_kept e past r less) in
+    λ r less.
+    (let more : arrivals past ≤ arrivals (e ∷ past) = arrivals_kept e past in let less' : r < arrivals (e ∷ past) = omega (arith, less, more) in same r less'
+    ∙ call_kept e past r less) in
     ap₂ option_or (within_is c run whole conn past earlier)
     (least_found (is_newly_decided c run whole conn e past) (arrivals past)
     ∙ find_agrees (is_newly_decided c run whole conn e past) (λ r. is_answered_by c run e past r && stands_for whole conn r) (below (arrivals past))
-    (λ r there. ap (λ call. (is_at conn (conn_of whole r) && asks call) && (not (is_collected whole r) && (decided c run (e ∷ past) r && not (decided c run past r)))) (earlier r (in_below r (arrivals past) there))
+    (λ r there. ap
+    (λ call. (is_at conn (conn_of whole r) && asks call) && (not (is_collected whole r) && (decided c run (e ∷ past) r && not (decided c run past r))))
+    (earlier r (in_below r (arrivals past) there))
     ∙ moved (is_at conn (conn_of whole r)) (asks (call_of past r)) (not (is_collected whole r)) (decided c run (e ∷ past) r && not (decided c run past r)))
     ∙ sym (find_kept (is_answered_by c run e past) (stands_for whole conn) (below (arrivals past))))
     ∙ sym (find-append (stands_for whole conn) (answered c run past) (filter (is_answered_by c run e past) (below (arrivals past))))
@@ -57,7 +61,8 @@ pub next_is : (c : Config) (run : ℕ) (opened : Stored) (h : List Entry) (fs : 
     → next_reply c run h conn ≡ option_map (λ f. f.arrival) (find (λ f. f.conn == conn) fs)
 next_is c run opened h fs conn filed =
     within_is c run h conn h (λ r _. refl)
-    ∙ find_agrees (stands_for h conn) (λ r. not (is_collected h r) && is_at conn (conn_of h r)) (answered c run h) (λ r _. swapped (is_at conn (conn_of h r)) (not (is_collected h r)))
+    ∙ find_agrees (stands_for h conn) (λ r. not (is_collected h r) && is_at conn (conn_of h r)) (answered c run h)
+    (λ r _. swapped (is_at conn (conn_of h r)) (not (is_collected h r)))
     ∙ sym (find_kept (λ r. not (is_collected h r)) (λ r. is_at conn (conn_of h r)) (answered c run h))
     ∙ ap (find (λ r. is_at conn (conn_of h r))) (sym filed.which)
     ∙ sym (find_mapped (λ f. f.arrival) (λ f. f.conn == conn) (λ r. is_at conn (conn_of h r)) fs (λ f there. sym (ap (is_at conn) (filed.each f there).conn)))
@@ -69,7 +74,8 @@ next_is c run opened h fs conn filed =
     swapped false false = refl
 
 -- as many rows of the connection are owed a reply as the history says
-pub owed_is : (c : Config) (run : ℕ) (h : List Entry) (os : List Owing) (conn : ℕ) → AreOwed c run h os → owed c run h conn ≡ length (filter (λ o. o.conn == conn) os)
+pub owed_is : (c : Config) (run : ℕ) (h : List Entry) (os : List Owing) (conn : ℕ) → AreOwed c run h os
+    → owed c run h conn ≡ length (filter (λ o. o.conn == conn) os)
 owed_is c run h os conn rows =
     counted (λ r. is_asked h conn r && not (decided c run h r)) (arrivals h)
     ∙ ap length (filter_agrees (λ r. is_asked h conn r && not (decided c run h r)) (λ r. is_owed c run h r && is_at conn (conn_of h r)) (below (arrivals h))

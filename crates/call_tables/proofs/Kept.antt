@@ -33,7 +33,8 @@ conn_arrived (Abandon w ∷ past) r k is = conn_arrived past r k is
 -- earlier calls stay on their connections
 pub conn_kept : (e : Entry) (past : List Entry) (r : ℕ) → r < arrivals past → conn_of (e ∷ past) r ≡ conn_of past r
 conn_kept (Arrive conn size call) past r less =
-    cond_both (r == arrivals past) (Some conn) (conn_of past r) (λ o. o ≡ conn_of past r) (λ same. absurd (let e : r ≡ arrivals past = eqb-true r (arrivals past) same in omega (arith, e, less))) (λ _. refl)
+    cond_both (r == arrivals past) (Some conn) (conn_of past r) (λ o. o ≡ conn_of past r)
+    (λ same. absurd (let e : r ≡ arrivals past = eqb-true r (arrivals past) same in omega (arith, e, less))) (λ _. refl)
 conn_kept (Entered conn) past r less = refl
 conn_kept (Filled conn size) past r less = refl
 conn_kept (Left conn) past r less = refl
@@ -48,22 +49,27 @@ conn_kept (Etherealized w x y) past r less = refl
 conn_kept (Abandon w) past r less = refl
 
 -- what has a reply was decided
-pub replied_decided : (c : Config) (run : ℕ) (opened : Stored) (h : List Entry) (r : ℕ) (reply : Reply) → reply_of c run opened h r ≡ Some reply → decided c run h r ≡ true
+pub replied_decided : (c : Config) (run : ℕ) (opened : Stored) (h : List Entry) (r : ℕ) (reply : Reply) → reply_of c run opened h r ≡ Some reply
+    → decided c run h r ≡ true
 replied_decided c run opened [] r reply is = absurd (let e : None ≡ Some reply = is in cc)
 replied_decided c run opened (e ∷ past) r reply is =
     elim (decided c run past r) as (λ b. decided c run past r ≡ b
-    → (if b then reply_of c run opened past r else if decided c run (e ∷ past) r then reply_by c run opened past e r else None) ≡ Some reply → decided c run (e ∷ past) r ≡ true) [
+    → (if b then reply_of c run opened past r else if decided c run (e ∷ past) r then reply_by c run opened past e r else None) ≡ Some reply
+    → decided c run (e ∷ past) r ≡ true) [
       | true ↦ (λ was _. stays_decided c run past e r was)
       | false ↦ (λ _ is. elim (decided c run (e ∷ past) r) as (λ b. (if b then reply_by c run opened past e r else None) ≡ Some reply → b ≡ true)
           [ true ↦ (λ _. refl) | false ↦ (λ none. absurd (let x : None ≡ Some reply = none in cc)) ] is)
     ] refl is
 
 -- a reply stays what it was
-pub reply_kept : (c : Config) (run : ℕ) (opened : Stored) (past : List Entry) (e : Entry) (r : ℕ) → decided c run past r ≡ true → reply_of c run opened (e ∷ past) r ≡ reply_of c run opened past r
-reply_kept c run opened past e r was = ap (λ b. if b then reply_of c run opened past r else if decided c run (e ∷ past) r then reply_by c run opened past e r else None) was
+pub reply_kept : (c : Config) (run : ℕ) (opened : Stored) (past : List Entry) (e : Entry) (r : ℕ) → decided c run past r ≡ true
+    → reply_of c run opened (e ∷ past) r ≡ reply_of c run opened past r
+reply_kept c run opened past e r was =
+    ap (λ b. if b then reply_of c run opened past r else if decided c run (e ∷ past) r then reply_by c run opened past e r else None) was
 
 -- the entry that decides an arrival fixes its reply
-pub reply_fixed : (c : Config) (run : ℕ) (opened : Stored) (past : List Entry) (e : Entry) (r : ℕ) → decided c run past r ≡ false → decided c run (e ∷ past) r ≡ true
+pub reply_fixed : (c : Config) (run : ℕ) (opened : Stored) (past : List Entry) (e : Entry) (r : ℕ) → decided c run past r ≡ false
+    → decided c run (e ∷ past) r ≡ true
     → reply_of c run opened (e ∷ past) r ≡ reply_by c run opened past e r
 reply_fixed c run opened past e r fresh now =
     ap (λ b. if b then reply_of c run opened past r else if decided c run (e ∷ past) r then reply_by c run opened past e r else None) fresh

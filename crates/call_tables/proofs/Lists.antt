@@ -9,7 +9,8 @@ filter_agrees p q (x ∷ xs) same =
     ap₂ (λ b ys. cond b (x ∷ ys) ys) (same x (inl refl)) (filter_agrees p q xs (λ y there. same y (inr there)))
 
 -- keeping by a test on what is read of the elements
-pub filter_mapped : {A B : Type 0} (g : A → B) (p : A → Bool) (q : B → Bool) (xs : List A) → ((x : A) → In x xs → p x ≡ q (g x)) → map g (filter p xs) ≡ filter q (map g xs)
+pub filter_mapped : {A B : Type 0} (g : A → B) (p : A → Bool) (q : B → Bool) (xs : List A) → ((x : A) → In x xs → p x ≡ q (g x))
+    → map g (filter p xs) ≡ filter q (map g xs)
 filter_mapped g p q [] same = refl
 filter_mapped {A} {B} g p q (x ∷ xs) same =
     let rest : map g (filter p xs) ≡ filter q (map g xs) = filter_mapped g p q xs (λ y there. same y (inr there)) in
@@ -28,7 +29,8 @@ pub find_agrees : {A : Type 0} (p q : A → Bool) (xs : List A) → ((x : A) →
 find_agrees p q [] same = refl
 find_agrees p q (x ∷ xs) same = ap₂ (λ b o. cond b (Some x) o) (same x (inl refl)) (find_agrees p q xs (λ y there. same y (inr there)))
 
-pub find_mapped : {A B : Type 0} (g : A → B) (p : A → Bool) (q : B → Bool) (xs : List A) → ((x : A) → In x xs → p x ≡ q (g x)) → option_map g (find p xs) ≡ find q (map g xs)
+pub find_mapped : {A B : Type 0} (g : A → B) (p : A → Bool) (q : B → Bool) (xs : List A) → ((x : A) → In x xs → p x ≡ q (g x))
+    → option_map g (find p xs) ≡ find q (map g xs)
 find_mapped g p q [] same = refl
 find_mapped {A} {B} g p q (x ∷ xs) same =
     let rest : option_map g (find p xs) ≡ find q (map g xs) = find_mapped g p q xs (λ y there. same y (inr there)) in

@@ -28,10 +28,12 @@ or_false false = refl
 -- where no row waits, one that is to wait for nothing is as it was
 pub unset : (r : ℕ) (os : List Owing) → list_any has_wait os ≡ false → map (set_wait r None) os ≡ os
 unset r [] none = refl
-unset r (o ∷ os) none = ap₂ (λ x xs. x ∷ xs) (unset_one r o (first (has_wait o) (list_any has_wait os) none)) (unset r os (second (has_wait o) (list_any has_wait os) none))
+unset r (o ∷ os) none =
+    ap₂ (λ x xs. x ∷ xs) (unset_one r o (first (has_wait o) (list_any has_wait os) none)) (unset r os (second (has_wait o) (list_any has_wait os) none))
   where
     unset_row : (r : ℕ) (o : Owing) (wait : Option Wait) → o.wait ≡ wait → is_some wait ≡ false → set_wait r None o ≡ o
-    unset_row r o None at none = cond_both (o.arrival == r) (record o { wait = None }) o (λ p. p ≡ o) (λ _. ap (λ w. record o { wait = w }) (sym at)) (λ _. refl)
+    unset_row r o None at none =
+        cond_both (o.arrival == r) (record o { wait = None }) o (λ p. p ≡ o) (λ _. ap (λ w. record o { wait = w }) (sym at)) (λ _. refl)
     unset_row r o (Some w) at none = absurd (let e : true ≡ false = none in cc)
 
     unset_one : (r : ℕ) (o : Owing) → has_wait o ≡ false → set_wait r None o ≡ o
@@ -50,8 +52,10 @@ target_alone c s target ordered os none o there = by_wait o.wait refl
     waits_none : has_wait o ≡ false
     waits_none = none_in o os none there
 
-    by_wait : (wait : Option Wait) → o.wait ≡ wait → is_at o.arrival target ≡ (is_at o.arrival target || (elim o.wait [ Some w ↦ has_come c s ordered o.arrival w | None ↦ false ]))
-    by_wait None at = sym (ap (λ w. is_at o.arrival target || (elim w [ Some x ↦ has_come c s ordered o.arrival x | None ↦ false ])) at ∙ or_false (is_at o.arrival target))
+    by_wait : (wait : Option Wait) → o.wait ≡ wait
+        → is_at o.arrival target ≡ (is_at o.arrival target || (elim o.wait [ Some w ↦ has_come c s ordered o.arrival w | None ↦ false ]))
+    by_wait None at =
+        sym (ap (λ w. is_at o.arrival target || (elim w [ Some x ↦ has_come c s ordered o.arrival x | None ↦ false ])) at ∙ or_false (is_at o.arrival target))
     by_wait (Some w) at = absurd (let e : true ≡ false = sym (ap is_some at) ∙ waits_none in cc)
 
 -- of rows that don't wait none does that is kept
@@ -59,7 +63,8 @@ pub kept_none : (p : Owing → Bool) (os : List Owing) → list_any has_wait os 
 kept_none p [] none = refl
 kept_none p (o ∷ os) none =
     let rest = kept_none p os (second (has_wait o) (list_any has_wait os) none) in
-    cond_both (p o) (o ∷ filter p os) (filter p os) (λ xs. list_any has_wait xs ≡ false) (λ _. ap₂ (λ a b. a || b) (first (has_wait o) (list_any has_wait os) none) rest) (λ _. rest)
+    cond_both (p o) (o ∷ filter p os) (filter p os) (λ xs. list_any has_wait xs ≡ false)
+    (λ _. ap₂ (λ a b. a || b) (first (has_wait o) (list_any has_wait os) none) rest) (λ _. rest)
 
 pub none_given : (wait : Option Wait) → is_some wait ≡ false → wait ≡ None
 none_given None none = refl

@@ -40,7 +40,8 @@ module _ (r : ℕ) where
   its_not o other = false_from_ne_true (its o) (λ same. other (sym (eqb-true r o.arrival same)))
 
   -- where no row is the target's, all stay
-  pub all_stay : (os : List Owing) → ((i : ℕ) (d : Owing) → i < length os → (get_or os i d).arrival ≡ r → ⊥) → (filter its os ≡ []) × (filter (λ o. not (its o)) os ≡ os)
+  pub all_stay : (os : List Owing) → ((i : ℕ) (d : Owing) → i < length os → (get_or os i d).arrival ≡ r → ⊥) → (filter its os ≡ [])
+      × (filter (λ o. not (its o)) os ≡ os)
   all_stay [] none = (refl, refl)
   all_stay (o ∷ os) none =
       let rest = all_stay os (λ i d low. none (suc i) d (omega (arith, low))) in
@@ -67,14 +68,16 @@ module _ (r : ℕ) where
       )
 
   -- what the search finds is filed, and nothing else
-  pub found : (os : List Owing) (i : ℕ) (row : Owing) → Ascends (arrivals_of os) → i < length os → IsBinarySearchResult (λ o. nat_cmp o.arrival r) os (Ok i) → row ≡ get_or os i row
+  pub found : (os : List Owing) (i : ℕ) (row : Owing) → Ascends (arrivals_of os) → i < length os → IsBinarySearchResult (λ o. nat_cmp o.arrival r) os (Ok i)
+      → row ≡ get_or os i row
       → (filter its os ≡ row ∷ []) × (filter (λ o. not (its o)) os ≡ remove os i) × (its row ≡ true)
   found os i row up low is same =
       (let at = ranked (get_or os i row).arrival r _ (sym (is row)) in
       let alone = alone_at os i row up low at in
       (alone.0 ∙ ap (λ o. o ∷ []) (sym same), alone.1, its_is row (ap (λ o. o.arrival) same ∙ at)))
 
-  pub missing : (os : List Owing) (i : ℕ) → Ascends (arrivals_of os) → IsBinarySearchResult (λ o. nat_cmp o.arrival r) os (Err i) → (filter its os ≡ []) × (filter (λ o. not (its o)) os ≡ os)
+  pub missing : (os : List Owing) (i : ℕ) → Ascends (arrivals_of os) → IsBinarySearchResult (λ o. nat_cmp o.arrival r) os (Err i) → (filter its os ≡ [])
+      × (filter (λ o. not (its o)) os ≡ os)
   missing os i up is =
       let parted = is (λ a b d le lt. (let up_to = rises os up a b d le lt in grind (arith, nat_tests, up_to))) in
       all_stay os (λ k d within same.

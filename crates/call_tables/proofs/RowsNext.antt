@@ -38,28 +38,39 @@ still_over c past e r (Some (Off m etherealize begun)) current = tt
 still_over c past e r (Some (Gone k)) current = tt
 
 -- what is admitted anew is overtaken by nothing
-anew_over : (c : Config) (past : List Entry) (w a r : ℕ) (v : Verdict) (wait : Option Wait) → (a == r) ≡ true → IsOvertaken c (Admit w a v ∷ past) (ordered_by c past (Admit w a v)) r wait
+anew_over : (c : Config) (past : List Entry) (w a r : ℕ) (v : Verdict) (wait : Option Wait) → (a == r) ≡ true
+    → IsOvertaken c (Admit w a v ∷ past) (ordered_by c past (Admit w a v)) r wait
 anew_over c past w a r v None same = tt
 anew_over c past w a r v (Some Nothing) same = tt
 anew_over c past w a r v (Some (Quiet m)) same =
     ap (λ b. if b then false else (is_some (order_for c m (command_done past (Admit w a v))) || is_overtaken c m past r)) same
-    ∙ sym (elim (manager_ordered c (command_done past (Admit w a v))) as (λ found. is_overtaking (option_map (λ k. record { arrival = a; manager = k }) found) r m ≡ false)
+    ∙ sym (elim
+    (manager_ordered c (command_done past (Admit w a v))) as (λ found. is_overtaking (option_map (λ k. record { arrival = a; manager = k }) found) r m ≡ false)
     [ Some k ↦ ap (λ b. not b && (k == m)) same | None ↦ refl ])
 anew_over c past w a r v (Some (Off m etherealize begun)) same = tt
 anew_over c past w a r v (Some (Gone k)) same = tt
 
-admit_next : (c : Config) (run : ℕ) (past : List Entry) (w a : ℕ) (v : Verdict) (o : Owing) → Owes c run past o → IsNext c run past (Admit w a v) (ordered_by c past (Admit w a v)) (set_wait a (wait_begun c run past a v) o)
+admit_next : (c : Config) (run : ℕ) (past : List Entry) (w a : ℕ) (v : Verdict) (o : Owing) → Owes c run past o
+    → IsNext c run past (Admit w a v) (ordered_by c past (Admit w a v)) (set_wait a (wait_begun c run past a v) o)
 admit_next c run past w a v o owes =
-    elim (o.arrival == a) as (λ b. (o.arrival == a) ≡ b → IsNext c run past (Admit w a v) (ordered_by c past (Admit w a v)) (if b then record o { wait = wait_begun c run past a v } else o)) [
+    elim (o.arrival == a) as (λ b. (o.arrival == a) ≡ b
+    → IsNext c run past (Admit w a v) (ordered_by c past (Admit w a v)) (if b then record o { wait = wait_begun c run past a v } else o)) [
       | true ↦ (λ same. (let is : o.arrival ≡ a = eqb-true o.arrival a same in let back : (a == o.arrival) ≡ true = eq-eqb a o.arrival (sym is) in
           record {
-            wait = ap (λ b. if is_waiting (if b then Some v else admitted past o.arrival) then wait_of c (standing c run (if b then past else before_admit past o.arrival)) (command_in (call_of past o.arrival)) else None) back
+            wait = ap
+                (λ b. if is_waiting (if b then Some v else admitted past o.arrival) then wait_of c
+                (standing c run (if b then past else before_admit past o.arrival)) (command_in (call_of past o.arrival)) else None) back
                 ∙ ap (wait_begun_of v) is;
             over = anew_over c past w a o.arrival v (wait_begun c run past a v) back;
           }))
-      | false ↦ (λ other. (let back : (a == o.arrival) ≡ false = false_from_ne_true (a == o.arrival) (λ same. true≢false (sym (eq-eqb o.arrival a (sym (eqb-true a o.arrival same))) ∙ other)) in
+      | false ↦
+          (λ other.
+          (let back : (a == o.arrival) ≡ false =
+          false_from_ne_true (a == o.arrival) (λ same. true≢false (sym (eq-eqb o.arrival a (sym (eqb-true a o.arrival same))) ∙ other)) in
           record {
-            wait = ap (λ b. if is_waiting (if b then Some v else admitted past o.arrival) then wait_of c (standing c run (if b then past else before_admit past o.arrival)) (command_in (call_of past o.arrival)) else None) back
+            wait = ap
+                (λ b. if is_waiting (if b then Some v else admitted past o.arrival) then wait_of c
+                (standing c run (if b then past else before_admit past o.arrival)) (command_in (call_of past o.arrival)) else None) back
                 ∙ owes.wait;
             over = still_over c past (Admit w a v) o.arrival o.wait owes.current;
           }))
@@ -69,19 +80,23 @@ admit_next c run past w a v o owes =
     wait_begun_of u r = wait_begun c run past r u
 
 -- each row waits for what the history says then
-pub row_next : (c : Config) (run : ℕ) (past : List Entry) (e : Entry) (o : Owing) → TriesNone past e → o.arrival < arrivals past → Owes c run past o → IsNext c run past e (ordered_by c past e) (waited c run past e o)
+pub row_next : (c : Config) (run : ℕ) (past : List Entry) (e : Entry) (o : Owing) → TriesNone past e → o.arrival < arrivals past → Owes c run past o
+    → IsNext c run past e (ordered_by c past e) (waited c run past e o)
 row_next c run past (Admit w a v) o none less owes = admit_next c run past w a v o owes
 row_next c run past (Tried w (Yes n)) o none less owes =
     record {
       wait = cond_both (is_at o.arrival (arrival_in (stage past w))) None (admitted past o.arrival)
           (λ v. (if is_waiting v then wait_of c (standing c run (before_admit past o.arrival)) (command_in (call_of past o.arrival)) else None) ≡ o.wait)
-          (λ at. sym (ap (λ b. if b then wait_of c (standing c run (before_admit past o.arrival)) (command_in (call_of past o.arrival)) else None) (none o.arrival at)) ∙ owes.wait)
+          (λ at. sym
+          (ap (λ b. if b then wait_of c (standing c run (before_admit past o.arrival)) (command_in (call_of past o.arrival)) else None) (none o.arrival at))
+          ∙ owes.wait)
           (λ _. owes.wait);
       over = still_over c past (Tried w (Yes n)) o.arrival o.wait owes.current;
     }
 row_next c run past (Arrive conn size call) o none less owes =
     record {
-      wait = ap (λ x. if is_waiting (admitted past o.arrival) then wait_of c (standing c run (before_admit past o.arrival)) (command_in x) else None) (call_kept (Arrive conn size call) past o.arrival less) ∙ owes.wait;
+      wait = ap (λ x. if is_waiting (admitted past o.arrival) then wait_of c (standing c run (before_admit past o.arrival)) (command_in x) else None)
+          (call_kept (Arrive conn size call) past o.arrival less) ∙ owes.wait;
       over = still_over c past (Arrive conn size call) o.arrival o.wait owes.current;
     }
 row_next c run past (Entered conn) o none less owes = record { wait = owes.wait; over = still_over c past (Entered conn) o.arrival o.wait owes.current }
@@ -95,7 +110,8 @@ row_next c run past (Incarnated w x) o none less owes = record { wait = owes.wai
 row_next c run past (Run w) o none less owes = record { wait = owes.wait; over = still_over c past (Run w) o.arrival o.wait owes.current }
 row_next c run past (Done w) o none less owes = record { wait = owes.wait; over = still_over c past (Done w) o.arrival o.wait owes.current }
 row_next c run past (TakeOut w n x) o none less owes = record { wait = owes.wait; over = still_over c past (TakeOut w n x) o.arrival o.wait owes.current }
-row_next c run past (Etherealized w x y) o none less owes = record { wait = owes.wait; over = still_over c past (Etherealized w x y) o.arrival o.wait owes.current }
+row_next c run past (Etherealized w x y) o none less owes =
+    record { wait = owes.wait; over = still_over c past (Etherealized w x y) o.arrival o.wait owes.current }
 row_next c run past (Abandon w) o none less owes = record { wait = owes.wait; over = still_over c past (Abandon w) o.arrival o.wait owes.current }
 
 -- but for its wait a row is the other
@@ -126,12 +142,14 @@ same_row c run past (TakeOut w n x) o p is = same_parts is
 same_row c run past (Etherealized w x y) o p is = same_parts is
 same_row c run past (Abandon w) o p is = same_parts is
 
-same_arrivals : (c : Config) (run : ℕ) (past : List Entry) (e : Entry) (os : List Owing) → map (λ o. o.arrival) (map (waited c run past e) os) ≡ map (λ o. o.arrival) os
+same_arrivals : (c : Config) (run : ℕ) (past : List Entry) (e : Entry) (os : List Owing)
+    → map (λ o. o.arrival) (map (waited c run past e) os) ≡ map (λ o. o.arrival) os
 same_arrivals c run past e [] = refl
 same_arrivals c run past e (o ∷ os) = ap₂ (λ r rs. r ∷ rs) (same_row c run past e o (waited c run past e o) refl).0 (same_arrivals c run past e os)
 
 -- the rows of the calls that were owed a reply, once the entry's own arrival waits
-pub rows_next : (c : Config) (run : ℕ) (past : List Entry) (e : Entry) (os : List Owing) → TriesNone past e → ((o : Owing) → In o os → o.arrival < arrivals past) → AreOwed c run past os
+pub rows_next : (c : Config) (run : ℕ) (past : List Entry) (e : Entry) (os : List Owing) → TriesNone past e
+    → ((o : Owing) → In o os → o.arrival < arrivals past) → AreOwed c run past os
     → AreRows c run past e (ordered_by c past e) (map (waited c run past e) os)
 rows_next c run past e os none less owed =
     record {

@@ -44,8 +44,10 @@ command_comes : (c : Config) (run : ℕ) (h : List Entry) (ordered : Option Orde
     → settles_by c run h r command ≡ comes c (standing c run h) ordered r (wait_of c (standing c run (before_admit h r)) command)
 command_comes c run h ordered r None over = refl
 command_comes c run h ordered r (Some (Manager name order)) over =
-    elim (manager_number c name) as (λ found. IsOvertaken c h ordered r (elim found [ Some m ↦ Some (wait_for m (standing c run (before_admit h r)) order) | None ↦ None ])
-    → (elim found [ Some m ↦ order_holds c run h r m order | None ↦ false ]) ≡ comes c (standing c run h) ordered r (elim found [ Some m ↦ Some (wait_for m (standing c run (before_admit h r)) order) | None ↦ None ]))
+    elim (manager_number c name) as (λ found. IsOvertaken c h ordered r
+    (elim found [ Some m ↦ Some (wait_for m (standing c run (before_admit h r)) order) | None ↦ None ])
+    → (elim found [ Some m ↦ order_holds c run h r m order | None ↦ false ]) ≡ comes c (standing c run h) ordered r
+    (elim found [ Some m ↦ Some (wait_for m (standing c run (before_admit h r)) order) | None ↦ None ]))
     [ Some m ↦ (λ over. order_comes c run h ordered r m order over) | None ↦ (λ _. refl) ] over
 command_comes c run h ordered r (Some (Destroy p etherealize wait)) over = refl
 command_comes c run h ordered r (Some (Create p)) over = refl
@@ -63,15 +65,19 @@ command_comes c run h ordered r (Some (Bad word)) over = refl
 pub settles_is : (c : Config) (run : ℕ) (h : List Entry) (ordered : Option Ordered) (r : ℕ) → IsOvertaken c h ordered r (wait_in c run h r)
     → (is_waiting (admitted h r) && settles c run h r) ≡ comes c (standing c run h) ordered r (wait_in c run h r)
 settles_is c run h ordered r over =
-    elim (is_waiting (admitted h r)) as (λ b. IsOvertaken c h ordered r (if b then wait_of c (standing c run (before_admit h r)) (command_in (call_of h r)) else None)
-    → (b && settles c run h r) ≡ comes c (standing c run h) ordered r (if b then wait_of c (standing c run (before_admit h r)) (command_in (call_of h r)) else None))
+    elim (is_waiting (admitted h r)) as (λ b. IsOvertaken c h ordered r
+    (if b then wait_of c (standing c run (before_admit h r)) (command_in (call_of h r)) else None)
+    → (b && settles c run h r) ≡ comes c (standing c run h) ordered r
+    (if b then wait_of c (standing c run (before_admit h r)) (command_in (call_of h r)) else None))
     [ true ↦ (λ over. command_comes c run h ordered r (command_in (call_of h r)) over) | false ↦ (λ _. refl) ] over
 
 -- an order to the manager, and one to any manager
-ordered_is : (c : Config) (m : ℕ) (command : Option Command) → is_some (order_for c m command) ≡ (elim (manager_ordered c command) [ Some k ↦ k == m | None ↦ false ])
+ordered_is : (c : Config) (m : ℕ) (command : Option Command)
+    → is_some (order_for c m command) ≡ (elim (manager_ordered c command) [ Some k ↦ k == m | None ↦ false ])
 ordered_is c m None = refl
 ordered_is c m (Some (Manager name order)) =
-    elim (manager_number c name) as (λ found. is_some (elim found [ Some k ↦ (if k == m then Some order else None) | None ↦ None ]) ≡ (elim found [ Some k ↦ k == m | None ↦ false ]))
+    elim (manager_number c name) as (λ found. is_some (elim found [ Some k ↦ (if k == m then Some order else None) | None ↦ None ]) ≡
+    (elim found [ Some k ↦ k == m | None ↦ false ]))
     [ Some k ↦ (elim (k == m) as (λ b. is_some (if b then Some order else None) ≡ b) [ true ↦ refl | false ↦ refl ]) | None ↦ refl ]
 ordered_is c m (Some (Create p)) = refl
 ordered_is c m (Some (Destroy p etherealize wait)) = refl
@@ -86,13 +92,16 @@ ordered_is c m (Some Shutdown) = refl
 ordered_is c m (Some (Bad word)) = refl
 
 -- what wasn't overtaken before is overtaken by what the entry orders
-pub overtaken_now : (c : Config) (past : List Entry) (e : Entry) (r m : ℕ) → is_overtaken c m past r ≡ false → is_overtaken c m (e ∷ past) r ≡ is_overtaking (ordered_by c past e) r m
+pub overtaken_now : (c : Config) (past : List Entry) (e : Entry) (r m : ℕ) → is_overtaken c m past r ≡ false
+    → is_overtaken c m (e ∷ past) r ≡ is_overtaking (ordered_by c past e) r m
 overtaken_now c past (Admit w a verdict) r m before =
     let command = command_done past (Admit w a verdict) in
     elim (manager_ordered c command) as (λ found. is_some (order_for c m command) ≡ (elim found [ Some k ↦ k == m | None ↦ false ])
-    → (if a == r then false else (is_some (order_for c m command) || is_overtaken c m past r)) ≡ is_overtaking (elim found [ Some k ↦ Some (record { arrival = a; manager = k }) | None ↦ None ]) r m) [
+    → (if a == r then false else (is_some (order_for c m command) || is_overtaken c m past r)) ≡ is_overtaking
+    (elim found [ Some k ↦ Some (record { arrival = a; manager = k }) | None ↦ None ]) r m) [
       | Some k ↦ (λ is. ap₂ (λ x y. if a == r then false else (x || y)) is before ∙ by_test (a == r) (k == m))
-      | None ↦ (λ is. ap₂ (λ x y. if a == r then false else (x || y)) is before ∙ cond_both (a == r) false (false || false) (λ x. x ≡ false) (λ _. refl) (λ _. refl))
+      | None ↦
+          (λ is. ap₂ (λ x y. if a == r then false else (x || y)) is before ∙ cond_both (a == r) false (false || false) (λ x. x ≡ false) (λ _. refl) (λ _. refl))
     ] (ordered_is c m command)
   where
     by_test : (a b : Bool) → (if a then false else (b || false)) ≡ (not a && b)

@@ -35,7 +35,8 @@ pub record AreFiled (c : Config) (run : ℕ) (opened : Stored) (h : List Entry) 
   pub each : (f : Filed) → In f fs → IsFiled c run opened h f
 
 -- what an entry decides: the target, with its reply; to a command that waited the reply is `ok`
-pub record Decides (c : Config) (run : ℕ) (opened : Stored) (past : List Entry) (e : Entry) (target : Option ℕ) (reply : Reply) : Type 0 where
+pub record Decides (c : Config) (run : ℕ) (opened : Stored) (past : List Entry) (e : Entry) (target : Option ℕ)
+    (reply : Reply) : Type 0 where
   pub target_is : (r : ℕ) → r < arrivals past → is_decided_by past e r ≡ is_at r target
   pub reply_is : (r : ℕ) → r < arrivals past → decided c run past r ≡ false → decided c run (e ∷ past) r ≡ true
       → reply_by c run opened past e r ≡ Some (if is_at r target then reply else AnswerReply (number_of (call_of past r)) Good)

@@ -38,12 +38,18 @@ is_decided c s target ordered o = is_at o.arrival target || (elim o.wait [ Some 
 -- the reply of the target; to a command that waited it is `ok`
 abbrev pub file : Option ℕ → Reply → Owing → Filed
 file target reply o =
-    record { arrival = o.arrival; conn = o.conn; head = o.head; reply = if is_at o.arrival target then reply else AnswerReply o.number Good }
+    record {
+      arrival = o.arrival;
+      conn = o.conn;
+      head = o.head;
+      reply = if is_at o.arrival target then reply else AnswerReply o.number Good;
+    }
 
 -- the target stands in one row at most
 abbrev pub IsAlone : Option ℕ → List Owing → Type 0
 IsAlone target os =
-    (i : ℕ) (o : Owing) → slice_get os i ≡ Some o → is_at o.arrival target ≡ true → list_any (λ p. is_at p.arrival target) (take i os) ≡ false
+    (i : ℕ) (o : Owing) → slice_get os i ≡ Some o → is_at o.arrival target ≡ true
+    → list_any (λ p. is_at p.arrival target) (take i os) ≡ false
 
 -- there is room for the replies of those that are owed one
 abbrev pub HasRoom : Desk → Type 0
@@ -76,7 +82,8 @@ WaitIs c run past (Admit w a verdict) wait = wait ≡ wait_begun c run past a ve
 WaitIs c run past e wait = Unit {0}
 
 -- an entry comes to the desk of a legal history: what stands then, what it decides, what is waited for and ordered are those of the history
-pub record Comes (c : Config) (e : Entry) (standing : Standing) (target : Option ℕ) (reply : Reply) (wait : Option Wait) (ordered : Option Ordered) (os : List Owing) : Type 0 where
+pub record Comes (c : Config) (e : Entry) (standing : Standing) (target : Option ℕ) (reply : Reply) (wait : Option Wait)
+    (ordered : Option Ordered) (os : List Owing) : Type 0 where
   pub run : ℕ
   pub limit : ℕ
   pub opened : Stored

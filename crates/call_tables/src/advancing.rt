@@ -43,10 +43,15 @@ pub fn advance(
 )
     requires room { HasRoom desk.old }
     requires comes { Comes config.now entry.now (seen standing.now) target reply wait ordered desk.old.owing.items }
-    ensures before { (k : Comes config.now entry.now (seen standing.now) target reply wait ordered desk.old.owing.items) → AreOwedBefore config.now k.run k.past entry.now desk.new.owing.items }
-    ensures owed { (k : Comes config.now entry.now (seen standing.now) target reply wait ordered desk.old.owing.items) → arrivals (entry.now ∷ k.past) ≡ arrivals k.past → AreOwed config.now k.run (entry.now ∷ k.past) desk.new.owing.items }
-    ensures filed { (k : Comes config.now entry.now (seen standing.now) target reply wait ordered desk.old.owing.items) → AreLeft config.now k.run k.opened k.past entry.now desk.old.outbox.items → AreFiled config.now k.run k.opened (entry.now ∷ k.past) desk.new.outbox.items }
-    ensures as_many { length desk.new.owing.items + length desk.new.outbox.items ≡ length desk.old.owing.items + length desk.old.outbox.items }
+    ensures before { (k : Comes config.now entry.now (seen standing.now) target reply wait ordered desk.old.owing.items)
+        → AreOwedBefore config.now k.run k.past entry.now desk.new.owing.items }
+    ensures owed { (k : Comes config.now entry.now (seen standing.now) target reply wait ordered desk.old.owing.items)
+        → arrivals (entry.now ∷ k.past) ≡ arrivals k.past → AreOwed config.now k.run (entry.now ∷ k.past) desk.new.owing.items }
+    ensures filed { (k : Comes config.now entry.now (seen standing.now) target reply wait ordered desk.old.owing.items)
+        → AreLeft config.now k.run k.opened k.past entry.now desk.old.outbox.items
+        → AreFiled config.now k.run k.opened (entry.now ∷ k.past) desk.new.outbox.items }
+    ensures as_many { length desk.new.owing.items + length desk.new.outbox.items ≡ length desk.old.owing.items + length
+        desk.old.outbox.items }
     ensures room { HasRoom desk.new }
     ensures spare { HasRoomForOne desk.old → HasRoomForOne desk.new }
 {

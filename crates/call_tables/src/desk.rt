@@ -102,8 +102,10 @@ impl Desk {
         requires alone { IsAlone target self.old.owing.items }
         requires room { HasRoom self.old }
         requires ascends { Ascends (arrivals_of self.old.owing.items) }
-        ensures owing { self.new.owing.items ≡ filter (λ o. not (desks.is_decided config.now (seen standing.now) target ordered o)) self.old.owing.items }
-        ensures outbox { self.new.outbox.items ≡ self.old.outbox.items ++ map (desks.file target reply) (filter (desks.is_decided config.now (seen standing.now) target ordered) self.old.owing.items) }
+        ensures owing { self.new.owing.items ≡ filter
+            (λ o. not (desks.is_decided config.now (seen standing.now) target ordered o)) self.old.owing.items }
+        ensures outbox { self.new.outbox.items ≡ self.old.outbox.items ++ map (desks.file target reply)
+            (filter (desks.is_decided config.now (seen standing.now) target ordered) self.old.owing.items) }
         ensures room { HasRoom self.new }
         ensures fewer { deque_len self.new.owing ≤ deque_len self.old.owing }
         ensures places { deque_capacity self.new.owing ≡ deque_capacity self.old.owing }

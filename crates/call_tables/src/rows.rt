@@ -67,7 +67,8 @@ fn file_one(
     outbox: &mut VecDeque<Filed>,
 )
     requires { deque_len outbox.old < deque_capacity outbox.old }
-    ensures filed { outbox.new.items ≡ outbox.old.items ++ map (desks.file target reply.old) (filter (desks.is_decided config.now (seen standing.now) target ordered) (owing.now ∷ [])) }
+    ensures filed { outbox.new.items ≡ outbox.old.items ++ map (desks.file target reply.old)
+        (filter (desks.is_decided config.now (seen standing.now) target ordered) (owing.now ∷ [])) }
     ensures left { begun.is_at owing.now.arrival target ≡ false → reply.new ≡ reply.old }
     ensures len { deque_len outbox.new ≤ deque_len outbox.old + 1 }
     ensures capacity { deque_capacity outbox.new ≡ deque_capacity outbox.old }
@@ -89,7 +90,8 @@ pub(crate) fn file_decided(
 )
     requires alone { IsAlone target owing.now.items }
     requires room { deque_len outbox.old + length owing.now.items ≤ deque_capacity outbox.old }
-    ensures filed { outbox.new.items ≡ outbox.old.items ++ map (desks.file target reply) (filter (desks.is_decided config.now (seen standing.now) target ordered) owing.now.items) }
+    ensures filed { outbox.new.items ≡ outbox.old.items ++ map (desks.file target reply)
+        (filter (desks.is_decided config.now (seen standing.now) target ordered) owing.now.items) }
     ensures capacity { deque_capacity outbox.new ≡ deque_capacity outbox.old }
 {
     let mut reply = reply;
@@ -164,7 +166,8 @@ pub(crate) fn file_target(
     requires ascends { Ascends (arrivals_of owing.old.items) }
     requires room { deque_len outbox.old + length owing.old.items ≤ deque_capacity outbox.old }
     ensures kept { owing.new.items ≡ filter (λ o. not (begun.is_at o.arrival target)) owing.old.items }
-    ensures filed { outbox.new.items ≡ outbox.old.items ++ map (desks.file target reply) (filter (λ o. begun.is_at o.arrival target) owing.old.items) }
+    ensures filed { outbox.new.items ≡ outbox.old.items ++ map (desks.file target reply)
+        (filter (λ o. begun.is_at o.arrival target) owing.old.items) }
     ensures fewer { deque_len owing.new ≤ deque_len owing.old }
     ensures places { deque_capacity owing.new ≡ deque_capacity owing.old }
     ensures capacity { deque_capacity outbox.new ≡ deque_capacity outbox.old }

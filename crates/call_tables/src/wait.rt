@@ -151,7 +151,10 @@ fn wait_begun(
     verdict: &Verdict,
     call: Option<&Call>,
 ) -> Result<Option<Wait>, WantMemory>
-    ensures { IfOk result (λ wait. wait ≡ (if replies.is_waiting (Some verdict.now) then waits.wait_of config.now (seen standing.now) (logs.command_in (option_copied call.entry)) else None)) }
+    ensures { IfOk result
+        (λ wait. wait ≡
+        (if replies.is_waiting (Some verdict.now) then waits.wait_of config.now (seen standing.now)
+        (logs.command_in (option_copied call.entry)) else None)) }
 {
     match verdict {
         Verdict::Wait => wait_of(config, standing, command_in(call)),
@@ -167,7 +170,8 @@ pub fn wait_by(
     entry: &Entry,
     call: Option<&Call>,
 ) -> Result<Option<Wait>, WantMemory>
-    ensures waits { (run : ℕ) (past : List EntryOf) → AnswersAs config.now run past (seen standing.now) → option_copied call.entry ≡ call_told past entry.now → IfOk result (λ wait. WaitIs config.now run past entry.now wait) }
+    ensures waits { (run : ℕ) (past : List EntryOf) → AnswersAs config.now run past (seen standing.now)
+        → option_copied call.entry ≡ call_told past entry.now → IfOk result (λ wait. WaitIs config.now run past entry.now wait) }
     ensures ends { waits.admits entry.now ≡ false → IsOk result }
 {
     match entry {
@@ -196,7 +200,8 @@ pub fn ordered_by(
     entry: &Entry,
     call: Option<&Call>,
 ) -> Result<Option<Ordered>, WantMemory>
-    ensures orders { (past : List EntryOf) → option_copied call.entry ≡ call_told past entry.now → IfOk result (λ ordered. ordered ≡ waits.ordered_by config.now past entry.now) }
+    ensures orders { (past : List EntryOf) → option_copied call.entry ≡ call_told past entry.now
+        → IfOk result (λ ordered. ordered ≡ waits.ordered_by config.now past entry.now) }
     ensures ends { waits.admits entry.now ≡ false → IsOk result }
 {
     match entry {

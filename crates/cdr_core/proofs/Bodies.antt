@@ -57,7 +57,9 @@ one_body little f x other (inl e) = e
 one_body little f x other (inr e) = absurd (other (ap kind_of e.0))
 
 -- where the bodies of two fields, of one length, begin one list, they are equal, and so is what follows
-pub same_bodies : (little : Bool) (f g : Field) (x y s t : List ℕ) → (kind_of f ≡ Text → ⊥) → (kind_of g ≡ Text → ⊥) → length (body_of little f) ≡ length (body_of little g) → IsBody little f x → IsBody little g y → x ++ s ≡ y ++ t → (body_of little f ≡ body_of little g) × (s ≡ t)
+pub same_bodies : (little : Bool) (f g : Field) (x y s t : List ℕ) → (kind_of f ≡ Text → ⊥) → (kind_of g ≡ Text → ⊥)
+    → length (body_of little f) ≡ length (body_of little g) → IsBody little f x → IsBody little g y → x ++ s ≡ y ++ t → (body_of little f ≡ body_of little g)
+    × (s ≡ t)
 same_bodies little f g x y s t not_f not_g same p q e =
     same_split (body_of little f) (body_of little g) s t same
     (ap (λ l. l ++ s) (sym (one_body little f x not_f p)) ∙ e ∙ ap (λ l. l ++ t) (one_body little g y not_g q))
@@ -69,21 +71,24 @@ one_octet little m n x y s t p q e =
     same_bodies little (octet m) (octet n) x y s t (λ k. cc) (λ k. cc) refl p q e in
     let heads : m ≡ n = cc in (heads, both.1)
 
-pub one_ushort : (little : Bool) (m n : ℕ) (x y s t : List ℕ) → m < 2 ^ 16 → n < 2 ^ 16 → IsBody little (ushort m) x → IsBody little (ushort n) y → x ++ s ≡ y ++ t → (m ≡ n) × (s ≡ t)
+pub one_ushort : (little : Bool) (m n : ℕ) (x y s t : List ℕ) → m < 2 ^ 16 → n < 2 ^ 16 → IsBody little (ushort m) x → IsBody little (ushort n) y
+    → x ++ s ≡ y ++ t → (m ≡ n) × (s ≡ t)
 one_ushort little m n x y s t i j p q e =
     let both : (number_bytes little w16 m ≡ number_bytes little w16 n) × (s ≡ t) =
     same_bodies little (ushort m) (ushort n) x y s t (λ k. cc) (λ k. cc)
     (short_length little m ∙ sym (short_length little n)) p q e in
     (same_short little m n i j both.0, both.1)
 
-pub one_ulong : (little : Bool) (m n : ℕ) (x y s t : List ℕ) → m < 2 ^ 32 → n < 2 ^ 32 → IsBody little (ulong m) x → IsBody little (ulong n) y → x ++ s ≡ y ++ t → (m ≡ n) × (s ≡ t)
+pub one_ulong : (little : Bool) (m n : ℕ) (x y s t : List ℕ) → m < 2 ^ 32 → n < 2 ^ 32 → IsBody little (ulong m) x → IsBody little (ulong n) y → x ++ s ≡ y ++ t
+    → (m ≡ n) × (s ≡ t)
 one_ulong little m n x y s t i j p q e =
     let both : (number_bytes little w32 m ≡ number_bytes little w32 n) × (s ≡ t) =
     same_bodies little (ulong m) (ulong n) x y s t (λ k. cc) (λ k. cc)
     (long_length little m ∙ sym (long_length little n)) p q e in
     (same_long little m n i j both.0, both.1)
 
-pub one_longlong : (little : Bool) (m n : ℤ) (x y s t : List ℕ) → FitsSigned w64 m → FitsSigned w64 n → IsBody little (longlong m) x → IsBody little (longlong n) y → x ++ s ≡ y ++ t → (m ≡ n) × (s ≡ t)
+pub one_longlong : (little : Bool) (m n : ℤ) (x y s t : List ℕ) → FitsSigned w64 m → FitsSigned w64 n → IsBody little (longlong m) x
+    → IsBody little (longlong n) y → x ++ s ≡ y ++ t → (m ≡ n) × (s ≡ t)
 one_longlong little m n x y s t i j p q e =
     let both : (number_bytes little w64 (of_z w64 m) ≡ number_bytes little w64 (of_z w64 n)) × (s ≡ t) =
     same_bodies little (longlong m) (longlong n) x y s t (λ k. cc) (λ k. cc)
@@ -92,7 +97,8 @@ one_longlong little m n x y s t i j p q e =
     same_longlong little (of_z w64 m) (of_z w64 n) (Fits-lt-pow (Fits-of_z i)) (Fits-lt-pow (Fits-of_z j)) both.0 in
     (sym (to_z-of_z i) ∙ ap (λ b. to_z w64 b) bits ∙ to_z-of_z j, both.1)
 
-pub one_boolean : (little : Bool) (a b : Bool) (x y s t : List ℕ) → IsBody little (boolean a) x → IsBody little (boolean b) y → x ++ s ≡ y ++ t → (a ≡ b) × (s ≡ t)
+pub one_boolean : (little : Bool) (a b : Bool) (x y s t : List ℕ) → IsBody little (boolean a) x → IsBody little (boolean b) y → x ++ s ≡ y ++ t → (a ≡ b)
+    × (s ≡ t)
 one_boolean little a b x y s t p q e =
     let both : (bit_of a ∷ [] ≡ bit_of b ∷ []) × (s ≡ t) =
     same_bodies little (boolean a) (boolean b) x y s t (λ k. cc) (λ k. cc) refl p q e in

@@ -13,7 +13,15 @@ use Rattle.cdr_core.proofs.Slices.{lies_between}
 length_of_count : (n : ℕ) (c a : Cursor) (p : Reads (ulong n) c a) → length p.bytes ≡ gap 4 c.place + 4
 length_of_count n c a p =
     let number = one_body c.little (ulong n) p.spelled.body (λ k. cc) p.spelled.stands in
-    omega (arith, ap (λ (l : List ℕ). length l) p.spelled.parts, length-append p.spelled.padding p.spelled.body, p.spelled.aligned, ap (λ (l : List ℕ). length l) number, long_length c.little n)
+    omega (
+      arith,
+      ap (λ (l : List ℕ). length l) p.spelled.parts,
+      length-append p.spelled.padding p.spelled.body,
+      p.spelled.aligned,
+      ap
+          (λ (l : List ℕ). length l) number,
+      long_length c.little n,
+    )
 
 -- the first of the bytes that a length counts
 pub counts_lie : (bytes part back : List ℕ) (c a : Cursor) → bytes ≡ part ++ back → Counts bytes c a → LiesAt (counted_at c.place) part c

@@ -49,7 +49,8 @@ after_padding f g c a b p q kinds =
     (same_split xs ys (p.spelled.body ++ a.rest) (q.spelled.body ++ b.rest) lengths (sym left ∙ right)).1
 
 -- where the values of a kind are told by their bodies, a place has one of them
-by_body : {V : Type 0} (field : V → Field) (v w : V) (c a b : Cursor) (p : Reads (field v) c a) (q : Reads (field w) c b) → kind_of (field v) ≡ kind_of (field w) → (p.spelled.body ++ a.rest ≡ q.spelled.body ++ b.rest → (v ≡ w) × (a.rest ≡ b.rest)) → (v ≡ w) × (a ≡ b)
+by_body : {V : Type 0} (field : V → Field) (v w : V) (c a b : Cursor) (p : Reads (field v) c a) (q : Reads (field w) c b)
+    → kind_of (field v) ≡ kind_of (field w) → (p.spelled.body ++ a.rest ≡ q.spelled.body ++ b.rest → (v ≡ w) × (a.rest ≡ b.rest)) → (v ≡ w) × (a ≡ b)
 by_body field v w c a b p q kinds told =
     let both : (v ≡ w) × (a.rest ≡ b.rest) = told (after_padding (field v) (field w) c a b p q kinds) in
     (both.0, same_end p.bytes q.bytes c a b p.passed q.passed both.1)
@@ -88,7 +89,8 @@ one_count xs ys c a b p q =
     (subst (λ (x : Cursor). Passes ys x b) (sym count.1) q.passed)
 
 -- a field that is spelled by a length and as many bytes passes these
-counts_of : (f : Field) (bytes : List ℕ) (c a : Cursor) (p : Reads f c a) → unit_of (kind_of f) ≡ 4 → length bytes < 2 ^ 32 → p.spelled.body ≡ number_bytes c.little w32 (length bytes) ++ bytes → Counts bytes c a
+counts_of : (f : Field) (bytes : List ℕ) (c a : Cursor) (p : Reads f c a) → unit_of (kind_of f) ≡ 4 → length bytes < 2 ^ 32
+    → p.spelled.body ≡ number_bytes c.little w32 (length bytes) ++ bytes → Counts bytes c a
 counts_of f bytes c a p unit small is_body =
     let number : List ℕ = number_bytes c.little w32 (length bytes) in
     let padding : List ℕ = p.spelled.padding in

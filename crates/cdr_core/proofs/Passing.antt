@@ -10,7 +10,9 @@ use Rattle.cdr_core.proofs.Bodies.{text_body}
 use Rattle.cdr_core.specs.Cursor.{Cursor, Passes, Reads, Takes, Counts, EndsInNul}
 
 -- a number's bytes are taken where the unread bytes were split twice, behind the padding and behind the body
-pub takes_split : (little : Bool) (place size gap_len : ℕ) (whole padding behind body rest : List ℕ) (before : Cursor) → record { little = little; place = place; rest = whole } ≡ before → gap_len ≡ gap size place → length padding ≡ gap_len → length body ≡ size → whole ≡ padding ++ behind → behind ≡ body ++ rest → Takes size body before (record { little = little; place = place + (gap_len + size); rest = rest })
+pub takes_split : (little : Bool) (place size gap_len : ℕ) (whole padding behind body rest : List ℕ) (before : Cursor)
+    → record { little = little; place = place; rest = whole } ≡ before → gap_len ≡ gap size place → length padding ≡ gap_len → length body ≡ size
+    → whole ≡ padding ++ behind → behind ≡ body ++ rest → Takes size body before (record { little = little; place = place + (gap_len + size); rest = rest })
 takes_split little place size gap_len whole padding behind body rest before stood is_gap padded sized first second =
     let after : Cursor = record { little = little; place = place + (gap_len + size); rest = rest } in
     subst (λ (c : Cursor). Takes size body c after) stood
@@ -35,7 +37,8 @@ passes_then xs ys a b c first second =
     }
 
 -- a field is read where a length and as many bytes were passed that together are its body
-pub reads_counted : (field : Field) (bytes : List ℕ) (before after : Cursor) → unit_of (kind_of field) ≡ 4 → (length bytes < 2 ^ 32 → Fits field) → IsBody before.little field (number_bytes before.little w32 (length bytes) ++ bytes) → Counts bytes before after → Reads field before after
+pub reads_counted : (field : Field) (bytes : List ℕ) (before after : Cursor) → unit_of (kind_of field) ≡ 4 → (length bytes < 2 ^ 32 → Fits field)
+    → IsBody before.little field (number_bytes before.little w32 (length bytes) ++ bytes) → Counts bytes before after → Reads field before after
 reads_counted field bytes before after unit fits is_body counts =
     let count : Spells before.little before.place (ulong (length bytes)) counts.counted.bytes = counts.counted.spelled in
     let number : count.body ≡ number_bytes before.little w32 (length bytes) =
@@ -57,14 +60,16 @@ reads_counted field bytes before after unit fits is_body counts =
     no_text e = cc
 
 -- a sequence of octets is read where its count and its octets were passed
-pub octets_counted : (bytes kept : List ℕ) (ahead before after : Cursor) → ahead ≡ before → kept ≡ bytes → Counts bytes ahead after → Reads (octets kept) before after
+pub octets_counted : (bytes kept : List ℕ) (ahead before after : Cursor) → ahead ≡ before → kept ≡ bytes → Counts bytes ahead after
+    → Reads (octets kept) before after
 octets_counted bytes kept ahead before after stood same counts =
     let after_counts : Counts bytes before after = subst (λ (c : Cursor). Counts bytes c after) stood counts in
     subst (λ (x : List ℕ). Reads (octets x) before after) (sym same)
     (reads_counted (octets bytes) bytes before after refl (λ h. h) (inl refl) after_counts)
 
 -- a string is read where its length and its bytes were passed
-pub text_counted : (bytes front kept : List ℕ) (ahead before after : Cursor) → ahead ≡ before → kept ≡ front → EndsInNul front bytes → Counts bytes ahead after → Reads (text kept) before after
+pub text_counted : (bytes front kept : List ℕ) (ahead before after : Cursor) → ahead ≡ before → kept ≡ front → EndsInNul front bytes → Counts bytes ahead after
+    → Reads (text kept) before after
 text_counted bytes front kept ahead before after stood same ends counts =
     let after_counts : Counts bytes before after = subst (λ (c : Cursor). Counts bytes c after) stood counts in
     subst (λ (x : List ℕ). Reads (text x) before after) (sym same)
@@ -85,13 +90,15 @@ text_counted bytes front kept ahead before after stood same ends counts =
         )
 
 -- eight bytes that were read as a number in the byte order of the cursor are that number's bytes
-pub takes_le : (body : List ℕ) (n : ℕ) (before after : Cursor) → before.little ≡ true → ((i : ℕ) → get_or body i 0 < 256) → n ≡ from_le_bytes w64 body → Takes 8 body before after → Takes 8 (number_bytes before.little w64 n) before after
+pub takes_le : (body : List ℕ) (n : ℕ) (before after : Cursor) → before.little ≡ true → ((i : ℕ) → get_or body i 0 < 256) → n ≡ from_le_bytes w64 body
+    → Takes 8 body before after → Takes 8 (number_bytes before.little w64 n) before after
 takes_le body n before after little bytes is_n taken =
     subst (λ (x : List ℕ). Takes 8 x before after)
     (sym (ap (λ b. number_bytes b w64 n) little ∙ le_bytes_8 body n taken.sized bytes is_n))
     taken
 
-pub takes_be : (body : List ℕ) (n : ℕ) (before after : Cursor) → before.little ≡ false → ((i : ℕ) → get_or body i 0 < 256) → n ≡ from_be_bytes w64 body → Takes 8 body before after → Takes 8 (number_bytes before.little w64 n) before after
+pub takes_be : (body : List ℕ) (n : ℕ) (before after : Cursor) → before.little ≡ false → ((i : ℕ) → get_or body i 0 < 256) → n ≡ from_be_bytes w64 body
+    → Takes 8 body before after → Takes 8 (number_bytes before.little w64 n) before after
 takes_be body n before after little bytes is_n taken =
     subst (λ (x : List ℕ). Takes 8 x before after)
     (sym (ap (λ b. number_bytes b w64 n) little ∙ be_bytes_8 body n taken.sized bytes is_n))

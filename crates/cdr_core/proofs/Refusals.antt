@@ -15,13 +15,15 @@ use Rattle.cdr_core.proofs.OneReading.{one_octet_read, one_ulong_read, octets_co
 -- where a field is read, at least as many bytes as its alignment are left behind the padding
 not_short : (f : Field) (c a : Cursor) → Reads f c a → left (unit_of (kind_of f)) c < unit_of (kind_of f) → ⊥
 not_short f c a p short =
-    counted (length c.rest) (length p.bytes) (length a.rest) (length p.spelled.padding) (length p.spelled.body) (gap (unit_of (kind_of f)) c.place) (unit_of (kind_of f))
+    counted (length c.rest) (length p.bytes) (length a.rest) (length p.spelled.padding) (length p.spelled.body) (gap (unit_of (kind_of f)) c.place)
+    (unit_of (kind_of f))
     (ap (λ l. length l) p.passed.split ∙ length-append p.bytes a.rest)
     (ap (λ l. length l) p.spelled.parts ∙ length-append p.spelled.padding p.spelled.body)
     p.spelled.aligned
     (body_length c.little f p.spelled.body p.spelled.stands) short
   where
-    counted : (whole bytes after padding body gap_len unit : ℕ) → whole ≡ bytes + after → bytes ≡ padding + body → padding ≡ gap_len → unit ≤ body → whole - gap_len < unit → ⊥
+    counted : (whole bytes after padding body gap_len unit : ℕ) → whole ≡ bytes + after → bytes ≡ padding + body → padding ≡ gap_len → unit ≤ body
+        → whole - gap_len < unit → ⊥
     counted whole bytes after padding body gap_len unit e1 e2 e3 h lacks = omega arith
 
 -- a boolean is an octet too, below 2

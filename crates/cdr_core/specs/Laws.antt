@@ -52,7 +52,8 @@ LiesInMessage = (bytes part : List ℕ) (place : ℕ) (c : Cursor) → StandsIn 
 
 -- a slice of a slice, as of an encapsulation in a message
 abbrev pub SliceOfSlice : Type 0
-SliceOfSlice = (bytes inner part : List ℕ) (place at : ℕ) → IsSlice place inner bytes → IsSlice at part inner → IsSlice (place + at) part bytes
+SliceOfSlice = (bytes inner part : List ℕ) (place at : ℕ) → IsSlice place inner bytes → IsSlice at part inner
+    → IsSlice (place + at) part bytes
 
 -- one draft is the other behind these bytes
 pub record IsBehind (front : List ℕ) (d e : Draft) : Type 0 where
@@ -62,4 +63,5 @@ pub record IsBehind (front : List ℕ) (d e : Draft) : Type 0 where
 
 -- and stays so by the same fields: what is written behind other bytes is what is written behind none
 abbrev pub WrittenBehind : Type 0
-WrittenBehind = (front : List ℕ) (fields : List Field) (d e : Draft) → IsBehind front d e → IsBehind front (with_fields fields d) (with_fields fields e)
+WrittenBehind = (front : List ℕ) (fields : List Field) (d e : Draft) → IsBehind front d e
+    → IsBehind front (with_fields fields d) (with_fields fields e)

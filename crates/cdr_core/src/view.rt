@@ -250,7 +250,8 @@ impl<'a> View<'a> {
 // What stands in front of the final NUL of a string's bytes; no bytes at all are an empty string too.
 fn without_nul<'a>(bytes: &'a [u8]) -> Result<&'a [u8], PartFault>
     ensures ok { IfOk result (λ front. EndsInNul front.now bytes.now) }
-    ensures refused { IfErr result (λ e. (e ≡ PartFault.NoNul) × (0 < length bytes.now) × (slice_index bytes.now (length bytes.now - 1) ≢ 0)) }
+    ensures refused { IfErr result
+        (λ e. (e ≡ PartFault.NoNul) × (0 < length bytes.now) × (slice_index bytes.now (length bytes.now - 1) ≢ 0)) }
 {
     match bytes {
         [] => Ok(bytes),

@@ -26,4 +26,5 @@ noted_next words i word place s next done within is gives =
     let here : drop i words ≡ word ∷ drop (i + 1) words =
     drop-cons words i word within ∙ (ap (λ w. w ∷ drop (suc i) words) (sym is) ∙ ap (λ k. word ∷ drop k words) one) in
     noted_on s done (settings_of next rest)
-    ∙ ap (option_map (λ more. done ++ more)) (sym (ap (λ ws. settings_of place (map string_bytes ws)) here ∙ settings_step place (string_bytes word) rest s next gives))
+    ∙ ap (option_map (λ more. done ++ more))
+    (sym (ap (λ ws. settings_of place (map string_bytes ws)) here ∙ settings_step place (string_bytes word) rest s next gives))

@@ -35,14 +35,16 @@ right (Some found) = found.1
 abbrev wanted_two : Option (List Text) → Option (Option Text × Option Text)
 wanted_two arguments = found_both (exactly_two arguments)
 
-one_too_many : (a b : Text) (w : Option Text) (more : Option (List Text)) → wanted_two (with_argument (Some a) (with_argument (Some b) (with_argument w more))) ≡ None
+one_too_many : (a b : Text) (w : Option Text) (more : Option (List Text))
+    → wanted_two (with_argument (Some a) (with_argument (Some b) (with_argument w more))) ≡ None
 one_too_many a b None more = refl
 one_too_many a b (Some w) None = refl
 one_too_many a b (Some w) (Some ws) = refl
 
 -- both places are taken
 two_taken : (name : Text) (marked : Bool) (a b : Text) (ws : List Text) → is_some (arguments_of marked ws) ≡ true
-    → told_from (built (of_two name)) read_two (standing (both_held name a b) 3 marked) ws ≡ wanted_two (with_argument (Some a) (with_argument (Some b) (arguments_of marked ws)))
+    → told_from (built (of_two name)) read_two (standing (both_held name a b) 3 marked) ws ≡ wanted_two
+    (with_argument (Some a) (with_argument (Some b) (arguments_of marked ws)))
 unfolding clap_on_literals
 two_taken name true a b [] h = refl
 two_taken name false a b [] h = refl

@@ -94,7 +94,8 @@ module _ {X : Type 0} where
       goes_on a read (standing h place false) next word ws (argument_turn a h place word ws p ∙ fine) (argument_walked a h place word ws p ∙ moved)
 
   -- an argument that has none
-  pub argument_refused : (a : App) (read : List Row → X) (h : Held) (place : ℕ) (word : Text) (ws : List Text) (kind : ErrorKind) (kinds : Kinds) → IsArgument word ws
+  pub argument_refused : (a : App) (read : List Row → X) (h : Held) (place : ℕ) (word : Text) (ws : List Text) (kind : ErrorKind) (kinds : Kinds)
+      → IsArgument word ws
       → step_fault a.top place h value ≡ kind ∷ kinds
       → told_from a read (standing h place false) (word ∷ ws) ≡ None
   argument_refused a read h place word ws kind kinds p stray =
@@ -102,7 +103,8 @@ module _ {X : Type 0} where
       ∙ ap (λ k. turned a read ws k (walked a.top.rules [] (standing h place false) word)) (argument_turn a h place word ws p ∙ stray)
 
   -- what is told of words that are no arguments, or at fault
-  pub none_told : (read : List Row → X) (faults : Kinds) (rows : List Row) (want : Option (List Text) → Option X) (arguments : Option (List Text)) → want None ≡ None
+  pub none_told : (read : List Row → X) (faults : Kinds) (rows : List Row) (want : Option (List Text) → Option X) (arguments : Option (List Text))
+      → want None ≡ None
       → (is_some arguments ≡ true → told read faults rows ≡ want arguments) → (is_some arguments ≡ true → faults ≡ [] → ⊥) → want arguments ≡ None
   none_told read faults rows want None none agrees refuses = none
   none_told read [] rows want (Some ws) none agrees refuses = absurd (refuses refl refl)

@@ -95,7 +95,8 @@ read_on n (c ∷ cs) = read_on (n * 10 + (c - 48)) cs
 -- the number of one to ten digits within these bounds
 abbrev pub number_in : ℕ → ℕ → List ℕ → Option ℕ
 number_in least most w =
-    if nat_lt 0 (length w) && nat_le (length w) 10 && all_ascii_digits w && nat_le least (read_on 0 w) && nat_le (read_on 0 w) most then Some (read_on 0 w) else None
+    if nat_lt 0 (length w) && nat_le (length w) 10 && all_ascii_digits w && nat_le least (read_on 0 w) && nat_le
+    (read_on 0 w) most then Some (read_on 0 w) else None
 
 -- the run of a server that words ask for
 pub record Serve : Type 0 where

@@ -37,7 +37,8 @@ with_argument (Some w) (Some ws) = Some (w ∷ ws)
 abbrev pub arguments_of : Bool → List (List ℕ) → Option (List (List ℕ))
 arguments_of marked [] = Some []
 arguments_of true (w ∷ ws) = with_argument (argument true w) (arguments_of true ws)
-arguments_of false (w ∷ ws) = if bytes_eq w (codes "--") then arguments_of true ws else with_argument (argument false w) (arguments_of false ws)
+arguments_of false (w ∷ ws) =
+    if bytes_eq w (codes "--") then arguments_of true ws else with_argument (argument false w) (arguments_of false ws)
 
 -- the only argument, if there is one
 abbrev pub at_most_one : Option (List (List ℕ)) → Option (Option (List ℕ))

@@ -31,7 +31,8 @@ pub(crate) fn one_argument<'a>(
     is_required: bool,
     words: &'a [String],
 ) -> Result<Option<&'a str>, WordsFault>
-    ensures ok { IfOk result (λ argument. spec.single is_required (arguments_of false (map string_bytes words.now)) ≡ Some (option_map (λ a. a.now) argument)) }
+    ensures ok { IfOk result
+        (λ argument. spec.single is_required (arguments_of false (map string_bytes words.now)) ≡ Some (option_map (λ a. a.now) argument)) }
     ensures bad { result ≡ Err BadWords → spec.single is_required (arguments_of false (map string_bytes words.now)) ≡ None }
 {
     let Ok(app) = app_of_one(alloc, name, is_required) else {
@@ -47,7 +48,8 @@ pub(crate) fn two_arguments<'a>(
     name: &'a str,
     words: &'a [String],
 ) -> Result<(&'a str, &'a str), WordsFault>
-    ensures ok { IfOk result (λ arguments. spec.exactly_two (arguments_of false (map string_bytes words.now)) ≡ Some (arguments.0.now, arguments.1.now)) }
+    ensures ok { IfOk result
+        (λ arguments. spec.exactly_two (arguments_of false (map string_bytes words.now)) ≡ Some (arguments.0.now, arguments.1.now)) }
     ensures bad { result ≡ Err BadWords → spec.exactly_two (arguments_of false (map string_bytes words.now)) ≡ None }
 {
     let Ok(app) = app_of_two(alloc, name) else {
@@ -84,8 +86,10 @@ fn bare_app(alloc: Global, name: &str) -> clap::Command<'_>
 
 // What clap finds in the words, where each of them may be an argument.
 fn matches_in<'a>(app: clap::Command<'a>, words: &'a [String]) -> Result<ArgMatches<'a>, WordsFault>
-    ensures ok { IfOk result (λ m. is_simple_and_free (app_of app.entry) ≡ true → apps.Takes (app_of app.entry) (map string_bytes words.now) m) }
-    ensures bad { result ≡ Err BadWords → is_simple_and_free (app_of app.entry) ≡ true → apps.Refuses (app_of app.entry) (map string_bytes words.now) }
+    ensures ok { IfOk result
+        (λ m. is_simple_and_free (app_of app.entry) ≡ true → apps.Takes (app_of app.entry) (map string_bytes words.now) m) }
+    ensures bad { result ≡ Err BadWords → is_simple_and_free (app_of app.entry) ≡ true
+        → apps.Refuses (app_of app.entry) (map string_bytes words.now) }
 {
     if !are_arguments(words) {
         return Err(WordsFault::BadWords);

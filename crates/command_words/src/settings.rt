@@ -36,7 +36,9 @@ pub(crate) fn read_settings<'a>(
 
 // Puts a setting, if there is one, behind the others.
 fn note<'a>(settings: &mut Vec<Setting<'a>>, setting: Option<Setting<'a>>) -> Result<(), WordsFault>
-    ensures ok { IfOk result (λ _. map seen_setting settings.new.items ≡ spec.noted (option_map seen_setting setting.entry) (map seen_setting settings.old.items)) }
+    ensures ok { IfOk result
+        (λ _. map seen_setting settings.new.items ≡ spec.noted (option_map seen_setting setting.entry)
+        (map seen_setting settings.old.items)) }
     ensures memory { IfErr result (λ fault. fault ≡ WantMemory) }
 {
     if let Some(setting) = setting {
@@ -105,7 +107,8 @@ fn option_of<'a>(name: &'a str, value: Option<&'a str>) -> Option<(Option<Settin
 
 // The setting of a word as a value, where `is_behind` says that the end of the options came before.
 fn setting_of<'a>(name: &'a str, word: &'a str, is_behind: bool) -> Option<Setting<'a>>
-    ensures { option_map seen_setting result ≡ option_map (λ value. record { name = name.now; value = value }) (argument is_behind word.now) }
+    ensures { option_map seen_setting result ≡ option_map (λ value. record { name = name.now; value = value })
+        (argument is_behind word.now) }
 {
     if is_argument(word, is_behind) {
         Some(Setting { name, value: word })

@@ -20,7 +20,8 @@ pub(crate) fn optional<'a>(
     settings: &[Setting<'a>],
     name: &str,
 ) -> Result<Option<&'a str>, WordsFault>
-    ensures ok { IfOk result (λ value. at_most_one (Some (values_of name.now (map seen_setting settings.now))) ≡ Some (option_map (λ v. v.now) value)) }
+    ensures ok { IfOk result
+        (λ value. at_most_one (Some (values_of name.now (map seen_setting settings.now))) ≡ Some (option_map (λ v. v.now) value)) }
     ensures bad { result ≡ Err BadWords → at_most_one (Some (values_of name.now (map seen_setting settings.now))) ≡ None }
 {
     let mut found: Option<&'a str> = None;

@@ -16,12 +16,14 @@ use Rattle.giop_frame.proofs.Streams.{stream_put, stream_behind, one_stream, bad
 pub stream_given : (f : Framing) (text : List ℕ) (messages : List Framed) (end : End) → f.closed ≡ None
     → FramerGives f text messages end → StreamFrom f.limit f.reading (f.unread ++ text) messages end
 stream_given f text messages end none g =
-    subst (λ (o : Option Why). MatchOption o (StreamFrom f.limit f.reading (f.unread ++ text) messages end) (λ why. (messages ≡ []) × (end ≡ bad_place f.reading.place why))) none g
+    subst (λ (o : Option Why). MatchOption o (StreamFrom f.limit f.reading (f.unread ++ text) messages end)
+    (λ why. (messages ≡ []) × (end ≡ bad_place f.reading.place why))) none g
 
 pub gives_stream : (f : Framing) (text : List ℕ) (messages : List Framed) (end : End) → f.closed ≡ None
     → StreamFrom f.limit f.reading (f.unread ++ text) messages end → FramerGives f text messages end
 gives_stream f text messages end none s =
-    subst (λ (o : Option Why). MatchOption o (StreamFrom f.limit f.reading (f.unread ++ text) messages end) (λ why. (messages ≡ []) × (end ≡ bad_place f.reading.place why))) (sym none) s
+    subst (λ (o : Option Why). MatchOption o (StreamFrom f.limit f.reading (f.unread ++ text) messages end)
+    (λ why. (messages ≡ []) × (end ≡ bad_place f.reading.place why))) (sym none) s
 
 cancel : (xs ys zs : List Framed) → xs ++ ys ≡ xs ++ zs → ys ≡ zs
 cancel [] ys zs e = e
@@ -41,7 +43,8 @@ part_good f n seen =
 pieces : (n : ℕ) (text more : List ℕ) → take n text ++ (drop n text ++ more) ≡ text ++ more
 pieces n text more = sym (append_assoc (take n text) (drop n text) more) ∙ ap (λ (t : List ℕ). t ++ more) (take-append-drop n text)
 
-behind_gives : (f : Framing) (n : ℕ) (text : List ℕ) (messages : List Framed) (end : End) → f.closed ≡ None → look_at f.limit f.reading.pending f.unread ≡ Whole n
+behind_gives : (f : Framing) (n : ℕ) (text : List ℕ) (messages : List Framed) (end : End) → f.closed ≡ None
+    → look_at f.limit f.reading.pending f.unread ≡ Whole n
     → FramerGives (behind f n) text messages end ↔ FramerGives f text (completed f.reading (take n f.unread) ++ messages) end
 unfolding behind
 behind_gives f n text messages end none seen =
@@ -66,7 +69,8 @@ pub taken_gives : (f g : Framing) (n : ℕ) (done : List Framed) → f.closed �
 unfolding behind
 taken_gives f g n done none seen t text messages end =
     subst (λ (k : Framing). FramerGives k text messages end ↔ FramerGives f text (done ++ messages) end) (sym t.goes_on)
-    (subst (λ (ms : List Framed). FramerGives (behind f n) text messages end ↔ FramerGives f text (ms ++ messages) end) (sym t.completes) (behind_gives f n text messages end none seen))
+    (subst (λ (ms : List Framed). FramerGives (behind f n) text messages end ↔ FramerGives f text (ms ++ messages) end) (sym t.completes)
+    (behind_gives f n text messages end none seen))
 
 pub taken_reach : (f g : Framing) (n : ℕ) (done : List Framed) → look_at f.limit f.reading.pending f.unread ≡ Whole n → TakesPart f n done g → reach g ≡ reach f
 taken_reach f g n done seen t =
@@ -99,7 +103,8 @@ pub closed_gives : (f : Framing) (why : Why) → f.closed ≡ None → look_at f
 closed_gives f why none seen text messages end =
     let place = bad_place f.reading.place why in (
       (λ (g : (messages ≡ []) × (end ≡ place)).
-          subst (λ (e : End). FramerGives f text messages e) (sym g.1) (subst (λ (ms : List Framed). FramerGives f text ms place) (sym g.0) (bad_given f why none seen text))),
+          subst (λ (e : End). FramerGives f text messages e) (sym g.1)
+          (subst (λ (ms : List Framed). FramerGives f text ms place) (sym g.0) (bad_given f why none seen text))),
       (λ g.
           let same = one_stream f.limit f.reading (f.unread ++ text) messages [] end place (stream_given f text messages end none g)
           (bad_stream f.limit f.reading f.unread text why seen) in

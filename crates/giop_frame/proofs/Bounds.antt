@@ -16,7 +16,8 @@ use Rattle.giop_frame.specs.Stream.{Reading, open_after}
 use Rattle.giop_frame.proofs.Looking.{IsWhole, second_none}
 use Rattle.giop_frame.proofs.Sums.{weight-open, open_bytes-join, taken_bytes-join}
 
-fragment_sum : (limit : ℕ) (pending : Opens) (h : Header) (found : Option Open) → fragment_fault limit pending h found ≡ None → open_bytes pending + (h.size - 4) ≤ OPEN_LIMIT
+fragment_sum : (limit : ℕ) (pending : Opens) (h : Header) (found : Option Open) → fragment_fault limit pending h found ≡ None
+    → open_bytes pending + (h.size - 4) ≤ OPEN_LIMIT
 fragment_sum limit pending h None e = grind (arith, nat_tests)
 fragment_sum limit pending h (Some o) e = grind (arith, nat_tests)
 
@@ -26,7 +27,8 @@ start_sum limit pending h e o = grind (arith, nat_tests)
 start_opens : (limit : ℕ) (pending : Opens) (h : Header) → size_fault limit pending h ≡ None → h.more ≡ true → continues h ≡ false → opens h ≡ true
 start_opens limit pending h e more first = grind (arith, nat_tests)
 
-start_absent : (limit : ℕ) (pending : Opens) (part : List ℕ) → id_fault limit pending part ≡ None → continues (header_of part) ≡ false → opens (header_of part) ≡ true
+start_absent : (limit : ℕ) (pending : Opens) (part : List ℕ) → id_fault limit pending part ≡ None → continues (header_of part) ≡ false
+    → opens (header_of part) ≡ true
     → find_open (id_of part) pending ≡ None
 start_absent limit pending part e first o = grind (arith, nat_tests)
 
@@ -49,7 +51,8 @@ removed pending id part within =
     record { bytes = omega (arith, b, within); taken = omega (arith, t) }
 
 joined_in : (pending : Opens) (id : ℕ) (part : List ℕ) (found : Option Open) → find_open id pending ≡ found → 16 ≤ length part
-    → open_bytes pending + (length part - 16) ≤ OPEN_LIMIT → Keeps pending (option_map_or (λ o. set_value (at_id id) pending (joined o part)) found pending) part
+    → open_bytes pending + (length part - 16) ≤ OPEN_LIMIT
+    → Keeps pending (option_map_or (λ o. set_value (at_id id) pending (joined o part)) found pending) part
 joined_in pending id part None is long fits = record { bytes = omega (arith, fits); taken = omega arith }
 joined_in pending id part (Some o) is long fits =
     let b = open_bytes-join pending id o part is long in

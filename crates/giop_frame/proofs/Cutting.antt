@@ -8,7 +8,8 @@ use Rattle.giop_frame.specs.Framer.{FramerGives, HasGiven, GiveTheSame, FramerAn
 
 -- a piece was fed
 pub given_fed : (limit : ℕ) (fed piece : List ℕ) (given : List Framed) (f g : Framing) → HasGiven limit fed given f
-    → ((text : List ℕ) (messages : List Framed) (end : End) → FramerGives g text messages end ↔ FramerGives f (piece ++ text) messages end) → HasGiven limit (fed ++ piece) given g
+    → ((text : List ℕ) (messages : List Framed) (end : End) → FramerGives g text messages end ↔ FramerGives f (piece ++ text) messages end)
+    → HasGiven limit (fed ++ piece) given g
 given_fed limit fed piece given f g h more text messages end =
     subst (λ (t : List ℕ). FramerGives g text messages end ↔ Stream limit t (given ++ messages) end) (sym (append_assoc fed piece text)) (
       (λ x. (h (piece ++ text) messages end).0 ((more text messages end).0 x)),

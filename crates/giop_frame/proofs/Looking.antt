@@ -138,7 +138,8 @@ by_the_id limit pending text why e =
     (bad_cases (id_fault limit pending text) (after_id limit pending text) why e)
 
 -- a bad place stays bad for the same reason
-pub bad_more : (limit : ℕ) (pending : Opens) (text more : List ℕ) (why : Why) → look_at limit pending text ≡ Bad why → look_at limit pending (text ++ more) ≡ Bad why
+pub bad_more : (limit : ℕ) (pending : Opens) (text more : List ℕ) (why : Why) → look_at limit pending text ≡ Bad why
+    → look_at limit pending (text ++ more) ≡ Bad why
 bad_more limit pending text more why e =
     let longer : length text ≤ length (text ++ more) = omega (arith, length-append text more) in
     let both = text ++ more in

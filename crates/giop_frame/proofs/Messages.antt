@@ -26,7 +26,8 @@ both : (a b : Bool) → (a && b) ≡ true → (a ≡ true) × (b ≡ true)
 both true b e = (refl, e)
 both false b e = cc
 
-pub message_from_whole : (limit : ℕ) (pending : Opens) (part : List ℕ) (n : ℕ) → IsWhole limit pending part n → continues (header_of part) ≡ false → IsMessage part
+pub message_from_whole : (limit : ℕ) (pending : Opens) (part : List ℕ) (n : ℕ) → IsWhole limit pending part n → continues (header_of part) ≡ false
+    → IsMessage part
 message_from_whole limit pending part n w first =
     let clean : foreign_fault part ≡ None = first_none (foreign_fault part) (size_fault limit pending (header_of part)) w.sound in
     let magic = passed (bytes_eq (take 4 part) (codes "GIOP")) BadMagic _ clean in

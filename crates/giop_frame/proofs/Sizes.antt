@@ -18,7 +18,8 @@ use Rattle.giop_frame.proofs.Bounds.{fragment_good}
 size_within : (limit : ℕ) (pending : Opens) (h : Header) → size_fault limit pending h ≡ None → h.size ≤ limit
 size_within limit pending h e = grind (arith, nat_tests)
 
-joined_within : (limit : ℕ) (pending : Opens) (h : Header) (o : Open) → fragment_fault limit pending h (Some o) ≡ None → length o.bytes - 12 + (h.size - 4) ≤ limit
+joined_within : (limit : ℕ) (pending : Opens) (h : Header) (o : Open) → fragment_fault limit pending h (Some o) ≡ None
+    → length o.bytes - 12 + (h.size - 4) ≤ limit
 joined_within limit pending h o e = grind (arith, nat_tests)
 
 closed_length : (o : Open) (part : List ℕ) → length (closed_by o part).bytes ≡ length o.bytes + (length part - 16)
@@ -50,9 +51,12 @@ module _ (limit : ℕ) (m : Framed) where
       (λ _. only (record { at = r.place; bytes = part }) (omega (arith, w.size, size_within limit r.pending h sound))))
 
 -- a part that was read completes no longer message
-pub taken_within : (f g : Framing) (n : ℕ) (m : Framed) → look_at f.limit f.reading.pending f.unread ≡ Whole n → TakesPart f n (m ∷ []) g → length m.bytes ≤ 12 + f.limit
+pub taken_within : (f g : Framing) (n : ℕ) (m : Framed) → look_at f.limit f.reading.pending f.unread ≡ Whole n → TakesPart f n (m ∷ []) g
+    → length m.bytes ≤ 12 + f.limit
 taken_within f g n m seen t =
     let w = whole_from_look f.limit f.reading.pending f.unread n seen in
     let part = take n f.unread in
-    let front : IsWhole f.limit f.reading.pending part (length part) = subst (λ (k : ℕ). IsWhole f.limit f.reading.pending part k) (sym (length-take-le n f.unread w.whole)) (whole_front f.limit f.reading.pending f.unread n w) in
+    let front : IsWhole f.limit f.reading.pending part (length part) =
+    subst (λ (k : ℕ). IsWhole f.limit f.reading.pending part k) (sym (length-take-le n f.unread w.whole))
+    (whole_front f.limit f.reading.pending f.unread n w) in
     completed_within f.limit m f.reading part front (sym t.completes)

@@ -48,8 +48,10 @@ behind_parts limit r p rest messages end (q ∷ qs) left good cut all given ends
     let whole : p ++ rest ≡ q ++ (concat qs ++ left) = cut ∙ append_assoc q (concat qs) left in
     let same : length p ≡ length q = whole_size (length p) (length q)
     (sym (good_front limit r p rest good) ∙ (ap (look_at limit r.pending) whole ∙ good_front limit r q (concat qs ++ left) all.0)) in
-    let part : p ≡ q = sym (take-append_seam p rest) ∙ (ap (λ (n : ℕ). take n (p ++ rest)) same ∙ (ap (take (length q)) whole ∙ take-append_seam q (concat qs ++ left))) in
-    let tail : rest ≡ concat qs ++ left = sym (drop-append_seam p rest) ∙ (ap (λ (n : ℕ). drop n (p ++ rest)) same ∙ (ap (drop (length q)) whole ∙ drop-append_seam q (concat qs ++ left))) in
+    let part : p ≡ q = sym (take-append_seam p rest)
+    ∙ (ap (λ (n : ℕ). take n (p ++ rest)) same ∙ (ap (take (length q)) whole ∙ take-append_seam q (concat qs ++ left))) in
+    let tail : rest ≡ concat qs ++ left = sym (drop-append_seam p rest)
+    ∙ (ap (λ (n : ℕ). drop n (p ++ rest)) same ∙ (ap (drop (length q)) whole ∙ drop-append_seam q (concat qs ++ left))) in
     subst (λ (x : List ℕ). Behind limit r x rest messages end) (sym part)
     (record {
       others = messages_of (after r q) qs;
@@ -81,7 +83,8 @@ pub record AreSame (messages others : List Framed) (end other : End) : Type 0 wh
   pub end_same : end ≡ other
 
 at_end : (limit : ℕ) (r : Reading) (text : List ℕ) (end : End) (others : List Framed) (other : End) (parts : List (List ℕ)) (left : List ℕ)
-    → StreamEnds limit r text end → text ≡ concat parts ++ left → AreGood limit r parts → others ≡ messages_of r parts → StreamEnds limit (after_all r parts) left other
+    → StreamEnds limit r text end → text ≡ concat parts ++ left → AreGood limit r parts → others ≡ messages_of r parts
+    → StreamEnds limit (after_all r parts) left other
     → AreSame [] others end other
 at_end limit r text end others other [] left here cut all given ends =
     record { messages_same = sym given; end_same = one_end limit r text end other here (subst (λ (t : List ℕ). StreamEnds limit r t other) (sym cut) ends) }
@@ -130,7 +133,8 @@ bad_stream limit r text more why e = ended limit r (text ++ more) (bad_place r.p
 some_seen : (fuel limit : ℕ) (r : Reading) (text : List ℕ) (seen : Look) → look_at limit r.pending text ≡ seen → length text ≤ fuel
     → ((n : ℕ) → look_at limit r.pending text ≡ Whole n → (s : Reading) → SomeStream limit s (drop n text)) → SomeStream limit r text
 some_seen fuel limit r text Unfinished e short next = record { messages = []; end = _; stream = unfinished_stream limit r text e }
-some_seen fuel limit r text (Bad why) e short next = record { messages = []; end = bad_place r.place why; stream = ended limit r text (bad_place r.place why) (e, refl) }
+some_seen fuel limit r text (Bad why) e short next =
+    record { messages = []; end = bad_place r.place why; stream = ended limit r text (bad_place r.place why) (e, refl) }
 some_seen fuel limit r text (Whole n) e short next =
     let w = whole_from_look limit r.pending text n e in
     let p = take n text in
@@ -151,7 +155,8 @@ some_within zero limit r text short =
     (λ n e s. let w = whole_from_look limit r.pending text n e in absurd (omega (arith, w.header, short)))
 some_within (suc fuel) limit r text short =
     some_seen (suc fuel) limit r text (look_at limit r.pending text) refl short
-    (λ n e s. let w = whole_from_look limit r.pending text n e in some_within fuel limit s (drop n text) (omega (arith, length-drop n text, w.size, w.whole, short)))
+    (λ n e s. let w = whole_from_look limit r.pending text n e in
+    some_within fuel limit s (drop n text) (omega (arith, length-drop n text, w.size, w.whole, short)))
 
 pub some_stream : (limit : ℕ) (r : Reading) (text : List ℕ) → SomeStream limit r text
 some_stream limit r text = some_within (length text) limit r text (omega arith)

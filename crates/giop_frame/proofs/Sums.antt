@@ -23,7 +23,8 @@ weight_at f e pending id o Equal is absent below = let found : Some e.1 ≡ None
 weight_at f e pending id o Greater is absent below =
     let under : find_open id pending ≡ None = simp is at absent in
     simp is (sum_by-cons f e.1 (values_of (insert_entry nat_cmp pending id o))
-    ∙ (ap (λ n. f e.1 + n) (below under) ∙ (sym (add_assoc (f e.1) (weight f pending) (f o)) ∙ ap (λ n. n + f o) (sym (sum_by-cons f e.1 (values_of pending))))))
+    ∙ (ap (λ n. f e.1 + n) (below under)
+    ∙ (sym (add_assoc (f e.1) (weight f pending) (f o)) ∙ ap (λ n. n + f o) (sym (sum_by-cons f e.1 (values_of pending))))))
 
 pub weight-open : (f : Open → ℕ) (pending : Opens) (id : ℕ) (o : Open) → find_open id pending ≡ None
     → weight f (insert_entry nat_cmp pending id o) ≡ weight f pending + f o

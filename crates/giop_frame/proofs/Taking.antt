@@ -11,5 +11,6 @@ whole_in_front f g n same seen =
     whole_from_look f.limit f.reading.pending f.unread n
     (subst (λ (k : Framing). look_at k.limit k.reading.pending k.unread ≡ Whole n) (sym same) seen)
 
-pub seen_in_front : (f g : Framing) (seen : Look) → f ≡ g → look_at f.limit f.reading.pending f.unread ≡ seen → look_at g.limit g.reading.pending g.unread ≡ seen
+pub seen_in_front : (f g : Framing) (seen : Look) → f ≡ g → look_at f.limit f.reading.pending f.unread ≡ seen
+    → look_at g.limit g.reading.pending g.unread ≡ seen
 seen_in_front f g seen same here = subst (λ (k : Framing). look_at k.limit k.reading.pending k.unread ≡ seen) same here

@@ -9,12 +9,14 @@ use Rattle.giop_frame.specs.Framing.{Framing}
 -- fed this text from here on, the framer gives these messages, and then says that this is the end
 abbrev pub FramerGives : Framing → List ℕ → List Framed → End → Type 0
 FramerGives f text messages end =
-    MatchOption f.closed (StreamFrom f.limit f.reading (f.unread ++ text) messages end) (λ why. (messages ≡ []) × (end ≡ bad_place f.reading.place why))
+    MatchOption f.closed (StreamFrom f.limit f.reading (f.unread ++ text) messages end)
+    (λ why. (messages ≡ []) × (end ≡ bad_place f.reading.place why))
 
 -- a framer that was fed these bytes and has given these messages: it goes on as the stream of all bytes does
 abbrev pub HasGiven : ℕ → List ℕ → List Framed → Framing → Type 0
 HasGiven limit fed given f =
-    (text : List ℕ) (messages : List Framed) (end : End) → FramerGives f text messages end ↔ Stream limit (fed ++ text) (given ++ messages) end
+    (text : List ℕ) (messages : List Framed) (end : End) → FramerGives f text messages end
+    ↔ Stream limit (fed ++ text) (given ++ messages) end
 
 -- fed this text from here on, the framer gives some messages, and then says how it ends
 pub record GoesOn (f : Framing) (text : List ℕ) : Type 0 where
@@ -32,7 +34,8 @@ reach f = f.reading.place + length f.unread
 
 -- what an answer says, and what is left to give after it
 abbrev pub FramerAnswers : Framing → Next → Framing → Type 0
-FramerAnswers f (answer.Message m) g = (text : List ℕ) (messages : List Framed) (end : End) → FramerGives g text messages end ↔ FramerGives f text (m ∷ messages) end
+FramerAnswers f (answer.Message m) g = (text : List ℕ) (messages : List Framed) (end : End) → FramerGives g text messages end
+    ↔ FramerGives f text (m ∷ messages) end
 FramerAnswers f (answer.NeedMore have) g = FramerGives f [] [] (left_over have) × GiveTheSame f g
 FramerAnswers f (answer.Bad at why) g = ((text : List ℕ) → FramerGives f text [] (bad_place at why)) × GiveTheSame f g
 

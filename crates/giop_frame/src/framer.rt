@@ -45,7 +45,8 @@ impl Model for Framer {
       closed = f.closed;
     } };
 
-    ghost invariant = { λ f. (open_bytes f.pending ≤ OPEN_LIMIT) × (taken_bytes f.pending ≤ f.place) × (f.place + length f.unread < 2 ^ 62) };
+    ghost invariant = { λ f. (open_bytes f.pending ≤ OPEN_LIMIT) × (taken_bytes f.pending ≤ f.place)
+        × (f.place + length f.unread < 2 ^ 62) };
 }
 
 impl Framer {

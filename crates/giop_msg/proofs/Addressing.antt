@@ -33,7 +33,8 @@ IndexThen c = StandsThen ℕ (λ (n : ℕ). Reads (ulong n)) (λ (n : ℕ) (a : 
 
 index_then : (c : Cursor) → Decided (IndexThen c)
 index_then c =
-    decided_then ℕ (λ (n : ℕ). Reads (ulong n)) (λ (n : ℕ) (a : Cursor). Stands Ior ReadsIor a) c (λ m n a b p q. one_ulong_read m n c a b p q) (λ n a. ior_decided a) (ulong_decided c)
+    decided_then ℕ (λ (n : ℕ). Reads (ulong n)) (λ (n : ℕ) (a : Cursor). Stands Ior ReadsIor a) c (λ m n a b p q. one_ulong_read m n c a b p q)
+    (λ n a. ior_decided a) (ulong_decided c)
 
 key_back : (c after : Cursor) (object : Target) → Addresses KEY_ADDRESS object c after → Stands (List ℕ) (λ (xs : List ℕ). Reads (octets xs)) c
 key_back c after (by_key key) a = (key, after, a.read)
@@ -50,12 +51,14 @@ reference_of c after (by_key key) a = absurd (omega (arith, a.is))
 reference_of c after (by_profile profile) a = absurd (omega (arith, a.is))
 reference_of c after (by_reference index ior) a = (index, a.read.0, a.read.1.0, (ior, after, a.read.1.1))
 
-no_other : (n : ℕ) (c after : Cursor) (object : Target) → (n ≡ KEY_ADDRESS → ⊥) → (n ≡ PROFILE_ADDRESS → ⊥) → (n ≡ REFERENCE_ADDRESS → ⊥) → Addresses n object c after → ⊥
+no_other : (n : ℕ) (c after : Cursor) (object : Target) → (n ≡ KEY_ADDRESS → ⊥) → (n ≡ PROFILE_ADDRESS → ⊥) → (n ≡ REFERENCE_ADDRESS → ⊥)
+    → Addresses n object c after → ⊥
 no_other n c after (by_key key) no_key no_profile no_reference a = no_key (omega (arith, a.is))
 no_other n c after (by_profile profile) no_key no_profile no_reference a = no_profile (omega (arith, a.is))
 no_other n c after (by_reference index ior) no_key no_profile no_reference a = no_reference (omega (arith, a.is))
 
-address_by : (n : ℕ) (c : Cursor) → Decided (n ≡ KEY_ADDRESS) → Decided (n ≡ PROFILE_ADDRESS) → Decided (n ≡ REFERENCE_ADDRESS) → Decided (Stands Target (Addresses n) c)
+address_by : (n : ℕ) (c : Cursor) → Decided (n ≡ KEY_ADDRESS) → Decided (n ≡ PROFILE_ADDRESS) → Decided (n ≡ REFERENCE_ADDRESS)
+    → Decided (Stands Target (Addresses n) c)
 address_by n c (inl key) no_profile no_reference =
     subst (λ (m : ℕ). Decided (Stands Target (Addresses m) c)) (sym key)
     (decided_as (Stands (List ℕ) (λ (xs : List ℕ). Reads (octets xs)) c) (Stands Target (Addresses KEY_ADDRESS) c)

@@ -30,7 +30,8 @@ pub written_answer :
     IfErr r (λ fault. (fault ≡ WantMemory) ⊎ CallOf bytes (Err fault)) → (ask : Ask) → IsAsk ask →
     bytes ≡ request_bytes ask → (r ≡ Ok (incoming.Call (call_of ask))) ⊎ (r ≡ Err WantMemory)
 written_answer bytes r call fault ask is same =
-    only_answer bytes r call fault (Ok (incoming.Call (call_of ask))) (subst (λ (l : List ℕ). CallOf l (Ok (incoming.Call (call_of ask)))) (sym same) (written_asks ask is))
+    only_answer bytes r call fault (Ok (incoming.Call (call_of ask)))
+    (subst (λ (l : List ℕ). CallOf l (Ok (incoming.Call (call_of ask)))) (sym same) (written_asks ask is))
 
 -- the same of a view
 pub seen_answers :

@@ -26,11 +26,13 @@ use Rattle.giop_msg.proofs.Fields.{reads_split}
 use Rattle.giop_msg.proofs.Written.{AllFit, written_all, with_fields-bytes, reads_written}
 use Rattle.giop_msg.proofs.Headers.{framed-type, framed-order, framed-content, framed_message}
 
-same_body : (little : Bool) (xs ys : List ℕ) (m n : ℕ) → xs ≡ ys → m ≡ n → (let r : Body = record { bytes = xs; little = little; base = m } in r) ≡ record { bytes = ys; little = little; base = n }
+same_body : (little : Bool) (xs ys : List ℕ) (m n : ℕ) → xs ≡ ys → m ≡ n
+    → (let r : Body = record { bytes = xs; little = little; base = m } in r) ≡ record { bytes = ys; little = little; base = n }
 same_body little xs ys m n bytes base = ap₂ (λ (l : List ℕ) (k : ℕ). let r : Body = record { bytes = l; little = little; base = k } in r) bytes base
 
 -- the body behind the fields is the argument's
-body_of_argument : (little : Bool) (place : ℕ) (argument : Option Datum) → body_at (record { little = little; place = place; rest = argument_bytes little place argument }) ≡ asked_body little place argument
+body_of_argument : (little : Bool) (place : ℕ) (argument : Option Datum)
+    → body_at (record { little = little; place = place; rest = argument_bytes little place argument }) ≡ asked_body little place argument
 body_of_argument little place None =
     same_body little (drop (gap 8 place) []) [] (place + min (gap 8 place) 0) place (drop-nil (gap 8 place)) (omega arith)
 body_of_argument little place (Some datum) =
@@ -52,7 +54,8 @@ fields_fit ask is = (is.id, (is.flags, (omega arith, (omega arith, (omega arith,
 abbrev behind : Ask → Cursor
 behind ask = record { little = ask.head.little; place = request_end ask; rest = argument_bytes ask.head.little (request_end ask) ask.argument }
 
-start : (ask : Ask) → fields_start (request_bytes ask) ≡ record { little = ask.head.little; place = HEADER; rest = (request_draft ask).bytes ++ argument_bytes ask.head.little (request_end ask) ask.argument }
+start : (ask : Ask) → fields_start (request_bytes ask) ≡ record
+    { little = ask.head.little; place = HEADER; rest = (request_draft ask).bytes ++ argument_bytes ask.head.little (request_end ask) ask.argument }
 start ask =
     let content : List ℕ = (request_draft ask).bytes ++ argument_bytes ask.head.little (request_end ask) ask.argument in
     same_cursor (fields_start (request_bytes ask)) (record { little = ask.head.little; place = HEADER; rest = content })
@@ -60,9 +63,11 @@ start ask =
 
 fields_read : (ask : Ask) → IsAsk ask → ReadsAll (fields ask) (fields_start (request_bytes ask)) (behind ask)
 fields_read ask is =
-    let bytes : (request_draft ask).bytes ≡ written_all ask.head.little HEADER (fields ask) = with_fields-bytes (fields ask) (empty_draft ask.head.little HEADER) in
+    let bytes : (request_draft ask).bytes ≡ written_all ask.head.little HEADER (fields ask) =
+    with_fields-bytes (fields ask) (empty_draft ask.head.little HEADER) in
     subst (λ (c : Cursor). ReadsAll (fields ask) c (behind ask)) (sym (start ask))
-    (reads_written (fields ask) (record { little = ask.head.little; place = HEADER; rest = (request_draft ask).bytes ++ (behind ask).rest }) (behind ask) (fields_fit ask is)
+    (reads_written (fields ask) (record { little = ask.head.little; place = HEADER; rest = (request_draft ask).bytes ++ (behind ask).rest }) (behind ask)
+    (fields_fit ask is)
     (ap (λ (l : List ℕ). l ++ (behind ask).rest) bytes) refl (ap (λ (l : List ℕ). HEADER + length l) bytes))
 
 -- the fields of a target by its key are read as that target
@@ -93,7 +98,9 @@ pub written_asks : WrittenAsks
 written_asks ask is =
     let content : List ℕ = (request_draft ask).bytes ++ argument_bytes ask.head.little (request_end ask) ask.argument in
     let whole = fields_read ask is in
-    let parts = reads_split (opening_fields ask.head.id ask.head.flags 0 0 0 ++ key_fields ask.key) (closing_fields ask.operation []) (fields_start (request_bytes ask)) (behind ask) whole in
+    let parts =
+    reads_split (opening_fields ask.head.id ask.head.flags 0 0 0 ++ key_fields ask.key) (closing_fields ask.operation []) (fields_start (request_bytes ask))
+    (behind ask) whole in
     let front = reads_split (opening_fields ask.head.id ask.head.flags 0 0 0) (key_fields ask.key) (fields_start (request_bytes ask)) parts.0 parts.1.0 in (
       framed-type MINOR REQUEST ask.head.little content,
       record {

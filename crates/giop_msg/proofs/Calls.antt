@@ -25,11 +25,16 @@ use Rattle.giop_msg.proofs.Locates.{one_locate}
 same_call : (h k : Head) (t u : Option (List ℕ)) (o p : List ℕ) (x y : Body) → h ≡ k → t ≡ u → o ≡ p → x ≡ y → Request h t o x ≡ Request k u p y
 same_call h k t u o p x y head target operation body = cc
 
-one_request : (bytes : List ℕ) (h k : Head) (t u : Option (List ℕ)) (o p : List ℕ) (x y : Body) → IsRequest bytes h t o x → IsRequest bytes k u p y → Request h t o x ≡ Request k u p y
+one_request : (bytes : List ℕ) (h k : Head) (t u : Option (List ℕ)) (o p : List ℕ) (x y : Body) → IsRequest bytes h t o x → IsRequest bytes k u p y
+    → Request h t o x ≡ Request k u p y
 one_request bytes h k t u o p x y is has =
     let opening = one_opening h.id k.id h.flags k.flags (fields_start bytes) is.behind_opening has.behind_opening is.opening has.opening in
-    let target = one_target t u has.behind_opening is.behind_target has.behind_target (target_at bytes h t o x k.id k.flags has.behind_opening has.opening is) has.addressed in
-    let closing = one_closing o p has.behind_target is.behind has.behind (closing_at bytes h t o x k.id k.flags u has.behind_opening has.behind_target has.opening has.addressed is) has.closing in
+    let target =
+    one_target t u has.behind_opening is.behind_target has.behind_target
+    (target_at bytes h t o x k.id k.flags has.behind_opening has.opening is) has.addressed in
+    let closing =
+    one_closing o p has.behind_target is.behind has.behind
+    (closing_at bytes h t o x k.id k.flags u has.behind_opening has.behind_target has.opening has.addressed is) has.closing in
     same_call h k t u o p x y
     (is.is_head ∙ (ap₂ (λ (i f : ℕ). request_head i f (is_little bytes)) opening.0 opening.1 ∙ sym has.is_head)) target.0 closing.0
     (is.is_body ∙ (ap body_at closing.1 ∙ sym has.is_body))
@@ -63,9 +68,11 @@ makes_none bytes n call kind no_request no_locate makes = by (made_type bytes ca
 -- and asks one thing
 one_asked : (bytes : List ℕ) (a b : Incoming) → Asks bytes a → Asks bytes b → a ≡ b
 one_asked bytes (incoming.Call a) (incoming.Call b) is has = ap (λ (c : Call). incoming.Call c) (one_made bytes a b is has)
-one_asked bytes (incoming.Call a) (incoming.Cancel n) is has = absurd (makes_none bytes CANCEL_REQUEST a has.0 (λ e. omega (arith, e)) (λ e. omega (arith, e)) is)
+one_asked bytes (incoming.Call a) (incoming.Cancel n) is has =
+    absurd (makes_none bytes CANCEL_REQUEST a has.0 (λ e. omega (arith, e)) (λ e. omega (arith, e)) is)
 one_asked bytes (incoming.Call a) incoming.Closing is has = absurd (makes_none bytes CLOSE_CONNECTION a has (λ e. omega (arith, e)) (λ e. omega (arith, e)) is)
-one_asked bytes (incoming.Cancel m) (incoming.Call b) is has = absurd (makes_none bytes CANCEL_REQUEST b is.0 (λ e. omega (arith, e)) (λ e. omega (arith, e)) has)
+one_asked bytes (incoming.Cancel m) (incoming.Call b) is has =
+    absurd (makes_none bytes CANCEL_REQUEST b is.0 (λ e. omega (arith, e)) (λ e. omega (arith, e)) has)
 one_asked bytes (incoming.Cancel m) (incoming.Cancel n) is has = ap (λ (i : ℕ). incoming.Cancel i) (one_id bytes m n is.1 has.1)
 one_asked bytes (incoming.Cancel m) incoming.Closing is has = absurd (omega (arith, is.0, has))
 one_asked bytes incoming.Closing (incoming.Call b) is has = absurd (makes_none bytes CLOSE_CONNECTION b is (λ e. omega (arith, e)) (λ e. omega (arith, e)) has)

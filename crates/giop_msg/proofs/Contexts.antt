@@ -29,7 +29,8 @@ more_contexts n a b c has next = record {
 }
 
 -- where more contexts stand than were read, one more stands behind these
-next_context : (xs ys : List Context) (a b c : Cursor) → length xs < length ys → ReadsAll (context_fields xs) a b → ReadsAll (context_fields ys) a c → (d : Cursor) × IsContext b d
+next_context : (xs ys : List Context) (a b c : Cursor) → length xs < length ys → ReadsAll (context_fields xs) a b → ReadsAll (context_fields ys) a c
+    → (d : Cursor) × IsContext b d
 next_context [] [] a b c fewer here there = absurd (omega arith)
 next_context [] (y ∷ ys) a b c fewer here there = (
   there.1.1.0,
@@ -46,7 +47,8 @@ next_context (x ∷ xs) (y ∷ ys) a b c fewer here there =
     next_context xs ys here.1.1.0 b c (omega (arith, fewer)) here.1.1.1.1 (subst (λ (z : Cursor). ReadsAll (context_fields ys) z c) (sym bytes.1) there.1.1.1.1)
 
 -- where the next context can't be read there aren't so many
-pub no_more_contexts : (n count : ℕ) (a b : Cursor) → HasContexts n a b → n < count → ((after : Cursor) → IsContext b after → ⊥) → (after : Cursor) → HasContexts count a after → ⊥
+pub no_more_contexts : (n count : ℕ) (a b : Cursor) → HasContexts n a b → n < count → ((after : Cursor) → IsContext b after → ⊥) → (after : Cursor)
+    → HasContexts count a after → ⊥
 no_more_contexts n count a b has fewer none after all =
     let next : (d : Cursor) × IsContext b d = next_context has.contexts all.contexts a b after (omega (arith, has.counted, all.counted)) has.read all.read in
     none next.0 next.1
@@ -66,12 +68,14 @@ ends_once (x ∷ xs) (y ∷ ys) a b c same here there =
 pub one_closing : (o p : List ℕ) (a b c : Cursor) → IsClosing o a b → IsClosing p a c → (o ≡ p) × (b ≡ c)
 one_closing o p a b c here there =
     let operation = one_text_read o p a here.read.0 there.read.0 here.read.1.0 there.read.1.0 in
-    let count_read : Reads (ulong (length there.contexts)) here.read.0 there.read.1.1.0 = subst (λ (z : Cursor). Reads (ulong (length there.contexts)) z there.read.1.1.0) (sym operation.1) there.read.1.1.1.0 in
+    let count_read : Reads (ulong (length there.contexts)) here.read.0 there.read.1.1.0 =
+    subst (λ (z : Cursor). Reads (ulong (length there.contexts)) z there.read.1.1.0) (sym operation.1) there.read.1.1.1.0 in
     let count = one_ulong_read (length here.contexts) (length there.contexts) here.read.0 here.read.1.1.0 there.read.1.1.0 here.read.1.1.1.0 count_read in
     (operation.0, ends_once here.contexts there.contexts here.read.1.1.0 b c count.0 here.read.1.1.1.1 (subst (λ (z : Cursor). ReadsAll (context_fields there.contexts) z c) (sym count.1) there.read.1.1.1.1))
 
 -- the operation, the count and the contexts were read
-pub closing_read : (operation : List ℕ) (count : ℕ) (a b c d : Cursor) → Reads (text operation) a b → Reads (ulong count) b c → HasContexts count c d → IsClosing operation a d
+pub closing_read : (operation : List ℕ) (count : ℕ) (a b c d : Cursor) → Reads (text operation) a b → Reads (ulong count) b c → HasContexts count c d
+    → IsClosing operation a d
 closing_read operation count a b c d operation_read count_read has = record {
   contexts = has.contexts;
   read = (b, (operation_read, (c, (subst (λ (n : ℕ). Reads (ulong n) b c) (sym has.counted) count_read, has.read))));
@@ -86,11 +90,13 @@ count_at o p a b after operation_read is =
     let operation = one_text_read o p a b is.read.0 operation_read is.read.1.0 in
     subst (λ (z : Cursor). Reads (ulong (length is.contexts)) z is.read.1.1.0) (sym operation.1) is.read.1.1.1.0
 
-pub no_count : (o : List ℕ) (a b : Cursor) (fault : CdrFault) → Reads (text o) a b → Refuses ULong b fault → (operation : List ℕ) (after : Cursor) → IsClosing operation a after → ⊥
+pub no_count : (o : List ℕ) (a b : Cursor) (fault : CdrFault) → Reads (text o) a b → Refuses ULong b fault → (operation : List ℕ) (after : Cursor)
+    → IsClosing operation a after → ⊥
 no_count o a b fault operation_read refused operation after is =
     none_where_refused (ulong (length is.contexts)) b is.read.1.1.0 fault refused (count_at o operation a b after operation_read is)
 
-pub no_contexts_behind : (o : List ℕ) (count : ℕ) (a b c : Cursor) → Reads (text o) a b → Reads (ulong count) b c → ((after : Cursor) → HasContexts count c after → ⊥) → (operation : List ℕ) (after : Cursor) → IsClosing operation a after → ⊥
+pub no_contexts_behind : (o : List ℕ) (count : ℕ) (a b c : Cursor) → Reads (text o) a b → Reads (ulong count) b c
+    → ((after : Cursor) → HasContexts count c after → ⊥) → (operation : List ℕ) (after : Cursor) → IsClosing operation a after → ⊥
 no_contexts_behind o count a b c operation_read count_read none operation after is =
     let counted = one_ulong_read count (length is.contexts) b c is.read.1.1.0 count_read (count_at o operation a b after operation_read is) in
     none after (record {
@@ -103,4 +109,5 @@ no_contexts_behind o count a b c operation_read count_read none operation after 
 pub no_data : (n : ℕ) (a b : Cursor) (fault : CdrFault) → Reads (ulong n) a b → Refuses Octets b fault → (after : Cursor) → IsContext a after → ⊥
 no_data n a b fault id_read refused after is =
     let id = one_ulong_read n is.context.0 a b is.read.0 id_read is.read.1.0 in
-    none_where_refused (octets is.context.1) b is.read.1.1.0 fault refused (subst (λ (z : Cursor). Reads (octets is.context.1) z is.read.1.1.0) (sym id.1) is.read.1.1.1.0)
+    none_where_refused (octets is.context.1) b is.read.1.1.0 fault refused
+    (subst (λ (z : Cursor). Reads (octets is.context.1) z is.read.1.1.0) (sym id.1) is.read.1.1.1.0)

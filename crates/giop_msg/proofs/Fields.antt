@@ -15,7 +15,8 @@ kinds_of [] = []
 kinds_of (field ∷ fields) = kind_of field ∷ kinds_of fields
 
 -- what was read up to a refused field is the start of no whole reading
-pub stuck : (read others : List Field) (kind : Kind) (kinds : List Kind) (before after last : Cursor) (fault : CdrFault) → kinds_of others ≡ kinds_of read ++ kind ∷ kinds → ReadsAll read before after → Refuses kind after fault → ReadsAll others before last → ⊥
+pub stuck : (read others : List Field) (kind : Kind) (kinds : List Kind) (before after last : Cursor) (fault : CdrFault)
+    → kinds_of others ≡ kinds_of read ++ kind ∷ kinds → ReadsAll read before after → Refuses kind after fault → ReadsAll others before last → ⊥
 stuck [] [] kind kinds before after last fault same here refused there = cc
 stuck [] (g ∷ gs) kind kinds before after last fault same here refused there =
     let e : kind ≡ kind_of g = cc in
@@ -29,7 +30,8 @@ stuck (f ∷ fs) (g ∷ gs) kind kinds before after last fault same here refused
     stuck fs gs kind kinds here.0 after last fault later here.1.1 refused (subst (λ (c : Cursor). ReadsAll gs c last) (sym one.1) there.1.1)
 
 -- two readings of the same kinds are one
-pub one_reading_of_all : (xs ys : List Field) (before a b : Cursor) → kinds_of xs ≡ kinds_of ys → ReadsAll xs before a → ReadsAll ys before b → (xs ≡ ys) × (a ≡ b)
+pub one_reading_of_all : (xs ys : List Field) (before a b : Cursor) → kinds_of xs ≡ kinds_of ys → ReadsAll xs before a → ReadsAll ys before b → (xs ≡ ys)
+    × (a ≡ b)
 one_reading_of_all [] [] before a b same here there = (refl, here ∙ sym there)
 one_reading_of_all [] (y ∷ ys) before a b same here there = absurd (cc)
 one_reading_of_all (x ∷ xs) [] before a b same here there = absurd (cc)

@@ -19,7 +19,8 @@ use Rattle.giop_msg.specs.Reading.{NoTarget, NoCall}
 use Rattle.giop_msg.proofs.Targets.{one_target}
 
 -- its target stands where the id that was read ends
-target_behind : (bytes : List ℕ) (head : Head) (t : Option (List ℕ)) (i : ℕ) (b : Cursor) → Reads (ulong i) (fields_start bytes) b → (is : IsLocate bytes head t) → IsTarget t b is.behind
+target_behind : (bytes : List ℕ) (head : Head) (t : Option (List ℕ)) (i : ℕ) (b : Cursor) → Reads (ulong i) (fields_start bytes) b
+    → (is : IsLocate bytes head t) → IsTarget t b is.behind
 target_behind bytes head t i b id is =
     subst (λ (z : Cursor). IsTarget t z is.behind) (one_ulong_read head.id i (fields_start bytes) is.behind_id b is.id id).1 is.addressed
 

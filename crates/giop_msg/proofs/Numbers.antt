@@ -92,7 +92,8 @@ has_body field size limit is n c after p =
     let long : length body ≡ size = ap (λ l. length l) same ∙ is.long c.little n in
     let padded : length padding ≡ gap size c.place = p.spelled.aligned ∙ ap (λ u. gap u c.place) (is.unit n) in
     let split : c.rest ≡ padding ++ (body ++ after.rest) = p.passed.split ∙ ap (λ l. l ++ after.rest) p.spelled.parts ∙ append_assoc padding body after.rest in
-    let behind : drop (gap size c.place) c.rest ≡ body ++ after.rest = ap (drop (gap size c.place)) split ∙ drop_at padding (body ++ after.rest) (gap size c.place) padded in
+    let behind : drop (gap size c.place) c.rest ≡ body ++ after.rest = ap (drop (gap size c.place)) split
+    ∙ drop_at padding (body ++ after.rest) (gap size c.place) padded in
     record {
       whole = omega (arith, ap (λ l. length l) split, length-append padding (body ++ after.rest), length-append body after.rest, long, padded);
       body = ap (take size) behind ∙ take_at body after.rest size long ∙ same;
@@ -108,7 +109,8 @@ field_at field size limit is n c whole low same =
     let padded : length padding ≡ gap size c.place = length-take-le (gap size c.place) c.rest (omega (arith, whole)) in
     let after : Cursor = record { little = c.little; place = c.place + length (padding ++ body); rest = drop size behind } in
     let split : c.rest ≡ (padding ++ body) ++ drop size behind =
-    sym (take-append-drop (gap size c.place) c.rest) ∙ ap (λ l. padding ++ l) (sym (take-append-drop size behind)) ∙ sym (append_assoc padding body (drop size behind)) in (
+    sym (take-append-drop (gap size c.place) c.rest) ∙ ap (λ l. padding ++ l) (sym (take-append-drop size behind))
+    ∙ sym (append_assoc padding body (drop size behind)) in (
       n,
       after,
       record {
@@ -142,7 +144,8 @@ field_decided field size limit is c (inl whole) =
     let n = is.value c.little (body_at size c) in
     field_by_value field size limit is c whole
     (decided_both (n < limit) (body_of c.little (field n) ≡ body_at size c) (decided_by (n < limit) (ltb n limit) (Decides-ltb n limit))
-    (decided_by (body_of c.little (field n) ≡ body_at size c) (bytes_eq (body_of c.little (field n)) (body_at size c)) (bytes_eq-Decides (body_of c.little (field n)) (body_at size c))))
+    (decided_by (body_of c.little (field n) ≡ body_at size c) (bytes_eq (body_of c.little (field n)) (body_at size c))
+    (bytes_eq-Decides (body_of c.little (field n)) (body_at size c))))
 field_decided field size limit is c (inr short) = inr (λ s. short (has_body field size limit is s.0 c s.1 s.2).whole)
 
 number_decided : (field : ℕ → Field) (size limit : ℕ) → Numbered field size limit → (c : Cursor) → Decided (Stands ℕ (λ (m : ℕ). Reads (field m)) c)

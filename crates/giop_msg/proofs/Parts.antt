@@ -118,7 +118,8 @@ opening_back c s =
 pub opening_decided : (c : Cursor) → Decided (Stands (ℕ × ℕ) Opening c)
 opening_decided c =
     decided_as (IdThen c) (Stands (ℕ × ℕ) Opening c) (opening_there c) (opening_back c)
-    (decided_then ℕ (λ (n : ℕ). Reads (ulong n)) (λ (n : ℕ) (a : Cursor). OctetThen (λ (f : ℕ) (b : Cursor). ThreeOctets b) a) c (λ m n a b p q. one_ulong_read m n c a b p q)
+    (decided_then ℕ (λ (n : ℕ). Reads (ulong n)) (λ (n : ℕ) (a : Cursor). OctetThen (λ (f : ℕ) (b : Cursor). ThreeOctets b) a) c
+    (λ m n a b p q. one_ulong_read m n c a b p q)
     (λ n a. octet_then (λ (f : ℕ) (b : Cursor). ThreeOctets b) a
     (λ f b. octet_then (λ (x : ℕ) (d : Cursor). OctetThen (λ (y : ℕ) (e : Cursor). Stands ℕ (λ (z : ℕ). Reads (octet z)) e) d) b
     (λ x d. octet_then (λ (y : ℕ) (e : Cursor). Stands ℕ (λ (z : ℕ). Reads (octet z)) e) d (λ y e. octet_decided e))))

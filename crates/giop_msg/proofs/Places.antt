@@ -58,4 +58,5 @@ pub by_place :
     (bytes : List ℕ) (c : Cursor) (place : ℕ) → IsWithin bytes c → place ≡ c.place →
     record { little = is_little bytes; place = place; rest = drop place bytes } ≡ c
 by_place bytes c place within same =
-    same_cursor (record { little = is_little bytes; place = place; rest = drop place bytes }) c (sym within.order) same (ap (λ (n : ℕ). drop n bytes) same ∙ sym within.stands.rest)
+    same_cursor (record { little = is_little bytes; place = place; rest = drop place bytes }) c (sym within.order) same
+    (ap (λ (n : ℕ). drop n bytes) same ∙ sym within.stands.rest)

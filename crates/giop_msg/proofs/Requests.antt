@@ -38,7 +38,8 @@ pub target_at :
     (bytes : List ℕ) (head : Head) (t : Option (List ℕ)) (o : List ℕ) (body : Body) (i f : ℕ) (b : Cursor) →
     IsOpening i f (fields_start bytes) b → (is : IsRequest bytes head t o body) → IsTarget t b is.behind_target
 target_at bytes head t o body i f b opening is =
-    subst (λ (z : Cursor). IsTarget t z is.behind_target) (one_opening head.id i head.flags f (fields_start bytes) is.behind_opening b is.opening opening).2 is.addressed
+    subst (λ (z : Cursor). IsTarget t z is.behind_target)
+    (one_opening head.id i head.flags f (fields_start bytes) is.behind_opening b is.opening opening).2 is.addressed
 
 pub closing_at :
     (bytes : List ℕ) (head : Head) (t : Option (List ℕ)) (o : List ℕ) (body : Body) (i f : ℕ) (u : Option (List ℕ)) (b d : Cursor) →

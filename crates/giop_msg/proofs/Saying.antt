@@ -138,7 +138,8 @@ cancel_asked bytes kind =
     back incoming.Closing asks = absurd (omega (arith, kind, asks))
 
 -- other types ask nothing
-no_asked : (bytes : List ℕ) → (message_type bytes ≡ REQUEST → ⊥) → (message_type bytes ≡ LOCATE_REQUEST → ⊥) → (message_type bytes ≡ CANCEL_REQUEST → ⊥) → (message_type bytes ≡ CLOSE_CONNECTION → ⊥)
+no_asked : (bytes : List ℕ) → (message_type bytes ≡ REQUEST → ⊥) → (message_type bytes ≡ LOCATE_REQUEST → ⊥) → (message_type bytes ≡ CANCEL_REQUEST → ⊥)
+    → (message_type bytes ≡ CLOSE_CONNECTION → ⊥)
     → (asked : Incoming) → Asks bytes asked → ⊥
 no_asked bytes request locate cancel closing (incoming.Call call) asks = by call asks
   where
@@ -149,7 +150,8 @@ no_asked bytes request locate cancel closing (incoming.Call call) asks = by call
 no_asked bytes request locate cancel closing (incoming.Cancel id) asks = cancel asks.0
 no_asked bytes request locate cancel closing incoming.Closing asks = closing asks
 
-asked_by : (bytes : List ℕ) → Decided (message_type bytes ≡ REQUEST) → Decided (message_type bytes ≡ LOCATE_REQUEST) → Decided (message_type bytes ≡ CANCEL_REQUEST)
+asked_by : (bytes : List ℕ) → Decided (message_type bytes ≡ REQUEST) → Decided (message_type bytes ≡ LOCATE_REQUEST)
+    → Decided (message_type bytes ≡ CANCEL_REQUEST)
     → Decided (message_type bytes ≡ CLOSE_CONNECTION) → Decided (SomeAsked bytes)
 asked_by bytes (inl kind) locate cancel closing = request_asked bytes kind
 asked_by bytes (inr request) (inl kind) cancel closing = locate_asked bytes kind

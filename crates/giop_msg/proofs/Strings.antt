@@ -28,7 +28,8 @@ count_back c s =
 
 pub count_decided : (c : Cursor) → Decided (Stands (List ℕ) Counts c)
 count_decided c =
-    decided_as (StandsThen ℕ (λ (n : ℕ). Reads (ulong n)) (λ (n : ℕ) (a : Cursor). n ≤ length a.rest) c) (Stands (List ℕ) Counts c) (count_there c) (count_back c)
+    decided_as (StandsThen ℕ (λ (n : ℕ). Reads (ulong n)) (λ (n : ℕ) (a : Cursor). n ≤ length a.rest) c) (Stands (List ℕ) Counts c) (count_there c)
+    (count_back c)
     (decided_then ℕ (λ (n : ℕ). Reads (ulong n)) (λ (n : ℕ) (a : Cursor). n ≤ length a.rest) c (λ m n a b p q. one_ulong_read m n c a b p q)
     (λ n a. at_most_decided n (length a.rest)) (ulong_decided c))
 
@@ -71,7 +72,8 @@ front_decided [] = inl ([], inr (refl, refl))
 front_decided (x ∷ []) = last_decided x (is_decided x 0)
 front_decided (x ∷ y ∷ bytes) = more_decided x y bytes (front_decided (y ∷ bytes))
 
-text_there : (c : Cursor) → StandsThen (List ℕ) Counts (λ (bytes : List ℕ) (a : Cursor). HasFront bytes) c → Stands (List ℕ) (λ (xs : List ℕ). Reads (text xs)) c
+text_there : (c : Cursor) → StandsThen (List ℕ) Counts (λ (bytes : List ℕ) (a : Cursor). HasFront bytes) c
+    → Stands (List ℕ) (λ (xs : List ℕ). Reads (text xs)) c
 text_there c s = (s.3.0, s.1, text_counted s.0 s.3.0 s.3.0 c c s.1 refl refl s.3.1 s.2)
 
 text_back : (c : Cursor) → Stands (List ℕ) (λ (xs : List ℕ). Reads (text xs)) c → StandsThen (List ℕ) Counts (λ (bytes : List ℕ) (a : Cursor). HasFront bytes) c
@@ -79,6 +81,7 @@ text_back c s = let counts = text_counts s.0 c s.1 s.2 in (counts.0, s.1, counts
 
 pub text_decided : (c : Cursor) → Decided (Stands (List ℕ) (λ (xs : List ℕ). Reads (text xs)) c)
 text_decided c =
-    decided_as (StandsThen (List ℕ) Counts (λ (bytes : List ℕ) (a : Cursor). HasFront bytes) c) (Stands (List ℕ) (λ (xs : List ℕ). Reads (text xs)) c) (text_there c) (text_back c)
+    decided_as (StandsThen (List ℕ) Counts (λ (bytes : List ℕ) (a : Cursor). HasFront bytes) c) (Stands (List ℕ) (λ (xs : List ℕ). Reads (text xs)) c)
+    (text_there c) (text_back c)
     (decided_then (List ℕ) Counts (λ (bytes : List ℕ) (a : Cursor). HasFront bytes) c (λ xs ys a b p q. one_count xs ys c a b p q)
     (λ bytes a. front_decided bytes) (count_decided c))

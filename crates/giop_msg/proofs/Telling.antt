@@ -38,7 +38,8 @@ MajorThen c = StandsThen ℕ (λ (n : ℕ). Reads (octet n)) MinorThen c
 counted_as : (has : Bool) (c : Cursor) → Decided (MatchBool has (Counted c) ⊤)
 counted_as false c = inl tt
 counted_as true c =
-    decided_as (Stands ℕ (λ (n : ℕ). Reads (ulong n)) c) (Counted c) (λ s. record { number = s.0; after = s.1; count = s.2 }) (λ k. (k.number, k.after, k.count)) (ulong_decided c)
+    decided_as (Stands ℕ (λ (n : ℕ). Reads (ulong n)) c) (Counted c) (λ s. record { number = s.0; after = s.1; count = s.2 })
+    (λ k. (k.number, k.after, k.count)) (ulong_decided c)
 
 key_then : (major minor : ℕ) (c : Cursor) → Decided (KeyThen major minor c)
 key_then major minor c =
@@ -57,7 +58,8 @@ host_then major minor c =
 
 minor_then : (major : ℕ) (c : Cursor) → Decided (MinorThen major c)
 minor_then major c =
-    decided_then ℕ (λ (n : ℕ). Reads (octet n)) (HostThen major) c (λ m n a b p q. one_octet_read m n c a b p q) (λ minor a. host_then major minor a) (octet_decided c)
+    decided_then ℕ (λ (n : ℕ). Reads (octet n)) (HostThen major) c (λ m n a b p q. one_octet_read m n c a b p q) (λ minor a. host_then major minor a)
+    (octet_decided c)
 
 major_then : (c : Cursor) → Decided (MajorThen c)
 major_then c =

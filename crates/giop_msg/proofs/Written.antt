@@ -31,7 +31,8 @@ with_fields-bytes (f ∷ fs) d =
     ∙ append_assoc d.bytes w (written_all d.little (d.base + length d.bytes + length w) fs))
 
 -- and what is read there
-pub reads_written : (fs : List Field) (c after : Cursor) → AllFit fs → c.rest ≡ written_all c.little c.place fs ++ after.rest → after.little ≡ c.little → after.place ≡ c.place + length (written_all c.little c.place fs) → ReadsAll fs c after
+pub reads_written : (fs : List Field) (c after : Cursor) → AllFit fs → c.rest ≡ written_all c.little c.place fs ++ after.rest → after.little ≡ c.little
+    → after.place ≡ c.place + length (written_all c.little c.place fs) → ReadsAll fs c after
 reads_written [] c after fit split little place = same_cursor after c little (omega (arith, place)) (sym split)
 reads_written (f ∷ fs) c after fit split little place =
     let w : List ℕ = written c.little c.place f in

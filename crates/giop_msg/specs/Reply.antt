@@ -79,11 +79,13 @@ reply_draft head answer = with_fields (reply_fields head answer) (fields_draft h
 
 -- a LocateReply's fields: the id, the status and a body that has the alignment of its fields alone
 abbrev pub locate_draft : Head → Reply → Draft
-locate_draft head answer = with_fields (reply_fields head answer) (fields_draft head.little (ulong head.id ∷ ulong (locate_status answer) ∷ []))
+locate_draft head answer =
+    with_fields (reply_fields head answer) (fields_draft head.little (ulong head.id ∷ ulong (locate_status answer) ∷ []))
 
 -- the fields in front of the body, and all that follows the header
 abbrev pub opening_of : Head → Reply → List Field
-opening_of head answer = if head.locate then ulong head.id ∷ ulong (locate_status answer) ∷ [] else reply_opening head (reply_status head answer)
+opening_of head answer =
+    if head.locate then ulong head.id ∷ ulong (locate_status answer) ∷ [] else reply_opening head (reply_status head answer)
 
 abbrev pub content_draft : Head → Reply → Draft
 content_draft head answer = if head.locate then locate_draft head answer else reply_draft head answer

@@ -12,7 +12,8 @@ use Rattle.giop_msg.specs.declared.view_fault.ViewFault.TheVariants.{Malformed, 
 
 abbrev pub asked_by : Seen → Incoming
 asked_by (Request head target operation body base) =
-    incoming.Call (call.Request head (option_map (λ k. k.now) target) operation.now (record { bytes = body.now; little = head.little; base = base }))
+    incoming.Call
+    (call.Request head (option_map (λ k. k.now) target) operation.now (record { bytes = body.now; little = head.little; base = base }))
 asked_by (Locate head target) = incoming.Call (call.Locate head (option_map (λ k. k.now) target))
 asked_by (Cancel id) = incoming.Cancel id
 asked_by Closing = incoming.Closing

@@ -110,7 +110,8 @@ fn pass_context(view: &mut View<'_>) -> Result<(), PartFault>
 fn body_at<'a>(bytes: &'a [u8], place: u64) -> BodyView<'a>
     requires header { HEADER ≤ length bytes.now }
     requires within { place ≤ length bytes.now }
-    ensures { record { bytes = result.bytes.now; little = little_flag bytes.now; base = result.base } ≡ body_behind (record { little = little_flag bytes.now; place = place; rest = drop place bytes.now }) }
+    ensures { record { bytes = result.bytes.now; little = little_flag bytes.now; base = result.base } ≡ body_behind
+        (record { little = little_flag bytes.now; place = place; rest = drop place bytes.now }) }
 {
     let padding = (8 - place % 8) % 8;
     let left = bytes.len() as u64 - place;

@@ -28,7 +28,9 @@ each_same P old new same each r call is = each r call (sym (same r) ∙ is)
 pub each_more : (P : Call → Type 0) (conn size : ℕ) (call : Call) (past : List Entry) → P call → Each P past → Each P (Arrive conn size call ∷ past)
 each_more P conn size call past is each r found there =
     elim (cases_Bool (r == arrivals past)) [
-      | inl at ↦ (let same : Some call ≡ Some found = (ap (λ b. if b then Some call else call_of past r) (sym at)) ∙ there in subst P (let e : call ≡ found = (let f : Some call ≡ Some found = same in cc) in e) is)
+      | inl at ↦
+          (let same : Some call ≡ Some found = (ap (λ b. if b then Some call else call_of past r) (sym at))
+          ∙ there in subst P (let e : call ≡ found = (let f : Some call ≡ Some found = same in cc) in e) is)
       | inr other ↦ each r found (ap (λ b. if b then Some call else call_of past r) (sym other) ∙ there)
     ]
 
@@ -37,7 +39,8 @@ reply_given : (call : Option Call) (reply : Reply) → ((c : Call) → call ≡ 
 reply_given None reply headed fits = absurd (let f : false ≡ true = fits in cc)
 reply_given (Some call) reply headed fits = reply_answers call reply (headed call refl) fits
 
-pub given_answers : (h : List Entry) (r : ℕ) (head : Head) (reply : Reply) → Each IsHeaded h → head ≡ head_of (call_of h r) → FitsCall (call_of h r) reply → IsReplyTo head reply
+pub given_answers : (h : List Entry) (r : ℕ) (head : Head) (reply : Reply) → Each IsHeaded h → head ≡ head_of (call_of h r) → FitsCall (call_of h r) reply
+    → IsReplyTo head reply
 given_answers h r head reply each is fits = subst (λ (x : Head). IsReplyTo x reply) (sym is) (reply_given (call_of h r) reply (λ c there. each r c there) fits)
 
 -- the same where lines are said, too
@@ -66,11 +69,13 @@ some_given : (call : Option Call) (reply : Reply) → ((c : Call) → call ≡ S
 some_given None reply said fits = absurd (let f : false ≡ true = fits in cc)
 some_given (Some call) reply said fits = said_given call reply (said call refl) fits
 
-pub given_said : (h : List Entry) (r : ℕ) (head : Head) (reply : Reply) → Each IsSaid h → head ≡ head_of (call_of h r) → FitsCall (call_of h r) reply → IsGivenTo head reply
+pub given_said : (h : List Entry) (r : ℕ) (head : Head) (reply : Reply) → Each IsSaid h → head ≡ head_of (call_of h r) → FitsCall (call_of h r) reply
+    → IsGivenTo head reply
 given_said h r head reply each is fits = subst (λ (x : Head). IsGivenTo x reply) (sym is) (some_given (call_of h r) reply (λ c there. each r c there) fits)
 
 -- what isn't the answer to a line
-pub given_written : (head : Head) (reply : Reply) → IsGivenTo head reply → ((number : ℕ) (answer : AnswerData) → reply ≡ Answer number answer → ⊥) → IsReplyTo head reply
+pub given_written : (head : Head) (reply : Reply) → IsGivenTo head reply → ((number : ℕ) (answer : AnswerData) → reply ≡ Answer number answer → ⊥)
+    → IsReplyTo head reply
 given_written head (Outcome outcome) is other = is
 given_written head (Forward endpoint key) is other = is
 given_written head Addressing is other = is

@@ -38,9 +38,15 @@ waited : (e : Entry) (past : List Entry) (r : ℕ) → r < arrivals (e ∷ past)
 waited (Arrive conn size call) past r less waits =
     let parts = and_parts (is_unadmitted past r) (is_message (call_of (Arrive conn size call ∷ past) r)) waits in
     elim (cases_eq r (arrivals past)) [
-      | inl same ↦ inr (ap (λ b. if b then Some (arrivals past) else None) (ap (λ b. is_message (if b then Some call else call_of past r)) (sym (eq-eqb r (arrivals past) same)) ∙ parts.1) ∙ ap (λ x. Some x) (sym same))
+      | inl same ↦
+          inr (ap (λ b. if b then Some (arrivals past) else None)
+          (ap (λ b. is_message (if b then Some call else call_of past r)) (sym (eq-eqb r (arrivals past) same)) ∙ parts.1) ∙ ap (λ x. Some x) (sym same))
       | inr other ↦ (let low : r < arrivals past = below less other in
-          inl (low, and_from (is_unadmitted past r) (is_message (call_of past r)) parts.0 (ap is_message (sym (call_kept (Arrive conn size call) past r low)) ∙ parts.1)))
+          inl (
+            low,
+            and_from (is_unadmitted past r) (is_message (call_of past r)) parts.0
+                (ap is_message (sym (call_kept (Arrive conn size call) past r low)) ∙ parts.1),
+          ))
     ]
   where
     below : r < suc (arrivals past) → (r ≡ arrivals past → ⊥) → r < arrivals past
@@ -50,13 +56,19 @@ waited (Admit w q v) past r less waits =
     inl (
       less,
       and_from (is_unadmitted past r) (is_message (call_of past r))
-          (cond_both (q == r) (Some v) (admitted past r) (λ o. is_none o ≡ true → is_none (admitted past r) ≡ true) (λ _ none. absurd (false≢true none)) (λ _ none. none) parts.0) parts.1,
+          (cond_both (q == r) (Some v) (admitted past r) (λ o. is_none o ≡ true → is_none (admitted past r) ≡ true) (λ _ none. absurd (false≢true none))
+          (λ _ none. none) parts.0) parts.1,
     )
 waited (Tried w (Yes n)) past r less waits =
     let parts = and_parts (is_unadmitted (Tried w (Yes n) ∷ past) r) (is_message (call_of past r)) waits in
     elim (cases_Bool (is_at r (arrival_in (stage past w)))) [
       | inl at ↦ inr (by_arrival (arrival_in (stage past w)) at)
-      | inr other ↦ inl (less, and_from (is_unadmitted past r) (is_message (call_of past r)) (ap (λ b. is_none (if b then None else admitted past r)) (sym other) ∙ parts.0) parts.1)
+      | inr other ↦
+          inl (
+            less,
+            and_from (is_unadmitted past r) (is_message (call_of past r))
+                (ap (λ b. is_none (if b then None else admitted past r)) (sym other) ∙ parts.0) parts.1,
+          )
     ]
   where
     by_arrival : (o : Option ℕ) → is_at r o ≡ true → o ≡ Some r
@@ -81,11 +93,13 @@ freed_rows : (f : Freed) (rows : List Row) (r : ℕ) → in_rows (map (freed_row
 freed_rows f [] r = refl
 freed_rows f (row ∷ rows) r = ap (λ b. has row.calls.heap r || b) (freed_rows f rows r)
 
-module _ (c : Config) (run limit : ℕ) (past : List Entry) (e : Entry) (given : IsGiven c run) (alone : IsGivenAlone c run) (within : IsWithinLimits c limit) (legal : IsLegal c run limit (e ∷ past)) where
+module _ (c : Config) (run limit : ℕ) (past : List Entry) (e : Entry) (given : IsGiven c run) (alone : IsGivenAlone c run) (within : IsWithinLimits c limit)
+    (legal : IsLegal c run limit (e ∷ past)) where
   abbrev freed : Freed
   freed = freed_by c run past e
 
-  let_gripped : (r : ℕ) → r < arrivals past → freed.all ≡ false → (hold : Hold) → Blocks (facts_of c run past r) hold → IsGripped c run (e ∷ past) r (let_go hold)
+  let_gripped : (r : ℕ) → r < arrivals past → freed.all ≡ false → (hold : Hold) → Blocks (facts_of c run past r) hold
+      → IsGripped c run (e ∷ past) r (let_go hold)
   let_gripped r less few (HeldTurn k) (takes, running) = turn_stays c run limit past e given alone within legal r less few k takes
   let_gripped r less few (Manager m) blocks = tt
   let_gripped r less few (Trial k) blocks = tt
@@ -95,13 +109,16 @@ module _ (c : Config) (run limit : ℕ) (past : List Entry) (e : Entry) (given :
 
   gripped_on : (r : ℕ) → r < arrivals past → (grip : Grip) → IsGripped c run past r grip → IsGripped c run (e ∷ past) r (freed_grip freed grip)
   gripped_on r less Loose is = tt
-  gripped_on r less (Turn k) takes = cond_both freed.all Loose (Turn k) (λ g. IsGripped c run (e ∷ past) r g) (λ _. tt) (λ few. turn_stays c run limit past e given alone within legal r less few k takes)
+  gripped_on r less (Turn k) takes =
+      cond_both freed.all Loose (Turn k) (λ g. IsGripped c run (e ∷ past) r g) (λ _. tt)
+      (λ few. turn_stays c run limit past e given alone within legal r less few k takes)
   gripped_on r less (Held hold) blocks =
       cond_both (frees freed hold) (if freed.all then Loose else let_go hold) (Held hold) (λ g. IsGripped c run (e ∷ past) r g)
       (λ _. cond_both freed.all Loose (let_go hold) (λ g. IsGripped c run (e ∷ past) r g) (λ _. tt) (λ few. let_gripped r less few hold blocks))
       (λ still. still_blocked c run limit past e given alone within legal r less hold still blocks)
 
-  pub known_after : (ready ready' : Heap) (rows : List Row) → ((r : ℕ) → has ready r ≡ true → has ready' r ≡ true) → ((r : ℕ) → received past e ≡ Some r → has ready' r ≡ true)
+  pub known_after : (ready ready' : Heap) (rows : List Row) → ((r : ℕ) → has ready r ≡ true → has ready' r ≡ true)
+      → ((r : ℕ) → received past e ≡ Some r → has ready' r ≡ true)
       → KnowsCalls c run past ready rows → KnowsCalls c run (e ∷ past) ready' (map (freed_row freed) rows)
   known_after ready ready' rows more comes known = record {
     covered = λ r less waits. elim (waited e past r less waits) [
@@ -115,4 +132,5 @@ module _ (c : Config) (run limit : ℕ) (past : List Entry) (e : Entry) (given :
   }
     where
       row_on : (x : Row) → In x rows → IsRow c run (e ∷ past) (freed_row freed x)
-      row_on x was r is = (let it = known.held x was r is in ((let low = it.0 in let grows = arrivals_kept e past in omega (arith, low, grows)), gripped_on r it.0 x.grip it.1))
+      row_on x was r is =
+          (let it = known.held x was r is in ((let low = it.0 in let grows = arrivals_kept e past in omega (arith, low, grows)), gripped_on r it.0 x.grip it.1))

@@ -23,13 +23,17 @@ use Rattle.held_queue.specs.declared.grip.Grip.TheVariants.{Held, Turn, Loose}
 use Rattle.held_queue.specs.declared.row.Row.{Row}
 
 -- a call that was in a row is in it still, or the changed row had it
-set_other : (rows : List Row) (i : ℕ) (d y : Row) (r : ℕ) → i < length rows → in_rows rows r ≡ true → (has (slice_index_or rows i d).calls.heap r ≡ true) ⊎ (in_rows (slice_set rows i y) r ≡ true)
+set_other : (rows : List Row) (i : ℕ) (d y : Row) (r : ℕ) → i < length rows → in_rows rows r ≡ true → (has (slice_index_or rows i d).calls.heap r ≡ true)
+    ⊎ (in_rows (slice_set rows i y) r ≡ true)
 set_other [] i d y r low is = absurd (omega (arith, low))
-set_other (x ∷ rows) zero d y r low is = elim (or_cases (has x.calls.heap r) (in_rows rows r) is) [ inl here ↦ inl here | inr more ↦ inr (or_right (has y.calls.heap r) (in_rows rows r) more) ]
+set_other (x ∷ rows) zero d y r low is =
+    elim (or_cases (has x.calls.heap r) (in_rows rows r) is) [ inl here ↦ inl here | inr more ↦ inr (or_right (has y.calls.heap r) (in_rows rows r) more) ]
 set_other (x ∷ rows) (suc i) d y r low is =
     elim (or_cases (has x.calls.heap r) (in_rows rows r) is) [
       | inl here ↦ inr (or_left (has x.calls.heap r) (in_rows (slice_set rows i y) r) here)
-      | inr more ↦ elim (set_other rows i d y r (omega (arith, low)) more) [ inl at ↦ inl at | inr rest ↦ inr (or_right (has x.calls.heap r) (in_rows (slice_set rows i y) r) rest) ]
+      | inr more ↦
+          elim (set_other rows i d y r (omega (arith, low)) more)
+          [ inl at ↦ inl at | inr rest ↦ inr (or_right (has x.calls.heap r) (in_rows (slice_set rows i y) r) rest) ]
     ]
 
 set_here : (rows : List Row) (i : ℕ) (y : Row) (r : ℕ) → i < length rows → has y.calls.heap r ≡ true → in_rows (slice_set rows i y) r ≡ true
@@ -63,7 +67,9 @@ module _ (c : Config) (run : ℕ) (h : List Entry) where
   known_set ready ready' rows i d y low from_ready from_row row known = record {
     covered = λ r less waits. elim (or_cases (has ready r) (in_rows rows r) (known.covered r less waits)) [
       | inl is ↦ either r (from_ready r is)
-      | inr is ↦ elim (set_other rows i d y r low is) [ inl here ↦ either r (from_row r here) | inr other ↦ or_right (has ready' r) (in_rows (slice_set rows i y) r) other ]
+      | inr is ↦
+          elim (set_other rows i d y r low is)
+          [ inl here ↦ either r (from_row r here) | inr other ↦ or_right (has ready' r) (in_rows (slice_set rows i y) r) other ]
     ];
     held = λ x is. elim (in_set rows i x y is) [ inl was ↦ known.held x was | inr same ↦ subst (λ z. IsRow c run h z) (sym same) row ];
   }
@@ -81,7 +87,8 @@ module _ (c : Config) (run : ℕ) (h : List Entry) where
       (λ running. (takes, ap (is_running (standing c run h).flights) takes.numbered ∙ running)) (λ _. takes)
 
   -- the first call of a row is made ready
-  pub known_settled : (flights : List Flight) → flights ≡ (standing c run h).flights → (ready ready' : Heap) (rows : List Row) (i : ℕ) (d y : Row) → i < length rows
+  pub known_settled : (flights : List Flight) → flights ≡ (standing c run h).flights → (ready ready' : Heap) (rows : List Row) (i : ℕ) (d y : Row)
+      → i < length rows
       → y.grip ≡ settled_grip flights (slice_index_or rows i d).grip → GoesOver (slice_index_or rows i d).calls.heap y.calls.heap ready ready'
       → KnowsCalls c run h ready rows → KnowsCalls c run h ready' (slice_set rows i y)
   known_settled flights same ready ready' rows i d y low grip goes known =
@@ -90,15 +97,18 @@ module _ (c : Config) (run : ℕ) (h : List Entry) where
       (was.0, subst (λ g. IsGripped c run h r g) (sym (grip ∙ ap (λ fs. settled_grip fs (slice_index_or rows i d).grip) same)) (settled_gripped r (slice_index_or rows i d).grip was.1)))) known
 
   -- the least that is ready is put into the row of what holds it
-  pub known_put : (ready ready' : Heap) (rows : List Row) (i : ℕ) (d y : Row) (arrival : ℕ) (hold : Hold) → i < length rows → y.grip ≡ (slice_index_or rows i d).grip → (slice_index_or rows i d).grip ≡ Held hold
-      → GoesOver ready ready' (slice_index_or rows i d).calls.heap y.calls.heap → IsLeast ready arrival → arrival < arrivals h → Blocks (facts_of c run h arrival) hold
+  pub known_put : (ready ready' : Heap) (rows : List Row) (i : ℕ) (d y : Row) (arrival : ℕ) (hold : Hold) → i < length rows
+      → y.grip ≡ (slice_index_or rows i d).grip → (slice_index_or rows i d).grip ≡ Held hold
+      → GoesOver ready ready' (slice_index_or rows i d).calls.heap y.calls.heap → IsLeast ready arrival → arrival < arrivals h
+      → Blocks (facts_of c run h arrival) hold
       → KnowsCalls c run h ready rows → KnowsCalls c run h ready' (slice_set rows i y)
   known_put ready ready' rows i d y arrival hold low grip held goes least less blocks known =
       known_set ready ready' rows i d y low goes.all (λ r is. inr (goes.more r is))
       (λ r is. subst (λ g. (r < arrivals h) × IsGripped c run h r g) (sym grip) (elim (goes.comes r is) [
         | inl was ↦ known.held (slice_index_or rows i d) (got_in rows i d low) r was
         | inr comes ↦ (let one = least.1 r comes.0 in let other = comes.1 arrival least.0 in let same : arrival ≡ r = omega (arith, one, other) in
-            subst (λ x. (x < arrivals h) × IsGripped c run h x (slice_index_or rows i d).grip) same (less, subst (λ g. IsGripped c run h arrival g) (sym held) blocks))
+            subst (λ x. (x < arrivals h) × IsGripped c run h x (slice_index_or rows i d).grip) same
+            (less, subst (λ g. IsGripped c run h arrival g) (sym held) blocks))
       ])) known
 
   -- a row without calls is held otherwise, or comes to the others
@@ -107,7 +117,8 @@ module _ (c : Config) (run : ℕ) (h : List Entry) where
   regripped_rows (x ∷ rows) zero grip r = refl
   regripped_rows (x ∷ rows) (suc i) grip r = ap (λ b. has x.calls.heap r || b) (regripped_rows rows i grip r)
 
-  in_regripped : (rows : List Row) (i : ℕ) (grip : Grip) (row : Row) → ((d : Row) → is_empty_row (slice_index_or rows i d)) → In row (regripped i grip rows) → In row rows ⊎ is_empty_row row
+  in_regripped : (rows : List Row) (i : ℕ) (grip : Grip) (row : Row) → ((d : Row) → is_empty_row (slice_index_or rows i d)) → In row (regripped i grip rows)
+      → In row rows ⊎ is_empty_row row
   in_regripped [] i grip row none is = absurd is
   in_regripped (x ∷ rows) zero grip row none (inl same) = inr (λ r. ap (λ z. has z.calls.heap r) same ∙ none x r)
   in_regripped (x ∷ rows) zero grip row none (inr more) = inl (inr more)
@@ -117,7 +128,8 @@ module _ (c : Config) (run : ℕ) (h : List Entry) where
   empty_row : (row : Row) → is_empty_row row → IsRow c run h row
   empty_row row none r is = absurd (true≢false (sym is ∙ none r))
 
-  pub known_regripped : (ready : Heap) (rows : List Row) (i : ℕ) (grip : Grip) → ((d : Row) → is_empty_row (slice_index_or rows i d)) → KnowsCalls c run h ready rows → KnowsCalls c run h ready (regripped i grip rows)
+  pub known_regripped : (ready : Heap) (rows : List Row) (i : ℕ) (grip : Grip) → ((d : Row) → is_empty_row (slice_index_or rows i d))
+      → KnowsCalls c run h ready rows → KnowsCalls c run h ready (regripped i grip rows)
   known_regripped ready rows i grip none known = record {
     covered = λ r less waits. ap (λ b. has ready r || b) (regripped_rows rows i grip r) ∙ known.covered r less waits;
     held = λ row is. elim (in_regripped rows i grip row none is) [ inl was ↦ known.held row was | inr empty ↦ empty_row row empty ];
@@ -129,7 +141,8 @@ module _ (c : Config) (run : ℕ) (h : List Entry) where
       elim (or_cases (has x.calls.heap r) (in_rows rows r) is)
       [ inl here ↦ or_left (has x.calls.heap r) (in_rows (rows ++ row ∷ []) r) here | inr more ↦ or_right (has x.calls.heap r) (in_rows (rows ++ row ∷ []) r) (rows_added rows row r more) ]
 
-  pub known_added : (ready : Heap) (rows : List Row) (row : Row) → is_empty_row row → KnowsCalls c run h ready rows → KnowsCalls c run h ready (rows ++ row ∷ [])
+  pub known_added : (ready : Heap) (rows : List Row) (row : Row) → is_empty_row row → KnowsCalls c run h ready rows
+      → KnowsCalls c run h ready (rows ++ row ∷ [])
   known_added ready rows row none known = record {
     covered = λ r less waits. elim (or_cases (has ready r) (in_rows rows r) (known.covered r less waits)) [
       | inl is ↦ or_left (has ready r) (in_rows (rows ++ row ∷ []) r) is
@@ -139,7 +152,8 @@ module _ (c : Config) (run : ℕ) (h : List Entry) where
   }
 
 -- the row at the place is held so
-pub regripped_set : (rows : List Row) (i : ℕ) (grip : Grip) (d : Row) → i < length rows → slice_set rows i (record (slice_index_or rows i d) { grip = grip }) ≡ regripped i grip rows
+pub regripped_set : (rows : List Row) (i : ℕ) (grip : Grip) (d : Row) → i < length rows
+    → slice_set rows i (record (slice_index_or rows i d) { grip = grip }) ≡ regripped i grip rows
 regripped_set [] i grip d low = absurd (omega (arith, low))
 regripped_set (x ∷ rows) zero grip d low = refl
 regripped_set (x ∷ rows) (suc i) grip d low = ap (λ ys. x ∷ ys) (regripped_set rows i grip d (omega (arith, low)))
@@ -149,7 +163,8 @@ regripped_past [] i grip high = refl
 regripped_past (x ∷ rows) zero grip high = absurd (omega (arith, high))
 regripped_past (x ∷ rows) (suc i) grip high = ap (λ ys. x ∷ ys) (regripped_past rows i grip (omega (arith, high)))
 
-pub regripped_at : (rows : List Row) (i : ℕ) (grip : Grip) → i < length rows → (i < length (regripped i grip rows)) × ((d : Row) → (slice_index_or (regripped i grip rows) i d).grip ≡ grip)
+pub regripped_at : (rows : List Row) (i : ℕ) (grip : Grip) → i < length rows → (i < length (regripped i grip rows))
+    × ((d : Row) → (slice_index_or (regripped i grip rows) i d).grip ≡ grip)
 regripped_at [] i grip low = absurd (omega (arith, low))
 regripped_at (x ∷ rows) zero grip low = (omega arith, λ d. refl)
 regripped_at (x ∷ rows) (suc i) grip low = (let more = regripped_at rows i grip (omega (arith, low)) in ((let less = more.0 in omega (arith, less)), more.1))
@@ -171,19 +186,28 @@ set_apart (x ∷ rows) (suc i) zero d y less = refl
 set_apart (x ∷ rows) (suc i) (suc j) d y less = set_apart rows i j d y (omega (arith, less))
 
 -- a row that is settled stays so where more are ready
-ready_more : (w : ℕ) (ready ready' : Heap) (row : Row) → ((r : ℕ) → has ready r ≡ true → has ready' r ≡ true) → IsSettledRow w ready row → IsSettledRow w ready' row
+ready_more : (w : ℕ) (ready ready' : Heap) (row : Row) → ((r : ℕ) → has ready r ≡ true → has ready' r ≡ true) → IsSettledRow w ready row
+    → IsSettledRow w ready' row
 ready_more w ready ready' row more (inl unasked) = inl unasked
 ready_more w ready ready' row more (inr ahead) = inr (λ r is. (let it = ahead r is in (it.0, more it.0 it.1, it.2)))
 
-pub settled_more : (w : ℕ) (ready ready' : Heap) (rows : List Row) (i : ℕ) (y : Row) → i < length rows → ((r : ℕ) → has ready r ≡ true → has ready' r ≡ true) → IsSettledRow w ready' y
-    → ((j : ℕ) (d : Row) → j < i → IsSettledRow w ready (slice_index_or rows j d)) → (j : ℕ) (d : Row) → j < suc i → IsSettledRow w ready' (slice_index_or (slice_set rows i y) j d)
+pub settled_more : (w : ℕ) (ready ready' : Heap) (rows : List Row) (i : ℕ) (y : Row) → i < length rows → ((r : ℕ) → has ready r ≡ true → has ready' r ≡ true)
+    → IsSettledRow w ready' y
+    → ((j : ℕ) (d : Row) → j < i → IsSettledRow w ready (slice_index_or rows j d)) → (j : ℕ) (d : Row) → j < suc i
+    → IsSettledRow w ready' (slice_index_or (slice_set rows i y) j d)
 settled_more w ready ready' rows i y low more here before j d less =
     elim (cases_lt j i) [
-      | inl lower ↦ subst (λ row. IsSettledRow w ready' row) (sym (set_apart rows i j d y lower)) (ready_more w ready ready' (slice_index_or rows j d) more (before j d lower))
-      | inr high ↦ (let at : i ≡ j = omega (arith, high, less) in subst (λ k. IsSettledRow w ready' (slice_index_or (slice_set rows i y) k d)) at (subst (λ row. IsSettledRow w ready' row) (sym (set_same rows i d y low)) here))
+      | inl lower ↦
+          subst (λ row. IsSettledRow w ready' row) (sym (set_apart rows i j d y lower))
+          (ready_more w ready ready' (slice_index_or rows j d) more (before j d lower))
+      | inr high ↦
+          (let at : i ≡ j = omega (arith, high, less) in
+          subst (λ k. IsSettledRow w ready' (slice_index_or (slice_set rows i y) k d)) at
+          (subst (λ row. IsSettledRow w ready' row) (sym (set_same rows i d y low)) here))
     ]
 
-pub settled_rows : (w : ℕ) (ready : Heap) (rows : List Row) (n : ℕ) → length rows ≤ n → ((j : ℕ) (d : Row) → j < n → IsSettledRow w ready (slice_index_or rows j d)) → AreSettled w ready rows
+pub settled_rows : (w : ℕ) (ready : Heap) (rows : List Row) (n : ℕ) → length rows ≤ n
+    → ((j : ℕ) (d : Row) → j < n → IsSettledRow w ready (slice_index_or rows j d)) → AreSettled w ready rows
 settled_rows w ready rows n high each row is =
     let found = in_got rows row row is in
     subst (λ x. IsSettledRow w ready x) found.2 (each found.0 row (let low = found.1 in omega (arith, low, high)))

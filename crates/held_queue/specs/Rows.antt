@@ -43,7 +43,8 @@ in_rows rows r = list_any (λ row. has row.calls.heap r) rows
 
 -- of the row's calls the worker asks none, or one that isn't behind it is ready
 abbrev pub IsSettledRow : ℕ → Heap → Row → Type 0
-IsSettledRow w ready row = (is_asked row.grip w ≡ false) ⊎ ((r : ℕ) → has row.calls.heap r ≡ true → (q : ℕ) × (has ready q ≡ true) × (q ≤ r))
+IsSettledRow w ready row = (is_asked row.grip w ≡ false)
+    ⊎ ((r : ℕ) → has row.calls.heap r ≡ true → (q : ℕ) × (has ready q ≡ true) × (q ≤ r))
 
 -- numbers go over from one to the other, the least first
 pub record GoesOver (from from' to to' : Heap) : Type 0 where

@@ -140,8 +140,10 @@ fn set_grip(rows: &mut Vec<Row>, place: usize, grip: Grip)
 
 /// The place of the row of the calls that are held by this, which is made where there is none.
 fn place_for(alloc: Global, hold: Hold, rows: &mut Vec<Row>) -> Result<usize, WantMemory>
-    ensures place { IfOk result (λ i. (i < length rows.new.items) × ((d : Row) → (slice_index_or rows.new.items i d).grip ≡ grips.Held hold)) }
-    ensures kept { (c : Config) (run : ℕ) (h : List EntryOf) (ready : Heap) → KnowsCalls c run h ready rows.old.items → KnowsCalls c run h ready rows.new.items }
+    ensures place { IfOk result
+        (λ i. (i < length rows.new.items) × ((d : Row) → (slice_index_or rows.new.items i d).grip ≡ grips.Held hold)) }
+    ensures kept { (c : Config) (run : ℕ) (h : List EntryOf) (ready : Heap) → KnowsCalls c run h ready rows.old.items
+        → KnowsCalls c run h ready rows.new.items }
 {
     if let Some(place) = place_of(rows, Grip::Held(hold)) {
         return Ok(place);
@@ -165,7 +167,8 @@ pub fn put(
     rows: &mut Vec<Row>,
     ready: &mut Numbers,
 ) -> Result<(), WantMemory>
-    ensures { (c : Config) (run : ℕ) (h : List EntryOf) (arrival : ℕ) → IsLeast ready.old.heap arrival → arrival < arrivals_in h → Blocks (facts_of c run h arrival) hold
+    ensures { (c : Config) (run : ℕ) (h : List EntryOf) (arrival : ℕ) → IsLeast ready.old.heap arrival → arrival < arrivals_in h
+        → Blocks (facts_of c run h arrival) hold
         → KnowsCalls c run h ready.old.heap rows.old.items → KnowsCalls c run h ready.new.heap rows.new.items }
 {
     let place = place_for(alloc, hold, rows)?;

@@ -13,7 +13,8 @@ use Rattle.ior_profile.proofs.Bodies.{Versioned, key_at}
 one_body_key : (a b : ProfileBody) (c : Cursor) → ReadsBody a c → ReadsBody b c → a.key ≡ b.key
 one_body_key a b c r s =
     let version : Versioned c b.major b.minor s.behind_minor = record { behind_major = s.behind_major; major_read = s.major; minor_read = s.minor } in
-    (one_octets_read a.key b.key s.behind_port r.behind_key s.behind_key (key_at a c s.behind_minor s.behind_host s.behind_port b.major b.minor b.host b.port r version s.host s.port) s.key).0
+    (one_octets_read a.key b.key s.behind_port r.behind_key s.behind_key
+    (key_at a c s.behind_minor s.behind_host s.behind_port b.major b.minor b.host b.port r version s.host s.port) s.key).0
 
 pub one_told_key : (profile : Profile) (k l : List ℕ) → TellsKey profile k → TellsKey profile l → k ≡ l
 one_told_key profile k l r s =
@@ -41,7 +42,8 @@ pub none_told : (profile : Profile) → ((body : ProfileBody) → HasBody profil
 none_told profile none key tells = none tells.body tells.has
 
 -- the key that the profile at the index tells is the reference's
-pub found_at : (ior : Ior) (index : ℕ) (profile : Profile) → slice_get ior.profiles index ≡ Some profile → (found : Option (List ℕ)) → IsKeyOr (TellsKey profile) found → IsKeyOr (HasKey ior index) found
+pub found_at : (ior : Ior) (index : ℕ) (profile : Profile) → slice_get ior.profiles index ≡ Some profile → (found : Option (List ℕ))
+    → IsKeyOr (TellsKey profile) found → IsKeyOr (HasKey ior index) found
 found_at ior index profile stands None none =
     λ key has.
     let same : has.profile ≡ profile = cc (has.stands, stands) in

@@ -34,7 +34,8 @@ profile_stands p c a at r (inr no_data) =
     let tag = one_ulong_read p.tag no_data.number c r.tagged no_data.tagged r.tag no_data.tag in
     no_data.breaks.unreadable (octets p.bytes) a refl (subst (λ (x : Cursor). Reads (octets p.bytes) x a) tag.1 r.bytes)
 
-pub profiles_stand : (ps found : List Profile) (c a behind : Cursor) (at : ℕ) → length found < length ps → ReadsProfiles ps c a → ReadsProfiles found c behind → ProfileBreaks behind at → ⊥
+pub profiles_stand : (ps found : List Profile) (c a behind : Cursor) (at : ℕ) → length found < length ps → ReadsProfiles ps c a → ReadsProfiles found c behind
+    → ProfileBreaks behind at → ⊥
 profiles_stand [] found c a behind at fewer r s breaks = absurd (omega arith)
 profiles_stand (p ∷ ps) [] c a behind at fewer r s breaks = profile_stands p c r.0 at r.1 (subst (λ (x : Cursor). ProfileBreaks x at) s breaks)
 profiles_stand (p ∷ ps) (q ∷ qs) c a behind at fewer r s breaks =
@@ -51,7 +52,8 @@ one_profile_place c m n (inr a) (inr b) =
     let tag = one_ulong_read a.number b.number c a.tagged b.tagged a.tag b.tag in
     a.breaks.begins ∙ ap (λ (x : Cursor). x.place) tag.1 ∙ sym b.breaks.begins
 
-pub one_profiles_place : (ps qs : List Profile) (c a b : Cursor) (m n : ℕ) → ReadsProfiles ps c a → ProfileBreaks a m → ReadsProfiles qs c b → ProfileBreaks b n → m ≡ n
+pub one_profiles_place : (ps qs : List Profile) (c a b : Cursor) (m n : ℕ) → ReadsProfiles ps c a → ProfileBreaks a m → ReadsProfiles qs c b → ProfileBreaks b n
+    → m ≡ n
 one_profiles_place [] [] c a b m n r x s y =
     one_profile_place c m n (subst (λ (k : Cursor). ProfileBreaks k m) r x) (subst (λ (k : Cursor). ProfileBreaks k n) s y)
 one_profiles_place [] (q ∷ qs) c a b m n r x s y = absurd (profile_stands q c s.0 m s.1 (subst (λ (k : Cursor). ProfileBreaks k m) r x))
@@ -66,8 +68,11 @@ ior_with type_id profiles = record { type_id = type_id; profiles = profiles }
 pub one_ior : (i j : Ior) (c a b : Cursor) → ReadsIor i c a → ReadsIor j c b → (i ≡ j) × (a ≡ b)
 one_ior i j c a b r s =
     let name = one_text_read i.type_id j.type_id c r.named s.named r.type_id s.type_id in
-    let count = one_ulong_read (length i.profiles) (length j.profiles) s.named r.counted s.counted (subst (λ (x : Cursor). Reads (ulong (length i.profiles)) x r.counted) name.1 r.count) s.count in
-    let profiles = one_profiles i.profiles j.profiles s.counted a b count.0 (subst (λ (x : Cursor). ReadsProfiles i.profiles x a) count.1 r.profiles) s.profiles in
+    let count =
+    one_ulong_read (length i.profiles) (length j.profiles) s.named r.counted s.counted
+    (subst (λ (x : Cursor). Reads (ulong (length i.profiles)) x r.counted) name.1 r.count) s.count in
+    let profiles =
+    one_profiles i.profiles j.profiles s.counted a b count.0 (subst (λ (x : Cursor). ReadsProfiles i.profiles x a) count.1 r.profiles) s.profiles in
     (ap₂ ior_with name.0 profiles.0, profiles.1)
 
 -- where a reference stands reading doesn't break
@@ -78,7 +83,9 @@ ior_stands i c a at r (inr (inl no_count)) =
     no_count.breaks.unreadable (ulong (length i.profiles)) r.counted refl (subst (λ (x : Cursor). Reads (ulong (length i.profiles)) x r.counted) name.1 r.count)
 ior_stands i c a at r (inr (inr no_list)) =
     let name = one_text_read i.type_id no_list.name c r.named no_list.named r.type_id no_list.type_id in
-    let count = one_ulong_read (length i.profiles) no_list.total no_list.named r.counted no_list.counted (subst (λ (x : Cursor). Reads (ulong (length i.profiles)) x r.counted) name.1 r.count) no_list.count in
+    let count =
+    one_ulong_read (length i.profiles) no_list.total no_list.named r.counted no_list.counted
+    (subst (λ (x : Cursor). Reads (ulong (length i.profiles)) x r.counted) name.1 r.count) no_list.count in
     let fewer : length no_list.breaks.found < length i.profiles = omega (arith, no_list.breaks.fewer, count.0) in
     profiles_stand i.profiles no_list.breaks.found no_list.counted a no_list.breaks.behind at fewer
     (subst (λ (x : Cursor). ReadsProfiles i.profiles x a) count.1 r.profiles) no_list.breaks.read no_list.breaks.breaks

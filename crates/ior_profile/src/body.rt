@@ -24,7 +24,8 @@ pub struct ProfileBody {
 /// The body of a profile; none where its tag isn't 0 or its data can't be read. From version 1.1 on the
 /// count of components has to be there; what stands behind the last field is ignored.
 pub fn read_body(alloc: Global, profile: &Profile) -> Result<Option<ProfileBody>, WantMemory>
-    ensures { IfOk result (λ found. MatchOption found ((body : ProfileBody) → HasBody profile.now body → ⊥) (λ body. HasBody profile.now body)) }
+    ensures { IfOk result
+        (λ found. MatchOption found ((body : ProfileBody) → HasBody profile.now body → ⊥) (λ body. HasBody profile.now body)) }
 {
     if profile.tag != TAG_INTERNET_IOP {
         return Ok(None);

@@ -7,5 +7,6 @@ ghost use Rattle.model_legal.specs.Illegal.{IsFirstIllegal};
 
 /// A history with an entry that isn't legal isn't legal, whatever follows that entry.
 pub fn one_illegal_entry_spoils_all()
-    ensures { (c : Config) (run limit : ℕ) (h : List Entry) (place : ℕ) → IsFirstIllegal c run limit h place → IsLegal c run limit (reverse h) → ⊥ }
+    ensures { (c : Config) (run limit : ℕ) (h : List Entry) (place : ℕ) → IsFirstIllegal c run limit h place
+        → IsLegal c run limit (reverse h) → ⊥ }
 {}

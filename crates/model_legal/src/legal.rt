@@ -18,7 +18,9 @@ pub fn first_illegal(
     store: &Store,
     history: &[Entry],
 ) -> Result<Option<usize>, WantMemory>
-    ensures { IfOk result (λ place. MatchOption place (IsLegal config.now run limit (reverse history.now)) (IsFirstIllegal config.now run limit history.now)) }
+    ensures { IfOk result
+        (λ place. MatchOption place (IsLegal config.now run limit (reverse history.now))
+        (IsFirstIllegal config.now run limit history.now)) }
 {
     for (i, entry) in history.iter().enumerate() {
         if !may_follow(alloc, config, run, limit, store, &history[..i], entry)? {

@@ -34,13 +34,15 @@ pub record Agrees (c : Config) (run : ℕ) (opened : Stored) (h : List Entry) (k
   pub places : (p : List (List ℕ)) (oid : List ℕ) → stored_in opened k.places p oid ≡ stored c run opened h p oid
 
 -- where the servant acts, its state is the one after the act
-run_agrees : (c : Config) (k : Kept) (call : Option Call) (before : Sid → State) → ((s : Sid) → state_in c k.servants s ≡ before s) → (who : Option Sid) (s : Sid)
+run_agrees : (c : Config) (k : Kept) (call : Option Call) (before : Sid → State) → ((s : Sid) → state_in c k.servants s ≡ before s)
+    → (who : Option Sid) (s : Sid)
     → state_in c (with_run c who call k).servants s ≡ (if is_servant s who then (acted (before s) call).0 else before s)
 run_agrees c k call before agrees None s = agrees s
 run_agrees c k call before agrees (Some t) s =
     let ran : same_servant s t ≡ true → (acted (state_in c k.servants t) call).0 ≡ (acted (before s) call).0 =
     λ same. ap (λ x. (acted (state_in c k.servants x) call).0) (sym (same_is s t same)) ∙ ap (λ x. (acted x call).0) (agrees s) in
-    elim (same_servant s t) as (λ b. same_servant s t ≡ b → (if b then (acted (state_in c k.servants t) call).0 else state_in c k.servants s) ≡ (if b then (acted (before s) call).0 else before s)) [
+    elim (same_servant s t) as (λ b. same_servant s t ≡ b
+    → (if b then (acted (state_in c k.servants t) call).0 else state_in c k.servants s) ≡ (if b then (acted (before s) call).0 else before s)) [
       | true ↦ (λ same. ran same)
       | false ↦ (λ other. agrees s)
     ] refl
@@ -51,15 +53,18 @@ run_leaves c k call None = refl
 run_leaves c k call (Some t) = refl
 
 -- a fresh servant opens with what is stored
-opens : (c : Config) (opened : Stored) (k : Kept) (before : List (List ℕ) → List ℕ → Option State) → ((p : List (List ℕ)) (oid : List ℕ) → stored_in opened k.places p oid ≡ before p oid) → (activation : Option Activation)
+opens : (c : Config) (opened : Stored) (k : Kept) (before : List (List ℕ) → List ℕ → Option State)
+    → ((p : List (List ℕ)) (oid : List ℕ) → stored_in opened k.places p oid ≡ before p oid) → (activation : Option Activation)
     → opens_with c opened k.places activation ≡ (elim activation [ Some a ↦ restored (kind_brought c a) (before a.path a.oid) | None ↦ Fault ])
 opens c opened k before agrees None = refl
 opens c opened k before agrees (Some a) = ap (restored (kind_brought c a)) (agrees a.path a.oid)
 
-fresh_agrees : (c : Config) (opened : Stored) (k : Kept) (n : ℕ) (activation : Option Activation) (before : Sid → State) (state : State) → ((s : Sid) → state_in c k.servants s ≡ before s) → opens_with c opened k.places activation ≡ state → (s : Sid)
+fresh_agrees : (c : Config) (opened : Stored) (k : Kept) (n : ℕ) (activation : Option Activation) (before : Sid → State) (state : State)
+    → ((s : Sid) → state_in c k.servants s ≡ before s) → opens_with c opened k.places activation ≡ state → (s : Sid)
     → state_in c (with_fresh c opened n activation k).servants s ≡ (if same_servant s (FreshServant n) then state else before s)
 fresh_agrees c opened k n activation before state agrees is s =
-    ap (λ x. if same_servant s (FreshServant n) then x else state_in c k.servants s) is ∙ ap (λ x. if same_servant s (FreshServant n) then state else x) (agrees s)
+    ap (λ x. if same_servant s (FreshServant n) then x else state_in c k.servants s) is
+    ∙ ap (λ x. if same_servant s (FreshServant n) then state else x) (agrees s)
 
 -- the servant whose state a removed activation leaves for an id
 abbrev left_for : Option Activation → List (List ℕ) → List ℕ → Option Sid
@@ -69,7 +74,8 @@ left_for (Some a) p oid = if same_path a.path p && same_bytes a.oid oid then fre
 -- it is the one of the definition
 stored_by : (s : Standing) (begun : Stage) (p : List (List ℕ)) (oid : List ℕ) → is_stored_by s begun p oid ≡ left_for (removed s begun) p oid
 stored_by s (Removing n) p oid =
-    elim (activation_numbered s n) as (λ found. (elim found [ None ↦ None | Some a ↦ (if same_path a.path p && same_bytes a.oid oid then fresh_of a else None) ]) ≡ left_for found p oid) [
+    elim (activation_numbered s n) as (λ found.
+    (elim found [ None ↦ None | Some a ↦ (if same_path a.path p && same_bytes a.oid oid then fresh_of a else None) ]) ≡ left_for found p oid) [
       | None ↦ refl
       | Some a ↦ refl
     ]
@@ -83,18 +89,24 @@ abbrev stored_else : Option Sid → (Sid → State) → Option State → Option 
 stored_else None state before = before
 stored_else (Some s) state before = Some (state s)
 
-left_agrees : (c : Config) (opened : Stored) (k : Kept) (state : Sid → State) (before : List (List ℕ) → List ℕ → Option State) → ((s : Sid) → state_in c k.servants s ≡ state s) → ((p : List (List ℕ)) (oid : List ℕ) → stored_in opened k.places p oid ≡ before p oid)
-    → (a : Activation) (who : Option Sid) (p : List (List ℕ)) (oid : List ℕ) → stored_in opened (with_left c a who k).places p oid ≡ stored_else (if same_path a.path p && same_bytes a.oid oid then who else None) state (before p oid)
+left_agrees : (c : Config) (opened : Stored) (k : Kept) (state : Sid → State) (before : List (List ℕ) → List ℕ → Option State)
+    → ((s : Sid) → state_in c k.servants s ≡ state s) → ((p : List (List ℕ)) (oid : List ℕ) → stored_in opened k.places p oid ≡ before p oid)
+    → (a : Activation) (who : Option Sid) (p : List (List ℕ)) (oid : List ℕ)
+    → stored_in opened (with_left c a who k).places p oid ≡ stored_else (if same_path a.path p && same_bytes a.oid oid then who else None) state (before p oid)
 left_agrees c opened k state before states agree a None p oid =
-    elim (same_path a.path p && same_bytes a.oid oid) as (λ b. stored_in opened k.places p oid ≡ stored_else (if b then None else None) state (before p oid)) [ true ↦ agree p oid | false ↦ agree p oid ]
+    elim (same_path a.path p && same_bytes a.oid oid) as (λ b. stored_in opened k.places p oid ≡ stored_else (if b then None else None) state (before p oid))
+    [ true ↦ agree p oid | false ↦ agree p oid ]
 left_agrees c opened k state before states agree a (Some t) p oid =
-    elim (same_path a.path p && same_bytes a.oid oid) as (λ b. (if b then Some (state_in c k.servants t) else stored_in opened k.places p oid) ≡ stored_else (if b then Some t else None) state (before p oid)) [
+    elim (same_path a.path p && same_bytes a.oid oid) as (λ b. (if b then Some (state_in c k.servants t) else stored_in opened k.places p oid) ≡ stored_else
+    (if b then Some t else None) state (before p oid)) [
       | true ↦ ap Some (states t)
       | false ↦ agree p oid
     ]
 
-removed_agrees : (c : Config) (opened : Stored) (k : Kept) (state : Sid → State) (before : List (List ℕ) → List ℕ → Option State) → ((s : Sid) → state_in c k.servants s ≡ state s) → ((p : List (List ℕ)) (oid : List ℕ) → stored_in opened k.places p oid ≡ before p oid)
-    → (activation : Option Activation) (p : List (List ℕ)) (oid : List ℕ) → stored_in opened (with_removed c activation k).places p oid ≡ stored_else (left_for activation p oid) state (before p oid)
+removed_agrees : (c : Config) (opened : Stored) (k : Kept) (state : Sid → State) (before : List (List ℕ) → List ℕ → Option State)
+    → ((s : Sid) → state_in c k.servants s ≡ state s) → ((p : List (List ℕ)) (oid : List ℕ) → stored_in opened k.places p oid ≡ before p oid)
+    → (activation : Option Activation) (p : List (List ℕ)) (oid : List ℕ)
+    → stored_in opened (with_removed c activation k).places p oid ≡ stored_else (left_for activation p oid) state (before p oid)
 removed_agrees c opened k state before states agree None p oid = agree p oid
 removed_agrees c opened k state before states agree (Some a) p oid = left_agrees c opened k state before states agree a (fresh_of a) p oid
 
@@ -108,7 +120,8 @@ removed_leaves c k None = refl
 removed_leaves c k (Some a) = left_leaves c k a (fresh_of a)
 
 stored_as : (c : Config) (run : ℕ) (opened : Stored) (past : List Entry) (p : List (List ℕ)) (oid : List ℕ) (who : Option Sid)
-    → stored_else who (state_of c run opened past) (stored c run opened past p oid) ≡ (elim who [ Some s ↦ Some (state_of c run opened past s) | None ↦ stored c run opened past p oid ])
+    → stored_else who (state_of c run opened past) (stored c run opened past p oid) ≡
+    (elim who [ Some s ↦ Some (state_of c run opened past s) | None ↦ stored c run opened past p oid ])
 stored_as c run opened past p oid None = refl
 stored_as c run opened past p oid (Some s) = refl
 
@@ -117,14 +130,20 @@ agrees c run opened [] = record { servants = λ s. refl; places = λ p oid. refl
 agrees c run opened (Run w ∷ past) =
     let before = agrees c run opened past in
     record {
-      servants = λ s. run_agrees c (kept c run opened past) (call_run past (stage past w)) (state_of c run opened past) before.servants (servant_run c run past (stage past w)) s;
-      places = λ p oid. ap (λ x. stored_in opened x p oid) (run_leaves c (kept c run opened past) (call_run past (stage past w)) (servant_run c run past (stage past w))) ∙ before.places p oid;
+      servants =
+          λ s. run_agrees c (kept c run opened past) (call_run past (stage past w)) (state_of c run opened past) before.servants
+          (servant_run c run past (stage past w)) s;
+      places =
+          λ p oid. ap (λ x. stored_in opened x p oid)
+          (run_leaves c (kept c run opened past) (call_run past (stage past w)) (servant_run c run past (stage past w))) ∙ before.places p oid;
     }
 agrees c run opened (Incarnated w (Fresh n) ∷ past) =
     let before = agrees c run opened past in
     let activation = activation_numbered (standing c run past) n in
     record {
-      servants = λ s. fresh_agrees c opened (kept c run opened past) n activation (state_of c run opened past) _ before.servants (opens c opened (kept c run opened past) (stored c run opened past) before.places activation) s;
+      servants =
+          λ s. fresh_agrees c opened (kept c run opened past) n activation (state_of c run opened past) _ before.servants
+          (opens c opened (kept c run opened past) (stored c run opened past) before.places activation) s;
       places = before.places;
     }
 agrees c run opened (Etherealized w cleanup remaining ∷ past) =
@@ -133,7 +152,8 @@ agrees c run opened (Etherealized w cleanup remaining ∷ past) =
     record {
       servants = λ s. ap (λ x. state_in c x s) (removed_leaves c (kept c run opened past) activation) ∙ before.servants s;
       places = λ p oid.
-          removed_agrees c opened (kept c run opened past) (state_of c run opened past) (stored c run opened past) before.servants before.places activation p oid
+          removed_agrees c opened (kept c run opened past) (state_of c run opened past)
+          (stored c run opened past) before.servants before.places activation p oid
           ∙ ap (λ x. stored_else x (state_of c run opened past) (stored c run opened past p oid)) (sym (stored_by (standing c run past) (stage past w) p oid))
           ∙ stored_as c run opened past p oid (is_stored_by (standing c run past) (stage past w) p oid);
     }

@@ -38,7 +38,8 @@ state_in c (left ∷ older) s = if same_servant s left.servant then left.state e
 
 abbrev pub stored_in : Stored → List StoredState → List (List ℕ) → List ℕ → Option State
 stored_in opened [] p oid = opened p oid
-stored_in opened (left ∷ older) p oid = if same_path left.path p && same_bytes left.oid oid then Some left.state else stored_in opened older p oid
+stored_in opened (left ∷ older) p oid =
+    if same_path left.path p && same_bytes left.oid oid then Some left.state else stored_in opened older p oid
 
 -- the servant acts on the call
 abbrev pub with_run : Config → Option Sid → Option Call → Kept → Kept
@@ -51,7 +52,8 @@ opens_with c opened places None = Fault
 opens_with c opened places (Some a) = restored (kind_brought c a) (stored_in opened places a.path a.oid)
 
 abbrev pub with_fresh : Config → Stored → ℕ → Option Activation → Kept → Kept
-with_fresh c opened n activation k = record k { servants = record { servant = FreshServant n; state = opens_with c opened k.places activation } ∷ k.servants }
+with_fresh c opened n activation k =
+    record k { servants = record { servant = FreshServant n; state = opens_with c opened k.places activation } ∷ k.servants }
 
 -- the activation that a worker takes down, and its fresh servant
 abbrev pub removed : Standing → Stage → Option Activation

@@ -52,7 +52,10 @@ fn is_settled(
     history: &[Entry],
     arrival: u64,
 ) -> Result<bool, WantMemory>
-    ensures { IfOk result (λ settled. settled ≡ (replies.is_waiting (begun.admitted (reverse history.now) arrival) && settling.settles config.now run (reverse history.now) arrival)) }
+    ensures { IfOk result
+        (λ settled. settled ≡
+        (replies.is_waiting (begun.admitted (reverse history.now) arrival) && settling.settles config.now run
+        (reverse history.now) arrival)) }
 {
     if is_waiting(admitted(history, arrival)) {
         settles(alloc, config, run, history, arrival)

@@ -51,7 +51,8 @@ fn opens_with(
     places: &[StoredState],
     activation: Option<&Activation>,
 ) -> Result<State, WantMemory>
-    ensures { IfOk result (λ state. state ≡ keeps.opens_with config.now (stored_at_opening store.now) (reverse places.now) (option_copied activation.entry)) }
+    ensures { IfOk result
+        (λ state. state ≡ keeps.opens_with config.now (stored_at_opening store.now) (reverse places.now) (option_copied activation.entry)) }
 {
     match activation {
         Some(activation) => {
@@ -71,7 +72,9 @@ fn open_fresh(
     activation: Option<&Activation>,
     kept: &mut Kept,
 ) -> Result<(), WantMemory>
-    ensures { OnOk result (keeps.seen kept.new ≡ keeps.with_fresh config.now (stored_at_opening store.now) number (option_copied activation.entry) (keeps.seen kept.old)) }
+    ensures { OnOk result
+        (keeps.seen kept.new ≡ keeps.with_fresh config.now (stored_at_opening store.now) number (option_copied activation.entry)
+        (keeps.seen kept.old)) }
 {
     let left = ServantState {
         servant: Sid::Fresh(number),
@@ -134,7 +137,9 @@ fn keep(
     entry: &Entry,
     kept: &mut Kept,
 ) -> Result<(), WantMemory>
-    ensures { OnOk result (keeps.seen kept.new ≡ keeps.with_entry config.now run (stored_at_opening store.now) (reverse past.now) entry.now (keeps.seen kept.old)) }
+    ensures { OnOk result
+        (keeps.seen kept.new ≡ keeps.with_entry config.now run (stored_at_opening store.now) (reverse past.now) entry.now
+        (keeps.seen kept.old)) }
 {
     match entry {
         Entry::Run { worker } => {

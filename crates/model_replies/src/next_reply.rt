@@ -36,8 +36,10 @@ fn is_newly_decided(
     arrival: u64,
 ) -> Result<bool, WantMemory>
     requires { place < length history.now }
-    ensures { IfOk result (λ newly. newly ≡ (replies.is_asked (reverse history.now) conn arrival && (not (replies.is_collected (reverse history.now) arrival)
-        && (replies.decided config.now run (reverse (take (place + 1) history.now)) arrival && not (replies.decided config.now run (reverse (take place history.now)) arrival))))) }
+    ensures { IfOk result
+        (λ newly. newly ≡ (replies.is_asked (reverse history.now) conn arrival && (not (replies.is_collected (reverse history.now) arrival)
+        && (replies.decided config.now run (reverse (take (place + 1) history.now)) arrival && not
+        (replies.decided config.now run (reverse (take place history.now)) arrival))))) }
 {
     if !is_asked(history, conn, arrival) || is_collected(history, arrival) {
         return Ok(false);
@@ -58,8 +60,10 @@ fn first_decided(
     place: usize,
 ) -> Result<Option<u64>, WantMemory>
     requires { place < length history.now }
-    ensures { IfOk result (λ found. found ≡ least (λ r. replies.is_asked (reverse history.now) conn r && (not (replies.is_collected (reverse history.now) r)
-        && (replies.decided config.now run (reverse (take (place + 1) history.now)) r && not (replies.decided config.now run (reverse (take place history.now)) r)))) (arrivals_in (reverse (take place history.now)))) }
+    ensures { IfOk result
+        (λ found. found ≡ least (λ r. replies.is_asked (reverse history.now) conn r && (not (replies.is_collected (reverse history.now) r)
+        && (replies.decided config.now run (reverse (take (place + 1) history.now)) r && not
+        (replies.decided config.now run (reverse (take place history.now)) r)))) (arrivals_in (reverse (take place history.now)))) }
 {
     let mut found = None;
     for arrival in 0..arrivals(&history[..place]) {
@@ -82,7 +86,8 @@ fn or_decided(
 ) -> Result<Option<u64>, WantMemory>
     requires place { place < length history.now }
     requires found { found ≡ replies.next_within config.now run (reverse history.now) conn (reverse (take place history.now)) }
-    ensures { IfOk result (λ next. next ≡ replies.next_within config.now run (reverse history.now) conn (reverse (take (place + 1) history.now))) }
+    ensures { IfOk result
+        (λ next. next ≡ replies.next_within config.now run (reverse history.now) conn (reverse (take (place + 1) history.now))) }
 {
     match found {
         Some(arrival) => Ok(Some(arrival)),

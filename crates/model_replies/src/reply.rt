@@ -41,7 +41,9 @@ fn reply_run(
     servant: Option<Sid>,
     call: Option<&Call>,
 ) -> Result<Option<Reply>, WantMemory>
-    ensures { IfOk result (λ reply. reply ≡ replies.reply_run config.now run (stored_at_opening store.now) (reverse past.now) servant (option_copied call.entry)) }
+    ensures { IfOk result
+        (λ reply. reply ≡ replies.reply_run config.now run (stored_at_opening store.now) (reverse past.now) servant
+        (option_copied call.entry)) }
 {
     let Some(servant) = servant else {
         return Ok(None);
@@ -62,7 +64,8 @@ fn reply_ran(
     worker: u32,
 ) -> Result<Option<Reply>, WantMemory>
     ensures { IfOk result (λ reply. reply ≡ replies.reply_run config.now run (stored_at_opening store.now) (reverse past.now)
-        (states.servant_run config.now run (reverse past.now) (begun.stage (reverse past.now) worker)) (states.call_run (reverse past.now) (begun.stage (reverse past.now) worker))) }
+        (states.servant_run config.now run (reverse past.now) (begun.stage (reverse past.now) worker))
+        (states.call_run (reverse past.now) (begun.stage (reverse past.now) worker))) }
 {
     let stage = stage(past, worker);
     let servant = servant_run(alloc, config, run, past, stage)?;
@@ -87,7 +90,8 @@ fn reply_by(
     entry: &Entry,
     arrival: u64,
 ) -> Result<Option<Reply>, WantMemory>
-    ensures { IfOk result (λ reply. reply ≡ replies.reply_by config.now run (stored_at_opening store.now) (reverse past.now) entry.now arrival) }
+    ensures { IfOk result
+        (λ reply. reply ≡ replies.reply_by config.now run (stored_at_opening store.now) (reverse past.now) entry.now arrival) }
 {
     let call = call_of(past, arrival);
     match entry {
@@ -123,7 +127,8 @@ fn reply_after(
 ) -> Result<Option<Reply>, WantMemory>
     requires whole { reverse whole.now ≡ entry.now ∷ reverse past.now }
     requires before { before ≡ replies.reply_of config.now run (stored_at_opening store.now) (reverse past.now) arrival }
-    ensures { IfOk result (λ reply. reply ≡ replies.reply_of config.now run (stored_at_opening store.now) (entry.now ∷ reverse past.now) arrival) }
+    ensures { IfOk result
+        (λ reply. reply ≡ replies.reply_of config.now run (stored_at_opening store.now) (entry.now ∷ reverse past.now) arrival) }
 {
     if decided(alloc, config, run, past, arrival)? {
         return Ok(before);

@@ -27,11 +27,14 @@ one_key a b fits_a fits_b e =
     same_key a b stamp.0 path.0 oid.0
 
 -- what is left of a key behind its mark, stamp and path is its object id
-pub oid_is_left : (bytes unmarked unstamped left : List ℕ) (stamp : Option Stamp) (path : List (List ℕ)) → bytes ≡ key_mark ++ unmarked → KeyReads stamp_bytes IsStamp stamp unmarked unstamped → KeyReads path_bytes ArePathNames path unstamped left → (key : Key) → IsKey key → key_spelling key ≡ bytes → KeyReads oid_bytes IsOid key.oid left []
+pub oid_is_left : (bytes unmarked unstamped left : List ℕ) (stamp : Option Stamp) (path : List (List ℕ)) → bytes ≡ key_mark ++ unmarked
+    → KeyReads stamp_bytes IsStamp stamp unmarked unstamped → KeyReads path_bytes ArePathNames path unstamped left → (key : Key) → IsKey key
+    → key_spelling key ≡ bytes → KeyReads oid_bytes IsOid key.oid left []
 oid_is_left bytes unmarked unstamped left stamp path mark stamp_read path_read key fits spelled =
     let marked : key_mark ++ (stamp_bytes key.stamp ++ (path_bytes key.path ++ oid_bytes key.oid)) ≡ key_mark ++ unmarked = spelled ∙ mark in
     let behind_mark : stamp_bytes key.stamp ++ (path_bytes key.path ++ oid_bytes key.oid) ≡ unmarked = append_cancel_left key_mark _ _ marked in
-    let behind_stamp = one_stamp key.stamp stamp (path_bytes key.path ++ oid_bytes key.oid) unstamped fits.stamp stamp_read.fits (behind_mark ∙ stamp_read.begins) in
+    let behind_stamp =
+    one_stamp key.stamp stamp (path_bytes key.path ++ oid_bytes key.oid) unstamped fits.stamp stamp_read.fits (behind_mark ∙ stamp_read.begins) in
     let behind_path = one_path key.path path (oid_bytes key.oid) left (behind_stamp.1 ∙ path_read.begins) in
     record { begins = sym behind_path.1 ∙ sym (append-nil (oid_bytes key.oid)); fits = fits.oid }
 
@@ -43,6 +46,7 @@ nothing_left oid found text left whole read =
     sym (one_oid oid found [] left short_whole short_read (sym whole.begins ∙ read.begins)).1
 
 -- what is seen where a key spells the bytes is that key
-pub seen_back : (seen : Option Key) (bytes : List ℕ) → IfSome seen (λ key. IsKey key × (key_spelling key ≡ bytes)) → IfNone seen ((key : Key) → IsKey key → key_spelling key ≢ bytes) → (key : Key) → IsKey key → key_spelling key ≡ bytes → seen ≡ Some key
+pub seen_back : (seen : Option Key) (bytes : List ℕ) → IfSome seen (λ key. IsKey key × (key_spelling key ≡ bytes))
+    → IfNone seen ((key : Key) → IsKey key → key_spelling key ≢ bytes) → (key : Key) → IsKey key → key_spelling key ≡ bytes → seen ≡ Some key
 seen_back (Some found) bytes spelled bad key fits is = ap (λ k. Some k) (one_key found key spelled.0 fits (spelled.1 ∙ sym is))
 seen_back None bytes spelled bad key fits is = absurd (bad key fits is)

@@ -12,10 +12,12 @@ use Rattle.object_key.specs.Lent.{names_at, name_at, oid_at, LendsKey}
 -- behind a front comes a part
 lies : (bytes front part back : List ℕ) (place : ℕ) → bytes ≡ front ++ (part ++ back) → length front ≡ place → take (length part) (drop place bytes) ≡ part
 lies bytes front part back place split at =
-    ap (λ b. take (length part) (drop place b)) split ∙ ap (λ b. take (length part) b) (drop_at front (part ++ back) place at) ∙ take_at part back (length part) refl
+    ap (λ b. take (length part) (drop place b)) split ∙ ap (λ b. take (length part) b) (drop_at front (part ++ back) place at)
+    ∙ take_at part back (length part) refl
 
 -- the bytes of names are those before one, its own and those behind it
-names_bytes-at : (names : List (List ℕ)) (i : ℕ) → i < length names → names_bytes names ≡ names_bytes (take i names) ++ (name_bytes (get_or names i []) ++ names_bytes (drop (i + 1) names))
+names_bytes-at : (names : List (List ℕ)) (i : ℕ) → i < length names
+    → names_bytes names ≡ names_bytes (take i names) ++ (name_bytes (get_or names i []) ++ names_bytes (drop (i + 1) names))
 names_bytes-at names i below =
     ap names_bytes (sym (take-append-drop i names)) ∙ flat_map-append name_bytes (take i names) (drop i names)
     ∙ ap (λ ns. names_bytes (take i names) ++ names_bytes ns) (drop_more names i [] below)
@@ -32,7 +34,8 @@ spelled_so key =
 before_names : (key : Key) → length (before key) ≡ names_at key
 before_names key = length-append (key_mark ++ stamp_bytes key.stamp) (length key.path ∷ []) ∙ ap (λ n. n + 1) (length-append key_mark (stamp_bytes key.stamp))
 
-name_lies : (key : Key) (bytes : List ℕ) → key_spelling key ≡ bytes → (i : ℕ) → i < length key.path → take (length (get_or key.path i [])) (drop (name_at key i) bytes) ≡ get_or key.path i []
+name_lies : (key : Key) (bytes : List ℕ) → key_spelling key ≡ bytes → (i : ℕ) → i < length key.path
+    → take (length (get_or key.path i [])) (drop (name_at key i) bytes) ≡ get_or key.path i []
 name_lies key bytes spelled i below =
     let name : List ℕ = get_or key.path i [] in
     let first : List ℕ = names_bytes (take i key.path) in
@@ -40,11 +43,13 @@ name_lies key bytes spelled i below =
     let front : List ℕ = (before key ++ first) ++ (length name ∷ []) in
     let split : bytes ≡ front ++ (name ++ (more ++ oid_bytes key.oid)) =
     sym spelled ∙ spelled_so key ∙ ap (λ b. before key ++ (b ++ oid_bytes key.oid)) (names_bytes-at key.path i below)
-    ∙ ap (λ b. before key ++ b) (append_assoc first (name_bytes name ++ more) (oid_bytes key.oid) ∙ ap (λ b. first ++ b) (append_assoc (name_bytes name) more (oid_bytes key.oid)))
+    ∙ ap (λ b. before key ++ b)
+    (append_assoc first (name_bytes name ++ more) (oid_bytes key.oid) ∙ ap (λ b. first ++ b) (append_assoc (name_bytes name) more (oid_bytes key.oid)))
     ∙ sym (append_assoc (before key) first (name_bytes name ++ (more ++ oid_bytes key.oid)))
     ∙ sym (append_assoc (before key ++ first) (length name ∷ []) (name ++ (more ++ oid_bytes key.oid))) in
     let at : length front ≡ name_at key i =
-    length-append (before key ++ first) (length name ∷ []) ∙ ap (λ n. n + 1) (length-append (before key) first ∙ ap (λ n. n + length first) (before_names key)) in
+    length-append (before key ++ first) (length name ∷ [])
+    ∙ ap (λ n. n + 1) (length-append (before key) first ∙ ap (λ n. n + length first) (before_names key)) in
     lies bytes front name (more ++ oid_bytes key.oid) (name_at key i) split at
 
 oid_lies : (key : Key) (bytes : List ℕ) → key_spelling key ≡ bytes → drop (oid_at key) bytes ≡ key.oid

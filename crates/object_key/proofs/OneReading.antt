@@ -45,7 +45,9 @@ one_names [] [] x y len e = (refl, e)
 one_names [] (v ∷ b) x y len e = absurd (omega arith)
 one_names (u ∷ a) [] x y len e = absurd (omega arith)
 one_names (u ∷ a) (v ∷ b) x y len e =
-    let name = one_name u v (names_bytes a ++ x) (names_bytes b ++ y) (sym (append_assoc (name_bytes u) (names_bytes a) x) ∙ e ∙ append_assoc (name_bytes v) (names_bytes b) y) in
+    let name =
+    one_name u v (names_bytes a ++ x) (names_bytes b ++ y)
+    (sym (append_assoc (name_bytes u) (names_bytes a) x) ∙ e ∙ append_assoc (name_bytes v) (names_bytes b) y) in
     let short : length a ≡ length b = omega arith in
     let names = one_names a b x y short name.1 in
     (ap₂ (λ n ns. n ∷ ns) name.0 names.0, names.1)

@@ -16,7 +16,9 @@ module _ (w : ℕ) (i : Inside) (kept : IsKept i) (low : w < 16) (going : is_aba
   pub abandoned_room : HasRoomForEntry (Abandon w) i
   abandoned_room =
       record {
-        entries = some_room (vec_len i.entries) (length i.desk.owing.items + length i.desk.outbox.items) (stay i.tables) (vec_capacity i.entries) (stay_going (history i) w i.tables low going kept.agrees.tables) kept.space;
+        entries =
+            some_room (vec_len i.entries) (length i.desk.owing.items + length i.desk.outbox.items) (stay i.tables) (vec_capacity i.entries)
+            (stay_going (history i) w i.tables low going kept.agrees.tables) kept.space;
         calls = λ is. absurd (let e : false ≡ true = is in cc);
         queue = λ is. absurd (let e : false ≡ true = is in cc);
         held = λ is. absurd (let e : false ≡ true = is in cc);

@@ -33,9 +33,11 @@ room_of limit h size is =
     let b = and_parts (nat_lt (arrivals h) limit) (nat_le (arrived_bytes h + size) (2 ^ 30)) a.1 in
     record { unfilled = not_true (is_filled h) a.0; fewer = ltb-true (arrivals h) limit b.0; bytes = leb-true (arrived_bytes h + size) (2 ^ 30) b.1 })
 
-taken_of : (limit : ℕ) (h : List Entry) (size : ℕ) (call : Call) → is_taken limit h size call ≡ true → ((is_shutdown call ≡ true) × (had_shutdown h ≡ false)) ⊎ HasRoom limit h size
+taken_of : (limit : ℕ) (h : List Entry) (size : ℕ) (call : Call) → is_taken limit h size call ≡ true → ((is_shutdown call ≡ true) × (had_shutdown h ≡ false))
+    ⊎ HasRoom limit h size
 taken_of limit h size call is =
-    elim (is_shutdown call && not (had_shutdown h)) as (λ b. (is_shutdown call && not (had_shutdown h)) ≡ b → (b || has_room limit h size) ≡ true → ((is_shutdown call ≡ true) × (had_shutdown h ≡ false)) ⊎ HasRoom limit h size) [
+    elim (is_shutdown call && not (had_shutdown h)) as (λ b. (is_shutdown call && not (had_shutdown h)) ≡ b → (b || has_room limit h size) ≡ true
+    → ((is_shutdown call ≡ true) × (had_shutdown h ≡ false)) ⊎ HasRoom limit h size) [
       | true ↦ (λ first _. (let parts = and_parts (is_shutdown call) (not (had_shutdown h)) first in inl (parts.0, not_true (had_shutdown h) parts.1)))
       | false ↦ (λ _ rest. inr (room_of limit h size rest))
     ] refl is
@@ -47,10 +49,17 @@ not_taken limit h size call is = second (is_shutdown call && not (had_shutdown h
     second false b is = is
     second true b is = absurd (let e : true ≡ false = is in cc)
 
-pub arrived_quiet : (conn size : ℕ) (call : Call) (i : Inside) → IsReady i → IsOpen (history i) conn → IsSize size → is_taken i.limit (history i) size call ≡ true → IsQuiet (history i) (Arrive conn size call) i
+pub arrived_quiet : (conn size : ℕ) (call : Call) (i : Inside) → IsReady i → IsOpen (history i) conn → IsSize size
+    → is_taken i.limit (history i) size call ≡ true → IsQuiet (history i) (Arrive conn size call) i
 arrived_quiet conn size call i ready open_ sized taken =
     (let agrees = ready.agrees in let runs = agrees.runs in record {
-      follows = record { accepted = runs.accepted; numbered = runs.numbered; limited = runs.limited; legal = (record { open_ = open_; sized = sized; room = taken_of i.limit (history i) size call taken }, runs.legal) };
+      follows =
+          record {
+            accepted = runs.accepted;
+            numbered = runs.numbered;
+            limited = runs.limited;
+            legal = (record { open_ = open_; sized = sized; room = taken_of i.limit (history i) size call taken }, runs.legal);
+          };
       still = refl;
       state = agrees.state;
       tables = agrees.tables;
@@ -65,7 +74,8 @@ module _ (conn size : ℕ) (call : Call) (old new : Inside) (ready : IsReady old
   same_stay : stay new.tables ≡ stay old.tables
   same_stay = stay_after (history old) e old.tables new.tables refl refl ready.agrees.tables noted.tables
 
-  space_of : (l l' many many' s s' room room' more : ℕ) → l' ≡ l + 1 → many' ≡ many + more → more ≤ 1 → s' ≡ s → room' ≡ room → l + (many + s) + 2 ≤ room → l' + (many' + s') + 0 ≤ room'
+  space_of : (l l' many many' s s' room room' more : ℕ) → l' ≡ l + 1 → many' ≡ many + more → more ≤ 1 → s' ≡ s → room' ≡ room → l + (many + s) + 2 ≤ room
+      → l' + (many' + s') + 0 ≤ room'
   space_of l l' many many' s s' room room' more a b few c d fits = omega (arith, a, b, few, c, d, fits)
 
   -- it asks no reply
@@ -79,10 +89,14 @@ module _ (conn size : ℕ) (call : Call) (old new : Inside) (ready : IsReady old
               tables = noted.tables;
               filed = noted.filed;
               room = noted.room;
-              owed = owed_without new.config new.run new.limit (history old) conn size call noted.runs.legal new.desk.owing.items noted.before.which noted.before.each unasked;
+              owed = owed_without new.config new.run new.limit
+                  (history old) conn size call noted.runs.legal new.desk.owing.items noted.before.which noted.before.each unasked;
             });
-        space = space_of (vec_len old.entries) (vec_len new.entries) (length old.desk.owing.items + length old.desk.outbox.items) (length new.desk.owing.items + length new.desk.outbox.items)
-            (stay old.tables) (stay new.tables) (vec_capacity old.entries) (vec_capacity new.entries) 0 noted.len (none_more (length old.desk.owing.items + length old.desk.outbox.items) (length new.desk.owing.items + length new.desk.outbox.items) noted.as_many) (omega arith) same_stay noted.capacity ready.space;
+        space = space_of (vec_len old.entries) (vec_len new.entries) (length old.desk.owing.items + length old.desk.outbox.items)
+            (length new.desk.owing.items + length new.desk.outbox.items)
+            (stay old.tables) (stay new.tables) (vec_capacity old.entries) (vec_capacity new.entries) 0 noted.len
+            (none_more (length old.desk.owing.items + length old.desk.outbox.items) (length new.desk.owing.items + length new.desk.outbox.items) noted.as_many)
+            (omega arith) same_stay noted.capacity ready.space;
       }
     where
       none_more : (a b : ℕ) → b ≡ a → b ≡ a + 0
@@ -90,7 +104,8 @@ module _ (conn size : ℕ) (call : Call) (old new : Inside) (ready : IsReady old
 
   -- it asks one, and is owed it
   pub kept_asked : (row : Owing) (desk : Desk) → row_of old.tables.tally.arrivals conn call ≡ Some row → asks (Some call) ≡ true
-      → desk.owing.items ≡ new.desk.owing.items ++ row ∷ [] → desk.outbox.items ≡ new.desk.outbox.items → HasRoomInDesk desk → IsKept (record new { desk = desk })
+      → desk.owing.items ≡ new.desk.owing.items ++ row ∷ [] → desk.outbox.items ≡ new.desk.outbox.items → HasRoomInDesk desk
+      → IsKept (record new { desk = desk })
   kept_asked row desk is asked owing outbox room =
       record {
         agrees = subst (λ h. Agrees h (record new { desk = desk })) (sym (longer e old new noted))
@@ -101,12 +116,17 @@ module _ (conn size : ℕ) (call : Call) (old new : Inside) (ready : IsReady old
               room = room;
               filed = subst (λ fs. AreFiled new.config new.run (opened_in new) (e ∷ history old) fs) (sym outbox) noted.filed;
               owed = subst (λ os. AreOwed new.config new.run (e ∷ history old) os) (sym owing)
-                  (owed_with new.config new.run new.limit (history old) conn size call noted.runs.legal new.desk.owing.items row noted.before.which noted.before.each at
-                  (new_owes new.config new.run new.limit (history old) conn size call noted.runs.legal row at (sym (ap (λ (o : Owing). o.conn) it)) (sym (ap (λ (o : Owing). o.number) it)) (sym (ap (λ (o : Owing). o.head) it)) (sym (ap (λ (o : Owing). o.wait) it))) asked);
+                  (owed_with new.config new.run new.limit (history old) conn size call noted.runs.legal new.desk.owing.items row noted.before.which
+                  noted.before.each at
+                  (new_owes new.config new.run new.limit (history old) conn size call noted.runs.legal row at (sym (ap (λ (o : Owing). o.conn) it))
+                  (sym (ap (λ (o : Owing). o.number) it)) (sym (ap (λ (o : Owing). o.head) it)) (sym (ap (λ (o : Owing). o.wait) it))) asked);
             });
-        space = space_of (vec_len old.entries) (vec_len new.entries) (length old.desk.owing.items + length old.desk.outbox.items) (length desk.owing.items + length desk.outbox.items)
+        space = space_of (vec_len old.entries) (vec_len new.entries) (length old.desk.owing.items + length old.desk.outbox.items)
+            (length desk.owing.items + length desk.outbox.items)
             (stay old.tables) (stay new.tables) (vec_capacity old.entries) (vec_capacity new.entries) 1 noted.len
-            (one_more (length old.desk.owing.items + length old.desk.outbox.items) (length new.desk.owing.items) (length new.desk.outbox.items) (length desk.owing.items) (length desk.outbox.items) noted.as_many (ap length owing ∙ length-append new.desk.owing.items (row ∷ [])) (ap length outbox)) (omega arith) same_stay noted.capacity ready.space;
+            (one_more (length old.desk.owing.items + length old.desk.outbox.items) (length new.desk.owing.items) (length new.desk.outbox.items)
+            (length desk.owing.items) (length desk.outbox.items) noted.as_many (ap length owing ∙ length-append new.desk.owing.items (row ∷ []))
+            (ap length outbox)) (omega arith) same_stay noted.capacity ready.space;
       }
     where
       made : Owing
@@ -123,14 +143,16 @@ module _ (conn size : ℕ) (call : Call) (old new : Inside) (ready : IsReady old
 
 -- the row tells whether it asks one
 pub has_row : (r conn : ℕ) (call : Call) (row : Owing) → row_of r conn call ≡ Some row → asks (Some call) ≡ true
-has_row r conn call row = by_asking (asks (Some call)) (record { arrival = r; conn = conn; number = number_of (Some call); head = head_of (Some call); wait = None })
+has_row r conn call row =
+    by_asking (asks (Some call)) (record { arrival = r; conn = conn; number = number_of (Some call); head = head_of (Some call); wait = None })
   where
     by_asking : (b : Bool) (o : Owing) → (if b then Some o else None) ≡ Some row → b ≡ true
     by_asking true o is = refl
     by_asking false o is = absurd (let e : None ≡ Some row = is in cc)
 
 pub has_none : (r conn : ℕ) (call : Call) → row_of r conn call ≡ None → asks (Some call) ≡ false
-has_none r conn call = by_asking (asks (Some call)) (record { arrival = r; conn = conn; number = number_of (Some call); head = head_of (Some call); wait = None })
+has_none r conn call =
+    by_asking (asks (Some call)) (record { arrival = r; conn = conn; number = number_of (Some call); head = head_of (Some call); wait = None })
   where
     by_asking : (b : Bool) (o : Owing) → (if b then Some o else None) ≡ None → b ≡ false
     by_asking false o is = refl

@@ -47,12 +47,14 @@ where_live : (s : Standing) (p : List (List ℕ)) (then_ : Node → Option Verdi
 where_live s p then_ each = elim (live_at s p) as (λ o. Is (elim o [ Some n ↦ then_ n | None ↦ refusal AdapterNonExistent ])) [ Some n ↦ each n | None ↦ refl ]
 
 where_servant : (c : Config) (name : List ℕ) (then_ : ℕ → Option Verdict) → ((k : ℕ) → Is (then_ k)) → Is (with_servant c name then_)
-where_servant c name then_ each = elim (servant_number c name) as (λ o. Is (elim o [ Some k ↦ then_ k | None ↦ refusal NoServant ])) [ Some k ↦ each k | None ↦ refl ]
+where_servant c name then_ each =
+    elim (servant_number c name) as (λ o. Is (elim o [ Some k ↦ then_ k | None ↦ refusal NoServant ])) [ Some k ↦ each k | None ↦ refl ]
 
 module _ (c : Config) (run : ℕ) (past : List Entry) (s : Standing) where
   by_manager : (name : List ℕ) (order : Order) → Is (manager_row c past name order)
   by_manager name order =
-      elim (manager_number c name) as (λ o. Is (elim o [ None ↦ refusal NoManager | Some m ↦ (if is_inactive (manager_state c past m) then refusal AdapterInactive else good_or_wait (waits order)) ])) [
+      elim (manager_number c name) as (λ o. Is
+      (elim o [ None ↦ refusal NoManager | Some m ↦ (if is_inactive (manager_state c past m) then refusal AdapterInactive else good_or_wait (waits order)) ])) [
         | None ↦ refl
         | Some m ↦ if_test (is_inactive (manager_state c past m)) _ _ refl (does_or_waits (waits order))
       ]
@@ -62,7 +64,12 @@ module _ (c : Config) (run : ℕ) (past : List Entry) (s : Standing) where
   by_create (x ∷ p) =
       where_live s (parent_path (x ∷ p)) _ (λ n. if_test (is_none (template c (x ∷ p))) _ _ refl
       (if_test (is_tried s.flights (x ∷ p)) _ _ refl
-      (elim (node_at s.nodes (x ∷ p)) as (λ o. Is (elim o [ Some old ↦ (if old.dying then None else refusal AdapterAlreadyExists) | None ↦ (if nat_le 65536 s.count then refusal (TooMany s.count) else good) ])) [
+      (elim (node_at s.nodes (x ∷ p)) as (λ o. Is
+      (elim o [
+        | Some old ↦ (if old.dying then None else refusal AdapterAlreadyExists)
+        | None ↦
+            (if nat_le 65536 s.count then refusal (TooMany s.count) else good)
+      ])) [
         | Some old ↦ if_test old.dying _ _ refl refl
         | None ↦ if_test (nat_le 65536 s.count) _ _ refl refl
       ])))
@@ -88,7 +95,12 @@ module _ (c : Config) (run : ℕ) (past : List Entry) (s : Standing) where
   by_reference : (p : List (List ℕ)) (servant : List ℕ) → Is (reference_row c run s p servant)
   by_reference p servant =
       where_live s p _ (λ n. where_servant c servant _ (λ k.
-      elim (referred c s n k) as (λ o. Is (elim o [ Some a ↦ Some (Answer (GoodIor (reference_text c run n.number p a.oid k))) | None ↦ (if is_implicit c s n k then Some (Answer (GoodIor (reference_text c run n.number p (made_id run (suc s.made)) k))) else refusal ServantNotActive) ])) [
+      elim (referred c s n k) as (λ o. Is
+      (elim o [
+        | Some a ↦ Some (Answer (GoodIor (reference_text c run n.number p a.oid k)))
+        | None ↦
+            (if is_implicit c s n k then Some (Answer (GoodIor (reference_text c run n.number p (made_id run (suc s.made)) k))) else refusal ServantNotActive)
+      ])) [
         | Some a ↦ refl
         | None ↦ if_test (is_implicit c s n k) _ _ refl refl
       ]))

@@ -51,7 +51,9 @@ some_room l many s room some fits = omega (arith, some, fits)
 pub left_room : (conn : ℕ) (i : Inside) → IsKept i → IsOpen (history i) conn → HasRoomForEntry (Left conn) i
 left_room conn i kept open_ =
     record {
-      entries = some_room (vec_len i.entries) (length i.desk.owing.items + length i.desk.outbox.items) (stay i.tables) (vec_capacity i.entries) (stay_open (history i) conn i.tables open_ kept.agrees.tables) kept.space;
+      entries =
+          some_room (vec_len i.entries) (length i.desk.owing.items + length i.desk.outbox.items) (stay i.tables) (vec_capacity i.entries)
+          (stay_open (history i) conn i.tables open_ kept.agrees.tables) kept.space;
       calls = λ is. absurd (let e : false ≡ true = is in cc);
       queue = λ is. absurd (let e : false ≡ true = is in cc);
       held = λ is. absurd (let e : false ≡ true = is in cc);

@@ -109,7 +109,8 @@ free_now : (h : List Entry) (w : ℕ) → only_ends (if w == w then Free else st
 free_now h w = ap (λ b. only_ends (if b then Free else stage h w)) (eq-eqb w w refl)
 
 -- what is so of each entry that only ends something
-pub by_ending : (P : Entry → Type 0) → ((w : ℕ) → P (Done w)) → ((w : ℕ) (cleanup remaining : Bool) → P (Etherealized w cleanup remaining)) → (e : Entry) → is_ending e ≡ true → P e
+pub by_ending : (P : Entry → Type 0) → ((w : ℕ) → P (Done w)) → ((w : ℕ) (cleanup remaining : Bool) → P (Etherealized w cleanup remaining)) → (e : Entry)
+    → is_ending e ≡ true → P e
 by_ending P done removed (Done w) is = done w
 by_ending P done removed (Etherealized w x y) is = removed w x y
 by_ending P done removed (Admit w r v) is = absurd (let e : false ≡ true = is in cc)
@@ -154,7 +155,8 @@ pub abandon_takes : (h : List Entry) (v : ℕ) → v < 16 → is_abandoned h v �
 unfolding by_history
 abandon_takes h v low going =
     sums _ _ _ _ refl
-    (count_less (λ w. not (is_abandoned h w)) (λ w. not ((v == w) || is_abandoned h w)) v 16 low (ap not going) (ap (λ b. not (b || is_abandoned h v)) (eq-eqb v v refl))
+    (count_less (λ w. not (is_abandoned h w)) (λ w. not ((v == w) || is_abandoned h w)) v 16 low (ap not going)
+    (ap (λ b. not (b || is_abandoned h v)) (eq-eqb v v refl))
     (λ w other. ap (λ b. not (b || is_abandoned h w)) (sym other)))
   where
     sums : (a b c d : ℕ) → a ≡ b → d ≡ c + 1 → a + c + 1 ≡ b + d

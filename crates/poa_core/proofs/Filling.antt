@@ -20,11 +20,15 @@ use Rattle.poa_core.proofs.Space.{stay_filled, stay_unfilled}
 use Rattle.poa_core.proofs.Connected.{some_room, less_one}
 use Rattle.poa_core.proofs.Keeping.{kept_then}
 
-full_of : (limit : ℕ) (h : List Entry) (size : ℕ) → is_filled h ≡ false → has_room limit h size ≡ false → (limit ≤ arrivals h) ⊎ (2 ^ 30 < arrived_bytes h + size)
+full_of : (limit : ℕ) (h : List Entry) (size : ℕ) → is_filled h ≡ false → has_room limit h size ≡ false → (limit ≤ arrivals h)
+    ⊎ (2 ^ 30 < arrived_bytes h + size)
 full_of limit h size unfilled is =
-    elim (nat_lt (arrivals h) limit) as (λ b. nat_lt (arrivals h) limit ≡ b → (not (is_filled h) && (b && nat_le (arrived_bytes h + size) (2 ^ 30))) ≡ false → (limit ≤ arrivals h) ⊎ (2 ^ 30 < arrived_bytes h + size)) [
+    elim (nat_lt (arrivals h) limit) as (λ b. nat_lt (arrivals h) limit ≡ b → (not (is_filled h) && (b && nat_le (arrived_bytes h + size) (2 ^ 30))) ≡ false
+    → (limit ≤ arrivals h) ⊎ (2 ^ 30 < arrived_bytes h + size)) [
       | false ↦ (λ few _. inl (ltb-false (arrivals h) limit few))
-      | true ↦ (λ _ rest. inr (leb-false (arrived_bytes h + size) (2 ^ 30) (sym (ap (λ b. not b && (true && nat_le (arrived_bytes h + size) (2 ^ 30))) unfilled) ∙ rest)))
+      | true ↦
+          (λ _ rest. inr
+          (leb-false (arrived_bytes h + size) (2 ^ 30) (sym (ap (λ b. not b && (true && nat_le (arrived_bytes h + size) (2 ^ 30))) unfilled) ∙ rest)))
     ] refl is
 
 -- whether it was filled before, as the tally says
@@ -58,7 +62,13 @@ module _ (conn size : ℕ) (i : Inside) (kept : IsKept i) (unfilled : is_filled 
   pub filled_quiet : IsOpen (history i) conn → IsSize size → has_room i.limit (history i) size ≡ false → IsQuiet (history i) (Filled conn size) i
   filled_quiet open_ sized full =
       (let agrees = kept.agrees in let runs = agrees.runs in record {
-        follows = record { accepted = runs.accepted; numbered = runs.numbered; limited = runs.limited; legal = (record { open_ = open_; sized = sized; first = unfilled; full = full_of i.limit (history i) size unfilled full }, runs.legal) };
+        follows =
+            record {
+              accepted = runs.accepted;
+              numbered = runs.numbered;
+              limited = runs.limited;
+              legal = (record { open_ = open_; sized = sized; first = unfilled; full = full_of i.limit (history i) size unfilled full }, runs.legal);
+            };
         still = refl;
         state = agrees.state;
         tables = agrees.tables;
@@ -69,7 +79,9 @@ module _ (conn size : ℕ) (i : Inside) (kept : IsKept i) (unfilled : is_filled 
   pub filled_room : HasRoomForEntry (Filled conn size) i
   filled_room =
       record {
-        entries = some_room (vec_len i.entries) (length i.desk.owing.items + length i.desk.outbox.items) (stay i.tables) (vec_capacity i.entries) (stay_unfilled (history i) i.tables unfilled kept.agrees.tables) kept.space;
+        entries =
+            some_room (vec_len i.entries) (length i.desk.owing.items + length i.desk.outbox.items) (stay i.tables) (vec_capacity i.entries)
+            (stay_unfilled (history i) i.tables unfilled kept.agrees.tables) kept.space;
         calls = λ is. absurd (let e : false ≡ true = is in cc);
         queue = λ is. absurd (let e : false ≡ true = is in cc);
         held = λ is. absurd (let e : false ≡ true = is in cc);

@@ -40,9 +40,19 @@ module _ (conn : ℕ) (i : Inside) (kept : IsKept i) (desk : Desk) (given : IsGi
     pub kept_without : IsKept then_
     kept_without =
         (let agrees = kept.agrees in record {
-          agrees = record { runs = agrees.runs; state = agrees.state; tables = agrees.tables; owed = owed_still; filed = subst (AreFiled i.config i.run (opened_in i) (history i)) outbox_same agrees.filed; room = given.room };
-          space = subst (λ (fs : List Filed). vec_len i.entries + (length desk.owing.items + length fs + stay i.tables) + 0 ≤ vec_capacity i.entries) outbox_same
-              (subst (λ os. vec_len i.entries + (length os + length i.desk.outbox.items + stay i.tables) + 0 ≤ vec_capacity i.entries) (sym given.owing) kept.space);
+          agrees =
+              record {
+                runs = agrees.runs;
+                state = agrees.state;
+                tables = agrees.tables;
+                owed = owed_still;
+                filed = subst (AreFiled i.config i.run (opened_in i) (history i)) outbox_same agrees.filed;
+                room = given.room;
+              };
+          space = subst (λ (fs : List Filed). vec_len i.entries + (length desk.owing.items + length fs + stay i.tables) + 0 ≤ vec_capacity i.entries)
+              outbox_same
+              (subst (λ os. vec_len i.entries + (length os + length i.desk.outbox.items + stay i.tables) + 0 ≤ vec_capacity i.entries)
+              (sym given.owing) kept.space);
         })
 
     pub none_next : next_reply i.config i.run (history i) conn ≡ None
@@ -53,12 +63,14 @@ module _ (conn : ℕ) (i : Inside) (kept : IsKept i) (desk : Desk) (given : IsGi
     one_less : length desk.outbox.items + 1 ≡ length i.desk.outbox.items
     one_less = ap (λ (fs : List Filed). length fs + 1) given.outbox ∙ one_taken (λ (f : Filed). f.conn == conn) f i.desk.outbox.items some
 
-    space_of : (l owing owing' outbox outbox' s room : ℕ) → owing' ≡ owing → outbox' + 1 ≡ outbox → l + (owing + outbox + s) + 0 ≤ room → l + (owing' + outbox' + s) + 1 ≤ room
+    space_of : (l owing owing' outbox outbox' s room : ℕ) → owing' ≡ owing → outbox' + 1 ≡ outbox → l + (owing + outbox + s) + 0 ≤ room
+        → l + (owing' + outbox' + s) + 1 ≤ room
     space_of l owing owing' outbox outbox' s room a b fits = omega (arith, a, b, fits)
 
     pub space_for_one : HasSpace 1 then_
     space_for_one =
-        space_of (vec_len i.entries) (length i.desk.owing.items) (length desk.owing.items) (length i.desk.outbox.items) (length desk.outbox.items) (stay i.tables) (vec_capacity i.entries)
+        space_of (vec_len i.entries) (length i.desk.owing.items) (length desk.owing.items) (length i.desk.outbox.items) (length desk.outbox.items)
+        (stay i.tables) (vec_capacity i.entries)
         (ap length given.owing) one_less kept.space
 
     some_room : (l many s room : ℕ) → l + (many + s) + 1 ≤ room → l < room
@@ -87,7 +99,8 @@ module _ (conn : ℕ) (i : Inside) (kept : IsKept i) (desk : Desk) (given : IsGi
           tables = agrees.tables;
           owed = owed_still;
           left = record {
-            which = ap (λ fs. map (λ (f : Filed). f.arrival) fs) given.outbox ∙ left_which i.config i.run (opened_in i) (history i) i.desk.outbox.items conn f agrees.filed some;
+            which = ap (λ fs. map (λ (f : Filed). f.arrival) fs) given.outbox
+                ∙ left_which i.config i.run (opened_in i) (history i) i.desk.outbox.items conn f agrees.filed some;
             each = λ g there. agrees.filed.each g (left_in conn i.desk.outbox.items g (subst (λ fs. In g fs) given.outbox there));
           };
         })
@@ -98,4 +111,5 @@ module _ (conn : ℕ) (i : Inside) (kept : IsKept i) (desk : Desk) (given : IsGi
     pub kept_with : (new : Inside) → IsNoted (Collect conn f.arrival) then_ new → IsKept new
     kept_with new noted =
         kept_then 1 (Collect conn f.arrival) then_ new noted refl
-        (at_most (stay new.tables) (stay i.tables) 1 (stay_after (history i) (Collect conn f.arrival) i.tables new.tables refl refl kept.agrees.tables noted.tables) (omega arith)) space_for_one
+        (at_most (stay new.tables) (stay i.tables) 1
+        (stay_after (history i) (Collect conn f.arrival) i.tables new.tables refl refl kept.agrees.tables noted.tables) (omega arith)) space_for_one

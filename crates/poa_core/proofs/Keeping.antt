@@ -37,25 +37,30 @@ agrees_then e old new noted same =
     (record { runs = noted.runs; state = noted.state; tables = noted.tables; owed = noted.owed same; filed = noted.filed; room = noted.room })
 
 -- the journal has the room that it needs
-space_then : (k l l' many many' s s' room room' : ℕ) → l' ≡ l + 1 → many' ≡ many → s' + 1 ≤ s + k → room' ≡ room → l + (many + s) + k ≤ room → l' + (many' + s') + 0 ≤ room'
+space_then : (k l l' many many' s s' room room' : ℕ) → l' ≡ l + 1 → many' ≡ many → s' + 1 ≤ s + k → room' ≡ room → l + (many + s) + k ≤ room
+    → l' + (many' + s') + 0 ≤ room'
 space_then k l l' many many' s s' room room' a b c d fits = omega (arith, a, b, c, d, fits)
 
-pub kept_then : (k : ℕ) (e : Entry) (old new : Inside) → IsNoted e old new → arrivals (e ∷ history old) ≡ arrivals (history old) → stay new.tables + 1 ≤ stay old.tables + k → HasSpace k old → IsKept new
+pub kept_then : (k : ℕ) (e : Entry) (old new : Inside) → IsNoted e old new → arrivals (e ∷ history old) ≡ arrivals (history old)
+    → stay new.tables + 1 ≤ stay old.tables + k → HasSpace k old → IsKept new
 kept_then k e old new noted same less space =
     record {
       agrees = agrees_then e old new noted same;
-      space = space_then k (vec_len old.entries) (vec_len new.entries) (length old.desk.owing.items + length old.desk.outbox.items) (length new.desk.owing.items + length new.desk.outbox.items)
+      space = space_then k (vec_len old.entries) (vec_len new.entries) (length old.desk.owing.items + length old.desk.outbox.items)
+          (length new.desk.owing.items + length new.desk.outbox.items)
           (stay old.tables) (stay new.tables) (vec_capacity old.entries) (vec_capacity new.entries) noted.len noted.as_many less noted.capacity space;
     }
 
 pub at_most : (a b k : ℕ) → a ≡ b → 1 ≤ k → a + 1 ≤ b + k
 at_most a b k is some = omega (arith, is, some)
 
-pub turn_kept : (e : Entry) (old new : Inside) → IsNoted e old new → is_turn e ≡ true → KnowsTables old.config old.run (history old) old.tables → HasSpace (needed e) old → IsKept new
+pub turn_kept : (e : Entry) (old new : Inside) → IsNoted e old new → is_turn e ≡ true → KnowsTables old.config old.run (history old) old.tables
+    → HasSpace (needed e) old → IsKept new
 turn_kept e old new noted turn tables =
     elim (is_ending e) as (λ b. is_ending e ≡ b → HasSpace (if b then 0 else 2) old → IsKept new) [
       | true ↦ (λ ends space. kept_then 0 e old new noted (turns_arrive_none (history old) e turn)
-          (one_less (stay new.tables) (stay old.tables) (stay_ended new.config new.run new.limit (history old) e old.tables new.tables noted.runs.legal.0 turn ends tables noted.tables)) space)
+          (one_less (stay new.tables) (stay old.tables)
+          (stay_ended new.config new.run new.limit (history old) e old.tables new.tables noted.runs.legal.0 turn ends tables noted.tables)) space)
       | false ↦ (λ _ space. kept_then 2 e old new noted (turns_arrive_none (history old) e turn)
           (one_more (stay new.tables) (stay old.tables) (stay_turned (history old) e old.tables new.tables turn tables noted.tables)) space)
     ] refl
@@ -67,7 +72,8 @@ turn_kept e old new noted turn tables =
     one_more a b is = omega (arith, is)
 
 -- the history of the run goes on
-pub runs_still : (e : Entry) (old new : Inside) → life new ≡ life old → IsRun old.config old.run old.limit (e ∷ history old) → IsRun new.config new.run new.limit (e ∷ history new)
+pub runs_still : (e : Entry) (old new : Inside) → life new ≡ life old → IsRun old.config old.run old.limit (e ∷ history old)
+    → IsRun new.config new.run new.limit (e ∷ history new)
 runs_still e old new same = subst (λ (l : Life). IsRun l.config l.run l.limit (e ∷ l.history)) (sym same)
 
 pub begun_still : (e : Entry) (begun : Stage) (old new : Inside) → life new ≡ life old → begun ≡ stage_at (history old) e → begun ≡ stage_at (history new) e
@@ -90,25 +96,32 @@ turn_stage past (Collect conn a) is = absurd (let e : false ≡ true = is in cc)
 turn_stage past (Abandon w) is = absurd (let e : false ≡ true = is in cc)
 
 -- it comes with what the journal and the tables say of it
-pub asked_then : (old mid : Inside) (k : Coming) (es es' : List Entry) → es ≡ mid.entries.items → es' ≡ mid.entries.items → Agrees (history mid) mid → life mid ≡ life old
+pub asked_then : (old mid : Inside) (k : Coming) (es es' : List Entry) → es ≡ mid.entries.items → es' ≡ mid.entries.items → Agrees (history mid) mid
+    → life mid ≡ life old
     → IsRun old.config old.run old.limit (k.entry.now ∷ history old) → is_turn k.entry.now ≡ true → k.stage ≡ stage_at (history old) k.entry.now
-    → (KnowsCalls (reverse es) mid.tables.calls.places.items → k.stage ≡ stage_at (reverse es) k.entry.now → option_copied k.call ≡ call_at (reverse es) k.entry.now)
-    → ((w : ℕ) → AnswersAs mid.config mid.run (reverse es') (seen mid.state.standing) → k.stage ≡ stage (reverse es') w → k.runs ≡ servant_run mid.config mid.run (reverse es') k.stage)
+    → (KnowsCalls (reverse es) mid.tables.calls.places.items → k.stage ≡ stage_at (reverse es) k.entry.now
+    → option_copied k.call ≡ call_at (reverse es) k.entry.now)
+    → ((w : ℕ) → AnswersAs mid.config mid.run (reverse es') (seen mid.state.standing) → k.stage ≡ stage (reverse es') w
+    → k.runs ≡ servant_run mid.config mid.run (reverse es') k.stage)
     → IsAsked mid.config mid.run mid.limit (opened_in mid) (history mid) k mid.state
 asked_then old mid k es es' same same' agrees life_is follows turn begun_is called served =
     (let begun = begun_still k.entry.now k.stage old mid life_is begun_is in record {
       follows = runs_still k.entry.now old mid life_is follows;
       turn = turn;
       begun_is = begun;
-      call_is = subst (λ (xs : List Entry). KnowsCalls (reverse xs) mid.tables.calls.places.items → k.stage ≡ stage_at (reverse xs) k.entry.now → option_copied k.call ≡ call_at (reverse xs) k.entry.now) same called agrees.tables.calls begun;
+      call_is =
+          subst (λ (xs : List Entry). KnowsCalls (reverse xs) mid.tables.calls.places.items → k.stage ≡ stage_at (reverse xs) k.entry.now
+          → option_copied k.call ≡ call_at (reverse xs) k.entry.now) same called agrees.tables.calls begun;
       servant_is = (let by = turn_stage (history mid) k.entry.now turn in
-          subst (λ (xs : List Entry). (w : ℕ) → AnswersAs mid.config mid.run (reverse xs) (seen mid.state.standing) → k.stage ≡ stage (reverse xs) w → k.runs ≡ servant_run mid.config mid.run (reverse xs) k.stage) same' served by.0
+          subst (λ (xs : List Entry). (w : ℕ) → AnswersAs mid.config mid.run (reverse xs) (seen mid.state.standing) → k.stage ≡ stage (reverse xs) w
+          → k.runs ≡ servant_run mid.config mid.run (reverse xs) k.stage) same' served by.0
           (answers_state mid.config mid.run mid.limit (opened_in mid) (history mid) mid.state agrees.runs agrees.state) (begun ∙ by.1));
       state = agrees.state;
     })
 
 -- a worker's entry collects nothing
-pub left_still : (e : Entry) (i : Inside) → is_turn e ≡ true → AreFiled i.config i.run (opened_in i) (history i) i.desk.outbox.items → AreLeft i.config i.run (opened_in i) (history i) e i.desk.outbox.items
+pub left_still : (e : Entry) (i : Inside) → is_turn e ≡ true → AreFiled i.config i.run (opened_in i) (history i) i.desk.outbox.items
+    → AreLeft i.config i.run (opened_in i) (history i) e i.desk.outbox.items
 left_still (Admit w r v) i is filed = record { which = filed.which; each = filed.each }
 left_still (Tried w a) i is filed = record { which = filed.which; each = filed.each }
 left_still (Incarnated w a) i is filed = record { which = filed.which; each = filed.each }

@@ -31,11 +31,16 @@ pub record IsMade (w : ℕ) (e : Entry) : Type 0 where
 
 going_made : (c : Config) (s : Standing) (w : ℕ) (begun : Stage) (e : Entry) → going_on c s w begun ≡ Some e → IsMade w e
 going_made c s w Free e is = absurd (let f : None ≡ Some e = is in cc)
-going_made c s w (Trying r) e is = subst (IsMade w) (let f : Some (Tried w (attempt c s r)) ≡ Some e = is in let g : Tried w (attempt c s r) ≡ e = cc in g) (record { turn_is = refl; by = refl })
-going_made c s w (Incarnating r n) e is = subst (IsMade w) (mapped_by (λ a. Incarnated w (brought c s a)) (activation_numbered s n) e is).2 (record { turn_is = refl; by = refl })
+going_made c s w (Trying r) e is =
+    subst (IsMade w) (let f : Some (Tried w (attempt c s r)) ≡ Some e = is in let g : Tried w (attempt c s r) ≡ e = cc in g)
+    (record { turn_is = refl; by = refl })
+going_made c s w (Incarnating r n) e is =
+    subst (IsMade w) (mapped_by (λ a. Incarnated w (brought c s a)) (activation_numbered s n) e is).2 (record { turn_is = refl; by = refl })
 going_made c s w (Serving r) e is = subst (IsMade w) (let f : Some (Run w) ≡ Some e = is in let g : Run w ≡ e = cc in g) (record { turn_is = refl; by = refl })
 going_made c s w (Ran r) e is = subst (IsMade w) (let f : Some (Done w) ≡ Some e = is in let g : Done w ≡ e = cc in g) (record { turn_is = refl; by = refl })
-going_made c s w (Removing n) e is = subst (IsMade w) (mapped_by (λ (a : Activation). Etherealized w a.cleanup a.remaining) (activation_numbered s n) e is).2 (record { turn_is = refl; by = refl })
+going_made c s w (Removing n) e is =
+    subst (IsMade w) (mapped_by (λ (a : Activation). Etherealized w a.cleanup a.remaining) (activation_numbered s n) e is).2
+    (record { turn_is = refl; by = refl })
 
 module _ (c : Config) (run limit : ℕ) (past : List Entry) (w : ℕ) (e : Entry) (next : turn c run past w ≡ Some e) where
   pub made : IsMade w e
@@ -60,7 +65,8 @@ module _ (c : Config) (run limit : ℕ) (past : List Entry) (w : ℕ) (e : Entry
         may_follow (Run v) by is = subst (λ y. IsTurn c run past y (Run v)) (let f : Some v ≡ Some w = by in let g : w ≡ v = cc in g) is
         may_follow (Done v) by is = subst (λ y. IsTurn c run past y (Done v)) (let f : Some v ≡ Some w = by in let g : w ≡ v = cc in g) is
         may_follow (TakeOut v n x) by is = subst (λ y. IsTurn c run past y (TakeOut v n x)) (let f : Some v ≡ Some w = by in let g : w ≡ v = cc in g) is
-        may_follow (Etherealized v x y) by is = subst (λ z. IsTurn c run past z (Etherealized v x y)) (let f : Some v ≡ Some w = by in let g : w ≡ v = cc in g) is
+        may_follow (Etherealized v x y) by is =
+            subst (λ z. IsTurn c run past z (Etherealized v x y)) (let f : Some v ≡ Some w = by in let g : w ≡ v = cc in g) is
         may_follow (Entered conn) by is = absurd (let f : None ≡ Some w = by in cc)
         may_follow (Arrive conn size call) by is = absurd (let f : None ≡ Some w = by in cc)
         may_follow (Filled conn size) by is = absurd (let f : None ≡ Some w = by in cc)
@@ -79,7 +85,9 @@ module _ (c : Config) (run limit : ℕ) (past : List Entry) (w : ℕ) (e : Entry
       where
         going_ends : (begun : Stage) → going_on c (standing c run past) w begun ≡ Some e → only_ends begun ≡ true → is_ending e ≡ true
         going_ends (Ran r) is only = (let f : Some (Done w) ≡ Some e = is in let g : Done w ≡ e = cc in sym (ap is_ending g))
-        going_ends (Removing n) is only = subst (λ x. is_ending x ≡ true) (mapped_by (λ (a : Activation). Etherealized w a.cleanup a.remaining) (activation_numbered (standing c run past) n) e is).2 refl
+        going_ends (Removing n) is only =
+            subst (λ x. is_ending x ≡ true)
+            (mapped_by (λ (a : Activation). Etherealized w a.cleanup a.remaining) (activation_numbered (standing c run past) n) e is).2 refl
         going_ends Free is only = absurd (let x : false ≡ true = only in cc)
         going_ends (Trying r) is only = absurd (let x : false ≡ true = only in cc)
         going_ends (Incarnating r n) is only = absurd (let x : false ≡ true = only in cc)
@@ -89,6 +97,7 @@ module _ (c : Config) (run limit : ℕ) (past : List Entry) (w : ℕ) (e : Entry
     begun_next runs = sym (worker_stage c run limit past e w made.by (follows_next runs).legal.0).1
 
 -- a step that failed
-pub failed : (w : ℕ) (old new : Life) (r : Result StepOut AllocError) → IsErr r → is_abandoned old.history w ≡ false → only_ends (stage old.history w) ≡ false → new ≡ old → Steps w old r new
+pub failed : (w : ℕ) (old new : Life) (r : Result StepOut AllocError) → IsErr r → is_abandoned old.history w ≡ false → only_ends (stage old.history w) ≡ false
+    → new ≡ old → Steps w old r new
 failed w old new (Err fault) is going more same = (going, more, same)
 failed w old new (Ok out) is going more same = absurd (let x : false ≡ true = is in cc)

@@ -15,7 +15,8 @@ use Rattle.poa_core.specs.Agrees.{opened_in}
 use Rattle.poa_core.specs.Noting.{IsHalfway}
 use Rattle.poa_core.proofs.Turned.{manned_before}
 
-abbrev pub desk_comes : (h : List Entry) (e : Entry) (begun : Stage) (b : Brought) (i : Inside) → IsHalfway h e begun b i → Comes i.config e (seen i.state.standing) b.decision.target b.decision.reply b.wait b.ordered i.desk.owing.items
+abbrev pub desk_comes : (h : List Entry) (e : Entry) (begun : Stage) (b : Brought) (i : Inside) → IsHalfway h e begun b i
+    → Comes i.config e (seen i.state.standing) b.decision.target b.decision.reply b.wait b.ordered i.desk.owing.items
 desk_comes h e begun b i half =
     record {
       run = i.run;
@@ -33,5 +34,7 @@ desk_comes h e begun b i half =
 
 -- the entry behind the journal is the first of the history
 pub life_longer : (c : Config) (run limit : ℕ) (opening : Slots) (e : Entry) (old new : List Entry) → new ≡ old ++ e ∷ []
-    → (let after : Life = record { config = c; run = run; limit = limit; opening = opening; history = reverse new } in after) ≡ with_entry e (record { config = c; run = run; limit = limit; opening = opening; history = reverse old })
-life_longer c run limit opening e old new is = ap (λ h. record { config = c; run = run; limit = limit; opening = opening; history = h }) (ap reverse is ∙ reverse-append old (e ∷ []))
+    → (let after : Life = record { config = c; run = run; limit = limit; opening = opening; history = reverse new } in after) ≡ with_entry e
+    (record { config = c; run = run; limit = limit; opening = opening; history = reverse old })
+life_longer c run limit opening e old new is =
+    ap (λ h. record { config = c; run = run; limit = limit; opening = opening; history = h }) (ap reverse is ∙ reverse-append old (e ∷ []))

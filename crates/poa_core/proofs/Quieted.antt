@@ -29,7 +29,8 @@ use Rattle.poa_core.specs.Noting.{IsHalfway}
 use Rattle.poa_core.specs.Kept.{IsQuiet}
 
 -- what is so of each entry that is no turn
-by_still : (P : Entry → Type 0) → ((conn : ℕ) → P (Entered conn)) → ((conn size : ℕ) (call : Call) → P (Arrive conn size call)) → ((conn size : ℕ) → P (Filled conn size)) → ((conn : ℕ) → P (Left conn)) → ((conn r : ℕ) → P (Collect conn r))
+by_still : (P : Entry → Type 0) → ((conn : ℕ) → P (Entered conn)) → ((conn size : ℕ) (call : Call) → P (Arrive conn size call))
+    → ((conn size : ℕ) → P (Filled conn size)) → ((conn : ℕ) → P (Left conn)) → ((conn r : ℕ) → P (Collect conn r))
     → ((w : ℕ) → P (Abandon w)) → (e : Entry) → is_turn e ≡ false → P e
 by_still P entered arrive filled left collect abandon (Entered conn) is = entered conn
 by_still P entered arrive filled left collect abandon (Arrive conn size call) is = arrive conn size call
@@ -55,11 +56,20 @@ quiet_by : (e : Entry) → is_turn e ≡ false → is_quiet e ≡ true
 quiet_by = by_still (λ e. is_quiet e ≡ true) (λ _. refl) (λ _ _ _. refl) (λ _ _. refl) (λ _. refl) (λ _ _. refl) (λ _. refl)
 
 same_set : (c : Config) (h : List Entry) (e : Entry) (s : Settings) → is_turn e ≡ false → Tells c h s → Tells c (e ∷ h) s
-same_set c h e s is t = by_still (λ x. Tells c (x ∷ h) s) (λ _. record { managed = t.managed; states = t.states; presets = t.presets; endpoints = t.endpoints }) (λ _ _ _. record { managed = t.managed; states = t.states; presets = t.presets; endpoints = t.endpoints }) (λ _ _. record { managed = t.managed; states = t.states; presets = t.presets; endpoints = t.endpoints }) (λ _. record { managed = t.managed; states = t.states; presets = t.presets; endpoints = t.endpoints }) (λ _ _. record { managed = t.managed; states = t.states; presets = t.presets; endpoints = t.endpoints }) (λ _. record { managed = t.managed; states = t.states; presets = t.presets; endpoints = t.endpoints }) e is
+same_set c h e s is t =
+    by_still (λ x. Tells c (x ∷ h) s) (λ _. record { managed = t.managed; states = t.states; presets = t.presets; endpoints = t.endpoints })
+    (λ _ _ _. record { managed = t.managed; states = t.states; presets = t.presets; endpoints = t.endpoints })
+    (λ _ _. record { managed = t.managed; states = t.states; presets = t.presets; endpoints = t.endpoints })
+    (λ _. record { managed = t.managed; states = t.states; presets = t.presets; endpoints = t.endpoints })
+    (λ _ _. record { managed = t.managed; states = t.states; presets = t.presets; endpoints = t.endpoints })
+    (λ _. record { managed = t.managed; states = t.states; presets = t.presets; endpoints = t.endpoints }) e is
 
 decides_none : (c : Config) (run : ℕ) (opened : Stored) (h : List Entry) (e : Entry) → is_turn e ≡ false → Decides c run opened h e None Addressing
 decides_none c run opened h =
-    by_still (λ e. Decides c run opened h e None Addressing) (λ _. record { target_is = λ r _. refl; reply_is = λ r _ _ _. refl }) (λ _ _ _. record { target_is = λ r _. refl; reply_is = λ r _ _ _. refl }) (λ _ _. record { target_is = λ r _. refl; reply_is = λ r _ _ _. refl }) (λ _. record { target_is = λ r _. refl; reply_is = λ r _ _ _. refl }) (λ _ _. record { target_is = λ r _. refl; reply_is = λ r _ _ _. refl }) (λ _. record { target_is = λ r _. refl; reply_is = λ r _ _ _. refl })
+    by_still (λ e. Decides c run opened h e None Addressing) (λ _. record { target_is = λ r _. refl; reply_is = λ r _ _ _. refl })
+    (λ _ _ _. record { target_is = λ r _. refl; reply_is = λ r _ _ _. refl }) (λ _ _. record { target_is = λ r _. refl; reply_is = λ r _ _ _. refl })
+    (λ _. record { target_is = λ r _. refl; reply_is = λ r _ _ _. refl }) (λ _ _. record { target_is = λ r _. refl; reply_is = λ r _ _ _. refl })
+    (λ _. record { target_is = λ r _. refl; reply_is = λ r _ _ _. refl })
 
 waits_none : (c : Config) (run : ℕ) (h : List Entry) (e : Entry) → is_turn e ≡ false → WaitIs c run h e None
 waits_none c run h = by_still (λ e. WaitIs c run h e None) (λ _. tt) (λ _ _ _. tt) (λ _ _. tt) (λ _. tt) (λ _ _. tt) (λ _. tt)
@@ -70,22 +80,31 @@ orders_none c h = by_still (λ e. None ≡ ordered_by c h e) (λ _. refl) (λ _ 
 frees_none : (c : Config) (run : ℕ) (h : List Entry) (e : Entry) → is_turn e ≡ false → nothing ≡ freed_by c run h e
 frees_none c run h = by_still (λ e. nothing ≡ freed_by c run h e) (λ _. refl) (λ _ _ _. refl) (λ _ _. refl) (λ _. refl) (λ _ _. refl) (λ _. refl)
 
-pub quiet_state : (c : Config) (run limit : ℕ) (opened : Stored) (h : List Entry) (e : Entry) (s : State) → IsRun c run limit (e ∷ h) → is_turn e ≡ false → IsState c run opened h s → IsState c run opened (e ∷ h) s
+pub quiet_state : (c : Config) (run limit : ℕ) (opened : Stored) (h : List Entry) (e : Entry) (s : State) → IsRun c run limit (e ∷ h) → is_turn e ≡ false
+    → IsState c run opened h s → IsState c run opened (e ∷ h) s
 quiet_state c run limit opened h e s follows still state =
     record {
       stands = kept_still c run h e (seen s.standing) (nothing_changed c run h e (nothing_by e still)) state.stands;
       set = same_set c h e s.settings still state.set;
-      held = quiet_holds c run limit opened h e (given c run limit (e ∷ h) follows) (within c run limit (e ∷ h) follows) follows.legal (quiet_by e still) (kept_in s.servants) state.held;
+      held = quiet_holds c run limit opened h e (given c run limit (e ∷ h) follows) (within c run limit (e ∷ h) follows) follows.legal (quiet_by e still)
+          (kept_in s.servants) state.held;
     }
 
 -- it comes to be noted
-pub quiet_halfway : (h : List Entry) (e : Entry) (i : Inside) → IsQuiet h e i → IsHalfway h e Free (record { decision = record { target = None; reply = Addressing }; wait = None; ordered = None; freed = nothing }) i
+pub quiet_halfway : (h : List Entry) (e : Entry) (i : Inside) → IsQuiet h e i
+    → IsHalfway h e Free (record { decision = record { target = None; reply = Addressing }; wait = None; ordered = None; freed = nothing }) i
 quiet_halfway h e i quiet =
     record {
       follows = quiet.follows;
       begun_is = begins_free h e quiet.still;
       state = quiet_state i.config i.run i.limit (opened_in i) h e i.state quiet.follows quiet.still quiet.state;
-      brought = record { decides = decides_none i.config i.run (opened_in i) h e quiet.still; waits = waits_none i.config i.run h e quiet.still; orders = orders_none i.config h e quiet.still; frees = frees_none i.config i.run h e quiet.still };
+      brought =
+          record {
+            decides = decides_none i.config i.run (opened_in i) h e quiet.still;
+            waits = waits_none i.config i.run h e quiet.still;
+            orders = orders_none i.config h e quiet.still;
+            frees = frees_none i.config i.run h e quiet.still;
+          };
       tables = quiet.tables;
       owed = quiet.owed;
       left = quiet.left;

@@ -19,7 +19,8 @@ use Rattle.poa_core.proofs.Space.{stay_is, stay_ending}
 -- one that only ends what was begun has had its room since then
 pub ending_room : (e : Entry) (i : Inside) → IsKept i → IsRun i.config i.run i.limit (e ∷ history i) → is_ending e ≡ true → HasRoomForEntry e i
 ending_room e i kept follows ends =
-    by_ending (λ x. vec_len i.entries < vec_capacity i.entries → HasRoomForEntry x i) (λ w some. record { entries = some; calls = none_ _; queue = none_ _; held = none_ _; tally = tt; desk = kept.agrees.room })
+    by_ending (λ x. vec_len i.entries < vec_capacity i.entries → HasRoomForEntry x i)
+    (λ w some. record { entries = some; calls = none_ _; queue = none_ _; held = none_ _; tally = tt; desk = kept.agrees.room })
     (λ w x y some. record { entries = some; calls = none_ _; queue = none_ _; held = none_ _; tally = tt; desk = kept.agrees.room }) e ends
     (some_room (vec_len i.entries) (length i.desk.owing.items + length i.desk.outbox.items) (stay i.tables) (vec_capacity i.entries)
     (stay_ending i.config i.run i.limit (history i) e i.tables follows.legal.0 ends kept.agrees.tables) kept.space)
@@ -46,7 +47,8 @@ kept_again i t d kept same owing outbox room =
         filed = subst (AreFiled i.config i.run (opened_in i) (history i)) (sym outbox) a.filed;
         room = room;
       };
-      space = again (vec_len i.entries) (length i.desk.owing.items) (length i.desk.outbox.items) (stay i.tables) (length d.owing.items) (length d.outbox.items) (stay t) (vec_capacity i.entries)
+      space = again (vec_len i.entries) (length i.desk.owing.items) (length i.desk.outbox.items) (stay i.tables) (length d.owing.items) (length d.outbox.items)
+          (stay t) (vec_capacity i.entries)
           (ap length owing) (ap length outbox) (stay_is (history i) t tables ∙ sym (stay_is (history i) i.tables a.tables)) kept.space;
     })
   where
@@ -58,7 +60,8 @@ pub entries_kept : (i new : Inside) → IsKept i → Agrees (history i) new → 
 entries_kept i new kept agrees items len more same =
     record {
       agrees = subst (λ (es : List Entry). Agrees (reverse es) new) (sym items) agrees;
-      space = again (vec_len i.entries) (to_come i) (vec_capacity i.entries) (vec_len new.entries) (to_come new) (vec_capacity new.entries) len same more kept.space;
+      space = again (vec_len i.entries) (to_come i) (vec_capacity i.entries) (vec_len new.entries) (to_come new)
+          (vec_capacity new.entries) len same more kept.space;
     }
   where
     again : (l come room l' come' room' : ℕ) → l' ≡ l → come' ≡ come → room ≤ room' → l + come + 0 ≤ room → l' + come' + 0 ≤ room'

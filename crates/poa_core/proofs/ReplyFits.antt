@@ -79,19 +79,22 @@ module _ (c : Config) (run : ℕ) (past : List Entry) (w r : ℕ) (v : Verdict) 
   admission_fits is = (is.arrived, by_call (call_of past r) refl is.told)
 
 -- each arrival stands admitted by a verdict that its call may get
-admitted_fits : (c : Config) (run limit : ℕ) (h : List Entry) → IsLegal c run limit h → (r : ℕ) (v : Verdict) → admitted h r ≡ Some v → Of (λ call. may_get call v ≡ true) h r
+admitted_fits : (c : Config) (run limit : ℕ) (h : List Entry) → IsLegal c run limit h → (r : ℕ) (v : Verdict) → admitted h r ≡ Some v
+    → Of (λ call. may_get call v ≡ true) h r
 admitted_fits c run limit [] legal r v is = absurd (let e : None ≡ Some v = is in cc)
 admitted_fits c run limit (Admit w a u ∷ past) legal r v is =
     cond_both (a == r) (Some u) (admitted past r) (λ o. o ≡ Some v → Of (λ call. may_get call v ≡ true) (Admit w a u ∷ past) r)
     (λ same given. (let e : Some u ≡ Some v = given in let uv : u ≡ v = cc in
     subst (λ x. Of (λ call. may_get call x ≡ true) (Admit w a u ∷ past) r) uv
-    (subst (λ q. Of (λ call. may_get call u ≡ true) (Admit w a u ∷ past) q) (eqb-true a r same) (admission_fits c run past w a u (admission_is c run past w a u legal.0)))))
+    (subst (λ q. Of (λ call. may_get call u ≡ true) (Admit w a u ∷ past) q) (eqb-true a r same)
+    (admission_fits c run past w a u (admission_is c run past w a u legal.0)))))
     (λ _ before. admitted_fits c run limit past legal.1 r v before)
     is
 admitted_fits c run limit (Tried w (Yes n) ∷ past) legal r v is =
     cond_both (is_at r (arrival_in (stage past w))) None (admitted past r) (λ o. o ≡ Some v → Of (λ call. may_get call v ≡ true) (Tried w (Yes n) ∷ past) r)
     (λ _ none. absurd (let e : None ≡ Some v = none in cc)) (λ _ before. admitted_fits c run limit past legal.1 r v before) is
-admitted_fits c run limit (Arrive conn size call ∷ past) legal r v is = later (λ q. may_get q v ≡ true) (Arrive conn size call) past r (admitted_fits c run limit past legal.1 r v is)
+admitted_fits c run limit (Arrive conn size call ∷ past) legal r v is =
+    later (λ q. may_get q v ≡ true) (Arrive conn size call) past r (admitted_fits c run limit past legal.1 r v is)
 admitted_fits c run limit (e ∷ past) legal r v is = admitted_fits c run limit past legal.1 r v is
 
 -- verdicts on requests and locates alone
@@ -102,7 +105,8 @@ for_message (Some (Locate head target)) v may other = refl
 for_message (Some (Line number command)) v may other = absurd (true≢false (sym may ∙ other))
 
 -- a verdict on commands alone
-for_command : (call : Option Call) (v : Verdict) → may_get call v ≡ true → for_request v ≡ false → for_locate v ≡ false → (number : ℕ) (answer : Rattle.poa_base.specs.declared.Answer.Answer) → FitsCall call (replied.Answer number answer)
+for_command : (call : Option Call) (v : Verdict) → may_get call v ≡ true → for_request v ≡ false → for_locate v ≡ false
+    → (number : ℕ) (answer : Rattle.poa_base.specs.declared.Answer.Answer) → FitsCall call (replied.Answer number answer)
 for_command None v may no_request no_locate number answer = never may
 for_command (Some (Request head target operation body)) v may no_request no_locate number answer = absurd (true≢false (sym may ∙ no_request))
 for_command (Some (Locate head target)) v may no_request no_locate number answer = absurd (true≢false (sym may ∙ no_locate))
@@ -156,12 +160,14 @@ tried_fits : (c : Config) (past : List Entry) (call : Option Call) (answer : Att
 tried_fits c past call Raised message = raised_fits call activator_raised message
 tried_fits c past call Dying message = raised_fits call adapter_dying message
 tried_fits c past call answer message =
-    elim (forward_of c past (key_or_none (key_in call)).path) as (λ o. FitsCall call (elim o [ Some endpoint ↦ forwarded_to call endpoint | None ↦ raised_to call not_exist_omg ])) [
+    elim (forward_of c past (key_or_none (key_in call)).path) as (λ o. FitsCall call
+    (elim o [ Some endpoint ↦ forwarded_to call endpoint | None ↦ raised_to call not_exist_omg ])) [
       | Some endpoint ↦ forwarded_fits call endpoint message
       | None ↦ raised_fits call not_exist_omg message
     ]
 
-incarnated_fits : (call : Option Call) (answer : Incarnation) (reply : Reply) → is_message call ≡ true → reply_incarnated call answer ≡ Some reply → FitsCall call reply
+incarnated_fits : (call : Option Call) (answer : Incarnation) (reply : Reply) → is_message call ≡ true → reply_incarnated call answer ≡ Some reply
+    → FitsCall call reply
 incarnated_fits call Double reply message is = same_fits call _ reply is (raised_fits call servant_double message)
 incarnated_fits call (ForwardTo endpoint) reply message is = same_fits call _ reply is (forwarded_fits call endpoint message)
 incarnated_fits call (Raise exception) reply message is = same_fits call _ reply is (raised_fits call exception message)
@@ -227,39 +233,57 @@ module _ (c : Config) (run limit : ℕ) (opened : Stored) (r : ℕ) (reply : Rep
   by_entry : (past : List Entry) (e : Entry) → IsRun c run limit (e ∷ past) → decided c run past r ≡ false → decided c run (e ∷ past) r ≡ true
       → reply_by c run opened past e r ≡ Some reply → Of Fits (e ∷ past) r
   by_entry past (Admit w a v) is before now =
-      cond_both (a == r) (reply_admitted (call_of past r) v) (Some (replied.Answer (number_of (call_of past r)) Good)) (λ o. o ≡ Some reply → Of Fits (Admit w a v ∷ past) r)
+      cond_both (a == r) (reply_admitted (call_of past r) v) (Some (replied.Answer (number_of (call_of past r)) Good))
+      (λ o. o ≡ Some reply → Of Fits (Admit w a v ∷ past) r)
       (λ same given.
-      (let it = subst (λ x. Of (λ call. may_get call v ≡ true) past x) (eqb-true a r same) (admission_fits c run past w a v (admission_is c run past w a v is.legal.0)) in
+      (let it =
+      subst (λ x. Of (λ call. may_get call v ≡ true) past x) (eqb-true a r same) (admission_fits c run past w a v (admission_is c run past w a v is.legal.0)) in
       later Fits (Admit w a v) past r (it.0, verdict_fits (call_of past r) v reply it.1 given)))
-      (λ other given. waited_fits c run limit opened past (Admit w a v) is r reply before now (ap (λ b. b && is_final v) other) (number_of (call_of past r)) given)
+      (λ other given. waited_fits c run limit opened past (Admit w a v) is r reply before now (ap (λ b. b && is_final v) other)
+      (number_of (call_of past r)) given)
   by_entry past (Tried w answer) is before now =
-      cond_both (is_at r (arrival_in (stage past w))) (Some (reply_tried c past (call_of past r) answer)) (Some (replied.Answer (number_of (call_of past r)) Good)) (λ o. o ≡ Some reply → Of Fits (Tried w answer ∷ past) r)
+      cond_both (is_at r (arrival_in (stage past w))) (Some (reply_tried c past (call_of past r) answer))
+      (Some (replied.Answer (number_of (call_of past r)) Good)) (λ o. o ≡ Some reply → Of Fits (Tried w answer ∷ past) r)
       (λ at given.
       (let turn = trial_is c run past w answer is.legal.0 in
-      let holds : Holds past (standing c run past) (Trying turn.arrival) = subst (Holds past (standing c run past)) turn.begun ((manned_before c run limit past (Tried w answer) is).stages w) in
-      let it = here_is c run limit opened past (Tried w answer) is r reply Try turn.arrival (at_is r turn.arrival (stage past w) (ap arrival_in turn.begun) at) holds.0 in
-      later Fits (Tried w answer) past r (it.0, same_fits (call_of past r) _ reply given (tried_fits c past (call_of past r) answer (for_message (call_of past r) Try it.1 refl)))))
-      (λ other given. waited_fits c run limit opened past (Tried w answer) is r reply before now (tried_not past w answer other) (number_of (call_of past r)) given)
+      let holds : Holds past (standing c run past) (Trying turn.arrival) =
+      subst (Holds past (standing c run past)) turn.begun ((manned_before c run limit past (Tried w answer) is).stages w) in
+      let it =
+      here_is c run limit opened past (Tried w answer) is r reply Try turn.arrival
+      (at_is r turn.arrival (stage past w) (ap arrival_in turn.begun) at) holds.0 in
+      later Fits (Tried w answer) past r
+      (it.0, same_fits (call_of past r) _ reply given (tried_fits c past (call_of past r) answer (for_message (call_of past r) Try it.1 refl)))))
+      (λ other given. waited_fits c run limit opened past (Tried w answer) is r reply before now (tried_not past w answer other)
+      (number_of (call_of past r)) given)
   by_entry past (Incarnated w answer) is before now =
-      cond_both (is_at r (arrival_in (stage past w))) (reply_incarnated (call_of past r) answer) (Some (replied.Answer (number_of (call_of past r)) Good)) (λ o. o ≡ Some reply → Of Fits (Incarnated w answer ∷ past) r)
+      cond_both (is_at r (arrival_in (stage past w))) (reply_incarnated (call_of past r) answer) (Some (replied.Answer (number_of (call_of past r)) Good))
+      (λ o. o ≡ Some reply → Of Fits (Incarnated w answer ∷ past) r)
       (λ at given.
       (let turn = incarnation_is c run past w answer is.legal.0 in
-      let holds : Holds past (standing c run past) (Incarnating turn.arrival turn.number) = subst (Holds past (standing c run past)) turn.begun ((manned_before c run limit past (Incarnated w answer) is).stages w) in
-      let it = here_is c run limit opened past (Incarnated w answer) is r reply (Incarnate turn.number) turn.arrival (at_is r turn.arrival (stage past w) (ap arrival_in turn.begun) at) holds.0 in
-      later Fits (Incarnated w answer) past r (it.0, incarnated_fits (call_of past r) answer reply (for_message (call_of past r) (Incarnate turn.number) it.1 refl) given)))
-      (λ other given. waited_fits c run limit opened past (Incarnated w answer) is r reply before now (ap (λ b. not (brings answer) && b) other ∙ and_none (not (brings answer))) (number_of (call_of past r)) given)
+      let holds : Holds past (standing c run past) (Incarnating turn.arrival turn.number) =
+      subst (Holds past (standing c run past)) turn.begun ((manned_before c run limit past (Incarnated w answer) is).stages w) in
+      let it =
+      here_is c run limit opened past (Incarnated w answer) is r reply (Incarnate turn.number) turn.arrival
+      (at_is r turn.arrival (stage past w) (ap arrival_in turn.begun) at) holds.0 in
+      later Fits (Incarnated w answer) past r
+      (it.0, incarnated_fits (call_of past r) answer reply (for_message (call_of past r) (Incarnate turn.number) it.1 refl) given)))
+      (λ other given. waited_fits c run limit opened past (Incarnated w answer) is r reply before now
+      (ap (λ b. not (brings answer) && b) other ∙ and_none (not (brings answer))) (number_of (call_of past r)) given)
   by_entry past (Run w) is before now =
-      cond_both (is_at r (arrival_in (stage past w))) (reply_run c run opened past (servant_run c run past (stage past w)) (call_run past (stage past w))) (Some (replied.Answer (number_of (call_of past r)) Good)) (λ o. o ≡ Some reply → Of Fits (Run w ∷ past) r)
+      cond_both (is_at r (arrival_in (stage past w))) (reply_run c run opened past (servant_run c run past (stage past w)) (call_run past (stage past w)))
+      (Some (replied.Answer (number_of (call_of past r)) Good)) (λ o. o ≡ Some reply → Of Fits (Run w ∷ past) r)
       (λ at given.
       (let (q, begun) = run_is c run past w is.legal.0 in
-      let holds : Holds past (standing c run past) (Serving q) = subst (Holds past (standing c run past)) begun ((manned_before c run limit past (Run w) is).stages w) in
+      let holds : Holds past (standing c run past) (Serving q) =
+      subst (Holds past (standing c run past)) begun ((manned_before c run limit past (Run w) is).stages w) in
       let same = at_is r q (stage past w) (ap arrival_in begun) at in
       let it = here_is c run limit opened past (Run w) is r reply holds.verdict q same holds.by in
       let whole : call_run past (stage past w) ≡ call_of past r = ap (call_run past) begun ∙ ap (call_of past) same in
       later Fits (Run w) past r (
         it.0,
         subst Fits whole (run_fits c run opened past (servant_run c run past (stage past w)) (call_run past (stage past w)) reply
-            (λ outcome. subst (λ x. FitsCall x (replied.Outcome outcome)) (sym whole) (outcome_fits (call_of past r) holds.verdict outcome holds.run it.1)) given),
+            (λ outcome. subst (λ x. FitsCall x (replied.Outcome outcome)) (sym whole) (outcome_fits (call_of past r) holds.verdict outcome holds.run it.1))
+            given),
       )))
       (λ other given. waited_fits c run limit opened past (Run w) is r reply before now other (number_of (call_of past r)) given)
   by_entry past e is before now = λ given. waited_fits c run limit opened past e is r reply before now refl (number_of (call_of past r)) given
@@ -267,8 +291,10 @@ module _ (c : Config) (run limit : ℕ) (opened : Stored) (r : ℕ) (reply : Rep
   answered : (h : List Entry) → IsRun c run limit h → reply_of c run opened h r ≡ Some reply → Of Fits h r
   answered [] is given = absurd (let x : None ≡ Some reply = given in cc)
   answered (e ∷ past) is given =
-      cond_both (decided c run past r) (reply_of c run opened past r) (if decided c run (e ∷ past) r then reply_by c run opened past e r else None) (λ o. o ≡ Some reply → Of Fits (e ∷ past) r)
-      (λ _ earlier. later Fits e past r (answered past (record { accepted = is.accepted; numbered = is.numbered; limited = is.limited; legal = is.legal.1 }) earlier))
+      cond_both (decided c run past r) (reply_of c run opened past r) (if decided c run (e ∷ past) r then reply_by c run opened past e r else None)
+      (λ o. o ≡ Some reply → Of Fits (e ∷ past) r)
+      (λ _ earlier. later Fits e past r
+      (answered past (record { accepted = is.accepted; numbered = is.numbered; limited = is.limited; legal = is.legal.1 }) earlier))
       (λ before. cond_both (decided c run (e ∷ past) r) (reply_by c run opened past e r) None (λ o. o ≡ Some reply → Of Fits (e ∷ past) r)
       (λ now here. by_entry past e is before now here) (λ _ none. absurd (let x : None ≡ Some reply = none in cc)))
       given

@@ -53,7 +53,8 @@ module _ (f : Facts) where
   Fits choice = is_for f.locate choice ≡ true
 
   by_kind : (u v : Verdict) → for_locate u ≡ true → for_request v ≡ true → Fits (Go (if f.locate then u else v))
-  by_kind u v one other = cond_both f.locate u v (λ x. Fits (Go x)) (λ locate. ap (λ b. is_for b (Go u)) locate ∙ one) (λ request. ap (λ b. is_for b (Go v)) request ∙ other)
+  by_kind u v one other =
+      cond_both f.locate u v (λ x. Fits (Go x)) (λ locate. ap (λ b. is_for b (Go u)) locate ∙ one) (λ request. ap (λ b. is_for b (Go v)) request ∙ other)
 
   refused : (name : ExcName) (minor : ℕ) → Fits (refuse f name minor)
   refused name minor = by_kind Unknown (Refuse _) refl refl

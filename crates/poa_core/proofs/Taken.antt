@@ -8,7 +8,8 @@ without p xs = take (position_or_len p xs) xs ++ drop (suc (position_or_len p xs
 pub none_taken : {A : Type 0} (p : A → Bool) (xs : List A) → find p xs ≡ None → without p xs ≡ xs
 none_taken p [] is = refl
 none_taken p (x ∷ xs) is =
-    elim (p x) as (λ b. cond b (Some x) (find p xs) ≡ None → take (cond (not b) (1 + position_or_len p xs) 0) (x ∷ xs) ++ drop (suc (cond (not b) (1 + position_or_len p xs) 0)) (x ∷ xs) ≡ x ∷ xs) [
+    elim (p x) as (λ b. cond b (Some x) (find p xs) ≡ None
+    → take (cond (not b) (1 + position_or_len p xs) 0) (x ∷ xs) ++ drop (suc (cond (not b) (1 + position_or_len p xs) 0)) (x ∷ xs) ≡ x ∷ xs) [
       | true ↦ (λ some. absurd (let e : Some x ≡ None = some in cc))
       | false ↦ (λ further. (let next : suc (position_or_len p xs) ≡ 1 + position_or_len p xs = omega arith in
           subst (λ n. take n (x ∷ xs) ++ drop (suc n) (x ∷ xs) ≡ x ∷ xs) next (ap (λ ys. x ∷ ys) (none_taken p xs further))))
@@ -20,9 +21,12 @@ after a b is = omega (arith, is)
 pub one_taken : {A : Type 0} (p : A → Bool) (a : A) (xs : List A) → find p xs ≡ Some a → length (without p xs) + 1 ≡ length xs
 one_taken p a [] is = absurd (let e : None ≡ Some a = is in cc)
 one_taken p a (x ∷ xs) is =
-    elim (p x) as (λ b. cond b (Some x) (find p xs) ≡ Some a → length (take (cond (not b) (1 + position_or_len p xs) 0) (x ∷ xs) ++ drop (suc (cond (not b) (1 + position_or_len p xs) 0)) (x ∷ xs)) + 1 ≡ suc (length xs)) [
+    elim (p x) as (λ b. cond b (Some x) (find p xs) ≡ Some a
+    → length (take (cond (not b) (1 + position_or_len p xs) 0) (x ∷ xs) ++ drop (suc (cond (not b) (1 + position_or_len p xs) 0)) (x ∷ xs)) + 1 ≡ suc
+    (length xs)) [
       | true ↦ (λ some. (let e : length xs + 1 ≡ suc (length xs) = omega arith in e))
       | false ↦ (λ further. (let next : suc (position_or_len p xs) ≡ 1 + position_or_len p xs = omega arith in
           let rest = one_taken p a xs further in
-          subst (λ n. length (take n (x ∷ xs) ++ drop (suc n) (x ∷ xs)) + 1 ≡ suc (length xs)) next (after (length (take (position_or_len p xs) xs ++ drop (suc (position_or_len p xs)) xs)) (length xs) rest)))
+          subst (λ n. length (take n (x ∷ xs) ++ drop (suc n) (x ∷ xs)) + 1 ≡ suc (length xs)) next
+          (after (length (take (position_or_len p xs) xs ++ drop (suc (position_or_len p xs)) xs)) (length xs) rest)))
     ] is

@@ -35,9 +35,12 @@ at_ok (Ok x) is = is
 at_ok (Err e) is = tt
 
 -- what the entry admits or runs is the call of which it speaks
-pub spoken_is : (c : Config) (run limit : ℕ) (past : List Entry) (e : Entry) → IsRun c run limit (e ∷ past) → is_turn e ≡ true → call_in e (call_at past e) ≡ call_spoken past e
+pub spoken_is : (c : Config) (run limit : ℕ) (past : List Entry) (e : Entry) → IsRun c run limit (e ∷ past) → is_turn e ≡ true
+    → call_in e (call_at past e) ≡ call_spoken past e
 spoken_is c run limit past (Admit w r v) is turn = refl
-spoken_is c run limit past (Run w) is turn = (let at = run_is c run past w is.legal.0 in ap (λ b. call_in (Run w) (elim (arrival_of b) [ Some r ↦ call_of past r | None ↦ None ])) at.1 ∙ sym (ap (call_run past) at.1))
+spoken_is c run limit past (Run w) is turn =
+    (let at = run_is c run past w is.legal.0 in ap (λ b. call_in (Run w) (elim (arrival_of b) [ Some r ↦ call_of past r | None ↦ None ])) at.1
+    ∙ sym (ap (call_run past) at.1))
   where
     arrival_of : Stage → Option ℕ
     arrival_of b = Rattle.poa_history.specs.Stages.arrival_in b
@@ -54,7 +57,8 @@ spoken_is c run limit past (Collect conn a) is turn = absurd (let e : false ≡ 
 spoken_is c run limit past (Abandon w) is turn = absurd (let e : false ≡ true = turn in cc)
 
 pub manned_before : (c : Config) (run limit : ℕ) (past : List Entry) (e : Entry) → IsRun c run limit (e ∷ past) → IsManned c run past
-manned_before c run limit past e is = all_manned c run limit past (given c run limit (e ∷ past) is) (alone c run limit (e ∷ past) is) (within c run limit (e ∷ past) is) is.legal.1
+manned_before c run limit past e is =
+    all_manned c run limit past (given c run limit (e ∷ past) is) (alone c run limit (e ∷ past) is) (within c run limit (e ∷ past) is) is.legal.1
 
 no_outcome : (c : Config) (run : ℕ) (opened : Stored) (past : List Entry) (e : Entry) → is_run e ≡ false → HasOutcome c run opened past e None
 no_outcome c run opened past (Run w) silent = absurd (let x : true ≡ false = silent in cc)
@@ -95,7 +99,8 @@ module _ (c : Config) (run limit : ℕ) (opened : Stored) (past : List Entry) (k
   asked_answers = answers_state c run limit opened past s (earlier c run limit past k.entry.now asked.follows) asked.state
 
   -- what the entry changes comes next, with the call that it admits or runs
-  pub next_with : (x : Option (Bor Call)) → option_copied x ≡ call_in k.entry.now (option_copied k.call) → IsNext c run limit opened past (record k { call = x }) s
+  pub next_with : (x : Option (Bor Call)) → option_copied x ≡ call_in k.entry.now (option_copied k.call)
+      → IsNext c run limit opened past (record k { call = x }) s
   next_with x is =
       record {
         follows = asked.follows;
@@ -121,7 +126,8 @@ module _ (c : Config) (run limit : ℕ) (opened : Stored) (past : List Entry) (k
       }
 
   -- a Run comes to its decision, with the outcome of the servant that ran
-  pub run_comes : (w : ℕ) → k.entry.now ≡ Run w → (settings : Settings) (outcome : Option Outcome) → SettingsTell c (k.entry.now ∷ past) settings → outcome ≡ outcome_of c run opened past k
+  pub run_comes : (w : ℕ) → k.entry.now ≡ Run w → (settings : Settings) (outcome : Option Outcome) → SettingsTell c (k.entry.now ∷ past) settings
+      → outcome ≡ outcome_of c run opened past k
       → Comes c run opened past k.entry.now k.stage (option_copied k.call) settings outcome
   run_comes w is settings outcome set told =
       record {
@@ -129,14 +135,19 @@ module _ (c : Config) (run limit : ℕ) (opened : Stored) (past : List Entry) (k
         at_stage = asked.begun_is;
         call_is = asked.call_is;
         told = told_before c past w settings (subst (λ x. SettingsTell c (x ∷ past) settings) is set);
-        ran = subst (λ x. IsRun c run limit (x ∷ past) → k.stage ≡ stage_at past x → option_copied k.call ≡ call_spoken past x → outcome ≡ outcome_told c run opened past x k.runs (option_copied k.call) → HasOutcome c run opened past x outcome) (sym is)
+        ran = subst
+            (λ x. IsRun c run limit (x ∷ past) → k.stage ≡ stage_at past x → option_copied k.call ≡ call_spoken past x
+            → outcome ≡ outcome_told c run opened past x k.runs (option_copied k.call) → HasOutcome c run opened past x outcome) (sym is)
             (λ follows at spoken told. has_outcome follows at spoken told) asked.follows asked.begun_is (next_run w is).call_is told;
       }
     where
-      has_outcome : IsRun c run limit (Run w ∷ past) → k.stage ≡ stage past w → option_copied k.call ≡ call_run past (stage past w) → outcome ≡ outcome_told c run opened past (Run w) k.runs (option_copied k.call) → HasOutcome c run opened past (Run w) outcome
+      has_outcome : IsRun c run limit (Run w ∷ past) → k.stage ≡ stage past w → option_copied k.call ≡ call_run past (stage past w)
+          → outcome ≡ outcome_told c run opened past (Run w) k.runs (option_copied k.call) → HasOutcome c run opened past (Run w) outcome
       has_outcome follows at spoken told =
           (let serves = run_is c run past w follows.legal.0 in
-          let has = serving_has c run limit past (given c run limit (Run w ∷ past) follows) (alone c run limit (Run w ∷ past) follows) (within c run limit (Run w ∷ past) follows) follows.legal.1 w serves.0 serves.1 in
+          let has =
+          serving_has c run limit past (given c run limit (Run w ∷ past) follows) (alone c run limit (Run w ∷ past) follows)
+          (within c run limit (Run w ∷ past) follows) follows.legal.1 w serves.0 serves.1 in
           let same : servant_run c run past (stage past w) ≡ Some has.0 = ap (servant_run c run past) serves.1 ∙ has.1 in
           let mine : k.runs ≡ Some has.0 = asked.servant_is ∙ ap (servant_run c run past) at ∙ same in
           (has.0, same, told ∙ ap₂ (λ r x. option_map (λ t. (acted (state_of c run opened past t) x).1) r) mine spoken))

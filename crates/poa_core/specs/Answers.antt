@@ -32,7 +32,8 @@ use Rattle.std.specs.declared.alloc.AllocError.{AllocError}
 abbrev pub Enters : Life → Result ℕ EnterFault → Life → Type 0
 Enters old (Ok conn) new = (conn ≡ connections old.history) × (conn < 4000000) × (new ≡ with_entry (Entered conn) old)
 Enters old (Err (enter_fault.Limit conns calls bytes)) new =
-    (4000000 ≤ connections old.history) × (conns ≡ connections old.history) × (calls ≡ arrivals old.history) × (bytes ≡ arrived_bytes old.history) × (new ≡ old)
+    (4000000 ≤ connections old.history) × (conns ≡ connections old.history) × (calls ≡ arrivals old.history)
+    × (bytes ≡ arrived_bytes old.history) × (new ≡ old)
 Enters old (Err enter_fault.WantMemory) new = (connections old.history < 4000000) × (new ≡ old)
 
 -- the first call that isn't taken fills the run

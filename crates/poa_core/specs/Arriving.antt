@@ -12,7 +12,9 @@ use Rattle.poa_core.specs.declared.arrive_fault.ArriveFault.TheVariants.{Limit, 
 
 -- the row of a call that asks a reply; it waits for nothing
 abbrev pub row_of : ℕ → ℕ → Call → Option Owing
-row_of r conn call = if asks (Some call) then Some (record { arrival = r; conn = conn; number = number_of (Some call); head = head_of (Some call); wait = None }) else None
+row_of r conn call =
+    if asks (Some call) then Some
+    (record { arrival = r; conn = conn; number = number_of (Some call); head = head_of (Some call); wait = None }) else None
 
 -- a call that isn't taken fills the run
 abbrev pub Refuses : ℕ → ℕ → Life → ArriveFault → Life → Type 0

@@ -26,7 +26,8 @@ unless b = if b then 0 else 1
 -- how many workers have only to end what they began, and how many haven't given up
 unfoldable pub by_workers : Workers → ℕ
 by_workers workers =
-    count_below (λ w. only_ends (slice_index_or workers.stages.items w Free)) 16 + count_below (λ w. not (slice_index_or workers.abandoned.items w false)) 16
+    count_below (λ w. only_ends (slice_index_or workers.stages.items w Free)) 16 + count_below
+    (λ w. not (slice_index_or workers.abandoned.items w false)) 16
 
 -- how many connections may leave, and whether the run may be filled
 abbrev pub by_connections : Tally → ℕ

@@ -211,7 +211,8 @@ impl Core {
 
     /// What is stored.
     pub fn store(&self) -> &Store
-        ensures { (path : List (List ℕ)) (oid : List ℕ) → stored_in result.now path oid ≡ stored self.now.config self.now.run (opened self.now) self.now.history path oid }
+        ensures { (path : List (List ℕ)) (oid : List ℕ)
+            → stored_in result.now path oid ≡ stored self.now.config self.now.run (opened self.now) self.now.history path oid }
     {
         &self.inside.state.servants.store
     }

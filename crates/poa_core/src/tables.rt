@@ -63,8 +63,10 @@ pub fn advance(entry: &Entry, entries: &[Entry], stage: Stage, freed: Freed, tab
     requires queue { may_queue entry.now ≡ true → HasPlace tables.old.queue }
     requires held { may_queue entry.now ≡ true → HasRoom tables.old.held.ready.heap }
     requires tally { HasRoomFor entry.now tables.old.tally }
-    ensures { (c : Config) (run limit : ℕ) → IsRun c run limit (entry.now ∷ reverse entries.now) → stage ≡ stage_at (reverse entries.now) entry.now
-        → freed ≡ freed_by c run (reverse entries.now) entry.now → KnowsTables c run (reverse entries.now) tables.old → KnowsTables c run (entry.now ∷ reverse entries.now) tables.new }
+    ensures { (c : Config) (run limit : ℕ) → IsRun c run limit (entry.now ∷ reverse entries.now)
+        → stage ≡ stage_at (reverse entries.now) entry.now
+        → freed ≡ freed_by c run (reverse entries.now) entry.now → KnowsTables c run (reverse entries.now) tables.old
+        → KnowsTables c run (entry.now ∷ reverse entries.now) tables.new }
 {
     let arrivals = tables.tally.arrivals;
     let admitted = calls::call_admitted(entries, &tables.calls, entry);

@@ -44,7 +44,8 @@ pub fn call_at<'a>(
     entry: &Entry,
     stage: Stage,
 ) -> Option<&'a Call>
-    ensures { KnowsCalls (reverse entries.now) known.now.places.items → stage ≡ stage_at (reverse entries.now) entry.now → option_copied result ≡ the_call_at (reverse entries.now) entry.now }
+    ensures { KnowsCalls (reverse entries.now) known.now.places.items → stage ≡ stage_at (reverse entries.now) entry.now
+        → option_copied result ≡ the_call_at (reverse entries.now) entry.now }
 {
     let arrival = match entry {
         Entry::Admit { arrival, .. } => Some(*arrival),
@@ -65,7 +66,8 @@ fn call_in<'a>(coming: &Coming<'a>) -> Option<&'a Call>
 
 /// The call that an entry admits.
 fn call_admitted<'a>(coming: &Coming<'a>) -> Option<&'a Call>
-    ensures { (past : List EntryOf) → option_copied coming.now.call ≡ the_call_at past coming.now.entry.now → option_copied result ≡ call_told past coming.now.entry.now }
+    ensures { (past : List EntryOf) → option_copied coming.now.call ≡ the_call_at past coming.now.entry.now
+        → option_copied result ≡ call_told past coming.now.entry.now }
 {
     match coming.entry {
         Entry::Admit { .. } => coming.call,
@@ -81,7 +83,9 @@ pub fn servant_in(
     entries: &[Entry],
     stage: Stage,
 ) -> Result<Option<Sid>, WantMemory>
-    ensures servant { (run worker : ℕ) → AnswersAs config.now run (reverse entries.now) (seen standing.now) → stage ≡ begun.stage (reverse entries.now) worker → IfOk result (λ servant. servant ≡ servant_run config.now run (reverse entries.now) stage) }
+    ensures servant { (run worker : ℕ) → AnswersAs config.now run (reverse entries.now) (seen standing.now)
+        → stage ≡ begun.stage (reverse entries.now) worker
+        → IfOk result (λ servant. servant ≡ servant_run config.now run (reverse entries.now) stage) }
     ensures ends { only_ends stage ≡ true → IsOk result }
 {
     match stage {
@@ -98,11 +102,15 @@ fn ran(
     coming: &Coming<'_>,
     state: &mut State,
 ) -> Result<Decision, WantMemory>
-    requires asked { (limit : ℕ) × (opened : Stored) × (past : List EntryOf) × IsAsked config.now run limit opened past coming.now state.old }
+    requires asked { (limit : ℕ) × (opened : Stored) × (past : List EntryOf)
+        × IsAsked config.now run limit opened past coming.now state.old }
     requires kind { (w : ℕ) × (coming.now.entry.now ≡ EntryOf.Run w) }
-    ensures ok { (limit : ℕ) (opened : Stored) (past : List EntryOf) → IsAsked config.now run limit opened past coming.now state.old → OnOk result (IsState config.now run opened (coming.now.entry.now ∷ past) state.new) }
-    ensures decides { (limit : ℕ) (opened : Stored) (past : List EntryOf) → IsAsked config.now run limit opened past coming.now state.old → IfOk result (λ it. Decides config.now run opened past coming.now.entry.now it.target it.reply) }
-    ensures err { (opened : Stored) (past : List EntryOf) → IsState config.now run opened past state.old → OnErr result (IsState config.now run opened past state.new) }
+    ensures ok { (limit : ℕ) (opened : Stored) (past : List EntryOf) → IsAsked config.now run limit opened past coming.now state.old
+        → OnOk result (IsState config.now run opened (coming.now.entry.now ∷ past) state.new) }
+    ensures decides { (limit : ℕ) (opened : Stored) (past : List EntryOf) → IsAsked config.now run limit opened past coming.now state.old
+        → IfOk result (λ it. Decides config.now run opened past coming.now.entry.now it.target it.reply) }
+    ensures err { (opened : Stored) (past : List EntryOf) → IsState config.now run opened past state.old
+        → OnErr result (IsState config.now run opened past state.new) }
 {
     let outcome = adapter_state::advance(alloc, config, run, coming, state)?;
     decision_of(
@@ -125,11 +133,15 @@ fn told(
     coming: &Coming<'_>,
     state: &mut State,
 ) -> Result<Decision, WantMemory>
-    requires asked { (limit : ℕ) × (opened : Stored) × (past : List EntryOf) × IsAsked config.now run limit opened past coming.now state.old }
+    requires asked { (limit : ℕ) × (opened : Stored) × (past : List EntryOf)
+        × IsAsked config.now run limit opened past coming.now state.old }
     requires kind { turning.is_run coming.now.entry.now ≡ false }
-    ensures ok { (limit : ℕ) (opened : Stored) (past : List EntryOf) → IsAsked config.now run limit opened past coming.now state.old → OnOk result (IsState config.now run opened (coming.now.entry.now ∷ past) state.new) }
-    ensures decides { (limit : ℕ) (opened : Stored) (past : List EntryOf) → IsAsked config.now run limit opened past coming.now state.old → IfOk result (λ it. Decides config.now run opened past coming.now.entry.now it.target it.reply) }
-    ensures err { (opened : Stored) (past : List EntryOf) → IsState config.now run opened past state.old → OnErr result (IsState config.now run opened past state.new) }
+    ensures ok { (limit : ℕ) (opened : Stored) (past : List EntryOf) → IsAsked config.now run limit opened past coming.now state.old
+        → OnOk result (IsState config.now run opened (coming.now.entry.now ∷ past) state.new) }
+    ensures decides { (limit : ℕ) (opened : Stored) (past : List EntryOf) → IsAsked config.now run limit opened past coming.now state.old
+        → IfOk result (λ it. Decides config.now run opened past coming.now.entry.now it.target it.reply) }
+    ensures err { (opened : Stored) (past : List EntryOf) → IsState config.now run opened past state.old
+        → OnErr result (IsState config.now run opened past state.new) }
     ensures ends { turning.is_ending coming.now.entry.now ≡ true → IsOk result }
 {
     let decision = decision_of(
@@ -158,9 +170,12 @@ fn decide(
     state: &mut State,
 ) -> Result<Decision, WantMemory>
     requires { (limit : ℕ) × (opened : Stored) × (past : List EntryOf) × IsAsked config.now run limit opened past coming.now state.old }
-    ensures ok { (limit : ℕ) (opened : Stored) (past : List EntryOf) → IsAsked config.now run limit opened past coming.now state.old → OnOk result (IsState config.now run opened (coming.now.entry.now ∷ past) state.new) }
-    ensures decides { (limit : ℕ) (opened : Stored) (past : List EntryOf) → IsAsked config.now run limit opened past coming.now state.old → IfOk result (λ it. Decides config.now run opened past coming.now.entry.now it.target it.reply) }
-    ensures err { (opened : Stored) (past : List EntryOf) → IsState config.now run opened past state.old → OnErr result (IsState config.now run opened past state.new) }
+    ensures ok { (limit : ℕ) (opened : Stored) (past : List EntryOf) → IsAsked config.now run limit opened past coming.now state.old
+        → OnOk result (IsState config.now run opened (coming.now.entry.now ∷ past) state.new) }
+    ensures decides { (limit : ℕ) (opened : Stored) (past : List EntryOf) → IsAsked config.now run limit opened past coming.now state.old
+        → IfOk result (λ it. Decides config.now run opened past coming.now.entry.now it.target it.reply) }
+    ensures err { (opened : Stored) (past : List EntryOf) → IsState config.now run opened past state.old
+        → OnErr result (IsState config.now run opened past state.new) }
     ensures ends { turning.is_ending coming.now.entry.now ≡ true → IsOk result }
 {
     match coming.entry {
@@ -180,9 +195,12 @@ pub fn bring(
     state: &mut State,
 ) -> Result<Brought, WantMemory>
     requires { (limit : ℕ) × (opened : Stored) × (past : List EntryOf) × IsAsked config.now run limit opened past coming.now state.old }
-    ensures ok { (limit : ℕ) (opened : Stored) (past : List EntryOf) → IsAsked config.now run limit opened past coming.now state.old → OnOk result (IsState config.now run opened (coming.now.entry.now ∷ past) state.new) }
-    ensures brought { (limit : ℕ) (opened : Stored) (past : List EntryOf) → IsAsked config.now run limit opened past coming.now state.old → IfOk result (λ b. IsBrought config.now run opened past coming.now.entry.now b) }
-    ensures err { (opened : Stored) (past : List EntryOf) → IsState config.now run opened past state.old → OnErr result (IsState config.now run opened past state.new) }
+    ensures ok { (limit : ℕ) (opened : Stored) (past : List EntryOf) → IsAsked config.now run limit opened past coming.now state.old
+        → OnOk result (IsState config.now run opened (coming.now.entry.now ∷ past) state.new) }
+    ensures brought { (limit : ℕ) (opened : Stored) (past : List EntryOf) → IsAsked config.now run limit opened past coming.now state.old
+        → IfOk result (λ b. IsBrought config.now run opened past coming.now.entry.now b) }
+    ensures err { (opened : Stored) (past : List EntryOf) → IsState config.now run opened past state.old
+        → OnErr result (IsState config.now run opened past state.new) }
     ensures ends { turning.is_ending coming.now.entry.now ≡ true → IsOk result }
 {
     let admits = call_admitted(coming);

@@ -31,21 +31,25 @@ second : (a b : Bool) → T (a && b) → T b
 second true b h = h
 second false b h = absurd h
 
-above_first : (last : Option Place) (place : Place) (slot : Option State) (es : List (Place × Option State)) → HasBelow last ((place, slot) ∷ es) → is_above last place ≡ true
+above_first : (last : Option Place) (place : Place) (slot : Option State) (es : List (Place × Option State)) → HasBelow last ((place, slot) ∷ es)
+    → is_above last place ≡ true
 above_first None place slot es h = refl
 above_first (Some last) place slot es h = is_true (is_lt (place_cmp last place)) (first (is_lt (place_cmp last place)) (below_all place_cmp last es) h)
 
-below_rest : (last : Option Place) (place : Place) (slot : Option State) (es : List (Place × Option State)) → HasBelow last ((place, slot) ∷ es) → HasBelow last es
+below_rest : (last : Option Place) (place : Place) (slot : Option State) (es : List (Place × Option State)) → HasBelow last ((place, slot) ∷ es)
+    → HasBelow last es
 below_rest None place slot es h = tt
 below_rest (Some last) place slot es h = second (is_lt (place_cmp last place)) (below_all place_cmp last es) h
 
-ascends_from : (last : Option Place) (es : List (Place × Option State)) → HasBelow last es → T (is_sorted place_cmp es) → Ascends last (filter_map with_place es)
+ascends_from : (last : Option Place) (es : List (Place × Option State)) → HasBelow last es → T (is_sorted place_cmp es)
+    → Ascends last (filter_map with_place es)
 ascends_from last [] below sorted = tt
 ascends_from last ((place, None) ∷ es) below sorted =
     ascends_from last es (below_rest last place None es below) (second (below_all place_cmp place es) (is_sorted place_cmp es) sorted)
 ascends_from last ((place, Some state) ∷ es) below sorted = (
   above_first last place (Some state) es below,
-  ascends_from (Some place) es (first (below_all place_cmp place es) (is_sorted place_cmp es) sorted) (second (below_all place_cmp place es) (is_sorted place_cmp es) sorted),
+  ascends_from (Some place) es (first (below_all place_cmp place es) (is_sorted place_cmp es) sorted)
+      (second (below_all place_cmp place es) (is_sorted place_cmp es) sorted),
 )
 
 pub states_ascend : (store : Slots) → Ascends None (states store)

@@ -100,7 +100,8 @@ lines_far : {X : Type 0} (tail : ℕ → List (List ℕ) → Result X ℕ) → I
     → (n : ℕ) (last : Option Place) (ls : List (List ℕ)) (k : ℕ) → behind tail (rows_front n last ls) ≡ Err k → n ≤ k
 lines_far tail is n last [] k h = is.far n [] k h
 lines_far tail is n last (l ∷ ls) k h =
-    far_line tail is n k last (l ∷ ls) (row_words_of (words_of l)) (λ place. rows_front (n + 1) (Some place) ls) (λ p j e. lines_far tail is (n + 1) (Some p) ls j e) h
+    far_line tail is n k last (l ∷ ls) (row_words_of (words_of l)) (λ place. rows_front (n + 1) (Some place) ls)
+    (λ p j e. lines_far tail is (n + 1) (Some p) ls j e) h
 
 alike_if : {X : Type 0} (tail : ℕ → List (List ℕ) → Result X ℕ) (n k : ℕ) (test : Bool) (row : Place × State) (here there : Place → Result Front ℕ)
     → ((p : Place) → behind tail (here p) ≡ Err k → behind tail (there p) ≡ Err k)
@@ -109,13 +110,15 @@ alike_if tail n k true row here there alike h =
     behind_put tail row (there row.0) ∙ alike row.0 (sym (behind_put tail row (here row.0)) ∙ h)
 alike_if tail n k false row here there alike h = h
 
-alike_row : {X : Type 0} (tail : ℕ → List (List ℕ) → Result X ℕ) (n k : ℕ) (last : Option Place) (read : Option (Place × State)) (here there : Place → Result Front ℕ)
+alike_row : {X : Type 0} (tail : ℕ → List (List ℕ) → Result X ℕ) (n k : ℕ) (last : Option Place) (read : Option (Place × State))
+    (here there : Place → Result Front ℕ)
     → ((p : Place) → behind tail (here p) ≡ Err k → behind tail (there p) ≡ Err k)
     → behind tail (after_row here (row_above n last read)) ≡ Err k → behind tail (after_row there (row_above n last read)) ≡ Err k
 alike_row tail n k last None here there alike h = h
 alike_row tail n k last (Some row) here there alike h = alike_if tail n k (is_above last row.0) row here there alike h
 
-alike_line : {X : Type 0} (tail : ℕ → List (List ℕ) → Result X ℕ) (n k : ℕ) (last : Option Place) (ls ms : List (List ℕ)) (o : Option (List (List ℕ))) (here there : Place → Result Front ℕ)
+alike_line : {X : Type 0} (tail : ℕ → List (List ℕ) → Result X ℕ) (n k : ℕ) (last : Option Place) (ls ms : List (List ℕ)) (o : Option (List (List ℕ)))
+    (here there : Place → Result Front ℕ)
     → (tail n ls ≡ Err k → tail n ms ≡ Err k)
     → ((p : Place) → behind tail (here p) ≡ Err k → behind tail (there p) ≡ Err k)
     → behind tail (at_line n last ls here o) ≡ Err k → behind tail (at_line n last ms there o) ≡ Err k
@@ -133,7 +136,8 @@ lines_alike tail is n zero last (l ∷ ls) (m ∷ ms) h same =
     let first : l ≡ m = cc in
     let again : take 1 (l ∷ ls) ≡ take 1 (l ∷ ms) = refl in
     subst (λ (x : List ℕ). behind tail (rows_front n last (x ∷ ms)) ≡ Err (n + 0)) first
-    (alike_line tail n (n + 0) last (l ∷ ls) (l ∷ ms) (row_words_of (words_of l)) (λ place. rows_front (n + 1) (Some place) ls) (λ place. rows_front (n + 1) (Some place) ms)
+    (alike_line tail n (n + 0) last (l ∷ ls) (l ∷ ms) (row_words_of (words_of l)) (λ place. rows_front (n + 1) (Some place) ls)
+    (λ place. rows_front (n + 1) (Some place) ms)
     (λ e. is.alike n 0 (l ∷ ls) (l ∷ ms) e again)
     (λ p e. let far = lines_far tail is (n + 1) (Some p) ls (n + 0) e in absurd (omega (arith, far))) h)
 lines_alike tail is n (suc j) last (l ∷ ls) (m ∷ ms) h same =
@@ -141,7 +145,8 @@ lines_alike tail is n (suc j) last (l ∷ ls) (m ∷ ms) h same =
     let rest : take (suc j) ls ≡ take (suc j) ms = cc in
     let moved : n + suc j ≡ n + 1 + j = omega arith in
     subst (λ (x : List ℕ). behind tail (rows_front n last (x ∷ ms)) ≡ Err (n + suc j)) first
-    (alike_line tail n (n + suc j) last (l ∷ ls) (l ∷ ms) (row_words_of (words_of l)) (λ place. rows_front (n + 1) (Some place) ls) (λ place. rows_front (n + 1) (Some place) ms)
+    (alike_line tail n (n + suc j) last (l ∷ ls) (l ∷ ms) (row_words_of (words_of l)) (λ place. rows_front (n + 1) (Some place) ls)
+    (λ place. rows_front (n + 1) (Some place) ms)
     (λ e. is.alike n (suc j) (l ∷ ls) (l ∷ ms) e (ap (λ xs. l ∷ xs) rest))
     (λ p e. lines_alike tail is (n + 1) j (Some p) ls ms (e ∙ ap Err moved) rest ∙ ap Err (sym moved)) h)
 
@@ -240,7 +245,9 @@ first_bad_row k ls store bad is same =
     let refused = store_behind (rows_front 1 None ls) k bad in
     let far : 1 ≤ k = lines_far no_line no_line_tail 1 None ls k refused in
     let counted : k ≡ suc (k - 1) = omega (arith, far) in
-    let again = lines_alike_at no_line no_line_tail 1 k ls (map spelled (store_lines store)) refused (subst (λ n. take n ls ≡ take n (map spelled (store_lines store))) counted same) in
+    let again =
+    lines_alike_at no_line no_line_tail 1 k ls (map spelled (store_lines store)) refused
+    (subst (λ n. take n ls ≡ take n (map spelled (store_lines store))) counted same) in
     let read = store_lines_back store is in
     let wrong = store_front (rows_front 1 None (map spelled (store_lines store))) k again in
     cc

@@ -111,7 +111,8 @@ spelled_last_row (x ∷ rows) r more = ap (λ ls. spelled (row_tokens x) ∷ ls)
 -- what the next line gives, where it is a row's
 row_line : (first : ℕ) (text : List ℕ) (store : Slots) (last : Option Place) (line : ℕ) (rest l after : List ℕ) (ws : List (List ℕ))
     → RowsRead first text store last line rest → lines_of rest ≡ l ∷ lines_of after → row_words_of (words_of l) ≡ Some ws
-    → rows_front first None (lines_of text) ≡ behind_rows (states store) (after_row (λ place. rows_front (line + 1) (Some place) (lines_of after)) (row_above line last (row_behind ws)))
+    → rows_front first None (lines_of text) ≡ behind_rows (states store)
+    (after_row (λ place. rows_front (line + 1) (Some place) (lines_of after)) (row_above line last (row_behind ws)))
 row_line first text store last line rest l after ws so_far cut is =
     sym so_far.read ∙ ap (λ ls. behind_rows (states store) (rows_front line last ls)) cut
     ∙ ap (λ o. behind_rows (states store) (at_line line last (l ∷ lines_of after) (λ place. rows_front (line + 1) (Some place) (lines_of after)) o)) is
@@ -127,7 +128,8 @@ above_from line last None row h = cc
 above_from line last (Some r) row h = above_by line (is_above last r.0) r row last refl h
 
 -- one more row was read and stored
-pub rows_step : (first : ℕ) (text : List ℕ) (store : Slots) (last : Option Place) (line : ℕ) (rest l after : List ℕ) (ws : List (List ℕ)) (place : Place) (state : State)
+pub rows_step : (first : ℕ) (text : List ℕ) (store : Slots) (last : Option Place) (line : ℕ) (rest l after : List ℕ) (ws : List (List ℕ)) (place : Place)
+    (state : State)
     → RowsRead first text store last line rest → lines_of rest ≡ l ∷ lines_of after → length after < length rest
     → row_words_of (words_of l) ≡ Some ws → row_above line last (row_behind ws) ≡ Ok (place, state) → l ≡ spelled (row_tokens (place, state))
     → RowsRead first text (with_state (with_room store place.0 place.1) place.0 place.1 state) (Some place) (line + 1) after

@@ -53,14 +53,24 @@ pub rows_back : (k : ℕ) (last : Option Place) (rows : List (Place × State)) (
     → rows_front k last (map spelled (map row_tokens rows ++ map entry_tokens es)) ≡ Ok (rows, k + length rows, map spelled (map entry_tokens es))
 rows_back k last [] es fits rise h = rw (no_rows k last es h) (ap (λ n. Ok ([], n, map spelled (map entry_tokens es))) (omega arith))
 rows_back k last ((place, state) ∷ rows) es fits rise h =
-    rw (row_words place state fits.0, row_starts (texts (path place.0 ∷ identity place.1 ∷ state_tokens state)), row_back place state fits.0, rise.0, rows_back (k + 1) (Some place) rows es fits.1 rise.1 h)
+    rw (
+      row_words place state fits.0,
+      row_starts (texts (path place.0 ∷ identity place.1 ∷ state_tokens state)),
+      row_back place state fits.0,
+      rise.0,
+      rows_back
+          (k + 1) (Some place) rows es fits.1 rise.1 h,
+    )
     (ap (λ n. Ok ((place, state) ∷ rows, n, map spelled (map entry_tokens es))) (omega arith))
 
 head_back : (run : ℕ) → AllFit (head_tokens run) → head_of (words_of (spelled (head_tokens run))) ≡ Ok run
 unfolding mark_word
-head_back run h = ap head_of (words_spelled (keyword (mark_word mark.Journal)) (keyword (mark_word mark.One) ∷ keyword (mark_word mark.Run) ∷ number (2 ^ 32) run ∷ []) h) ∙ ap numbered (number_back (2 ^ 32) run h.1.1.1.0.0 (omega arith))
+head_back run h =
+    ap head_of (words_spelled (keyword (mark_word mark.Journal)) (keyword (mark_word mark.One) ∷ keyword (mark_word mark.Run) ∷ number (2 ^ 32) run ∷ []) h)
+    ∙ ap numbered (number_back (2 ^ 32) run h.1.1.1.0.0 (omega arith))
 
-rows_fit : (rows : List (Place × State)) (es : List Entry) → AllByRecursion IsRow rows → AllByRecursion IsWritten es → AllLinesFit (map row_tokens rows ++ map entry_tokens es)
+rows_fit : (rows : List (Place × State)) (es : List Entry) → AllByRecursion IsRow rows → AllByRecursion IsWritten es
+    → AllLinesFit (map row_tokens rows ++ map entry_tokens es)
 rows_fit [] [] fits h = tt
 rows_fit [] (e ∷ es) fits h = (h.0.fits, rows_fit [] es tt h.1)
 rows_fit (r ∷ rows) es fits h = (fits.0, rows_fit rows es fits.1 h)
@@ -68,7 +78,12 @@ rows_fit (r ∷ rows) es fits h = (fits.0, rows_fit rows es fits.1 h)
 -- what a journal's lines read as
 pub journal_lines_back : (journal : Journal) → IsJournal journal → contents_of_lines (map spelled (journal_lines journal)) ≡ Ok (contents journal)
 journal_lines_back journal h =
-    rw (head_back journal.run h.run, rows_back 2 None (states journal.opening) journal.entries h.rows (states_ascend journal.opening) h.entries, entries_back (2 + length (states journal.opening)) journal.entries h.entries) refl
+    rw (
+      head_back journal.run h.run,
+      rows_back 2 None (states journal.opening) journal.entries h.rows (states_ascend journal.opening) h.entries,
+      entries_back
+          (2 + length (states journal.opening)) journal.entries h.entries,
+    ) refl
 
 -- what a journal's text reads as
 pub journal_back : (journal : Journal) → IsJournal journal → contents_of (journal_text journal) ≡ Ok (contents journal)

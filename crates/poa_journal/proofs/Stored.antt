@@ -39,7 +39,8 @@ put_again : (place : Place) (room slot : Option State) (es : List (Place × Opti
 put_again place room slot [] below =
     ap (λ r. by_order r ((place, slot) ∷ (place, room) ∷ []) ((place, slot) ∷ []) ((place, room) ∷ (place, slot) ∷ [])) (tied_itself place_total place)
 put_again place room slot (e ∷ es) below =
-    ap (λ r. by_order r ((place, slot) ∷ e ∷ (es ++ (place, room) ∷ [])) ((e.0, slot) ∷ (es ++ (place, room) ∷ [])) (e ∷ put place_cmp place slot (es ++ (place, room) ∷ []))) (greater_from_less e.0 place below.0)
+    ap (λ r. by_order r ((place, slot) ∷ e ∷ (es ++ (place, room) ∷ [])) ((e.0, slot) ∷ (es ++ (place, room) ∷ []))
+    (e ∷ put place_cmp place slot (es ++ (place, room) ∷ []))) (greater_from_less e.0 place below.0)
     ∙ ap (λ more. e ∷ more) (put_again place room slot es below.1)
 
 with_place_last : (place : Place) (state : State) (es : List (Place × Option State))
@@ -52,7 +53,9 @@ entries_stored : (store : Slots) (place : Place) (state : State) → AllBelow pl
     → finite.entries (with_state (with_room store place.0 place.1) place.0 place.1 state) ≡ finite.entries store ++ (place, Some state) ∷ []
 entries_stored store place state below =
     finite.entries-insert place_total (with_room store place.0 place.1) (place.0, place.1) (Some state)
-    ∙ ap (put place_cmp place (Some state)) (finite.entries-insert place_total store (place.0, place.1) (stored store place.0 place.1) ∙ put_last place (stored store place.0 place.1) (finite.entries store) below)
+    ∙ ap (put place_cmp place (Some state))
+    (finite.entries-insert place_total store (place.0, place.1) (stored store place.0 place.1)
+    ∙ put_last place (stored store place.0 place.1) (finite.entries store) below)
     ∙ put_again place (stored store place.0 place.1) (Some state) (finite.entries store) below
 
 -- a row above the last is the last of the states
@@ -85,11 +88,16 @@ no_slots (e ∷ es) none place = absurd (omega arith)
 
 -- nothing stands in an empty store
 pub end_empty : IsEnd None finite.empty
-end_empty = record { above = λ place above. no_slots (finite.entries finite.empty) (sym (finite.len-entries finite.empty) ∙ finite.len-empty place_cmp (Option State)) place }
+end_empty =
+    record {
+      above =
+          λ place above. no_slots (finite.entries finite.empty) (sym (finite.len-entries finite.empty) ∙ finite.len-empty place_cmp (Option State)) place;
+    }
 
 no_items : {X : Type 0} (xs : List X) → length xs ≡ 0 → xs ≡ []
 no_items [] none = refl
 no_items (x ∷ xs) none = absurd (omega arith)
 
 pub states_empty : states finite.empty ≡ []
-states_empty = ap (filter_map with_place) (no_items (finite.entries finite.empty) (sym (finite.len-entries finite.empty) ∙ finite.len-empty place_cmp (Option State)))
+states_empty =
+    ap (filter_map with_place) (no_items (finite.entries finite.empty) (sym (finite.len-entries finite.empty) ∙ finite.len-empty place_cmp (Option State)))

@@ -22,7 +22,8 @@ pub fn read(alloc: Global, bytes: &[u8]) -> Result<Journal, JournalFault>
     ensures text { IfOk result (λ journal. lines_of bytes.now ≡ map spelled (journal_lines journal)) }
     ensures bad { (line : ℕ) → result ≡ Err (JournalFault.BadLine line) → (journal : Journal) → IsJournal journal
         → take line (lines_of bytes.now) ≡ take line (map spelled (journal_lines journal)) → ⊥ }
-    ensures back { (journal : Journal) → IsJournal journal → bytes.now ≡ journal_text journal → JournalReads contents result (Ok (contents journal)) }
+    ensures back { (journal : Journal) → IsJournal journal → bytes.now ≡ journal_text journal
+        → JournalReads contents result (Ok (contents journal)) }
 {
     read_lines(alloc, bytes)
 }

@@ -107,7 +107,8 @@ fn settles_by(
     arrival: u64,
     command: Option<&Command>,
 ) -> Result<bool, WantMemory>
-    ensures { IfOk result (λ holds. holds ≡ settling.settles_by config.now run (reverse history.now) arrival (option_copied command.entry)) }
+    ensures { IfOk result
+        (λ holds. holds ≡ settling.settles_by config.now run (reverse history.now) arrival (option_copied command.entry)) }
 {
     match command {
         Some(Command::Manager { manager, order }) => match manager_number(config, manager) {

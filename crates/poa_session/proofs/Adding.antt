@@ -91,7 +91,8 @@ adds_same g c v = record {
 }
 
 -- one after the other
-pub adds_both : (g : Givens) (c : ℕ) (v w u : View Givens Entry) (calls later : List Heard) (replies after : List ℕ) → Adds g c v w calls replies → Adds g c w u later after
+pub adds_both : (g : Givens) (c : ℕ) (v w u : View Givens Entry) (calls later : List Heard) (replies after : List ℕ) → Adds g c v w calls replies
+    → Adds g c w u later after
     → Adds g c v u (calls ++ later) (replies ++ after)
 adds_both g c v w u calls later replies after x y = record {
   more = y.more ++ x.more;

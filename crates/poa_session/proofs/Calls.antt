@@ -27,12 +27,17 @@ use Rattle.poa_session.proofs.Adding.{adds_none, adds_one, found_filling}
 pub next_begins : (peer : Peer) (text : List ℕ) (calls : List Heard) (size : ℕ) → IsNext peer text calls size → Begins peer text calls
 next_begins peer text calls size n =
     let heard : Heard = record { call = n.call; size = size } in
-    record { more = heard ∷ n.begins.more; stop = n.begins.stop; hears = subst (λ cs. Hears peer text cs n.begins.stop) (append_assoc calls (heard ∷ []) n.begins.more) n.begins.hears }
+    record {
+      more = heard ∷ n.begins.more;
+      stop = n.begins.stop;
+      hears = subst (λ cs. Hears peer text cs n.begins.stop) (append_assoc calls (heard ∷ []) n.begins.more) n.begins.hears;
+    }
 
 histories : (x : Life) (y : Life) → y ≡ x → y.history ≡ x.history
 histories x y same = ap (λ (l : Life). l.history) same
 
-module _ (g : Givens) (c : ℕ) (v : View Givens Entry) (h : List Entry) (w : View Givens Entry) (turns : Turns g v h w) (owns : Owns v c) (call : Call) (size : ℕ) where
+module _ (g : Givens) (c : ℕ) (v : View Givens Entry) (h : List Entry) (w : View Givens Entry) (turns : Turns g v h w) (owns : Owns v c) (call : Call)
+    (size : ℕ) where
   abbrev heard : Heard
   heard = record { call = call; size = size }
 
@@ -47,7 +52,8 @@ module _ (g : Givens) (c : ℕ) (v : View Givens Entry) (h : List Entry) (w : Vi
   ends_so : Adds g c v w [] [] → (peer : Peer) (text : List ℕ) → IsNext peer text (arrived_by (past v) c) size → IsNext peer text (arrived_by (past w) c) size
   ends_so adds peer text next = subst (λ cs. IsNext peer text cs size) (sym (adds.arrived_is ∙ append-nil (arrived_by (past v) c))) next
 
-  pub arrives_without : answers.Arrives c call size (life_at g h) (Err fault.WantMemory) (life_at g (past w)) → AsArrived g c call size v w (progress.Ends WantMemory)
+  pub arrives_without : answers.Arrives c call size (life_at g h) (Err fault.WantMemory) (life_at g (past w))
+      → AsArrived g c call size v w (progress.Ends WantMemory)
   arrives_without answer =
       let same : past w ≡ h = histories (life_at g h) (life_at g (past w)) answer.1 in
       let adds = adds_none g c v h w turns owns same in (
@@ -55,13 +61,16 @@ module _ (g : Givens) (c : ℕ) (v : View Givens Entry) (h : List Entry) (w : Vi
         (λ peer text unfilled next. (let still = ends_so adds peer text next in record {
           input = next_begins peer text (arrived_by (past w) c) size still;
           cause = tt;
-          filled = subst (λ (o : Option ℕ). IfSome o (IsNext peer text (arrived_by (past w) c))) (sym (ap (λ k. filling_by k c) same ∙ (found_filling g c v h w turns owns ∙ unfilled))) tt;
+          filled =
+              subst (λ (o : Option ℕ). IfSome o (IsNext peer text (arrived_by (past w) c)))
+              (sym (ap (λ k. filling_by k c) same ∙ (found_filling g c v h w turns owns ∙ unfilled))) tt;
         })),
         λ peer text shown. tt,
       )
 
   -- the run was full, or the call fills it
-  full_as : (calls bytes : ℕ) (b : Bool) → is_filled h ≡ b → life_at g (past w) ≡ (if b then life_at g h else with_entry (Filled c size) (life_at g h)) → filled_at (past w) ≡ Some (calls, bytes)
+  full_as : (calls bytes : ℕ) (b : Bool) → is_filled h ≡ b → life_at g (past w) ≡ (if b then life_at g h else with_entry (Filled c size) (life_at g h))
+      → filled_at (past w) ≡ Some (calls, bytes)
       → AsArrived g c call size v w (progress.Ends (Limit calls bytes))
   full_as calls bytes true was is full =
       let same : past w ≡ h = histories (life_at g h) (life_at g (past w)) is in
@@ -70,21 +79,26 @@ module _ (g : Givens) (c : ℕ) (v : View Givens Entry) (h : List Entry) (w : Vi
         (λ peer text unfilled next. (let still = ends_so adds peer text next in record {
           input = next_begins peer text (arrived_by (past w) c) size still;
           cause = (full, size, still);
-          filled = subst (λ (o : Option ℕ). IfSome o (IsNext peer text (arrived_by (past w) c))) (sym (ap (λ k. filling_by k c) same ∙ (found_filling g c v h w turns owns ∙ unfilled))) tt;
+          filled =
+              subst (λ (o : Option ℕ). IfSome o (IsNext peer text (arrived_by (past w) c)))
+              (sym (ap (λ k. filling_by k c) same ∙ (found_filling g c v h w turns owns ∙ unfilled))) tt;
         })),
         λ peer text shown. tt,
       )
   full_as calls bytes false wasn't is full =
       let more : past w ≡ Filled c size ∷ h = histories (with_entry (Filled c size) (life_at g h)) (life_at g (past w)) is in
-      let adds = adds_one g c v h w turns owns (Filled c size) more refl [] [] (sym (append-nil (arrived_by h c))) (sym (append-nil (joined_by g h c))) refl in (
+      let adds =
+      adds_one g c v h w turns owns (Filled c size) more refl [] [] (sym (append-nil (arrived_by h c))) (sym (append-nil (joined_by g h c))) refl in (
         adds,
         (λ peer text unfilled next. (let still = ends_so adds peer text next in record {
           input = next_begins peer text (arrived_by (past w) c) size still;
           cause = (full, size, still);
-          filled = subst (λ (o : Option ℕ). IfSome o (IsNext peer text (arrived_by (past w) c))) (sym (ap (λ k. filling_by k c) more ∙ filling_own c h size)) still;
+          filled =
+              subst (λ (o : Option ℕ). IfSome o (IsNext peer text (arrived_by (past w) c))) (sym (ap (λ k. filling_by k c) more ∙ filling_own c h size)) still;
         })),
         λ peer text shown. tt,
       )
 
-  pub arrives_full : (calls bytes : ℕ) → answers.Arrives c call size (life_at g h) (Err (fault.Limit calls bytes)) (life_at g (past w)) → AsArrived g c call size v w (progress.Ends (Limit calls bytes))
+  pub arrives_full : (calls bytes : ℕ) → answers.Arrives c call size (life_at g h) (Err (fault.Limit calls bytes)) (life_at g (past w))
+      → AsArrived g c call size v w (progress.Ends (Limit calls bytes))
   arrives_full calls bytes answer = full_as calls bytes (is_filled h) refl answer.1 answer.2

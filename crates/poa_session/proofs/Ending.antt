@@ -68,8 +68,10 @@ module _ (peer : Peer) (text : List ℕ) (calls : List Heard) (begins : Begins p
 
   break_output : (h : List Entry) (before due done joined : List ℕ) (Paid : Type 0) (end : SessionEnd) → BreaksOff h end due done → joined ≡ before ++ due
       → Output peer h text calls joined Paid (before ++ done) end
-  break_output h before due done joined Paid WriteFault breaks all = short_of_replies peer h text calls joined Paid (before ++ done) begins breaks.0 (fronted before due done breaks.0 joined all breaks.1)
-  break_output h before due done joined Paid WantMemory breaks all = short_of_replies peer h text calls joined Paid (before ++ done) begins breaks.0 (fronted before due done breaks.0 joined all breaks.1)
+  break_output h before due done joined Paid WriteFault breaks all =
+      short_of_replies peer h text calls joined Paid (before ++ done) begins breaks.0 (fronted before due done breaks.0 joined all breaks.1)
+  break_output h before due done joined Paid WantMemory breaks all =
+      short_of_replies peer h text calls joined Paid (before ++ done) begins breaks.0 (fronted before due done breaks.0 joined all breaks.1)
   break_output h before due done joined Paid (Abandoned worker) breaks all = ap (λ ds. before ++ ds) breaks.0 ∙ sym all
   break_output h before due done joined Paid Ended breaks all = absurd breaks
   break_output h before due done joined Paid Shut breaks all = absurd breaks
@@ -79,7 +81,8 @@ module _ (peer : Peer) (text : List ℕ) (calls : List Heard) (begins : Begins p
   break_output h before due done joined Paid (InputLimit taken) breaks all = absurd breaks
   break_output h before due done joined Paid (Limit many bytes) breaks all = absurd breaks
 
-pub settled_broken : (g : Givens) (peer : Peer) (c : ℕ) (w : View Givens Entry) (text before due done : List ℕ) (end : SessionEnd) (shown : Shown) → joined_by g (past w) c ≡ before ++ due
+pub settled_broken : (g : Givens) (peer : Peer) (c : ℕ) (w : View Givens Entry) (text before due done : List ℕ) (end : SessionEnd) (shown : Shown)
+    → joined_by g (past w) c ≡ before ++ due
     → BreaksOff (past w) end due done → Begins peer text (arrived_by (past w) c) → IfSome (filling_by (past w) c) (IsNext peer text (arrived_by (past w) c))
     → Settled g peer c w text (before ++ done) end shown
 settled_broken g peer c w text before due done end shown joined breaks begins filled = record {
@@ -99,7 +102,8 @@ dry_told (Some old) (Some new) told dry = sym told ∙ dry
 dry_told None (Some new) told dry = absurd told
 dry_told (Some old) None told dry = absurd told
 
-pub dry_later : (peer : Peer) (text : List ℕ) (end : SessionEnd) (a b : Shown) (out : List ℕ) → Moves a b [] out → DriesUp peer text end a → DriesUp peer text end b
+pub dry_later : (peer : Peer) (text : List ℕ) (end : SessionEnd) (a b : Shown) (out : List ℕ) → Moves a b [] out → DriesUp peer text end a
+    → DriesUp peer text end b
 dry_later peer text (Truncated have) a b out moved dry = dry_told a.left b.left moved.read dry
 dry_later peer text Ended a b out moved (inl closed) = inl closed
 dry_later peer text Ended a b out moved (inr dry) = inr (dry_told a.left b.left moved.read dry)
@@ -139,7 +143,8 @@ module _ (g : Givens) (peer : Peer) (c : ℕ) (v : View Givens Entry) (a : Shown
     input_later : (text : List ℕ) (e : SessionEnd) → Input peer text (arrived_by (past v) c) e → Input peer text (arrived_by (past w) c) e
     input_later text e input = subst (λ calls. Input peer text calls e) (sym arrived_same) input
 
-    filled_later : (text : List ℕ) → IfSome (filling_by (past v) c) (IsNext peer text (arrived_by (past v) c)) → IfSome (filling_by (past w) c) (IsNext peer text (arrived_by (past w) c))
+    filled_later : (text : List ℕ) → IfSome (filling_by (past v) c) (IsNext peer text (arrived_by (past v) c))
+        → IfSome (filling_by (past w) c) (IsNext peer text (arrived_by (past w) c))
     filled_later text filled =
         subst (λ (o : Option ℕ). IfSome o (IsNext peer text (arrived_by (past w) c))) (sym same)
         (subst (λ (calls : List Heard). IfSome (filling_by (past v) c) (IsNext peer text calls)) (sym arrived_same) filled)
@@ -148,21 +153,26 @@ module _ (g : Givens) (peer : Peer) (c : ℕ) (v : View Givens Entry) (a : Shown
     begins_later text input = input_begins peer text (arrived_by (past w) c) end (input_later text end input)
 
     -- paying breaks off
-    pub settles_broken : (b : Shown) (done : List ℕ) (broken : SessionEnd) → Moves a b [] done → BreaksOff (past w) broken due done → Settles g peer c v a w b end broken
+    pub settles_broken : (b : Shown) (done : List ℕ) (broken : SessionEnd) → Moves a b [] done → BreaksOff (past w) broken due done
+        → Settles g peer c v a w b end broken
     settles_broken b done broken moved breaks = record {
       due = due;
       done = done;
       adds = adds;
       moved = moved;
-      settled = λ text ran may dry. settled_broken g peer c w text (joined_by g (past v) c) due done broken b adds.joined_is breaks (begins_later text may.input) (filled_later text may.filled);
+      settled =
+          λ text ran may dry. settled_broken g peer c w text (joined_by g (past v) c) due done broken b adds.joined_is breaks (begins_later text may.input)
+          (filled_later text may.filled);
     }
 
     module _ (settling : is_settling end ≡ true) (paid : IsPaidBy (past w) c) where
-      cause_now : (text : List ℕ) → IsHistory g (past v) → CauseBy peer (past v) (arrived_by (past v) c) text end → CauseBy peer (past w) (arrived_by (past w) c) text end
+      cause_now : (text : List ℕ) → IsHistory g (past v) → CauseBy peer (past v) (arrived_by (past v) c) text end
+          → CauseBy peer (past w) (arrived_by (past w) c) text end
       cause_now text ran cause =
           subst (λ calls. CauseBy peer (past w) calls text end) (sym arrived_same)
           (subst (λ h. CauseBy peer h (arrived_by (past v) c) text end) (sym adds.since)
-          (cause_since g.config g.run g.limit adds.more (past v) (subst (λ h. IsLegal g.config g.run g.limit h) adds.since (adds.runs ran).legal) peer (arrived_by (past v) c) text end cause))
+          (cause_since g.config g.run g.limit adds.more (past v) (subst (λ h. IsLegal g.config g.run g.limit h) adds.since (adds.runs ran).legal) peer
+          (arrived_by (past v) c) text end cause))
 
       -- all is paid, and the connection closed
       pub settles_closed : (b z : Shown) → Moves a b [] due → Moves b z [] (closing peer end) → Settles g peer c v a w z end end
@@ -174,7 +184,9 @@ module _ (g : Givens) (peer : Peer) (c : ℕ) (v : View Givens Entry) (a : Shown
         settled = λ text ran may dry. record {
           session = record {
             input = input_later text end may.input;
-            output = output_settled peer (past w) text (arrived_by (past w) c) (joined_by g (past w) c) (IsPaidBy (past w) c) (joined_by g (past v) c ++ (due ++ closing peer end)) end settling paid
+            output =
+                output_settled peer (past w) text (arrived_by (past w) c) (joined_by g (past w) c) (IsPaidBy (past w) c)
+                (joined_by g (past v) c ++ (due ++ closing peer end)) end settling paid
                 (sym (append_assoc (joined_by g (past v) c) due (closing peer end)) ∙ ap (λ rs. rs ++ closing peer end) (sym adds.joined_is));
             filled = filled_later text may.filled;
           };
@@ -184,7 +196,8 @@ module _ (g : Givens) (peer : Peer) (c : ℕ) (v : View Givens Entry) (a : Shown
       }
 
       -- all is paid, and the connection couldn't be closed
-      pub settles_short : (b z : Shown) (done rest : List ℕ) → Moves a b [] due → Moves b z [] done → closing peer end ≡ done ++ rest → Settles g peer c v a w z end WriteFault
+      pub settles_short : (b z : Shown) (done rest : List ℕ) → Moves a b [] due → Moves b z [] done → closing peer end ≡ done ++ rest
+          → Settles g peer c v a w z end WriteFault
       settles_short b z done rest moved part front = record {
         due = due;
         done = due ++ done;
@@ -193,7 +206,9 @@ module _ (g : Givens) (peer : Peer) (c : ℕ) (v : View Givens Entry) (a : Shown
         settled = λ text ran may dry. record {
           session = record {
             input = begins_later text may.input;
-            output = short_of_closing peer (past w) text (arrived_by (past w) c) (joined_by g (past w) c) (IsPaidBy (past w) c) (joined_by g (past v) c ++ (due ++ done)) end (input_later text end may.input) (cause_now text ran may.cause) paid rest
+            output =
+                short_of_closing peer (past w) text (arrived_by (past w) c) (joined_by g (past w) c) (IsPaidBy (past w) c)
+                (joined_by g (past v) c ++ (due ++ done)) end (input_later text end may.input) (cause_now text ran may.cause) paid rest
                 (ap (λ cs. joined_by g (past w) c ++ cs) front
                 ∙ (ap (λ rs. rs ++ (done ++ rest)) adds.joined_is
                 ∙ (sym (append_assoc (joined_by g (past v) c ++ due) done rest) ∙ ap (λ rs. rs ++ rest) (append_assoc (joined_by g (past v) c) due done))));

@@ -56,7 +56,8 @@ pub record Begun (g : Givens) (c : ℕ) (v w : View Givens Entry) : Type 0 where
   pub places_are : places_by (past w) c ≡ place ∷ []
   pub mine_is : w.mine ≡ v.mine ++ place ∷ []
 
-pub begun : (g : Givens) (v : View Givens Entry) (h : List Entry) (w : View Givens Entry) (c : ℕ) → Turns g v h w → answers.Enters (life_at g h) (Ok c) (life_at g (past w)) → Begun g c v w
+pub begun : (g : Givens) (v : View Givens Entry) (h : List Entry) (w : View Givens Entry) (c : ℕ) → Turns g v h w
+    → answers.Enters (life_at g h) (Ok c) (life_at g (past w)) → Begun g c v w
 begun g v h w c turns answer = record {
   more = Entered c ∷ turns.goes_on.more;
   since = is ∙ ap (λ k. Entered c ∷ k) turns.goes_on.is;
@@ -64,7 +65,8 @@ begun g v h w c turns answer = record {
   replies = ap (λ k. joined_by g k c) is ∙ no_replies c h none g;
   filling = ap (λ k. filling_by k c) is ∙ no_filling c h none;
   place = length h;
-  later = (let long : length h ≡ length turns.goes_on.more + length (past v) = ap length turns.goes_on.is ∙ length-append turns.goes_on.more (past v) in let same = length-reverse v.seen in omega (arith, long, same));
+  later = (let long : length h ≡ length turns.goes_on.more + length (past v) = ap length turns.goes_on.is ∙ length-append turns.goes_on.more (past v) in
+      let same = length-reverse v.seen in omega (arith, long, same));
   entered = subst (λ l. get_elem? l (length h) ≡ some (Entered c)) (sym seen) (at_last (reverse h) (Entered c) (length h) (length-reverse h));
   places_are = ap (λ k. places_by k c) is ∙ (places_own c h (Entered c) refl ∙ ap (λ ps. ps ++ length h ∷ []) (no_places c h none));
   mine_is = turns.one_made (Entered c) is;

@@ -23,13 +23,18 @@ use Rattle.poa_session.proofs.Adding.{adds_same}
 
 module _ (g : Givens) (peer : Peer) (c : ℕ) (v : View Givens Entry) (i j : Intake) (taken : j.taken ≡ i.taken) where
   -- a call
-  pub hears_call : (w : View Givens Entry) (call : Call) (size : ℕ) (r : Progress) → AsTold (told.Call call size) (OfIntake i) (OfIntake j) → AsArrived g c call size v w r → Hears g peer c v i w j r
+  pub hears_call : (w : View Givens Entry) (call : Call) (size : ℕ) (r : Progress) → AsTold (told.Call call size) (OfIntake i) (OfIntake j)
+      → AsArrived g c call size v w r → Hears g peer c v i w j r
   hears_call w call size progress.On tells arrived =
       let heard : Heard = record { call = call; size = size } in
       record {
         calls = heard ∷ [];
         adds = arrived.0;
-        heard = (arrived.1, λ text expected. subst (Expects peer (OfIntake j) text) (sym arrived.0.arrived_is) (expects_call peer (OfIntake i) (OfIntake j) text (arrived_by (past v) c) expected heard tells.0));
+        heard = (
+          arrived.1,
+          λ text expected. subst (Expects peer (OfIntake j) text) (sym arrived.0.arrived_is)
+              (expects_call peer (OfIntake i) (OfIntake j) text (arrived_by (past v) c) expected heard tells.0),
+        );
         taken = taken;
       }
   hears_call w call size (progress.Waits have) tells arrived = absurd arrived

@@ -62,7 +62,8 @@ broken_behind h (Truncated have) front due done breaks = absurd breaks
 broken_behind h (InputLimit taken) front due done breaks = absurd breaks
 broken_behind h (Limit many bytes) front due done breaks = absurd breaks
 
-module _ (g : Givens) (c : ℕ) (v : View Givens Entry) (a : Shown) (w : View Givens Entry) (b : Shown) (x : PaysOn g c v a w b) (u : View Givens Entry) (z : Shown) where
+module _ (g : Givens) (c : ℕ) (v : View Givens Entry) (a : Shown) (w : View Givens Entry) (b : Shown) (x : PaysOn g c v a w b) (u : View Givens Entry)
+    (z : Shown) where
   pub pays_broken : (end : SessionEnd) → Pays g c w b u z (Err end) → PaysAll g c v a u z (Err end)
   pays_broken end y = record {
     due = x.due ++ y.due;
@@ -89,7 +90,9 @@ module _ (g : Givens) (c : ℕ) (v : View Givens Entry) (a : Shown) (w : View Gi
 
     module _ (owns : Owns u c) (t : View Givens Entry) (o : Option SessionEnd) (looked : Looks g u t o) where
       adds_on : Adds g c v t [] ((x.due ++ y.due) ++ [])
-      adds_on = adds_both g c v u t [] [] (x.due ++ y.due) [] (adds_both g c v w u [] [] x.due y.due x.adds y.adds) (adds_none g c u (past t) t looked.turns owns refl)
+      adds_on =
+          adds_both g c v u t [] [] (x.due ++ y.due) [] (adds_both g c v w u [] [] x.due y.due x.adds y.adds)
+          (adds_none g c u (past t) t looked.turns owns refl)
 
       same_on : filling_by (past t) c ≡ filling_by (past v) c
       same_on = found_filling g c u (past t) t looked.turns owns ∙ (y.same ∙ x.same)
@@ -100,7 +103,8 @@ module _ (g : Givens) (c : ℕ) (v : View Givens Entry) (a : Shown) (w : View Gi
       pub pays_on : PaysOn g c v a t z
       pays_on = record { due = (x.due ++ y.due) ++ []; adds = adds_on; moved = moved_on; same = same_on }
 
-    pub pays_abandoned : (owns : Owns u c) (t : View Givens Entry) (worker : ℕ) → Looks g u t (Some (Abandoned worker)) → PaysAll g c v a t z (Err (Abandoned worker))
+    pub pays_abandoned : (owns : Owns u c) (t : View Givens Entry) (worker : ℕ) → Looks g u t (Some (Abandoned worker))
+        → PaysAll g c v a t z (Err (Abandoned worker))
     pays_abandoned owns t worker looked = record {
       due = (x.due ++ y.due) ++ [];
       done = (x.due ++ y.due) ++ [];

@@ -61,7 +61,8 @@ stops_as h phase.Full says = says
 stops_as h phase.Shut says = says
 stops_as h (phase.Abandoned worker) says = gave_up h worker says
 
-pub looks_at : (g : Givens) (v : View Givens Entry) (h : List Entry) (w : View Givens Entry) (p : Phase) → Turns g v h w → past w ≡ h → p ≡ phase_of h → Looks g v w (stop_of p)
+pub looks_at : (g : Givens) (v : View Givens Entry) (h : List Entry) (w : View Givens Entry) (p : Phase) → Turns g v h w → past w ≡ h → p ≡ phase_of h
+    → Looks g v w (stop_of p)
 looks_at g v h w p turns same is = record {
   turns = subst (λ k. Turns g v k w) (sym same) turns;
   stops = stops_as (past w) p (subst (λ k. Says (first_abandoned k) (is_shut k) p) (sym same)

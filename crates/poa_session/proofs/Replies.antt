@@ -31,7 +31,8 @@ module _ (g : Givens) (c : ℕ) (v : View Givens Entry) (h : List Entry) (w : Vi
   collects_one r head reply answer =
       let is : past w ≡ Collect c r ∷ h = histories (with_entry (Collect c r) (life_at g h)) (life_at g (past w)) answer.3 in
       let bytes : reply_told g h r ≡ told head reply = ap₂ told_or_nothing (sym answer.1) answer.2 in (
-        adds_one g c v h w turns owns (Collect c r) is refl [] (told head reply) (sym (append-nil (arrived_by h c))) (joined_own c h g r ∙ ap (λ bs. joined_by g h c ++ bs) bytes) refl,
+        adds_one g c v h w turns owns (Collect c r) is refl [] (told head reply) (sym (append-nil (arrived_by h c)))
+            (joined_own c h g r ∙ ap (λ bs. joined_by g h c ++ bs) bytes) refl,
         ap (λ k. filling_by k c) is ∙ found_filling g c v h w turns owns,
       )
 
@@ -57,7 +58,8 @@ pub gathers_none : (g : Givens) (c : ℕ) (v : View Givens Entry) (old : List �
 gathers_none g c v old = record { due = []; adds = adds_same g c v; same = refl; put = sym (append-nil old) }
 
 module _ (g : Givens) (c : ℕ) (v w u : View Givens Entry) (old mid : List ℕ) (x : GathersOn g c v w old mid) where
-  pub gathers_one : (bytes new : List ℕ) → Adds g c w u [] bytes × (filling_by (past u) c ≡ filling_by (past w) c) → new ≡ mid ++ bytes → GathersOn g c v u old new
+  pub gathers_one : (bytes new : List ℕ) → Adds g c w u [] bytes × (filling_by (past u) c ≡ filling_by (past w) c) → new ≡ mid ++ bytes
+      → GathersOn g c v u old new
   gathers_one bytes new one put = record {
     due = x.due ++ bytes;
     adds = adds_both g c v w u [] [] x.due bytes x.adds one.0;
@@ -65,11 +67,13 @@ module _ (g : Givens) (c : ℕ) (v w u : View Givens Entry) (old mid : List ℕ)
     put = put ∙ (ap (λ bs. bs ++ bytes) x.put ∙ append_assoc old x.due bytes);
   }
 
-  pub gathers_lost : (bytes new : List ℕ) (fault : AllocError) → Adds g c w u [] bytes × (filling_by (past u) c ≡ filling_by (past w) c) → Gathers g c v u old new (Err fault)
+  pub gathers_lost : (bytes new : List ℕ) (fault : AllocError) → Adds g c w u [] bytes × (filling_by (past u) c ≡ filling_by (past w) c)
+      → Gathers g c v u old new (Err fault)
   gathers_lost bytes new fault one =
       record { due = x.due ++ bytes; adds = adds_both g c v w u [] [] x.due bytes x.adds one.0; same = one.1 ∙ x.same; gathered = tt }
 
-  pub gathers_all : (owed : ℕ) (new : List ℕ) → Adds g c w u [] [] × (filling_by (past u) c ≡ filling_by (past w) c) × (owed ≡ 0 → IsPaidBy (past u) c) → new ≡ mid → Gathers g c v u old new (Ok owed)
+  pub gathers_all : (owed : ℕ) (new : List ℕ) → Adds g c w u [] [] × (filling_by (past u) c ≡ filling_by (past w) c) × (owed ≡ 0 → IsPaidBy (past u) c)
+      → new ≡ mid → Gathers g c v u old new (Ok owed)
   gathers_all owed new done kept = record {
     due = x.due ++ [];
     adds = adds_both g c v w u [] [] x.due [] x.adds done.0;
@@ -78,11 +82,14 @@ module _ (g : Givens) (c : ℕ) (v w u : View Givens Entry) (old mid : List ℕ)
   }
 
 -- what was collected is put behind the others
-pub next_gathered : (g : Givens) (c : ℕ) (v : View Givens Entry) (h : List Entry) (w : View Givens Entry) → Turns g v h w → Owns v c → (collected : Collected) (old new : List ℕ) (r : Result (Option ℕ) AllocError)
+pub next_gathered : (g : Givens) (c : ℕ) (v : View Givens Entry) (h : List Entry) (w : View Givens Entry) → Turns g v h w → Owns v c
+    → (collected : Collected) (old new : List ℕ) (r : Result (Option ℕ) AllocError)
     → answers.Collects c (life_at g h) collected (life_at g (past w)) → PutsOn collected old new r → NextGathered g c v w old new r
-next_gathered g c v h w turns owns (collected.Reply r head reply) old new (Ok None) answer puts = (told head reply, collects_one g c v h w turns owns r head reply answer, puts)
+next_gathered g c v h w turns owns (collected.Reply r head reply) old new (Ok None) answer puts =
+    (told head reply, collects_one g c v h w turns owns r head reply answer, puts)
 next_gathered g c v h w turns owns (collected.Reply r head reply) old new (Ok (Some owed)) answer puts = absurd puts
-next_gathered g c v h w turns owns (collected.Reply r head reply) old new (Err fault) answer puts = (told head reply, collects_one g c v h w turns owns r head reply answer)
+next_gathered g c v h w turns owns (collected.Reply r head reply) old new (Err fault) answer puts =
+    (told head reply, collects_one g c v h w turns owns r head reply answer)
 next_gathered g c v h w turns owns (collected.Nothing owes) old new (Ok None) answer puts = absurd puts
 next_gathered g c v h w turns owns (collected.Nothing owes) old new (Ok (Some owed)) answer puts =
     (let none = collects_none g c v h w turns owns owes answer in ((none.0, none.1, λ nothing. none.2 (sym puts.0 ∙ nothing)), puts.1))

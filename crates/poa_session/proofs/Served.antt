@@ -38,8 +38,10 @@ session_left g peer c h text out end legal s =
     session_same g peer c text out end h (Left c ∷ h) refl refl refl (λ paid. paid)
     (λ calls due. cause_since g.config g.run g.limit (Left c ∷ []) h legal peer calls text due) s
 
-module _ (g : Givens) (peer : Peer) (c : ℕ) (v : View Givens Entry) (found : List Entry) (u w : View Givens Entry) (h : List Entry) (z : View Givens Entry) (a b : Shown) (end : SessionEnd)
-    (entered : Turns g v found u) (begun : Begun g c v u) (talked : Converses g peer c u a w b end) (owns : Owns w c) (leaves : Turns g w h z) (gone : past z ≡ Left c ∷ h) where
+module _ (g : Givens) (peer : Peer) (c : ℕ) (v : View Givens Entry) (found : List Entry) (u w : View Givens Entry) (h : List Entry) (z : View Givens Entry)
+    (a b : Shown) (end : SessionEnd)
+    (entered : Turns g v found u) (begun : Begun g c v u) (talked : Converses g peer c u a w b end) (owns : Owns w c) (leaves : Turns g w h z)
+    (gone : past z ≡ Left c ∷ h) where
   left_adds : Adds g c w z [] []
   left_adds = adds_one g c w h z leaves owns (Left c) gone refl [] [] (sym (append-nil (arrived_by h c))) (sym (append-nil (joined_by g h c))) refl
 
@@ -82,14 +84,17 @@ module _ (g : Givens) (peer : Peer) (c : ℕ) (v : View Givens Entry) (found : L
     left = sym (reverse-reverse z.seen) ∙ (ap reverse gone ∙ reverse-append (Left c ∷ []) h);
     moved = talked.moved;
     few = talked.few;
-    session = subst (λ k. SessionBy g peer k c talked.text talked.out end) (sym gone) (session_left g peer c h talked.text talked.out end all_legal found_session);
+    session =
+        subst (λ k. SessionBy g peer k c talked.text talked.out end) (sym gone) (session_left g peer c h talked.text talked.out end all_legal found_session);
     cause = subst (λ k. CauseBy peer k (arrived_by k c) talked.text end) (sym (reverse-reverse h)) found_cause;
     read_fault = read;
     write_fault = written;
     dry = settled.dry;
     place = begun.place;
     later = begun.later;
-    entered = subst (λ l. get_elem? l begun.place ≡ some (Entered c)) (sym later_seen) (at_longer u.seen (reverse all_adds.more) begun.place (Entered c) begun.entered);
+    entered =
+        subst (λ l. get_elem? l begun.place ≡ some (Entered c)) (sym later_seen)
+        (at_longer u.seen (reverse all_adds.more) begun.place (Entered c) begun.entered);
     mine =
         all_adds.mine_is ∙ (ap (λ ps. ps ++ all_adds.made) begun.mine_is
         ∙ (append_assoc v.mine (begun.place ∷ []) all_adds.made
@@ -97,10 +102,15 @@ module _ (g : Givens) (peer : Peer) (c : ℕ) (v : View Givens Entry) (found : L
     silent = arrived_none;
   }
 
-  pub served : (session : Ending) → session ≡ record { conn = Some c; end = end } → (end ≡ ReadFault → Rose a.read_faults b.read_faults) → (end ≡ WriteFault → Rose a.write_faults b.write_faults)
+  pub served : (session : Ending) → session ≡ record { conn = Some c; end = end } → (end ≡ ReadFault → Rose a.read_faults b.read_faults)
+      → (end ≡ WriteFault → Rose a.write_faults b.write_faults)
       → Served g peer v z a b session
   served session is read written = record {
-    grows = (reverse begun.more ++ reverse all_adds.more, later_seen ∙ (ap (λ l. l ++ reverse all_adds.more) (seen_front v u begun.more begun.since) ∙ append_assoc v.seen (reverse begun.more) (reverse all_adds.more)));
+    grows = (
+      reverse begun.more ++ reverse all_adds.more,
+      later_seen
+          ∙ (ap (λ l. l ++ reverse all_adds.more) (seen_front v u begun.more begun.since) ∙ append_assoc v.seen (reverse begun.more) (reverse all_adds.more)),
+    );
     runs = all_adds.runs entered.runs;
     knows = all_adds.knows entered.knows;
     given = all_adds.given ∙ entered.given;
@@ -114,7 +124,8 @@ turned_away : (h : List Entry) (fault : EnterFault) (x : Life) (y : Life) → an
 turned_away h (enter_fault.Limit conns calls bytes) x y answer = (answer.4, (answer.0, answer.2, answer.3))
 turned_away h enter_fault.WantMemory x y answer = (answer.1, tt)
 
-pub refused : (g : Givens) (peer : Peer) (v : View Givens Entry) (h : List Entry) (w : View Givens Entry) (a b : Shown) (fault : EnterFault) (session : Ending) → Turns g v h w
+pub refused : (g : Givens) (peer : Peer) (v : View Givens Entry) (h : List Entry) (w : View Givens Entry) (a b : Shown) (fault : EnterFault) (session : Ending)
+    → Turns g v h w
     → answers.Enters (life_at g h) (Err fault) (life_at g (past w)) → TurnsAway peer fault a b session → Served g peer v w a b session
 refused g peer v h w a b fault session turns answer away =
     let told = turned_away h fault (life_at g h) (life_at g (past w)) answer in

@@ -36,12 +36,14 @@ use Rattle.poa_session.proofs.Adding.{adds_both, adds_none, adds_same, found_fil
 pub hears_same : (g : Givens) (peer : Peer) (c : ℕ) (v : View Givens Entry) (i : Intake) → Hears g peer c v i v i progress.On
 hears_same g peer c v i = record { calls = []; adds = adds_same g c v; heard = (refl, λ text expected. expected); taken = refl }
 
-heard_then : (peer : Peer) (c : ℕ) (v w u : View Givens Entry) (i j k : Intake) (r : Progress) → AsHeard peer c v i w j progress.On → AsHeard peer c w j u k r → AsHeard peer c v i u k r
+heard_then : (peer : Peer) (c : ℕ) (v w u : View Givens Entry) (i j k : Intake) (r : Progress) → AsHeard peer c v i w j progress.On → AsHeard peer c w j u k r
+    → AsHeard peer c v i u k r
 heard_then peer c v w u i j k progress.On x y = (y.0 ∙ x.0, λ text expected. y.1 text (x.1 text expected))
 heard_then peer c v w u i j k (progress.Waits have) x y = (y.0 ∙ x.0, y.1, λ text expected. y.2 text (x.1 text expected))
 heard_then peer c v w u i j k (progress.Ends end) x y = λ text unfilled expected. y text (x.0 ∙ unfilled) (x.1 text expected)
 
-pub hears_then : (g : Givens) (peer : Peer) (c : ℕ) (v w u : View Givens Entry) (i j k : Intake) (r : Progress) → Hears g peer c v i w j progress.On → Hears g peer c w j u k r → Hears g peer c v i u k r
+pub hears_then : (g : Givens) (peer : Peer) (c : ℕ) (v w u : View Givens Entry) (i j k : Intake) (r : Progress) → Hears g peer c v i w j progress.On
+    → Hears g peer c w j u k r → Hears g peer c v i u k r
 hears_then g peer c v w u i j k r x y = record {
   calls = x.calls ++ y.calls;
   adds = adds_both g c v w u x.calls y.calls [] [] x.adds y.adds;
@@ -53,7 +55,8 @@ hears_then g peer c v w u i j k r x y = record {
 late_shut : (h : List Entry) (c : ℕ) → is_late_by h c ≡ true → is_shut h ≡ true
 late_shut [] c is = is
 late_shut (Entered conn ∷ h) c is =
-    elim (conn == c) as (λ b. (if b then is_shut h else is_late_by h c) ≡ true → is_shut h ≡ true) [ true ↦ (λ now. now) | false ↦ (λ before. late_shut h c before) ] is
+    elim (conn == c) as (λ b. (if b then is_shut h else is_late_by h c) ≡ true → is_shut h ≡ true)
+    [ true ↦ (λ now. now) | false ↦ (λ before. late_shut h c before) ] is
 late_shut (e ∷ h) c is = shut_later e h (late_shut h c is)
 
 -- what is asked of the front of a text where nothing follows
@@ -80,8 +83,10 @@ module _ (g : Givens) (peer : Peer) (c : ℕ) (v : View Givens Entry) (a : Shown
   -- the run ends the session
   stops_may : (text : List ℕ) (end : SessionEnd) → Stops (past u) (Some end) → Begins peer text (arrived_by (past u) c) → filling_by (past u) c ≡ None
       → MayEnd peer c u text end × DriesUp peer text end a
-  stops_may text Shut stops begins unfilled = (record { input = begins; cause = stops; filled = subst (λ (x : Option ℕ). IfSome x (IsNext peer text (arrived_by (past u) c))) (sym unfilled) tt }, tt)
-  stops_may text (Abandoned worker) stops begins unfilled = (record { input = begins; cause = stops; filled = subst (λ (x : Option ℕ). IfSome x (IsNext peer text (arrived_by (past u) c))) (sym unfilled) tt }, tt)
+  stops_may text Shut stops begins unfilled =
+      (record { input = begins; cause = stops; filled = subst (λ (x : Option ℕ). IfSome x (IsNext peer text (arrived_by (past u) c))) (sym unfilled) tt }, tt)
+  stops_may text (Abandoned worker) stops begins unfilled =
+      (record { input = begins; cause = stops; filled = subst (λ (x : Option ℕ). IfSome x (IsNext peer text (arrived_by (past u) c))) (sym unfilled) tt }, tt)
   stops_may text Ended stops begins unfilled = absurd stops
   stops_may text ReadFault stops begins unfilled = absurd stops
   stops_may text WriteFault stops begins unfilled = absurd stops
@@ -103,7 +108,9 @@ module _ (g : Givens) (peer : Peer) (c : ℕ) (v : View Givens Entry) (a : Shown
     silent = λ _. refl;
     goes_on = tt;
     flows = λ text counted unfilled expected.
-        (let may = stops_may text end looked.stops (expects_begins peer (OfIntake i) text (arrived_by (past u) c) (expected_then (Some end) looked text expected) (intake_goes_on i []))
+        (let may =
+        stops_may text end looked.stops
+        (expects_begins peer (OfIntake i) text (arrived_by (past u) c) (expected_then (Some end) looked text expected) (intake_goes_on i []))
         (unfilled_then (Some end) looked unfilled) in
         (refl, nothing_behind (λ t. MayEnd peer c u t end) text may.0, nothing_behind (λ t. DriesUp peer t end a) text may.1));
   }
@@ -112,7 +119,8 @@ module _ (g : Givens) (peer : Peer) (c : ℕ) (v : View Givens Entry) (a : Shown
     -- a connection that entered late hears nothing
     hears_not : (calls : List Heard) → is_late_by (past v) c ≡ true → calls ≡ []
     hears_not calls late =
-        absurd (let shut : is_shut (past u) ≡ true = late_shut (past u) c ((look_adds None looked).late_is ∙ late) in let e : true ≡ false = sym shut ∙ looked.stops in cc)
+        absurd (let shut : is_shut (past u) ≡ true = late_shut (past u) c ((look_adds None looked).late_is ∙ late) in
+        let e : true ≡ false = sym shut ∙ looked.stops in cc)
 
     -- what was heard ends the session
     pub rounds_heard : (end : SessionEnd) → Listens g peer c u i x j (Err end) → Rounds g peer c v a i x a j (flow.Ends end)
@@ -166,7 +174,8 @@ module _ (g : Givens) (peer : Peer) (c : ℕ) (v : View Givens Entry) (a : Shown
             (adds_both g c v x w listened.calls [] [] paid.due (adds_both g c v u x [] listened.calls [] [] (look_adds None looked) listened.adds) paid.adds)
 
         expected_now : (text : List ℕ) → Expects peer (OfIntake i) text (arrived_by (past v) c) → Expects peer (OfIntake j) text (arrived_by (past w) c)
-        expected_now text expected = subst (Expects peer (OfIntake j) text) (sym (paid.adds.arrived_is ∙ append-nil (arrived_by (past x) c))) (heard_all text expected)
+        expected_now text expected =
+            subst (Expects peer (OfIntake j) text) (sym (paid.adds.arrived_is ∙ append-nil (arrived_by (past x) c))) (heard_all text expected)
 
         unfilled_now : filling_by (past v) c ≡ None → filling_by (past w) c ≡ None
         unfilled_now unfilled = paid.same ∙ unfilled_still unfilled
@@ -184,18 +193,28 @@ module _ (g : Givens) (peer : Peer) (c : ℕ) (v : View Givens Entry) (a : Shown
         read_fewer : (text piece : List ℕ) → length text ≡ i.taken → piece ≡ [] → j.taken < 2 ^ 40 → length (text ++ piece) < 2 ^ 40
         read_fewer text piece counted none fewer = subst (λ n. n < 2 ^ 40) (sym (length_read text piece counted none)) fewer
 
-        stops_over : (text : List ℕ) (bytes : ℕ) → Expects peer (OfIntake j) text (arrived_by (past w) c) → have ≡ bytes → HearsAll peer text (arrived_by (past w) c) (over bytes)
-        stops_over text bytes expected is = expects_stop peer (OfIntake j) text (arrived_by (past w) c) expected (over bytes) (subst (λ n. OfIntake j [] [] (over n)) is listened.heard.1)
+        stops_over : (text : List ℕ) (bytes : ℕ) → Expects peer (OfIntake j) text (arrived_by (past w) c) → have ≡ bytes
+            → HearsAll peer text (arrived_by (past w) c) (over bytes)
+        stops_over text bytes expected is =
+            expects_stop peer (OfIntake j) text (arrived_by (past w) c) expected (over bytes) (subst (λ n. OfIntake j [] [] (over n)) is listened.heard.1)
 
         -- the input ends the session
-        takes_may : (text piece : List ℕ) (end : SessionEnd) → length text ≡ i.taken → AsTaken j k have piece z (Some end) → Expects peer (OfIntake j) text (arrived_by (past w) c)
-            → (Input peer (text ++ piece) (arrived_by (past w) c) end) × CauseBy peer (past w) (arrived_by (past w) c) (text ++ piece) end × DriesUp peer (text ++ piece) end z
+        takes_may : (text piece : List ℕ) (end : SessionEnd) → length text ≡ i.taken → AsTaken j k have piece z (Some end)
+            → Expects peer (OfIntake j) text (arrived_by (past w) c)
+            → (Input peer (text ++ piece) (arrived_by (past w) c) end) × CauseBy peer (past w) (arrived_by (past w) c) (text ++ piece) end
+            × DriesUp peer (text ++ piece) end z
         takes_may text piece Ended counted took expected =
-            subst (λ p. Input peer (text ++ p) (arrived_by (past w) c) Ended × CauseBy peer (past w) (arrived_by (past w) c) (text ++ p) Ended × DriesUp peer (text ++ p) Ended z) (sym took.0)
+            subst (λ p. Input peer (text ++ p) (arrived_by (past w) c) Ended × CauseBy peer (past w) (arrived_by (past w) c) (text ++ p) Ended
+            × DriesUp peer (text ++ p) Ended z) (sym took.0)
             (inr (nothing_behind (λ t. HearsAll peer t (arrived_by (past w) c) (over 0)) text (stops_over text 0 expected took.2)), inr (read_fewer text [] counted refl took.1), inr took.3)
         takes_may text piece (Truncated bytes) counted took expected =
-            subst (λ p. Input peer (text ++ p) (arrived_by (past w) c) (Truncated bytes) × (length (text ++ p) < 2 ^ 40) × DriesUp peer (text ++ p) (Truncated bytes) z) (sym took.0) (
-              (nothing_behind (λ t. HearsAll peer t (arrived_by (past w) c) (over bytes)) text (stops_over text bytes expected (sym took.2)), subst (λ n. 0 < n) (sym took.2) took.3),
+            subst (λ p. Input peer (text ++ p) (arrived_by (past w) c) (Truncated bytes) × (length (text ++ p) < 2 ^ 40)
+            × DriesUp peer (text ++ p) (Truncated bytes) z) (sym took.0) (
+              (
+                nothing_behind (λ t. HearsAll peer t (arrived_by (past w) c) (over bytes)) text (stops_over text bytes expected (sym took.2)),
+                subst (λ n. 0 < n)
+                    (sym took.2) took.3,
+              ),
               read_fewer text [] counted refl took.1,
               took.4,
             )
@@ -206,7 +225,8 @@ module _ (g : Givens) (peer : Peer) (c : ℕ) (v : View Givens Entry) (a : Shown
           (took.2, length_read text piece counted took.0 ∙ sym took.1),
           tt,
         )
-        takes_may text piece WantMemory counted took expected = (expects_front peer (OfIntake j) text (arrived_by (past w) c) expected piece (intake_goes_on j piece), tt, tt)
+        takes_may text piece WantMemory counted took expected =
+            (expects_front peer (OfIntake j) text (arrived_by (past w) c) expected piece (intake_goes_on j piece), tt, tt)
         takes_may text piece Shut counted took expected = absurd took
         takes_may text piece WriteFault counted took expected = absurd took
         takes_may text piece (Malformed at) counted took expected = absurd took
@@ -227,7 +247,12 @@ module _ (g : Givens) (peer : Peer) (c : ℕ) (v : View Givens Entry) (a : Shown
           flows = λ text counted unfilled expected.
               (let may = takes_may text took.piece end counted took.taken (expected_now text expected) in (
                 paid.paid.0,
-                record { input = may.0; cause = may.1; filled = subst (λ (x : Option ℕ). IfSome x (IsNext peer (text ++ took.piece) (arrived_by (past w) c))) (sym (unfilled_now unfilled)) tt },
+                record {
+                  input = may.0;
+                  cause = may.1;
+                  filled =
+                      subst (λ (x : Option ℕ). IfSome x (IsNext peer (text ++ took.piece) (arrived_by (past w) c))) (sym (unfilled_now unfilled)) tt;
+                },
                 may.2,
               ));
         }

@@ -42,7 +42,8 @@ pub record Sits (g : Givens) (peer : Peer) (c : ℕ) (v : View Givens Entry) (a 
   pub silent : is_late_by (past v) c ≡ true → calls ≡ []
   pub knows : arrived_by (past v) c ≡ [] → filling_by (past v) c ≡ None → Knows g peer c v w i text
 
-pub sits_new : (g : Givens) (peer : Peer) (c : ℕ) (v : View Givens Entry) (a : Shown) (i : Intake) → Expects peer (OfIntake i) [] [] → i.taken ≡ 0 → Sits g peer c v a v a i
+pub sits_new : (g : Givens) (peer : Peer) (c : ℕ) (v : View Givens Entry) (a : Shown) (i : Intake) → Expects peer (OfIntake i) [] [] → i.taken ≡ 0
+    → Sits g peer c v a v a i
 sits_new g peer c v a i expects none = record {
   text = [];
   calls = [];
@@ -55,11 +56,13 @@ sits_new g peer c v a i expects none = record {
   knows = λ nothing unfilled. record { unfilled = unfilled; expects = subst (Expects peer (OfIntake i) []) (sym nothing) expects };
 }
 
-module _ (g : Givens) (peer : Peer) (c : ℕ) (v : View Givens Entry) (a : Shown) (w : View Givens Entry) (b : Shown) (i : Intake) (x : Sits g peer c v a w b i) where
+module _ (g : Givens) (peer : Peer) (c : ℕ) (v : View Givens Entry) (a : Shown) (w : View Givens Entry) (b : Shown) (i : Intake)
+    (x : Sits g peer c v a w b i) where
   joined_so_far : joined_by g (past v) c ≡ [] → joined_by g (past w) c ≡ x.replies
   joined_so_far nothing = x.adds.joined_is ∙ ap (λ rs. rs ++ x.replies) nothing
 
-  filled_none : (text : List ℕ) (u : View Givens Entry) → filling_by (past u) c ≡ None → IfSome (filling_by (past u) c) (IsNext peer text (arrived_by (past u) c))
+  filled_none : (text : List ℕ) (u : View Givens Entry) → filling_by (past u) c ≡ None
+      → IfSome (filling_by (past u) c) (IsNext peer text (arrived_by (past u) c))
   filled_none text u unfilled = subst (λ (o : Option ℕ). IfSome o (IsNext peer text (arrived_by (past u) c))) (sym unfilled) tt
 
   -- no memory is there to go on
@@ -84,7 +87,8 @@ module _ (g : Givens) (peer : Peer) (c : ℕ) (v : View Givens Entry) (a : Shown
     all_silent f y late = ap (λ cs. cs ++ y.calls) (x.silent late) ∙ y.silent (x.adds.late_is ∙ late)
 
     all_few : (f : Flow) (y : Rounds g peer c w b i u z j f) → length (x.text ++ y.piece) ≤ 2 ^ 40
-    all_few f y = subst (λ n. n ≤ 2 ^ 40) (sym (length-append x.text y.piece ∙ ap (λ n. n + length y.piece) x.counted)) (y.few (subst (λ n. n ≤ 2 ^ 40) x.counted x.few))
+    all_few f y =
+        subst (λ n. n ≤ 2 ^ 40) (sym (length-append x.text y.piece ∙ ap (λ n. n + length y.piece) x.counted)) (y.few (subst (λ n. n ≤ 2 ^ 40) x.counted x.few))
 
     pub sits_on : Rounds g peer c w b i u z j flow.On → Sits g peer c v a u z j
     sits_on y = record {
@@ -116,12 +120,14 @@ module _ (g : Givens) (peer : Peer) (c : ℕ) (v : View Givens Entry) (a : Shown
       settled = λ ran nothing joined unfilled.
           (let known = x.knows nothing unfilled in
           let went = y.flows x.text x.counted known.unfilled known.expects in
-          settled_broken g peer c u (x.text ++ y.piece) x.replies y.due y.done end z (y.adds.joined_is ∙ ap (λ rs. rs ++ y.due) (joined_so_far joined)) went.0 went.1
+          settled_broken g peer c u (x.text ++ y.piece) x.replies y.due y.done end z
+          (y.adds.joined_is ∙ ap (λ rs. rs ++ y.due) (joined_so_far joined)) went.0 went.1
           (filled_none (x.text ++ y.piece) u went.2));
     }
 
     -- the session ends
-    pub sits_ended : (end result : SessionEnd) (t : View Givens Entry) (q : Shown) → Rounds g peer c w b i u z j (flow.Ends end) → Settles g peer c u z t q end result → Converses g peer c v a t q result
+    pub sits_ended : (end result : SessionEnd) (t : View Givens Entry) (q : Shown) → Rounds g peer c w b i u z j (flow.Ends end)
+        → Settles g peer c u z t q end result → Converses g peer c v a t q result
     sits_ended end result t q y s = record {
       text = (x.text ++ y.piece) ++ [];
       out = (x.replies ++ y.done) ++ s.done;
@@ -134,7 +140,9 @@ module _ (g : Givens) (peer : Peer) (c : ℕ) (v : View Givens Entry) (a : Shown
       settled = λ ran nothing joined unfilled.
           (let known = x.knows nothing unfilled in
           let went = y.flows x.text x.counted known.unfilled known.expects in
-          let out : joined_by g (past u) c ≡ x.replies ++ y.done = y.adds.joined_is ∙ (ap (λ rs. rs ++ y.due) (joined_so_far joined) ∙ ap (λ ds. x.replies ++ ds) (sym went.0)) in
+          let out : joined_by g (past u) c ≡ x.replies ++ y.done = y.adds.joined_is
+          ∙ (ap (λ rs. rs ++ y.due) (joined_so_far joined) ∙ ap (λ ds. x.replies ++ ds) (sym went.0)) in
           subst (λ tx. Settled g peer c t tx ((x.replies ++ y.done) ++ s.done) result q) (sym (append-nil (x.text ++ y.piece)))
-          (subst (λ rs. Settled g peer c t (x.text ++ y.piece) (rs ++ s.done) result q) out (s.settled (x.text ++ y.piece) (y.adds.runs (x.adds.runs ran)) went.1 went.2)));
+          (subst (λ rs. Settled g peer c t (x.text ++ y.piece) (rs ++ s.done) result q) out
+          (s.settled (x.text ++ y.piece) (y.adds.runs (x.adds.runs ran)) went.1 went.2)));
     }

@@ -22,7 +22,8 @@ written_more a b z bytes rest n w more = record {
 }
 
 -- the same, where the code cuts the rest
-pub written_on : (a b z : Shown) (bytes rest : List ℕ) (n : ℕ) → Written a b bytes rest → Moves b z [] (take n rest) → Written a z bytes (take (length rest - n) (drop n rest))
+pub written_on : (a b z : Shown) (bytes rest : List ℕ) (n : ℕ) → Written a b bytes rest → Moves b z [] (take n rest)
+    → Written a z bytes (take (length rest - n) (drop n rest))
 written_on a b z bytes rest n w more = subst (Written a z bytes) (sym (take_rest rest n)) (written_more a b z bytes rest n w more)
 
 pub written_all : (a b : Shown) (bytes rest : List ℕ) → Written a b bytes rest → rest ≡ [] → Writes bytes a b true
@@ -30,7 +31,13 @@ written_all a b bytes rest w none = record { done = w.front; rest = rest; moved 
 
 pub written_part : (a b z : Shown) (bytes rest : List ℕ) → Written a b bytes rest → Moves b z [] [] → Writes bytes a z false
 written_part a b z bytes rest w still =
-    record { done = w.front; rest = rest; moved = moves_still a b z [] w.front w.moved still; front = w.cut; all = λ is. absurd (let e : false ≡ true = is in cc) }
+    record {
+      done = w.front;
+      rest = rest;
+      moved = moves_still a b z [] w.front w.moved still;
+      front = w.cut;
+      all = λ is. absurd (let e : false ≡ true = is in cc);
+    }
 
 -- where there is nothing to write
 pub written_nothing : (a : Shown) → Writes [] a a true

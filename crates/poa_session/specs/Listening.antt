@@ -28,7 +28,8 @@ AsListened peer c v i w j (Err end) =
     (text : List ℕ) → filling_by (past v) c ≡ None → Expects peer (OfIntake i) text (arrived_by (past v) c)
     → MayEnd peer c w text end × ((shown : Shown) → DriesUp peer text end shown)
 
-pub record Listens (g : Givens) (peer : Peer) (c : ℕ) (v : View Givens Entry) (i : Intake) (w : View Givens Entry) (j : Intake) (result : Result ℕ SessionEnd) : Type 0 where
+pub record Listens (g : Givens) (peer : Peer) (c : ℕ) (v : View Givens Entry) (i : Intake) (w : View Givens Entry) (j : Intake)
+    (result : Result ℕ SessionEnd) : Type 0 where
   pub calls : List Heard
   pub adds : Adds g c v w calls []
   pub heard : AsListened peer c v i w j result
@@ -36,11 +37,13 @@ pub record Listens (g : Givens) (peer : Peer) (c : ℕ) (v : View Givens Entry) 
 
 -- the call arrived; or it didn't, and the session may end so, where it was the next of what the peer sent
 abbrev pub AsArrived : Givens → ℕ → Call → ℕ → View Givens Entry → View Givens Entry → Progress → Type 0
-AsArrived g c call size v w progress.On = Adds g c v w (record { call = call; size = size } ∷ []) [] × (filling_by (past w) c ≡ filling_by (past v) c)
+AsArrived g c call size v w progress.On = Adds g c v w (record { call = call; size = size } ∷ []) []
+    × (filling_by (past w) c ≡ filling_by (past v) c)
 AsArrived g c call size v w (progress.Waits have) = ⊥
 AsArrived g c call size v w (progress.Ends end) =
     Adds g c v w [] []
-    × ((peer : Peer) (text : List ℕ) → filling_by (past v) c ≡ None → IsNext peer text (arrived_by (past v) c) size → MayEnd peer c w text end)
+    × ((peer : Peer) (text : List ℕ) → filling_by (past v) c ≡ None → IsNext peer text (arrived_by (past v) c) size
+    → MayEnd peer c w text end)
     × ((peer : Peer) (text : List ℕ) (shown : Shown) → DriesUp peer text end shown)
 
 -- the input may say more
@@ -51,7 +54,8 @@ AsHeard peer c v i w j progress.On =
 AsHeard peer c v i w j (progress.Waits have) = AsListened peer c v i w j (Ok have)
 AsHeard peer c v i w j (progress.Ends end) = AsListened peer c v i w j (Err end)
 
-pub record Hears (g : Givens) (peer : Peer) (c : ℕ) (v : View Givens Entry) (i : Intake) (w : View Givens Entry) (j : Intake) (result : Progress) : Type 0 where
+pub record Hears (g : Givens) (peer : Peer) (c : ℕ) (v : View Givens Entry) (i : Intake) (w : View Givens Entry) (j : Intake)
+    (result : Progress) : Type 0 where
   pub calls : List Heard
   pub adds : Adds g c v w calls []
   pub heard : AsHeard peer c v i w j result

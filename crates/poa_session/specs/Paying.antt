@@ -40,8 +40,10 @@ pub record Gathers (g : Givens) (c : ℕ) (v w : View Givens Entry) (old new : L
 
 -- a reply was given, and stands behind the bytes that stood before; or none is decided
 abbrev pub NextGathered : Givens → ℕ → View Givens Entry → View Givens Entry → List ℕ → List ℕ → Result (Option ℕ) AllocError → Type 0
-NextGathered g c v w old new (Ok None) = (bytes : List ℕ) × (Adds g c v w [] bytes × (filling_by (past w) c ≡ filling_by (past v) c)) × (new ≡ old ++ bytes)
-NextGathered g c v w old new (Ok (Some owed)) = (Adds g c v w [] [] × (filling_by (past w) c ≡ filling_by (past v) c) × (owed ≡ 0 → IsPaidBy (past w) c)) × (new ≡ old)
+NextGathered g c v w old new (Ok None) = (bytes : List ℕ) × (Adds g c v w [] bytes × (filling_by (past w) c ≡ filling_by (past v) c))
+    × (new ≡ old ++ bytes)
+NextGathered g c v w old new (Ok (Some owed)) =
+    (Adds g c v w [] [] × (filling_by (past w) c ≡ filling_by (past v) c) × (owed ≡ 0 → IsPaidBy (past w) c)) × (new ≡ old)
 NextGathered g c v w old new (Err fault) = (bytes : List ℕ) × (Adds g c v w [] bytes × (filling_by (past w) c ≡ filling_by (past v) c))
 
 -- what is collected is put behind the bytes that stand there
@@ -53,7 +55,8 @@ PutsOn (collected.Nothing owes) old new (Ok None) = ⊥
 PutsOn (collected.Nothing owes) old new (Ok (Some owed)) = (owed ≡ owes) × (new ≡ old)
 PutsOn (collected.Nothing owes) old new (Err fault) = ⊥
 
-pub record Pays (g : Givens) (c : ℕ) (v : View Givens Entry) (a : Shown) (w : View Givens Entry) (b : Shown) (result : Result ℕ SessionEnd) : Type 0 where
+pub record Pays (g : Givens) (c : ℕ) (v : View Givens Entry) (a : Shown) (w : View Givens Entry) (b : Shown)
+    (result : Result ℕ SessionEnd) : Type 0 where
   pub due : List ℕ
   pub done : List ℕ
   pub adds : Adds g c v w [] due
@@ -66,7 +69,8 @@ abbrev pub AsPaidAll : List Entry → ℕ → Result (Unit {0}) SessionEnd → L
 AsPaidAll h c (Ok done') due done = (done ≡ due) × IsPaidBy h c
 AsPaidAll h c (Err end) due done = BreaksOff h end due done
 
-pub record PaysAll (g : Givens) (c : ℕ) (v : View Givens Entry) (a : Shown) (w : View Givens Entry) (b : Shown) (result : Result (Unit {0}) SessionEnd) : Type 0 where
+pub record PaysAll (g : Givens) (c : ℕ) (v : View Givens Entry) (a : Shown) (w : View Givens Entry) (b : Shown)
+    (result : Result (Unit {0}) SessionEnd) : Type 0 where
   pub due : List ℕ
   pub done : List ℕ
   pub adds : Adds g c v w [] due

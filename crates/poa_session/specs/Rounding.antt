@@ -22,7 +22,8 @@ use Rattle.poa_session.specs.Stopping.{MayEnd}
 abbrev pub AsFlow : Peer → ℕ → View Givens Entry → Intake → List ℕ → List ℕ → List ℕ → Shown → Flow → Type 0
 AsFlow peer c w j text due done shown On = (filling_by (past w) c ≡ None) × Expects peer (OfIntake j) text (arrived_by (past w) c)
 AsFlow peer c w j text due done shown (Ends end) = (done ≡ due) × MayEnd peer c w text end × DriesUp peer text end shown
-AsFlow peer c w j text due done shown (Broke end) = BreaksOff (past w) end due done × Begins peer text (arrived_by (past w) c) × (filling_by (past w) c ≡ None)
+AsFlow peer c w j text due done shown (Broke end) = BreaksOff (past w) end due done × Begins peer text (arrived_by (past w) c)
+    × (filling_by (past w) c ≡ None)
 
 -- where a session goes on, all replies that were given are written, and the piece is taken in
 abbrev pub GoesOn : Intake → Intake → List ℕ → List ℕ → List ℕ → Flow → Type 0
@@ -31,7 +32,8 @@ GoesOn i j piece due done (Ends end) = Unit {0}
 GoesOn i j piece due done (Broke end) = Unit {0}
 
 -- one round of a session: calls arrived, replies were given and written, and a piece was read
-pub record Rounds (g : Givens) (peer : Peer) (c : ℕ) (v : View Givens Entry) (a : Shown) (i : Intake) (w : View Givens Entry) (b : Shown) (j : Intake) (flow : Flow) : Type 0 where
+pub record Rounds (g : Givens) (peer : Peer) (c : ℕ) (v : View Givens Entry) (a : Shown) (i : Intake) (w : View Givens Entry) (b : Shown)
+    (j : Intake) (flow : Flow) : Type 0 where
   pub piece : List ℕ
   pub calls : List Heard
   pub due : List ℕ
@@ -41,5 +43,6 @@ pub record Rounds (g : Givens) (peer : Peer) (c : ℕ) (v : View Givens Entry) (
   pub few : i.taken ≤ 2 ^ 40 → i.taken + length piece ≤ 2 ^ 40
   pub silent : is_late_by (past v) c ≡ true → calls ≡ []
   pub goes_on : GoesOn i j piece due done flow
-  pub flows : (text : List ℕ) → length text ≡ i.taken → filling_by (past v) c ≡ None → Expects peer (OfIntake i) text (arrived_by (past v) c)
+  pub flows : (text : List ℕ) → length text ≡ i.taken → filling_by (past v) c ≡ None
+      → Expects peer (OfIntake i) text (arrived_by (past v) c)
       → AsFlow peer c w j (text ++ piece) due done b flow

@@ -22,21 +22,25 @@ use Rattle.poa_session.specs.Served.{DriesUp}
 use Rattle.poa_session.specs.Stopping.{MayEnd}
 
 -- what a session that may end so has come to, where these bytes were written in the end
-pub record Settled (g : Givens) (peer : Peer) (c : ℕ) (w : View Givens Entry) (text out : List ℕ) (end : SessionEnd) (shown : Shown) : Type 0 where
+pub record Settled (g : Givens) (peer : Peer) (c : ℕ) (w : View Givens Entry) (text out : List ℕ) (end : SessionEnd)
+    (shown : Shown) : Type 0 where
   pub session : SessionBy g peer (past w) c text out end
   pub cause : CauseBy peer (past w) (arrived_by (past w) c) text end
   pub dry : DriesUp peer text end shown
 
 -- everything that is owed is paid and the connection closed, where the end asks it
-pub record Settles (g : Givens) (peer : Peer) (c : ℕ) (v : View Givens Entry) (a : Shown) (w : View Givens Entry) (b : Shown) (end result : SessionEnd) : Type 0 where
+pub record Settles (g : Givens) (peer : Peer) (c : ℕ) (v : View Givens Entry) (a : Shown) (w : View Givens Entry) (b : Shown)
+    (end result : SessionEnd) : Type 0 where
   pub due : List ℕ
   pub done : List ℕ
   pub adds : Adds g c v w [] due
   pub moved : Moves a b [] done
-  pub settled : (text : List ℕ) → IsHistory g (past v) → MayEnd peer c v text end → DriesUp peer text end a → Settled g peer c w text (joined_by g (past v) c ++ done) result b
+  pub settled : (text : List ℕ) → IsHistory g (past v) → MayEnd peer c v text end → DriesUp peer text end a
+      → Settled g peer c w text (joined_by g (past v) c ++ done) result b
 
 -- the connection was served from its entering to the end of its session
-pub record Converses (g : Givens) (peer : Peer) (c : ℕ) (v : View Givens Entry) (a : Shown) (w : View Givens Entry) (b : Shown) (end : SessionEnd) : Type 0 where
+pub record Converses (g : Givens) (peer : Peer) (c : ℕ) (v : View Givens Entry) (a : Shown) (w : View Givens Entry) (b : Shown)
+    (end : SessionEnd) : Type 0 where
   pub text : List ℕ
   pub out : List ℕ
   pub calls : List Heard
@@ -45,7 +49,8 @@ pub record Converses (g : Givens) (peer : Peer) (c : ℕ) (v : View Givens Entry
   pub moved : Moves a b text out
   pub few : length text ≤ 2 ^ 40
   pub silent : is_late_by (past v) c ≡ true → calls ≡ []
-  pub settled : IsHistory g (past v) → arrived_by (past v) c ≡ [] → joined_by g (past v) c ≡ [] → filling_by (past v) c ≡ None → Settled g peer c w text out end b
+  pub settled : IsHistory g (past v) → arrived_by (past v) c ≡ [] → joined_by g (past v) c ≡ [] → filling_by (past v) c ≡ None
+      → Settled g peer c w text out end b
 
 -- how a session ends that couldn't begin
 abbrev pub refusal : EnterFault → SessionEnd

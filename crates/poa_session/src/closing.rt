@@ -36,7 +36,8 @@ pub(crate) fn settle<R: Wait, L: Link>(
     requires end { end ≢ SessionEnd.WriteFault }
     ensures seat { IsIdle shared.now seat.new }
     ensures conn { HoldsConnection (view seat.new) conn }
-    ensures settles { (g : Givens) → (view seat.old).givens ≡ Some g → Settles g peer conn (view seat.old) (L.shown link.old) (view seat.new) (L.shown link.new) end result }
+    ensures settles { (g : Givens) → (view seat.old).givens ≡ Some g
+        → Settles g peer conn (view seat.old) (L.shown link.old) (view seat.new) (L.shown link.new) end result }
     ensures read { result ≡ SessionEnd.ReadFault → end ≡ SessionEnd.ReadFault }
     ensures failed { HasCause (L.shown link.old).write_faults (L.shown link.new).write_faults (result ≡ SessionEnd.WriteFault) }
 {

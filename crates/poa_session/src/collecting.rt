@@ -33,7 +33,8 @@ pub(crate) fn collect_all<R: Wait, L: Link>(
     requires conn { HoldsConnection (view seat.old) conn }
     ensures seat { IsIdle shared.now seat.new }
     ensures conn { HoldsConnection (view seat.new) conn }
-    ensures pays { (g : Givens) → (view seat.old).givens ≡ Some g → Pays g conn (view seat.old) (L.shown link.old) (view seat.new) (L.shown link.new) result }
+    ensures pays { (g : Givens) → (view seat.old).givens ≡ Some g
+        → Pays g conn (view seat.old) (L.shown link.old) (view seat.new) (L.shown link.new) result }
     ensures failed { HasCause (L.shown link.old).write_faults (L.shown link.new).write_faults (result ≡ Err SessionEnd.WriteFault) }
     ensures unread { result ≢ Err SessionEnd.ReadFault }
 {
@@ -60,7 +61,8 @@ fn gather<R: Wait>(
     requires conn { HoldsConnection (view seat.old) conn }
     ensures seat { IsIdle shared.now seat.new }
     ensures conn { HoldsConnection (view seat.new) conn }
-    ensures gathers { (g : Givens) → (view seat.old).givens ≡ Some g → Gathers g conn (view seat.old) (view seat.new) replies.old.items replies.new.items result }
+    ensures gathers { (g : Givens) → (view seat.old).givens ≡ Some g
+        → Gathers g conn (view seat.old) (view seat.new) replies.old.items replies.new.items result }
 {
     let front = shared.front(rt);
     gather_within(rt, alloc, shared, &front, seat, conn, replies)
@@ -81,7 +83,8 @@ pub(crate) fn gather_within<R: Wait>(
     requires conn { HoldsConnection (view seat.old) conn }
     ensures seat { IsIdle shared.now seat.new }
     ensures conn { HoldsConnection (view seat.new) conn }
-    ensures gathers { (g : Givens) → (view seat.old).givens ≡ Some g → Gathers g conn (view seat.old) (view seat.new) replies.old.items replies.new.items result }
+    ensures gathers { (g : Givens) → (view seat.old).givens ≡ Some g
+        → Gathers g conn (view seat.old) (view seat.new) replies.old.items replies.new.items result }
 {
     for _ in rt.forever() {
         let Ok(next) = collect_next(rt, alloc, shared, front, seat, conn, replies) else {
@@ -108,7 +111,8 @@ fn collect_next<R: Wait>(
     requires conn { HoldsConnection (view seat.old) conn }
     ensures seat { IsIdle shared.now seat.new }
     ensures conn { HoldsConnection (view seat.new) conn }
-    ensures next { (g : Givens) → (view seat.old).givens ≡ Some g → NextGathered g conn (view seat.old) (view seat.new) replies.old.items replies.new.items result }
+    ensures next { (g : Givens) → (view seat.old).givens ≡ Some g
+        → NextGathered g conn (view seat.old) (view seat.new) replies.old.items replies.new.items result }
 {
     let collected = shared.collect_within(rt, front, seat, conn);
     put_collected(alloc, replies, &collected)

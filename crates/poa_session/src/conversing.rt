@@ -43,8 +43,10 @@ pub(crate) fn converse<R: Wait, L: Link>(
     ensures ready { IsReady shared.now aid.new.seat }
     ensures aids { Aids aid.old.seat aid.new.seat }
     ensures conn { HoldsConnection (view seat.new) conn }
-    ensures converses { (g : Givens) → (view seat.old).givens ≡ Some g → Converses g peer conn (view seat.old) (L.shown link.old) (view seat.new) (L.shown link.new) result }
-    ensures read { (g : Givens) → (view seat.old).givens ≡ Some g → HasCause (L.shown link.old).read_faults (L.shown link.new).read_faults (result ≡ SessionEnd.ReadFault) }
+    ensures converses { (g : Givens) → (view seat.old).givens ≡ Some g
+        → Converses g peer conn (view seat.old) (L.shown link.old) (view seat.new) (L.shown link.new) result }
+    ensures read { (g : Givens) → (view seat.old).givens ≡ Some g
+        → HasCause (L.shown link.old).read_faults (L.shown link.new).read_faults (result ≡ SessionEnd.ReadFault) }
     ensures written { HasCause (L.shown link.old).write_faults (L.shown link.new).write_faults (result ≡ SessionEnd.WriteFault) }
 {
     let mut input = Input::new(alloc, peer);
@@ -91,8 +93,10 @@ fn talk<R: Wait, L: Link>(
     ensures ready { IsReady shared.now aid.new.seat }
     ensures aids { Aids aid.old.seat aid.new.seat }
     ensures conn { HoldsConnection (view seat.new) conn }
-    ensures converses { (g : Givens) → (view seat.old).givens ≡ Some g → Converses g peer conn (view seat.old) (L.shown link.old) (view seat.new) (L.shown link.new) result }
-    ensures read { (g : Givens) → (view seat.old).givens ≡ Some g → HasCause (L.shown link.old).read_faults (L.shown link.new).read_faults (result ≡ SessionEnd.ReadFault) }
+    ensures converses { (g : Givens) → (view seat.old).givens ≡ Some g
+        → Converses g peer conn (view seat.old) (L.shown link.old) (view seat.new) (L.shown link.new) result }
+    ensures read { (g : Givens) → (view seat.old).givens ≡ Some g
+        → HasCause (L.shown link.old).read_faults (L.shown link.new).read_faults (result ≡ SessionEnd.ReadFault) }
     ensures written { HasCause (L.shown link.old).write_faults (L.shown link.new).write_faults (result ≡ SessionEnd.WriteFault) }
 {
     for _ in rt.forever() {

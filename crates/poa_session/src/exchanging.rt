@@ -40,7 +40,8 @@ pub(crate) fn exchange<R: Wait>(
     ensures ready { IsReady shared.now aid.new.seat }
     ensures aids { Aids aid.old.seat aid.new.seat }
     ensures conn { HoldsConnection (view seat.new) conn }
-    ensures exchanges { (g : Givens) → (view seat.old).givens ≡ Some g → (peer : Peer) → Exchanges g peer conn (view seat.old) input.old (view seat.new) input.new replies.old.items replies.new.items result }
+    ensures exchanges { (g : Givens) → (view seat.old).givens ≡ Some g → (peer : Peer)
+        → Exchanges g peer conn (view seat.old) input.old (view seat.new) input.new replies.old.items replies.new.items result }
     ensures unfaulted { (result ≢ Err (Flow.Ends end.WriteFault)) × (result ≢ Err (Flow.Ends end.ReadFault)) }
     ensures broken { (result ≢ Err (Flow.Broke end.WriteFault)) × (result ≢ Err (Flow.Broke end.ReadFault)) }
 {
@@ -74,7 +75,8 @@ fn exchange_within<R: Wait>(
     ensures ready { IsReady shared.now aid.new.seat }
     ensures aids { Aids aid.old.seat aid.new.seat }
     ensures conn { HoldsConnection (view seat.new) conn }
-    ensures exchanges { (g : Givens) → (view seat.old).givens ≡ Some g → (peer : Peer) → Exchanges g peer conn (view seat.old) input.old (view seat.new) input.new replies.old.items replies.new.items result }
+    ensures exchanges { (g : Givens) → (view seat.old).givens ≡ Some g → (peer : Peer)
+        → Exchanges g peer conn (view seat.old) input.old (view seat.new) input.new replies.old.items replies.new.items result }
     ensures unfaulted { (result ≢ Err (Flow.Ends end.WriteFault)) × (result ≢ Err (Flow.Ends end.ReadFault)) }
     ensures broken { (result ≢ Err (Flow.Broke end.WriteFault)) × (result ≢ Err (Flow.Broke end.ReadFault)) }
 {

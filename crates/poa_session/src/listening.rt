@@ -32,7 +32,8 @@ pub(crate) fn listen_within<R: Wait>(
     requires conn { HoldsConnection (view seat.old) conn }
     ensures seat { IsIdle shared.now seat.new }
     ensures conn { HoldsConnection (view seat.new) conn }
-    ensures listens { (g : Givens) → (view seat.old).givens ≡ Some g → (peer : Peer) → Listens g peer conn (view seat.old) input.old (view seat.new) input.new result }
+    ensures listens { (g : Givens) → (view seat.old).givens ≡ Some g → (peer : Peer)
+        → Listens g peer conn (view seat.old) input.old (view seat.new) input.new result }
     ensures unwritten { (result ≢ Err SessionEnd.WriteFault) × (result ≢ Err SessionEnd.ReadFault) }
 {
     for _ in rt.forever() {
@@ -60,7 +61,8 @@ fn hear<R: Wait>(
     requires conn { HoldsConnection (view seat.old) conn }
     ensures seat { IsIdle shared.now seat.new }
     ensures conn { HoldsConnection (view seat.new) conn }
-    ensures hears { (g : Givens) → (view seat.old).givens ≡ Some g → (peer : Peer) → Hears g peer conn (view seat.old) input.old (view seat.new) input.new result }
+    ensures hears { (g : Givens) → (view seat.old).givens ≡ Some g → (peer : Peer)
+        → Hears g peer conn (view seat.old) input.old (view seat.new) input.new result }
     ensures unwritten { (result ≢ Progress.Ends SessionEnd.WriteFault) × (result ≢ Progress.Ends SessionEnd.ReadFault) }
 {
     let Ok(told) = input.next(alloc) else {

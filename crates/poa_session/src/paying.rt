@@ -29,7 +29,8 @@ pub(crate) fn pay<R: Wait, L: Link>(
     requires conn { HoldsConnection (view seat.old) conn }
     ensures seat { IsIdle shared.now seat.new }
     ensures conn { HoldsConnection (view seat.new) conn }
-    ensures pays { (g : Givens) → (view seat.old).givens ≡ Some g → PaysAll g conn (view seat.old) (L.shown link.old) (view seat.new) (L.shown link.new) result }
+    ensures pays { (g : Givens) → (view seat.old).givens ≡ Some g
+        → PaysAll g conn (view seat.old) (L.shown link.old) (view seat.new) (L.shown link.new) result }
     ensures failed { HasCause (L.shown link.old).write_faults (L.shown link.new).write_faults (result ≡ Err SessionEnd.WriteFault) }
     ensures unread { result ≢ Err SessionEnd.ReadFault }
 {

@@ -44,8 +44,10 @@ pub(crate) fn round<R: Wait, L: Link>(
     ensures aids { Aids aid.old.seat aid.new.seat }
     ensures conn { HoldsConnection (view seat.new) conn }
     ensures buffer { length buffer.new ≡ length buffer.old }
-    ensures rounds { (g : Givens) → (view seat.old).givens ≡ Some g → (peer : Peer) → Rounds g peer conn (view seat.old) (L.shown link.old) input.old (view seat.new) (L.shown link.new) input.new result }
-    ensures read { (g : Givens) → (view seat.old).givens ≡ Some g → HasCause (L.shown link.old).read_faults (L.shown link.new).read_faults (result ≡ Flow.Ends end.ReadFault) }
+    ensures rounds { (g : Givens) → (view seat.old).givens ≡ Some g → (peer : Peer)
+        → Rounds g peer conn (view seat.old) (L.shown link.old) input.old (view seat.new) (L.shown link.new) input.new result }
+    ensures read { (g : Givens) → (view seat.old).givens ≡ Some g
+        → HasCause (L.shown link.old).read_faults (L.shown link.new).read_faults (result ≡ Flow.Ends end.ReadFault) }
     ensures written { HasCause (L.shown link.old).write_faults (L.shown link.new).write_faults (result ≡ Flow.Broke end.WriteFault) }
     ensures ends { (result ≢ Flow.Ends end.WriteFault) × (result ≢ Flow.Broke end.ReadFault) }
 {

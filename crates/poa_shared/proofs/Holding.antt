@@ -58,7 +58,9 @@ module _ (v : View Givens Entry) (h : List Entry) (k : Knows owner_of v (reverse
       record {
         more = reverse k.saw.0;
         is = sym (reverse-reverse h) ∙ (ap reverse k.saw.1 ∙ reverse-append v.seen k.saw.0);
-        alone = λ c owns. none_behind v.seen k.saw.0 c (λ x far b. (let made = own_made c owns x (subst (λ l. Belongs owner_of l x c) (sym k.saw.1) b) in let low = k.within x made in omega (arith, far, low)));
+        alone = λ c owns. none_behind v.seen k.saw.0 c
+            (λ x far b.
+            (let made = own_made c owns x (subst (λ l. Belongs owner_of l x c) (sym k.saw.1) b) in let low = k.within x made in omega (arith, far, low)));
       }
 
   module _ (g : Givens) (runs : IsHistory g h) where
@@ -88,7 +90,8 @@ module _ (v : View Givens Entry) (h : List Entry) (k : Knows owner_of v (reverse
 
   pub may_own : (c : ℕ) (e : Entry) → Owns v c → owner_of e ≡ Some c → MayMake owner_of (reverse h) v.mine e
   may_own c e owns of_c d own =
-      inr (let same : Some c ≡ Some d = sym of_c ∙ own in let is : c ≡ d = cc in subst (λ x. In (entering owner_of x (reverse h)) v.mine) is (entering_made c owns))
+      inr (let same : Some c ≡ Some d = sym of_c ∙ own in let is : c ≡ d = cc in
+      subst (λ x. In (entering owner_of x (reverse h)) v.mine) is (entering_made c owns))
 
 pub may_work : (log : List Entry) (mine : List ℕ) (e : Entry) → owner_of e ≡ None → MayMake owner_of log mine e
 may_work log mine e none c own = absurd (let f : None ≡ Some c = sym none ∙ own in cc)

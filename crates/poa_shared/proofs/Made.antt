@@ -105,7 +105,8 @@ pub collects_stay : (x y : Life) (conn c : ℕ) (r : Collected) → Collects con
 collects_stay x y conn c (collected.Reply r head reply) s left = (let same : Collect conn r ≡ Left c = not_both x y _ _ s.3 left in cc)
 collects_stay x y conn c (collected.Nothing owes) s left = not_longer x (Left c) (sym s.2 ∙ left)
 
-pub arrives_stay : (v : View Givens Entry) (x y : Life) (conn c : ℕ) (call : Call) (size : ℕ) (r : Result ℕ ArriveFault) → Arrives conn call size x r y → y ≡ with_entry (Left c) x → ⊥
+pub arrives_stay : (v : View Givens Entry) (x y : Life) (conn c : ℕ) (call : Call) (size : ℕ) (r : Result ℕ ArriveFault) → Arrives conn call size x r y
+    → y ≡ with_entry (Left c) x → ⊥
 arrives_stay v x y conn c call size (Ok r) s left = (let same : Arrive conn size call ≡ Left c = not_both x y _ _ s.2 left in cc)
 arrives_stay v x y conn c call size (Err (arrive_fault.Limit calls bytes)) s left =
     elim (is_filled x.history) as (λ b. y ≡ (if b then x else with_entry (Filled conn size) x) → ⊥) [

@@ -29,7 +29,8 @@ module _ {A : Type 0} where
   reversed_at (d ∷ h) e (inl same) =
       (length (reverse h), subst (λ (l : List A). get_elem? l (length (reverse h)) ≡ some e) (sym (reverse_more d h)) (at_last (reverse h) d (length (reverse h)) refl ∙ ap some (sym same)))
   reversed_at (d ∷ h) e (inr there) =
-      (let at = reversed_at h e there in (at.0, subst (λ (l : List A). get_elem? l at.0 ≡ some e) (sym (reverse_more d h)) (at_longer (reverse h) (d ∷ []) at.0 e at.1)))
+      (let at = reversed_at h e there in
+      (at.0, subst (λ (l : List A). get_elem? l at.0 ≡ some e) (sym (reverse_more d h)) (at_longer (reverse h) (d ∷ []) at.0 e at.1)))
 
   -- what stands at a place that a beginning has stands there in the beginning
   pub at_shorter : (short long : List A) (x : ℕ) (e : A) → IsPrefix short long → x < length short → get_elem? long x ≡ some e → get_elem? short x ≡ some e
@@ -48,6 +49,7 @@ none_behind seen (e ∷ rest) c none =
     (let whole : (seen ++ e ∷ []) ++ rest ≡ seen ++ e ∷ rest = append_assoc seen (e ∷ []) rest in
     subst (HasNone c) (sym (reverse_more e rest))
     (none_both c (reverse rest) e
-    (none_behind (seen ++ e ∷ []) rest c (λ x far b. none x (let len = length-append seen (e ∷ []) in omega (arith, far, len)) (subst (λ l. Belongs owner_of l x c) whole b)))
+    (none_behind (seen ++ e ∷ []) rest c
+    (λ x far b. none x (let len = length-append seen (e ∷ []) in omega (arith, far, len)) (subst (λ l. Belongs owner_of l x c) whole b)))
     (λ own. none (length seen) (omega arith)
     (e, subst (λ l. get_elem? l (length seen) ≡ some e) whole (at_longer (seen ++ e ∷ []) rest (length seen) e (at_last seen e (length seen) refl)), own))))

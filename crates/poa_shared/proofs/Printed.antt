@@ -9,7 +9,8 @@ use Rattle.run_history.specs.Life.{Life}
 use Rattle.poa_shared.specs.Events.{PrintsJournal}
 
 pub prints : (r : Result (List ℕ) AllocError) (x : Life) (run : ℕ) (opening : Slots) (entries : List Entry)
-    → IfOk r (λ text. text ≡ journal_text (record { run = run; opening = opening; entries = entries })) → run ≡ x.run → opening ≡ x.opening → entries ≡ reverse x.history → PrintsJournal r x x
+    → IfOk r (λ text. text ≡ journal_text (record { run = run; opening = opening; entries = entries })) → run ≡ x.run → opening ≡ x.opening
+    → entries ≡ reverse x.history → PrintsJournal r x x
 prints (Ok text) x run opening entries is same_run same_opening same_entries =
     (refl, is ∙ (λ i. journal_text (record { run = same_run i; opening = same_opening i; entries = same_entries i })))
 prints (Err fault) x run opening entries is same_run same_opening same_entries = refl

@@ -61,9 +61,11 @@ module _ (v : View Givens Entry) (x y : Life) (made : IsMade v x y) where
         record {
           owns = owned_after c holds.owns;
           staying = ⊎_elim
-              (λ (same : y ≡ x) z there at. old z (subst (In z) (made_none v.mine (reverse x.history) (reverse y.history) (ap (λ (l : Life). reverse l.history) same)) there) at)
+              (λ (same : y ≡ x) z there at. old z
+              (subst (In z) (made_none v.mine (reverse x.history) (reverse y.history) (ap (λ (l : Life). reverse l.history) same)) there) at)
               (λ (more : (e : Entry) × (y ≡ with_entry e x) × _) z there at.
-              (let longer : reverse y.history ≡ reverse x.history ++ more.0 ∷ [] = ap (λ (l : Life). reverse l.history) more.1 ∙ reverse_more more.0 x.history in
+              (let longer : reverse y.history ≡ reverse x.history ++ more.0 ∷ [] = ap (λ (l : Life). reverse l.history) more.1
+              ∙ reverse_more more.0 x.history in
               ⊎_elim (λ (was : In z v.mine). old z was at)
               (λ (is : z ≡ length (reverse x.history)). stays (new more.0 more.1 z is (subst (λ l. get_elem? l z ≡ some (Left c)) longer at)))
               (in_added z (length (reverse x.history)) v.mine (subst (In z) (made_one v.mine (reverse x.history) more.0 (reverse y.history) longer) there))))
@@ -73,11 +75,14 @@ module _ (v : View Givens Entry) (x y : Life) (made : IsMade v x y) where
         old : (z : ℕ) → In z v.mine → get_elem? (reverse y.history) z ≡ some (Left c) → ⊥
         old z there at = holds.staying z there (at_shorter v.seen (reverse y.history) z (Left c) begins (k.within z there) at)
 
-        new : (e : Entry) → y ≡ with_entry e x → (z : ℕ) → z ≡ length (reverse x.history) → get_elem? (reverse x.history ++ e ∷ []) z ≡ some (Left c) → reverse (reverse y.history) ≡ Left c ∷ x.history
+        new : (e : Entry) → y ≡ with_entry e x → (z : ℕ) → z ≡ length (reverse x.history) → get_elem? (reverse x.history ++ e ∷ []) z ≡ some (Left c)
+            → reverse (reverse y.history) ≡ Left c ∷ x.history
         new e more z is at =
             ⊎_elim
-            (λ (low : get_elem? (reverse x.history) z ≡ some (Left c)). absurd (let below = at_below (reverse x.history) z (Left c) low in omega (arith, below, is)))
-            (λ (here : (z ≡ length (reverse x.history)) × (e ≡ Left c)). reverse-reverse y.history ∙ (ap (λ (l : Life). l.history) more ∙ ap (λ d. d ∷ x.history) here.1))
+            (λ (low : get_elem? (reverse x.history) z ≡ some (Left c)). absurd
+            (let below = at_below (reverse x.history) z (Left c) low in omega (arith, below, is)))
+            (λ (here : (z ≡ length (reverse x.history)) × (e ≡ Left c)). reverse-reverse y.history
+            ∙ (ap (λ (l : Life). l.history) more ∙ ap (λ d. d ∷ x.history) here.1))
             (at_push (reverse x.history) e (Left c) z at)
 
     module _ (known : Knows owner_of (after v n x y) (reverse y.history)) (runs : IsHistory (givens_of y) y.history) where
@@ -87,7 +92,10 @@ module _ (v : View Givens Entry) (x y : Life) (made : IsMade v x y) where
             goes_on = goes_on v x.history k;
             runs = subst (λ h. IsHistory g h) (sym (reverse-reverse y.history)) (subst (λ a. IsHistory a y.history) (same_givens ∙ same) runs);
             none_made = λ is. made_none v.mine (reverse x.history) (reverse y.history) (sym (reverse-reverse (reverse y.history)) ∙ ap reverse is);
-            one_made = λ e is. made_one v.mine (reverse x.history) e (reverse y.history) (sym (reverse-reverse (reverse y.history)) ∙ (ap reverse is ∙ reverse_more e x.history)) ∙ ap (λ m. v.mine ++ m ∷ []) (length-reverse x.history);
+            one_made =
+                λ e is. made_one v.mine (reverse x.history) e (reverse y.history)
+                (sym (reverse-reverse (reverse y.history)) ∙ (ap reverse is ∙ reverse_more e x.history))
+                ∙ ap (λ m. v.mine ++ m ∷ []) (length-reverse x.history);
             knows = known;
             given = refl;
             base = refl;
@@ -115,7 +123,8 @@ module _ (v u : View Givens Entry) (n : ℕ) (x y : Life) (took : u ≡ turned_t
     is_after : after v n x y ≡ w
     is_after = sym (put ∙ ap (λ (t : View Givens Entry). passed_on t (reverse y.history)) took)
 
-    pub event : (P : Life → Life → Type 0) → (taken : (v.givens ≡ Some (givens_of x)) × Knows owner_of v (reverse x.history)) → Knows owner_of w (reverse y.history) → IsHistory (givens_of y) y.history → P x y → Event P v w
+    pub event : (P : Life → Life → Type 0) → (taken : (v.givens ≡ Some (givens_of x)) × Knows owner_of v (reverse x.history))
+        → Knows owner_of w (reverse y.history) → IsHistory (givens_of y) y.history → P x y → Event P v w
     event P taken known runs p =
         subst (Event P v) is_after
         (is_event v x y made n taken.1 (subst (λ t. Knows owner_of t (reverse y.history)) (sym is_after) known) runs P taken.0 p)
@@ -128,14 +137,18 @@ module _ (v u : View Givens Entry) (n : ℕ) (x y : Life) (took : u ≡ turned_t
         gone is = ap₂ life_at (same_givens v x y made) (sym (reverse-reverse y.history) ∙ is)
 
     -- a connection that enters is held
-    pub enters_hold : (r : Result ℕ EnterFault) → Knows owner_of v (reverse x.history) → IsHistory (givens_of x) x.history → Enters x r y → IfOk r (HoldsConnection w)
+    pub enters_hold : (r : Result ℕ EnterFault) → Knows owner_of v (reverse x.history) → IsHistory (givens_of x) x.history → Enters x r y
+        → IfOk r (HoldsConnection w)
     enters_hold (Ok conn) k runs s =
         subst (λ t. HoldsConnection t conn) is_after
         (record {
           owns = record {
             place = length (reverse x.history);
-            made = subst (In (length (reverse x.history))) (sym (made_one v.mine (reverse x.history) (Entered conn) (reverse y.history) longer)) (in_last (length (reverse x.history)) v.mine);
-            entered = subst (λ l. get_elem? l (length (reverse x.history)) ≡ some (Entered conn)) (sym longer) (at_last (reverse x.history) (Entered conn) (length (reverse x.history)) refl);
+            made = subst (In (length (reverse x.history))) (sym (made_one v.mine (reverse x.history) (Entered conn) (reverse y.history) longer))
+                (in_last (length (reverse x.history)) v.mine);
+            entered =
+                subst (λ l. get_elem? l (length (reverse x.history)) ≡ some (Entered conn)) (sym longer)
+                (at_last (reverse x.history) (Entered conn) (length (reverse x.history)) refl);
           };
           staying = λ z there at. left z (subst (λ l. get_elem? l z ≡ some (Left conn)) longer at);
         })
@@ -147,7 +160,8 @@ module _ (v u : View Givens Entry) (n : ℕ) (x y : Life) (took : u ≡ turned_t
         left z at =
             ⊎_elim
             (λ (old : get_elem? (reverse x.history) z ≡ some (Left conn)).
-            (let low = owners_low x.config x.run x.limit x.history runs.legal (Left conn) (at_reversed x.history z (Left conn) old) conn refl in let next : conn ≡ connections x.history = s.0 in omega (arith, low, next)))
+            (let low = owners_low x.config x.run x.limit x.history runs.legal (Left conn) (at_reversed x.history z (Left conn) old) conn refl in
+            let next : conn ≡ connections x.history = s.0 in omega (arith, low, next)))
             (λ (new : (z ≡ length (reverse x.history)) × (Entered conn ≡ Left conn)). (let e : Entered conn ≡ Left conn = new.1 in cc))
             (at_push (reverse x.history) (Entered conn) (Left conn) z at)
     enters_hold (Err fault) k runs s = tt

@@ -24,7 +24,8 @@ CollectsFitting conn result old new = Collects conn old result new × FitsItsCal
 
 -- the text of the journal is given
 abbrev pub PrintsJournal : Result (List ℕ) AllocError → Life → Life → Type 0
-PrintsJournal (Ok text) old new = (new ≡ old) × (text ≡ journal_text (record { run = old.run; opening = old.opening; entries = reverse old.history }))
+PrintsJournal (Ok text) old new = (new ≡ old)
+    × (text ≡ journal_text (record { run = old.run; opening = old.opening; entries = reverse old.history }))
 PrintsJournal (Err fault) old new = new ≡ old
 
 -- a worker steps, as the run is running; or it isn't, and nothing is done

@@ -47,13 +47,17 @@ to_new : (old new : Life) (h : List Entry) → new.history ≡ h → Stays old.h
 to_new old new h is stays = subst (Stays old.history) (sym is) stays
 
 pub enters_stays : (old new : Life) (result : Result ℕ EnterFault) → Enters old result new → Stays old.history new.history
-enters_stays old new (Ok conn) is = to_new old new (Entered conn ∷ old.history) (ap (λ l. l.history) is.2) (record { entered = omega arith; staying = λ none. none })
+enters_stays old new (Ok conn) is =
+    to_new old new (Entered conn ∷ old.history) (ap (λ l. l.history) is.2) (record { entered = omega arith; staying = λ none. none })
 enters_stays old new (Err (enter_fault.Limit conns calls bytes)) is = to_new old new old.history (ap (λ l. l.history) is.4) (itself old.history)
 enters_stays old new (Err enter_fault.WantMemory) is = to_new old new old.history (ap (λ l. l.history) is.1) (itself old.history)
 
-pub arrives_stays : (conn size : ℕ) (call : Call) (old new : Life) (result : Result ℕ ArriveFault) → Arrives conn call size old result new → Stays old.history new.history
-arrives_stays conn size call old new (Ok r) is = to_new old new (Arrive conn size call ∷ old.history) (ap (λ l. l.history) is.2) (record { entered = omega arith; staying = λ none. none })
-arrives_stays conn size call old new (Err (arrive_fault.Limit calls bytes)) is = to_new old new (filled_by conn size old).history (ap (λ l. l.history) is.1) (filled (is_filled old.history))
+pub arrives_stays : (conn size : ℕ) (call : Call) (old new : Life) (result : Result ℕ ArriveFault) → Arrives conn call size old result new
+    → Stays old.history new.history
+arrives_stays conn size call old new (Ok r) is =
+    to_new old new (Arrive conn size call ∷ old.history) (ap (λ l. l.history) is.2) (record { entered = omega arith; staying = λ none. none })
+arrives_stays conn size call old new (Err (arrive_fault.Limit calls bytes)) is =
+    to_new old new (filled_by conn size old).history (ap (λ l. l.history) is.1) (filled (is_filled old.history))
   where
     filled : (b : Bool) → Stays old.history (if b then old else with_entry (Filled conn size) old).history
     filled true = itself old.history
@@ -69,5 +73,6 @@ steps_stays w old new (Ok (step_out.Did point)) is =
 steps_stays w old new (Err fault) is = to_new old new old.history (ap (λ l. l.history) is.2) (itself old.history)
 
 pub collects_stays : (conn : ℕ) (old new : Life) (result : Collected) → Collects conn old result new → Stays old.history new.history
-collects_stays conn old new (collected.Reply r head reply) is = to_new old new (Collect conn r ∷ old.history) (ap (λ l. l.history) is.3) (record { entered = omega arith; staying = λ none. none })
+collects_stays conn old new (collected.Reply r head reply) is =
+    to_new old new (Collect conn r ∷ old.history) (ap (λ l. l.history) is.3) (record { entered = omega arith; staying = λ none. none })
 collects_stays conn old new (collected.Nothing owes) is = to_new old new old.history (ap (λ l. l.history) is.2) (itself old.history)

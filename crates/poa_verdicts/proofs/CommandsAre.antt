@@ -21,7 +21,8 @@ use Rattle.poa_history.specs.Templates.{policies_at, retains, is_unique, makes_i
 use Rattle.standing_queries.specs.Answers.{AnswersAs}
 
 -- what is done with what is found is the same
-found_same : {A B : Type 0} (f g : A → B) (none : B) (o : Option A) → ((x : A) → f x ≡ g x) → ◌≡◌ {A = B} (elim o [ Some x ↦ f x | None ↦ none ]) (elim o [ Some x ↦ g x | None ↦ none ])
+found_same : {A B : Type 0} (f g : A → B) (none : B) (o : Option A) → ((x : A) → f x ≡ g x)
+    → ◌≡◌ {A = B} (elim o [ Some x ↦ f x | None ↦ none ]) (elim o [ Some x ↦ g x | None ↦ none ])
 found_same f g none (Some x) same = same x
 found_same f g none None same = refl
 
@@ -46,7 +47,8 @@ module _ (c : Config) (run : ℕ) (past : List Entry) (t : Standing) (answers : 
   activates p servant =
       found_same _ _ (refusal AdapterNonExistent) (live_at s p)
       (λ n. ap (λ v. if not (retains (policies_at c p) && makes_ids (policies_at c p)) then refusal WrongPolicy else v)
-      (found_same _ _ (refusal NoServant) (servant_number c servant) (λ k. ap (λ b. if b then refusal ServantAlreadyActive else Some (Answer (GoodId (made_id run (suc s.made))))) (taken_same n k))))
+      (found_same _ _ (refusal NoServant) (servant_number c servant)
+      (λ k. ap (λ b. if b then refusal ServantAlreadyActive else Some (Answer (GoodId (made_id run (suc s.made))))) (taken_same n k))))
 
   activates_id : (p : List (List ℕ)) (oid servant : List ℕ) → activate_id_row c run on p oid servant ≡ activate_id_row c run s p oid servant
   activates_id p oid servant =
@@ -55,24 +57,33 @@ module _ (c : Config) (run : ℕ) (past : List Entry) (t : Standing) (answers : 
       (found_same _ _ (refusal NoServant) (servant_number c servant) (λ k. ap (λ v. if is_bad_id c run s.made p oid then refusal BadId else v) (row n k))))
     where
       row : (n : Node) (k : ℕ)
-          → (if list_any (λ a. is_of n.number oid a && is_active a) t.activations then refusal ObjectAlreadyActive else if list_any (λ a. is_of n.number oid a && not (is_over c a)) t.activations then None else if is_taken c on n k then refusal ServantAlreadyActive else good)
-          ≡ (if list_any (λ a. is_of n.number oid a && is_active a) s.activations then refusal ObjectAlreadyActive else if list_any (λ a. is_of n.number oid a && not (is_over c a)) s.activations then None else if is_taken c s n k then refusal ServantAlreadyActive else good)
+          → (if list_any (λ a. is_of n.number oid a && is_active a) t.activations then refusal ObjectAlreadyActive else if list_any
+          (λ a. is_of n.number oid a && not (is_over c a)) t.activations then None else if is_taken c on n k then refusal ServantAlreadyActive else good)
+          ≡ (if list_any (λ a. is_of n.number oid a && is_active a) s.activations then refusal ObjectAlreadyActive else if list_any
+          (λ a. is_of n.number oid a && not (is_over c a)) s.activations then None else if is_taken c s n k then refusal ServantAlreadyActive else good)
       row n k =
-          ap (λ b. if b then refusal ObjectAlreadyActive else if list_any (λ a. is_of n.number oid a && not (is_over c a)) t.activations then None else if is_taken c on n k then refusal ServantAlreadyActive else good) (answers.active n.number oid)
-          ∙ ap (λ b. if list_any (λ a. is_of n.number oid a && is_active a) s.activations then refusal ObjectAlreadyActive else if b then None else if is_taken c on n k then refusal ServantAlreadyActive else good) (answers.held n.number oid)
-          ∙ ap (λ b. if list_any (λ a. is_of n.number oid a && is_active a) s.activations then refusal ObjectAlreadyActive else if list_any (λ a. is_of n.number oid a && not (is_over c a)) s.activations then None else if b then refusal ServantAlreadyActive else good) (taken_same n k)
+          ap (λ b. if b then refusal ObjectAlreadyActive else if list_any
+          (λ a. is_of n.number oid a && not (is_over c a)) t.activations then None else if is_taken c on n k then refusal ServantAlreadyActive else good)
+          (answers.active n.number oid)
+          ∙ ap (λ b. if list_any (λ a. is_of n.number oid a && is_active a) s.activations then refusal ObjectAlreadyActive else if b then None else if is_taken
+          c on n k then refusal ServantAlreadyActive else good) (answers.held n.number oid)
+          ∙ ap (λ b. if list_any (λ a. is_of n.number oid a && is_active a) s.activations then refusal ObjectAlreadyActive else if list_any
+          (λ a. is_of n.number oid a && not (is_over c a)) s.activations then None else if b then refusal ServantAlreadyActive else good) (taken_same n k)
 
   deactivates : (p : List (List ℕ)) (oid : List ℕ) → deactivate_row c on p oid ≡ deactivate_row c s p oid
   deactivates p oid =
       found_same _ _ (refusal AdapterNonExistent) (live_at s p)
-      (λ n. ap (λ b. if not (retains (policies_at c p)) then refusal WrongPolicy else if b then good else refusal ObjectNotActive) (answers.active n.number oid))
+      (λ n. ap (λ b. if not (retains (policies_at c p)) then refusal WrongPolicy else if b then good else refusal ObjectNotActive)
+      (answers.active n.number oid))
 
   refers : (p : List (List ℕ)) (servant : List ℕ) → reference_row c run on p servant ≡ reference_row c run s p servant
   refers p servant =
       found_same _ _ (refusal AdapterNonExistent) (live_at s p)
       (λ n. found_same _ _ (refusal NoServant) (servant_number c servant) (λ k.
-      ap (λ b. elim (referred c on n k) [ Some a ↦ Some (Answer (GoodIor (reference_text c run n.number p a.oid k))) | None ↦ (if b then Some (Answer (GoodIor (reference_text c run n.number p (made_id run (suc s.made)) k))) else refusal ServantNotActive) ]) (implicit_same n k)
-      ∙ ap (λ o. elim o [ Some a ↦ Some (Answer (GoodIor (reference_text c run n.number p a.oid k))) | None ↦ (if is_implicit c s n k then Some (Answer (GoodIor (reference_text c run n.number p (made_id run (suc s.made)) k))) else refusal ServantNotActive) ]) (referred_same n k)))
+      ap (λ b. elim (referred c on n k)
+      [ Some a ↦ Some (Answer (GoodIor (reference_text c run n.number p a.oid k))) | None ↦ (if b then Some (Answer (GoodIor (reference_text c run n.number p (made_id run (suc s.made)) k))) else refusal ServantNotActive) ]) (implicit_same n k)
+      ∙ ap (λ o. elim o
+      [ Some a ↦ Some (Answer (GoodIor (reference_text c run n.number p a.oid k))) | None ↦ (if is_implicit c s n k then Some (Answer (GoodIor (reference_text c run n.number p (made_id run (suc s.made)) k))) else refusal ServantNotActive) ]) (referred_same n k)))
 
   kept_same : (command : Command) → command_verdict c run past on command ≡ command_verdict c run past s command
   unfolding command_verdict

@@ -26,12 +26,15 @@ module _ (c : Config) (run : ℕ) (past : List Entry) (t : Standing) (answers : 
   brought_same a (Some rule) =
       elim rule.gives as (λ g. brought_by c t a (Some (record rule { gives = g })) ≡ brought_by c (standing c run past) a (Some (record rule { gives = g }))) [
         | FreshKind kind ↦ refl
-        | Servant k ↦ ap (λ b. elim (is_unique (policies_at c a.path) && b) [ true ↦ Double | false ↦ elim (servant_name c k) [ Some name ↦ Brought name | None ↦ Raise not_active ] ]) (answers.in_map a.adapter (Named k))
+        | Servant k ↦
+            ap (λ b. elim (is_unique (policies_at c a.path) && b)
+            [ true ↦ Double | false ↦ elim (servant_name c k) [ Some name ↦ Brought name | None ↦ Raise not_active ] ]) (answers.in_map a.adapter (Named k))
         | ForwardTo endpoint ↦ refl
         | RaiseThis exception ↦ refl
       ]
 
-  brings : (w : ℕ) (o : Option Activation) → option_map (λ a. Incarnated w (brought c t a)) o ≡ option_map (λ a. Incarnated w (brought c (standing c run past) a)) o
+  brings : (w : ℕ) (o : Option Activation)
+      → option_map (λ a. Incarnated w (brought c t a)) o ≡ option_map (λ a. Incarnated w (brought c (standing c run past) a)) o
   brings w None = refl
   brings w (Some a) = ap (λ i. Some (Incarnated w i)) (brought_same a (rule_for (rules_at c a.path) a.oid))
 

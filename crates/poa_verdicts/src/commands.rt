@@ -81,7 +81,8 @@ fn manager_row(
     name: &Name,
     order: Order,
 ) -> Result<Option<Verdict>, WantMemory>
-    ensures { (past : List Entry) → Tells config.now past settings.now → IfOk result (λ verdict. verdict ≡ rows.manager_row config.now past name.now order) }
+    ensures { (past : List Entry) → Tells config.now past settings.now
+        → IfOk result (λ verdict. verdict ≡ rows.manager_row config.now past name.now order) }
 {
     let Some(number) = manager_number(config, name) else {
         return Ok(refusal(Reason::NoManager));
@@ -195,7 +196,8 @@ fn ulong(bytes: &[u8]) -> u32
 /// Whether eight bytes name this run with an ordinal that wasn't made.
 fn is_unmade(run: u32, made: u32, oid: &[u8]) -> bool
     requires { length oid.now ≡ 8 }
-    ensures { result ≡ (from_be_bytes w32 (take 4 oid.now) == run) && ((from_be_bytes w32 (drop 4 oid.now) == 0) || nat_lt made (from_be_bytes w32 (drop 4 oid.now))) }
+    ensures { result ≡ (from_be_bytes w32 (take 4 oid.now) == run) &&
+        ((from_be_bytes w32 (drop 4 oid.now) == 0) || nat_lt made (from_be_bytes w32 (drop 4 oid.now))) }
 {
     let ordinal = ulong(&oid[4..]);
     ulong(&oid[..4]) == run && (ordinal == 0 || made < ordinal)
@@ -248,8 +250,11 @@ fn id_row(
     oid: &Oid,
     servant: u32,
 ) -> Option<Verdict>
-    ensures { result ≡ (if list_any (λ a. stands.is_of node.now.number oid.now a && stands.is_active a) (seen standing.now).activations then rows.refusal Reason.ObjectAlreadyActive
-        else if list_any (λ a. stands.is_of node.now.number oid.now a && not (ends.is_over config.now a)) (seen standing.now).activations then None
+    ensures { result ≡
+        (if list_any (λ a. stands.is_of node.now.number oid.now a && stands.is_active a)
+        (seen standing.now).activations then rows.refusal Reason.ObjectAlreadyActive
+        else if list_any (λ a. stands.is_of node.now.number oid.now a && not (ends.is_over config.now a))
+        (seen standing.now).activations then None
         else if rows.is_taken config.now (seen standing.now) node.now servant then rows.refusal Reason.ServantAlreadyActive
         else rows.good) }
 {
@@ -315,7 +320,9 @@ fn ior_row(
     oid: &Oid,
     servant: u32,
 ) -> Result<Option<Verdict>, WantMemory>
-    ensures { IfOk result (λ verdict. verdict ≡ Some (Verdict.Answer (Answer.GoodIor (text_of_reference config.now run node.now.number path.now oid.now servant)))) }
+    ensures { IfOk result
+        (λ verdict. verdict ≡ Some
+        (Verdict.Answer (Answer.GoodIor (text_of_reference config.now run node.now.number path.now oid.now servant)))) }
 {
     let text = reference_text(alloc, config, run, node.number, path, oid, servant)?;
     Ok(Some(Verdict::Answer(Answer::GoodIor(text))))
@@ -331,7 +338,10 @@ fn made_ior_row(
     path: &Path,
     servant: u32,
 ) -> Result<Option<Verdict>, WantMemory>
-    ensures { IfOk result (λ verdict. verdict ≡ Some (Verdict.Answer (Answer.GoodIor (text_of_reference config.now run node.now.number path.now (id_made run (suc standing.now.made)) servant)))) }
+    ensures { IfOk result
+        (λ verdict. verdict ≡ Some
+        (Verdict.Answer
+        (Answer.GoodIor (text_of_reference config.now run node.now.number path.now (id_made run (suc standing.now.made)) servant)))) }
 {
     let ordinal = next(standing.made)?;
     let oid = made_id(alloc, run, ordinal)?;
@@ -349,7 +359,9 @@ fn implicit_row(
     servant: u32,
 ) -> Result<Option<Verdict>, WantMemory>
     ensures { IfOk result (λ verdict. verdict ≡ (if rows.is_implicit config.now (seen standing.now) node.now servant
-        then Some (Verdict.Answer (Answer.GoodIor (text_of_reference config.now run node.now.number path.now (id_made run (suc standing.now.made)) servant)))
+        then Some
+        (Verdict.Answer
+        (Answer.GoodIor (text_of_reference config.now run node.now.number path.now (id_made run (suc standing.now.made)) servant)))
         else rows.refusal Reason.ServantNotActive)) }
 {
     if is_implicit(config, standing, node, servant) {
@@ -372,7 +384,9 @@ fn servant_row(
     ensures { IfOk result (λ verdict. verdict ≡ elim (rows.referred config.now (seen standing.now) node.now servant) [
       | Some a ↦ Some (Verdict.Answer (Answer.GoodIor (text_of_reference config.now run node.now.number path.now a.oid servant)))
       | None ↦ (if rows.is_implicit config.now (seen standing.now) node.now servant
-          then Some (Verdict.Answer (Answer.GoodIor (text_of_reference config.now run node.now.number path.now (id_made run (suc standing.now.made)) servant)))
+          then Some
+          (Verdict.Answer
+          (Answer.GoodIor (text_of_reference config.now run node.now.number path.now (id_made run (suc standing.now.made)) servant)))
           else rows.refusal Reason.ServantNotActive)
     ]) }
 {
@@ -431,7 +445,8 @@ fn destroy_row(standing: &Standing, path: &[Name], wait: bool) -> Option<Verdict
 }
 
 fn unforward_row(config: &Config, settings: &Settings, path: &Path) -> Option<Verdict>
-    ensures { (past : List Entry) → Tells config.now past settings.now → result ≡ (if is_some (endpoint_is config.now past path.now) then rows.good else rows.refusal Reason.NoForward) }
+    ensures { (past : List Entry) → Tells config.now past settings.now
+        → result ≡ (if is_some (endpoint_is config.now past path.now) then rows.good else rows.refusal Reason.NoForward) }
 {
     match endpoint_of(config, settings, path.as_slice()) {
         Some(_) => good(),
@@ -449,7 +464,8 @@ pub fn command_verdict(
     settings: &Settings,
     command: &Command,
 ) -> Result<Option<Verdict>, WantMemory>
-    ensures { (past : List Entry) → Tells config.now past settings.now → IfOk result (λ verdict. verdict ≡ rows.command_verdict config.now run past (seen standing.now) command.now) }
+    ensures { (past : List Entry) → Tells config.now past settings.now
+        → IfOk result (λ verdict. verdict ≡ rows.command_verdict config.now run past (seen standing.now) command.now) }
 {
     match command {
         Command::Manager { manager, order } => manager_row(config, settings, manager, *order),

@@ -185,7 +185,8 @@ fn as_set(
     place: &[Name],
     path: &[Name],
 ) -> Result<AsSet, WantMemory>
-    ensures { (past : List Entry) → Tells config.now past settings.now → IfOk result (λ set. IsAsSaid config.now past place.now path.now set) }
+    ensures { (past : List Entry) → Tells config.now past settings.now
+        → IfOk result (λ set. IsAsSaid config.now past place.now path.now set) }
 {
     let preset = match preset_of(config, settings, path) {
         Some(name) => Some(name.clone()?),
@@ -309,7 +310,8 @@ pub fn facts_of(
     crowded: bool,
     call: &Call,
 ) -> Result<Facts, WantMemory>
-    ensures { (past : List Entry) (r : ℕ) → AnswersAs config.now run past (seen standing.now) → Tells config.now past settings.now → crowded ≡ situations.is_crowded past r → calls.call_of past r ≡ Some call.now
+    ensures { (past : List Entry) (r : ℕ) → AnswersAs config.now run past (seen standing.now) → Tells config.now past settings.now
+        → crowded ≡ situations.is_crowded past r → calls.call_of past r ≡ Some call.now
         → IfOk result (λ facts. facts ≡ situations.facts_of config.now run past r) }
 {
     let key = key_in(Some(call));

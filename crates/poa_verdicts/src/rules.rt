@@ -25,7 +25,8 @@ const NOT_ACTIVE: SysExc = SysExc {
 
 /// A configured servant is brought.
 fn named(config: &Config, servant: u32) -> Result<Incarnation, WantMemory>
-    ensures { IfOk result (λ answer. answer ≡ elim (servant_name config.now servant) [ Some name ↦ Named name | None ↦ Raise rules.not_active ]) }
+    ensures { IfOk result
+        (λ answer. answer ≡ elim (servant_name config.now servant) [ Some name ↦ Named name | None ↦ Raise rules.not_active ]) }
 {
     match servant_name(config, servant) {
         Some(name) => Ok(Incarnation::Named(name.clone()?)),
@@ -75,7 +76,8 @@ pub fn brought(
 
 /// The servant of a locator's rule.
 fn located_servant(config: &Config, servant: u32) -> Result<Located, WantMemory>
-    ensures { IfOk result (λ found. found ≡ elim (servant_name config.now servant) [ Some name ↦ Located.Servant name | None ↦ Located.NoRule ]) }
+    ensures { IfOk result
+        (λ found. found ≡ elim (servant_name config.now servant) [ Some name ↦ Located.Servant name | None ↦ Located.NoRule ]) }
 {
     match servant_name(config, servant) {
         Some(name) => Ok(Located::Servant(name.clone()?)),

@@ -93,7 +93,8 @@ fn attempt_in(config: &Config, standing: &Standing, adapter: u32, child: &[Name]
 
 /// What the adapter activator answers for the child of a trial.
 fn attempt_for(config: &Config, standing: &Standing, flight: &Flight) -> Attempt
-    ensures { result ≡ elim flight.now.child [ None ↦ Attempt.No | Some child ↦ turns.attempt_at config.now (seen standing.now) (turns.node_of (seen standing.now) flight.now.adapter) child ] }
+    ensures { result ≡ elim flight.now.child
+        [ None ↦ Attempt.No | Some child ↦ turns.attempt_at config.now (seen standing.now) (turns.node_of (seen standing.now) flight.now.adapter) child ] }
 {
     match &flight.child {
         Some(child) => attempt_in(config, standing, flight.adapter, child.as_slice()),
@@ -168,7 +169,8 @@ pub fn going_on(
 
 /// Whether the servant activator is to be told of an activation that is ending.
 fn is_told(config: &Config, activation: &Activation) -> bool
-    ensures { result ≡ stands.is_complete activation.now && (stands.is_ending activation.now && (configured.has_activator config.now activation.now.path && not activation.now.out)) }
+    ensures { result ≡ stands.is_complete activation.now &&
+        (stands.is_ending activation.now && (configured.has_activator config.now activation.now.path && not activation.now.out)) }
 {
     is_complete(activation)
         && (is_ending(activation)

@@ -56,7 +56,8 @@ gone h conn above none = by_left (has_left h conn) (sym (ap (λ b. not b && not 
     by_left false is = absurd (let e : true ≡ false = is in cc)
 
 -- nothing is left where a step was idle and the run is over
-closed_by : (worker : ℕ) (g : Givens) (h : List Entry) → is_abandoned h worker ≡ false → turn g.config g.run h worker ≡ None → is_run_over h ≡ true → IsClosed g worker h
+closed_by : (worker : ℕ) (g : Givens) (h : List Entry) → is_abandoned h worker ≡ false → turn g.config g.run h worker ≡ None → is_run_over h ≡ true
+    → IsClosed g worker h
 closed_by worker g h going idle over =
     let first = and_parts (is_shut h) (are_gone h (connections h) && (unadmitted h == 0)) over in
     let rest = and_parts (are_gone h (connections h)) (unadmitted h == 0) first.1 in
@@ -73,7 +74,8 @@ seen_all g v w h t = record { runs = t.runs; knows = t.knows }
 
 module _ (worker : ℕ) (g : Givens) (v w : View Givens Entry) (given : v.givens ≡ Some g) where
   -- what the answers of a step say where it makes no turn
-  pub step_idle : (over : Bool) → Event (λ old new. Steps worker old (Ok (step_out.Idle over)) new) v w → HasSeenAll g w × (turn g.config g.run (past w) worker ≡ None) × (over ≡ true → IsClosed g worker (past w))
+  pub step_idle : (over : Bool) → Event (λ old new. Steps worker old (Ok (step_out.Idle over)) new) v w → HasSeenAll g w
+      × (turn g.config g.run (past w) worker ≡ None) × (over ≡ true → IsClosed g worker (past w))
   step_idle over ev =
       let it = ev g given in
       let same : past w ≡ it.0 = ap (λ l. l.history) it.2.3 in (
@@ -82,7 +84,8 @@ module _ (worker : ℕ) (g : Givens) (v w : View Givens Entry) (given : v.givens
         λ is. subst (IsClosed g worker) (sym same) (closed_by worker g it.0 it.2.0 it.2.1 (sym it.2.2 ∙ is)),
       )
 
-  pub step_did : (point : Point) → Event (λ old new. Steps worker old (Ok (step_out.Did point)) new) v w → HasSeenAll g w × (point ≡ point_of (stage (past w) worker))
+  pub step_did : (point : Point) → Event (λ old new. Steps worker old (Ok (step_out.Did point)) new) v w → HasSeenAll g w
+      × (point ≡ point_of (stage (past w) worker))
   step_did point ev = (let it = ev g given in (seen_all g v w it.0 it.1, it.2.1))
 
   pub step_stopped : Event (λ old new. Steps worker old (Ok step_out.Stopped) new) v w → HasSeenAll g w × (is_abandoned (past w) worker ≡ true)
@@ -169,7 +172,8 @@ module _ (worker : ℕ) (g : Givens) (u v : View Givens Entry) (so_far : MakesTu
           cause = ap (λ l. is_abandoned l worker) is ∙ ap (λ b. b || is_abandoned h worker) (eq-eqb worker worker refl);
         }
 
-    gives_up : (b : Bool) → is_abandoned h worker ≡ b → life_at g (past w) ≡ (if b then life_at g h else with_entry (Abandon worker) (life_at g h)) → Worked g worker u w work_end.WantMemory
+    gives_up : (b : Bool) → is_abandoned h worker ≡ b → life_at g (past w) ≡ (if b then life_at g h else with_entry (Abandon worker) (life_at g h))
+        → Worked g worker u w work_end.WantMemory
     gives_up true stands is = given_up_before (ap (λ l. l.history) is) stands
     gives_up false none is = given_up_now (ap (λ l. l.history) is)
 
@@ -177,7 +181,8 @@ module _ (worker : ℕ) (g : Givens) (u v : View Givens Entry) (so_far : MakesTu
   ends_given_up w given ev = (let it = ev g given in gives_up w it.0 it.1 (is_abandoned it.0 worker) refl it.2)
 
 -- after the turns so far a seat that was left as it was made turns again, and paused
-module _ (worker : ℕ) (u v v' w : View Givens Entry) (so_far : (g : Givens) → u.givens ≡ Some g → MakesTurns worker u v) (same : v' ≡ v) (r : Result Pause AllocError) (turned : (g : Givens) → v'.givens ≡ Some g → Pauses g worker v' r w) where
+module _ (worker : ℕ) (u v v' w : View Givens Entry) (so_far : (g : Givens) → u.givens ≡ Some g → MakesTurns worker u v) (same : v' ≡ v)
+    (r : Result Pause AllocError) (turned : (g : Givens) → v'.givens ≡ Some g → Pauses g worker v' r w) where
   paused : (g : Givens) → u.givens ≡ Some g → MakesTurns worker u w × IsPaused g worker r w
   paused g given =
       let old = so_far g given in
@@ -199,7 +204,8 @@ module _ (worker : ℕ) (u v v' w : View Givens Entry) (so_far : (g : Givens) �
       let stopped = subst (λ x. IsPaused g worker x w) is it.1 in
       ends_stopped worker g u w it.0 stopped.0 stopped.1
 
-  pub gives_it_up : (x y : View Givens Entry) → Event (λ old new. Abandons worker old new) w x → y ≡ x → (g : Givens) → u.givens ≡ Some g → Worked g worker u y work_end.WantMemory
+  pub gives_it_up : (x y : View Givens Entry) → Event (λ old new. Abandons worker old new) w x → y ≡ x → (g : Givens) → u.givens ≡ Some g
+      → Worked g worker u y work_end.WantMemory
   gives_it_up x y ev is g given =
       let old = goes_further g given in
       subst (λ z. Worked g worker u z work_end.WantMemory) (sym is) (ends_given_up worker g u w old x (old.given ∙ given) ev)

@@ -94,16 +94,19 @@ module _ (g : Givens) (v w : View Givens Entry) (h : List Entry) (t : Turns g v 
   }
 
 -- whatever a step answers, it made a turn or nothing
-step_helps : (r : Option (Result StepOut AllocError)) (g : Givens) (v w : View Givens Entry) → v.givens ≡ Some g → Event (λ old new. StepsRunning 0 old r new) v w → Helps v w
+step_helps : (r : Option (Result StepOut AllocError)) (g : Givens) (v w : View Givens Entry) → v.givens ≡ Some g
+    → Event (λ old new. StepsRunning 0 old r new) v w → Helps v w
 step_helps None g v w given ev = (let it = ev g given in step_none g v w it.0 it.1 (ap (λ l. l.history) it.2.1))
 step_helps (Some (Ok step_out.Stopped)) g v w given ev = (let it = ev g given in step_none g v w it.0 it.1 (ap (λ l. l.history) it.2.1.1))
 step_helps (Some (Ok (step_out.Idle over))) g v w given ev = (let it = ev g given in step_none g v w it.0 it.1 (ap (λ l. l.history) it.2.1.3))
 step_helps (Some (Ok (step_out.Did point))) g v w given ev =
-    (let it = ev g given in let one = it.2.1.2 in step_one g v w it.0 it.1 one.0 (ap (λ l. l.history) one.2) (turn_own g.config g.run it.0 0 one.0 one.1) it.2.0)
+    (let it = ev g given in let one = it.2.1.2 in
+    step_one g v w it.0 it.1 one.0 (ap (λ l. l.history) one.2) (turn_own g.config g.run it.0 0 one.0 one.1) it.2.0)
 step_helps (Some (Err fault)) g v w given ev = (let it = ev g given in step_none g v w it.0 it.1 (ap (λ l. l.history) it.2.1.2))
 
 -- a step after the turns so far
-pub steps_on : (r : Option (Result StepOut AllocError)) (u v w : View Givens Entry) → ((g : Givens) → u.givens ≡ Some g → Helps u v) → Event (λ old new. StepsRunning 0 old r new) v w → (g : Givens) → u.givens ≡ Some g → Helps u w
+pub steps_on : (r : Option (Result StepOut AllocError)) (u v w : View Givens Entry) → ((g : Givens) → u.givens ≡ Some g → Helps u v)
+    → Event (λ old new. StepsRunning 0 old r new) v w → (g : Givens) → u.givens ≡ Some g → Helps u w
 steps_on r u v w so_far ev g given = (let old = so_far g given in helps_through u v w old (step_helps r g v w (old.given ∙ given) ev))
 
 pub aids_none : (a : Option SeatOf) → Aids a a

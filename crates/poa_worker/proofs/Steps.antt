@@ -39,11 +39,16 @@ IsOf w e = (worker_of e ≡ Some w) × (e ≡ Abandon w → ⊥)
 
 going : (c : Config) (s : Standing) (w : ℕ) (begun : Stage) (e : Entry) → going_on c s w begun ≡ Some e → IsOf w e
 going c s w Free e is = absurd (let f : None ≡ Some e = is in cc)
-going c s w (Trying r) e is = subst (IsOf w) (let f : Some (Tried w (attempt c s r)) ≡ Some e = is in cc) (refl, λ (q : Tried w (attempt c s r) ≡ Abandon w). cc)
-going c s w (Incarnating r n) e is = (let found = mapped_by (λ a. Incarnated w (brought c s a)) (activation_numbered s n) e is in subst (IsOf w) found.2 (refl, λ (q : Incarnated w (brought c s found.0) ≡ Abandon w). cc))
+going c s w (Trying r) e is =
+    subst (IsOf w) (let f : Some (Tried w (attempt c s r)) ≡ Some e = is in cc) (refl, λ (q : Tried w (attempt c s r) ≡ Abandon w). cc)
+going c s w (Incarnating r n) e is =
+    (let found = mapped_by (λ a. Incarnated w (brought c s a)) (activation_numbered s n) e is in
+    subst (IsOf w) found.2 (refl, λ (q : Incarnated w (brought c s found.0) ≡ Abandon w). cc))
 going c s w (Serving r) e is = subst (IsOf w) (let f : Some (Run w) ≡ Some e = is in cc) (refl, λ (q : Run w ≡ Abandon w). cc)
 going c s w (Ran r) e is = subst (IsOf w) (let f : Some (Done w) ≡ Some e = is in cc) (refl, λ (q : Done w ≡ Abandon w). cc)
-going c s w (Removing n) e is = (let found = mapped_by (λ a. Etherealized w a.cleanup a.remaining) (activation_numbered s n) e is in subst (IsOf w) found.2 (refl, λ (q : Etherealized w found.0.cleanup found.0.remaining ≡ Abandon w). cc))
+going c s w (Removing n) e is =
+    (let found = mapped_by (λ a. Etherealized w a.cleanup a.remaining) (activation_numbered s n) e is in
+    subst (IsOf w) found.2 (refl, λ (q : Etherealized w found.0.cleanup found.0.remaining ≡ Abandon w). cc))
 
 -- the next entry of a worker is one of its
 pub turn_own : (c : Config) (run : ℕ) (h : List Entry) (w : ℕ) (e : Entry) → turn c run h w ≡ Some e → IsOf w e
@@ -119,7 +124,8 @@ module _ (worker : ℕ) where
     }
 
   -- whatever a step answers, it made a turn or nothing
-  pub step_makes : (r : Result StepOut AllocError) (g : Givens) (v w : View Givens Entry) → v.givens ≡ Some g → Event (λ old new. Steps worker old r new) v w → MakesTurns worker v w
+  pub step_makes : (r : Result StepOut AllocError) (g : Givens) (v w : View Givens Entry) → v.givens ≡ Some g → Event (λ old new. Steps worker old r new) v w
+      → MakesTurns worker v w
   step_makes (Ok step_out.Stopped) g v w given ev = (let it = ev g given in step_none g v w it.0 it.1 (ap (λ l. l.history) it.2.1))
   step_makes (Ok (step_out.Idle over)) g v w given ev = (let it = ev g given in step_none g v w it.0 it.1 (ap (λ l. l.history) it.2.3))
   step_makes (Ok (step_out.Did point)) g v w given ev =
@@ -127,5 +133,6 @@ module _ (worker : ℕ) where
   step_makes (Err fault) g v w given ev = (let it = ev g given in step_none g v w it.0 it.1 (ap (λ l. l.history) it.2.2))
 
   -- a step after the turns so far
-  pub steps_on : (r : Result StepOut AllocError) (u v w : View Givens Entry) → ((g : Givens) → u.givens ≡ Some g → MakesTurns worker u v) → Event (λ old new. Steps worker old r new) v w → (g : Givens) → u.givens ≡ Some g → MakesTurns worker u w
+  pub steps_on : (r : Result StepOut AllocError) (u v w : View Givens Entry) → ((g : Givens) → u.givens ≡ Some g → MakesTurns worker u v)
+      → Event (λ old new. Steps worker old r new) v w → (g : Givens) → u.givens ≡ Some g → MakesTurns worker u w
   steps_on r u v w so_far ev g given = (let old = so_far g given in makes_through u v w old (step_makes r g v w (old.given ∙ given) ev))

@@ -25,9 +25,13 @@ use Rattle.poad_files.proofs.Told.{told_then, told_here, told_so}
 use Rattle.poad_answer.proofs.Serving.{begins_with}
 
 -- a delivery, and a second one
-pub hands_then : (a b : Option (List ℕ)) (c : Option (List ℕ)) (first last : List ℕ) (d : Bool) → IfTold a b (Hands true first) → IfTold b c (Hands d last) → IfTold a c (Hands d (first ++ last))
+pub hands_then : (a b : Option (List ℕ)) (c : Option (List ℕ)) (first last : List ℕ) (d : Bool) → IfTold a b (Hands true first) → IfTold b c (Hands d last)
+    → IfTold a c (Hands d (first ++ last))
 hands_then a b c first last true p q = told_then a b c _ _ _ (λ x y z e f. f ∙ (ap (λ (front : List ℕ). front ++ last) e ∙ append_assoc x first last)) p q
-hands_then a b c first last false p q = told_then a b c _ _ _ (λ x y z e f. (length first + f.0, f.1 ∙ (ap (λ (front : List ℕ). front ++ take f.0 last) e ∙ (append_assoc x first (take f.0 last) ∙ ap (λ (bytes : List ℕ). x ++ bytes) (sym (take-append-add first last f.0)))))) p q
+hands_then a b c first last false p q =
+    told_then a b c _ _ _
+    (λ x y z e f.
+    (length first + f.0, f.1 ∙ (ap (λ (front : List ℕ). front ++ take f.0 last) e ∙ (append_assoc x first (take f.0 last) ∙ ap (λ (bytes : List ℕ). x ++ bytes) (sym (take-append-add first last f.0)))))) p q
 
 -- a delivery that failed, of bytes that others were to follow
 pub hands_part : (a b : Option (List ℕ)) (first last : List ℕ) → IfTold a b (Hands false first) → IfTold a b (Hands false (first ++ last))
@@ -35,7 +39,8 @@ hands_part a b first last p = told_so a b _ _ (λ x y e. (
   length (take e.0 first),
   e.1 ∙ ap (λ (bytes : List ℕ). x ++ bytes) (sym (
       ap (λ (all : List ℕ). take (length (take e.0 first)) (all ++ last)) (sym (take-append-drop e.0 first))
-      ∙ (ap (take (length (take e.0 first))) (append_assoc (take e.0 first) (drop e.0 first) last) ∙ take_at (take e.0 first) (drop e.0 first ++ last) _ refl))),
+      ∙ (ap (take (length (take e.0 first))) (append_assoc (take e.0 first) (drop e.0 first) last)
+      ∙ take_at (take e.0 first) (drop e.0 first ++ last) _ refl))),
 )) p
 
 -- all the bytes are a front of them
@@ -43,7 +48,8 @@ take_all : (bytes : List ℕ) → bytes ≡ take (length bytes) bytes
 take_all bytes = sym (ap (take (length bytes)) (sym (append-nil bytes)) ∙ take_at bytes [] _ refl)
 
 -- what a run that ends here gained
-gains_all : (status : Status) (why : Stop) (held : ℕ) (bytes before now : List ℕ) → EndsPiece status why held → now ≡ before ++ bytes → Gains status bytes before now
+gains_all : (status : Status) (why : Stop) (held : ℕ) (bytes before now : List ℕ) → EndsPiece status why held → now ≡ before ++ bytes
+    → Gains status bytes before now
 gains_all Ok why held bytes before now ends e = e
 gains_all (Held count) why held bytes before now ends e = e
 gains_all (Malformed at) why held bytes before now ends e = e
@@ -71,11 +77,16 @@ pub record Fed (piece : List ℕ) (f g : Framing) : Type 0 where
   pub gives : (text : List ℕ) (messages : List Framed) (end : End) → FramerGives g text messages end ↔ FramerGives f (piece ++ text) messages end
   pub reached : reach g ≤ reach f + length piece
 
-fed_on : (piece fed : List ℕ) (given : List Framed) (old mid : Service) → Fed piece old.framer mid.framer → HasServed fed given old → HasServed (fed ++ piece) given mid
+fed_on : (piece fed : List ℕ) (given : List Framed) (old mid : Service) → Fed piece old.framer mid.framer → HasServed fed given old
+    → HasServed (fed ++ piece) given mid
 fed_on piece fed given old mid more h = given_fed message_limit fed piece given old.framer mid.framer h more.gives
 
 -- the messages of a piece were served, and this came of their replies
-piece_served : (ending : Option Status) (why : Stop) (piece : List ℕ) (old mid served new : Service) (h k : Option (List ℕ)) → Fed piece old.framer mid.framer → mid.core ≡ old.core → (u : ServesUpTo why mid served) → IfTold h k (λ before now. MatchOption ending (now ≡ before ++ u.replies) (λ status. Gains status (u.replies ++ last_words why) before now)) → MatchOption ending (GoesOn why piece u.messages u.life old new) (λ status. EndsPiece status why (unadmitted u.life.history)) → TakesPiece ending piece old new h k
+piece_served : (ending : Option Status) (why : Stop) (piece : List ℕ) (old mid served new : Service) (h k : Option (List ℕ)) → Fed piece old.framer mid.framer
+    → mid.core ≡ old.core → (u : ServesUpTo why mid served)
+    → IfTold h k (λ before now. MatchOption ending (now ≡ before ++ u.replies) (λ status. Gains status (u.replies ++ last_words why) before now))
+    → MatchOption ending (GoesOn why piece u.messages u.life old new) (λ status. EndsPiece status why (unadmitted u.life.history))
+    → TakesPiece ending piece old new h k
 piece_served ending why piece old mid served new h k more servant u gave ends = record {
   legal = u.legal;
   messages = u.messages;
@@ -89,26 +100,35 @@ piece_served ending why piece old mid served new h k more servant u gave ends = 
 }
 
 -- the bytes that were handed on
-handed : (why : Stop) (mid served : Service) (h k : Option (List ℕ)) (d : Bool) → (u : ServesUpTo why mid served) → mid.replies.items ≡ [] → IfTold h k (Hands d (served.replies.items ++ last_words why)) → IfTold h k (Hands d (u.replies ++ last_words why))
-handed why mid served h k d u none p = subst (λ (bytes : List ℕ). IfTold h k (Hands d (bytes ++ last_words why))) (u.waiting ∙ ap (λ (front : List ℕ). front ++ u.replies) none) p
+handed : (why : Stop) (mid served : Service) (h k : Option (List ℕ)) (d : Bool) → (u : ServesUpTo why mid served) → mid.replies.items ≡ []
+    → IfTold h k (Hands d (served.replies.items ++ last_words why)) → IfTold h k (Hands d (u.replies ++ last_words why))
+handed why mid served h k d u none p =
+    subst (λ (bytes : List ℕ). IfTold h k (Hands d (bytes ++ last_words why))) (u.waiting ∙ ap (λ (front : List ℕ). front ++ u.replies) none) p
 
 -- a write failed
-pub piece_unwritten : (why : Stop) (piece : List ℕ) (old mid served new : Service) (h k : Option (List ℕ)) → Fed piece old.framer mid.framer → mid.core ≡ old.core → mid.replies.items ≡ [] → ServesUpTo why mid served → IfTold h k (Hands false (served.replies.items ++ last_words why)) → TakesPiece (Some WriteFault) piece old new h k
-piece_unwritten why piece old mid served new h k more servant none u p = piece_served (Some WriteFault) why piece old mid served new h k more servant u (handed why mid served h k false u none p) tt
+pub piece_unwritten : (why : Stop) (piece : List ℕ) (old mid served new : Service) (h k : Option (List ℕ)) → Fed piece old.framer mid.framer
+    → mid.core ≡ old.core → mid.replies.items ≡ [] → ServesUpTo why mid served → IfTold h k (Hands false (served.replies.items ++ last_words why))
+    → TakesPiece (Some WriteFault) piece old new h k
+piece_unwritten why piece old mid served new h k more servant none u p =
+    piece_served (Some WriteFault) why piece old mid served new h k more servant u (handed why mid served h k false u none p) tt
 
-goes_on : (why : Stop) (piece : List ℕ) (old mid served new : Service) → Fed piece old.framer mid.framer → (u : ServesUpTo why mid served) → new.framer ≡ served.framer → new.core ≡ served.core → new.replies.items ≡ [] → why ≡ stop.Waits new.waiting → GoesOn why piece u.messages u.life old new
+goes_on : (why : Stop) (piece : List ℕ) (old mid served new : Service) → Fed piece old.framer mid.framer → (u : ServesUpTo why mid served)
+    → new.framer ≡ served.framer → new.core ≡ served.core → new.replies.items ≡ [] → why ≡ stop.Waits new.waiting → GoesOn why piece u.messages u.life old new
 goes_on why piece old mid served new more u framer servant none waits =
     let kept : Keeps (stop.Waits new.waiting) u.messages u.life mid served = subst (λ (w : Stop). Keeps w u.messages u.life mid served) waits u.kept in
     record {
       waits = waits;
       is_life = servant ∙ kept.0;
       delivered = none;
-      reached = let e : reach new.framer ≡ reach mid.framer = ap reach framer ∙ u.reached in let m : reach mid.framer ≤ reach old.framer + length piece = more.reached in omega arith;
-      given = λ fed given h. subst (λ (f : Framing). HasGiven message_limit (fed ++ piece) (given ++ u.messages) f) (sym framer) (kept.1 (fed ++ piece) given (fed_on piece fed given old mid more h));
+      reached = let e : reach new.framer ≡ reach mid.framer = ap reach framer ∙ u.reached in
+          let m : reach mid.framer ≤ reach old.framer + length piece = more.reached in omega arith;
+      given = λ fed given h. subst (λ (f : Framing). HasGiven message_limit (fed ++ piece) (given ++ u.messages) f) (sym framer)
+          (kept.1 (fed ++ piece) given (fed_on piece fed given old mid more h));
     }
 
 -- a run that ends at a CloseConnection leaves as many calls unadmitted as the messages before it
-ends_kept : (status : Status) (why : Stop) (mid served : Service) (life : Life) (u : ServesUpTo why mid served) → life ≡ served.core → EndsPiece status why (unadmitted life.history) → EndsPiece status why (unadmitted u.life.history)
+ends_kept : (status : Status) (why : Stop) (mid served : Service) (life : Life) (u : ServesUpTo why mid served) → life ≡ served.core
+    → EndsPiece status why (unadmitted life.history) → EndsPiece status why (unadmitted u.life.history)
 ends_kept Ok why mid served life u same e =
     (let kept : served.core ≡ u.life = subst (λ (w : Stop). Keeps w u.messages u.life mid served) e.0 u.kept in
     subst (λ (s : Life). EndsPiece Ok why (unadmitted s.history)) (same ∙ kept) e)
@@ -122,10 +142,14 @@ ends_kept WantMemory why mid served life u same e = tt
 ends_kept _ why mid served life u same e = absurd e
 
 -- all was written, and the run goes on or ends
-pub piece_settled : (ending : Option Status) (why : Stop) (piece : List ℕ) (old mid served new : Service) (h k : Option (List ℕ)) → Fed piece old.framer mid.framer → mid.core ≡ old.core → mid.replies.items ≡ [] → ServesUpTo why mid served → IfTold h k (Hands true (served.replies.items ++ last_words why)) → new.framer ≡ served.framer → new.core ≡ served.core → new.replies.items ≡ [] → ServiceEnds ending why new → TakesPiece ending piece old new h k
+pub piece_settled : (ending : Option Status) (why : Stop) (piece : List ℕ) (old mid served new : Service) (h k : Option (List ℕ))
+    → Fed piece old.framer mid.framer → mid.core ≡ old.core → mid.replies.items ≡ [] → ServesUpTo why mid served
+    → IfTold h k (Hands true (served.replies.items ++ last_words why)) → new.framer ≡ served.framer → new.core ≡ served.core → new.replies.items ≡ []
+    → ServiceEnds ending why new → TakesPiece ending piece old new h k
 piece_settled None why piece old mid served new h k more servant none u p framer state clear waits =
     piece_served None why piece old mid served new h k more servant u
-    (told_so h k _ _ (λ x y e. e ∙ ap (λ (bytes : List ℕ). x ++ bytes) (ap (λ (w : Stop). u.replies ++ last_words w) waits ∙ append-nil u.replies)) (handed why mid served h k true u none p))
+    (told_so h k _ _ (λ x y e. e ∙ ap (λ (bytes : List ℕ). x ++ bytes) (ap (λ (w : Stop). u.replies ++ last_words w) waits ∙ append-nil u.replies))
+    (handed why mid served h k true u none p))
     (goes_on why piece old mid served new more u framer state clear waits)
 piece_settled (Some status) why piece old mid served new h k more servant none u p framer state clear ends =
     piece_served (Some status) why piece old mid served new h k more servant u

@@ -21,7 +21,8 @@ record SomeGiven (f : Framing) (text : List ℕ) : Type 0 where
   end : End
   gives : FramerGives f text messages end
 
-some_given_so : (limit : ℕ) (reading : Reading) (unread : List ℕ) (closed : Option Why) (text : List ℕ) → SomeGiven (record { limit = limit; reading = reading; unread = unread; closed = closed }) text
+some_given_so : (limit : ℕ) (reading : Reading) (unread : List ℕ) (closed : Option Why) (text : List ℕ)
+    → SomeGiven (record { limit = limit; reading = reading; unread = unread; closed = closed }) text
 some_given_so limit reading unread None text =
     let s : SomeStream limit reading (unread ++ text) = some_stream limit reading (unread ++ text) in
     record { messages = s.messages; end = s.end; gives = s.stream }
@@ -49,7 +50,8 @@ stops_for_memory old new waiting reached = record {
 }
 
 -- a place is bad
-pub stops_at_place : (old new : Service) (at : ℕ) (why : Why) → FramerAnswers old.framer (next.Bad at why) new.framer → new.replies.items ≡ old.replies.items → reach new.framer ≡ reach old.framer → StopsHere (Refused at) old new
+pub stops_at_place : (old new : Service) (at : ℕ) (why : Why) → FramerAnswers old.framer (next.Bad at why) new.framer → new.replies.items ≡ old.replies.items
+    → reach new.framer ≡ reach old.framer → StopsHere (Refused at) old new
 stops_at_place old new at why bad waiting reached = record {
   waiting = waiting;
   reached = reached;
@@ -58,14 +60,19 @@ stops_at_place old new at why bad waiting reached = record {
 }
 
 -- a message came, which stops the service
-came : (old mid : Service) (message : Framed) → FramerAnswers old.framer (next.Message message) mid.framer → (fed : List ℕ) (given : List Framed) → HasServed fed given old → HasServed fed (given ++ message ∷ []) mid
+came : (old mid : Service) (message : Framed) → FramerAnswers old.framer (next.Message message) mid.framer → (fed : List ℕ) (given : List Framed)
+    → HasServed fed given old → HasServed fed (given ++ message ∷ []) mid
 came old mid message took fed given h = given_message message_limit fed given message old.framer mid.framer h took
 
-stops_by : (old mid : Service) (message : Framed) → FramerAnswers old.framer (next.Message message) mid.framer → (why : Stop) → StopsBy why old.core message → (fed : List ℕ) (given : List Framed) → HasServed fed given old → StopsAt why old.core fed given
+stops_by : (old mid : Service) (message : Framed) → FramerAnswers old.framer (next.Message message) mid.framer → (why : Stop) → StopsBy why old.core message
+    → (fed : List ℕ) (given : List Framed) → HasServed fed given old → StopsAt why old.core fed given
 stops_by old mid message took (Waits have) by fed given h = absurd by
-stops_by old mid message took Closed by fed given h = record { message = message; begins = begins fed (given ++ message ∷ []) mid.framer (came old mid message took fed given h); is = by }
-stops_by old mid message took (Refused at) by fed given h = inr (record { message = message; begins = begins fed (given ++ message ∷ []) mid.framer (came old mid message took fed given h); is = by })
-stops_by old mid message took (Full calls bytes) by fed given h = record { message = message; begins = begins fed (given ++ message ∷ []) mid.framer (came old mid message took fed given h); is = by }
+stops_by old mid message took Closed by fed given h =
+    record { message = message; begins = begins fed (given ++ message ∷ []) mid.framer (came old mid message took fed given h); is = by }
+stops_by old mid message took (Refused at) by fed given h =
+    inr (record { message = message; begins = begins fed (given ++ message ∷ []) mid.framer (came old mid message took fed given h); is = by })
+stops_by old mid message took (Full calls bytes) by fed given h =
+    record { message = message; begins = begins fed (given ++ message ∷ []) mid.framer (came old mid message took fed given h); is = by }
 stops_by old mid message took NoMemory by fed given h = begins fed given old.framer h
 
 -- only waiting goes on
@@ -75,7 +82,9 @@ nothing_kept old new message Closed by kept = kept
 nothing_kept old new message _ by kept = tt
 
 -- a message came, and was served or stops the service
-pub turn : (result : Option Stop) (old mid new : Service) (message : Framed) → FramerAnswers old.framer (next.Message message) mid.framer → length mid.framer.unread < length old.framer.unread → reach mid.framer ≡ reach old.framer → mid.core ≡ old.core → mid.replies.items ≡ old.replies.items → new.framer ≡ mid.framer → Handles result message mid new → IsLegalRun new.core → Turns result old new
+pub turn : (result : Option Stop) (old mid new : Service) (message : Framed) → FramerAnswers old.framer (next.Message message) mid.framer
+    → length mid.framer.unread < length old.framer.unread → reach mid.framer ≡ reach old.framer → mid.core ≡ old.core → mid.replies.items ≡ old.replies.items
+    → new.framer ≡ mid.framer → Handles result message mid new → IsLegalRun new.core → Turns result old new
 turn None old mid new message took fewer reached servant replies same done legal = record {
   message = message;
   reply = done.reply;
@@ -90,11 +99,13 @@ turn (Some why) old mid new message took fewer reached servant replies same done
   waiting = done.1 ∙ replies;
   reached = ap reach same ∙ reached;
   stops = stops_by old mid message took why (subst (λ (s : Life). StopsBy why s message) servant done.0);
-  kept = nothing_kept old new message why (subst (λ (s : Life). StopsBy why s message) servant done.0) (subst (λ (s : Life). IsKept why s new.core) servant done.2);
+  kept = nothing_kept old new message why (subst (λ (s : Life). StopsBy why s message) servant done.0)
+      (subst (λ (s : Life). IsKept why s new.core) servant done.2);
 }
 
 -- messages served, and then others
-pub serves_then : {S M : Type 0} (Each : S → M → List ℕ → S → Type 0) (a b c : S) (ms ns : List M) (xs ys : List ℕ) → Serves Each a ms xs b → Serves Each b ns ys c → Serves Each a (ms ++ ns) (xs ++ ys) c
+pub serves_then : {S M : Type 0} (Each : S → M → List ℕ → S → Type 0) (a b c : S) (ms ns : List M) (xs ys : List ℕ) → Serves Each a ms xs b
+    → Serves Each b ns ys c → Serves Each a (ms ++ ns) (xs ++ ys) c
 serves_then {S} Each a b c [] ns xs ys p q =
     let here : Serves Each a ns ys c = subst (λ (s : S). Serves Each s ns ys c) p.1 q in
     subst (λ (zs : List ℕ). Serves Each a ns (zs ++ ys) c) (sym p.0) here
@@ -128,14 +139,18 @@ serves_more a b c p q = record {
   legal = q.legal;
   messages = p.messages ++ q.message ∷ [];
   replies = p.replies ++ q.reply;
-  served = serves_then MessageGives a.core b.core c.core p.messages (q.message ∷ []) p.replies q.reply p.served (q.reply, (c.core, ([], (q.gives, (refl, refl), sym (append-nil q.reply)))));
+  served =
+      serves_then MessageGives a.core b.core c.core p.messages (q.message ∷ []) p.replies q.reply p.served
+      (q.reply, (c.core, ([], (q.gives, (refl, refl), sym (append-nil q.reply)))));
   waiting = q.waiting ∙ (ap (λ (front : List ℕ). front ++ q.reply) p.waiting ∙ append_assoc a.replies.items p.replies q.reply);
   reached = q.reached ∙ p.reached;
-  given = λ fed given h. subst (λ (ms : List Framed). HasServed fed ms c) (append_assoc given p.messages (q.message ∷ [])) (q.given fed (given ++ p.messages) (p.given fed given h));
+  given = λ fed given h. subst (λ (ms : List Framed). HasServed fed ms c) (append_assoc given p.messages (q.message ∷ []))
+      (q.given fed (given ++ p.messages) (p.given fed given h));
 }
 
 keeps_on : (why : Stop) (a b c : Service) (messages : List Framed) → ServedMore a messages b → Keeps why [] b.core b c → Keeps why messages b.core a c
-keeps_on (Waits have) a b c messages given kept = (kept.0, λ fed before h. subst (λ (ms : List Framed). HasServed fed ms c) (append-nil (before ++ messages)) (kept.1 fed (before ++ messages) (given fed before h)))
+keeps_on (Waits have) a b c messages given kept =
+    (kept.0, λ fed before h. subst (λ (ms : List Framed). HasServed fed ms c) (append-nil (before ++ messages)) (kept.1 fed (before ++ messages) (given fed before h)))
 keeps_on Closed a b c messages given kept = kept
 keeps_on _ a b c messages given kept = tt
 

@@ -62,41 +62,52 @@ replies_more first old new last r head reply done bytes more is ahead c all =
     subst (λ (t : List ℕ). CollectsAll reply_bytes 0 first t last) (sym (ap (λ (b : List ℕ). b ++ more) is ∙ append_assoc done (reply_bytes head reply) more))
     (ahead (reply_bytes head reply ++ more) last (collected_one reply_bytes 0 old new last r head reply more c all))
 
-pub serving_collected : (old new : Life) (r : ℕ) (head : Head) (reply : Reply) → Collects 0 old (collected.Reply r head reply) new → IsServing old.history → IsServing new.history
+pub serving_collected : (old new : Life) (r : ℕ) (head : Head) (reply : Reply) → Collects 0 old (collected.Reply r head reply) new → IsServing old.history
+    → IsServing new.history
 serving_collected old new r head reply c is = serving_still old new (collected_still 0 old new r head reply c) is
 
 -- the one connection has entered, and no call has arrived
 pub ready_first : (c : Config) (service : Service) → service.core ≡ life_at_answer c → service.framer.limit ≡ message_limit → IsReady service
 ready_first c service is limited = record {
-  serving = subst (λ (l : Life). IsServing l.history) (sym is) (record { stays = record { entered = omega arith; staying = refl }; calls = each_none IsHeaded (life_at_answer c).history (λ r. refl) });
+  serving =
+      subst (λ (l : Life). IsServing l.history) (sym is)
+      (record { stays = record { entered = omega arith; staying = refl }; calls = each_none IsHeaded (life_at_answer c).history (λ r. refl) });
   limited = limited;
 }
 
 -- a call of a message arrives
-pub serving_arrived : (size : ℕ) (call : Call) (old new : Life) → new ≡ with_entry (Arrive 0 size call) old → IsHeaded call → IsServing old.history → IsServing new.history
+pub serving_arrived : (size : ℕ) (call : Call) (old new : Life) → new ≡ with_entry (Arrive 0 size call) old → IsHeaded call → IsServing old.history
+    → IsServing new.history
 serving_arrived size call old new is headed s = subst (λ (l : Life). IsServing l.history) (sym is) (record {
   stays = record { entered = s.stays.entered; staying = s.stays.staying };
   calls = each_more IsHeaded 0 size call old.history headed s.calls;
 })
 
 -- what is given out answers a message
-pub given_to : (old new : Life) (r : ℕ) (head : Head) (reply : Reply) → IsServing old.history → Collects 0 old (collected.Reply r head reply) new → FitsItsCall old.history (collected.Reply r head reply) → IsReplyTo head reply
+pub given_to : (old new : Life) (r : ℕ) (head : Head) (reply : Reply) → IsServing old.history → Collects 0 old (collected.Reply r head reply) new
+    → FitsItsCall old.history (collected.Reply r head reply) → IsReplyTo head reply
 given_to old new r head reply s c fits = given_answers old.history r head reply s.calls c.1 fits
 
 works_givens : (a b : Life) → Works a b → Givens a b
 works_givens a b (works_out l idle) = givens_life l
-works_givens a b (works_on l last e makes more) = givens_then l (with_entry e l) last (record { config = refl; run = refl; limit = refl; opening = refl; going = (turn_apart l.config l.run l.history 0 e makes.next).going l.history }) (works_givens (with_entry e l) last more)
+works_givens a b (works_on l last e makes more) =
+    givens_then l (with_entry e l) last
+    (record { config = refl; run = refl; limit = refl; opening = refl; going = (turn_apart l.config l.run l.history 0 e makes.next).going l.history })
+    (works_givens (with_entry e l) last more)
 
 -- what was asked leaves the givens of the run as they are
 pub asked_givens : (a : Life) (asked : Incoming) (size : ℕ) (bytes : List ℕ) (b : Life) → GivesAsked a asked size bytes b → Givens a b
 asked_givens a (incoming.Call call) size bytes b g =
     (let arrived : Life = with_entry (Arrive 0 size call) a in
     let first : Givens a arrived = record { config = refl; run = refl; limit = refl; opening = refl; going = λ w. refl } in
-    givens_then a arrived b first (givens_then arrived g.worked b (works_givens arrived g.worked g.works) (same_givens g.worked b (still_collects reply_bytes 0 g.worked bytes b g.collects).same)))
+    givens_then a arrived b first
+    (givens_then arrived g.worked b (works_givens arrived g.worked g.works)
+    (same_givens g.worked b (still_collects reply_bytes 0 g.worked bytes b g.collects).same)))
 asked_givens a (incoming.Cancel id) size bytes b g = subst (λ (l : Life). Givens a l) (sym g.1) (givens_life a)
 asked_givens a incoming.Closing size bytes b g = absurd g
 
-pub idle_so : (old new : Life) (out : StepOut) (over : Bool) → out ≡ step_out.Idle over → Steps 0 old (Ok out) new → IsServing old.history → Works old new × IsServing new.history
+pub idle_so : (old new : Life) (out : StepOut) (over : Bool) → out ≡ step_out.Idle over → Steps 0 old (Ok out) new → IsServing old.history → Works old new
+    × IsServing new.history
 idle_so old new out over is s serving =
     let t : Steps 0 old (Ok (step_out.Idle over)) new = subst (λ (o : StepOut). Steps 0 old (Ok o) new) is s in
     (works_idle old new over t, serving_same old new t.3 serving)
@@ -109,7 +120,8 @@ did_so old new out point is s serving =
 
 -- a call that arrived, and was served
 pub arrived_does : (stop : Option Stop) (call : Call) (size : ℕ) (old mid new : Service) → is_taken old.core.limit old.core.history size call ≡ true
-    → mid.core ≡ with_entry (Arrive 0 size call) old.core → mid.replies.items ≡ old.replies.items → GivesReplies stop mid new → Does stop (incoming.Call call) size old new
+    → mid.core ≡ with_entry (Arrive 0 size call) old.core → mid.replies.items ≡ old.replies.items → GivesReplies stop mid new
+    → Does stop (incoming.Call call) size old new
 arrived_does None call size old mid new taken life same g = record {
   reply = g.reply;
   gives = record {
@@ -123,7 +135,8 @@ arrived_does None call size old mid new taken life same g = record {
 arrived_does (Some NoMemory) call size old mid new taken life same g = g ∙ same
 arrived_does (Some _) call size old mid new taken life same g = absurd g
 
-pub stopped_so : (old new : Life) (out : StepOut) → out ≡ step_out.Stopped → Steps 0 old (Ok out) new → IsServing old.history → Works old new × IsServing new.history
+pub stopped_so : (old new : Life) (out : StepOut) → out ≡ step_out.Stopped → Steps 0 old (Ok out) new → IsServing old.history → Works old new
+    × IsServing new.history
 stopped_so old new out is s serving =
     let t : Steps 0 old (Ok step_out.Stopped) new = subst (λ (o : StepOut). Steps 0 old (Ok o) new) is s in
     (works_stopped old new t, serving_same old new t.1 serving)

@@ -14,8 +14,10 @@ NamesConfig None result old new = ReadsConfig BUILT_IN.now result
 NamesConfig (Some name) result old new = TakesConfig name result old new
 
 -- without a configuration nothing is read of the source or written
-pub data AnswersBy (name : Option (List ℕ)) (status : Status) (files_old files_new : Option Contents) (left_old left_new held_old held_new : Option (List ℕ)) : Type 0 where
+pub data AnswersBy (name : Option (List ℕ)) (status : Status) (files_old files_new : Option Contents)
+    (left_old left_new held_old held_new : Option (List ℕ)) : Type 0 where
   unnamed : NamesConfig name (Err status) files_old files_new → left_new ≡ left_old → held_new ≡ held_old
       → AnswersBy name status files_old files_new left_old left_new held_old held_new
-  served : (config : Config) → NamesConfig name (Ok config) files_old files_new → RunAnswers config status left_old left_new held_old held_new
+  served : (config : Config) → NamesConfig name (Ok config) files_old files_new
+      → RunAnswers config status left_old left_new held_old held_new
       → AnswersBy name status files_old files_new left_old left_new held_old held_new

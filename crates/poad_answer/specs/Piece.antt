@@ -47,7 +47,8 @@ pub record TakesPiece (ending : Option Status) (piece : List ℕ) (old new : Ser
   pub legal : IsLegalRun life
   pub why : Stop
   pub stops : (fed : List ℕ) (given : List Framed) → HasServed fed given old → StopsAt why life (fed ++ piece) (given ++ messages)
-  pub gave : IfTold held_old held_new (λ before now. MatchOption ending (now ≡ before ++ replies) (λ status. Gains status (replies ++ last_words why) before now))
+  pub gave : IfTold held_old held_new
+      (λ before now. MatchOption ending (now ≡ before ++ replies) (λ status. Gains status (replies ++ last_words why) before now))
   pub ends : MatchOption ending (GoesOn why piece messages life old new) (λ status. EndsPiece status why (unadmitted life.history))
 
 -- the status where the input was read whole, which says whether calls are unadmitted

@@ -62,7 +62,8 @@ life_at_answer c = with_entry (Entered 0) (life_at_first c 4000000)
 abbrev pub IsKeptBy : Status → Config → Life → Type 0
 IsKeptBy WantMemory c life = ⊤
 IsKeptBy status c life =
-    IsLegal c c.run 4000000 life.history × HasLifetime c c.run life.history × LeavesNothing c c.run life.history × KeepsUpdates c c.run (opened (life_at_first c 4000000)) life.history
+    IsLegal c c.run 4000000 life.history × HasLifetime c c.run life.history × LeavesNothing c c.run life.history
+    × KeepsUpdates c c.run (opened (life_at_first c 4000000)) life.history
 
 -- `answer` took bytes of the source, served the messages of their stream in order, up to one that it doesn't serve, and
 -- gave the sink their replies, and behind them MessageError where the next message is bad, or CloseConnection where the

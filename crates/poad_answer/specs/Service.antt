@@ -126,7 +126,8 @@ StopsByFault fault.WantMemory at why = why ≡ NoMemory
 
 -- the turns of a call that arrived were taken, and its replies wait behind those that waited; or memory is wanting
 abbrev pub GivesReplies : Option Stop → Service → Service → Type 0
-GivesReplies None old new = GivesBytes (λ bytes after. (worked : Life) × (Works old.core worked × CollectsAll reply_bytes 0 worked bytes after)) old new
+GivesReplies None old new =
+    GivesBytes (λ bytes after. (worked : Life) × (Works old.core worked × CollectsAll reply_bytes 0 worked bytes after)) old new
 GivesReplies (Some NoMemory) old new = new.replies.items ≡ old.replies.items
 GivesReplies (Some _) old new = ⊥
 

@@ -57,4 +57,6 @@ pub record IsLegalRun (life : Life) : Type 0 where
 abbrev pub Serves : {State Message : Type 0} → (State → Message → List ℕ → State → Type 0) → State → List Message → List ℕ → State → Type 0
 Serves Each state [] replies after = (replies ≡ []) × (after ≡ state)
 Serves {State} Each state (message ∷ messages) replies after =
-    (reply : List ℕ) × ((between : State) × ((rest : List ℕ) × (Each state message reply between × Serves Each between messages rest after × (replies ≡ reply ++ rest))))
+    (reply : List ℕ)
+    × ((between : State)
+    × ((rest : List ℕ) × (Each state message reply between × Serves Each between messages rest after × (replies ≡ reply ++ rest))))

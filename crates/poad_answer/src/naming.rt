@@ -31,7 +31,8 @@ pub fn answer_by<S: Source, K: Sink, F: Files>(
     sink: &mut K,
 ) -> Status
     requires patient { S.is_waiting source.old ≡ false }
-    ensures answers { AnswersBy (option_map (λ n. n.now) name.entry) result (F.contents files.old) (F.contents files.new) (S.left source.old) (S.left source.new) (K.held sink.old) (K.held sink.new) }
+    ensures answers { AnswersBy (option_map (λ n. n.now) name.entry) result (F.contents files.old) (F.contents files.new)
+        (S.left source.old) (S.left source.new) (K.held sink.old) (K.held sink.new) }
     ensures contents { IfTold (F.contents files.old) (F.contents files.new) HoldsStill }
     ensures file_fault { HasCause (F.take_faults files.old) (F.take_faults files.new) (result ≡ Status.FileFault) }
     ensures no_file { HasCause (F.absents files.old) (F.absents files.new) (result ≡ Status.NoFile) }

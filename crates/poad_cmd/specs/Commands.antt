@@ -9,9 +9,12 @@ use Rattle.poad_files.specs.declared.status.Status.{Status}
 use Rattle.poad_answer.specs.Answering.{AnswersBy}
 use Rattle.poad_cmd.specs.Playing.{PlaysFiles}
 
--- by the contents of the files, what is left of the source and what the sink holds, before and after, and by the source and the files themselves
-abbrev pub Does : {S F : Type 0} → Meant → Status → Option Contents → Option Contents → (left_old left_new held_old held_new : Option (List ℕ)) → S → S → F → F → Type 0
-Does (answer name) status old new left_old left_new held_old held_new source_old source_new files_old files_new = AnswersBy name status old new left_old left_new held_old held_new
+-- by the contents of the files, what is left of the source and what the sink holds, before and after, and by the source and the files
+-- themselves
+abbrev pub Does : {S F : Type 0} → Meant → Status → Option Contents → Option Contents
+    → (left_old left_new held_old held_new : Option (List ℕ)) → S → S → F → F → Type 0
+Does (answer name) status old new left_old left_new held_old held_new source_old source_new files_old files_new =
+    AnswersBy name status old new left_old left_new held_old held_new
 Does (replay file script) status old new left_old left_new held_old held_new source_old source_new files_old files_new =
     PlaysFiles file script status old new held_old held_new × (source_new ≡ source_old)
 Does (show text) status old new left_old left_new held_old held_new source_old source_new files_old files_new =

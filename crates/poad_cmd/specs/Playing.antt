@@ -21,7 +21,8 @@ EndsPlay (Limit arrivals bytes) held full = full ≡ Some (record { arrivals = a
 EndsPlay status held full = ⊥
 
 -- what the script prints was written
-pub record Writes (c : Config) (script : Script) (Ends : Played → Type 0) (Gains : List ℕ → List ℕ → List ℕ → Type 0) (held_old held_new : Option (List ℕ)) : Type 0 where
+pub record Writes (c : Config) (script : Script) (Ends : Played → Type 0) (Gains : List ℕ → List ℕ → List ℕ → Type 0)
+    (held_old held_new : Option (List ℕ)) : Type 0 where
   pub played : Played
   pub is : IsPlayed c CALLS script played
   pub gave : IfTold held_old held_new (Gains played.printed)
@@ -29,12 +30,15 @@ pub record Writes (c : Config) (script : Script) (Ends : Played → Type 0) (Gai
 
 -- the whole of it, or after a fault of writing a front; for want of memory nothing
 abbrev pub PlaysScript : Config → Script → Status → Option (List ℕ) → Option (List ℕ) → Type 0
-PlaysScript c script WriteFault old new = Writes c script (λ played. Unit {0}) (λ bytes before after. (n : ℕ) × (after ≡ before ++ take n bytes)) old new
+PlaysScript c script WriteFault old new =
+    Writes c script (λ played. Unit {0}) (λ bytes before after. (n : ℕ) × (after ≡ before ++ take n bytes)) old new
 PlaysScript c script WantMemory old new = GainsNothing old new
-PlaysScript c script status old new = Writes c script (λ played. EndsPlay status played.held played.full) (λ bytes before after. after ≡ before ++ bytes) old new
+PlaysScript c script status old new =
+    Writes c script (λ played. EndsPlay status played.held played.full) (λ bytes before after. after ≡ before ++ bytes) old new
 
 -- of the configuration and the script that the files hold under these names
-pub record PlaysTaken (file script : List ℕ) (status : Status) (files_old files_new : Option Contents) (held_old held_new : Option (List ℕ)) : Type 0 where
+pub record PlaysTaken (file script : List ℕ) (status : Status) (files_old files_new : Option Contents)
+    (held_old held_new : Option (List ℕ)) : Type 0 where
   pub config : Config
   pub lines : Script
   pub takes_config : TakesConfig file (OkResult config) files_old files_new
@@ -52,8 +56,10 @@ pub data NotTaken (file script : List ℕ) (status : Status) (files_old files_ne
   no_script : NoScript file script status files_old files_new → NotTaken file script status files_old files_new
 
 abbrev pub PlaysFiles : List ℕ → List ℕ → Status → Option Contents → Option Contents → Option (List ℕ) → Option (List ℕ) → Type 0
-PlaysFiles file script (ConfigRefused fault) files_old files_new old new = NotTaken file script (ConfigRefused fault) files_old files_new × GainsNothing old new
-PlaysFiles file script (ScriptRefused line) files_old files_new old new = NotTaken file script (ScriptRefused line) files_old files_new × GainsNothing old new
+PlaysFiles file script (ConfigRefused fault) files_old files_new old new = NotTaken file script (ConfigRefused fault) files_old files_new
+    × GainsNothing old new
+PlaysFiles file script (ScriptRefused line) files_old files_new old new = NotTaken file script (ScriptRefused line) files_old files_new
+    × GainsNothing old new
 PlaysFiles file script NoFile files_old files_new old new = NotTaken file script NoFile files_old files_new × GainsNothing old new
 PlaysFiles file script FileTooLong files_old files_new old new = NotTaken file script FileTooLong files_old files_new × GainsNothing old new
 PlaysFiles file script FileFault files_old files_new old new = GainsNothing old new

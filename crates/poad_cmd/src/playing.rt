@@ -23,7 +23,8 @@ pub(crate) fn play_files<K: Sink, F: Files>(
     files: &mut F,
     sink: &mut K,
 ) -> Status
-    ensures plays { PlaysFiles file.now script.now result (F.contents files.old) (F.contents files.new) (K.held sink.old) (K.held sink.new) }
+    ensures plays { PlaysFiles file.now script.now result (F.contents files.old) (F.contents files.new) (K.held sink.old)
+        (K.held sink.new) }
     ensures contents { IfTold (F.contents files.old) (F.contents files.new) HoldsStill }
     ensures file_fault { HasCause (F.take_faults files.old) (F.take_faults files.new) (result ≡ Status.FileFault) }
     ensures no_file { HasCause (F.absents files.old) (F.absents files.new) (result ≡ Status.NoFile) }

@@ -65,15 +65,20 @@ pub fn run_words<S: Source, K: Sink, F: Files>(
     ensures untouched { command_in words.now ≡ None → host.new ≡ host.old }
 
     ensures answers { (name : Option (List ℕ)) → command_in words.now ≡ Some (spec.answer name)
-        → AnswersBy name result (F.contents host.old.files) (F.contents host.new.files) (S.left host.old.source) (S.left host.new.source) (K.held host.old.sink) (K.held host.new.sink) }
+        → AnswersBy name result (F.contents host.old.files) (F.contents host.new.files) (S.left host.old.source) (S.left host.new.source)
+        (K.held host.old.sink) (K.held host.new.sink) }
     ensures plays { (file script : List ℕ) → command_in words.now ≡ Some (spec.replay file script)
-        → PlaysFiles file script result (F.contents host.old.files) (F.contents host.new.files) (K.held host.old.sink) (K.held host.new.sink) × (host.new.source ≡ host.old.source) }
+        → PlaysFiles file script result (F.contents host.old.files) (F.contents host.new.files) (K.held host.old.sink)
+        (K.held host.new.sink) × (host.new.source ≡ host.old.source) }
     ensures shows { (text : List ℕ) → command_in words.now ≡ Some (spec.show text)
-        → Tells result text (K.held host.old.sink) (K.held host.new.sink) × (host.new.source ≡ host.old.source) × (host.new.files ≡ host.old.files) }
+        → Tells result text (K.held host.old.sink) (K.held host.new.sink) × (host.new.source ≡ host.old.source)
+        × (host.new.files ≡ host.old.files) }
     ensures checks { (name : List ℕ) → command_in words.now ≡ Some (spec.check name)
-        → Filed Counts name result (F.contents host.old.files) (F.contents host.new.files) (K.held host.old.sink) (K.held host.new.sink) × (host.new.source ≡ host.old.source) }
+        → Filed Counts name result (F.contents host.old.files) (F.contents host.new.files) (K.held host.old.sink) (K.held host.new.sink)
+        × (host.new.source ≡ host.old.source) }
     ensures iors { (name : List ℕ) → command_in words.now ≡ Some (spec.iors name)
-        → Filed References name result (F.contents host.old.files) (F.contents host.new.files) (K.held host.old.sink) (K.held host.new.sink) × (host.new.source ≡ host.old.source) }
+        → Filed References name result (F.contents host.old.files) (F.contents host.new.files) (K.held host.old.sink) (K.held host.new.sink)
+        × (host.new.source ≡ host.old.source) }
     ensures contents { IfTold (F.contents host.old.files) (F.contents host.new.files) HoldsStill }
     ensures read_fault { HasCause (S.read_faults host.old.source) (S.read_faults host.new.source) (result ≡ Status.ReadFault) }
     ensures write_fault { HasCause (K.write_faults host.old.sink) (K.write_faults host.new.sink) (result ≡ Status.WriteFault) }
@@ -95,7 +100,8 @@ fn run_command<S: Source, K: Sink, F: Files>(
     host: &mut Host<S, K, F>,
 ) -> Status
     requires patient { S.is_waiting host.old.source ≡ false }
-    ensures does { Does (seen command.entry) result (F.contents host.old.files) (F.contents host.new.files) (S.left host.old.source) (S.left host.new.source)
+    ensures does { Does (seen command.entry) result (F.contents host.old.files) (F.contents host.new.files) (S.left host.old.source)
+        (S.left host.new.source)
         (K.held host.old.sink) (K.held host.new.sink) host.old.source host.new.source host.old.files host.new.files }
     ensures is_command { result ≢ Status.BadWords }
     ensures contents { IfTold (F.contents host.old.files) (F.contents host.new.files) HoldsStill }

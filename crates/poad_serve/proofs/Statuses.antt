@@ -78,15 +78,18 @@ not_short (Some want) is = absurd (true≢false is)
 
 pub limit_is : (filled refused : Option Full) (f : Full) (calls bytes : ℕ) → option_or filled refused ≡ Some f → f.arrivals ≡ calls → f.bytes ≡ bytes
     → IsLimit (option_map (λ x. (x.arrivals, x.bytes)) filled) refused calls bytes
-limit_is (Some x) refused f calls bytes is a b = (let e : Some x ≡ Some f = is in let same : x ≡ f = cc in ap₂ (λ m n. (m, n)) (ap (λ y. y.arrivals) same ∙ a) (ap (λ y. y.bytes) same ∙ b))
-limit_is None (Some x) f calls bytes is a b = (let e : Some x ≡ Some f = is in let same : x ≡ f = cc in (ap (λ y. y.arrivals) same ∙ a, ap (λ y. y.bytes) same ∙ b))
+limit_is (Some x) refused f calls bytes is a b =
+    (let e : Some x ≡ Some f = is in let same : x ≡ f = cc in ap₂ (λ m n. (m, n)) (ap (λ y. y.arrivals) same ∙ a) (ap (λ y. y.bytes) same ∙ b))
+limit_is None (Some x) f calls bytes is a b =
+    (let e : Some x ≡ Some f = is in let same : x ≡ f = cc in (ap (λ y. y.arrivals) same ∙ a, ap (λ y. y.bytes) same ∙ b))
 limit_is None None f calls bytes is a b = absurd (let e : None ≡ Some f = is in cc)
 
 pub none_full : (filled refused : Option Full) → option_or filled refused ≡ None → (filled ≡ None) × (refused ≡ None)
 none_full (Some x) refused is = absurd (let e : Some x ≡ None = is in cc)
 none_full None refused is = (refl, is)
 
-pub thread_short : (lost : Bool) (short : Option Want) (textless : Bool) → (lost || is_for_memory short) || textless ≡ false → is_some short ≡ true → short ≡ Some Thread
+pub thread_short : (lost : Bool) (short : Option Want) (textless : Bool) → (lost || is_for_memory short) || textless ≡ false → is_some short ≡ true
+    → short ≡ Some Thread
 thread_short lost None textless none is = absurd (true≢false (sym is))
 thread_short true (Some Memory) textless none is = absurd (true≢false none)
 thread_short false (Some Memory) textless none is = absurd (true≢false none)

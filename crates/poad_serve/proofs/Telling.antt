@@ -47,7 +47,8 @@ both_false true b is = absurd (true≢false is)
 both_false false b is = (refl, is)
 
 module _ {A L : Type 0} (standing : A → Option (Standing L)) (faults : A → ℕ) (log : List Entry) where
-  pub any_rose : (tours : List (Tour A L)) → any_failed tours ≡ true → EachEnded {A = A} {L = L} standing faults log tours → AnyRose {A = A} {L = L} faults tours
+  pub any_rose : (tours : List (Tour A L)) → any_failed tours ≡ true → EachEnded {A = A} {L = L} standing faults log tours
+      → AnyRose {A = A} {L = L} faults tours
   any_rose [] is ended = absurd (true≢false (sym is))
   any_rose (t ∷ more) is ended =
       elim (or_cases (any_failed more) (is_failed t.end) is) [
@@ -55,11 +56,14 @@ module _ {A L : Type 0} (standing : A → Option (Standing L)) (faults : A → �
         | inr here ↦ inl (ended.0.failed (failed_is t.end here))
       ]
 
-  pub each_steady : (tours : List (Tour A L)) → any_failed tours ≡ false → EachEnded {A = A} {L = L} standing faults log tours → EachSteady {A = A} {L = L} faults tours
+  pub each_steady : (tours : List (Tour A L)) → any_failed tours ≡ false → EachEnded {A = A} {L = L} standing faults log tours
+      → EachSteady {A = A} {L = L} faults tours
   each_steady [] is ended = tt
-  each_steady (t ∷ more) is ended = (let both = both_false (any_failed more) (is_failed t.end) is in (ended.0.steady (not_failed t.end both.1), each_steady more both.0 ended.1))
+  each_steady (t ∷ more) is ended =
+      (let both = both_false (any_failed more) (is_failed t.end) is in (ended.0.steady (not_failed t.end both.1), each_steady more both.0 ended.1))
 
-module _ {A L : Type 0} (g : Givens) (shown : L → Shown) (standing : A → Option (Standing L)) (faults : A → ℕ) (workers : ℕ) (old new : Doors A) (outcome : Outcome) (life : Life)
+module _ {A L : Type 0} (g : Givens) (shown : L → Shown) (standing : A → Option (Standing L)) (faults : A → ℕ) (workers : ℕ) (old new : Doors A)
+    (outcome : Outcome) (life : Life)
     (ran : IsServedRun {A = A} {L = L} g shown standing faults workers old new outcome life)
     (journal : Result Put AllocError) (filled : Option Full) (filled_is : option_map (λ f. (f.arrivals, f.bytes)) filled ≡ filled_at life.history)
     (status : Status) (status_is : status ≡ status_of outcome journal filled) where
@@ -103,8 +107,11 @@ module _ {A L : Type 0} (g : Givens) (shown : L → Shown) (standing : A → Opt
   pub no_thread : status ≡ NoThread → outcome.short ≡ Some Thread
   no_thread is = (let told = thread_told m s u outcome.failed l (sym status_is ∙ is) in thread_short outcome.lost outcome.short (is_err journal) told.0 told.1)
 
-module _ {A L : Type 0} (shown : L → Shown) (standing : A → Option (Standing L)) (faults : A → ℕ) (asked : Option Serve) (serve : Serve) (begun : Life) (status : Status) (old new : Doors A)
-    (files between after : Option Contents) (asked_is : asked ≡ Some serve) (begins : IsBegun serve begun files between) (still : IfTold files between HoldsStill) where
-  pub ends : (core : Option Life) → ServesOn {A = A} {L = L} shown standing faults serve begun status old new core between after → Ends {A = A} {L = L} shown standing faults asked status old new core files after
+module _ {A L : Type 0} (shown : L → Shown) (standing : A → Option (Standing L)) (faults : A → ℕ) (asked : Option Serve) (serve : Serve) (begun : Life)
+    (status : Status) (old new : Doors A)
+    (files between after : Option Contents) (asked_is : asked ≡ Some serve) (begins : IsBegun serve begun files between)
+    (still : IfTold files between HoldsStill) where
+  pub ends : (core : Option Life) → ServesOn {A = A} {L = L} shown standing faults serve begun status old new core between after
+      → Ends {A = A} {L = L} shown standing faults asked status old new core files after
   ends None is = (is.0, subst (λ now. IfTold files now HoldsStill) (sym is.2) still, inr is.1)
   ends (Some life) is = (serve, asked_is, record { begun = begun; between = between; still = still; begins = begins; served = is })

@@ -45,7 +45,8 @@ status_by false false false false full = limit_at full
 
 abbrev pub status_of : Outcome → Result Put AllocError → Option Full → Status
 status_of outcome journal filled =
-    status_by (wants_memory outcome || is_err journal) (is_some outcome.short) (is_unput journal) outcome.failed (option_or filled outcome.refused)
+    status_by (wants_memory outcome || is_err journal) (is_some outcome.short) (is_unput journal) outcome.failed
+    (option_or filled outcome.refused)
 
 -- the limit's numbers: those that stood when the run was filled, or else the least with which a connection couldn't enter
 abbrev pub IsLimit : Option (ℕ × ℕ) → Option Full → ℕ → ℕ → Type 0

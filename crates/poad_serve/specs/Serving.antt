@@ -39,7 +39,8 @@ module _ {A L : Type 0} (shown : L → Shown) (standing : A → Option (Standing
     pub fine : status ≡ Fine → (filled_at life.history ≡ None) × (least_in tours ≡ None) × EachSteady faults tours
 
   -- a run that was begun so was served over these doors, its journal was put, and it ended with this status
-  pub record HasServed (serve : Serve) (begun : Life) (status : Status) (old new : Doors A) (life : Life) (files_old files_new : Option Contents) : Type 0 where
+  pub record HasServed (serve : Serve) (begun : Life) (status : Status) (old new : Doors A) (life : Life)
+      (files_old files_new : Option Contents) : Type 0 where
     pub outcome : Outcome
     pub ran : IsServedRun (givens_of begun) shown standing faults serve.workers old new outcome life
     pub journal : Result Put AllocError
@@ -55,7 +56,8 @@ module _ {A L : Type 0} (shown : L → Shown) (standing : A → Option (Standing
   ServesOn serve begun status old new (Some life) files_old files_new = HasServed serve begun status old new life files_old files_new
 
   -- a run by these words was begun and served
-  pub record Serves (serve : Serve) (status : Status) (old new : Doors A) (life : Life) (files_old files_new : Option Contents) : Type 0 where
+  pub record Serves (serve : Serve) (status : Status) (old new : Doors A) (life : Life)
+      (files_old files_new : Option Contents) : Type 0 where
     pub begun : Life
     pub between : Option Contents
     -- reading the configuration changed no file
@@ -67,4 +69,5 @@ module _ {A L : Type 0} (shown : L → Shown) (standing : A → Option (Standing
   abbrev pub Ends : Option Serve → Status → Doors A → Doors A → Option Life → Option Contents → Option Contents → Type 0
   Ends asked status old new None files_old files_new =
       (new ≡ old) × IfTold files_old files_new HoldsStill × (IsRefused asked status files_old files_new ⊎ (status ≡ WantMemory))
-  Ends asked status old new (Some life) files_old files_new = (serve : Serve) × (asked ≡ Some serve) × Serves serve status old new life files_old files_new
+  Ends asked status old new (Some life) files_old files_new = (serve : Serve) × (asked ≡ Some serve)
+      × Serves serve status old new life files_old files_new

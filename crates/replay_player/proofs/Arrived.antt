@@ -32,6 +32,9 @@ open_still conn old new s is = record {
 }
 
 pub same_arrived : (conn : ℕ) (call : Call) (size : ℕ) (old new : Life) (answer : Result ℕ ArriveFault) → Arrives conn call size old answer new → Same old new
-same_arrived conn call size old new (Ok r) a = subst (λ (l : Life). Same old l) (sym a.2) (record { config = refl; run = refl; limit = refl; opening = refl; entered = refl; left = λ n. refl; going = λ w. refl })
-same_arrived conn call size old new (Err (arrive_fault.Limit calls bytes)) a = subst (λ (l : Life). Same old l) (sym a.1) (same_filled (is_filled old.history) conn size old)
+same_arrived conn call size old new (Ok r) a =
+    subst (λ (l : Life). Same old l) (sym a.2)
+    (record { config = refl; run = refl; limit = refl; opening = refl; entered = refl; left = λ n. refl; going = λ w. refl })
+same_arrived conn call size old new (Err (arrive_fault.Limit calls bytes)) a =
+    subst (λ (l : Life). Same old l) (sym a.1) (same_filled (is_filled old.history) conn size old)
 same_arrived conn call size old new (Err arrive_fault.WantMemory) a = subst (λ (l : Life). Same old l) (sym a.1) (same_life old)

@@ -6,7 +6,8 @@ use Rattle.poa_base.specs.declared.Head.{Head}
 
 pub ask_same : (f : Ask → List ℕ) (head other_head : Head) (key other_key operation other_operation : List ℕ) (argument other_argument : Option Datum)
     → head ≡ other_head → key ≡ other_key → operation ≡ other_operation → argument ≡ other_argument
-    → f (record { head = head; key = key; operation = operation; argument = argument }) ≡ f (record { head = other_head; key = other_key; operation = other_operation; argument = other_argument })
+    → f (record { head = head; key = key; operation = operation; argument = argument }) ≡ f
+    (record { head = other_head; key = other_key; operation = other_operation; argument = other_argument })
 ask_same f head other_head key other_key operation other_operation argument other_argument p q r s =
     ap (λ (h : Head). f (record { head = h; key = key; operation = operation; argument = argument })) p
     ∙ (ap (λ (k : List ℕ). f (record { head = other_head; key = k; operation = operation; argument = argument })) q

@@ -38,10 +38,16 @@ collected_one say conn old new last r head reply more c all =
 
 pub collected_still : (conn : ℕ) (old new : Life) (r : ℕ) (head : Head) (reply : Reply) → Collects conn old (collected.Reply r head reply) new → Still old new
 collected_still conn old new r head reply c =
-    subst (λ (l : Life). Still old l) (sym c.3) (record { same = record { config = refl; run = refl; limit = refl; opening = refl; entered = refl; left = λ n. refl; going = λ w. refl }; filled = refl; calls = λ n. refl })
+    subst (λ (l : Life). Still old l) (sym c.3)
+    (record {
+      same = record { config = refl; run = refl; limit = refl; opening = refl; entered = refl; left = λ n. refl; going = λ w. refl };
+      filled = refl;
+      calls = λ n. refl;
+    })
 
 -- none is decided
-pub collected_none : (say : Head → Reply → List ℕ) (conn : ℕ) (old new : Life) (owes : ℕ) → Collects conn old (collected.Nothing owes) new → CollectsAll say conn old [] new
+pub collected_none : (say : Head → Reply → List ℕ) (conn : ℕ) (old new : Life) (owes : ℕ) → Collects conn old (collected.Nothing owes) new
+    → CollectsAll say conn old [] new
 collected_none say conn old new owes c = subst (λ (l : Life). CollectsAll say conn old [] l) (sym c.2) (none_left old c.0)
 
 -- the same, with what was printed
@@ -49,13 +55,16 @@ pub reply_onward : (name : List ℕ) (conn : ℕ) (old new : Player) → Collect
 reply_onward name conn old new p = record {
   text = reply_line name (head_of (call_of old.core.history p.arrival)) p.reply;
   printed = p.printed;
-  does = λ more last r. collects_on old.core last p.arrival p.reply more p.next p.is (subst (λ (l : Life). CollectsAll (reply_line name) conn l more last) p.life r);
+  does = λ more last r. collects_on old.core last p.arrival p.reply more p.next p.is
+      (subst (λ (l : Life). CollectsAll (reply_line name) conn l more last) p.life r);
   filled = p.filled;
   turned_away = p.turned_away;
 }
 
-pub replies_end : (name : List ℕ) (conn : ℕ) (a b c : Player) → Works (Onward (CollectsAll (reply_line name) conn)) a b → CollectsNext false name conn b c → Works (CollectsAll (reply_line name) conn) a c
-replies_end name conn a b c p none = works_end (CollectsAll (reply_line name) conn) a b c p (works_still (CollectsAll (reply_line name) conn) b c none.1 (none_left b.core none.0))
+pub replies_end : (name : List ℕ) (conn : ℕ) (a b c : Player) → Works (Onward (CollectsAll (reply_line name) conn)) a b → CollectsNext false name conn b c
+    → Works (CollectsAll (reply_line name) conn) a c
+replies_end name conn a b c p none =
+    works_end (CollectsAll (reply_line name) conn) a b c p (works_still (CollectsAll (reply_line name) conn) b c none.1 (none_left b.core none.0))
 
 pub next_is : (b c : Bool) (name : List ℕ) (conn : ℕ) (old new : Player) → b ≡ c → CollectsNext b name conn old new → CollectsNext c name conn old new
 next_is b c name conn old new e n = subst (λ (x : Bool). CollectsNext x name conn old new) e n

@@ -34,7 +34,8 @@ pub givens_life : (life : Life) → Givens life life
 givens_life life = record { config = refl; run = refl; limit = refl; opening = refl; going = λ w. refl }
 
 pub givens_then : (a b c : Life) → Givens a b → Givens b c → Givens a c
-givens_then a b c p q = record { config = q.config ∙ p.config; run = q.run ∙ p.run; limit = q.limit ∙ p.limit; opening = q.opening ∙ p.opening; going = λ w. q.going w ∙ p.going w }
+givens_then a b c p q =
+    record { config = q.config ∙ p.config; run = q.run ∙ p.run; limit = q.limit ∙ p.limit; opening = q.opening ∙ p.opening; going = λ w. q.going w ∙ p.going w }
 
 pub same_givens : (old new : Life) → Same old new → Givens old new
 same_givens old new s = record { config = s.config; run = s.run; limit = s.limit; opening = s.opening; going = s.going }
@@ -73,7 +74,8 @@ pub still_made : (life : Life) (w : ℕ) (e : Entry) → Makes life w e → Stil
 still_made life w e m =
     let apart : IsApart e = turn_apart life.config life.run life.history w e m.next in
     record {
-      same = record { config = refl; run = refl; limit = refl; opening = refl; entered = apart.entered life.history; left = λ n. apart.left life.history n; going = λ v. apart.going life.history v };
+      same = record
+          { config = refl; run = refl; limit = refl; opening = refl; entered = apart.entered life.history; left = λ n. apart.left life.history n; going = λ v. apart.going life.history v };
       filled = apart.filled life.history;
       calls = λ r. apart.calls life.history r;
     }
@@ -89,7 +91,8 @@ still_runs w life text last (runs_on a e rest b m more) =
 
 still_below : (n : ℕ) (life : Life) (text : List ℕ) (last : Life) → RunsBelow n life text last → Still life last
 still_below zero life text last s = still_stays life text last s
-still_below (suc n) life text last t = still_then life t.between last (still_below n life t.front t.between t.first) (still_runs n t.between t.rest last t.second)
+still_below (suc n) life text last t =
+    still_then life t.between last (still_below n life t.front t.between t.first) (still_runs n t.between t.rest last t.second)
 
 pub still_settles : (life : Life) (text : List ℕ) (last : Life) → Rests life text last → Still life last
 still_settles life text last (rested a idle) = still_life a
@@ -107,9 +110,14 @@ still_worker_turns w life text after p = by_worker Turns still_turns (is_worker 
 pub still_worker_runs : (w : ℕ) (life : Life) (text : List ℕ) (after : Life) → ByWorker Runs w life text after → Still life after
 still_worker_runs w life text after p = by_worker Runs still_runs (is_worker w) w life text after p
 
-pub still_collects : (say : Head → Reply → List ℕ) (conn : ℕ) (life : Life) (text : List ℕ) (last : Life) → CollectsAll say conn life text last → Still life last
+pub still_collects : (say : Head → Reply → List ℕ) (conn : ℕ) (life : Life) (text : List ℕ) (last : Life) → CollectsAll say conn life text last
+    → Still life last
 still_collects say conn life text last (none_left a none) = still_life a
 still_collects say conn life text last (collects_on a b r reply rest next is more) =
     still_then a (with_entry (Collect conn r) a) b
-    (record { same = record { config = refl; run = refl; limit = refl; opening = refl; entered = refl; left = λ n. refl; going = λ w. refl }; filled = refl; calls = λ r. refl })
+    (record {
+      same = record { config = refl; run = refl; limit = refl; opening = refl; entered = refl; left = λ n. refl; going = λ w. refl };
+      filled = refl;
+      calls = λ r. refl;
+    })
     (still_collects say conn (with_entry (Collect conn r) a) rest b more)

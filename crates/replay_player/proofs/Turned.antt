@@ -77,7 +77,8 @@ idle_by : (v w : ℕ) (old : Player) → v < w + 1 → ((u : ℕ) → u < w → 
 idle_by v w old less before here true is = before v (grind (arith, nat_tests))
 idle_by v w old less before here false is = (let same : w ≡ v = grind (arith, nat_tests) in subst (λ u. IsIdle old.core u) same here)
 
-pub idle_more : (a b : Bool) (w : ℕ) (old now new : Player) → (a ≡ false → now ≡ old) → (a ≡ false → (u : ℕ) → u < w → IsIdle old.core u) → Moved b (λ life. IsIdle life w) now new
+pub idle_more : (a b : Bool) (w : ℕ) (old now new : Player) → (a ≡ false → now ≡ old) → (a ≡ false → (u : ℕ) → u < w → IsIdle old.core u)
+    → Moved b (λ life. IsIdle life w) now new
     → (a || b) ≡ false → (v : ℕ) → v < w + 1 → IsIdle old.core v
 idle_more a b w old now new still before m none v less =
     let not_a : a ≡ false = (neither a b none).0 in
@@ -117,7 +118,8 @@ takes_false true w old new e t = absurd (let f : true ≡ false = e in cc)
 takes_false false w old new e t = t
 
 -- a worker that is idle, and that printed
-pub idle_told : (w : ℕ) (old mid new : Player) → w < 16 → IsIdle old.core w → mid ≡ old → new.core ≡ mid.core → new.printed.items ≡ mid.printed.items ++ idle_line w
+pub idle_told : (w : ℕ) (old mid new : Player) → w < 16 → IsIdle old.core w → mid ≡ old → new.core ≡ mid.core
+    → new.printed.items ≡ mid.printed.items ++ idle_line w
     → new.filled ≡ mid.filled → new.turned_away ≡ mid.turned_away → Works (ByWorker Turns w) old new
 idle_told w old mid new less idle same core printed filled away = by_worker Turns w old new less (record {
   text = idle_line w;

@@ -26,13 +26,16 @@ pub record IsApart (e : Entry) : Type 0 where
 by_going : (c : Config) (s : Standing) (w : ℕ) (begun : Stage) (e : Entry) → going_on c s w begun ≡ Some e → IsApart e
 by_going c s w Free e is = absurd (let f : None ≡ Some e = is in cc)
 by_going c s w (Trying r) e is =
-    (let same : Tried w (attempt c s r) ≡ e = (let f : Some (Tried w (attempt c s r)) ≡ Some e = is in cc) in subst (λ (x : Entry). IsApart x) same (record { entered = λ _. refl; left = λ _ _. refl; filled = λ _. refl; going = λ _ _. refl; calls = λ _ _. refl }))
+    (let same : Tried w (attempt c s r) ≡ e = (let f : Some (Tried w (attempt c s r)) ≡ Some e = is in cc) in
+    subst (λ (x : Entry). IsApart x) same (record { entered = λ _. refl; left = λ _ _. refl; filled = λ _. refl; going = λ _ _. refl; calls = λ _ _. refl }))
 by_going c s w (Incarnating r n) e is = (let found = mapped_by (λ a. Incarnated w (brought c s a)) (activation_numbered s n) e is in
     subst (λ (x : Entry). IsApart x) found.2 (record { entered = λ _. refl; left = λ _ _. refl; filled = λ _. refl; going = λ _ _. refl; calls = λ _ _. refl }))
 by_going c s w (Serving r) e is =
-    (let same : Run w ≡ e = (let f : Some (Run w) ≡ Some e = is in cc) in subst (λ (x : Entry). IsApart x) same (record { entered = λ _. refl; left = λ _ _. refl; filled = λ _. refl; going = λ _ _. refl; calls = λ _ _. refl }))
+    (let same : Run w ≡ e = (let f : Some (Run w) ≡ Some e = is in cc) in
+    subst (λ (x : Entry). IsApart x) same (record { entered = λ _. refl; left = λ _ _. refl; filled = λ _. refl; going = λ _ _. refl; calls = λ _ _. refl }))
 by_going c s w (Ran r) e is =
-    (let same : Done w ≡ e = (let f : Some (Done w) ≡ Some e = is in cc) in subst (λ (x : Entry). IsApart x) same (record { entered = λ _. refl; left = λ _ _. refl; filled = λ _. refl; going = λ _ _. refl; calls = λ _ _. refl }))
+    (let same : Done w ≡ e = (let f : Some (Done w) ≡ Some e = is in cc) in
+    subst (λ (x : Entry). IsApart x) same (record { entered = λ _. refl; left = λ _ _. refl; filled = λ _. refl; going = λ _ _. refl; calls = λ _ _. refl }))
 by_going c s w (Removing n) e is = (let found = mapped_by (λ a. Etherealized w a.cleanup a.remaining) (activation_numbered s n) e is in
     subst (λ (x : Entry). IsApart x) found.2 (record { entered = λ _. refl; left = λ _ _. refl; filled = λ _. refl; going = λ _ _. refl; calls = λ _ _. refl }))
 
@@ -40,6 +43,10 @@ pub turn_apart : (c : Config) (run : ℕ) (past : List Entry) (w : ℕ) (e : Ent
 turn_apart c run past w e is =
     elim (turned c run past w e is) [
       | goes_on goes ↦ by_going c (standing c run past) w (stage past w) e goes
-      | takes a free there due same ↦ subst (λ (x : Entry). IsApart x) same (record { entered = λ _. refl; left = λ _ _. refl; filled = λ _. refl; going = λ _ _. refl; calls = λ _ _. refl })
-      | admits r v free less unadmitted told same ↦ subst (λ (x : Entry). IsApart x) same (record { entered = λ _. refl; left = λ _ _. refl; filled = λ _. refl; going = λ _ _. refl; calls = λ _ _. refl })
+      | takes a free there due same ↦
+          subst (λ (x : Entry). IsApart x) same
+          (record { entered = λ _. refl; left = λ _ _. refl; filled = λ _. refl; going = λ _ _. refl; calls = λ _ _. refl })
+      | admits r v free less unadmitted told same ↦
+          subst (λ (x : Entry). IsApart x) same
+          (record { entered = λ _. refl; left = λ _ _. refl; filled = λ _. refl; going = λ _ _. refl; calls = λ _ _. refl })
     ]

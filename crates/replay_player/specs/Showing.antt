@@ -7,7 +7,8 @@ use Rattle.run_history.specs.Life.{Life, opened}
 
 -- a store of what is stored
 abbrev pub Stores : Life → Slots → Type 0
-Stores life slots = (path : List (List ℕ)) (oid : List ℕ) → stored_in slots path oid ≡ stored life.config life.run (opened life) life.history path oid
+Stores life slots = (path : List (List ℕ)) (oid : List ℕ)
+    → stored_in slots path oid ≡ stored life.config life.run (opened life) life.history path oid
 
 pub record IsStoreText (life : Life) (text : List ℕ) : Type 0 where
   pub slots : Slots

@@ -23,7 +23,8 @@ pub data Turns (w : ℕ) (life : Life) (text : List ℕ) (after : Life) : Type 0
 -- turns until there is nothing to do: each entry is printed
 pub data Runs (w : ℕ) : Life → List ℕ → Life → Type 0 where
   runs_out : (life : Life) → IsIdle life w → Runs w life [] life
-  runs_on : (life : Life) (e : Entry) (text : List ℕ) (last : Life) → Makes life w e → Runs w (with_entry e life) text last → Runs w life (entry_line e ++ text) last
+  runs_on : (life : Life) (e : Entry) (text : List ℕ) (last : Life) → Makes life w e → Runs w (with_entry e life) text last
+      → Runs w life (entry_line e ++ text) last
 
 -- the number of a worker
 abbrev pub is_worker : ℕ → Bool
@@ -63,4 +64,5 @@ AllIdle life = (w : ℕ) → w < 16 → IsIdle life w
 -- the workers 0 to 15 run in their order, again and again until all of them are idle
 pub data Rests : Life → List ℕ → Life → Type 0 where
   rested : (life : Life) → AllIdle life → Rests life [] life
-  settles_on : (life between last : Life) (front rest : List ℕ) → RunsBelow 16 life front between → Rests between rest last → Rests life (front ++ rest) last
+  settles_on : (life between last : Life) (front rest : List ℕ) → RunsBelow 16 life front between → Rests between rest last
+      → Rests life (front ++ rest) last

@@ -100,7 +100,9 @@ impl Player {
         ensures core { self.new.core ≡ self.old.core }
         ensures filled { self.new.filled ≡ self.old.filled }
         ensures turned_away { self.new.turned_away ≡ self.old.turned_away }
-        ensures printed { OnOk result ((e : EntryData) (past : List EntryData) → self.old.core.history ≡ e ∷ past → self.new.printed.items ≡ self.old.printed.items ++ entry_line e) }
+        ensures printed { OnOk result
+            ((e : EntryData) (past : List EntryData) → self.old.core.history ≡ e ∷ past
+            → self.new.printed.items ≡ self.old.printed.items ++ entry_line e) }
     {
         match self.core.entries().last() {
             Some(entry) => print_entry(&mut self.printed, entry),

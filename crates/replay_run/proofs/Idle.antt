@@ -22,7 +22,8 @@ rests_idle : (life : Life) (text : List ℕ) (last : Life) → Rests life text l
 rests_idle life text last (rested a idle) = idle
 rests_idle life text last (settles_on a between b front rest round more) = rests_idle between rest b more
 
-module _ (c : Config) (run limit : ℕ) (stays : (h : List Entry) → IsLegal c run limit h → (conn r w : ℕ) → turn c run (Collect conn r ∷ h) w ≡ turn c run h w) where
+module _ (c : Config) (run limit : ℕ)
+    (stays : (h : List Entry) → IsLegal c run limit h → (conn r w : ℕ) → turn c run (Collect conn r ∷ h) w ≡ turn c run h w) where
   -- where the later history is legal, so is the earlier one, and no worker gets a next entry from there on
   abbrev Leads : Life → Life → Type 0
   Leads a b = IsLegal c run limit b.history → IsLegal c run limit a.history × (AreIdle c run a.history → AreIdle c run b.history)

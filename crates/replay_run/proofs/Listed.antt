@@ -50,19 +50,22 @@ front {A} xs i x less is =
 
 pub ahead_more : {S A : Type 0} (R : List A → S → List ℕ → S → Type 0) (One : A → S → List ℕ → S → Type 0)
     → ((x : A) (rest : List A) (a b c : S) (s t : List ℕ) → One x a s b → R rest b t c → R (x ∷ rest) a (s ++ t) c)
-    → (xs : List A) (i : ℕ) (x : A) → drop i xs ≡ x ∷ drop (i + 1) xs → (a b c : S) (s t : List ℕ) → Ahead R xs i a s b → One x b t c → Ahead R xs (i + 1) a (s ++ t) c
+    → (xs : List A) (i : ℕ) (x : A) → drop i xs ≡ x ∷ drop (i + 1) xs → (a b c : S) (s t : List ℕ) → Ahead R xs i a s b → One x b t c
+    → Ahead R xs (i + 1) a (s ++ t) c
 ahead_more R One cons xs i x cut a b c s t ahead one more last r =
     subst (λ (text : List ℕ). R xs a text last) (sym (append_assoc s t more))
     (ahead (t ++ more) last (subst (λ ys. R ys b (t ++ more) last) (sym cut) (cons x (drop (i + 1) xs) b c last t more one r)))
 
 pub collects_more : (channels : List Channel) (i : ℕ) (channel : Channel) → i < length channels → channel ≡ get_or channels i channel → (a b c : Player)
     → Works (Ahead CollectsEach channels i) a b → Works (CollectsOf channel.name channel.number) b c → Works (Ahead CollectsEach channels (i + 1)) a c
-collects_more channels i channel less is a b c = works_join (Ahead CollectsEach channels i) (CollectsOf channel.name channel.number) (Ahead CollectsEach channels (i + 1)) a b c
+collects_more channels i channel less is a b c =
+    works_join (Ahead CollectsEach channels i) (CollectsOf channel.name channel.number) (Ahead CollectsEach channels (i + 1)) a b c
     (λ s t p q. ahead_more CollectsEach (λ x. CollectsOf x.name x.number)
     (λ x rest a b c s t one more. record { between = b; front = s; rest = t; first = one; second = more; joined = refl })
     channels i channel (front channels i channel less is) a.core b.core c.core s t p q)
 
-pub plays_more : (steps : List ScriptStep) (i : ℕ) (step : ScriptStep) → i < length steps → step ≡ get_or steps i step → (a b c : Player) (xs ys zs : List Channel)
+pub plays_more : (steps : List ScriptStep) (i : ℕ) (step : ScriptStep) → i < length steps → step ≡ get_or steps i step
+    → (a b c : Player) (xs ys zs : List Channel)
     → Shows (Ahead PlaysAll steps i) a b xs ys → Shows (Plays step.step) b c ys zs → Shows (Ahead PlaysAll steps (i + 1)) a c xs zs
 plays_more steps i step less is a b c xs ys zs = shows_join (Ahead PlaysAll steps i) (Plays step.step) (Ahead PlaysAll steps (i + 1)) a b c xs ys zs
     (λ s t p q. ahead_more PlaysAll (λ x. Plays x.step)
@@ -86,7 +89,8 @@ pub ahead_end : {S A : Type 0} (R : List A → S → List ℕ → S → Type 0) 
 ahead_end {S} {A} R done xs i more a b s ahead =
     subst (λ (t : List ℕ). R xs a t b) (append-nil s) (ahead [] b (subst (λ (ys : List A). R ys b [] b) (sym (past xs i more)) (done b)))
 
-pub collects_end : (channels : List Channel) (i : ℕ) → length channels ≤ i → (a b : Player) → Works (Ahead CollectsEach channels i) a b → Works (CollectsEach channels) a b
+pub collects_end : (channels : List Channel) (i : ℕ) → length channels ≤ i → (a b : Player) → Works (Ahead CollectsEach channels i) a b
+    → Works (CollectsEach channels) a b
 collects_end channels i more a b p = record {
   text = p.text;
   printed = p.printed;
@@ -95,7 +99,8 @@ collects_end channels i more a b p = record {
   turned_away = p.turned_away;
 }
 
-pub plays_end : (steps : List ScriptStep) (i : ℕ) → length steps ≤ i → (a b : Player) (xs ys : List Channel) → Shows (Ahead PlaysAll steps i) a b xs ys → Shows (PlaysAll steps) a b xs ys
+pub plays_end : (steps : List ScriptStep) (i : ℕ) → length steps ≤ i → (a b : Player) (xs ys : List Channel) → Shows (Ahead PlaysAll steps i) a b xs ys
+    → Shows (PlaysAll steps) a b xs ys
 plays_end steps i more a b xs ys p = record {
   text = p.text;
   printed = p.printed;

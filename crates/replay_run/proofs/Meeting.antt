@@ -21,7 +21,8 @@ set_same (x ∷ xs) zero a is = (let e : x ≡ a = (let f : Some x ≡ Some a = 
 set_same (x ∷ xs) (suc i) a is = ap (λ ys. x ∷ ys) (set_same xs i a is)
 
 module _ (P : ℕ → Talk → List ℕ → Talk → Type 0) (place : ℕ) (old : Player) (xs : List Channel) where
-  found : (channel : Channel) (text : List ℕ) (after : World) → slice_get xs place ≡ Some channel → OnChannel channel.number P place channel (world old xs) text after → OnLine P place (world old xs) text after
+  found : (channel : Channel) (text : List ℕ) (after : World) → slice_get xs place ≡ Some channel
+      → OnChannel channel.number P place channel (world old xs) text after → OnLine P place (world old xs) text after
   found channel text after at is =
       subst (λ (o : Option Channel). OnPlace o P place (world old xs) text after) (sym at) is
 
@@ -45,7 +46,8 @@ module _ (P : ℕ → Talk → List ℕ → Talk → Type 0) (place : ℕ) (old 
       (subst (λ (b : Bool). Enters b P place channel (world old xs) (limit_line channel.name) (world new xs)) (sym room) (refl, same)))
 
   -- the connection can't enter
-  pub line_refused : (new : Player) (channel met : Channel) → slice_get xs place ≡ Some channel → Meets None old new channel met → Shows (OnLine P place) old new xs (slice_set xs place met)
+  pub line_refused : (new : Player) (channel met : Channel) → slice_get xs place ≡ Some channel → Meets None old new channel met
+      → Shows (OnLine P place) old new xs (slice_set xs place met)
   line_refused new channel met at (knows conn is number same stays) = absurd (let e : None ≡ Some conn = is in cc)
   line_refused new channel met at (enters is none room life silent became) = absurd (let e : None ≡ Some (connections old.core.history) = is in cc)
   line_refused new channel met at (refuses is none room life filled told away became) =
@@ -57,7 +59,8 @@ module _ (P : ℕ → Talk → List ℕ → Talk → Type 0) (place : ℕ) (old 
       })
 
   known_so : (conn : ℕ) (new : Player) (channel last : Channel) (text : List ℕ) → slice_get xs place ≡ Some channel → channel.number ≡ Some conn
-      → P conn (talk old channel) text (talk new last) → new.turned_away ≡ old.turned_away → OnLine P place (world old xs) text (world new (slice_set xs place last))
+      → P conn (talk old channel) text (talk new last) → new.turned_away ≡ old.turned_away
+      → OnLine P place (world old xs) text (world new (slice_set xs place last))
   known_so conn new channel last text at number does away =
       found channel text (world new (slice_set xs place last)) at
       (subst (λ (o : Option ℕ). OnChannel o P place channel (world old xs) text (world new (slice_set xs place last))) (sym number) (record {
@@ -67,7 +70,9 @@ module _ (P : ℕ → Talk → List ℕ → Talk → Type 0) (place : ℕ) (old 
       }))
 
   entered_so : (new : Player) (channel last : Channel) (text : List ℕ) → slice_get xs place ≡ Some channel → channel.number ≡ None → has_room old.core ≡ true
-      → P (connections old.core.history) (record { life = with_entry (Entered (connections old.core.history)) old.core; channel = numbered (connections old.core.history) channel }) text (talk new last)
+      → P (connections old.core.history)
+      (record { life = with_entry (Entered (connections old.core.history)) old.core; channel = numbered (connections old.core.history) channel }) text
+      (talk new last)
       → new.turned_away ≡ old.turned_away → OnLine P place (world old xs) text (world new (slice_set xs place last))
   entered_so new channel last text at none room does away =
       found channel text (world new (slice_set xs place last)) at
@@ -106,9 +111,11 @@ module _ (P : ℕ → Talk → List ℕ → Talk → Type 0) (place : ℕ) (old 
   line_told conn mid new channel met last at (refuses is none room life filled told away became) t = absurd (let e : Some conn ≡ None = is in cc)
 
 -- what is known of connections where one can't enter
-pub keeps_refused : (old new : Player) (xs : List Channel) (place : ℕ) (channel met : Channel) → Keeps old xs → slice_get xs place ≡ Some channel → Meets None old new channel met → Keeps new (slice_set xs place met)
+pub keeps_refused : (old new : Player) (xs : List Channel) (place : ℕ) (channel met : Channel) → Keeps old xs → slice_get xs place ≡ Some channel
+    → Meets None old new channel met → Keeps new (slice_set xs place met)
 keeps_refused old new xs place channel met k at (knows conn is number same stays) = absurd (let e : None ≡ Some conn = is in cc)
-keeps_refused old new xs place channel met k at (enters is none room life silent became) = absurd (let e : None ≡ Some (connections old.core.history) = is in cc)
+keeps_refused old new xs place channel met k at (enters is none room life silent became) =
+    absurd (let e : None ≡ Some (connections old.core.history) = is in cc)
 keeps_refused old new xs place channel met k at (refuses is none room life filled told away became) =
     let same : slice_set xs place met ≡ xs = ap (λ (c : Channel). slice_set xs place c) became ∙ set_same xs place channel at in
     subst (λ (ys : List Channel). Keeps new ys) (sym same)

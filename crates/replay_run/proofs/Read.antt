@@ -34,7 +34,8 @@ one_onward conn a b x y p = record {
 }
 
 -- bytes that were put behind what was fed, and read
-pub feeds : (bytes : List ℕ) (conn : ℕ) (a b : Player) (x y z : Channel) → (x.dropped || x.ended) ≡ false → Puts bytes x y → Tells (ReadsOn conn) a b y z → Tells (Feeds bytes conn) a b x z
+pub feeds : (bytes : List ℕ) (conn : ℕ) (a b : Player) (x y z : Channel) → (x.dropped || x.ended) ≡ false → Puts bytes x y → Tells (ReadsOn conn) a b y z
+    → Tells (Feeds bytes conn) a b x z
 feeds bytes conn a b x y z is puts p =
     let started : talk a y ≡ with_fed y.stream bytes (talk a x) = ap (λ (c : Channel). talk a c) puts.became in
     record {
@@ -59,7 +60,8 @@ feeds_nothing bytes conn a x is = record {
 -- an administrator's line that came
 pub commands_told : (words : List ℕ) (conn number : ℕ) (command : Command) (a b : Player) (x : Channel) → x.ended ≡ false → is_sized words ≡ true
     → number ≡ x.lines + 1 → command ≡ command_of_line words → b.core ≡ after_call conn (Line number command) (length words) a.core
-    → b.printed.items ≡ a.printed.items ++ call_text x.name (Line number command) (length words) a.core → (KnowsFilled a → KnowsFilled b) → b.turned_away ≡ a.turned_away
+    → b.printed.items ≡ a.printed.items ++ call_text x.name (Line number command) (length words) a.core → (KnowsFilled a → KnowsFilled b)
+    → b.turned_away ≡ a.turned_away
     → Tells (Commands words conn) a b x (record x { lines = number })
 commands_told words conn number command a b x open_ sized numbered read life printed filled away =
     let is : (x.ended || not (is_sized words)) ≡ false = ap (λ d. d || not (is_sized words)) open_ ∙ ap not sized in
@@ -67,24 +69,33 @@ commands_told words conn number command a b x open_ sized numbered read life pri
     record {
       text = call_text x.name (Line number command) (length words) a.core;
       printed = printed;
-      does = subst (λ (d : Bool). Either d Stays (TakesLine words conn) (talk a x) (call_text x.name (Line number command) (length words) a.core) (talk b (record x { lines = number }))) (sym is)
+      does = subst
+          (λ (d : Bool). Either d Stays (TakesLine words conn) (talk a x) (call_text x.name (Line number command) (length words) a.core)
+          (talk b (record x { lines = number }))) (sym is)
           (record {
             told = ap (λ (c : Call). call_text x.name c (length words) a.core) call_is;
-            became = ap (λ (l : Life). let t : Talk = record { life = l; channel = record x { lines = number } } in t) (life ∙ ap (λ (c : Call). after_call conn c (length words) a.core) call_is)
-                ∙ ap (λ (n : ℕ). let t : Talk = record { life = after_call conn (Line (x.lines + 1) (command_of_line words)) (length words) a.core; channel = record x { lines = n } } in t) numbered;
+            became =
+                ap (λ (l : Life). let t : Talk = record { life = l; channel = record x { lines = number } } in t)
+                (life ∙ ap (λ (c : Call). after_call conn c (length words) a.core) call_is)
+                ∙ ap (λ (n : ℕ).
+                let t : Talk =
+                record { life = after_call conn (Line (x.lines + 1) (command_of_line words)) (length words) a.core; channel = record x { lines = n } } in t)
+                numbered;
           });
       filled = filled;
       turned_away = away;
     }
 
 module _ (conn : ℕ) (a b : Player) (x y : Channel) (stream : Framing) where
-  message_so : (m : Framed) → FramerAnswers x.stream (next.Message m) stream → (p : Tells (Handles conn m) a b (record x { stream = stream }) y) → (d : Bool) → y.dropped ≡ d
+  message_so : (m : Framed) → FramerAnswers x.stream (next.Message m) stream → (p : Tells (Handles conn m) a b (record x { stream = stream }) y) → (d : Bool)
+      → y.dropped ≡ d
       → ReadsNext (not d) conn (talk a x) p.text (talk b y)
   message_so m comes p true is = stops (talk a x) (talk b y) m stream p.text comes p.does is
   message_so m comes p false is = record { message = m; stream = stream; comes = comes; handles = p.does; goes_on = is }
 
   -- a message was read
-  pub message_next : (m : Framed) → FramerAnswers x.stream (next.Message m) stream → Tells (Handles conn m) a b (record x { stream = stream }) y → Tells (ReadsNext (not y.dropped) conn) a b x y
+  pub message_next : (m : Framed) → FramerAnswers x.stream (next.Message m) stream → Tells (Handles conn m) a b (record x { stream = stream }) y
+      → Tells (ReadsNext (not y.dropped) conn) a b x y
   message_next m comes p = record {
     text = p.text;
     printed = p.printed;
@@ -94,7 +105,8 @@ module _ (conn : ℕ) (a b : Player) (x y : Channel) (stream : Framing) where
   }
 
 -- no message stands whole
-pub nothing_next : (conn : ℕ) (a : Player) (x : Channel) (have : ℕ) (stream : Framing) → FramerAnswers x.stream (next.NeedMore have) stream → Tells (ReadsOn conn) a a x (record x { stream = stream })
+pub nothing_next : (conn : ℕ) (a : Player) (x : Channel) (have : ℕ) (stream : Framing) → FramerAnswers x.stream (next.NeedMore have) stream
+    → Tells (ReadsOn conn) a a x (record x { stream = stream })
 nothing_next conn a x have stream comes = record {
   text = [];
   printed = sym (append-nil a.printed.items);
@@ -104,13 +116,15 @@ nothing_next conn a x have stream comes = record {
 }
 
 -- a place is bad
-pub bad_next : (conn : ℕ) (a b : Player) (x : Channel) (name : List ℕ) (at : ℕ) (why : Why) (stream : Framing) → FramerAnswers x.stream (next.Bad at why) stream → name ≡ x.name
+pub bad_next : (conn : ℕ) (a b : Player) (x : Channel) (name : List ℕ) (at : ℕ) (why : Why) (stream : Framing) → FramerAnswers x.stream (next.Bad at why) stream
+    → name ≡ x.name
     → b.core ≡ a.core → b.printed.items ≡ a.printed.items ++ bad_line name at → b.filled ≡ a.filled → b.turned_away ≡ a.turned_away
     → Tells (ReadsOn conn) a b x (record x { stream = stream; dropped = true })
 bad_next conn a b x name at why stream comes named core printed filled away = record {
   text = bad_line x.name at;
   printed = printed ∙ ap (λ (n : List ℕ). a.printed.items ++ bad_line n at) named;
-  does = subst (λ (l : Life). ReadsOn conn (talk a x) (bad_line x.name at) (record { life = l; channel = record x { stream = stream; dropped = true } })) (sym core)
+  does = subst (λ (l : Life). ReadsOn conn (talk a x) (bad_line x.name at) (record { life = l; channel = record x { stream = stream; dropped = true } }))
+      (sym core)
       (fails (talk a x) at why stream comes);
   filled = λ known. ap (λ o. option_map numbers o) filled ∙ (known ∙ sym (ap (λ (l : Life). filled_at l.history) core));
   turned_away = away;

@@ -70,7 +70,8 @@ rests_talk : (talk : Talk) → Rests talk talk
 rests_talk talk = record { same = same_life talk.life; number = refl; ended = refl; said = λ s. s }
 
 rests_then : (a b c : Talk) → Rests a b → Rests b c → Rests a c
-rests_then a b c p q = record { same = same_then a.life b.life c.life p.same q.same; number = q.number ∙ p.number; ended = q.ended ∙ p.ended; said = λ s. q.said (p.said s) }
+rests_then a b c p q =
+    record { same = same_then a.life b.life c.life p.same q.same; number = q.number ∙ p.number; ended = q.ended ∙ p.ended; said = λ s. q.said (p.said s) }
 
 rests_at : (a b c : Talk) → c ≡ b → Rests a b → Rests a c
 rests_at a b c e r = subst (λ (x : Talk). Rests a x) (sym e) r
@@ -87,7 +88,12 @@ rests_move conn before after r = record {
 
 rests_did : (conn : ℕ) (asked : Result Incoming MsgFault) (m : Framed) (talk : Talk) → CallOf m.bytes asked → Rests talk (did conn asked m talk)
 rests_did conn (Ok (incoming.Call call)) m talk reads =
-    record { same = same_call conn call (length m.bytes) talk.life; number = refl; ended = refl; said = said_called conn call (length m.bytes) talk.life (headed_said call (message_headed m.bytes call reads)) }
+    record {
+      same = same_call conn call (length m.bytes) talk.life;
+      number = refl;
+      ended = refl;
+      said = said_called conn call (length m.bytes) talk.life (headed_said call (message_headed m.bytes call reads));
+    }
 rests_did conn (Ok (incoming.Cancel id)) m talk reads = rests_talk talk
 rests_did conn (Ok incoming.Closing) m talk reads = record { same = same_life talk.life; number = refl; ended = refl; said = λ s. s }
 rests_did conn (Err fault) m talk reads = record { same = same_life talk.life; number = refl; ended = refl; said = λ s. s }
@@ -99,7 +105,8 @@ rests_read : (conn : ℕ) (before : Talk) (text : List ℕ) (after : Talk) → R
 rests_read conn before text after (waits b have stream a) = record { same = same_life b.life; number = refl; ended = refl; said = λ s. s }
 rests_read conn before text after (fails b at why stream a) = record { same = same_life b.life; number = refl; ended = refl; said = λ s. s }
 rests_read conn before text after (stops b e m stream said a h d) =
-    (let r : Rests (with_stream stream b) e = rests_handled conn m (with_stream stream b) said e h in record { same = r.same; number = r.number; ended = r.ended; said = r.said })
+    (let r : Rests (with_stream stream b) e = rests_handled conn m (with_stream stream b) said e h in
+    record { same = r.same; number = r.number; ended = r.ended; said = r.said })
 rests_read conn before text after (reads_on b between e m stream front rest a h d more) =
     (let r : Rests (with_stream stream b) between = rests_handled conn m (with_stream stream b) front between h in
     rests_then b between e (record { same = r.same; number = r.number; ended = r.ended; said = r.said }) (rests_read conn between rest e more))
@@ -119,7 +126,8 @@ rests_commanded : (b : Bool) (words : List ℕ) (conn : ℕ) (before : Talk) (te
 rests_commanded true words conn before text after s = rests_stay before text after s
 rests_commanded false words conn before text after t = (let call : Call = Line (before.channel.lines + 1) (command_of_line words) in
     let next : Talk = record { life = after_call conn call (length words) before.life; channel = record before.channel { lines = before.channel.lines + 1 } } in
-    rests_at before next after t.became (record { same = same_call conn call (length words) before.life; number = refl; ended = refl; said = said_called conn call (length words) before.life tt }))
+    rests_at before next after t.became
+    (record { same = same_call conn call (length words) before.life; number = refl; ended = refl; said = said_called conn call (length words) before.life tt }))
 
 rests_collected : (conn : ℕ) (before : Talk) (text : List ℕ) (after : Talk) → Collects conn before text after → Rests before after
 rests_collected conn before text after c =
@@ -146,16 +154,22 @@ moves_ended false conn before text after s = moves_at conn before (left conn bef
 })
 
 pub moves_talked : (l : LineData) (conn : ℕ) (before : Talk) (text : List ℕ) (after : Talk) → Talks l conn before text after → Moves conn before after
-moves_talked (line.Bytes bytes) conn before text after f = rests_move conn before after (rests_fed (before.channel.dropped || before.channel.ended) bytes.now conn before text after f)
-moves_talked (line.Words words) conn before text after t = rests_move conn before after (rests_commanded (before.channel.ended || not (is_sized words.now)) words.now conn before text after t)
+moves_talked (line.Bytes bytes) conn before text after f =
+    rests_move conn before after (rests_fed (before.channel.dropped || before.channel.ended) bytes.now conn before text after f)
+moves_talked (line.Words words) conn before text after t =
+    rests_move conn before after (rests_commanded (before.channel.ended || not (is_sized words.now)) words.now conn before text after t)
 moves_talked line.End conn before text after e = moves_ended before.channel.ended conn before text after e
 moves_talked line.Collect conn before text after c = rests_move conn before after (rests_collected conn before text after c)
 
-pub feeds_givens : (bytes : List ℕ) (conn : ℕ) (before : Talk) (text : List ℕ) (after : Talk) → Feeds bytes conn before text after → Givens before.life after.life
-feeds_givens bytes conn before text after f = same_givens before.life after.life (rests_fed (before.channel.dropped || before.channel.ended) bytes conn before text after f).same
+pub feeds_givens : (bytes : List ℕ) (conn : ℕ) (before : Talk) (text : List ℕ) (after : Talk) → Feeds bytes conn before text after
+    → Givens before.life after.life
+feeds_givens bytes conn before text after f =
+    same_givens before.life after.life (rests_fed (before.channel.dropped || before.channel.ended) bytes conn before text after f).same
 
-pub commands_givens : (words : List ℕ) (conn : ℕ) (before : Talk) (text : List ℕ) (after : Talk) → Commands words conn before text after → Givens before.life after.life
-commands_givens words conn before text after t = same_givens before.life after.life (rests_commanded (before.channel.ended || not (is_sized words)) words conn before text after t).same
+pub commands_givens : (words : List ℕ) (conn : ℕ) (before : Talk) (text : List ℕ) (after : Talk) → Commands words conn before text after
+    → Givens before.life after.life
+commands_givens words conn before text after t =
+    same_givens before.life after.life (rests_commanded (before.channel.ended || not (is_sized words)) words conn before text after t).same
 
 pub ends_givens : (conn : ℕ) (before : Talk) (text : List ℕ) (after : Talk) → TalkEnds conn before text after → Givens before.life after.life
 ends_givens conn before text after e = (moves_ended before.channel.ended conn before text after e).givens
@@ -164,7 +178,8 @@ pub collects_givens : (conn : ℕ) (before : Talk) (text : List ℕ) (after : Ta
 collects_givens conn before text after c = same_givens before.life after.life (rests_collected conn before text after c).same
 
 -- an element of a list with one place changed
-changed_by : (xs : List Channel) (i : ℕ) (a : Channel) (j : ℕ) (b : Channel) → slice_get (slice_set xs i a) j ≡ Some b → ((j ≡ i) × (b ≡ a)) ⊎ ((j ≢ i) × (slice_get xs j ≡ Some b))
+changed_by : (xs : List Channel) (i : ℕ) (a : Channel) (j : ℕ) (b : Channel) → slice_get (slice_set xs i a) j ≡ Some b → ((j ≡ i) × (b ≡ a))
+    ⊎ ((j ≢ i) × (slice_get xs j ≡ Some b))
 changed_by [] i a j b is = absurd (let e : None ≡ Some b = is in cc)
 changed_by (x ∷ xs) zero a zero b is = inl (refl, (let e : Some a ≡ Some b = is in cc))
 changed_by (x ∷ xs) zero a (suc j) b is = inr ((λ e. omega (arith, e)), is)
@@ -228,7 +243,8 @@ seat_entered channels place old mid channel k at life filled =
       said = subst (λ (l : Life). Each IsSaid l.history) (sym life) (each_same IsSaid old.core.history (Entered conn ∷ old.core.history) (λ r. refl) k.said);
     }
 
-pub seat_met : (conn : ℕ) (channels : List Channel) (place : ℕ) (old mid : Player) (channel met : Channel) → Keeps old channels → slice_get channels place ≡ Some channel
+pub seat_met : (conn : ℕ) (channels : List Channel) (place : ℕ) (old mid : Player) (channel met : Channel) → Keeps old channels
+    → slice_get channels place ≡ Some channel
     → Meets (Some conn) old mid channel met → Seat conn channels place old mid met
 seat_met conn channels place old mid channel met k at (knows n is number new same) =
     let number_is : channel.number ≡ Some conn = number ∙ sym is in
@@ -240,7 +256,8 @@ seat_met conn channels place old mid channel met k at (enters is none room life 
     (seat_entered channels place old mid channel k at life silent.filled))
 seat_met conn channels place old mid channel met k at (refuses is none room life filled told away same) = absurd (let e : Some conn ≡ None = is in cc)
 
-module _ (conn : ℕ) (channels : List Channel) (place : ℕ) (old mid new : Player) (met last : Channel) (k : Keeps old channels) (s : Seat conn channels place old mid met)
+module _ (conn : ℕ) (channels : List Channel) (place : ℕ) (old mid new : Player) (met last : Channel) (k : Keeps old channels)
+    (s : Seat conn channels place old mid met)
     (m : Moves conn (talk mid met) (talk new last)) where
   last_number : (n : ℕ) → last.number ≡ Some n → n ≡ conn
   last_number n is = some_is n conn (sym is ∙ (m.number ∙ s.number))

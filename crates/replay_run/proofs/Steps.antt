@@ -19,7 +19,8 @@ use Rattle.replay_run.proofs.Seats.{feeds_givens, commands_givens, ends_givens, 
 same_world : (w v : World) → v ≡ w → Givens w.life v.life
 same_world w v same = subst (λ (u : World). Givens w.life u.life) (sym same) (givens_life w.life)
 
-module _ (P : ℕ → Talk → List ℕ → Talk → Type 0) (keep : (conn : ℕ) (before : Talk) (text : List ℕ) (after : Talk) → P conn before text after → Givens before.life after.life) (place : ℕ) where
+module _ (P : ℕ → Talk → List ℕ → Talk → Type 0)
+    (keep : (conn : ℕ) (before : Talk) (text : List ℕ) (after : Talk) → P conn before text after → Givens before.life after.life) (place : ℕ) where
   carried : (channel : Channel) (conn : ℕ) (w : World) (text : List ℕ) (v : World) → Carries P place channel conn w text v → Givens w.life v.life
   carried channel conn w text v c =
       let kept : Givens w.life c.talk.life = keep conn (record { life = w.life; channel = channel }) text c.talk c.does in
@@ -31,7 +32,8 @@ module _ (P : ℕ → Talk → List ℕ → Talk → Type 0) (keep : (conn : ℕ
       record { config = kept.config; run = kept.run; limit = kept.limit; opening = kept.opening; going = kept.going })
   entering false channel w text v r = subst (λ (u : World). Givens w.life u.life) (sym r.1) (givens_life w.life)
 
-  on_channel : (number : Option ℕ) (channel : Channel) (w : World) (text : List ℕ) (v : World) → OnChannel number P place channel w text v → Givens w.life v.life
+  on_channel : (number : Option ℕ) (channel : Channel) (w : World) (text : List ℕ) (v : World) → OnChannel number P place channel w text v
+      → Givens w.life v.life
   on_channel None channel w text v e = entering (has_room w.life) channel w text v e
   on_channel (Some conn) channel w text v c = carried channel conn w text v c
 
@@ -42,7 +44,8 @@ module _ (P : ℕ → Talk → List ℕ → Talk → Type 0) (keep : (conn : ℕ
   line_givens : (w : World) (text : List ℕ) (v : World) → OnLine P place w text v → Givens w.life v.life
   line_givens w text v l = on_place (slice_get w.channels place) w text v l
 
-life_givens : (P : Life → List ℕ → Life → Type 0) → ((a : Life) (text : List ℕ) (b : Life) → P a text b → Givens a b) → (w : World) (text : List ℕ) (v : World) → OnLife P w text v → Givens w.life v.life
+life_givens : (P : Life → List ℕ → Life → Type 0) → ((a : Life) (text : List ℕ) (b : Life) → P a text b → Givens a b) → (w : World) (text : List ℕ) (v : World)
+    → OnLife P w text v → Givens w.life v.life
 life_givens P keep w text v o = subst (λ (u : World). Givens w.life u.life) (sym o.became) (keep w.life text o.life o.does)
 
 play_givens : (s : Step) (w : World) (text : List ℕ) (v : World) → Plays s w text v → Givens w.life v.life
@@ -59,4 +62,5 @@ play_givens step.Journal w text v p = same_world w v p.1
 
 pub plays_givens : (steps : List ScriptStep) (w : World) (text : List ℕ) (v : World) → PlaysAll steps w text v → Givens w.life v.life
 plays_givens [] w text v s = same_world w v s.1
-plays_givens (s ∷ ss) w text v t = givens_then w.life t.between.life v.life (play_givens s.step w t.front t.between t.first) (plays_givens ss t.between t.rest v t.second)
+plays_givens (s ∷ ss) w text v t =
+    givens_then w.life t.between.life v.life (play_givens s.step w t.front t.between t.first) (plays_givens ss t.between t.rest v t.second)

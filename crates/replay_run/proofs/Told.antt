@@ -10,11 +10,13 @@ use Rattle.replay_run.specs.Keeping.{Tells}
 use Rattle.replay_player.proofs.Same.{still_collects}
 
 -- the replies of a connection, collected by its line
-pub collects_told : (conn : ℕ) (old new : Player) (channel : Channel) → Works (CollectsAll (reply_line channel.name) conn) old new → Tells (Collecting conn) old new channel channel
+pub collects_told : (conn : ℕ) (old new : Player) (channel : Channel) → Works (CollectsAll (reply_line channel.name) conn) old new
+    → Tells (Collecting conn) old new channel channel
 collects_told conn old new channel p = record {
   text = p.text;
   printed = p.printed;
   does = record { life = new.core; collects = p.does; became = refl };
-  filled = λ known. ap (λ o. option_map numbers o) p.filled ∙ (known ∙ sym (still_collects (reply_line channel.name) conn old.core p.text new.core p.does).filled);
+  filled = λ known. ap (λ o. option_map numbers o) p.filled
+      ∙ (known ∙ sym (still_collects (reply_line channel.name) conn old.core p.text new.core p.does).filled);
   turned_away = p.turned_away;
 }

@@ -44,7 +44,8 @@ pub life_shows : (P : Life → List ℕ → Life → Type 0) (old new : Player) 
 life_shows P old new xs p = record {
   text = p.text;
   printed = p.printed;
-  does = record { life = new.core; does = p.does; became = ap (λ (o : Option Full). let w : World = record { life = new.core; channels = xs; turned_away = o } in w) p.turned_away };
+  does = record
+      { life = new.core; does = p.does; became = ap (λ (o : Option Full). let w : World = record { life = new.core; channels = xs; turned_away = o } in w) p.turned_away };
 }
 
 -- the step of a line
@@ -53,7 +54,8 @@ step_shows s t old new xs ys same p = subst (λ (u : Step). Shows (Plays u) old 
 
 -- a request that was fed
 pub ask_shows : (place id : ℕ) (path : List (List ℕ)) (oid operation bytes : List ℕ) (argument : Option Datum) (old new : Player) (xs ys : List Channel)
-    → bytes ≡ asked old.core id path oid operation argument → Shows (OnLine (Feeds bytes) place) old new xs ys → Shows (Plays (step.Ask place id path oid operation argument)) old new xs ys
+    → bytes ≡ asked old.core id path oid operation argument → Shows (OnLine (Feeds bytes) place) old new xs ys
+    → Shows (Plays (step.Ask place id path oid operation argument)) old new xs ys
 ask_shows place id path oid operation bytes argument old new xs ys same p = record {
   text = p.text;
   printed = p.printed;
@@ -104,15 +106,19 @@ pub is_played : (c : Config) (limit : ℕ) (script : Script) (answer : Played) (
     → IsAtFirst c limit p → AreFresh script.connections xs → Keeps q ys → Shows (PlaysAll script.steps) p q xs ys → Works (Then Rests (CollectsEach ys)) q r
     → answer.printed ≡ r.printed.items → answer.held ≡ unadmitted r.core.history → answer.full ≡ option_or r.filled r.turned_away
     → ((c : Config) (run limit : ℕ) (h : List Entry) → IsRun c run limit h → (conn a w : ℕ) → turn c run (Collect conn a ∷ h) w ≡ turn c run h w)
-    → IsRun r.core.config r.core.run r.core.limit r.core.history → IsLegal r.core.config r.core.run r.core.limit r.core.history → HasLifetime r.core.config r.core.run r.core.history
-    → LeavesNothing r.core.config r.core.run r.core.history → KeepsUpdates r.core.config r.core.run (opened r.core) r.core.history → IsPlayed c limit script answer
+    → IsRun r.core.config r.core.run r.core.limit r.core.history → IsLegal r.core.config r.core.run r.core.limit r.core.history
+    → HasLifetime r.core.config r.core.run r.core.history
+    → LeavesNothing r.core.config r.core.run r.core.history → KeepsUpdates r.core.config r.core.run (opened r.core) r.core.history
+    → IsPlayed c limit script answer
 is_played c limit script answer p q r xs ys first fresh keeps shows works printed held full collecting runs legal lifetime undone updates =
     let still : Still q.core r.core = still_finished ys q.core works.text r.core works.does in
     let played : Givens p.core q.core = plays_givens script.steps (world p xs) shows.text (world q ys) shows.does in
-    let givens : Givens (life_at_first c limit) r.core = subst (λ (l : Life). Givens l r.core) first.life (givens_then p.core q.core r.core played (same_givens q.core r.core still.same)) in
+    let givens : Givens (life_at_first c limit) r.core =
+    subst (λ (l : Life). Givens l r.core) first.life (givens_then p.core q.core r.core played (same_givens q.core r.core still.same)) in
     let is_run : IsRun c c.run limit r.core.history = run_for c limit r.core givens runs in
     let idle : AreIdle c c.run r.core.history = idle_at_end c c.run limit
-    (λ h lawful conn a w. collecting c c.run limit h (record { accepted = is_run.accepted; numbered = is_run.numbered; limited = is_run.limited; legal = lawful }) conn a w)
+    (λ h lawful conn a w. collecting c c.run limit h
+    (record { accepted = is_run.accepted; numbered = is_run.numbered; limited = is_run.limited; legal = lawful }) conn a w)
     ys q.core works.text r.core works.does (played.config ∙ ap (λ (l : Life). l.config) first.life) (played.run ∙ ap (λ (l : Life). l.run) first.life)
     (λ w. played.going w ∙ ap (λ (l : Life). is_abandoned l.history w) first.life) is_run.legal in
     let filled : option_map numbers r.filled ≡ filled_at r.core.history =

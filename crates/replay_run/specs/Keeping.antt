@@ -42,7 +42,8 @@ pub record Keeps (player : Player) (channels : List Channel) : Type 0 where
   pub filled : KnowsFilled player
   pub seated : (i : ℕ) (a : Channel) → slice_get channels i ≡ Some a → IsSeated a player.core.history
   -- no two of them have one number
-  pub alone : (i j n : ℕ) (a b : Channel) → slice_get channels i ≡ Some a → slice_get channels j ≡ Some b → a.number ≡ Some n → b.number ≡ Some n → i ≡ j
+  pub alone : (i j n : ℕ) (a b : Channel) → slice_get channels i ≡ Some a → slice_get channels j ≡ Some b → a.number ≡ Some n
+      → b.number ≡ Some n → i ≡ j
   -- who hasn't entered hasn't left
   pub later : (n : ℕ) → connections player.core.history ≤ n → has_left player.core.history n ≡ false
   -- each call is one of a message, or a line
@@ -88,7 +89,8 @@ pub record Silent (old new : Player) : Type 0 where
 -- the number of a connection to which a line comes
 pub data Meets (met : Option ℕ) (old new : Player) (channel_old channel_new : Channel) : Type 0 where
   -- it entered before
-  knows : (conn : ℕ) → met ≡ Some conn → channel_old.number ≡ Some conn → new ≡ old → channel_new ≡ channel_old → Meets met old new channel_old channel_new
+  knows : (conn : ℕ) → met ≡ Some conn → channel_old.number ≡ Some conn → new ≡ old → channel_new ≡ channel_old
+      → Meets met old new channel_old channel_new
   -- it enters now
   enters : met ≡ Some (connections old.core.history) → channel_old.number ≡ None → has_room old.core ≡ true
       → new.core ≡ with_entry (Entered (connections old.core.history)) old.core → Silent old new
@@ -96,7 +98,8 @@ pub data Meets (met : Option ℕ) (old new : Player) (channel_old channel_new : 
   -- it can't enter
   refuses : met ≡ None → channel_old.number ≡ None → has_room old.core ≡ false → new.core ≡ old.core → new.filled ≡ old.filled
       → new.printed.items ≡ old.printed.items ++ limit_line channel_old.name
-      → new.turned_away ≡ option_or old.turned_away (Some (record { arrivals = arrivals old.core.history; bytes = arrived_bytes old.core.history }))
+      → new.turned_away ≡ option_or old.turned_away
+      (Some (record { arrivals = arrivals old.core.history; bytes = arrived_bytes old.core.history }))
       → channel_new ≡ channel_old → Meets met old new channel_old channel_new
 
 -- those that have a number entered

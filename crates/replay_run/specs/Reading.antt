@@ -47,17 +47,21 @@ pub record Handles (conn : ℕ) (m : Framed) (before : Talk) (text : List ℕ) (
 
 -- the messages that stand whole are read in their order, up to one behind which no byte is read
 pub data ReadsOn (conn : ℕ) : Talk → List ℕ → Talk → Type 0 where
-  waits : (talk : Talk) (have : ℕ) (stream : Framing) → FramerAnswers talk.channel.stream (next.NeedMore have) stream → ReadsOn conn talk [] (with_stream stream talk)
+  waits : (talk : Talk) (have : ℕ) (stream : Framing) → FramerAnswers talk.channel.stream (next.NeedMore have) stream
+      → ReadsOn conn talk [] (with_stream stream talk)
   fails : (talk : Talk) (at : ℕ) (why : Why) (stream : Framing) → FramerAnswers talk.channel.stream (next.Bad at why) stream
       → ReadsOn conn talk (bad_line talk.channel.name at) (dropped (with_stream stream talk))
   stops : (talk after : Talk) (m : Framed) (stream : Framing) (text : List ℕ) → FramerAnswers talk.channel.stream (next.Message m) stream
       → Handles conn m (with_stream stream talk) text after → after.channel.dropped ≡ true → ReadsOn conn talk text after
-  reads_on : (talk between last : Talk) (m : Framed) (stream : Framing) (front rest : List ℕ) → FramerAnswers talk.channel.stream (next.Message m) stream
-      → Handles conn m (with_stream stream talk) front between → between.channel.dropped ≡ false → ReadsOn conn between rest last → ReadsOn conn talk (front ++ rest) last
+  reads_on : (talk between last : Talk) (m : Framed) (stream : Framing) (front rest : List ℕ)
+      → FramerAnswers talk.channel.stream (next.Message m) stream
+      → Handles conn m (with_stream stream talk) front between → between.channel.dropped ≡ false → ReadsOn conn between rest last
+      → ReadsOn conn talk (front ++ rest) last
 
 -- more bytes were fed
 abbrev pub Grows : Framing → List ℕ → Framing → Type 0
-Grows old bytes new = (text : List ℕ) (messages : List Framed) (end : End) → FramerGives new text messages end ↔ FramerGives old (bytes ++ text) messages end
+Grows old bytes new = (text : List ℕ) (messages : List Framed) (end : End) → FramerGives new text messages end
+    ↔ FramerGives old (bytes ++ text) messages end
 
 abbrev pub with_fed : Framing → List ℕ → Talk → Talk
 with_fed stream bytes talk = record talk { channel = record talk.channel { stream = stream; fed = talk.channel.fed + length bytes } }

@@ -60,7 +60,8 @@ abbrev pub has_room : Life → Bool
 has_room life = nat_lt (connections life.history) 4000000
 
 -- it does so on a connection of this number
-pub record Carries (P : ℕ → Talk → List ℕ → Talk → Type 0) (place : ℕ) (channel : Channel) (conn : ℕ) (before : World) (text : List ℕ) (after : World) : Type 0 where
+pub record Carries (P : ℕ → Talk → List ℕ → Talk → Type 0) (place : ℕ) (channel : Channel) (conn : ℕ) (before : World) (text : List ℕ)
+    (after : World) : Type 0 where
   pub talk : Talk
   pub does : P conn (record { life = before.life; channel = channel }) text talk
   pub became : after ≡ record before { life = talk.life; channels = slice_set before.channels place talk.channel }
@@ -73,7 +74,8 @@ numbered conn channel = record channel { number = Some conn }
 
 abbrev pub turned_away : World → World
 turned_away w =
-    record w { turned_away = option_or w.turned_away (Some (record { arrivals = arrivals w.life.history; bytes = arrived_bytes w.life.history })) }
+    record w
+    { turned_away = option_or w.turned_away (Some (record { arrivals = arrivals w.life.history; bytes = arrived_bytes w.life.history })) }
 
 -- the first line of a connection lets it enter; where it can't, that is printed, and nothing else is done
 abbrev pub Enters : Bool → (ℕ → Talk → List ℕ → Talk → Type 0) → ℕ → Channel → World → List ℕ → World → Type 0

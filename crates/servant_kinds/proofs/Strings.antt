@@ -27,7 +27,8 @@ front_of-none (suc n) bytes some last =
 pub short_none : (body : Body) (place : ℕ) (fault : CdrFault) → gap 4 place ≡ gap 4 body.base → IsShort 4 (front_at place body) fault → octets_of body ≡ None
 short_none body place fault same short = grind (arith, common_steps)
 
-pub counted_is : (body : Body) (place len : ℕ) (after : Cursor) → gap 4 place ≡ gap 4 body.base → Reads (ulong len) (front_at place body) after → (ulong_of body ≡ Some len) × (behind_ulong body ≡ after.rest)
+pub counted_is : (body : Body) (place len : ℕ) (after : Cursor) → gap 4 place ≡ gap 4 body.base → Reads (ulong len) (front_at place body) after
+    → (ulong_of body ≡ Some len) × (behind_ulong body ≡ after.rest)
 counted_is body place len after same reads = (grind (arith, common_steps), grind (arith, common_steps))
 
 pub bytes_none : (body : Body) (place : ℕ) (fault : CdrFault) → gap 4 place ≡ gap 4 body.base → LacksBytes (front_at place body) fault → octets_of body ≡ None
@@ -51,7 +52,8 @@ text_none body place fault same (inr (inl lacks)) = ap ended_of (bytes_none body
 text_none body place fault same (inr (inr lacks)) = nul_none body place fault same lacks
 
 -- a string is read where CDR spells one
-pub text_is : (body : Body) (place : ℕ) (value : List ℕ) (after : Cursor) → gap 4 place ≡ gap 4 body.base → Reads (text value) (front_at place body) after → text_of body ≡ Some value
+pub text_is : (body : Body) (place : ℕ) (value : List ℕ) (after : Cursor) → gap 4 place ≡ gap 4 body.base → Reads (text value) (front_at place body) after
+    → text_of body ≡ Some value
 text_is body place value after same reads = grind (arith, common_steps)
 
 -- the alignment of a place is that of its remainder
@@ -59,7 +61,9 @@ pub gap-4 : (place : ℕ) → gap 4 (place % 8) ≡ gap 4 place
 gap-4 place = let same : place % 8 % 4 ≡ place % 4 = omega arith in ap (λ n. (4 - n) % 4) same
 
 -- where reading was refused, and memory didn't lack, there is no string
-pub refused_text : {E : Type 0} (body : Body) (place : ℕ) (fault : CdrFault) (result : Result (Option (List ℕ)) E) → gap 4 place ≡ gap 4 body.base → ((fault ≡ WantMemory) ⊎ Refuses Text (front_at place body) fault) → IfOk result (λ text. text ≡ None) → OnOk result (fault ≢ WantMemory) → IfOk result (λ text. text ≡ text_of body)
+pub refused_text : {E : Type 0} (body : Body) (place : ℕ) (fault : CdrFault) (result : Result (Option (List ℕ)) E) → gap 4 place ≡ gap 4 body.base
+    → ((fault ≡ WantMemory) ⊎ Refuses Text (front_at place body) fault) → IfOk result (λ text. text ≡ None) → OnOk result (fault ≢ WantMemory)
+    → IfOk result (λ text. text ≡ text_of body)
 refused_text body place fault (Err e) same refused none other = tt
 refused_text body place fault (Ok x) same (inl memory) none other = absurd (other memory)
 refused_text body place fault (Ok x) same (inr refuses) none other = none ∙ sym (text_none body place fault same refuses)

@@ -10,9 +10,11 @@ ghost use Rattle.servant_kinds.specs.Arguments.{start_of, longlong_of, ulong_of,
 
 /// An argument is the field that CDR spells at the front of the body.
 pub fn arguments_are_fields()
-    ensures longlong { (body : Body) (after : Cursor) (value : ℤ) → Reads (longlong value) (start_of body) after → longlong_of body ≡ Some value }
+    ensures longlong { (body : Body) (after : Cursor) (value : ℤ) → Reads (longlong value) (start_of body) after
+        → longlong_of body ≡ Some value }
     ensures ulong { (body : Body) (after : Cursor) (value : ℕ) → Reads (ulong value) (start_of body) after → ulong_of body ≡ Some value }
-    ensures octets { (body : Body) (after : Cursor) (value : List ℕ) → Reads (octets value) (start_of body) after → octets_of body ≡ Some value }
+    ensures octets { (body : Body) (after : Cursor) (value : List ℕ) → Reads (octets value) (start_of body) after
+        → octets_of body ≡ Some value }
     ensures text { (body : Body) (after : Cursor) (value : List ℕ) → Reads (text value) (start_of body) after → text_of body ≡ Some value }
 {}
 

@@ -73,10 +73,12 @@ module _ (l : Cutting) (place : ℕ) (unread : List ℕ) (at : place ≡ l.place
     pub cut_line_long : is_long raw ≡ true → AsTold (told.Bad place) (OfLines l) (OfLines l)
     cut_line_long long = subst (λ (p : ℕ). OfLines l [] [] (bad p)) (sym at) (line_long l raw rest [] (sym looks ∙ parts) clear long)
 
-    pub cut_line : (m : Cutting) (number : ℕ) (line : List ℕ) (t : Told) → number ≡ l.number → is_long raw ≡ false → line ≡ without_return raw → Speaks number line t
+    pub cut_line : (m : Cutting) (number : ℕ) (line : List ℕ) (t : Told) → number ≡ l.number → is_long raw ≡ false → line ≡ without_return raw
+        → Speaks number line t
         → m ≡ record { place = l.place + length raw + 1; number = suc l.number; unread = drop (length raw + 1) l.unread } → AsTold t (OfLines l) (OfLines m)
     cut_line m number line t counted short cut speaks is =
         let left : drop (length raw + 1) l.unread ≡ rest = ap (drop (length raw + 1)) (sym looks ∙ parts) ∙ drop-append-add raw (10 ∷ rest) 1 in
         let behind : m ≡ behind_line l raw rest = is ∙ ap (λ u. record { place = l.place + length raw + 1; number = suc l.number; unread = u }) left in
         subst (λ (k : Cutting). AsTold t (OfLines l) (OfLines k)) (sym behind)
-        (told_line l raw rest t (sym looks ∙ parts) clear short (subst (λ (n : ℕ). Speaks n (without_return raw) t) counted (subst (λ (x : List ℕ). Speaks number x t) cut speaks)))
+        (told_line l raw rest t (sym looks ∙ parts) clear short
+        (subst (λ (n : ℕ). Speaks n (without_return raw) t) counted (subst (λ (x : List ℕ). Speaks number x t) cut speaks)))

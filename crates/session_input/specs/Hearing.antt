@@ -50,7 +50,8 @@ StillHears P Q = (next : List ℕ) (more : List Heard) (stop : Stop) → Q next 
 -- what an answer says of what was to be heard, P, and of what is to be heard behind it, Q
 abbrev pub AsTold : Told → Hearing → Hearing → Type 0
 AsTold (told.Call call size) P Q =
-    ((next : List ℕ) (more : List Heard) (stop : Stop) → Q next more stop → P next (record { call = call; size = size } ∷ more) stop) × IsSize size
+    ((next : List ℕ) (more : List Heard) (stop : Stop) → Q next more stop → P next (record { call = call; size = size } ∷ more) stop)
+    × IsSize size
 AsTold told.Nothing P Q = StillHears P Q
 AsTold (told.More have) P Q = StillHears P Q × Q [] [] (over have)
 AsTold told.Closed P Q = P [] [] closed

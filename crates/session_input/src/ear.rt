@@ -41,7 +41,9 @@ impl Ear {
     /// Puts a piece behind the bytes fed so far. Where no memory is left, nothing is fed.
     pub(crate) fn feed(&mut self, piece: &[u8]) -> Result<(), WantMemory>
         requires { reach_of self.old + length piece.now < 2 ^ 62 }
-        ensures fed { OnOk result ((next : List ℕ) (more : List Heard) (stop : Stop) → OfEar self.new next more stop → OfEar self.old (piece.now ++ next) more stop) }
+        ensures fed { OnOk result
+            ((next : List ℕ) (more : List Heard) (stop : Stop) → OfEar self.new next more stop
+            → OfEar self.old (piece.now ++ next) more stop) }
         ensures limited { IsLimited self.old → IsLimited self.new }
         ensures reached { reach_of self.new ≤ reach_of self.old + length piece.now }
         ensures refused { OnErr result (self.new ≡ self.old) }

@@ -52,7 +52,9 @@ impl Input {
     /// Takes a piece more. Where no memory is left, nothing is taken.
     pub fn feed(&mut self, piece: &[u8]) -> Result<(), WantMemory>
         requires { self.old.taken + length piece.now ≤ 2 ^ 40 }
-        ensures fed { OnOk result ((next : List ℕ) (more : List Heard) (stop : Stop) → OfIntake self.new next more stop → OfIntake self.old (piece.now ++ next) more stop) }
+        ensures fed { OnOk result
+            ((next : List ℕ) (more : List Heard) (stop : Stop) → OfIntake self.new next more stop
+            → OfIntake self.old (piece.now ++ next) more stop) }
         ensures taken { OnOk result (self.new.taken ≡ self.old.taken + length piece.now) }
         ensures refused { OnErr result (self.new ≡ self.old) }
     {

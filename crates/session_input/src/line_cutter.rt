@@ -37,7 +37,8 @@ impl Model for LineCutter {
 
     ghost view = { λ l. record { place = l.place; number = l.number; unread = drop l.start l.bytes.items } };
 
-    ghost invariant = { λ l. (l.start ≤ vec_len l.bytes) × (l.number ≤ l.place + 1) × (l.place + length (drop l.start l.bytes.items) < 2 ^ 62) };
+    ghost invariant = { λ l. (l.start ≤ vec_len l.bytes) × (l.number ≤ l.place + 1)
+        × (l.place + length (drop l.start l.bytes.items) < 2 ^ 62) };
 }
 
 impl LineCutter {
@@ -96,7 +97,8 @@ impl LineCutter {
     /// Leaves a line of so many bytes behind, and its LF.
     fn skip_line(&mut self, count: usize)
         requires { count + 1 ≤ length self.old.unread }
-        ensures { self.new ≡ record { place = self.old.place + count + 1; number = suc self.old.number; unread = drop (count + 1) self.old.unread } }
+        ensures { self.new ≡ record
+            { place = self.old.place + count + 1; number = suc self.old.number; unread = drop (count + 1) self.old.unread } }
     {
         let end = self.start + count;
         self.start = end + 1;

@@ -44,7 +44,8 @@ module _ (peer : Peer) (h : List Entry) (text : List ℕ) (calls : List Heard) (
       }
 
   -- what was written is a front of the replies and of the message that closes the connection
-  pub short_of_closing : (due : SessionEnd) → Input peer text calls due → CauseBy peer h calls text due → Paid → (rest : List ℕ) → replies ++ closing peer due ≡ out ++ rest
+  pub short_of_closing : (due : SessionEnd) → Input peer text calls due → CauseBy peer h calls text due → Paid → (rest : List ℕ)
+      → replies ++ closing peer due ≡ out ++ rest
       → FallsShort peer h text calls replies Paid out
   short_of_closing due input cause paid rest is = record { due = due; input = input; cause = cause; front = (rest, is); paid = λ _. paid }
 

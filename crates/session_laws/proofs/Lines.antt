@@ -31,13 +31,15 @@ onto_some b (w ∷ ws) = (b ∷ w, ws, refl)
 
 some_parts : (s : ℕ) (text : List ℕ) → AreSome (parts_of s text)
 some_parts s [] = ([], [], refl)
-some_parts s (b ∷ bs) = cond_both (b == s) ([] ∷ parts_of s bs) (onto b (parts_of s bs)) AreSome (λ _. ([], parts_of s bs, refl)) (λ _. onto_some b (parts_of s bs))
+some_parts s (b ∷ bs) =
+    cond_both (b == s) ([] ∷ parts_of s bs) (onto b (parts_of s bs)) AreSome (λ _. ([], parts_of s bs, refl)) (λ _. onto_some b (parts_of s bs))
 
 pub has_parts : (s : ℕ) (text : List ℕ) → HasParts s text
 has_parts s text = (let p = some_parts s text in record { first = p.0; more = p.1; parts = p.2 })
 
 -- bytes in front that have no s belong to the first part
-pub parts_behind : (s : ℕ) (a b : List ℕ) (first : List ℕ) (more : List (List ℕ)) → lacks s a ≡ true → parts_of s b ≡ first ∷ more → parts_of s (a ++ b) ≡ (a ++ first) ∷ more
+pub parts_behind : (s : ℕ) (a b : List ℕ) (first : List ℕ) (more : List (List ℕ)) → lacks s a ≡ true → parts_of s b ≡ first ∷ more
+    → parts_of s (a ++ b) ≡ (a ++ first) ∷ more
 parts_behind s [] b first more clear parts = parts
 parts_behind s (c ∷ cs) b first more clear parts =
     let p = front_lacks s c cs clear in
@@ -76,7 +78,8 @@ calls_short : (number : ℕ) (raw m : List ℕ) (more : List (List ℕ)) → is_
     → calls_in number (raw ∷ m ∷ more) ≡ spoken number (without_return raw) ++ calls_in (suc number) (m ∷ more)
 calls_short number raw m more short = rw short refl
 
-stop_short : (place : ℕ) (raw m : List ℕ) (more : List (List ℕ)) → is_long raw ≡ false → stop_in place (raw ∷ m ∷ more) ≡ stop_in (place + length raw + 1) (m ∷ more)
+stop_short : (place : ℕ) (raw m : List ℕ) (more : List (List ℕ)) → is_long raw ≡ false
+    → stop_in place (raw ∷ m ∷ more) ≡ stop_in (place + length raw + 1) (m ∷ more)
 stop_short place raw m more short = rw short refl
 
 stop_over : (place : ℕ) (raw : List ℕ) → is_long raw ≡ false → stop_in place (raw ∷ []) ≡ over (length raw)

@@ -47,7 +47,8 @@ pub framer_new : (f : Framing) → HasGiven message_limit [] [] f → Expects Cl
 framer_new f given = λ text calls stop w. record { messages = w.messages; end = w.end; stream = (given text w.messages w.end).0 w.gives; heard = w.heard }
 
 module _ (f g : Framing) (text : List ℕ) (calls : List Heard) (stop : Stop) (w : OfFramer g text calls stop) where
-  pub framer_fed : (piece : List ℕ) → ((rest : List ℕ) (messages : List Framed) (end : End) → FramerGives g rest messages end ↔ FramerGives f (piece ++ rest) messages end)
+  pub framer_fed : (piece : List ℕ)
+      → ((rest : List ℕ) (messages : List Framed) (end : End) → FramerGives g rest messages end ↔ FramerGives f (piece ++ rest) messages end)
       → OfFramer f (piece ++ text) calls stop
   framer_fed piece fed = record { messages = w.messages; end = w.end; gives = (fed text w.messages w.end).0 w.gives; heard = w.heard }
 

@@ -47,7 +47,8 @@ module _ (c : ℕ) (past : List Entry) where
   asked_before (Arrive conn size call) r other =
       by_number (r == arrivals past)
     where
-      by_number : (b : Bool) → (is_at c (if b then Some conn else conn_of past r) && asks (if b then Some call else call_of past r)) ≡ true → is_asked past c r ≡ true
+      by_number : (b : Bool) → (is_at c (if b then Some conn else conn_of past r) && asks (if b then Some call else call_of past r)) ≡ true
+          → is_asked past c r ≡ true
       by_number true is = absurd (let f : false ≡ true = sym (not_of conn c other) ∙ first_of (conn == c) (asks (Some call)) is in cc)
       by_number false is = is
   asked_before e r other = λ is. is

@@ -42,7 +42,8 @@ none_counted test zero r less is = absurd (omega (arith, less))
 none_counted test (suc n) r less is =
     elim (r == n) as (λ b. (r == n) ≡ b → test r ≡ false) [
       | true ↦ (λ same. ap test (eqb-true r n same) ∙ last (test n) (count_below test n) is)
-      | false ↦ (λ other. let apart : r ≡ n → ⊥ = eqb-false r n other in none_counted test n r (omega (arith, less, apart)) (front (test n) (count_below test n) is))
+      | false ↦
+          (λ other. let apart : r ≡ n → ⊥ = eqb-false r n other in none_counted test n r (omega (arith, less, apart)) (front (test n) (count_below test n) is))
     ] refl
   where
     last : (b : Bool) (k : ℕ) → k + (if b then 1 else 0) ≡ 0 → b ≡ false
@@ -76,8 +77,11 @@ module _ (c : Config) (run limit : ℕ) where
   waits_arrived past r None legal same is = absurd (let e : false ≡ true = is in cc)
   waits_arrived past r (Some v) legal same is = admitted_arrived c run limit past r v legal same
 
-  arrived_then : (e : Entry) (past : List Entry) (r : ℕ) → IsLegal c run limit (e ∷ past) → decided c run (e ∷ past) r ≡ true → decided c run past r ≡ false → r < arrivals past
-  arrived_then (Arrive conn size call) past r legal is was = waits_arrived past r (admitted past r) legal.1 refl (waits (decided c run past r) (is_waiting (admitted past r)) (settles c run (Arrive conn size call ∷ past) r) was is)
+  arrived_then : (e : Entry) (past : List Entry) (r : ℕ) → IsLegal c run limit (e ∷ past) → decided c run (e ∷ past) r ≡ true → decided c run past r ≡ false
+      → r < arrivals past
+  arrived_then (Arrive conn size call) past r legal is was =
+      waits_arrived past r (admitted past r) legal.1 refl
+      (waits (decided c run past r) (is_waiting (admitted past r)) (settles c run (Arrive conn size call ∷ past) r) was is)
     where
       waits : (x y z : Bool) → x ≡ false → (false || (x || (y && z))) ≡ true → y ≡ true
       waits true y z f is = absurd (let e : true ≡ false = f in cc)
@@ -113,4 +117,5 @@ module _ (c : Config) (run limit : ℕ) where
       by_collected r asked false left =
           absurd (next_found h conn r asked left h legal
           (then_decided (is_asked h conn r) (decided c run h r) asked
-          (none_counted (λ k. is_asked h conn k && not (decided c run h k)) (arrivals h) r (asked_arrived h conn r (first_of (is_at conn (conn_of h r)) (asks (call_of h r)) asked)) nothing)) none)
+          (none_counted (λ k. is_asked h conn k && not (decided c run h k)) (arrivals h) r
+          (asked_arrived h conn r (first_of (is_at conn (conn_of h r)) (asks (call_of h r)) asked)) nothing)) none)

@@ -32,7 +32,8 @@ OfLines l next calls stop = HearsLinesFrom l.place l.number (l.unread ++ next) c
 
 -- this text and these calls were heard, and the rest is still to be heard
 abbrev pub Expects : Peer → Hearing → List ℕ → List Heard → Type 0
-Expects peer P text calls = (next : List ℕ) (more : List Heard) (stop : Stop) → P next more stop → Hears peer (text ++ next) (calls ++ more) stop
+Expects peer P text calls = (next : List ℕ) (more : List Heard) (stop : Stop) → P next more stop
+    → Hears peer (text ++ next) (calls ++ more) stop
 
 -- for each text that still comes something is heard
 pub record GoesOn (P : Hearing) (next : List ℕ) : Type 0 where

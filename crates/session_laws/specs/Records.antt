@@ -22,7 +22,8 @@ use Rattle.session_laws.specs.Hearing.{Heard}
 -- the calls of the connection that arrived, in their order
 abbrev pub arrived_by : List Entry → ℕ → List Heard
 arrived_by [] c = []
-arrived_by (Arrive conn size call ∷ past) c = if conn == c then arrived_by past c ++ record { call = call; size = size } ∷ [] else arrived_by past c
+arrived_by (Arrive conn size call ∷ past) c =
+    if conn == c then arrived_by past c ++ record { call = call; size = size } ∷ [] else arrived_by past c
 arrived_by (e ∷ past) c = arrived_by past c
 
 abbrev pub arrived : ℕ → List Entry → List Heard

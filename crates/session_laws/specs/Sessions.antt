@@ -95,7 +95,8 @@ pub record Closes (peer : Peer) (replies : List ℕ) (Paid : Type 0) (out : List
 
 -- the front of what was due, where the session would have ended so, and why; no byte of the message that closes the
 -- connection is written before all that was owed
-pub record FallsShort (peer : Peer) (h : List Entry) (text : List ℕ) (calls : List Heard) (replies : List ℕ) (Paid : Type 0) (out : List ℕ) : Type 0 where
+pub record FallsShort (peer : Peer) (h : List Entry) (text : List ℕ) (calls : List Heard) (replies : List ℕ) (Paid : Type 0)
+    (out : List ℕ) : Type 0 where
   pub due : SessionEnd
   pub input : Input peer text calls due
   pub cause : CauseBy peer h calls text due

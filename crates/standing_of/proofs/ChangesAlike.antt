@@ -60,7 +60,9 @@ module _ (c : Config) where
   over_later : (a b : Activation) → IsLater c a b → is_over c a ≡ true → is_over c b ≡ true
   over_later a b later over =
       elim (or_cases (is_void a) (is_finished c a) over) [
-        | inl void ↦ or_first (is_void b) (is_finished c b) (ap (λ p. elim p [ Void ↦ true | Begun ↦ false | Complete s ↦ false ]) (later.void (void_phase a.phase void)))
+        | inl void ↦
+            or_first (is_void b) (is_finished c b)
+            (ap (λ p. elim p [ Void ↦ true | Begun ↦ false | Complete s ↦ false ]) (later.void (void_phase a.phase void)))
         | inr finished ↦ or_second (is_void b) (is_finished c b) (later.finished finished)
       ]
 
@@ -87,7 +89,8 @@ module _ (c : Config) where
   live_map f later (a ∷ as') =
       cond_both (is_live c a) (a ∷ live c as') (live c as') (λ bs. live c (map f bs) ≡ live c (f a ∷ map f as'))
       (λ _. ap (λ bs. cond (is_live c (f a)) (f a ∷ bs) bs) (live_map f later as'))
-      (λ dead. live_map f later as' ∙ sym (ap (λ b. cond b (f a ∷ live c (map f as')) (live c (map f as'))) (not_live (f a) (over_later a (f a) (later a) (over_by a dead)))))
+      (λ dead. live_map f later as'
+      ∙ sym (ap (λ b. cond b (f a ∷ live c (map f as')) (live c (map f as'))) (not_live (f a) (over_later a (f a) (later a) (over_by a dead)))))
 
   module _ (all some : List Activation) (forgets : Forgets c all some) where
     pub maps : (f : Activation → Activation) → f forgotten ≡ forgotten → ((a : Activation) → IsLater c a (f a)) → Forgets c (map f all) (map f some)
@@ -112,23 +115,28 @@ module _ (c : Config) where
 
     pub elsewhere_alike : (a : Activation) → is_elsewhere some a ≡ is_elsewhere all a
     elsewhere_alike a =
-        any_alike c all some forgets (λ b. not (b.number == a.number) && ((b.adapter == a.adapter) && (is_mapped b && (elim a.phase [ Complete s ↦ has_servant s b | Begun ↦ false | Void ↦ false ]))))
+        any_alike c all some forgets
+        (λ b. not (b.number == a.number) &&
+        ((b.adapter == a.adapter) && (is_mapped b && (elim a.phase [ Complete s ↦ has_servant s b | Begun ↦ false | Void ↦ false ]))))
         (second_fails (not (forgotten.number == a.number)) _ (second_fails (forgotten.adapter == a.adapter) _ refl))
         (λ b there over. second_fails (not (b.number == a.number)) _ (second_fails (b.adapter == a.adapter) _ (first_fails (is_mapped b) _ (unmapped b over))))
 
-    pub mapped_alike : (k : ℕ) (s : Sid) → find (λ a. (a.adapter == k) && (is_mapped a && has_servant s a)) some ≡ find (λ a. (a.adapter == k) && (is_mapped a && has_servant s a)) all
+    pub mapped_alike : (k : ℕ) (s : Sid) → find (λ a. (a.adapter == k) && (is_mapped a && has_servant s a)) some ≡ find
+        (λ a. (a.adapter == k) && (is_mapped a && has_servant s a)) all
     mapped_alike k s =
         find_alike c all some forgets (λ a. (a.adapter == k) && (is_mapped a && has_servant s a))
         (second_fails (forgotten.adapter == k) _ refl)
         (λ a there over. second_fails (a.adapter == k) _ (first_fails (is_mapped a) _ (unmapped a over)))
 
-    pub lived_alike : (ns : List Node) (p : List (List ℕ)) → list_any (λ a. not (is_over c a) && stands_under ns p a.adapter) some ≡ list_any (λ a. not (is_over c a) && stands_under ns p a.adapter) all
+    pub lived_alike : (ns : List Node) (p : List (List ℕ))
+        → list_any (λ a. not (is_over c a) && stands_under ns p a.adapter) some ≡ list_any (λ a. not (is_over c a) && stands_under ns p a.adapter) all
     lived_alike ns p =
         any_alike c all some forgets (λ a. not (is_over c a) && stands_under ns p a.adapter) refl
         (λ a there over. first_fails (not (is_over c a)) _ (ap not over))
 
   kept_numbers : (n : ℕ) (remains : Activation → Bool) (a : Activation) → IsLater c a (at_number n (λ b. record b { out = true; remaining = remains b }) a)
-  kept_numbers n remains a = cond_both (a.number == n) (record a { out = true; remaining = remains a }) a (IsLater c a) (λ _. later_out c a (remains a)) (λ _. later_self c a)
+  kept_numbers n remains a =
+      cond_both (a.number == n) (record a { out = true; remaining = remains a }) a (IsLater c a) (λ _. later_out c a (remains a)) (λ _. later_self c a)
 
   -- what stands, with other activations
   abbrev on : Standing → List Activation → Standing
@@ -152,7 +160,8 @@ module _ (c : Config) where
   child None s all some forgets = record { same = refl; forgets = forgets }
   child (Some p) s all some forgets = record { same = refl; forgets = forgets }
 
-  where_later : (test : Activation → Bool) (f : Activation → Activation) → ((a : Activation) → IsLater c a (f a)) → (a : Activation) → IsLater c a (if test a then f a else a)
+  where_later : (test : Activation → Bool) (f : Activation → Activation) → ((a : Activation) → IsLater c a (f a)) → (a : Activation)
+      → IsLater c a (if test a then f a else a)
   where_later test f later a = cond_both (test a) (f a) a (IsLater c a) (λ _. later a) (λ _. later_self c a)
 
   mapped : (f : Activation → Activation) → f forgotten ≡ forgotten → ((a : Activation) → IsLater c a (f a)) → Keeps (with_activations f)
@@ -165,11 +174,25 @@ module _ (c : Config) where
   }
     where
       begun : ℕ → Activation
-      begun n = record { number = n; adapter = k; path = p; oid = oid; phase = phase; ending = false; quiet = false; out = false; cleanup = false; remaining = false; etherealized = false }
+      begun n =
+          record {
+            number = n;
+            adapter = k;
+            path = p;
+            oid = oid;
+            phase = phase;
+            ending = false;
+            quiet = false;
+            out = false;
+            cleanup = false;
+            remaining = false;
+            etherealized = false;
+          }
 
   incarnation : (r : ℕ) (key : Key) → Keeps (with_incarnation r key)
   incarnation r key s all some forgets =
-      subst (λ n. StandsFor c (with_incarnation r key (on s all)) (with_activation (adapter_met (walk s.nodes key.path)) key.path key.oid Begun (with_request r key (Some n) (on s some)))) (sym forgets.begun)
+      subst (λ n. StandsFor c (with_incarnation r key (on s all))
+      (with_activation (adapter_met (walk s.nodes key.path)) key.path key.oid Begun (with_request r key (Some n) (on s some)))) (sym forgets.begun)
       (begins (adapter_met (walk s.nodes key.path)) key.path key.oid Begun (with_request r key (Some (length all)) s) all some forgets)
 
   admitted : (r : ℕ) (key : Option Key) (v : Verdict) → Keeps (with_admitted r key v)
@@ -199,22 +222,29 @@ module _ (c : Config) where
       (where_later (λ a. has_activator c a.path && (manager_at c a.path == m)) (ended_by_destroy true) (later_ended c true))
 
   deactivated : (k : ℕ) (oid : List ℕ) → Keeps (with_deactivated k oid)
-  deactivated k oid = mapped (λ a. if is_of k oid a then record a { ending = true } else a) (still_ending k oid) (where_later (is_of k oid) (λ a. record a { ending = true }) (later_ending c))
+  deactivated k oid =
+      mapped (λ a. if is_of k oid a then record a { ending = true } else a) (still_ending k oid)
+      (where_later (is_of k oid) (λ a. record a { ending = true }) (later_ending c))
 
   made : (run : ℕ) (p : List (List ℕ)) (servant : List ℕ) → Keeps (with_made_activation c run p servant)
   made run p servant s all some forgets = begins (number_at s p) p (made_id run (suc s.made)) (servant_of c servant) (with_made s) all some forgets
 
-  implicit_alike : (s : Standing) (all some : List Activation) → Forgets c all some → (n : Node) (k : ℕ) → is_implicit c (on s some) n k ≡ is_implicit c (on s all) n k
+  implicit_alike : (s : Standing) (all some : List Activation) → Forgets c all some → (n : Node) (k : ℕ)
+      → is_implicit c (on s some) n k ≡ is_implicit c (on s all) n k
   implicit_alike s all some forgets n k =
-      ap (λ o. is_none (if retains (policies_at c n.path) && is_unique (policies_at c n.path) then o else None) && (retains (policies_at c n.path) && activates_implicitly (policies_at c n.path)))
+      ap (λ o. is_none (if retains (policies_at c n.path) && is_unique (policies_at c n.path) then o else None) &&
+      (retains (policies_at c n.path) && activates_implicitly (policies_at c n.path)))
       (mapped_alike all some forgets n.number (NamedServant k))
 
   referring : (run : ℕ) (p : List (List ℕ)) (servant : List ℕ) → Keeps (with_reference c run p servant)
   referring run p servant s all some forgets =
       elim (live_at s p) as (λ o. StandsFor c (at_node all o) (at_node some o)) [
         | Some n ↦ elim (servant_number c servant) as (λ o. StandsFor c (at_servant all n o) (at_servant some n o)) [
-          | Some k ↦ subst (λ b. StandsFor c (at_servant all n (Some k)) (if b then with_made_activation c run p servant (on s some) else on s some)) (sym (implicit_alike s all some forgets n k))
-              (elim (is_implicit c (on s all) n k) as (λ b. StandsFor c (if b then with_made_activation c run p servant (on s all) else on s all) (if b then with_made_activation c run p servant (on s some) else on s some))
+          | Some k ↦
+              subst (λ b. StandsFor c (at_servant all n (Some k)) (if b then with_made_activation c run p servant (on s some) else on s some))
+              (sym (implicit_alike s all some forgets n k))
+              (elim (is_implicit c (on s all) n k) as (λ b. StandsFor c (if b then with_made_activation c run p servant (on s all) else on s all)
+              (if b then with_made_activation c run p servant (on s some) else on s some))
               [ true ↦ made run p servant s all some forgets | false ↦ itself s all some forgets ])
           | None ↦ itself s all some forgets
         ]
@@ -222,14 +252,16 @@ module _ (c : Config) where
       ]
     where
       at_servant : List Activation → Node → Option ℕ → Standing
-      at_servant as' n o = elim o [ Some k ↦ (if is_implicit c (on s as') n k then with_made_activation c run p servant (on s as') else on s as') | None ↦ on s as' ]
+      at_servant as' n o =
+          elim o [ Some k ↦ (if is_implicit c (on s as') n k then with_made_activation c run p servant (on s as') else on s as') | None ↦ on s as' ]
 
       at_node : List Activation → Option Node → Standing
       at_node as' o = elim o [ Some n ↦ at_servant as' n (servant_number c servant) | None ↦ on s as' ]
 
   commanded : (run : ℕ) (command : Option Command) → Keeps (with_command c run command)
   commanded run (Some (Manager name (DeactivateAll true wait))) s all some forgets =
-      elim (manager_number c name) as (λ o. StandsFor c (elim o [ Some m ↦ with_manager_off c m (on s all) | None ↦ on s all ]) (elim o [ Some m ↦ with_manager_off c m (on s some) | None ↦ on s some ]))
+      elim (manager_number c name) as (λ o. StandsFor c (elim o [ Some m ↦ with_manager_off c m (on s all) | None ↦ on s all ])
+      (elim o [ Some m ↦ with_manager_off c m (on s some) | None ↦ on s some ]))
       [ Some m ↦ off m s all some forgets | None ↦ itself s all some forgets ]
   commanded run (Some (Manager name (DeactivateAll false wait))) s all some forgets = itself s all some forgets
   commanded run (Some (Manager name ActivateAll)) s all some forgets = itself s all some forgets
@@ -249,7 +281,9 @@ module _ (c : Config) where
   commanded run None s all some forgets = itself s all some forgets
 
   tried : (r : Option ℕ) (answer : Attempt) → Keeps (with_tried r answer)
-  tried r (Yes number) s all some forgets = through (with_child (child_tried s.flights r)) (child (child_tried s.flights r)) (without_flight r (on s all)) (without_flight r (on s some)) (fewer r s all some forgets)
+  tried r (Yes number) s all some forgets =
+      through (with_child (child_tried s.flights r)) (child (child_tried s.flights r)) (without_flight r (on s all)) (without_flight r (on s some))
+      (fewer r s all some forgets)
   tried r No s all some forgets = fewer r s all some forgets
   tried r Raised s all some forgets = fewer r s all some forgets
   tried r ParentDying s all some forgets = fewer r s all some forgets
@@ -276,10 +310,13 @@ module _ (c : Config) where
   taken : (n : ℕ) → Keeps (with_takeout n)
   taken n s all some forgets =
       subst (λ as'. StandsFor c (with_takeout n (on s all)) (on s as')) (sym (takes_alike n some all (elsewhere_alike all some forgets) some))
-      (mapped (at_number n (λ a. record a { out = true; remaining = is_elsewhere all a })) (still_taken n all) (kept_numbers n (is_elsewhere all)) s all some forgets)
+      (mapped (at_number n (λ a. record a { out = true; remaining = is_elsewhere all a })) (still_taken n all)
+      (kept_numbers n (is_elsewhere all)) s all some forgets)
 
   told : (n : ℕ) → Keeps (with_activations (at_number n (λ a. record a { etherealized = true })))
-  told n = mapped (at_number n (λ a. record a { etherealized = true })) (still_told n) (where_later (λ a. a.number == n) (λ a. record a { etherealized = true }) (later_told c))
+  told n =
+      mapped (at_number n (λ a. record a { etherealized = true })) (still_told n)
+      (where_later (λ a. a.number == n) (λ a. record a { etherealized = true }) (later_told c))
 
   etherealized : (begun : Stage) → Keeps (with_etherealized begun)
   etherealized (Removing n) s all some forgets = told n s all some forgets
@@ -291,7 +328,8 @@ module _ (c : Config) where
 
   keeps_changed : (run : ℕ) (past : List Entry) (e : Entry) → Keeps (changed c run past e)
   keeps_changed run past (Admit w r v) s all some forgets =
-      through (with_command c run (command_done past (Admit w r v))) (commanded run (command_done past (Admit w r v))) (with_admitted r (key_in (call_of past r)) v (on s all)) (with_admitted r (key_in (call_of past r)) v (on s some))
+      through (with_command c run (command_done past (Admit w r v))) (commanded run (command_done past (Admit w r v)))
+      (with_admitted r (key_in (call_of past r)) v (on s all)) (with_admitted r (key_in (call_of past r)) v (on s some))
       (admitted r (key_in (call_of past r)) v s all some forgets)
   keeps_changed run past (Tried w answer) s all some forgets = tried (arrival_in (stage past w)) answer s all some forgets
   keeps_changed run past (Incarnated w answer) s all some forgets = incarnated (stage past w) answer s all some forgets
@@ -319,10 +357,14 @@ module _ (c : Config) where
       left : Forgets c (map (let_out c s) all) (map (let_out c s) some)
       left = maps all some forgets (let_out c s) (still_in c s) (later_let_out c s)
 
-      goes : (n : Node) → (is_root n.path || not (is_done_with c (on s (map (let_out c s) some)) n)) ≡ (is_root n.path || not (is_done_with c (on s (map (let_out c s) all)) n))
-      goes n = ap (λ b. is_root n.path || not (n.dying && (not (list_any (λ f. stands_under s.nodes n.path f.adapter) s.flights) && not b))) (lived_alike (map (let_out c s) all) (map (let_out c s) some) left s.nodes n.path)
+      goes : (n : Node) → (is_root n.path || not (is_done_with c (on s (map (let_out c s) some)) n)) ≡
+          (is_root n.path || not (is_done_with c (on s (map (let_out c s) all)) n))
+      goes n =
+          ap (λ b. is_root n.path || not (n.dying && (not (list_any (λ f. stands_under s.nodes n.path f.adapter) s.flights) && not b)))
+          (lived_alike (map (let_out c s) all) (map (let_out c s) some) left s.nodes n.path)
 
-  pub stands_changed : (run : ℕ) (past : List Entry) (e : Entry) (s t : Standing) → StandsFor c s t → StandsFor c (changed c run past e s) (changed c run past e t)
+  pub stands_changed : (run : ℕ) (past : List Entry) (e : Entry) (s t : Standing) → StandsFor c s t
+      → StandsFor c (changed c run past e s) (changed c run past e t)
   stands_changed run past e = through (changed c run past e) (keeps_changed run past e)
 
   pub stands_settled : (s t : Standing) → StandsFor c s t → StandsFor c (settled c s) (settled c t)

@@ -25,23 +25,31 @@ any_alike test other [] alike = refl
 any_alike test other (x ∷ xs) alike = ap₂ (λ a b. a || b) (alike x (inl refl)) (any_alike test other xs (λ y is. alike y (inr is)))
 
 -- where what isn't kept fails the test, the test finds the same
-any_from : {A : Type 0} (keeps test : A → Bool) (k : ℕ) (xs : List A) → ((x : A) → In x xs → keeps x ≡ false → test x ≡ false) → list_any test (kept_from keeps k xs) ≡ list_any test xs
+any_from : {A : Type 0} (keeps test : A → Bool) (k : ℕ) (xs : List A) → ((x : A) → In x xs → keeps x ≡ false → test x ≡ false)
+    → list_any test (kept_from keeps k xs) ≡ list_any test xs
 any_from keeps test zero xs fails = any_kept keeps test xs fails
 any_from keeps test (suc k) [] fails = refl
 any_from keeps test (suc k) (x ∷ xs) fails = ap (λ b. test x || b) (any_from keeps test k xs (λ y is. fails y (inr is)))
 
 -- one place further down: the element there is kept, or removed
-pub kept_here : {A : Type 0} (keeps : A → Bool) (k : ℕ) (xs : List A) (d : A) → k < length xs → keeps (slice_index_or xs k d) ≡ true → kept_from keeps (suc k) xs ≡ kept_from keeps k xs
+pub kept_here : {A : Type 0} (keeps : A → Bool) (k : ℕ) (xs : List A) (d : A) → k < length xs → keeps (slice_index_or xs k d) ≡ true
+    → kept_from keeps (suc k) xs ≡ kept_from keeps k xs
 kept_here keeps k [] d lt is = absurd (omega arith)
-kept_here keeps zero (x ∷ xs) d lt is = cond_both (keeps x) (x ∷ filter keeps xs) (filter keeps xs) (λ ys. x ∷ filter keeps xs ≡ ys) (λ _. refl) (λ goes. absurd (let e : true ≡ false = sym is ∙ goes in cc))
+kept_here keeps zero (x ∷ xs) d lt is =
+    cond_both (keeps x) (x ∷ filter keeps xs) (filter keeps xs) (λ ys. x ∷ filter keeps xs ≡ ys) (λ _. refl)
+    (λ goes. absurd (let e : true ≡ false = sym is ∙ goes in cc))
 kept_here keeps (suc k) (x ∷ xs) d lt is = ap (λ ys. x ∷ ys) (kept_here keeps k xs d (omega arith) is)
 
-pub gone_here : {A : Type 0} (keeps : A → Bool) (k : ℕ) (xs : List A) (d : A) → k < length xs → keeps (slice_index_or xs k d) ≡ false → remove (kept_from keeps (suc k) xs) k ≡ kept_from keeps k xs
+pub gone_here : {A : Type 0} (keeps : A → Bool) (k : ℕ) (xs : List A) (d : A) → k < length xs → keeps (slice_index_or xs k d) ≡ false
+    → remove (kept_from keeps (suc k) xs) k ≡ kept_from keeps k xs
 gone_here keeps k [] d lt goes = absurd (omega arith)
-gone_here keeps zero (x ∷ xs) d lt goes = cond_both (keeps x) (x ∷ filter keeps xs) (filter keeps xs) (λ ys. filter keeps xs ≡ ys) (λ is. absurd (let e : true ≡ false = sym is ∙ goes in cc)) (λ _. refl)
+gone_here keeps zero (x ∷ xs) d lt goes =
+    cond_both (keeps x) (x ∷ filter keeps xs) (filter keeps xs) (λ ys. filter keeps xs ≡ ys) (λ is. absurd (let e : true ≡ false = sym is ∙ goes in cc))
+    (λ _. refl)
 gone_here keeps (suc k) (x ∷ xs) d lt goes = ap (λ ys. x ∷ ys) (gone_here keeps k xs d (omega arith) goes)
 
-pub index_here : {A : Type 0} (keeps : A → Bool) (k : ℕ) (xs : List A) (d : A) → k < length xs → slice_index_or (kept_from keeps (suc k) xs) k d ≡ slice_index_or xs k d
+pub index_here : {A : Type 0} (keeps : A → Bool) (k : ℕ) (xs : List A) (d : A) → k < length xs
+    → slice_index_or (kept_from keeps (suc k) xs) k d ≡ slice_index_or xs k d
 index_here keeps k [] d lt = absurd (omega arith)
 index_here keeps zero (x ∷ xs) d lt = refl
 index_here keeps (suc k) (x ∷ xs) d lt = index_here keeps k xs d (omega arith)
@@ -73,14 +81,19 @@ module _ (c : Config) (s : Standing) where
   goes_clear : (n : Node) → stays c s n ≡ false → is_clear c s n.path ≡ true
   goes_clear n goes = last_true (is_root n.path) n.dying (is_clear c s n.path) goes
 
-  clear_parts : (n : Node) → stays c s n ≡ false → (list_any (λ f. stands_under s.nodes n.path f.adapter) s.flights ≡ false) × (list_any (λ a. not (is_over c a) && stands_under s.nodes n.path a.adapter) s.activations ≡ false)
+  clear_parts : (n : Node) → stays c s n ≡ false → (list_any (λ f. stands_under s.nodes n.path f.adapter) s.flights ≡ false)
+      × (list_any (λ a. not (is_over c a) && stands_under s.nodes n.path a.adapter) s.activations ≡ false)
   clear_parts n goes =
-      let parts = and_parts (not (list_any (λ f. stands_under s.nodes n.path f.adapter) s.flights)) (not (list_any (λ a. not (is_over c a) && stands_under s.nodes n.path a.adapter) s.activations)) (goes_clear n goes) in
+      let parts =
+      and_parts (not (list_any (λ f. stands_under s.nodes n.path f.adapter) s.flights))
+      (not (list_any (λ a. not (is_over c a) && stands_under s.nodes n.path a.adapter) s.activations)) (goes_clear n goes) in
       (not_true _ parts.0, not_true _ parts.1)
 
   -- where no adapter of the number stands at an adapter's path or below it, the adapter has another number
   is_other : (n : Node) (k : ℕ) (p : List (List ℕ)) → In n s.nodes → stands_under s.nodes n.path k ≡ false → ((n.number == k) && leads_to p n.path) ≡ false
-  is_other n k p is none = first_false (n.number == k) (leads_to n.path n.path) (leads_to p n.path) (none_by (λ m. (m.number == k) && leads_to n.path m.path) n s.nodes is none) (leads_self n.path)
+  is_other n k p is none =
+      first_false (n.number == k) (leads_to n.path n.path) (leads_to p n.path) (none_by (λ m. (m.number == k) && leads_to n.path m.path) n s.nodes is none)
+      (leads_self n.path)
 
   abbrev left : ℕ → List Node
   left k = kept_from (stays c s) k s.nodes
@@ -90,11 +103,13 @@ module _ (c : Config) (s : Standing) where
       any_from (stays c s) (λ m. (m.number == f.adapter) && leads_to p m.path) k s.nodes
       (λ m is goes. is_other m f.adapter p is (none_by (λ g. stands_under s.nodes m.path g.adapter) f s.flights flies (clear_parts m goes).0))
 
-  activation_under : (k : ℕ) (p : List (List ℕ)) (a : Activation) → In a s.activations → not (is_over c a) ≡ true → stands_under (left k) p a.adapter ≡ stands_under s.nodes p a.adapter
+  activation_under : (k : ℕ) (p : List (List ℕ)) (a : Activation) → In a s.activations → not (is_over c a) ≡ true
+      → stands_under (left k) p a.adapter ≡ stands_under s.nodes p a.adapter
   activation_under k p a lives more =
       any_from (stays c s) (λ m. (m.number == a.adapter) && leads_to p m.path) k s.nodes
       (λ m is goes. is_other m a.adapter p is
-      (second_false (not (is_over c a)) (stands_under s.nodes m.path a.adapter) (none_by (λ b. not (is_over c b) && stands_under s.nodes m.path b.adapter) a s.activations lives (clear_parts m goes).1) more))
+      (second_false (not (is_over c a)) (stands_under s.nodes m.path a.adapter)
+      (none_by (λ b. not (is_over c b) && stands_under s.nodes m.path b.adapter) a s.activations lives (clear_parts m goes).1) more))
 
   clear_left : (k : ℕ) (p : List (List ℕ)) → is_clear c (record s { nodes = left k }) p ≡ is_clear c s p
   clear_left k p =
@@ -111,7 +126,8 @@ module _ (c : Config) (s : Standing) where
   dropped k = record s { nodes = left k }
 
   -- one adapter is asked: it is kept, or removed
-  module _ (i k : ℕ) (t : Standing) (n : Node) (next : i ≡ suc k) (lt : k < length s.nodes) (so_far : t ≡ dropped i) (here : n ≡ slice_index_or t.nodes k n) where
+  module _ (i k : ℕ) (t : Standing) (n : Node) (next : i ≡ suc k) (lt : k < length s.nodes) (so_far : t ≡ dropped i)
+      (here : n ≡ slice_index_or t.nodes k n) where
     so_far_next : t ≡ dropped (suc k)
     so_far_next = so_far ∙ ap dropped next
 

@@ -57,10 +57,13 @@ module _ (c : Config) (run : ℕ) (past : List Entry) where
   begins_one s e =
       elim (changed_shape c run past s e) [
         | as_many same ↦ (omega (arith, same))
-        | one_more b number is ↦ (let long : length (changed c run past e s).activations ≡ length s.activations + 1 = ap length is ∙ length-append s.activations (b ∷ []) in omega (arith, long))
+        | one_more b number is ↦
+            (let long : length (changed c run past e s).activations ≡ length s.activations + 1 = ap length is
+            ∙ length-append s.activations (b ∷ []) in omega (arith, long))
       ]
 
-  pub few_changed : (s : Standing) (e : Entry) → length s.activations ≤ 4294967296 → (may_begin e ≡ true → length s.activations < 4294967296) → length (changed c run past e s).activations ≤ 4294967296
+  pub few_changed : (s : Standing) (e : Entry) → length s.activations ≤ 4294967296 → (may_begin e ≡ true → length s.activations < 4294967296)
+      → length (changed c run past e s).activations ≤ 4294967296
   few_changed s e few room =
       elim (may_begin e) as (λ b. may_begin e ≡ b → length (changed c run past e s).activations ≤ 4294967296) [
         | true ↦ (λ is. (let low = room is in let one = begins_one s e in omega (arith, low, one)))
@@ -68,4 +71,5 @@ module _ (c : Config) (run : ℕ) (past : List Entry) where
       ] refl
 
   pub few_settled : (s : Standing) → length s.activations ≤ 4294967296 → length (settled c s).activations ≤ 4294967296
-  few_settled s few = (let same : length (map (let_out c s) s.activations) ≡ length s.activations = length-map s.activations (let_out c s) in omega (arith, few, same))
+  few_settled s few =
+      (let same : length (map (let_out c s) s.activations) ≡ length s.activations = length-map s.activations (let_out c s) in omega (arith, few, same))

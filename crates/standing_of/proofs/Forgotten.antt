@@ -50,7 +50,8 @@ in_behind zero kept a there = there
 in_behind (suc n) kept a there = inr (in_behind n kept a there)
 
 -- those that are over are forgotten, and as many more are known to have been begun
-pub forgets_over : (c : Config) (s : Standing) (n m : ℕ) (kept left : List Activation) → s.activations ≡ behind n kept → m ≡ n + length (filter (is_over c) kept) → left ≡ live c kept
+pub forgets_over : (c : Config) (s : Standing) (n m : ℕ) (kept left : List Activation) → s.activations ≡ behind n kept
+    → m ≡ n + length (filter (is_over c) kept) → left ≡ live c kept
     → StandsFor c s (record s { activations = behind m left })
 forgets_over c s n m kept left is count keeps =
     subst (λ l. StandsFor c s (record s { activations = behind m l })) (sym keeps) (record {
@@ -58,15 +59,19 @@ forgets_over c s n m kept left is count keeps =
       forgets = subst (λ all. Forgets c all (behind m (live c kept))) (sym is) (record {
         begun = sym (length_behind m (live c kept)) ∙ as_many ∙ length_behind n kept;
         lives = live_behind c m (live c kept) ∙ live_twice c kept ∙ sym (live_behind c n kept);
-        known = λ a there. elim (from_behind m (live c kept) a there) [ inl spent ↦ inl spent | inr lives ↦ inr (in_behind n kept a (in_kept (is_live c) a kept lives).0) ];
+        known = λ a there. elim (from_behind m (live c kept) a there)
+            [ inl spent ↦ inl spent | inr lives ↦ inr (in_behind n kept a (in_kept (is_live c) a kept lives).0) ];
       });
     })
   where
     as_many : m + length (live c kept) ≡ n + length kept
-    as_many = (let both : length (filter (is_over c) kept) + length (filter (is_live c) kept) ≡ length kept = length-filter_both (is_over c) (is_live c) (λ a. refl) kept in omega (arith, both, count))
+    as_many =
+        (let both : length (filter (is_over c) kept) + length (filter (is_live c) kept) ≡ length kept =
+        length-filter_both (is_over c) (is_live c) (λ a. refl) kept in omega (arith, both, count))
 
 -- what is kept after an entry, where what has ended went and what is over was forgotten
-module _ (c : Config) (run : ℕ) (past : List Entry) (e : Entry) (old mid : Standing) (kept : StandsAfter c run past old) (room : may_begin e ≡ true → length old.activations < 4294967296) (change : mid ≡ changed c run past e old) where
+module _ (c : Config) (run : ℕ) (past : List Entry) (e : Entry) (old mid : Standing) (kept : StandsAfter c run past old)
+    (room : may_begin e ≡ true → length old.activations < 4294967296) (change : mid ≡ changed c run past e old) where
   stands_mid : StandsFor c (changed c run past e (standing c run past)) mid
   stands_mid = subst (StandsFor c (changed c run past e (standing c run past))) (sym change) (stands_changed c run past e (standing c run past) old kept.stands)
 
@@ -79,13 +84,17 @@ module _ (c : Config) (run : ℕ) (past : List Entry) (e : Entry) (old mid : Sta
 
   pub kept_ended : (settles new : Standing) → settles ≡ settled c mid → StandsFor c settles new → StandsAfter c run (e ∷ past) new
   kept_ended settles new settle forgets = record {
-    stands = stands_through c (standing c run (e ∷ past)) settles new (subst (StandsFor c (standing c run (e ∷ past))) (sym settle) (stands_settled c (changed c run past e (standing c run past)) mid stands_mid)) forgets;
-    few = (let few : length settles.activations ≤ 4294967296 = subst (λ (s : Standing). length s.activations ≤ 4294967296) (sym settle) (few_settled c run past mid few_mid) in
+    stands =
+        stands_through c (standing c run (e ∷ past)) settles new
+        (subst (StandsFor c (standing c run (e ∷ past))) (sym settle) (stands_settled c (changed c run past e (standing c run past)) mid stands_mid)) forgets;
+    few = (let few : length settles.activations ≤ 4294967296 =
+        subst (λ (s : Standing). length s.activations ≤ 4294967296) (sym settle) (few_settled c run past mid few_mid) in
         let same = forgets.forgets.begun in omega (arith, few, same));
   }
 
   -- so many fit, and none that is over is kept
-  pub kept_live : (settles new : Standing) (n : ℕ) (items left : List Activation) → settles ≡ settled c mid → StandsFor c settles new → settles.activations ≡ behind n items
+  pub kept_live : (settles new : Standing) (n : ℕ) (items left : List Activation) → settles ≡ settled c mid → StandsFor c settles new
+      → settles.activations ≡ behind n items
       → (n + length items ≤ 18446744073709551615 → left ≡ live c items) → list_any (is_over c) left ≡ false
   kept_live settles new n items left settle forgets are leaves =
       let few = (kept_ended settles new settle forgets).few in

@@ -50,7 +50,8 @@ pub record IsSettled (c : Config) (s : Standing) : Type 0 where
 
 pub settled_still : (c : Config) (s : Standing) → IsSettled c s → settled c s ≡ s
 settled_still c s is =
-    ap (λ activations. record s { activations = activations; nodes = filter (stays c (record s { activations = activations })) s.nodes }) (map_still (let_out c s) s.activations is.activations_stay)
+    ap (λ activations. record s { activations = activations; nodes = filter (stays c (record s { activations = activations })) s.nodes })
+    (map_still (let_out c s) s.activations is.activations_stay)
     ∙ ap (λ ns. record s { nodes = ns }) (filter_still (stays c s) s.nodes is.nodes_stay)
 
 -- an activation that left the map leaves it but once
@@ -63,13 +64,15 @@ let_out_twice c s a =
 pub settling_settles : (c : Config) (s : Standing) → IsSettled c (settled c s)
 settling_settles c s = record {
   activations_stay = λ a is. (let found = in_image (let_out c s) a s.activations is in ap (let_out c s) found.2 ∙ let_out_twice c s found.0 ∙ sym found.2);
-  nodes_stay = λ n is. stays_left c (record s { activations = map (let_out c s) s.activations }) 0 n ∙ (in_kept (stays c (record s { activations = map (let_out c s) s.activations })) n s.nodes is).1;
+  nodes_stay = λ n is. stays_left c (record s { activations = map (let_out c s) s.activations }) 0 n
+      ∙ (in_kept (stays c (record s { activations = map (let_out c s) s.activations })) n s.nodes is).1;
 }
 
 -- what isn't ending doesn't leave, what isn't dying doesn't go
 not_ending : (c : Config) (s : Standing) (a : Activation) → a.ending ≡ false → let_out c s a ≡ a
 not_ending c s a quiet =
-    ap (λ t. if not (has_activator c a.path) && (is_complete a && ((t && not (is_void a)) && not (is_used s.flights a.number))) then record a { out = true } else a) quiet
+    ap (λ t. if not (has_activator c a.path) && (is_complete a && ((t && not (is_void a)) && not (is_used s.flights a.number))) then record a
+    { out = true } else a) quiet
     ∙ none (not (has_activator c a.path)) (is_complete a)
   where
     none : (h k : Bool) → (if h && (k && false) then record a { out = true } else a) ≡ a
@@ -88,7 +91,8 @@ standing_settled c run [] = opening_settled c run
 standing_settled c run (e ∷ past) = settling_settles c _
 
 -- where more is in flight and more lives, less leaves and less goes
-stays_more : (r d f g a b : Bool) → (f ≡ true → g ≡ true) → (a ≡ true → b ≡ true) → (r || not (d && (not f && not a))) ≡ true → (r || not (d && (not g && not b))) ≡ true
+stays_more : (r d f g a b : Bool) → (f ≡ true → g ≡ true) → (a ≡ true → b ≡ true) → (r || not (d && (not f && not a))) ≡ true
+    → (r || not (d && (not g && not b))) ≡ true
 stays_more true d f g a b more_f more_a is = refl
 stays_more false false f g a b more_f more_a is = refl
 stays_more false true true g a b more_f more_a is = ap (λ t. not (not t && not b)) (more_f refl)
@@ -110,7 +114,9 @@ module _ (c : Config) (s : Standing) (is : IsSettled c s) where
   pub more_flies : (f : Flight) → IsSettled c (with_flight f s)
   more_flies f = record {
     activations_stay = λ a there. still_out a (is.activations_stay a there);
-    nodes_stay = λ n there. stays_more (is_root n.path) n.dying _ _ _ _ (λ some. list_any-append (λ g. stands_under s.nodes n.path g.adapter) s.flights (f ∷ []) ∙ or_first _ _ some) (λ some. some) (is.nodes_stay n there);
+    nodes_stay =
+        λ n there. stays_more (is_root n.path) n.dying _ _ _ _
+        (λ some. list_any-append (λ g. stands_under s.nodes n.path g.adapter) s.flights (f ∷ []) ∙ or_first _ _ some) (λ some. some) (is.nodes_stay n there);
   }
     where
       uses : Activation → Flight → Bool
@@ -119,7 +125,8 @@ module _ (c : Config) (s : Standing) (is : IsSettled c s) where
       was_left : (a : Activation) → is_left c (with_flight f s) a ≡ true → is_left c s a ≡ true
       was_left a left =
           left_fewer (not (has_activator c a.path)) (is_complete a) (a.ending && not (is_void a)) (is_used s.flights a.number) (uses a f || false)
-          (ap (λ t. not (has_activator c a.path) && (is_complete a && ((a.ending && not (is_void a)) && not t))) (sym (list_any-append (uses a) s.flights (f ∷ []))) ∙ left)
+          (ap (λ t. not (has_activator c a.path) && (is_complete a && ((a.ending && not (is_void a)) && not t)))
+          (sym (list_any-append (uses a) s.flights (f ∷ []))) ∙ left)
 
       still_out : (a : Activation) → let_out c s a ≡ a → let_out c (with_flight f s) a ≡ a
       still_out a out =
@@ -129,12 +136,18 @@ module _ (c : Config) (s : Standing) (is : IsSettled c s) where
 
   pub more_lives : (k : ℕ) (p : List (List ℕ)) (oid : List ℕ) (phase : Phase) → IsSettled c (with_activation k p oid phase s)
   more_lives k p oid phase = record {
-    activations_stay = λ a there. elim (in_either a fresh s.activations there) [ inl was ↦ is.activations_stay a was | inr made ↦ not_ending c (with_activation k p oid phase s) a (ap (λ b. b.ending) made) ];
-    nodes_stay = λ n there. stays_more (is_root n.path) n.dying _ _ _ _ (λ some. some) (λ some. list_any-append (λ b. not (is_over c b) && stands_under s.nodes n.path b.adapter) s.activations (fresh ∷ []) ∙ or_first _ _ some) (is.nodes_stay n there);
+    activations_stay =
+        λ a there. elim (in_either a fresh s.activations there)
+        [ inl was ↦ is.activations_stay a was | inr made ↦ not_ending c (with_activation k p oid phase s) a (ap (λ b. b.ending) made) ];
+    nodes_stay =
+        λ n there. stays_more (is_root n.path) n.dying _ _ _ _ (λ some. some)
+        (λ some. list_any-append (λ b. not (is_over c b) && stands_under s.nodes n.path b.adapter) s.activations (fresh ∷ []) ∙ or_first _ _ some)
+        (is.nodes_stay n there);
   }
     where
       fresh : Activation
-      fresh = record { number = length s.activations; adapter = k; path = p; oid = oid; phase = phase; ending = false; quiet = false; out = false; cleanup = false; remaining = false; etherealized = false }
+      fresh = record
+          { number = length s.activations; adapter = k; path = p; oid = oid; phase = phase; ending = false; quiet = false; out = false; cleanup = false; remaining = false; etherealized = false }
 
 -- so what the Admit of a request begins lets nothing end
 admitted_settled : (c : Config) (s : Standing) → IsSettled c s → (r : ℕ) (key : Option Key) (v : Verdict) → IsSettled c (with_admitted r key v s)
@@ -169,11 +182,14 @@ nothing_changed c run past (TakeOut w n etherealize) is = absurd (let e : false 
 nothing_changed c run past (Etherealized w cleanup remaining) is = absurd (let e : false ≡ true = is in cc)
 
 -- after an entry with which nothing ends, what it changed is settled
-pub still_after : (c : Config) (run : ℕ) (past : List Entry) (e : Entry) → may_end e ≡ false → settled c (changed c run past e (standing c run past)) ≡ changed c run past e (standing c run past)
+pub still_after : (c : Config) (run : ℕ) (past : List Entry) (e : Entry) → may_end e ≡ false
+    → settled c (changed c run past e (standing c run past)) ≡ changed c run past e (standing c run past)
 still_after c run past (Admit w r v) quiet =
     let begun : Standing = with_admitted r (key_in (call_of past r)) v (standing c run past) in
-    let same : changed c run past (Admit w r v) (standing c run past) ≡ begun = ap (λ t. with_command c run (if t then command_in (call_of past r) else None) begun) quiet in
-    settled_still c _ (subst (λ s. IsSettled c s) (sym same) (admitted_settled c (standing c run past) (standing_settled c run past) r (key_in (call_of past r)) v))
+    let same : changed c run past (Admit w r v) (standing c run past) ≡ begun =
+    ap (λ t. with_command c run (if t then command_in (call_of past r) else None) begun) quiet in
+    settled_still c _
+    (subst (λ s. IsSettled c s) (sym same) (admitted_settled c (standing c run past) (standing_settled c run past) r (key_in (call_of past r)) v))
 still_after c run past (Tried w answer) quiet = absurd (let e : true ≡ false = quiet in cc)
 still_after c run past (Incarnated w answer) quiet = absurd (let e : true ≡ false = quiet in cc)
 still_after c run past (Done w) quiet = absurd (let e : true ≡ false = quiet in cc)

@@ -37,12 +37,16 @@ nowhere (b ∷ as') = ap₂ (λ x y. x || y) (none (not (b.number == forgotten.n
     none false y z = refl
 
 pub still_taken : (n : ℕ) (as' : List Activation) → at_number n (λ a. record a { out = true; remaining = is_elsewhere as' a }) forgotten ≡ forgotten
-still_taken n as' = still_where (forgotten.number == n) (record forgotten { out = true; remaining = is_elsewhere as' forgotten }) (ap (λ b. record forgotten { remaining = b }) (nowhere as'))
+still_taken n as' =
+    still_where (forgotten.number == n) (record forgotten { out = true; remaining = is_elsewhere as' forgotten })
+    (ap (λ b. record forgotten { remaining = b }) (nowhere as'))
 
-pub still_below : (ns : List Node) (p : List (List ℕ)) (etherealize : Bool) → (if stands_under ns p forgotten.adapter then ended_by_destroy etherealize forgotten else forgotten) ≡ forgotten
+pub still_below : (ns : List Node) (p : List (List ℕ)) (etherealize : Bool)
+    → (if stands_under ns p forgotten.adapter then ended_by_destroy etherealize forgotten else forgotten) ≡ forgotten
 still_below ns p etherealize = still_where (stands_under ns p forgotten.adapter) forgotten refl
 
-pub still_off : (c : Config) (m : ℕ) → (if has_activator c forgotten.path && (manager_at c forgotten.path == m) then ended_by_destroy true forgotten else forgotten) ≡ forgotten
+pub still_off : (c : Config) (m : ℕ)
+    → (if has_activator c forgotten.path && (manager_at c forgotten.path == m) then ended_by_destroy true forgotten else forgotten) ≡ forgotten
 still_off c m = still_where (has_activator c forgotten.path && (manager_at c forgotten.path == m)) forgotten refl
 
 pub still_ending : (k : ℕ) (oid : List ℕ) → (if is_of k oid forgotten then record forgotten { ending = true } else forgotten) ≡ forgotten
@@ -54,11 +58,14 @@ still_in c s = still_where (is_left c s forgotten) forgotten refl
 -- a servant is elsewhere among those that are kept where it is among all
 pub elsewhere_behind : (n : ℕ) (kept : List Activation) (a : Activation) → is_elsewhere kept a ≡ is_elsewhere (behind n kept) a
 elsewhere_behind n kept a =
-    sym (any_behind (λ b. not (b.number == a.number) && ((b.adapter == a.adapter) && (is_mapped b && (elim a.phase [ Complete s ↦ has_servant s b | Begun ↦ false | Void ↦ false ]))))
+    sym (any_behind
+    (λ b. not (b.number == a.number) &&
+    ((b.adapter == a.adapter) && (is_mapped b && (elim a.phase [ Complete s ↦ has_servant s b | Begun ↦ false | Void ↦ false ]))))
     (second_fails (not (forgotten.number == a.number)) _ (second_fails (forgotten.adapter == a.adapter) _ refl)) n kept)
 
 pub takes_alike : (n : ℕ) (some all : List Activation) → ((a : Activation) → is_elsewhere some a ≡ is_elsewhere all a) → (as' : List Activation)
-    → map (at_number n (λ a. record a { out = true; remaining = is_elsewhere some a })) as' ≡ map (at_number n (λ a. record a { out = true; remaining = is_elsewhere all a })) as'
+    → map (at_number n (λ a. record a { out = true; remaining = is_elsewhere some a })) as' ≡ map
+    (at_number n (λ a. record a { out = true; remaining = is_elsewhere all a })) as'
 takes_alike n some all alike [] = refl
 takes_alike n some all alike (a ∷ as') =
     ap₂ (λ b bs. b ∷ bs) (ap (λ b. if a.number == n then record a { out = true; remaining = b } else a) (alike a)) (takes_alike n some all alike as')

@@ -111,7 +111,9 @@ fn admitted(
     verdict: &Verdict,
     standing: &mut Standing,
 ) -> Result<(), WantMemory>
-    ensures ok { OnOk result (seen standing.new ≡ changes.with_command config.now run (if accepts verdict.now then command_of (option_copied call.entry) else None)
+    ensures ok { OnOk result
+        (seen standing.new ≡ changes.with_command config.now run
+        (if accepts verdict.now then command_of (option_copied call.entry) else None)
         (changes.with_admitted arrival (keys.key_in (option_copied call.entry)) verdict.now (seen standing.old))) }
     ensures err { OnErr result (seen standing.new ≡ seen standing.old) }
 {
@@ -131,7 +133,8 @@ fn change(
     call: Option<&Call>,
     standing: &mut Standing,
 ) -> Result<(), WantMemory>
-    ensures ok { (past : List Entry) → stage ≡ entries.stage_at past entry.now → option_copied call.entry ≡ entries.call_admitted past entry.now
+    ensures ok { (past : List Entry) → stage ≡ entries.stage_at past entry.now
+        → option_copied call.entry ≡ entries.call_admitted past entry.now
         → OnOk result (seen standing.new ≡ changes.changed config.now run past entry.now (seen standing.old)) }
     ensures err { OnErr result (seen standing.new ≡ seen standing.old) }
     ensures ends { entries.takes_no_memory entry.now ≡ true → entries.names_servant entry.now ≡ false → IsOk result }
@@ -180,7 +183,8 @@ pub fn advance(
     call: Option<&Call>,
     standing: &mut Standing,
 ) -> Result<(), WantMemory>
-    ensures ok { (past : List Entry) → seen standing.old ≡ changes.standing config.now run past → stage ≡ entries.stage_at past entry.now → option_copied call.entry ≡ entries.call_admitted past entry.now
+    ensures ok { (past : List Entry) → seen standing.old ≡ changes.standing config.now run past → stage ≡ entries.stage_at past entry.now
+        → option_copied call.entry ≡ entries.call_admitted past entry.now
         → OnOk result (seen standing.new ≡ changes.standing config.now run (entry.now ∷ past)) }
     ensures err { OnErr result (seen standing.new ≡ seen standing.old) }
     ensures ends { entries.takes_no_memory entry.now ≡ true → entries.names_servant entry.now ≡ false → IsOk result }
@@ -225,9 +229,11 @@ pub fn advance_kept(
     call: Option<&Call>,
     standing: &mut Standing,
 ) -> Result<(), WantMemory>
-    ensures ok { (past : List Entry) → StandsAfter config.now run past (seen standing.old) → stage ≡ entries.stage_at past entry.now → option_copied call.entry ≡ entries.call_admitted past entry.now
+    ensures ok { (past : List Entry) → StandsAfter config.now run past (seen standing.old) → stage ≡ entries.stage_at past entry.now
+        → option_copied call.entry ≡ entries.call_admitted past entry.now
         → OnOk result (StandsAfter config.now run (entry.now ∷ past) (seen standing.new)) }
-    ensures forgets { (past : List Entry) → StandsAfter config.now run past (seen standing.old) → stage ≡ entries.stage_at past entry.now → option_copied call.entry ≡ entries.call_admitted past entry.now
+    ensures forgets { (past : List Entry) → StandsAfter config.now run past (seen standing.old) → stage ≡ entries.stage_at past entry.now
+        → option_copied call.entry ≡ entries.call_admitted past entry.now
         → entries.may_end entry.now ≡ true → OnOk result (list_any (is_over config.now) standing.new.activations.items ≡ false) }
     ensures err { OnErr result (seen standing.new ≡ seen standing.old) }
     ensures ends { entries.takes_no_memory entry.now ≡ true → entries.names_servant entry.now ≡ false → IsOk result }

@@ -85,7 +85,8 @@ fn add_reference(
 
 /// The manager of this name is turned off.
 fn off(config: &Config, manager: &Name, standing: &mut Standing)
-    ensures { seen standing.new ≡ elim (number_of_manager config.now manager.now) [ Some m ↦ changes.with_manager_off config.now m (seen standing.old) | None ↦ seen standing.old ] }
+    ensures { seen standing.new ≡ elim (number_of_manager config.now manager.now)
+        [ Some m ↦ changes.with_manager_off config.now m (seen standing.old) | None ↦ seen standing.old ] }
 {
     if let Some(number) = manager_number(config, manager) {
         turn_off(config, standing, number);

@@ -26,7 +26,9 @@ fn end_by_destroy(activation: &mut Activation, etherealize: bool)
 
 /// An activation is ending where its adapter stands at the path or below it.
 fn end_under(nodes: &[Node], path: &[Name], etherealize: bool, activation: &mut Activation)
-    ensures { activation.new ≡ (if tree.stands_under nodes.now path.now activation.old.adapter then changes.ended_by_destroy etherealize activation.old else activation.old) }
+    ensures { activation.new ≡
+        (if tree.stands_under nodes.now path.now activation.old.adapter then changes.ended_by_destroy etherealize
+        activation.old else activation.old) }
 {
     if stands_under(nodes, path, activation.adapter) {
         end_by_destroy(activation, etherealize);
@@ -41,7 +43,8 @@ fn end_all_under(
     etherealize: bool,
     activations: &mut Vec<Activation>,
 )
-    ensures { activations.new.items ≡ map (λ a. if tree.stands_under nodes.now path.now a.adapter then changes.ended_by_destroy etherealize a else a) activations.old.items }
+    ensures { activations.new.items ≡ map
+        (λ a. if tree.stands_under nodes.now path.now a.adapter then changes.ended_by_destroy etherealize a else a) activations.old.items }
 {
     for activation in activations.iter_mut() {
         end_under(nodes, path, etherealize, activation);
@@ -50,7 +53,9 @@ fn end_all_under(
 
 /// What is active in the adapters that stand at the path or below it is ending.
 fn end_below(standing: &mut Standing, path: &[Name], etherealize: bool)
-    ensures { seen standing.new ≡ changes.with_activations (λ a. if tree.stands_under standing.old.nodes.items path.now a.adapter then changes.ended_by_destroy etherealize a else a) (seen standing.old) }
+    ensures { seen standing.new ≡ changes.with_activations
+        (λ a. if tree.stands_under standing.old.nodes.items path.now a.adapter then changes.ended_by_destroy etherealize a else a)
+        (seen standing.old) }
 {
     end_all_under(
         &standing.nodes,
@@ -70,7 +75,8 @@ pub fn destroy(standing: &mut Standing, path: &[Name], etherealize: bool)
 
 /// Whether the activation is one of the manager's, with a servant activator.
 fn is_activators(config: &Config, manager: usize, activation: &Activation) -> bool
-    ensures { result ≡ configured.has_activator config.now activation.now.path && (configured.manager_at config.now activation.now.path == manager) }
+    ensures { result ≡ configured.has_activator config.now activation.now.path &&
+        (configured.manager_at config.now activation.now.path == manager) }
 {
     let path = activation.path.as_slice();
     has_activator(config, path) && manager_at(config, path) as usize == manager
@@ -78,7 +84,10 @@ fn is_activators(config: &Config, manager: usize, activation: &Activation) -> bo
 
 /// An activation is ending where it is one of the manager's, with a servant activator.
 fn end_activators(config: &Config, manager: usize, activation: &mut Activation)
-    ensures { activation.new ≡ (if configured.has_activator config.now activation.old.path && (configured.manager_at config.now activation.old.path == manager) then changes.ended_by_destroy true activation.old else activation.old) }
+    ensures { activation.new ≡
+        (if configured.has_activator config.now activation.old.path &&
+        (configured.manager_at config.now activation.old.path == manager) then changes.ended_by_destroy true
+        activation.old else activation.old) }
 {
     if is_activators(config, manager, activation) {
         end_by_destroy(activation, true);
@@ -88,7 +97,9 @@ fn end_activators(config: &Config, manager: usize, activation: &mut Activation)
 /// Those of the activations that are the manager's, with a servant activator, are ending.
 #[tactic(auto, using(poa_tree::proofs::InPlace::mapped_one))]
 fn end_all_activators(config: &Config, activations: &mut Vec<Activation>, manager: usize)
-    ensures { activations.new.items ≡ map (λ a. if configured.has_activator config.now a.path && (configured.manager_at config.now a.path == manager) then changes.ended_by_destroy true a else a) activations.old.items }
+    ensures { activations.new.items ≡ map
+        (λ a. if configured.has_activator config.now a.path &&
+        (configured.manager_at config.now a.path == manager) then changes.ended_by_destroy true a else a) activations.old.items }
 {
     for activation in activations.iter_mut() {
         end_activators(config, manager, activation);
@@ -104,7 +115,8 @@ pub fn turn_off(config: &Config, standing: &mut Standing, manager: usize)
 
 /// An activation is ending where it is of the id.
 fn end_of_id(adapter: u32, oid: &Oid, activation: &mut Activation)
-    ensures { activation.new ≡ (if stands.is_of adapter oid.now activation.old then record activation.old { ending = true } else activation.old) }
+    ensures { activation.new ≡
+        (if stands.is_of adapter oid.now activation.old then record activation.old { ending = true } else activation.old) }
 {
     if is_of(adapter, oid.as_slice(), activation) {
         activation.ending = true;
@@ -114,7 +126,8 @@ fn end_of_id(adapter: u32, oid: &Oid, activation: &mut Activation)
 /// Those of the activations that are of the id are ending.
 #[tactic(auto, using(poa_tree::proofs::InPlace::mapped_one))]
 fn end_all_of_id(activations: &mut Vec<Activation>, adapter: u32, oid: &Oid)
-    ensures { activations.new.items ≡ map (λ a. if stands.is_of adapter oid.now a then record a { ending = true } else a) activations.old.items }
+    ensures { activations.new.items ≡ map (λ a. if stands.is_of adapter oid.now a then record a { ending = true } else a)
+        activations.old.items }
 {
     for activation in activations.iter_mut() {
         end_of_id(adapter, oid, activation);

@@ -33,7 +33,8 @@ fn keep_live(config: &Config, activations: &mut Vec<Activation>)
 /// leaves them where they are.
 pub fn forget(config: &Config, standing: &mut Standing)
     ensures same { StandsFor config.now (seen standing.old) (seen standing.new) }
-    ensures all { standing.old.forgotten + length standing.old.activations.items ≤ usize.MAX → standing.new.activations.items ≡ live config.now standing.old.activations.items }
+    ensures all { standing.old.forgotten + length standing.old.activations.items ≤ usize.MAX
+        → standing.new.activations.items ≡ live config.now standing.old.activations.items }
 {
     let over = count_over(config, &standing.activations);
     if let Some(forgotten) = standing.forgotten.checked_add(over) {

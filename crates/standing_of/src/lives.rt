@@ -49,7 +49,8 @@ fn shares_servant(activation: &Activation, other: &Activation) -> bool
 /// Whether another activation has the same servant in the map of the same adapter.
 fn is_other(activation: &Activation, other: &Activation) -> bool
     ensures { result ≡ not (other.now.number == activation.now.number) && ((other.now.adapter == activation.now.adapter)
-        && (stands.is_mapped other.now && (elim activation.now.phase [ Complete s ↦ stands.has_servant s other.now | Begun ↦ false | Void ↦ false ]))) }
+        && (stands.is_mapped other.now &&
+        (elim activation.now.phase [ Complete s ↦ stands.has_servant s other.now | Begun ↦ false | Void ↦ false ]))) }
 {
     other.number != activation.number
         && (other.adapter == activation.adapter
@@ -83,7 +84,9 @@ fn remains(activations: &[Activation], number: u32, activation: &Activation) -> 
 /// Of these activations that of the number is taken out of the map. Those that are out already don't bear on
 /// whether its servant remains.
 fn take_numbered(activations: &mut Vec<Activation>, number: u32)
-    ensures { activations.new.items ≡ map (changes.at_number number (λ a. record a { out = true; remaining = changes.is_elsewhere activations.old.items a })) activations.old.items }
+    ensures { activations.new.items ≡ map
+        (changes.at_number number (λ a. record a { out = true; remaining = changes.is_elsewhere activations.old.items a }))
+        activations.old.items }
 {
     for i in 0..activations.len() {
         let remaining = remains(activations, number, &activations[i]);
@@ -119,7 +122,8 @@ fn end_numbered(activations: &mut Vec<Activation>, number: u32)
 
 /// The servant of the activation that was taken out is etherealized.
 pub fn etherealize(standing: &mut Standing, number: u32)
-    ensures { seen standing.new ≡ changes.with_activations (changes.at_number number (λ a. record a { etherealized = true })) (seen standing.old) }
+    ensures { seen standing.new ≡ changes.with_activations (changes.at_number number (λ a. record a { etherealized = true }))
+        (seen standing.old) }
 {
     end_numbered(&mut standing.activations, number);
 }

@@ -15,7 +15,8 @@ use standing_queries::templates::has_activator;
 /// Whether an activation is still to leave the map: it is ending, has its servant and no servant activator, and
 /// nothing is in flight in it.
 fn is_to_leave(config: &Config, flights: &[Flight], activation: &Activation) -> bool
-    ensures { (s : Stood) → s.flights ≡ flights.now → ends.let_out config.now s activation.now ≡ (if result then record activation.now { out = true } else activation.now) }
+    ensures { (s : Stood) → s.flights ≡ flights.now
+        → ends.let_out config.now s activation.now ≡ (if result then record activation.now { out = true } else activation.now) }
 {
     activation.ending
         && !activation.out
@@ -45,7 +46,8 @@ fn let_all_out(config: &Config, flights: &[Flight], activations: &mut Vec<Activa
 
 /// What is to leave the map does.
 fn let_out_ended(config: &Config, standing: &mut Standing)
-    ensures { seen standing.new ≡ record (seen standing.old) { activations = map (ends.let_out config.now (seen standing.old)) (seen standing.old).activations } }
+    ensures { seen standing.new ≡ record (seen standing.old)
+        { activations = map (ends.let_out config.now (seen standing.old)) (seen standing.old).activations } }
 {
     let_all_out(config, &standing.flights, &mut standing.activations);
 }

@@ -19,6 +19,7 @@ no_key_is_read bytes none =
     ] refl
 
 -- what is seen is the key that the bytes spell, if there is one
-pub key_is_seen : (view : Option Key) (bytes : List ℕ) → IfSome view (λ key. IsKey key × (key_spelling key ≡ bytes)) → IfNone view ((key : Key) → IsKey key → key_spelling key ≢ bytes) → view ≡ key_of bytes
+pub key_is_seen : (view : Option Key) (bytes : List ℕ) → IfSome view (λ key. IsKey key × (key_spelling key ≡ bytes))
+    → IfNone view ((key : Key) → IsKey key → key_spelling key ≢ bytes) → view ≡ key_of bytes
 key_is_seen (Some key) bytes spelled bad = sym (key_is_read key bytes spelled.0 spelled.1)
 key_is_seen None bytes spelled bad = sym (no_key_is_read bytes bad)

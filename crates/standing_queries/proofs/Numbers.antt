@@ -13,7 +13,9 @@ use Rattle.standing_queries.specs.Numbers.{below, Ascends}
 -- exactly the numbers below the bound stand there
 pub in_below : (k n : ℕ) → In k (below n) → k < n
 in_below k zero is = absurd is
-in_below k (suc n) is = elim (in_either k n (below n) is) [ inl before ↦ (let less = in_below k n before in omega (arith, less)) | inr same ↦ (let e : k ≡ n = same in omega (arith, e)) ]
+in_below k (suc n) is =
+    elim (in_either k n (below n) is)
+    [ inl before ↦ (let less = in_below k n before in omega (arith, less)) | inr same ↦ (let e : k ≡ n = same in omega (arith, e)) ]
 
 pub below_in : (k n : ℕ) → k < n → In k (below n)
 below_in k zero less = absurd (omega (arith, less))

@@ -28,12 +28,15 @@ pub record AnswersAs (c : Config) (run : ℕ) (h : List Entry) (t : Standing) : 
   pub begun : length t.activations ≡ length (standing c run h).activations
   -- of an id: its activation, whether one is active, and whether one isn't over
   pub slot : (k : ℕ) (oid : List ℕ) → slot_of c t.activations k oid ≡ slot_of c (standing c run h).activations k oid
-  pub active : (k : ℕ) (oid : List ℕ) → list_any (λ a. is_of k oid a && is_active a) t.activations ≡ list_any (λ a. is_of k oid a && is_active a) (standing c run h).activations
-  pub held : (k : ℕ) (oid : List ℕ) → list_any (λ a. is_of k oid a && not (is_over c a)) t.activations ≡ list_any (λ a. is_of k oid a && not (is_over c a)) (standing c run h).activations
+  pub active : (k : ℕ) (oid : List ℕ) → list_any (λ a. is_of k oid a && is_active a) t.activations ≡ list_any
+      (λ a. is_of k oid a && is_active a) (standing c run h).activations
+  pub held : (k : ℕ) (oid : List ℕ) → list_any (λ a. is_of k oid a && not (is_over c a)) t.activations ≡ list_any
+      (λ a. is_of k oid a && not (is_over c a)) (standing c run h).activations
   -- of an adapter and a servant
   pub changing : (k : ℕ) → is_changing c t.activations k ≡ is_changing c (standing c run h).activations k
   pub in_map : (k : ℕ) (s : Sid) → is_in_map t.activations k s ≡ is_in_map (standing c run h).activations k s
-  pub mapped : (k : ℕ) (s : Sid) → find (λ a. (a.adapter == k) && (is_mapped a && has_servant s a)) t.activations ≡ find (λ a. (a.adapter == k) && (is_mapped a && has_servant s a)) (standing c run h).activations
+  pub mapped : (k : ℕ) (s : Sid) → find (λ a. (a.adapter == k) && (is_mapped a && has_servant s a)) t.activations ≡ find
+      (λ a. (a.adapter == k) && (is_mapped a && has_servant s a)) (standing c run h).activations
   -- the removal that is due
   pub removal : (w : ℕ) → removal c t w ≡ removal c (standing c run h) w
   -- what commands wait for

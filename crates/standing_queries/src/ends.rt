@@ -60,7 +60,8 @@ fn are_lived_under(
 
 /// Whether an activation at the path or below it isn't over.
 fn is_lived_under(config: &Config, standing: &Standing, path: &[Name]) -> bool
-    ensures { result ≡ list_any (λ a. not (ends.is_over config.now a) && stands_under standing.now.nodes.items path.now a.adapter) (seen standing.now).activations }
+    ensures { result ≡ list_any (λ a. not (ends.is_over config.now a) && stands_under standing.now.nodes.items path.now a.adapter)
+        (seen standing.now).activations }
 {
     are_lived_under(config, &standing.nodes, path, &standing.activations)
 }

@@ -52,7 +52,9 @@ pub fn is_quiet(config: &Config, standing: &Standing, manager: u32) -> bool
 
 /// Whether an activation is over, or none that a deactivation of the manager ends.
 fn is_ended(config: &Config, manager: u32, begun: usize, activation: &Activation) -> bool
-    ensures { result ≡ ends.is_over config.now activation.now || (not (nat_lt activation.now.number begun) || not (configured.has_activator config.now activation.now.path && (configured.manager_at config.now activation.now.path == manager))) }
+    ensures { result ≡ ends.is_over config.now activation.now ||
+        (not (nat_lt activation.now.number begun) || not
+        (configured.has_activator config.now activation.now.path && (configured.manager_at config.now activation.now.path == manager))) }
 {
     let path = activation.path.as_slice();
     is_over(config, activation)
@@ -62,7 +64,10 @@ fn is_ended(config: &Config, manager: u32, begun: usize, activation: &Activation
 
 /// Whether those of the activations that a deactivation of the manager ends are over.
 fn all_ended(config: &Config, manager: u32, begun: usize, activations: &[Activation]) -> bool
-    ensures { result ≡ list_all (λ a. ends.is_over config.now a || (not (nat_lt a.number begun) || not (configured.has_activator config.now a.path && (configured.manager_at config.now a.path == manager)))) activations.now }
+    ensures { result ≡ list_all
+        (λ a. ends.is_over config.now a ||
+        (not (nat_lt a.number begun) || not
+        (configured.has_activator config.now a.path && (configured.manager_at config.now a.path == manager)))) activations.now }
 {
     activations
         .iter()

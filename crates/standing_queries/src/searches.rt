@@ -27,14 +27,16 @@ pub fn activation_numbered(standing: &Standing, number: u32) -> Option<&Activati
 
 /// Whether the servant is in the map of the adapter by this activation.
 fn is_by(adapter: u32, servant: Sid, activation: &Activation) -> bool
-    ensures { result ≡ (activation.now.adapter == adapter) && (stands.is_mapped activation.now && stands.has_servant servant activation.now) }
+    ensures { result ≡ (activation.now.adapter == adapter) &&
+        (stands.is_mapped activation.now && stands.has_servant servant activation.now) }
 {
     activation.adapter == adapter && (is_mapped(activation) && has_servant(servant, activation))
 }
 
 /// The first of them by which the servant is in the map of the adapter.
 fn first_mapped(activations: &[Activation], adapter: u32, servant: Sid) -> Option<&Activation>
-    ensures { option_copied result ≡ find (λ a. (a.adapter == adapter) && (stands.is_mapped a && stands.has_servant servant a)) activations.now }
+    ensures { option_copied result ≡ find (λ a. (a.adapter == adapter) && (stands.is_mapped a && stands.has_servant servant a))
+        activations.now }
 {
     activations
         .iter()
@@ -43,7 +45,8 @@ fn first_mapped(activations: &[Activation], adapter: u32, servant: Sid) -> Optio
 
 /// The first activation by which the servant is in the map of the adapter.
 pub fn mapped(standing: &Standing, adapter: u32, servant: Sid) -> Option<&Activation>
-    ensures { option_copied result ≡ find (λ a. (a.adapter == adapter) && (stands.is_mapped a && stands.has_servant servant a)) (seen standing.now).activations }
+    ensures { option_copied result ≡ find (λ a. (a.adapter == adapter) && (stands.is_mapped a && stands.has_servant servant a))
+        (seen standing.now).activations }
 {
     first_mapped(&standing.activations, adapter, servant)
 }

@@ -7,5 +7,8 @@ use Rattle.arrival_tables.proofs.calls.call.Goals as goal
 pub returns : goal.returns
 returns c = λ knows.
     c.call_in.ensures
-    ∙ (ap call_in (c.entry_of.ensures ∙ (ap (λ ps. entry_of c.args.entries.now ps c.args.arrival) c.deref.ensures.value ∙ ap (λ es. entry_of es c.args.calls.now.places.items c.args.arrival) (sym (reverse-reverse c.args.entries.now))))
+    ∙ (ap call_in
+    (c.entry_of.ensures
+    ∙ (ap (λ ps. entry_of c.args.entries.now ps c.args.arrival) c.deref.ensures.value
+    ∙ ap (λ es. entry_of es c.args.calls.now.places.items c.args.arrival) (sym (reverse-reverse c.args.entries.now))))
     ∙ call_told (reverse c.args.entries.now) c.args.calls.now.places.items knows c.args.arrival)

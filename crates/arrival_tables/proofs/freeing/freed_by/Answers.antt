@@ -9,4 +9,6 @@ use Rattle.arrival_tables.proofs.freeing.freed_by.Goals as goal
 pub returns-in-Etherealized : goal.returns-in-Etherealized
 returns-in-Etherealized c = λ conf run past answers begun.
     subst (λ (e : EntryOf). c.args.begun ≡ stage_at past e → c.etherealizing.result ≡ frees.freed_by conf run past e) (sym c.in-Etherealized.is)
-    (λ at. c.etherealizing.ensures ∙ (ap (λ b. frees.etherealizing (seen c.args.standing.now) b) at ∙ etherealizing_kept conf run past (seen c.args.standing.now) answers c.in-Etherealized.worker)) begun
+    (λ at. c.etherealizing.ensures
+    ∙ (ap (λ b. frees.etherealizing (seen c.args.standing.now) b) at
+    ∙ etherealizing_kept conf run past (seen c.args.standing.now) answers c.in-Etherealized.worker)) begun

@@ -10,7 +10,8 @@ use Rattle.arrival_tables.proofs.queue.tried.Goals as goal
 
 pub returns-in-Yes : goal.returns-in-Yes
 returns-in-Yes c = λ config run limit past w.
-    subst (λ a. MayFollow config run limit past (Tried w a) → IsManned config run past → c.args.arrival ≡ arrival_in (stage past w) → option_copied c.args.call ≡ call_tried past (Tried w a) → IsQueue past c.args.queue.now → IsQueue (Tried w a ∷ past) c.child_made.new.queue)
+    subst (λ a. MayFollow config run limit past (Tried w a) → IsManned config run past → c.args.arrival ≡ arrival_in (stage past w)
+    → option_copied c.args.call ≡ call_tried past (Tried w a) → IsQueue past c.args.queue.now → IsQueue (Tried w a ∷ past) c.child_made.new.queue)
     (sym c.in-Yes.is) (c.child_made.ensures config run limit past w c.in-Yes.number)
 
 pub returns-in-No : goal.returns-in-No

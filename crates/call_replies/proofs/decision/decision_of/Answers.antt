@@ -17,4 +17,6 @@ returns-clause-decides c = λ run opened past comes.
 
 -- one that may not decides none
 pub returns-then-not-may_decide-clause-decides : goal.returns-then-not-may_decide-clause-decides
-returns-then-not-may_decide-clause-decides c = λ run opened past comes. never_decides c.args.config.now run opened past c.args.stage (option_copied c.args.call) c.args.settings.now c.args.outcome c.args.entry.now Addressing (sym c.may_decide.ensures ∙ c.if-not-may_decide.true) comes
+returns-then-not-may_decide-clause-decides c =
+    λ run opened past comes. never_decides c.args.config.now run opened past c.args.stage
+    (option_copied c.args.call) c.args.settings.now c.args.outcome c.args.entry.now Addressing (sym c.may_decide.ensures ∙ c.if-not-may_decide.true) comes

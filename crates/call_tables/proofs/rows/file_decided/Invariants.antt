@@ -9,7 +9,8 @@ use Rattle.call_tables.proofs.rows.file_decided.Given as goal
 -- those before are filed, there is room for the others, and the reply of the target is there still where its row isn't among them
 abbrev pub invariant-loop-i : goal.invariant-loop-i
 invariant-loop-i l =
-    (l.outbox.items ≡ l.fn.outbox.items ++ map (desks.file l.target l.fn.reply) (filter (desks.is_decided l.config (seen l.standing) l.target l.ordered) (take l.i l.owing.items)))
+    (l.outbox.items ≡ l.fn.outbox.items ++ map (desks.file l.target l.fn.reply)
+    (filter (desks.is_decided l.config (seen l.standing) l.target l.ordered) (take l.i l.owing.items)))
     × (deque_len l.outbox + length l.owing.items ≤ deque_capacity l.outbox + l.i)
     × (deque_capacity l.outbox ≡ deque_capacity l.fn.outbox)
     × (list_any (λ o. begun.is_at o.arrival l.target) (take l.i l.owing.items) ≡ false → l.reply ≡ l.fn.reply)

@@ -23,15 +23,20 @@ pub returns-in_default-binary_search_by_key-clause-kept : goal.returns-in_defaul
 returns-in_default-binary_search_by_key-clause-kept c =
     let os = c.args.owing.now.items in
     let by_key = c.binary_search_by_key.ensures.position (λ o. o.arrival) (answers_always _ _ _ (λ f a r g called. search rules)) in
-    let none = missing c.in-Some.arrival os c.in_default-binary_search_by_key.field-0 c.requires.ascends (subst (IsBinarySearchResult (λ o. nat_cmp o.arrival c.in-Some.arrival) os) c.in_default-binary_search_by_key.is by_key) in
+    let none =
+    missing c.in-Some.arrival os c.in_default-binary_search_by_key.field-0 c.requires.ascends
+    (subst (IsBinarySearchResult (λ o. nat_cmp o.arrival c.in-Some.arrival) os) c.in_default-binary_search_by_key.is by_key) in
     sym (ap (λ target. filter (λ o. not (begun.is_at o.arrival target)) os) c.in-Some.is ∙ none.1)
 
 pub returns-in_default-binary_search_by_key-clause-filed : goal.returns-in_default-binary_search_by_key-clause-filed
 returns-in_default-binary_search_by_key-clause-filed c =
     let os = c.args.owing.now.items in
     let by_key = c.binary_search_by_key.ensures.position (λ o. o.arrival) (answers_always _ _ _ (λ f a r g called. search rules)) in
-    let none = missing c.in-Some.arrival os c.in_default-binary_search_by_key.field-0 c.requires.ascends (subst (IsBinarySearchResult (λ o. nat_cmp o.arrival c.in-Some.arrival) os) c.in_default-binary_search_by_key.is by_key) in
-    sym (ap (λ rows. c.args.outbox.now.items ++ map (desks.file c.args.target c.args.reply) rows) (ap (λ target. filter (λ o. begun.is_at o.arrival target) os) c.in-Some.is ∙ none.0)
+    let none =
+    missing c.in-Some.arrival os c.in_default-binary_search_by_key.field-0 c.requires.ascends
+    (subst (IsBinarySearchResult (λ o. nat_cmp o.arrival c.in-Some.arrival) os) c.in_default-binary_search_by_key.is by_key) in
+    sym (ap (λ rows. c.args.outbox.now.items ++ map (desks.file c.args.target c.args.reply) rows)
+    (ap (λ target. filter (λ o. begun.is_at o.arrival target) os) c.in-Some.is ∙ none.0)
     ∙ append-nil c.args.outbox.now.items)
 
 pub returns-in-Some-remove-clause-kept : goal.returns-in-Some-remove-clause-kept

@@ -10,12 +10,14 @@ returns-in_err-matches-clause-bad c e = two_refused_by _ c.args.name.now _ c.in-
 pub returns-in_err-first-clause-bad : goal.returns-in_err-first-clause-bad
 returns-in_err-first-clause-bad c e =
     let none : c.get_str.result ≡ None = search rules in
-    absurd ((both_there _ c.args.name.now _ _ c.in-Ok.ensures c.in_ok-matches.ensures.ok).0 (sym c.get_str.ensures ∙ ap (option_map (λ (s : Bor Text). s.now)) none))
+    absurd ((both_there _ c.args.name.now _ _ c.in-Ok.ensures c.in_ok-matches.ensures.ok).0
+    (sym c.get_str.ensures ∙ ap (option_map (λ (s : Bor Text). s.now)) none))
 
 pub returns-in_err-second-clause-bad : goal.returns-in_err-second-clause-bad
 returns-in_err-second-clause-bad c e =
     let none : c.get_str-2.result ≡ None = search rules in
-    absurd ((both_there _ c.args.name.now _ _ c.in-Ok.ensures c.in_ok-matches.ensures.ok).1 (sym c.get_str-2.ensures ∙ ap (option_map (λ (s : Bor Text). s.now)) none))
+    absurd ((both_there _ c.args.name.now _ _ c.in-Ok.ensures c.in_ok-matches.ensures.ok).1
+    (sym c.get_str-2.ensures ∙ ap (option_map (λ (s : Bor Text). s.now)) none))
 
 pub returns-clause-ok : goal.returns-clause-ok
 returns-clause-ok c =

@@ -5,8 +5,11 @@ use Rattle.command_words.proofs.settings.read_settings.Goals as goal
 
 pub loop-word-preserved : goal.loop-word-preserved
 loop-word-preserved c =
-    let gives : word_at (seen_place c.loop-word.place) (string_bytes c.word-item.result) ≡ Some (option_map seen_setting c.in-Some.setting, seen_place c.in-Some.next) = search rules in
-    ap (λ (done : List Setting). option_map (λ more. done ++ more) (settings_of (seen_place c.in-Some.next) (map string_bytes (drop (c.loop-word.word-index + 1) c.args.words.now)))) c.in_ok-note.ensures.ok
-    ∙ noted_next c.args.words.now c.loop-word.word-index c.word-item.result (seen_place c.loop-word.place) (option_map seen_setting c.in-Some.setting) (seen_place c.in-Some.next)
+    let gives : word_at (seen_place c.loop-word.place) (string_bytes c.word-item.result) ≡ Some
+    (option_map seen_setting c.in-Some.setting, seen_place c.in-Some.next) = search rules in
+    ap (λ (done : List Setting). option_map (λ more. done ++ more)
+    (settings_of (seen_place c.in-Some.next) (map string_bytes (drop (c.loop-word.word-index + 1) c.args.words.now)))) c.in_ok-note.ensures.ok
+    ∙ noted_next c.args.words.now c.loop-word.word-index c.word-item.result (seen_place c.loop-word.place) (option_map seen_setting c.in-Some.setting)
+    (seen_place c.in-Some.next)
     (map seen_setting c.loop-word.settings.items) (omega arith) c.word-item.is gives
     ∙ c.loop-word.invariant

@@ -14,7 +14,9 @@ joined_pieces-more pieces i d h =
 
 pub feed-requires : goal.feed-requires
 feed-requires c =
-    let fits = length-flat_map-take (λ (p : Bor (List ℕ)). p.now) c.args.pieces.now c.loop-piece.piece-index (record { ref_ptr = (0, 0); now = [] }) c.loop-piece-test.true in
+    let fits =
+    length-flat_map-take (λ (p : Bor (List ℕ)). p.now) c.args.pieces.now c.loop-piece.piece-index
+    (record { ref_ptr = (0, 0); now = [] }) c.loop-piece-test.true in
     omega (arith, fits, c.drain.ensures.reached, c.loop-piece.invariant.1)
 
 pub loop-piece-preserved : goal.loop-piece-preserved

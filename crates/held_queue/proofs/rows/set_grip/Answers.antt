@@ -8,7 +8,8 @@ use Rattle.held_queue.proofs.rows.set_grip.Goals as goal
 pub returns-in-Some : goal.returns-in-Some
 returns-in-Some c =
     ap (λ (row : Row). slice_set c.args.rows.now.items c.args.place (record row { grip = c.args.grip })) c.in-Some.ensures.value
-    ∙ regripped_set c.args.rows.now.items c.args.place c.args.grip c.in-Some.row.now (let low = is_there c.get_mut.result c.in-Some.row c.get_mut.ensures.variant c.in-Some.is in let ok = c.args.rows.now.ok.0 in omega (arith, low, ok))
+    ∙ regripped_set c.args.rows.now.items c.args.place c.args.grip c.in-Some.row.now
+    (let low = is_there c.get_mut.result c.in-Some.row c.get_mut.ensures.variant c.in-Some.is in let ok = c.args.rows.now.ok.0 in omega (arith, low, ok))
 
 pub returns-in_default : goal.returns-in_default
 returns-in_default c =

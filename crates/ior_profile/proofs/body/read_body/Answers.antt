@@ -7,5 +7,6 @@ use Rattle.ior_profile.proofs.body.read_body.Goals as goal
 
 pub returns-in-Err : goal.returns-in-Err
 returns-in-Err c =
-    no_body ((body : ProfileBody) → HasBody c.args.profile.now body → ⊥) (HasBody c.args.profile.now) c.in-Err.fault _ c.unreadable.ensures.none c.unreadable.ensures.other
+    no_body ((body : ProfileBody) → HasBody c.args.profile.now body → ⊥)
+    (HasBody c.args.profile.now) c.in-Err.fault _ c.unreadable.ensures.none c.unreadable.ensures.other
     (λ other. unread _ _ (sym (c.in-Some.ensures ∙ ap inside c.as_slice.ensures)) (c.in-Err.ensures.bad other))

@@ -7,4 +7,5 @@ use Rattle.ior_profile.proofs.key.key_of.Goals as goal
 
 pub returns : goal.returns
 returns c =
-    found_at _ _ c.in-Some.profile.now (grind (arith, common_steps, gets, c.in-Some.ensures.lookup, c.as_slice.ensures)) c.in_ok-found.found c.in_ok-found.ensures
+    found_at _ _ c.in-Some.profile.now (grind (arith, common_steps, gets, c.in-Some.ensures.lookup, c.as_slice.ensures)) c.in_ok-found.found
+    c.in_ok-found.ensures

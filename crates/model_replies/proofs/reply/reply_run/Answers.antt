@@ -21,4 +21,5 @@ returns c =
     ∙ (agrees c.args.config.now c.args.run opened past).servants servant in
     let outcome : c.in_ok-done.done.outcome ≡ (states.acted (states.state_of c.args.config.now c.args.run opened past servant) call).1 =
     sym (ap (λ p. p.1) c.in_ok-done.ensures) ∙ ap (λ s. (states.acted s call).1) state in
-    subst (λ who. Some (Ended c.in_ok-done.done.outcome) ≡ replies.reply_run c.args.config.now c.args.run opened past who call) (sym c.in-Some.is) (ap (λ o. Some (Ended o)) outcome)
+    subst (λ who. Some (Ended c.in_ok-done.done.outcome) ≡ replies.reply_run c.args.config.now c.args.run opened past who call) (sym c.in-Some.is)
+    (ap (λ o. Some (Ended o)) outcome)

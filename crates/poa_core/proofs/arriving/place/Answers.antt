@@ -3,7 +3,8 @@ use Rattle.poa_core.proofs.ArrivedThen.{arrived_quiet, kept_asked, kept_unasked,
 use Rattle.poa_core.proofs.arriving.place.Goals as goal
 
 pub quiet-requires-clause-quiet : goal.quiet-requires-clause-quiet
-quiet-requires-clause-quiet c = arrived_quiet c.args.conn c.args.size c.args.call c.args.inside.now c.requires.ready c.requires.conn c.requires.size c.requires.taken
+quiet-requires-clause-quiet c =
+    arrived_quiet c.args.conn c.args.size c.args.call c.args.inside.now c.requires.ready c.requires.conn c.requires.size c.requires.taken
 
 pub returns-in-Some-clause-kept : goal.returns-in-Some-clause-kept
 returns-in-Some-clause-kept c =

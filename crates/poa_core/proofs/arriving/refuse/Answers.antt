@@ -16,7 +16,8 @@ quiet-requires-clause-room c = (let i = c.args.inside.now in let tally = c.requi
 
 pub quiet-requires-clause-quiet : goal.quiet-requires-clause-quiet
 quiet-requires-clause-quiet c = (let i = c.args.inside.now in let tally = c.requires.kept.agrees.tables.tally in
-    filled_quiet c.args.conn c.args.size i c.requires.kept (was_unfilled (history i) i.tables.tally tally c.in_default.is) c.requires.conn c.requires.size c.requires.full)
+    filled_quiet c.args.conn c.args.size i c.requires.kept
+    (was_unfilled (history i) i.tables.tally tally c.in_default.is) c.requires.conn c.requires.size c.requires.full)
 
 pub returns-clause-kept : goal.returns-clause-kept
 returns-clause-kept c = (let i = c.args.inside.now in let tally = c.requires.kept.agrees.tables.tally in

@@ -20,7 +20,8 @@ returns c =
       state = half.state;
       tables =
           subst (λ (es : List Entry). IsRun old.config old.run old.limit (c.args.entry ∷ reverse es) → c.args.stage ≡ stage_at (reverse es) c.args.entry
-          → c.args.brought.freed ≡ freed_by old.config old.run (reverse es) c.args.entry → KnowsTables old.config old.run (reverse es) old.tables → KnowsTables old.config old.run (c.args.entry ∷ reverse es) c.advance-2.new.tables)
+          → c.args.brought.freed ≡ freed_by old.config old.run (reverse es) c.args.entry → KnowsTables old.config old.run (reverse es) old.tables
+          → KnowsTables old.config old.run (c.args.entry ∷ reverse es) c.advance-2.new.tables)
           c.deref.ensures.value (c.advance-2.ensures old.config old.run old.limit) half.follows half.begun_is half.brought.frees half.tables;
       before = c.advance.ensures.before comes;
       owed = c.advance.ensures.owed comes;
@@ -28,7 +29,8 @@ returns c =
       as_many = c.advance.ensures.as_many;
       room = c.advance.ensures.room;
       spare = c.advance.ensures.spare;
-      life_is = life_longer old.config old.run old.limit old.opening c.args.entry old.entries.items c.push_reserved.new.self.items c.push_reserved.ensures.items;
+      life_is =
+          life_longer old.config old.run old.limit old.opening c.args.entry old.entries.items c.push_reserved.new.self.items c.push_reserved.ensures.items;
       len = c.push_reserved.ensures.len;
       capacity = c.push_reserved.ensures.capacity;
     }

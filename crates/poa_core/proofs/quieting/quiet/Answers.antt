@@ -10,5 +10,6 @@ use Rattle.poa_core.proofs.quieting.quiet.Goals as goal
 pub note-requires-clause-halfway : goal.note-requires-clause-halfway
 note-requires-clause-halfway c =
     (let i = c.args.inside.now in
-    subst (λ (f : Freed). IsHalfway (history i) c.args.entry Free (record { decision = record { target = None; reply = Addressing }; wait = None; ordered = None; freed = f }) i) (sym c.nothing.ensures)
+    subst (λ (f : Freed). IsHalfway (history i) c.args.entry Free
+    (record { decision = record { target = None; reply = Addressing }; wait = None; ordered = None; freed = f }) i) (sym c.nothing.ensures)
     (quiet_halfway (history i) c.args.entry i c.requires.quiet))

@@ -17,6 +17,8 @@ next-requires-clause-told c =
     record {
       called = subst (λ (es : List Entry). KnowsCalls (reverse es) i.tables.calls.places.items) same agrees.tables.calls;
       queued = subst (λ (es : List Entry). IsQueue (reverse es) i.tables.queue) same agrees.tables.queue;
-      stands = subst (λ (es : List Entry). AnswersAs i.config i.run (reverse es) (seen i.state.standing)) same (answers_state i.config i.run i.limit (opened_in i) (history i) i.state agrees.runs agrees.state);
+      stands =
+          subst (λ (es : List Entry). AnswersAs i.config i.run (reverse es) (seen i.state.standing)) same
+          (answers_state i.config i.run i.limit (opened_in i) (history i) i.state agrees.runs agrees.state);
       set = subst (λ (es : List Entry). Tells i.config (reverse es) i.state.settings) same agrees.state.set;
     })

@@ -9,8 +9,11 @@ returns c = λ conf run limit follows begun freed known.
     let past = reverse c.args.entries.now in
     record {
       calls = c.advance-5.ensures past (length_reversed c.args.entries.now) known.calls;
-      queue = c.advance-2.ensures conf run limit past follows.legal.0 (manned_before conf run limit past c.args.entry.now follows) known.tally.calls begun (c.call_tried-tried.ensures known.calls begun) known.queue;
-      held = c.advance-3.ensures.held conf run limit past (given conf run limit (c.args.entry.now ∷ past) follows) (alone conf run limit (c.args.entry.now ∷ past) follows) (within conf run limit (c.args.entry.now ∷ past) follows) follows.legal known.tally.calls begun freed known.held;
+      queue = c.advance-2.ensures conf run limit past follows.legal.0 (manned_before conf run limit past c.args.entry.now follows) known.tally.calls begun
+          (c.call_tried-tried.ensures known.calls begun) known.queue;
+      held = c.advance-3.ensures.held conf run limit past (given conf run limit (c.args.entry.now ∷ past) follows)
+          (alone conf run limit (c.args.entry.now ∷ past) follows)
+          (within conf run limit (c.args.entry.now ∷ past) follows) follows.legal known.tally.calls begun freed known.held;
       workers = c.advance-4.ensures past known.workers;
       tally = c.advance.ensures conf run limit past follows.legal follows.limited (c.call_admitted-admitted.ensures known.calls) known.tally;
     }

@@ -12,11 +12,14 @@ bring-requires c =
       mid.limit,
       opened_in mid,
       history mid,
-      asked_then c.args.inside.now mid _ _ _ c.deref.ensures.value c.deref-2.ensures.value agrees c.make_room_for.ensures.life c.requires.follows c.requires.turn c.requires.begun c.call_at-call.ensures (c.in_ok-runs.ensures.servant mid.run),
+      asked_then c.args.inside.now mid _ _ _ c.deref.ensures.value c.deref-2.ensures.value agrees c.make_room_for.ensures.life c.requires.follows
+          c.requires.turn c.requires.begun c.call_at-call.ensures (c.in_ok-runs.ensures.servant mid.run),
     )
 
 pub note-requires-clause-room : goal.note-requires-clause-room
-note-requires-clause-room c = (let room = c.in_ok-make_room_for.ensures.room in record { entries = room.entries; calls = room.calls; queue = room.queue; held = room.held; tally = room.tally; desk = room.desk })
+note-requires-clause-room c =
+    (let room = c.in_ok-make_room_for.ensures.room in
+    record { entries = room.entries; calls = room.calls; queue = room.queue; held = room.held; tally = room.tally; desk = room.desk })
 
 pub note-requires-clause-halfway : goal.note-requires-clause-halfway
 note-requires-clause-halfway c =
@@ -28,9 +31,11 @@ note-requires-clause-halfway c =
       follows = runs_still entry old mid c.make_room_for.ensures.life c.requires.follows;
       begun_is = begun_still entry c.args.stage old mid c.make_room_for.ensures.life c.requires.begun;
       state = c.in_ok-brought.ensures.ok mid.limit (opened_in mid) (history mid)
-          (asked_then old mid _ _ _ c.deref.ensures.value c.deref-2.ensures.value agrees c.make_room_for.ensures.life c.requires.follows c.requires.turn c.requires.begun c.call_at-call.ensures (c.in_ok-runs.ensures.servant mid.run));
+          (asked_then old mid _ _ _ c.deref.ensures.value c.deref-2.ensures.value agrees c.make_room_for.ensures.life c.requires.follows c.requires.turn
+          c.requires.begun c.call_at-call.ensures (c.in_ok-runs.ensures.servant mid.run));
       brought = c.in_ok-brought.ensures.brought mid.limit (opened_in mid) (history mid)
-          (asked_then old mid _ _ _ c.deref.ensures.value c.deref-2.ensures.value agrees c.make_room_for.ensures.life c.requires.follows c.requires.turn c.requires.begun c.call_at-call.ensures (c.in_ok-runs.ensures.servant mid.run));
+          (asked_then old mid _ _ _ c.deref.ensures.value c.deref-2.ensures.value agrees c.make_room_for.ensures.life c.requires.follows c.requires.turn
+          c.requires.begun c.call_at-call.ensures (c.in_ok-runs.ensures.servant mid.run));
       tables = agrees.tables;
       owed = agrees.owed;
       left = left_still entry mid c.requires.turn agrees.filed;
@@ -39,10 +44,12 @@ note-requires-clause-halfway c =
 pub returns-clause-kept : goal.returns-clause-kept
 returns-clause-kept c =
     let mid = c.make_room_for.new.inside in
-    turn_kept c.args.entry (record mid { state = c.bring.new.state }) c.note.new.inside c.note.ensures c.requires.turn c.make_room_for.ensures.kept.agrees.tables c.in_ok-make_room_for.ensures.space
+    turn_kept c.args.entry (record mid { state = c.bring.new.state }) c.note.new.inside c.note.ensures c.requires.turn
+    c.make_room_for.ensures.kept.agrees.tables c.in_ok-make_room_for.ensures.space
 
 pub returns-in_err-runs-clause-ends : goal.returns-in_err-runs-clause-ends
 returns-in_err-runs-clause-ends c = λ ends.
     (let i = c.args.inside.now in
-    let never : false ≡ true = c.in_err-runs.ensures.ends (ap only_ends c.requires.begun ∙ ending_stage i.config i.run i.limit (history i) c.args.entry c.requires.follows.legal.0 ends) in
+    let never : false ≡ true =
+    c.in_err-runs.ensures.ends (ap only_ends c.requires.begun ∙ ending_stage i.config i.run i.limit (history i) c.args.entry c.requires.follows.legal.0 ends) in
     absurd (let e : false ≡ true = never in cc))

@@ -8,11 +8,14 @@ advance-requires c =
 
 pub returns-clause-ok : goal.returns-clause-ok
 returns-clause-ok c = λ limit opened past asked.
-    at_ok c.decision_of.result (c.in_ok-outcome.ensures.ok limit opened past (next_run c.args.config.now c.args.run limit opened past c.args.coming.now c.args.state.now asked c.requires.kind.0 c.requires.kind.1))
+    at_ok c.decision_of.result
+    (c.in_ok-outcome.ensures.ok limit opened past
+    (next_run c.args.config.now c.args.run limit opened past c.args.coming.now c.args.state.now asked c.requires.kind.0 c.requires.kind.1))
 
 pub returns-clause-decides : goal.returns-clause-decides
 returns-clause-decides c = λ limit opened past asked.
     let next = next_run c.args.config.now c.args.run limit opened past c.args.coming.now c.args.state.now asked c.requires.kind.0 c.requires.kind.1 in
     c.decision_of.ensures.decides c.args.run opened past
-    (run_comes c.args.config.now c.args.run limit opened past c.args.coming.now c.args.state.now asked c.requires.kind.0 c.requires.kind.1 c.advance.new.state.settings c.in_ok-outcome.outcome
+    (run_comes c.args.config.now c.args.run limit opened past c.args.coming.now c.args.state.now asked c.requires.kind.0 c.requires.kind.1
+    c.advance.new.state.settings c.in_ok-outcome.outcome
     (c.in_ok-outcome.ensures.ok limit opened past next).set (c.in_ok-outcome.ensures.outcome limit opened past next))

@@ -8,8 +8,10 @@ advance-requires c =
 
 pub returns-clause-ok : goal.returns-clause-ok
 returns-clause-ok c = λ limit opened past asked.
-    c.in_ok-advance.ensures.ok limit opened past (next_with c.args.config.now c.args.run limit opened past c.args.coming.now c.args.state.now asked _ c.call_in.ensures)
+    c.in_ok-advance.ensures.ok limit opened past
+    (next_with c.args.config.now c.args.run limit opened past c.args.coming.now c.args.state.now asked _ c.call_in.ensures)
 
 pub returns-clause-decides : goal.returns-clause-decides
 returns-clause-decides c = λ limit opened past asked.
-    c.in_ok-decision.ensures.decides c.args.run opened past (told_comes c.args.config.now c.args.run limit opened past c.args.coming.now c.args.state.now asked c.requires.kind)
+    c.in_ok-decision.ensures.decides c.args.run opened past
+    (told_comes c.args.config.now c.args.run limit opened past c.args.coming.now c.args.state.now asked c.requires.kind)

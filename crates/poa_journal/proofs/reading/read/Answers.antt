@@ -8,8 +8,10 @@ use Rattle.poa_journal.proofs.reading.read.Goals as goal
 
 pub returns-clause-bad : goal.returns-clause-bad
 returns-clause-bad c = λ line is journal whole same.
-    first_bad line _ journal (subst (λ (r : Result Journal JournalFault). JournalReads contents r (contents_of c.args.bytes.now)) is c.read_lines.ensures.value) whole same
+    first_bad line _ journal (subst (λ (r : Result Journal JournalFault). JournalReads contents r (contents_of c.args.bytes.now)) is c.read_lines.ensures.value)
+    whole same
 
 pub returns-clause-back : goal.returns-clause-back
 returns-clause-back c = λ journal whole text.
-    subst (λ (meant : Result Contents ℕ). JournalReads contents c.read_lines.result meant) (ap contents_of text ∙ journal_back journal whole) c.read_lines.ensures.value
+    subst (λ (meant : Result Contents ℕ). JournalReads contents c.read_lines.result meant)
+    (ap contents_of text ∙ journal_back journal whole) c.read_lines.ensures.value

@@ -7,5 +7,6 @@ use Rattle.poa_journal.proofs.reading.read_head.Goals as goal
 
 pub returns-in-Ok-clause-text : goal.returns-in-Ok-clause-text
 returns-in-Ok-clause-text c =
-    line_spelled c.args.line.now (keyword (mark_word mark.Journal)) (keyword (mark_word mark.One) ∷ keyword (mark_word mark.Run) ∷ number (2 ^ 32) c.in-Ok.run' ∷ [])
+    line_spelled c.args.line.now (keyword (mark_word mark.Journal))
+    (keyword (mark_word mark.One) ∷ keyword (mark_word mark.Run) ∷ number (2 ^ 32) c.in-Ok.run' ∷ [])
     (sym c.in_ok-words.ensures ∙ ap (map (λ w. w.now)) (sym c.as_slice.ensures.value) ∙ c.in-Ok.ensures.text)

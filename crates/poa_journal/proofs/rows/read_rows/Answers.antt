@@ -22,5 +22,6 @@ loop-next-preserved c =
     (map (λ w. w.now) c.in-Some-row_words.more.now) c.in_ok-place.place c.in_ok-place.state
     c.loop-next.invariant c.in-Some.ensures.lines c.in-Some.ensures.shorter
     (ap row_words_of cut ∙ sym c.in-Some-row_words.ensures.value) c.in_ok-place.ensures.value
-    (line_spelled c.in-Some.next.now (keyword (mark_word mark.Store)) (path c.in_ok-place.place.0 ∷ identity c.in_ok-place.place.1 ∷ state_tokens c.in_ok-place.state)
+    (line_spelled c.in-Some.next.now (keyword (mark_word mark.Store))
+    (path c.in_ok-place.place.0 ∷ identity c.in_ok-place.place.1 ∷ state_tokens c.in_ok-place.state)
     (cut ∙ c.in-Some-row_words.ensures.text ∙ c.in_ok-place.ensures.text)))

@@ -12,5 +12,6 @@ returns c =
     c.from_vec.ensures
     ∙ printed (head_tokens c.args.run) (map row_tokens (states c.args.opening.now)) (map entry_tokens c.args.entries.now) _ _ _
     c.in_ok-out.ensures
-    (c.in_ok-put_rows.ensures ∙ ap (λ rows. c.in_ok-out.out.items ++ text_of (map row_tokens rows)) (ap (map row_seen) c.as_slice.ensures.value ∙ c.in_ok-rows.ensures))
+    (c.in_ok-put_rows.ensures ∙ ap (λ rows. c.in_ok-out.out.items ++ text_of (map row_tokens rows))
+    (ap (map row_seen) c.as_slice.ensures.value ∙ c.in_ok-rows.ensures))
     c.in_ok-put_entries.ensures

@@ -5,4 +5,6 @@ use Rattle.poa_history.specs.Stages as begun
 use Rattle.poa_model.proofs.crowded.waiting_messages.Given as goal
 
 abbrev pub invariant-loop-arrival : goal.invariant-loop-arrival
-invariant-loop-arrival l = (l.count ≡ count_below (λ r. begun.is_unadmitted (reverse l.history) r && calls.is_message (calls.call_of (reverse l.history) r)) l.arrival) × (l.count ≤ l.arrival)
+invariant-loop-arrival l =
+    (l.count ≡ count_below (λ r. begun.is_unadmitted (reverse l.history) r && calls.is_message (calls.call_of (reverse l.history) r)) l.arrival)
+    × (l.count ≤ l.arrival)

@@ -8,5 +8,7 @@ returns-clause-conn g c = c.collect_within-collected.ensures.holds c.args.conn c
 pub returns-clause-next : goal.returns-clause-next
 returns-clause-next g c = λ givens given.
     (let e = c.collect_within-collected.ensures.collected givens given in
-    next_gathered givens c.args.conn (view c.args.seat.now) e.0 (view c.collect_within-collected.new.seat) e.1 c.requires.conn.owns c.collect_within-collected.result c.args.replies.now.items c.put_collected.new.replies.items c.put_collected.result e.2.0
+    next_gathered givens c.args.conn (view c.args.seat.now) e.0
+    (view c.collect_within-collected.new.seat) e.1 c.requires.conn.owns c.collect_within-collected.result c.args.replies.now.items
+    c.put_collected.new.replies.items c.put_collected.result e.2.0
     c.put_collected.ensures)

@@ -17,14 +17,18 @@ pub returns-in_default-clause-gathers : goal.returns-in_default-clause-gathers
 returns-in_default-clause-gathers g c = λ givens given.
     (let before = c.loop.invariant.gathers givens given in
     let next = c.in_default.ensures.next givens (before.adds.given ∙ given) in
-    gathers_lost givens c.args.conn (view c.args.seat.now) (view c.loop.seat) (view c.collect_next.new.seat) c.args.replies.now.items c.loop.replies.items before next.0 c.collect_next.new.replies.items _ next.1)
+    gathers_lost givens c.args.conn (view c.args.seat.now) (view c.loop.seat)
+    (view c.collect_next.new.seat) c.args.replies.now.items c.loop.replies.items before next.0 c.collect_next.new.replies.items _ next.1)
 
 pub returns-in-Some-next-clause-gathers : goal.returns-in-Some-next-clause-gathers
 returns-in-Some-next-clause-gathers g c = λ givens given.
     (let before = c.loop.invariant.gathers givens given in
-    let next = subst (λ o. NextGathered givens c.args.conn (view c.loop.seat) (view c.collect_next.new.seat) c.loop.replies.items c.collect_next.new.replies.items (Ok o)) c.in-Some-next.is
+    let next =
+    subst (λ o. NextGathered givens c.args.conn (view c.loop.seat) (view c.collect_next.new.seat) c.loop.replies.items c.collect_next.new.replies.items (Ok o))
+    c.in-Some-next.is
     (c.in-Ok.ensures.next givens (before.adds.given ∙ given)) in
-    gathers_all givens c.args.conn (view c.args.seat.now) (view c.loop.seat) (view c.collect_next.new.seat) c.args.replies.now.items c.loop.replies.items before c.in-Some-next.owed c.collect_next.new.replies.items next.0 next.1)
+    gathers_all givens c.args.conn (view c.args.seat.now) (view c.loop.seat)
+    (view c.collect_next.new.seat) c.args.replies.now.items c.loop.replies.items before c.in-Some-next.owed c.collect_next.new.replies.items next.0 next.1)
 
 pub loop-preserved : goal.loop-preserved
 loop-preserved g c = record {
@@ -33,7 +37,10 @@ loop-preserved g c = record {
   conn = c.in-Ok.ensures.conn;
   gathers = λ givens given.
       (let before = c.loop.invariant.gathers givens given in
-      let next = subst (λ o. NextGathered givens c.args.conn (view c.loop.seat) (view c.collect_next.new.seat) c.loop.replies.items c.collect_next.new.replies.items (Ok o)) c.in_default-next.is
+      let next =
+      subst (λ o. NextGathered givens c.args.conn (view c.loop.seat) (view c.collect_next.new.seat) c.loop.replies.items c.collect_next.new.replies.items
+      (Ok o)) c.in_default-next.is
       (c.in-Ok.ensures.next givens (before.adds.given ∙ given)) in
-      gathers_one givens c.args.conn (view c.args.seat.now) (view c.loop.seat) (view c.collect_next.new.seat) c.args.replies.now.items c.loop.replies.items before next.0 c.collect_next.new.replies.items next.1 next.2);
+      gathers_one givens c.args.conn (view c.args.seat.now) (view c.loop.seat)
+      (view c.collect_next.new.seat) c.args.replies.now.items c.loop.replies.items before next.0 c.collect_next.new.replies.items next.1 next.2);
 }

@@ -11,5 +11,6 @@ invariant-loop g l = record {
   ends : (goal.iterator-loop g).can_next l.iterator' × (goal.iterator-loop g).is_finite l.iterator';
   seat : IsIdle l.shared l.seat;
   conn : HoldsConnection (view l.seat) l.conn;
-  gathers : (givens : Givens) → (view l.initial.seat).givens ≡ Some givens → GathersOn givens l.conn (view l.initial.seat) (view l.seat) l.initial.replies.items l.replies.items;
+  gathers : (givens : Givens) → (view l.initial.seat).givens ≡ Some givens
+      → GathersOn givens l.conn (view l.initial.seat) (view l.seat) l.initial.replies.items l.replies.items;
 }

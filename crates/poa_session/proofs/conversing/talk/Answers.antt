@@ -13,7 +13,8 @@ loop-init g c = record {
   ready = c.requires.aid;
   aids = aids_none c.args.aid.now.seat;
   conn = c.requires.conn;
-  sits = λ givens given. sits_new givens c.args.peer c.args.conn (view c.args.seat.now) (g.L.Link.shown c.args.link.now) c.args.input.now c.requires.fresh c.requires.taken;
+  sits = λ givens given. sits_new givens c.args.peer c.args.conn (view c.args.seat.now)
+      (g.L.Link.shown c.args.link.now) c.args.input.now c.requires.fresh c.requires.taken;
   writes = omega arith;
   buffer = c.requires.buffer;
 }
@@ -27,7 +28,8 @@ loop-preserved g c = record {
   conn = c.in-On.ensures.conn;
   sits = λ givens given.
       (let before = c.loop.invariant.sits givens given in
-      sits_on givens c.args.peer c.args.conn (view c.args.seat.now) (g.L.Link.shown c.args.link.now) (view c.loop.seat) (g.L.Link.shown c.loop.link) c.loop.input before (view c.round.new.seat) (g.L.Link.shown c.round.new.link) c.round.new.input
+      sits_on givens c.args.peer c.args.conn (view c.args.seat.now) (g.L.Link.shown c.args.link.now) (view c.loop.seat)
+      (g.L.Link.shown c.loop.link) c.loop.input before (view c.round.new.seat) (g.L.Link.shown c.round.new.link) c.round.new.input
       (c.in-On.ensures.rounds givens (before.adds.given ∙ given) c.args.peer));
   writes = (let was = c.loop.invariant.writes in let more = c.in-On.ensures.written.later in omega (arith, was, more));
   buffer = subst (λ n. 0 < n) (sym c.in-On.ensures.buffer) c.loop.invariant.buffer;
@@ -37,13 +39,16 @@ pub returns-in-Ends-clause-converses : goal.returns-in-Ends-clause-converses
 returns-in-Ends-clause-converses g c = λ givens given.
     (let before = c.loop.invariant.sits givens given in
     let went = c.in-Ends.ensures.rounds givens (before.adds.given ∙ given) c.args.peer in
-    sits_ended givens c.args.peer c.args.conn (view c.args.seat.now) (g.L.Link.shown c.args.link.now) (view c.loop.seat) (g.L.Link.shown c.loop.link) c.loop.input before (view c.round.new.seat) (g.L.Link.shown c.round.new.link) c.round.new.input
-    c.in-Ends.end c.settle.result (view c.settle.new.seat) (g.L.Link.shown c.settle.new.link) went (c.settle.ensures.settles givens (went.adds.given ∙ (before.adds.given ∙ given))))
+    sits_ended givens c.args.peer c.args.conn (view c.args.seat.now) (g.L.Link.shown c.args.link.now) (view c.loop.seat)
+    (g.L.Link.shown c.loop.link) c.loop.input before (view c.round.new.seat) (g.L.Link.shown c.round.new.link) c.round.new.input
+    c.in-Ends.end c.settle.result (view c.settle.new.seat) (g.L.Link.shown c.settle.new.link) went
+    (c.settle.ensures.settles givens (went.adds.given ∙ (before.adds.given ∙ given))))
 
 pub returns-in-Broke-clause-converses : goal.returns-in-Broke-clause-converses
 returns-in-Broke-clause-converses g c = λ givens given.
     (let before = c.loop.invariant.sits givens given in
-    sits_broken givens c.args.peer c.args.conn (view c.args.seat.now) (g.L.Link.shown c.args.link.now) (view c.loop.seat) (g.L.Link.shown c.loop.link) c.loop.input before (view c.round.new.seat) (g.L.Link.shown c.round.new.link) c.round.new.input
+    sits_broken givens c.args.peer c.args.conn (view c.args.seat.now) (g.L.Link.shown c.args.link.now) (view c.loop.seat)
+    (g.L.Link.shown c.loop.link) c.loop.input before (view c.round.new.seat) (g.L.Link.shown c.round.new.link) c.round.new.input
     c.in-Broke.end (c.in-Broke.ensures.rounds givens (before.adds.given ∙ given) c.args.peer))
 
 pub returns-in-Ends-clause-read : goal.returns-in-Ends-clause-read
@@ -54,7 +59,8 @@ returns-in-Ends-clause-read g c = λ givens given.
     let moved = (c.settle.ensures.settles givens (went.adds.given ∙ (before.adds.given ∙ given))).moved in
     record {
       later = le_trans before.moved.read_faults (le_trans cause.later moved.read_faults);
-      rose = λ is. rose_before _ _ _ before.moved.read_faults (rose_after _ _ _ cause.later (cause.rose (ap Ends (c.settle.ensures.read is))) moved.read_faults);
+      rose = λ is. rose_before _ _ _ before.moved.read_faults
+          (rose_after _ _ _ cause.later (cause.rose (ap Ends (c.settle.ensures.read is))) moved.read_faults);
     })
 
 pub returns-in-Ends-clause-written : goal.returns-in-Ends-clause-written

@@ -14,7 +14,8 @@ invariant-loop g l = record {
   ready : IsReady l.shared l.aid.seat;
   aids : Aids l.initial.aid.seat l.aid.seat;
   conn : HoldsConnection (view l.seat) l.conn;
-  sits : (givens : Givens) → (view l.initial.seat).givens ≡ Some givens → Sits givens l.peer l.conn (view l.initial.seat) (g.L.Link.shown l.initial.link) (view l.seat) (g.L.Link.shown l.link) l.input;
+  sits : (givens : Givens) → (view l.initial.seat).givens ≡ Some givens
+      → Sits givens l.peer l.conn (view l.initial.seat) (g.L.Link.shown l.initial.link) (view l.seat) (g.L.Link.shown l.link) l.input;
   writes : (g.L.Link.shown l.initial.link).write_faults ≤ (g.L.Link.shown l.link).write_faults;
   buffer : 0 < length l.buffer;
 }

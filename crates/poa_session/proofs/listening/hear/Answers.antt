@@ -5,11 +5,13 @@ use Rattle.poa_session.proofs.Heard.{hears_bad, hears_call, hears_closed, hears_
 use Rattle.poa_session.proofs.listening.hear.Goals as goal
 
 pub returns-in_default-clause-hears : goal.returns-in_default-clause-hears
-returns-in_default-clause-hears g c = λ givens given peer. hears_lost givens peer c.args.conn (view c.args.seat.now) c.args.input.now c.next.new.self c.in_default.ensures.taken
+returns-in_default-clause-hears g c =
+    λ givens given peer. hears_lost givens peer c.args.conn (view c.args.seat.now) c.args.input.now c.next.new.self c.in_default.ensures.taken
 
 pub returns-in-Call-clause-hears : goal.returns-in-Call-clause-hears
 returns-in-Call-clause-hears g c = λ givens given peer.
-    hears_call givens peer c.args.conn (view c.args.seat.now) c.args.input.now c.next.new.self c.in-Ok.ensures.taken (view c.arrive.new.seat) c.in-Call.call c.in-Call.size c.arrive.result
+    hears_call givens peer c.args.conn (view c.args.seat.now) c.args.input.now c.next.new.self c.in-Ok.ensures.taken
+    (view c.arrive.new.seat) c.in-Call.call c.in-Call.size c.arrive.result
     (subst (λ t. AsTold t (OfIntake c.args.input.now) (OfIntake c.next.new.self)) c.in-Call.is c.in-Ok.ensures.told) (c.arrive.ensures.arrives givens given)
 
 pub returns-in-Nothing-clause-hears : goal.returns-in-Nothing-clause-hears

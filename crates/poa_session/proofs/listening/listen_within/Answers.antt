@@ -19,20 +19,25 @@ loop-preserved g c = record {
   conn = c.in-On.ensures.conn;
   hears = λ givens given peer.
       (let before = c.loop.invariant.hears givens given peer in
-      hears_then givens peer c.args.conn (view c.args.seat.now) (view c.loop.seat) (view c.hear.new.seat) c.args.input.now c.loop.input c.hear.new.input On before
+      hears_then givens peer c.args.conn (view c.args.seat.now) (view c.loop.seat)
+      (view c.hear.new.seat) c.args.input.now c.loop.input c.hear.new.input On before
       (c.in-On.ensures.hears givens (before.adds.given ∙ given) peer));
 }
 
 pub returns-in-Waits-clause-listens : goal.returns-in-Waits-clause-listens
 returns-in-Waits-clause-listens g c = λ givens given peer.
     (let before = c.loop.invariant.hears givens given peer in
-    let all = hears_then givens peer c.args.conn (view c.args.seat.now) (view c.loop.seat) (view c.hear.new.seat) c.args.input.now c.loop.input c.hear.new.input (Waits c.in-Waits.have) before
+    let all =
+    hears_then givens peer c.args.conn (view c.args.seat.now) (view c.loop.seat) (view c.hear.new.seat) c.args.input.now c.loop.input c.hear.new.input
+    (Waits c.in-Waits.have) before
     (c.in-Waits.ensures.hears givens (before.adds.given ∙ given) peer) in
     record { calls = all.calls; adds = all.adds; heard = all.heard; taken = all.taken })
 
 pub returns-in-Ends-clause-listens : goal.returns-in-Ends-clause-listens
 returns-in-Ends-clause-listens g c = λ givens given peer.
     (let before = c.loop.invariant.hears givens given peer in
-    let all = hears_then givens peer c.args.conn (view c.args.seat.now) (view c.loop.seat) (view c.hear.new.seat) c.args.input.now c.loop.input c.hear.new.input (Ends c.in-Ends.end) before
+    let all =
+    hears_then givens peer c.args.conn (view c.args.seat.now) (view c.loop.seat) (view c.hear.new.seat) c.args.input.now c.loop.input c.hear.new.input
+    (Ends c.in-Ends.end) before
     (c.in-Ends.ensures.hears givens (before.adds.given ∙ given) peer) in
     record { calls = all.calls; adds = all.adds; heard = all.heard; taken = all.taken })

@@ -13,5 +13,6 @@ invariant-loop g l = record {
   ends : (goal.iterator-loop g).can_next l.iterator' × (goal.iterator-loop g).is_finite l.iterator';
   seat : IsIdle l.shared l.seat;
   conn : HoldsConnection (view l.seat) l.conn;
-  hears : (givens : Givens) → (view l.initial.seat).givens ≡ Some givens → (peer : Peer) → Hears givens peer l.conn (view l.initial.seat) l.initial.input (view l.seat) l.input On;
+  hears : (givens : Givens) → (view l.initial.seat).givens ≡ Some givens → (peer : Peer)
+      → Hears givens peer l.conn (view l.initial.seat) l.initial.input (view l.seat) l.input On;
 }

@@ -19,17 +19,22 @@ pub returns-in-Err-clause-pays : goal.returns-in-Err-clause-pays
 returns-in-Err-clause-pays g c = λ givens given.
     (let before = c.loop.invariant.pays givens given in
     let same = ap (λ m. m.0) c.listen-heard.ensures.same.2 in
-    pays_broken givens c.args.conn (view c.args.seat.now) (g.L.Link.shown c.args.link.now) (view c.loop.seat) (g.L.Link.shown c.loop.link) before (view c.collect_all.new.seat) (g.L.Link.shown c.collect_all.new.link) c.in-Err.broken
-    (subst (λ v. Pays givens c.args.conn v (g.L.Link.shown c.loop.link) (view c.collect_all.new.seat) (g.L.Link.shown c.collect_all.new.link) (Err c.in-Err.broken)) same
+    pays_broken givens c.args.conn (view c.args.seat.now) (g.L.Link.shown c.args.link.now) (view c.loop.seat) (g.L.Link.shown c.loop.link) before
+    (view c.collect_all.new.seat) (g.L.Link.shown c.collect_all.new.link) c.in-Err.broken
+    (subst (λ v. Pays givens c.args.conn v (g.L.Link.shown c.loop.link) (view c.collect_all.new.seat) (g.L.Link.shown c.collect_all.new.link)
+    (Err c.in-Err.broken)) same
     (c.in-Err.ensures.pays givens (ap (λ v. v.givens) same ∙ (before.adds.given ∙ given)))))
 
 pub returns-then-owed-eq0-clause-pays : goal.returns-then-owed-eq0-clause-pays
 returns-then-owed-eq0-clause-pays g c = λ givens given.
     (let before = c.loop.invariant.pays givens given in
     let same = ap (λ m. m.0) c.listen-heard.ensures.same.2 in
-    let paid = subst (λ v. Pays givens c.args.conn v (g.L.Link.shown c.loop.link) (view c.collect_all.new.seat) (g.L.Link.shown c.collect_all.new.link) (Ok c.in-Ok.owed)) same
+    let paid =
+    subst (λ v. Pays givens c.args.conn v (g.L.Link.shown c.loop.link) (view c.collect_all.new.seat) (g.L.Link.shown c.collect_all.new.link) (Ok c.in-Ok.owed))
+    same
     (c.in-Ok.ensures.pays givens (ap (λ v. v.givens) same ∙ (before.adds.given ∙ given))) in
-    pays_all givens c.args.conn (view c.args.seat.now) (g.L.Link.shown c.args.link.now) (view c.loop.seat) (g.L.Link.shown c.loop.link) before (view c.collect_all.new.seat) (g.L.Link.shown c.collect_all.new.link)
+    pays_all givens c.args.conn (view c.args.seat.now) (g.L.Link.shown c.args.link.now) (view c.loop.seat) (g.L.Link.shown c.loop.link) before
+    (view c.collect_all.new.seat) (g.L.Link.shown c.collect_all.new.link)
     c.in-Ok.owed paid c.if-owed-eq0.true)
 
 pub returns-in-Some-given_up-clause-conn : goal.returns-in-Some-given_up-clause-conn
@@ -39,11 +44,15 @@ pub returns-in-Some-given_up-clause-pays : goal.returns-in-Some-given_up-clause-
 returns-in-Some-given_up-clause-pays g c = λ givens given.
     (let before = c.loop.invariant.pays givens given in
     let same = ap (λ m. m.0) c.listen-heard.ensures.same.2 in
-    let paid = subst (λ v. Pays givens c.args.conn v (g.L.Link.shown c.loop.link) (view c.collect_all.new.seat) (g.L.Link.shown c.collect_all.new.link) (Ok c.in-Ok.owed)) same
+    let paid =
+    subst (λ v. Pays givens c.args.conn v (g.L.Link.shown c.loop.link) (view c.collect_all.new.seat) (g.L.Link.shown c.collect_all.new.link) (Ok c.in-Ok.owed))
+    same
     (c.in-Ok.ensures.pays givens (ap (λ v. v.givens) same ∙ (before.adds.given ∙ given))) in
-    pays_abandoned givens c.args.conn (view c.args.seat.now) (g.L.Link.shown c.args.link.now) (view c.loop.seat) (g.L.Link.shown c.loop.link) before (view c.collect_all.new.seat) (g.L.Link.shown c.collect_all.new.link)
+    pays_abandoned givens c.args.conn (view c.args.seat.now) (g.L.Link.shown c.args.link.now) (view c.loop.seat) (g.L.Link.shown c.loop.link) before
+    (view c.collect_all.new.seat) (g.L.Link.shown c.collect_all.new.link)
     c.in-Ok.owed paid c.in-Ok.ensures.conn.owns (view c.look-end.new.seat) c.in-Some-given_up.worker
-    (subst (Looks givens (view c.collect_all.new.seat) (view c.look-end.new.seat)) c.in-Some-given_up.ensures (c.look-end.ensures.looks givens (paid.adds.given ∙ (before.adds.given ∙ given)))))
+    (subst (Looks givens (view c.collect_all.new.seat) (view c.look-end.new.seat)) c.in-Some-given_up.ensures
+    (c.look-end.ensures.looks givens (paid.adds.given ∙ (before.adds.given ∙ given)))))
 
 pub loop-preserved : goal.loop-preserved
 loop-preserved g c = record {
@@ -53,9 +62,13 @@ loop-preserved g c = record {
   pays = λ givens given.
       (let before = c.loop.invariant.pays givens given in
       let same = ap (λ m. m.0) c.listen-heard.ensures.same.2 in
-      let paid = subst (λ v. Pays givens c.args.conn v (g.L.Link.shown c.loop.link) (view c.collect_all.new.seat) (g.L.Link.shown c.collect_all.new.link) (Ok c.in-Ok.owed)) same
+      let paid =
+      subst (λ v. Pays givens c.args.conn v (g.L.Link.shown c.loop.link) (view c.collect_all.new.seat) (g.L.Link.shown c.collect_all.new.link)
+      (Ok c.in-Ok.owed)) same
       (c.in-Ok.ensures.pays givens (ap (λ v. v.givens) same ∙ (before.adds.given ∙ given))) in
-      pays_on givens c.args.conn (view c.args.seat.now) (g.L.Link.shown c.args.link.now) (view c.loop.seat) (g.L.Link.shown c.loop.link) before (view c.collect_all.new.seat) (g.L.Link.shown c.collect_all.new.link)
-      c.in-Ok.owed paid c.in-Ok.ensures.conn.owns (view c.look-end.new.seat) c.look-end.result (c.look-end.ensures.looks givens (paid.adds.given ∙ (before.adds.given ∙ given))));
+      pays_on givens c.args.conn (view c.args.seat.now) (g.L.Link.shown c.args.link.now) (view c.loop.seat) (g.L.Link.shown c.loop.link) before
+      (view c.collect_all.new.seat) (g.L.Link.shown c.collect_all.new.link)
+      c.in-Ok.owed paid c.in-Ok.ensures.conn.owns (view c.look-end.new.seat) c.look-end.result
+      (c.look-end.ensures.looks givens (paid.adds.given ∙ (before.adds.given ∙ given))));
   counts = (let was = c.loop.invariant.counts in let more = c.in-Ok.ensures.failed.later in omega (arith, was, more));
 }

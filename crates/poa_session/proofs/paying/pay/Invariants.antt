@@ -11,6 +11,7 @@ invariant-loop g l = record {
   ends : (goal.iterator-loop g).can_next l.iterator' × (goal.iterator-loop g).is_finite l.iterator';
   seat : IsIdle l.shared l.seat;
   conn : HoldsConnection (view l.seat) l.conn;
-  pays : (givens : Givens) → (view l.initial.seat).givens ≡ Some givens → PaysOn givens l.conn (view l.initial.seat) (g.L.Link.shown l.initial.link) (view l.seat) (g.L.Link.shown l.link);
+  pays : (givens : Givens) → (view l.initial.seat).givens ≡ Some givens
+      → PaysOn givens l.conn (view l.initial.seat) (g.L.Link.shown l.initial.link) (view l.seat) (g.L.Link.shown l.link);
   counts : (g.L.Link.shown l.initial.link).write_faults ≤ (g.L.Link.shown l.link).write_faults;
 }

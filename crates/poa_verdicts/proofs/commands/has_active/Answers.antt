@@ -11,4 +11,5 @@ returns c =
     c.is_any_active.ensures
     ∙ ap (λ id. list_any (λ a. is_of c.args.adapter id a && is_active a) c.deref.result.now) c.as_slice.ensures.value
     ∙ ap (list_any (λ a. is_of c.args.adapter c.args.oid.now a && is_active a)) c.deref.ensures.value
-    ∙ sym (any_behind (λ a. is_of c.args.adapter c.args.oid.now a && is_active a) (second_fails (is_of c.args.adapter c.args.oid.now forgotten) _ refl) s.forgotten s.activations.items))
+    ∙ sym (any_behind (λ a. is_of c.args.adapter c.args.oid.now a && is_active a)
+    (second_fails (is_of c.args.adapter c.args.oid.now forgotten) _ refl) s.forgotten s.activations.items))

@@ -12,4 +12,5 @@ returns c =
     c.is_any_kept.ensures
     ∙ ap (λ id. list_any (λ a. is_of c.args.adapter id a && not (is_over c.args.config.now a)) c.deref.result.now) c.as_slice.ensures.value
     ∙ ap (list_any (λ a. is_of c.args.adapter c.args.oid.now a && not (is_over c.args.config.now a))) c.deref.ensures.value
-    ∙ sym (any_behind (λ a. is_of c.args.adapter c.args.oid.now a && not (is_over c.args.config.now a)) (second_fails (is_of c.args.adapter c.args.oid.now forgotten) _ refl) s.forgotten s.activations.items))
+    ∙ sym (any_behind (λ a. is_of c.args.adapter c.args.oid.now a && not (is_over c.args.config.now a))
+    (second_fails (is_of c.args.adapter c.args.oid.now forgotten) _ refl) s.forgotten s.activations.items))

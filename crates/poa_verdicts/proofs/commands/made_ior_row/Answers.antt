@@ -8,5 +8,6 @@ use Rattle.poa_verdicts.proofs.commands.made_ior_row.Goals as goal
 
 pub returns : goal.returns
 returns c =
-    subst (λ o. IfOk c.ior_row.result (λ v. v ≡ Some (Answer (GoodIor (reference_text c.args.config.now c.args.run c.args.node.now.number c.args.path.now o c.args.servant)))))
+    subst (λ o. IfOk c.ior_row.result
+    (λ v. v ≡ Some (Answer (GoodIor (reference_text c.args.config.now c.args.run c.args.node.now.number c.args.path.now o c.args.servant)))))
     (c.in_ok-oid.ensures ∙ ap (made_id c.args.run) c.in_ok-ordinal.ensures) c.ior_row.ensures

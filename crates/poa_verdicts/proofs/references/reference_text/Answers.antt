@@ -6,7 +6,10 @@ use Rattle.poa_verdicts.proofs.references.reference_text.Goals as goal
 
 pub returns : goal.returns
 returns c =
-    subst (λ k. IfOk c.write_reference.result (λ text. text ≡ reference_at (record { host = c.args.config.now.host; port = c.args.config.now.port }) (references.type_of c.args.config.now c.args.servant) k)) c.in_ok-key.ensures
-    (subst (λ t. IfOk c.write_reference.result (λ text. text ≡ reference_at (record { host = c.args.config.now.host; port = c.args.config.now.port }) t c.in_ok-key.key)) c.type_of.ensures
+    subst (λ k. IfOk c.write_reference.result
+    (λ text. text ≡ reference_at (record { host = c.args.config.now.host; port = c.args.config.now.port })
+    (references.type_of c.args.config.now c.args.servant) k)) c.in_ok-key.ensures
+    (subst (λ t. IfOk c.write_reference.result
+    (λ text. text ≡ reference_at (record { host = c.args.config.now.host; port = c.args.config.now.port }) t c.in_ok-key.key)) c.type_of.ensures
     (subst (λ e. IfOk c.write_reference.result (λ text. text ≡ reference_at e c.type_of.result.now c.in_ok-key.key)) c.in_ok-endpoint.ensures
     c.write_reference.ensures))

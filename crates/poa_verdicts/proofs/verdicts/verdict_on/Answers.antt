@@ -10,5 +10,6 @@ unfolding verdict
 returns-in-Line c = λ past r answers tells crowded arrived.
     (let config = c.args.config.now in
     subst (λ v. IfOk c.command_verdict.result (λ verdict. verdict ≡ v))
-    (command_same config c.args.run past (seen c.args.standing.now) answers c.in-Line.command ∙ ap (verdict_on config c.args.run past r c.args.worker) (sym (arrived ∙ ap (λ x. Some x) c.in-Line.is)))
+    (command_same config c.args.run past (seen c.args.standing.now) answers c.in-Line.command
+    ∙ ap (verdict_on config c.args.run past r c.args.worker) (sym (arrived ∙ ap (λ x. Some x) c.in-Line.is)))
     (c.command_verdict.ensures past tells))

@@ -12,7 +12,8 @@ use Rattle.poa_worker.proofs.turning.turns_within.Goals as goal
 pub returns-in_err-step_within-clause-turned : goal.returns-in_err-step_within-clause-turned
 returns-in_err-step_within-clause-turned g c = λ k given.
     let failed = err_from_is_err_and c.from_residual.result c.from_residual.ensures.1 in (
-      steps_on c.args.worker c.step_within.result (view c.args.seat.now) (view c.loop.seat) (view c.step_within.new.seat) c.loop.invariant.so_far c.step_within.ensures.stepped k given,
+      steps_on c.args.worker c.step_within.result (view c.args.seat.now) (view c.loop.seat)
+          (view c.step_within.new.seat) c.loop.invariant.so_far c.step_within.ensures.stepped k given,
       subst (λ r. IsPaused k c.args.worker r (view c.step_within.new.seat)) (sym failed.1) tt,
     )
 
@@ -20,7 +21,8 @@ pub returns-then-not-is_open-clause-turned : goal.returns-then-not-is_open-claus
 returns-then-not-is_open-clause-turned g c = λ k given.
     let is : c.step_within.result ≡ Ok (step_out.Did c.in-Did.point) = cc in
     let so_far = c.loop.invariant.so_far k given in (
-      steps_on c.args.worker c.step_within.result (view c.args.seat.now) (view c.loop.seat) (view c.step_within.new.seat) c.loop.invariant.so_far c.step_within.ensures.stepped k given,
+      steps_on c.args.worker c.step_within.result (view c.args.seat.now) (view c.loop.seat)
+          (view c.step_within.new.seat) c.loop.invariant.so_far c.step_within.ensures.stepped k given,
       step_did c.args.worker k (view c.loop.seat) (view c.step_within.new.seat) (so_far.given ∙ given) c.in-Did.point
           (subst (λ r. Event (λ old new. Steps c.args.worker old r new) (view c.loop.seat) (view c.step_within.new.seat)) is c.step_within.ensures.stepped),
     )
@@ -29,7 +31,8 @@ pub returns-in-Idle-clause-turned : goal.returns-in-Idle-clause-turned
 returns-in-Idle-clause-turned g c = λ k given.
     let is : c.step_within.result ≡ Ok (step_out.Idle c.in-Idle.over) = cc in
     let so_far = c.loop.invariant.so_far k given in (
-      steps_on c.args.worker c.step_within.result (view c.args.seat.now) (view c.loop.seat) (view c.step_within.new.seat) c.loop.invariant.so_far c.step_within.ensures.stepped k given,
+      steps_on c.args.worker c.step_within.result (view c.args.seat.now) (view c.loop.seat)
+          (view c.step_within.new.seat) c.loop.invariant.so_far c.step_within.ensures.stepped k given,
       step_idle c.args.worker k (view c.loop.seat) (view c.step_within.new.seat) (so_far.given ∙ given) c.in-Idle.over
           (subst (λ r. Event (λ old new. Steps c.args.worker old r new) (view c.loop.seat) (view c.step_within.new.seat)) is c.step_within.ensures.stepped),
     )
@@ -38,7 +41,8 @@ pub returns-in-Stopped-clause-turned : goal.returns-in-Stopped-clause-turned
 returns-in-Stopped-clause-turned g c = λ k given.
     let is : c.step_within.result ≡ Ok step_out.Stopped = cc in
     let so_far = c.loop.invariant.so_far k given in (
-      steps_on c.args.worker c.step_within.result (view c.args.seat.now) (view c.loop.seat) (view c.step_within.new.seat) c.loop.invariant.so_far c.step_within.ensures.stepped k given,
+      steps_on c.args.worker c.step_within.result (view c.args.seat.now) (view c.loop.seat)
+          (view c.step_within.new.seat) c.loop.invariant.so_far c.step_within.ensures.stepped k given,
       step_stopped c.args.worker k (view c.loop.seat) (view c.step_within.new.seat) (so_far.given ∙ given)
           (subst (λ r. Event (λ old new. Steps c.args.worker old r new) (view c.loop.seat) (view c.step_within.new.seat)) is c.step_within.ensures.stepped),
     )
@@ -46,5 +50,7 @@ returns-in-Stopped-clause-turned g c = λ k given.
 pub loop-preserved : goal.loop-preserved
 loop-preserved g c = record {
   seat = c.step_within.ensures.seat;
-  so_far = steps_on c.args.worker c.step_within.result (view c.args.seat.now) (view c.loop.seat) (view c.step_within.new.seat) c.loop.invariant.so_far c.step_within.ensures.stepped;
+  so_far =
+      steps_on c.args.worker c.step_within.result (view c.args.seat.now) (view c.loop.seat)
+      (view c.step_within.new.seat) c.loop.invariant.so_far c.step_within.ensures.stepped;
 }

@@ -17,7 +17,14 @@ returns-in_default-new-clause-answers g c = run_refused _ _ _
 
 pub loop-taken-init : goal.loop-taken-init
 loop-taken-init g c = record {
-  runs = run_starts _ _ _ c.in-Ok-new.service c.in-Ok-new.ensures.served c.in-Ok-new.ensures.reached c.in-Ok-new.ensures.core c.in-Ok-new.ensures.replies c.in-Ok-new.ensures.waiting (record { legal = c.entries.ensures.legal; lifetime = c.entries.ensures.lifetime; undone = c.entries.ensures.undone; updates = c.entries.ensures.updates });
+  runs = run_starts _ _ _ c.in-Ok-new.service c.in-Ok-new.ensures.served c.in-Ok-new.ensures.reached c.in-Ok-new.ensures.core c.in-Ok-new.ensures.replies
+      c.in-Ok-new.ensures.waiting
+      (record {
+        legal = c.entries.ensures.legal;
+        lifetime = c.entries.ensures.lifetime;
+        undone = c.entries.ensures.undone;
+        updates = c.entries.ensures.updates;
+      });
   ready = ready_first c.args.config c.in-Ok-new.service c.in-Ok-new.ensures.core c.in-Ok-new.ensures.limited;
   within = omega arith;
   room_is = c.in-Ok.ensures.len;
@@ -27,17 +34,32 @@ loop-taken-init g c = record {
 }
 
 pub returns-in-Some-clause-answers : goal.returns-in-Some-clause-answers
-returns-in-Some-clause-answers g c = run_ends _ c.in-Some.status _ _ _ _ _ _ c.loop-taken.taken (take c.in-Got.count c.read_front.new.buffer) c.loop-taken.service c.take_piece.new.service c.loop-taken.invariant.runs c.in-Got.ensures.bytes (piece_same _ _ (take c.in-Got.count c.read_front.new.buffer) c.loop-taken.service c.take_piece.new.service _ _ (cut_piece c.in-Got.count c.loop-taken.buffer.len c.deref.result.now c.read_front.new.buffer _ c.deref.ensures.value (omega (arith, c.in-Got.ensures.within.1, c.deref_mut.ensures.len)) (omega (arith, c.in-Got.ensures.within.1, c.read_front.auto.buffer))) c.in-Some.ensures.takes)
+returns-in-Some-clause-answers g c =
+    run_ends _ c.in-Some.status _ _ _ _ _ _ c.loop-taken.taken
+    (take c.in-Got.count c.read_front.new.buffer) c.loop-taken.service c.take_piece.new.service c.loop-taken.invariant.runs c.in-Got.ensures.bytes
+    (piece_same _ _ (take c.in-Got.count c.read_front.new.buffer) c.loop-taken.service c.take_piece.new.service _ _
+    (cut_piece c.in-Got.count c.loop-taken.buffer.len c.deref.result.now c.read_front.new.buffer _ c.deref.ensures.value
+    (omega (arith, c.in-Got.ensures.within.1, c.deref_mut.ensures.len)) (omega (arith, c.in-Got.ensures.within.1, c.read_front.auto.buffer)))
+    c.in-Some.ensures.takes)
 
 pub returns-in-Some-clause-read : goal.returns-in-Some-clause-read
-returns-in-Some-clause-read g c = cause_still _ _ _ (omega (arith, c.loop-taken.invariant.reads, c.in-Got.ensures.failed.later)) (λ e. subst (λ (status : Status). EndsPiece status c.in-Some.ensures.takes.why (unadmitted c.in-Some.ensures.takes.life.history)) e c.in-Some.ensures.takes.ends)
+returns-in-Some-clause-read g c =
+    cause_still _ _ _ (omega (arith, c.loop-taken.invariant.reads, c.in-Got.ensures.failed.later))
+    (λ e. subst (λ (status : Status). EndsPiece status c.in-Some.ensures.takes.why (unadmitted c.in-Some.ensures.takes.life.history)) e
+    c.in-Some.ensures.takes.ends)
 
 pub returns-in-Some-clause-written : goal.returns-in-Some-clause-written
 returns-in-Some-clause-written g c = cause_from _ _ _ _ _ c.loop-taken.invariant.writes c.in-Some.ensures.written (λ e. ap (λ (status : Status). Some status) e)
 
 pub loop-taken-preserved : goal.loop-taken-preserved
 loop-taken-preserved g c = record {
-  runs = run_goes_on _ _ _ _ _ _ _ c.loop-taken.taken c.in-Got.count (take c.in-Got.count c.read_front.new.buffer) c.loop-taken.service c.take_piece.new.service c.loop-taken.invariant.runs c.in-Got.ensures.bytes (length-take-le c.in-Got.count c.read_front.new.buffer (omega (arith, c.in-Got.ensures.within.1, c.read_front.auto.buffer))) (piece_same _ _ (take c.in-Got.count c.read_front.new.buffer) c.loop-taken.service c.take_piece.new.service _ _ (cut_piece c.in-Got.count c.loop-taken.buffer.len c.deref.result.now c.read_front.new.buffer _ c.deref.ensures.value (omega (arith, c.in-Got.ensures.within.1, c.deref_mut.ensures.len)) (omega (arith, c.in-Got.ensures.within.1, c.read_front.auto.buffer))) c.in_default-take_piece.ensures.takes);
+  runs = run_goes_on _ _ _ _ _ _ _ c.loop-taken.taken c.in-Got.count
+      (take c.in-Got.count c.read_front.new.buffer) c.loop-taken.service c.take_piece.new.service c.loop-taken.invariant.runs c.in-Got.ensures.bytes
+      (length-take-le c.in-Got.count c.read_front.new.buffer (omega (arith, c.in-Got.ensures.within.1, c.read_front.auto.buffer)))
+      (piece_same _ _ (take c.in-Got.count c.read_front.new.buffer) c.loop-taken.service c.take_piece.new.service _ _
+      (cut_piece c.in-Got.count c.loop-taken.buffer.len c.deref.result.now c.read_front.new.buffer _ c.deref.ensures.value
+      (omega (arith, c.in-Got.ensures.within.1, c.deref_mut.ensures.len)) (omega (arith, c.in-Got.ensures.within.1, c.read_front.auto.buffer)))
+      c.in_default-take_piece.ensures.takes);
   ready = c.take_piece.ensures.ready;
   within = omega (arith, c.in-Got.ensures.most.1);
   room_is = c.loop-taken.invariant.room_is;
@@ -48,16 +70,24 @@ loop-taken-preserved g c = record {
 
 pub returns-in-End-clause-answers : goal.returns-in-End-clause-answers
 returns-in-End-clause-answers g c =
-    run_finished _ c.ended.result _ _ _ _ c.loop-taken.taken c.loop-taken.service (run_still _ _ _ _ _ _ c.loop-taken.taken c.loop-taken.service c.loop-taken.invariant.runs (end_still _ _ c.in-End.ensures.bytes)) (end_left _ _ c.in-End.ensures.bytes) c.loop-taken-test.true c.ended.ensures
+    run_finished _ c.ended.result _ _ _ _ c.loop-taken.taken c.loop-taken.service
+    (run_still _ _ _ _ _ _ c.loop-taken.taken c.loop-taken.service c.loop-taken.invariant.runs (end_still _ _ c.in-End.ensures.bytes))
+    (end_left _ _ c.in-End.ensures.bytes) c.loop-taken-test.true c.ended.ensures
 
 pub returns-in-End-clause-read : goal.returns-in-End-clause-read
-returns-in-End-clause-read g c = cause_still _ _ _ (omega (arith, c.loop-taken.invariant.reads, c.in-End.ensures.failed.later)) (λ e. subst (λ (status : Status). EndsAt status c.loop-taken.service.waiting (unadmitted c.loop-taken.service.core.history)) e c.ended.ensures)
+returns-in-End-clause-read g c =
+    cause_still _ _ _ (omega (arith, c.loop-taken.invariant.reads, c.in-End.ensures.failed.later))
+    (λ e. subst (λ (status : Status). EndsAt status c.loop-taken.service.waiting (unadmitted c.loop-taken.service.core.history)) e c.ended.ensures)
 
 pub returns-in-End-clause-written : goal.returns-in-End-clause-written
-returns-in-End-clause-written g c = cause_still _ _ _ c.loop-taken.invariant.writes (λ e. subst (λ (status : Status). EndsAt status c.loop-taken.service.waiting (unadmitted c.loop-taken.service.core.history)) e c.ended.ensures)
+returns-in-End-clause-written g c =
+    cause_still _ _ _ c.loop-taken.invariant.writes
+    (λ e. subst (λ (status : Status). EndsAt status c.loop-taken.service.waiting (unadmitted c.loop-taken.service.core.history)) e c.ended.ensures)
 
 pub returns-in-Failed-clause-answers : goal.returns-in-Failed-clause-answers
-returns-in-Failed-clause-answers g c = run_fails _ _ _ _ _ c.loop-taken.taken c.loop-taken.service (run_still _ _ _ _ _ _ c.loop-taken.taken c.loop-taken.service c.loop-taken.invariant.runs c.in-Failed.ensures.bytes) c.loop-taken-test.true
+returns-in-Failed-clause-answers g c =
+    run_fails _ _ _ _ _ c.loop-taken.taken c.loop-taken.service
+    (run_still _ _ _ _ _ _ c.loop-taken.taken c.loop-taken.service c.loop-taken.invariant.runs c.in-Failed.ensures.bytes) c.loop-taken-test.true
 
 pub returns-in-Failed-clause-read : goal.returns-in-Failed-clause-read
 returns-in-Failed-clause-read g c = cause_from _ _ _ _ _ c.loop-taken.invariant.reads c.in-Failed.ensures.failed (λ _. refl)
@@ -66,7 +96,9 @@ pub returns-in-Failed-clause-written : goal.returns-in-Failed-clause-written
 returns-in-Failed-clause-written g c = cause_still _ _ _ c.loop-taken.invariant.writes (λ e. cc)
 
 pub returns-clause-answers : goal.returns-clause-answers
-returns-clause-answers g c = run_limited _ _ _ _ _ c.loop-taken.taken c.loop-taken.service c.loop-taken.invariant.runs (omega (arith, c.loop-taken.invariant.within, c.loop-taken-test.false))
+returns-clause-answers g c =
+    run_limited _ _ _ _ _ c.loop-taken.taken c.loop-taken.service c.loop-taken.invariant.runs
+    (omega (arith, c.loop-taken.invariant.within, c.loop-taken-test.false))
 
 pub returns-clause-read : goal.returns-clause-read
 returns-clause-read g c = cause_still _ _ _ c.loop-taken.invariant.reads (λ e. cc)

@@ -6,21 +6,33 @@ use Rattle.poad_cmd.specs.Commands.{Does}
 use Rattle.poad_cmd.proofs.run.run_command.Goals as goal
 
 pub returns-in-Answer-clause-does : goal.returns-in-Answer-clause-does
-returns-in-Answer-clause-does g c = subst (λ (k : Command). Does (seen k) c.answer_by.result (g.F.Files.contents c.args.host.now.files) (g.F.Files.contents c.answer_by.new.files) (g.S.Source.left c.args.host.now.source) (g.S.Source.left c.answer_by.new.source)
-    (g.K.Sink.held c.args.host.now.sink) (g.K.Sink.held c.answer_by.new.sink) c.args.host.now.source c.answer_by.new.source c.args.host.now.files c.answer_by.new.files)
+returns-in-Answer-clause-does g c =
+    subst (λ (k : Command). Does (seen k) c.answer_by.result (g.F.Files.contents c.args.host.now.files) (g.F.Files.contents c.answer_by.new.files)
+    (g.S.Source.left c.args.host.now.source) (g.S.Source.left c.answer_by.new.source)
+    (g.K.Sink.held c.args.host.now.sink) (g.K.Sink.held c.answer_by.new.sink) c.args.host.now.source c.answer_by.new.source c.args.host.now.files
+    c.answer_by.new.files)
     (sym c.in-Answer.is) c.answer_by.ensures.answers
 
 pub returns-in-Replay-clause-does : goal.returns-in-Replay-clause-does
-returns-in-Replay-clause-does g c = subst (λ (k : Command). Does (seen k) c.play_files.result (g.F.Files.contents c.args.host.now.files) (g.F.Files.contents c.play_files.new.files) (g.S.Source.left c.args.host.now.source) (g.S.Source.left c.args.host.now.source)
-    (g.K.Sink.held c.args.host.now.sink) (g.K.Sink.held c.play_files.new.sink) c.args.host.now.source c.args.host.now.source c.args.host.now.files c.play_files.new.files)
+returns-in-Replay-clause-does g c =
+    subst (λ (k : Command). Does (seen k) c.play_files.result (g.F.Files.contents c.args.host.now.files) (g.F.Files.contents c.play_files.new.files)
+    (g.S.Source.left c.args.host.now.source) (g.S.Source.left c.args.host.now.source)
+    (g.K.Sink.held c.args.host.now.sink) (g.K.Sink.held c.play_files.new.sink) c.args.host.now.source c.args.host.now.source c.args.host.now.files
+    c.play_files.new.files)
     (sym c.in-Replay.is) (c.play_files.ensures.plays, refl)
 
 pub returns-in-Check-clause-does : goal.returns-in-Check-clause-does
-returns-in-Check-clause-does g c = subst (λ (k : Command). Does (seen k) c.print_file.result (g.F.Files.contents c.args.host.now.files) (g.F.Files.contents c.print_file.new.files) (g.S.Source.left c.args.host.now.source) (g.S.Source.left c.args.host.now.source)
-    (g.K.Sink.held c.args.host.now.sink) (g.K.Sink.held c.print_file.new.sink) c.args.host.now.source c.args.host.now.source c.args.host.now.files c.print_file.new.files)
+returns-in-Check-clause-does g c =
+    subst (λ (k : Command). Does (seen k) c.print_file.result (g.F.Files.contents c.args.host.now.files) (g.F.Files.contents c.print_file.new.files)
+    (g.S.Source.left c.args.host.now.source) (g.S.Source.left c.args.host.now.source)
+    (g.K.Sink.held c.args.host.now.sink) (g.K.Sink.held c.print_file.new.sink) c.args.host.now.source c.args.host.now.source c.args.host.now.files
+    c.print_file.new.files)
     (sym c.in-Check.is) (c.print_file.ensures.filed, refl)
 
 pub returns-in-Iors-clause-does : goal.returns-in-Iors-clause-does
-returns-in-Iors-clause-does g c = subst (λ (k : Command). Does (seen k) c.print_file-in-Iors.result (g.F.Files.contents c.args.host.now.files) (g.F.Files.contents c.print_file-in-Iors.new.files) (g.S.Source.left c.args.host.now.source) (g.S.Source.left c.args.host.now.source)
-    (g.K.Sink.held c.args.host.now.sink) (g.K.Sink.held c.print_file-in-Iors.new.sink) c.args.host.now.source c.args.host.now.source c.args.host.now.files c.print_file-in-Iors.new.files)
+returns-in-Iors-clause-does g c =
+    subst (λ (k : Command). Does (seen k) c.print_file-in-Iors.result (g.F.Files.contents c.args.host.now.files)
+    (g.F.Files.contents c.print_file-in-Iors.new.files) (g.S.Source.left c.args.host.now.source) (g.S.Source.left c.args.host.now.source)
+    (g.K.Sink.held c.args.host.now.sink) (g.K.Sink.held c.print_file-in-Iors.new.sink) c.args.host.now.source c.args.host.now.source c.args.host.now.files
+    c.print_file-in-Iors.new.files)
     (sym c.in-Iors.is) (c.print_file-in-Iors.ensures.filed, refl)

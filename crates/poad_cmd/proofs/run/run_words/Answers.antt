@@ -15,30 +15,40 @@ returns-in-Ok-clause-untouched g c none = absurd (not_none (seen c.in-Ok.command
 
 pub returns-in-Ok-clause-answers : goal.returns-in-Ok-clause-answers
 returns-in-Ok-clause-answers g c name meant = as_meant
-    (λ (m : Meant). Does m c.run_command.result (g.F.Files.contents c.args.host.now.files) (g.F.Files.contents c.run_command.new.host.files) (g.S.Source.left c.args.host.now.source) (g.S.Source.left c.run_command.new.host.source)
-    (g.K.Sink.held c.args.host.now.sink) (g.K.Sink.held c.run_command.new.host.sink) c.args.host.now.source c.run_command.new.host.source c.args.host.now.files c.run_command.new.host.files)
+    (λ (m : Meant). Does m c.run_command.result (g.F.Files.contents c.args.host.now.files) (g.F.Files.contents c.run_command.new.host.files)
+    (g.S.Source.left c.args.host.now.source) (g.S.Source.left c.run_command.new.host.source)
+    (g.K.Sink.held c.args.host.now.sink) (g.K.Sink.held c.run_command.new.host.sink) c.args.host.now.source c.run_command.new.host.source c.args.host.now.files
+    c.run_command.new.host.files)
     (seen c.in-Ok.command) (answer name) (command_in c.args.words.now) c.in-Ok.ensures.ok meant c.run_command.ensures.does
 
 pub returns-in-Ok-clause-plays : goal.returns-in-Ok-clause-plays
 returns-in-Ok-clause-plays g c file script meant = as_meant
-    (λ (m : Meant). Does m c.run_command.result (g.F.Files.contents c.args.host.now.files) (g.F.Files.contents c.run_command.new.host.files) (g.S.Source.left c.args.host.now.source) (g.S.Source.left c.run_command.new.host.source)
-    (g.K.Sink.held c.args.host.now.sink) (g.K.Sink.held c.run_command.new.host.sink) c.args.host.now.source c.run_command.new.host.source c.args.host.now.files c.run_command.new.host.files)
+    (λ (m : Meant). Does m c.run_command.result (g.F.Files.contents c.args.host.now.files) (g.F.Files.contents c.run_command.new.host.files)
+    (g.S.Source.left c.args.host.now.source) (g.S.Source.left c.run_command.new.host.source)
+    (g.K.Sink.held c.args.host.now.sink) (g.K.Sink.held c.run_command.new.host.sink) c.args.host.now.source c.run_command.new.host.source c.args.host.now.files
+    c.run_command.new.host.files)
     (seen c.in-Ok.command) (replay file script) (command_in c.args.words.now) c.in-Ok.ensures.ok meant c.run_command.ensures.does
 
 pub returns-in-Ok-clause-shows : goal.returns-in-Ok-clause-shows
 returns-in-Ok-clause-shows g c text meant = as_meant
-    (λ (m : Meant). Does m c.run_command.result (g.F.Files.contents c.args.host.now.files) (g.F.Files.contents c.run_command.new.host.files) (g.S.Source.left c.args.host.now.source) (g.S.Source.left c.run_command.new.host.source)
-    (g.K.Sink.held c.args.host.now.sink) (g.K.Sink.held c.run_command.new.host.sink) c.args.host.now.source c.run_command.new.host.source c.args.host.now.files c.run_command.new.host.files)
+    (λ (m : Meant). Does m c.run_command.result (g.F.Files.contents c.args.host.now.files) (g.F.Files.contents c.run_command.new.host.files)
+    (g.S.Source.left c.args.host.now.source) (g.S.Source.left c.run_command.new.host.source)
+    (g.K.Sink.held c.args.host.now.sink) (g.K.Sink.held c.run_command.new.host.sink) c.args.host.now.source c.run_command.new.host.source c.args.host.now.files
+    c.run_command.new.host.files)
     (seen c.in-Ok.command) (show text) (command_in c.args.words.now) c.in-Ok.ensures.ok meant c.run_command.ensures.does
 
 pub returns-in-Ok-clause-checks : goal.returns-in-Ok-clause-checks
 returns-in-Ok-clause-checks g c name meant = as_meant
-    (λ (m : Meant). Does m c.run_command.result (g.F.Files.contents c.args.host.now.files) (g.F.Files.contents c.run_command.new.host.files) (g.S.Source.left c.args.host.now.source) (g.S.Source.left c.run_command.new.host.source)
-    (g.K.Sink.held c.args.host.now.sink) (g.K.Sink.held c.run_command.new.host.sink) c.args.host.now.source c.run_command.new.host.source c.args.host.now.files c.run_command.new.host.files)
+    (λ (m : Meant). Does m c.run_command.result (g.F.Files.contents c.args.host.now.files) (g.F.Files.contents c.run_command.new.host.files)
+    (g.S.Source.left c.args.host.now.source) (g.S.Source.left c.run_command.new.host.source)
+    (g.K.Sink.held c.args.host.now.sink) (g.K.Sink.held c.run_command.new.host.sink) c.args.host.now.source c.run_command.new.host.source c.args.host.now.files
+    c.run_command.new.host.files)
     (seen c.in-Ok.command) (check name) (command_in c.args.words.now) c.in-Ok.ensures.ok meant c.run_command.ensures.does
 
 pub returns-in-Ok-clause-iors : goal.returns-in-Ok-clause-iors
 returns-in-Ok-clause-iors g c name meant = as_meant
-    (λ (m : Meant). Does m c.run_command.result (g.F.Files.contents c.args.host.now.files) (g.F.Files.contents c.run_command.new.host.files) (g.S.Source.left c.args.host.now.source) (g.S.Source.left c.run_command.new.host.source)
-    (g.K.Sink.held c.args.host.now.sink) (g.K.Sink.held c.run_command.new.host.sink) c.args.host.now.source c.run_command.new.host.source c.args.host.now.files c.run_command.new.host.files)
+    (λ (m : Meant). Does m c.run_command.result (g.F.Files.contents c.args.host.now.files) (g.F.Files.contents c.run_command.new.host.files)
+    (g.S.Source.left c.args.host.now.source) (g.S.Source.left c.run_command.new.host.source)
+    (g.K.Sink.held c.args.host.now.sink) (g.K.Sink.held c.run_command.new.host.sink) c.args.host.now.source c.run_command.new.host.source c.args.host.now.files
+    c.run_command.new.host.files)
     (seen c.in-Ok.command) (iors name) (command_in c.args.words.now) c.in-Ok.ensures.ok meant c.run_command.ensures.does

@@ -7,5 +7,7 @@ use Rattle.replay_player.proofs.asking.request.Goals as goal
 
 pub returns : goal.returns
 returns c = c.in_ok-bytes.ensures.bytes
-    ∙ ask_same request_bytes c.head.result (head_for c.args.id) c.in_ok-key_bytes.field-0 (key_spelling (key_for c.args.core.now c.args.path.now c.args.oid.now))
-    c.in_ok-operation_of.field-0 c.args.operation.now c.in_ok-copied.field-0 c.args.argument.now c.head.ensures c.in_ok-key_bytes.ensures c.in_ok-operation_of.ensures c.in_ok-copied.ensures
+    ∙ ask_same request_bytes c.head.result (head_for c.args.id) c.in_ok-key_bytes.field-0
+    (key_spelling (key_for c.args.core.now c.args.path.now c.args.oid.now))
+    c.in_ok-operation_of.field-0 c.args.operation.now c.in_ok-copied.field-0 c.args.argument.now c.head.ensures c.in_ok-key_bytes.ensures
+    c.in_ok-operation_of.ensures c.in_ok-copied.ensures

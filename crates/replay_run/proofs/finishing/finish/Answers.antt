@@ -17,5 +17,8 @@ collect_each-requires-clause-said c = said_still c.args.player.now.core c.settle
     (still_settles c.args.player.now.core c.in_ok-settle.ensures.text c.settle.new.self.core c.in_ok-settle.ensures.does) c.requires.said
 
 pub returns : goal.returns
-returns c = works_join Rests (CollectsEach c.args.channels.now) (Then Rests (CollectsEach c.args.channels.now)) c.args.player.now c.settle.new.self c.collect_each.new.player
-    (λ s t p q. record { between = c.settle.new.self.core; front = s; rest = t; first = p; second = q; joined = refl }) c.in_ok-settle.ensures c.in_ok-collect_each.ensures
+returns c =
+    works_join Rests (CollectsEach c.args.channels.now)
+    (Then Rests (CollectsEach c.args.channels.now)) c.args.player.now c.settle.new.self c.collect_each.new.player
+    (λ s t p q. record { between = c.settle.new.self.core; front = s; rest = t; first = p; second = q; joined = refl }) c.in_ok-settle.ensures
+    c.in_ok-collect_each.ensures

@@ -8,7 +8,8 @@ use Rattle.replay_run.proofs.replaying.play.Goals as goal
 pub returns-in_ok-bytes-in-Ask-clause-shows : goal.returns-in_ok-bytes-in-Ask-clause-shows
 returns-in_ok-bytes-in-Ask-clause-shows c = on_ok c.take_line.result _ _
     (λ p. step_shows c.args.step.now _ c.args.player.now c.take_line.new.player c.args.channels.now.items c.take_line.new.channels.items c.in-Ask.is
-    (ask_shows _ _ _ _ _ c.as_slice.result.now _ c.args.player.now c.take_line.new.player c.args.channels.now.items c.take_line.new.channels.items (c.as_slice.ensures ∙ c.in_ok-bytes-in-Ask.ensures) p))
+    (ask_shows _ _ _ _ _ c.as_slice.result.now _ c.args.player.now c.take_line.new.player c.args.channels.now.items c.take_line.new.channels.items
+    (c.as_slice.ensures ∙ c.in_ok-bytes-in-Ask.ensures) p))
     c.take_line.ensures.shows
 
 pub returns-in-Step-clause-shows : goal.returns-in-Step-clause-shows
@@ -19,7 +20,8 @@ returns-in-Step-clause-shows c = on_ok c.step.result _ _
 
 pub returns-in-Step-clause-keeps : goal.returns-in-Step-clause-keeps
 returns-in-Step-clause-keeps c = on_ok c.step.result _ _
-    (λ p. keeps_still c.args.player.now c.step.new.self c.args.channels.now.items c.requires (still_worker_turns c.in-Step.worker c.args.player.now.core p.text c.step.new.self.core p.does) p.filled)
+    (λ p. keeps_still c.args.player.now c.step.new.self c.args.channels.now.items c.requires
+    (still_worker_turns c.in-Step.worker c.args.player.now.core p.text c.step.new.self.core p.does) p.filled)
     c.step.ensures
 
 pub returns-in-Run-clause-shows : goal.returns-in-Run-clause-shows
@@ -30,11 +32,15 @@ returns-in-Run-clause-shows c = on_ok c.run.result _ _
 
 pub returns-in-Run-clause-keeps : goal.returns-in-Run-clause-keeps
 returns-in-Run-clause-keeps c = on_ok c.run.result _ _
-    (λ p. keeps_still c.args.player.now c.run.new.self c.args.channels.now.items c.requires (still_worker_runs c.in-Run.worker c.args.player.now.core p.text c.run.new.self.core p.does) p.filled)
+    (λ p. keeps_still c.args.player.now c.run.new.self c.args.channels.now.items c.requires
+    (still_worker_runs c.in-Run.worker c.args.player.now.core p.text c.run.new.self.core p.does) p.filled)
     c.run.ensures
 
 pub returns-in-Store-clause-keeps : goal.returns-in-Store-clause-keeps
-returns-in-Store-clause-keeps c = on_ok c.show_store.result _ _ (λ p. keeps_printed _ c.args.player.now c.show_store.new.self c.args.channels.now.items c.requires p) c.show_store.ensures
+returns-in-Store-clause-keeps c =
+    on_ok c.show_store.result _ _ (λ p. keeps_printed _ c.args.player.now c.show_store.new.self c.args.channels.now.items c.requires p) c.show_store.ensures
 
 pub returns-in-Journal-clause-keeps : goal.returns-in-Journal-clause-keeps
-returns-in-Journal-clause-keeps c = on_ok c.show_journal.result _ _ (λ p. keeps_printed _ c.args.player.now c.show_journal.new.self c.args.channels.now.items c.requires p) c.show_journal.ensures
+returns-in-Journal-clause-keeps c =
+    on_ok c.show_journal.result _ _ (λ p. keeps_printed _ c.args.player.now c.show_journal.new.self c.args.channels.now.items c.requires p)
+    c.show_journal.ensures

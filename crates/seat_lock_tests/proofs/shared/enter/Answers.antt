@@ -8,4 +8,6 @@ put-requires-clause-history g c = put_taken _ c.args.seat.now.me.0 _ _ c.take-di
     (may_enter c.enter-entered.result _ _ _ c.enter-entered.ensures.ok c.enter-entered.ensures.fresh c.enter-entered.ensures.err)
 
 pub returns-clause-writer : goal.returns-clause-writer
-returns-clause-writer g c = new_writer c.args.seat.now.me.0 c.take-diary.new.seat.me.0 c.put.new.seat.me.0 _ c.take-diary.result.notes.items c.enter-entered.new.self.notes.items _ c.take-diary.ensures.view.1 (search rules) (search rules) (search rules)
+returns-clause-writer g c =
+    new_writer c.args.seat.now.me.0 c.take-diary.new.seat.me.0 c.put.new.seat.me.0 _ c.take-diary.result.notes.items c.enter-entered.new.self.notes.items _
+    c.take-diary.ensures.view.1 (search rules) (search rules) (search rules)

@@ -7,8 +7,11 @@ use Rattle.session_input.proofs.ear.next_message.Goals as goal
 pub returns-in-Message-clause-told : goal.returns-in-Message-clause-told
 returns-in-Message-clause-told c =
     if_ok c.read.result _ _
-    (λ t asks. told_message c.args.framer.now c.next.new.self c.in-Message.message t (subst (λ n. FramerAnswers c.args.framer.now n c.next.new.self) c.in-Message.is c.in_ok-message.ensures.answer) asks)
+    (λ t asks. told_message c.args.framer.now c.next.new.self c.in-Message.message t
+    (subst (λ n. FramerAnswers c.args.framer.now n c.next.new.self) c.in-Message.is c.in_ok-message.ensures.answer) asks)
     c.read.ensures
 
 pub returns-in-Bad-clause-told : goal.returns-in-Bad-clause-told
-returns-in-Bad-clause-told c = framer_bad c.args.framer.now c.next.new.self c.in-Bad.at c.in-Bad.why [] (subst (λ n. FramerAnswers c.args.framer.now n c.next.new.self) c.in-Bad.is c.in_ok-message.ensures.answer)
+returns-in-Bad-clause-told c =
+    framer_bad c.args.framer.now c.next.new.self c.in-Bad.at c.in-Bad.why []
+    (subst (λ n. FramerAnswers c.args.framer.now n c.next.new.self) c.in-Bad.is c.in_ok-message.ensures.answer)

@@ -10,4 +10,5 @@ returns c =
     (let s = c.args.standing.now in
     ap (λ activations. record (seen s) { activations = activations })
     (ap (behind s.forgotten) c.end_all_of_id.ensures
-    ∙ map_behind (λ a. if is_of c.args.adapter c.args.oid.now a then record a { ending = true } else a) (still_ending c.args.adapter c.args.oid.now) s.forgotten s.activations.items))
+    ∙ map_behind (λ a. if is_of c.args.adapter c.args.oid.now a then record a { ending = true } else a)
+    (still_ending c.args.adapter c.args.oid.now) s.forgotten s.activations.items))

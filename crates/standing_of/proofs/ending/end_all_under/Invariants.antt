@@ -5,4 +5,5 @@ use Rattle.standing_of.proofs.ending.end_all_under.Given as goal
 
 abbrev pub invariant-loop-activation : goal.invariant-loop-activation
 invariant-loop-activation l =
-    l.activation-items ≡ map (λ a. if tree.stands_under l.nodes l.path a.adapter then changes.ended_by_destroy l.etherealize a else a) (take l.activation-index l.fn.activations.items) ++ drop l.activation-index l.fn.activations.items
+    l.activation-items ≡ map (λ a. if tree.stands_under l.nodes l.path a.adapter then changes.ended_by_destroy l.etherealize a else a)
+    (take l.activation-index l.fn.activations.items) ++ drop l.activation-index l.fn.activations.items

@@ -12,5 +12,7 @@ returns c =
     ap (λ activations. record (seen s) { activations = activations })
     (ap (behind s.forgotten)
     (c.end_all_under.ensures
-    ∙ ap (λ ns. map (λ a. if stands_under ns c.args.path.now a.adapter then ended_by_destroy c.args.etherealize a else a) s.activations.items) c.deref.ensures.value)
-    ∙ map_behind (λ a. if stands_under s.nodes.items c.args.path.now a.adapter then ended_by_destroy c.args.etherealize a else a) (still_below s.nodes.items c.args.path.now c.args.etherealize) s.forgotten s.activations.items))
+    ∙ ap (λ ns. map (λ a. if stands_under ns c.args.path.now a.adapter then ended_by_destroy c.args.etherealize a else a) s.activations.items)
+    c.deref.ensures.value)
+    ∙ map_behind (λ a. if stands_under s.nodes.items c.args.path.now a.adapter then ended_by_destroy c.args.etherealize a else a)
+    (still_below s.nodes.items c.args.path.now c.args.etherealize) s.forgotten s.activations.items))

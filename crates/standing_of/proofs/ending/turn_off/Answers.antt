@@ -12,4 +12,5 @@ returns c =
     let config = c.args.config.now in
     ap (λ activations. record (seen s) { activations = activations })
     (ap (behind s.forgotten) c.end_all_activators.ensures
-    ∙ map_behind (λ a. if has_activator config a.path && (manager_at config a.path == c.args.manager) then ended_by_destroy true a else a) (still_off config c.args.manager) s.forgotten s.activations.items))
+    ∙ map_behind (λ a. if has_activator config a.path && (manager_at config a.path == c.args.manager) then ended_by_destroy true a else a)
+    (still_off config c.args.manager) s.forgotten s.activations.items))

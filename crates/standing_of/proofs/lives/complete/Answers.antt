@@ -9,4 +9,5 @@ pub returns : goal.returns
 returns c =
     (let s = c.args.standing.now in
     ap (λ activations. record (seen s) { activations = activations })
-    (ap (behind s.forgotten) c.bring_numbered.ensures ∙ map_behind (at_number c.args.number (come_to c.args.phase)) (still_come c.args.number c.args.phase) s.forgotten s.activations.items))
+    (ap (behind s.forgotten) c.bring_numbered.ensures
+    ∙ map_behind (at_number c.args.number (come_to c.args.phase)) (still_come c.args.number c.args.phase) s.forgotten s.activations.items))

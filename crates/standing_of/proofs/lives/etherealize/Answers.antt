@@ -9,4 +9,5 @@ pub returns : goal.returns
 returns c =
     (let s = c.args.standing.now in
     ap (λ activations. record (seen s) { activations = activations })
-    (ap (behind s.forgotten) c.end_numbered.ensures ∙ map_behind (at_number c.args.number (λ a. record a { etherealized = true })) (still_told c.args.number) s.forgotten s.activations.items))
+    (ap (behind s.forgotten) c.end_numbered.ensures
+    ∙ map_behind (at_number c.args.number (λ a. record a { etherealized = true })) (still_told c.args.number) s.forgotten s.activations.items))

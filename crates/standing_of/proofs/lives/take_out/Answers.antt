@@ -9,5 +9,8 @@ pub returns : goal.returns
 returns c =
     (let s = c.args.standing.now in
     ap (λ activations. record (seen s) { activations = activations })
-    (ap (behind s.forgotten) (c.take_numbered.ensures ∙ takes_alike c.args.number s.activations.items (seen s).activations (elsewhere_behind s.forgotten s.activations.items) s.activations.items)
-    ∙ map_behind (at_number c.args.number (λ a. record a { out = true; remaining = is_elsewhere (seen s).activations a })) (still_taken c.args.number (seen s).activations) s.forgotten s.activations.items))
+    (ap (behind s.forgotten)
+    (c.take_numbered.ensures ∙ takes_alike c.args.number s.activations.items (seen s).activations
+    (elsewhere_behind s.forgotten s.activations.items) s.activations.items)
+    ∙ map_behind (at_number c.args.number (λ a. record a { out = true; remaining = is_elsewhere (seen s).activations a }))
+    (still_taken c.args.number (seen s).activations) s.forgotten s.activations.items))

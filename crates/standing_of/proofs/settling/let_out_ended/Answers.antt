@@ -10,4 +10,5 @@ returns c =
     (let s = c.args.standing.now in
     let f = let_out c.args.config.now (seen s) in
     ap (λ activations. record (seen s) { activations = activations })
-    (ap (behind s.forgotten) (c.let_all_out.ensures (seen s) (sym c.deref.ensures.value)) ∙ map_behind f (still_in c.args.config.now (seen s)) s.forgotten s.activations.items))
+    (ap (behind s.forgotten) (c.let_all_out.ensures (seen s) (sym c.deref.ensures.value))
+    ∙ map_behind f (still_in c.args.config.now (seen s)) s.forgotten s.activations.items))

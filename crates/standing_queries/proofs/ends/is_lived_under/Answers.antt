@@ -11,4 +11,5 @@ returns c =
     c.are_lived_under.ensures
     ∙ (ap (λ ns. list_any (λ a. not (ends.is_over c.args.config.now a) && stands_under ns c.args.path.now a.adapter) c.deref-2.result.now) c.deref.ensures.value
     ∙ ap (list_any (λ a. not (ends.is_over c.args.config.now a) && stands_under s.nodes.items c.args.path.now a.adapter)) c.deref-2.ensures.value)
-    ∙ sym (any_behind (λ a. not (ends.is_over c.args.config.now a) && stands_under s.nodes.items c.args.path.now a.adapter) refl s.forgotten s.activations.items))
+    ∙ sym (any_behind (λ a. not (ends.is_over c.args.config.now a) && stands_under s.nodes.items c.args.path.now a.adapter) refl s.forgotten
+    s.activations.items))

@@ -11,5 +11,11 @@ returns c =
     (let s = c.args.standing.now in
     let config = c.args.config.now in
     c.all_ended.ensures
-    ∙ ap (list_all (λ a. ends.is_over config a || (not (nat_lt a.number c.args.begun) || not (configured.has_activator config a.path && (configured.manager_at config a.path == c.args.manager))))) c.deref.ensures.value
-    ∙ sym (all_behind (λ a. ends.is_over config a || (not (nat_lt a.number c.args.begun) || not (configured.has_activator config a.path && (configured.manager_at config a.path == c.args.manager)))) refl s.forgotten s.activations.items))
+    ∙ ap (list_all
+    (λ a. ends.is_over config a ||
+    (not (nat_lt a.number c.args.begun) || not (configured.has_activator config a.path && (configured.manager_at config a.path == c.args.manager)))))
+    c.deref.ensures.value
+    ∙ sym (all_behind
+    (λ a. ends.is_over config a ||
+    (not (nat_lt a.number c.args.begun) || not (configured.has_activator config a.path && (configured.manager_at config a.path == c.args.manager)))) refl
+    s.forgotten s.activations.items))

@@ -11,4 +11,6 @@ returns c =
     c.first_numbered.ensures
     ∙ ap (find (λ a. a.number == c.args.number)) c.deref.ensures.value
     ∙ sym (find_behind (λ a. a.number == c.args.number)
-    (false_from_ne_true (forgotten.number == c.args.number) (λ same. (let e = eqb-true forgotten.number c.args.number same in let low = c.ranges.number.fits in omega (arith, e, low)))) s.forgotten s.activations.items))
+    (false_from_ne_true (forgotten.number == c.args.number)
+    (λ same. (let e = eqb-true forgotten.number c.args.number same in let low = c.ranges.number.fits in omega (arith, e, low)))) s.forgotten
+    s.activations.items))

@@ -10,4 +10,5 @@ returns c =
     (let s = c.args.standing.now in
     c.is_any_by.ensures
     ∙ ap (list_any (λ a. (a.adapter == c.args.adapter) && (stands.is_mapped a && stands.has_servant c.args.servant a))) c.deref.ensures.value
-    ∙ sym (any_behind (λ a. (a.adapter == c.args.adapter) && (stands.is_mapped a && stands.has_servant c.args.servant a)) (second_fails (forgotten.adapter == c.args.adapter) _ refl) s.forgotten s.activations.items))
+    ∙ sym (any_behind (λ a. (a.adapter == c.args.adapter) && (stands.is_mapped a && stands.has_servant c.args.servant a))
+    (second_fails (forgotten.adapter == c.args.adapter) _ refl) s.forgotten s.activations.items))

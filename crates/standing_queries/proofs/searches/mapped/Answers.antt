@@ -10,4 +10,5 @@ returns c =
     (let s = c.args.standing.now in
     c.first_mapped.ensures
     ∙ ap (find (λ a. (a.adapter == c.args.adapter) && (stands.is_mapped a && stands.has_servant c.args.servant a))) c.deref.ensures.value
-    ∙ sym (find_behind (λ a. (a.adapter == c.args.adapter) && (stands.is_mapped a && stands.has_servant c.args.servant a)) (second_fails (forgotten.adapter == c.args.adapter) _ refl) s.forgotten s.activations.items))
+    ∙ sym (find_behind (λ a. (a.adapter == c.args.adapter) && (stands.is_mapped a && stands.has_servant c.args.servant a))
+    (second_fails (forgotten.adapter == c.args.adapter) _ refl) s.forgotten s.activations.items))

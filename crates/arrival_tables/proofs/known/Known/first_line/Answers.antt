@@ -13,7 +13,8 @@ returns-in-Some c =
     (let known = c.args.self.now in
     let h = history known in
     let items = known.queue.now.lines.items in
-    let low : c.loop-i.i < length items = (let below_ = c.loop-i-test.true in let end = c.len-i-end.ensures in let ok = known.queue.now.lines.ok.0 in omega (arith, below_, end, ok)) in
+    let low : c.loop-i.i < length items =
+    (let below_ = c.loop-i-test.true in let end = c.len-i-end.ensures in let ok = known.queue.now.lines.ok.0 in omega (arith, below_, end, ok)) in
     let read = c.index-arrival.ensures in
     let at : slice_index_or items c.loop-i.i 0 ≡ c.index-arrival.result.now = grind (arith, common_steps) in
     subst (λ r. IsFirst (is_waiting_line h) (λ q. verdict known.config.now known.run h q c.args.worker) (arrivals h) (Some (r, c.in-Some.verdict))) at
@@ -25,4 +26,5 @@ returns c =
     (let known = c.args.self.now in
     let h = history known in
     lines_held known.config.now known.run h c.args.worker known.queue.now.lines.items c.requires.queued.lines_are c.loop-i.i
-    (let past_ = c.loop-i-test.false in let end = c.len-i-end.ensures in let ok = known.queue.now.lines.ok.0 in omega (arith, past_, end, ok)) c.loop-i.invariant)
+    (let past_ = c.loop-i-test.false in let end = c.len-i-end.ensures in let ok = known.queue.now.lines.ok.0 in omega (arith, past_, end, ok))
+    c.loop-i.invariant)

@@ -9,4 +9,5 @@ pub returns-clause-next : goal.returns-clause-next
 returns-clause-next c =
     (let known = c.args.self.now in
     subst (λ o. IfOk c.going_on.result (λ entry. entry ≡ o))
-    (going_same known.config.now known.run (history known) (seen known.standing.now) c.requires.told.stands c.args.worker c.args.stage c.requires.begun) c.going_on.ensures.next)
+    (going_same known.config.now known.run (history known) (seen known.standing.now) c.requires.told.stands c.args.worker c.args.stage c.requires.begun)
+    c.going_on.ensures.next)

@@ -13,7 +13,8 @@ pub invariant_of-self : goal.invariant_of-self
 invariant_of-self c =
     record {
       waits_is = c.if-not-self.true
-          ∙ sym (ap (list_any has_wait) c.file_target.ensures.kept ∙ kept_none (λ o. not (begun.is_at o.arrival c.args.target)) c.args.self.now.owing.items (sym c.args.self.now.waits_is ∙ c.if-not-self.true));
+          ∙ sym (ap (list_any has_wait) c.file_target.ensures.kept
+          ∙ kept_none (λ o. not (begun.is_at o.arrival c.args.target)) c.args.self.now.owing.items (sym c.args.self.now.waits_is ∙ c.if-not-self.true));
     }
 
 pub returns-then-not-self-clause-owing : goal.returns-then-not-self-clause-owing
@@ -30,14 +31,17 @@ returns-then-not-self-clause-outbox c =
     let now = desks.is_decided c.args.config.now (seen c.args.standing.now) c.args.target c.args.ordered in
     c.file_target.ensures.filed
     ∙ ap (λ os. c.args.self.now.outbox.items ++ map (desks.file c.args.target c.args.reply) os)
-    (filter_agrees (λ o. begun.is_at o.arrival c.args.target) now c.args.self.now.owing.items (target_alone c.args.config.now (seen c.args.standing.now) c.args.target c.args.ordered c.args.self.now.owing.items none))
+    (filter_agrees (λ o. begun.is_at o.arrival c.args.target) now c.args.self.now.owing.items
+    (target_alone c.args.config.now (seen c.args.standing.now) c.args.target c.args.ordered c.args.self.now.owing.items none))
 
 pub returns-then-not-self-clause-room : goal.returns-then-not-self-clause-room
 returns-then-not-self-clause-room c =
     room_after (λ o. begun.is_at o.arrival c.args.target) (desks.file c.args.target c.args.reply)
-    c.args.self.now.outbox.items c.args.self.now.owing.items _ _ _ _ c.requires.room c.file_target.ensures.filed c.file_target.ensures.kept c.file_target.ensures.capacity
+    c.args.self.now.outbox.items c.args.self.now.owing.items _ _ _ _ c.requires.room c.file_target.ensures.filed c.file_target.ensures.kept
+    c.file_target.ensures.capacity
 
 pub returns-clause-room : goal.returns-clause-room
 returns-clause-room c =
     room_after (desks.is_decided c.args.config.now (seen c.args.standing.now) c.args.target c.args.ordered) (desks.file c.args.target c.args.reply)
-    c.args.self.now.outbox.items c.args.self.now.owing.items _ _ _ _ c.requires.room c.file_decided.ensures.filed c.keep_undecided.ensures.kept c.file_decided.ensures.capacity
+    c.args.self.now.outbox.items c.args.self.now.owing.items _ _ _ _ c.requires.room c.file_decided.ensures.filed c.keep_undecided.ensures.kept
+    c.file_decided.ensures.capacity

@@ -14,7 +14,8 @@ returns-in-Some-clause-answer c =
     let f = c.args.self.now in
     let seen = seen_in_front _ f (Whole c.in-Whole.length) c.self.view_is
     (sym (c.in-Whole.ensures ∙ ap (look_at c.self.inside.limit c.self.inside.pending) c.as_slice.ensures)) in
-    let t = subst (λ (o : Option Framed). TakesPart f c.in-Whole.length (option_to_list o) c.take_part.new.self) c.in-Some.is c.in_ok-message-in-Whole.ensures.taken in
+    let t = subst (λ (o : Option Framed). TakesPart f c.in-Whole.length (option_to_list o) c.take_part.new.self) c.in-Some.is
+    c.in_ok-message-in-Whole.ensures.taken in
     taken_gives f c.take_part.new.self c.in-Whole.length (c.in-Some.message ∷ []) c.requires seen t
 
 pub returns-in-Some-clause-shorter : goal.returns-in-Some-clause-shorter
@@ -22,7 +23,8 @@ returns-in-Some-clause-shorter c =
     let f = c.args.self.now in
     let seen = seen_in_front _ f (Whole c.in-Whole.length) c.self.view_is
     (sym (c.in-Whole.ensures ∙ ap (look_at c.self.inside.limit c.self.inside.pending) c.as_slice.ensures)) in
-    let t = subst (λ (o : Option Framed). TakesPart f c.in-Whole.length (option_to_list o) c.take_part.new.self) c.in-Some.is c.in_ok-message-in-Whole.ensures.taken in
+    let t = subst (λ (o : Option Framed). TakesPart f c.in-Whole.length (option_to_list o) c.take_part.new.self) c.in-Some.is
+    c.in_ok-message-in-Whole.ensures.taken in
     taken_shorter f c.take_part.new.self c.in-Whole.length (c.in-Some.message ∷ []) seen t
 
 pub returns-in-Some-clause-sized : goal.returns-in-Some-clause-sized
@@ -30,7 +32,8 @@ returns-in-Some-clause-sized c =
     let f = c.args.self.now in
     let seen = seen_in_front _ f (Whole c.in-Whole.length) c.self.view_is
     (sym (c.in-Whole.ensures ∙ ap (look_at c.self.inside.limit c.self.inside.pending) c.as_slice.ensures)) in
-    let t = subst (λ (o : Option Framed). TakesPart f c.in-Whole.length (option_to_list o) c.take_part.new.self) c.in-Some.is c.in_ok-message-in-Whole.ensures.taken in
+    let t = subst (λ (o : Option Framed). TakesPart f c.in-Whole.length (option_to_list o) c.take_part.new.self) c.in-Some.is
+    c.in_ok-message-in-Whole.ensures.taken in
     taken_within f c.take_part.new.self c.in-Whole.length c.in-Some.message seen t
 
 pub returns-in-None-clause-answer : goal.returns-in-None-clause-answer
@@ -38,7 +41,8 @@ returns-in-None-clause-answer c =
     let f = c.args.self.now in
     let seen = seen_in_front _ f (Whole c.in-Whole.length) c.self.view_is
     (sym (c.in-Whole.ensures ∙ ap (look_at c.self.inside.limit c.self.inside.pending) c.as_slice.ensures)) in
-    let t = subst (λ (o : Option Framed). TakesPart f c.in-Whole.length (option_to_list o) c.take_part.new.self) c.in-None.is c.in_ok-message-in-Whole.ensures.taken in
+    let t = subst (λ (o : Option Framed). TakesPart f c.in-Whole.length (option_to_list o) c.take_part.new.self) c.in-None.is
+    c.in_ok-message-in-Whole.ensures.taken in
     joins_part f c.take_part.new.self c.in-Whole.length c.requires seen t
 
 pub returns-in-Bad-clause-answer : goal.returns-in-Bad-clause-answer

@@ -13,14 +13,16 @@ use Rattle.giop_frame.proofs.framer.Framer.take_part.Goals as goal
 
 pub slice_bounds-part-end : goal.slice_bounds-part-end
 slice_bounds-part-end c =
-    let w = subst (λ (t : List ℕ). IsWhole c.self.inside.limit c.self.inside.pending t c.args.length) (sym c.as_slice.ensures) (whole_in_front _ _ c.args.length c.self.view_is c.requires.whole) in
+    let w = subst (λ (t : List ℕ). IsWhole c.self.inside.limit c.self.inside.pending t c.args.length) (sym c.as_slice.ensures)
+    (whole_in_front _ _ c.args.length c.self.view_is c.requires.whole) in
     sym (length-take-le c.args.length c.as_slice.result.now w.whole)
 
 pub read_part-requires-clause-good : goal.read_part-requires-clause-good
 read_part-requires-clause-good c =
     let n = c.args.length in
     let text = c.as_slice.result.now in
-    let w = subst (λ (t : List ℕ). IsWhole c.self.inside.limit c.self.inside.pending t n) (sym c.as_slice.ensures) (whole_in_front _ _ c.args.length c.self.view_is c.requires.whole) in (
+    let w = subst (λ (t : List ℕ). IsWhole c.self.inside.limit c.self.inside.pending t n) (sym c.as_slice.ensures)
+    (whole_in_front _ _ c.args.length c.self.view_is c.requires.whole) in (
       c.self.inside.limit,
       look_from_whole c.self.inside.limit c.self.inside.pending (take n text) n (whole_front c.self.inside.limit c.self.inside.pending text n w)
           ∙ ap Whole (sym (length-take-le n text w.whole)),
@@ -39,7 +41,9 @@ invariant_of-self-2 c =
     let w = whole_in_front _ _ c.args.length c.self.view_is c.requires.whole in
     let r : Reading = record { place = c.self.inside.place; pending = c.self.inside.pending } in
     let long : length (take n text) ≡ n = length-take-le n text w.whole in
-    let front = subst (λ (k : ℕ). IsWhole c.self.inside.limit c.self.inside.pending (take n text) k) (sym long) (whole_front c.self.inside.limit c.self.inside.pending text n w) in
+    let front =
+    subst (λ (k : ℕ). IsWhole c.self.inside.limit c.self.inside.pending (take n text) k) (sym long)
+    (whole_front c.self.inside.limit c.self.inside.pending text n w) in
     let kept = bounds_kept c.self.inside.limit r (take n text) front c.self.invariant.0 in
     let left : c.read_part.new.pending ≡ open_after r (take n text) =
     c.in_ok-message.ensures.left ∙ ap (λ (t : List ℕ). open_after r (take n t)) c.as_slice.ensures in (
@@ -56,8 +60,10 @@ returns-clause-taken c =
     let long : length (take n text) ≡ n = length-take-le n text (whole_in_front _ _ c.args.length c.self.view_is c.requires.whole).whole in
     let left : c.read_part.new.pending ≡ open_after r (take n text) =
     c.in_ok-message.ensures.left ∙ ap (λ (t : List ℕ). open_after r (take n t)) c.as_slice.ensures in
-    let make : ℕ → Opens → List ℕ → Framing = λ p o u. record { limit = c.self.inside.limit; reading = record { place = p; pending = o }; unread = u; closed = c.self.inside.closed } in
-    subst (λ (f : Framing). TakesPart f n (option_to_list c.in_ok-message.message) (make (c.self.inside.place + n) c.read_part.new.pending c.skip.new.self)) c.self.view_is
+    let make : ℕ → Opens → List ℕ → Framing =
+    λ p o u. record { limit = c.self.inside.limit; reading = record { place = p; pending = o }; unread = u; closed = c.self.inside.closed } in
+    subst (λ (f : Framing). TakesPart f n (option_to_list c.in_ok-message.message) (make (c.self.inside.place + n) c.read_part.new.pending c.skip.new.self))
+    c.self.view_is
     (record {
       completes = c.in_ok-message.ensures.message ∙ ap (λ (t : List ℕ). completed r (take n t)) c.as_slice.ensures;
       goes_on = ap (λ (k : ℕ). make (c.self.inside.place + k) c.read_part.new.pending c.skip.new.self) (sym long)

@@ -23,7 +23,8 @@ returns-in_err-join-clause-refused c =
 pub invariant_of-self-2 : goal.invariant_of-self-2
 invariant_of-self-2 c =
     let found : find_open c.args.id c.self.inside.by_id.entries ≡ Some c.in-Some.opened.now = search rules in
-    let is : (c.get_mut.follows.lender c.join.new.self).entries ≡ set_value (at_id c.args.id) c.self.inside.by_id.entries (joined c.in-Some.opened.now c.args.part.now) =
+    let is : (c.get_mut.follows.lender c.join.new.self).entries ≡ set_value (at_id c.args.id) c.self.inside.by_id.entries
+    (joined c.in-Some.opened.now c.args.part.now) =
     (c.get_mut.follows.holds c.join.new.self).0 ∙ ap (set_value (at_id c.args.id) c.self.inside.by_id.entries) c.in_ok-join.ensures.ok in (
       ap (λ n. n + (length c.args.part.now - 16)) c.self.invariant.0 ∙ sym (ap open_bytes is ∙ open_bytes-join _ c.args.id _ _ found c.requires.id),
       ap (λ n. n + length c.args.part.now) c.self.invariant.1 ∙ sym (ap taken_bytes is ∙ taken_bytes-join _ c.args.id _ c.args.part.now found),

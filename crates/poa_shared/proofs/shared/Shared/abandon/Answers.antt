@@ -15,4 +15,5 @@ returns-clause-abandoned g c =
     subst (λ m. Event (λ old new. Abandons c.args.worker old new) c.args.seat.now.me.0 m.0) (sym c.wake_all.ensures.2)
     (event c.args.seat.now.me.0 c.take-core.new.seat.me.0 c.take-core.ensures.view.0 c.take-core.result c.abandon.new.self c.take-core.ensures.view.1
     (abandons_made c.args.seat.now.me.0 c.take-core.result c.abandon.new.self c.args.worker c.abandon.ensures)
-    c.put.new.seat.me.0 c.put.ensures.view (λ old new. Abandons c.args.worker old new) c.take-core.ensures.taken c.put.ensures.known c.is_legal-2.ensures c.abandon.ensures)
+    c.put.new.seat.me.0 c.put.ensures.view (λ old new. Abandons c.args.worker old new) c.take-core.ensures.taken c.put.ensures.known c.is_legal-2.ensures
+    c.abandon.ensures)

@@ -17,7 +17,10 @@ returns-clause-left g c =
     subst (λ m. Event (λ old new. new ≡ with_entry (Left c.args.conn) old) c.args.seat.now.me.0 m.0) (sym c.wake_workers.ensures.2)
     (event c.args.seat.now.me.0 c.take-core.new.seat.me.0 c.take-core.ensures.view.0 c.take-core.result c.leave.new.self c.take-core.ensures.view.1
     (leaves_made c.args.seat.now.me.0 c.take-core.result c.leave.new.self c.take-core.ensures.taken.1 c.args.conn c.requires.conn.owns c.leave.ensures)
-    c.put.new.seat.me.0 c.put.ensures.view (λ old new. new ≡ with_entry (Left c.args.conn) old) c.take-core.ensures.taken c.put.ensures.known c.is_legal-2.ensures c.leave.ensures)
+    c.put.new.seat.me.0 c.put.ensures.view (λ old new. new ≡ with_entry (Left c.args.conn) old) c.take-core.ensures.taken c.put.ensures.known
+    c.is_legal-2.ensures c.leave.ensures)
 
 pub leave-requires : goal.leave-requires
-leave-requires g c = held_open c.args.seat.now.me.0 c.take-core.result.history c.take-core.ensures.taken.1 (givens_of c.take-core.result) c.is_legal.ensures c.args.conn c.requires.conn
+leave-requires g c =
+    held_open c.args.seat.now.me.0 c.take-core.result.history c.take-core.ensures.taken.1
+    (givens_of c.take-core.result) c.is_legal.ensures c.args.conn c.requires.conn

@@ -5,11 +5,16 @@ use Rattle.poa_shared.specs.Events.{StepsRunning}
 
 pub put-requires-clause-history : goal.put-requires-clause-history
 put-requires-clause-history g c =
-    put_history c.args.seat.now.me.0 c.take-core.new.seat.me.0 c.take-core.ensures.view.0 c.take-core.result c.step_if_running-result.new.core c.take-core.ensures.view.1
-    (running_made c.args.seat.now.me.0 c.take-core.result c.step_if_running-result.new.core c.args.worker c.step_if_running-result.result c.step_if_running-result.ensures)
+    put_history c.args.seat.now.me.0 c.take-core.new.seat.me.0 c.take-core.ensures.view.0 c.take-core.result c.step_if_running-result.new.core
+    c.take-core.ensures.view.1
+    (running_made c.args.seat.now.me.0 c.take-core.result c.step_if_running-result.new.core c.args.worker c.step_if_running-result.result
+    c.step_if_running-result.ensures)
 
 pub returns-clause-stepped : goal.returns-clause-stepped
 returns-clause-stepped g c =
-    event c.args.seat.now.me.0 c.take-core.new.seat.me.0 c.take-core.ensures.view.0 c.take-core.result c.step_if_running-result.new.core c.take-core.ensures.view.1
-    (running_made c.args.seat.now.me.0 c.take-core.result c.step_if_running-result.new.core c.args.worker c.step_if_running-result.result c.step_if_running-result.ensures)
-    c.put.new.seat.me.0 c.put.ensures.view (λ old new. StepsRunning c.args.worker old c.step_if_running-result.result new) c.take-core.ensures.taken c.put.ensures.known c.is_legal-2.ensures c.step_if_running-result.ensures
+    event c.args.seat.now.me.0 c.take-core.new.seat.me.0 c.take-core.ensures.view.0 c.take-core.result c.step_if_running-result.new.core
+    c.take-core.ensures.view.1
+    (running_made c.args.seat.now.me.0 c.take-core.result c.step_if_running-result.new.core c.args.worker c.step_if_running-result.result
+    c.step_if_running-result.ensures)
+    c.put.new.seat.me.0 c.put.ensures.view (λ old new. StepsRunning c.args.worker old c.step_if_running-result.result new) c.take-core.ensures.taken
+    c.put.ensures.known c.is_legal-2.ensures c.step_if_running-result.ensures

@@ -3,7 +3,18 @@ use Rattle.poad_answer.proofs.Serving.{serves_none, serves_more, serves_up_to}
 use Rattle.poad_answer.proofs.service.Service.serve.Goals as goal
 
 pub loop-why-init : goal.loop-why-init
-loop-why-init c = record { serves = serves_none c.args.self.now (record { legal = c.entries.ensures.legal; lifetime = c.entries.ensures.lifetime; undone = c.entries.ensures.undone; updates = c.entries.ensures.updates }); ready = c.requires }
+loop-why-init c =
+    record {
+      serves =
+          serves_none c.args.self.now
+          (record {
+            legal = c.entries.ensures.legal;
+            lifetime = c.entries.ensures.lifetime;
+            undone = c.entries.ensures.undone;
+            updates = c.entries.ensures.updates;
+          });
+      ready = c.requires;
+    }
 
 pub returns-in-Some-clause-served : goal.returns-in-Some-clause-served
 returns-in-Some-clause-served c = serves_up_to c.in-Some.why _ _ _ c.loop-why.invariant.serves c.in-Some.ensures.turns

@@ -12,7 +12,13 @@ pub returns-in-Message-clause-turns : goal.returns-in-Message-clause-turns
 returns-in-Message-clause-turns c =
     let took = subst (λ (n : Next). FramerAnswers c.args.self.now.framer n c.next.new.self) c.in-Message.is c.in-Ok.ensures.answer in
     let fewer = subst (λ (n : Next). TakesBytes c.args.self.now.framer n c.next.new.self) c.in-Message.is c.in-Ok.ensures.shorter in
-    turn c.serve_message-stop.result c.args.self.now (record { framer = c.next.new.self; core = c.args.self.now.core; replies = c.args.self.now.replies; waiting = c.args.self.now.waiting }) c.serve_message-stop.new.self c.in-Message.message took fewer c.next.ensures.reached refl refl c.serve_message-stop.ensures.framer c.serve_message-stop.ensures.handled (record { legal = c.entries.ensures.legal; lifetime = c.entries.ensures.lifetime; undone = c.entries.ensures.undone; updates = c.entries.ensures.updates })
+    turn c.serve_message-stop.result c.args.self.now
+    (record { framer = c.next.new.self; core = c.args.self.now.core; replies = c.args.self.now.replies; waiting = c.args.self.now.waiting })
+    c.serve_message-stop.new.self c.in-Message.message took fewer c.next.ensures.reached refl refl c.serve_message-stop.ensures.framer
+    c.serve_message-stop.ensures.handled
+    (record { legal = c.entries.ensures.legal; lifetime = c.entries.ensures.lifetime; undone = c.entries.ensures.undone; updates = c.entries.ensures.updates })
 
 pub returns-in-Bad-clause-turns : goal.returns-in-Bad-clause-turns
-returns-in-Bad-clause-turns c = stops_at_place _ _ c.in-Bad.at c.in-Bad.why (subst (λ (n : Next). FramerAnswers c.args.self.now.framer n c.next.new.self) c.in-Bad.is c.in-Ok.ensures.answer) refl c.next.ensures.reached
+returns-in-Bad-clause-turns c =
+    stops_at_place _ _ c.in-Bad.at c.in-Bad.why
+    (subst (λ (n : Next). FramerAnswers c.args.self.now.framer n c.next.new.self) c.in-Bad.is c.in-Ok.ensures.answer) refl c.next.ensures.reached

@@ -17,6 +17,7 @@ returns-then-not-branch-clause-moved c =
 pub loop-preserved : goal.loop-preserved
 loop-preserved c = record {
   runs = works_onward (Runs c.args.worker) c.args.self.now c.loop.self c.turn.new.self c.loop.invariant.runs
-      (made_onward c.args.worker c.loop.self c.turn.new.self (takes_true c.in_ok-turn.field-0 c.args.worker c.loop.self c.turn.new.self c.if-not-branch.false c.in_ok-turn.ensures));
+      (made_onward c.args.worker c.loop.self c.turn.new.self
+      (takes_true c.in_ok-turn.field-0 c.args.worker c.loop.self c.turn.new.self c.if-not-branch.false c.in_ok-turn.ensures));
   still = λ e. absurd (let f : true ≡ false = e in cc);
 }

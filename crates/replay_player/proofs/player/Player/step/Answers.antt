@@ -5,7 +5,8 @@ use Rattle.replay_player.proofs.player.Player.step.Goals as goal
 
 pub returns-then-branch : goal.returns-then-branch
 returns-then-branch c = by_worker Turns c.args.worker c.args.self.now c.turn.new.self c.if-worker-ge-WORKERS.false
-    (made_turn c.args.worker c.args.self.now c.turn.new.self (takes_true c.in_ok-turn.field-0 c.args.worker c.args.self.now c.turn.new.self c.if-branch.true c.in_ok-turn.ensures))
+    (made_turn c.args.worker c.args.self.now c.turn.new.self
+    (takes_true c.in_ok-turn.field-0 c.args.worker c.args.self.now c.turn.new.self c.if-branch.true c.in_ok-turn.ensures))
 
 pub returns : goal.returns
 returns c =

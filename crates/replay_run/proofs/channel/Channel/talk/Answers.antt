@@ -6,4 +6,5 @@ use Rattle.replay_run.proofs.channel.Channel.talk.Goals as goal
 
 pub returns-in_ok-collect-in-Collect-clause-tells : goal.returns-in_ok-collect-in-Collect-clause-tells
 returns-in_ok-collect-in-Collect-clause-tells c =
-    subst (λ (l : Line). Tells (Talks l c.args.conn) c.args.player.now c.collect.new.player c.args.self.now c.collect.new.self) (sym c.in-Collect.is) c.in_ok-collect-in-Collect.ensures.tells
+    subst (λ (l : Line). Tells (Talks l c.args.conn) c.args.player.now c.collect.new.player c.args.self.now c.collect.new.self)
+    (sym c.in-Collect.is) c.in_ok-collect-in-Collect.ensures.tells
