@@ -1,12 +1,14 @@
 //! System exceptions as they are told: CORBA 3.3 Part 1, A.5, and Part 2, 9.4.3.2.
 ghost use Rattle.std.specs.Prelude.{◌≡◌, ◌+◌, ◌^◌, ◌<◌, length, take, OnOk};
 ghost use Rattle.cdr_core.specs.Fields.{with_fields};
-ghost use Rattle.giop_msg.specs.Exception.{exception_id as id_of, completion_of as completion, exception_fields};
+ghost use Rattle.giop_msg.specs.Exception.{exception_id as id_of, completion_number as number_of, exception_fields};
 
 use cdr_core::Writer;
-use poa_base::minors::FAULT_SERVANT;
-use poa_base::{ExcName, SysExc, WantMemory};
+use poa_base::minors::completion_of;
+use poa_base::{Completion, ExcName, SysExc, WantMemory};
 
+/// COMPLETED_YES.
+pub(crate) const COMPLETED_YES: u32 = 0;
 /// COMPLETED_NO.
 pub(crate) const COMPLETED_NO: u32 = 1;
 /// COMPLETED_MAYBE.
@@ -19,7 +21,7 @@ pub(crate) fn put_exception(writer: &mut Writer, raised: &SysExc) -> Result<(), 
 {
     writer.put_text(exception_id(raised.name))?;
     writer.ulong(raised.minor)?;
-    writer.ulong(completion_of(raised.minor))
+    writer.ulong(completion_number(completion_of(raised.minor)))
 }
 
 // The repository id of an exception.
@@ -36,13 +38,13 @@ fn exception_id(name: ExcName) -> &'static [u8]
     }
 }
 
-// Whether the operation happened, by the minor code alone.
-fn completion_of(minor: u32) -> u32
-    ensures { result ≡ completion minor }
+// The number of a completion status.
+fn completion_number(completion: Completion) -> u32
+    ensures { result ≡ number_of completion }
 {
-    if minor == FAULT_SERVANT {
-        COMPLETED_MAYBE
-    } else {
-        COMPLETED_NO
+    match completion {
+        Completion::Yes => COMPLETED_YES,
+        Completion::No => COMPLETED_NO,
+        Completion::Maybe => COMPLETED_MAYBE,
     }
 }

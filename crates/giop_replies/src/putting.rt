@@ -3,7 +3,6 @@ ghost use Rattle.std.specs.Prelude.{◌≡◌, ◌++◌, OnOk};
 ghost use Rattle.giop_msg.specs.Reply.{reply_bytes};
 ghost use Rattle.giop_replies.specs.Calls.{IsReplyTo};
 
-use giop_msg::write_reply;
 use poa_base::{Head, Reply, WantMemory};
 use std::alloc::Global;
 
@@ -17,6 +16,5 @@ pub fn put_reply(
     requires { IsReplyTo head.now reply.now }
     ensures { OnOk result (out.new.items ≡ out.old.items ++ reply_bytes head.now reply.now) }
 {
-    let bytes = write_reply(alloc, head, reply)?;
-    out.extend_from_slice(bytes.as_slice())
+    giop_msg::put_reply(alloc, out, head, reply)
 }

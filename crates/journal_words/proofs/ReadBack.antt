@@ -16,7 +16,8 @@ use Rattle.poa_names.specs.declared.ExcName.TheVariants as exception
 use Rattle.poa_names.specs.declared.SysExc.{SysExc}
 use Rattle.admin_line.specs.declared.Source.TheVariants.{Journal}
 use Rattle.journal_words.specs.Fixed.{call_word, order_word, order_for, is_little, ruling_word, trial_word, bringing_word, mark_word, exception_word}
-use Rattle.journal_words.specs.Exception.{exception_tokens, exception_of, exception_name_of, completion_of}
+use Rattle.poa_base.specs.Minors.{completion_of}
+use Rattle.journal_words.specs.Exception.{exception_tokens, exception_of, exception_name_of}
 use Rattle.journal_words.specs.Verdict.{verdict_tokens, verdict_of}
 use Rattle.journal_words.specs.Call.{call_tokens, call_of, target_token, target_of, order_of}
 use Rattle.journal_words.specs.Outcome.{attempt_tokens, attempt_of, incarnation_tokens, incarnation_of}

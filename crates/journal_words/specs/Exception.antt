@@ -1,10 +1,8 @@
 -- System exceptions in a journal: the standard name, and the minor in eight hexadecimal digits.
-use Rattle.std.specs.Prelude.{◌≡◌, ℕ, ◌==◌, List, [], ◌∷◌, Option, None, if◌then◌else◌}
-use Rattle.poa_base.specs.declared.minors.TheConstants.{FAULT_SERVANT}
+use Rattle.std.specs.Prelude.{◌≡◌, ℕ, List, [], ◌∷◌, Option, None}
+use Rattle.poa_base.specs.Minors.{completion_of}
 use Rattle.poa_names.specs.declared.ExcName.{ExcName}
 use Rattle.poa_names.specs.declared.SysExc.{SysExc}
-use Rattle.poa_names.specs.declared.Completion.{Completion}
-use Rattle.poa_names.specs.declared.Completion.TheVariants.{Maybe, No}
 use Rattle.std.specs.Option.{option_map}
 use Rattle.text_words.specs.Chain.{◌>>=◌}
 use Rattle.text_words.specs.Keyword.{named_in}
@@ -12,10 +10,6 @@ use Rattle.text_words.specs.Hexadecimal.{minor_of}
 use Rattle.text_words.specs.Token.{Token, keyword, minor}
 use Rattle.journal_words.specs.Fixed.{exception_word, exceptions}
 use Rattle.text_words.specs.Parts.{alone}
-
--- whether the operation had ended, which follows from the minor: it may have where a servant failed
-abbrev pub completion_of : ℕ → Completion
-completion_of n = if n == FAULT_SERVANT then Maybe else No
 
 abbrev pub exception_tokens : SysExc → List Token
 exception_tokens e = keyword (exception_word e.name) ∷ minor e.minor ∷ []

@@ -2,22 +2,12 @@ ghost use Rattle.std.specs.Prelude.{◌≡◌, ◌++◌, IfOk, OnOk, map};
 ghost use Rattle.text_words.specs.WordGives.{WordGives};
 ghost use Rattle.text_words.specs.Token.{tails, texts};
 ghost use Rattle.journal_words.specs.Fixed.{exception_word};
-ghost use Rattle.journal_words.specs.Exception.{completion_of, exception_name_of, exception_of, exception_tokens};
+ghost use Rattle.journal_words.specs.Exception.{exception_name_of, exception_of, exception_tokens};
 
 use crate::fixed::Raised;
-use poa_base::minors::FAULT_SERVANT;
-use poa_base::{Completion, ExcName, SysExc, WantMemory};
+use poa_base::minors::completion_of;
+use poa_base::{ExcName, SysExc, WantMemory};
 use text_words::{WordFault, Worded, find_word, minor, nothing, put_minor, put_word};
-
-fn completion(minor: u32) -> Completion
-    ensures { result ≡ completion_of minor }
-{
-    if minor == FAULT_SERVANT {
-        Completion::Maybe
-    } else {
-        Completion::No
-    }
-}
 
 fn exception_name(word: &[u8]) -> Result<ExcName, WordFault>
     ensures value { WordGives result (exception_name_of word.now) }
@@ -63,7 +53,7 @@ pub(crate) fn read_exception(words: &[&[u8]]) -> Result<SysExc, WordFault>
     Ok(SysExc {
         name,
         minor,
-        done: completion(minor),
+        done: completion_of(minor),
     })
 }
 

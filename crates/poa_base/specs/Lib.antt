@@ -1,3 +1,4 @@
+pub mod Minors
 pub mod Rows
 pub mod Shelves
 pub mod Store

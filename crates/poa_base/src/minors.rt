@@ -1,6 +1,11 @@
 //! The minor codes of the system exceptions: CORBA 3.3 Part 1, A.5. Those of the OMG begin at 0x4F4D0000
 //! (OMGVMCID), those of this server at 0xFFFFF000; the low bits number them within one exception.
 
+ghost use Rattle.std.specs.Prelude.{◌≡◌};
+ghost use Rattle.poa_base.specs.Minors as told;
+
+use poa_names::Completion;
+
 /// TRANSIENT 1 of the OMG: the manager discards requests, or too many calls stood unadmitted.
 pub const DISCARDED: u32 = 0x4F4D_0001;
 
@@ -44,3 +49,14 @@ pub const BAD_ARGUMENTS: u32 = 0xFFFF_F008;
 
 /// UNKNOWN 9 of this server: a fault servant raised it. Of this minor alone the completion is MAYBE.
 pub const FAULT_SERVANT: u32 = 0xFFFF_F009;
+
+/// Whether the operation had ended when an exception of this minor code was raised.
+pub fn completion_of(minor: u32) -> Completion
+    ensures { result ≡ told.completion_of minor }
+{
+    if minor == FAULT_SERVANT {
+        Completion::Maybe
+    } else {
+        Completion::No
+    }
+}
