@@ -1,10 +1,8 @@
 -- The rules of a servant manager in a configuration.
-use Rattle.std.specs.Prelude.{ℕ, ◌==◌, Bool, true, false, ◌||◌, List, [], ◌∷◌, codes, length, Option, Some, None, is_some, Result, Ok, Err, if◌then◌else◌}
+use Rattle.std.specs.Prelude.{ℕ, Bool, true, false, ◌||◌, List, [], ◌∷◌, codes, length, Option, Some, None, is_some, Result, Ok, Err, if◌then◌else◌}
 use Rattle.std.specs.Option.{option_map}
 use Rattle.std.specs.Str.{bytes_eq}
-use Rattle.poa_base.specs.declared.minors.TheConstants.{FAULT_SERVANT}
-use Rattle.poa_names.specs.declared.Completion.{Completion}
-use Rattle.poa_names.specs.declared.Completion.TheVariants as done
+use Rattle.poa_base.specs.Minors.{completion_of}
 use Rattle.poa_base.specs.declared.Gives.{Gives}
 use Rattle.poa_base.specs.declared.Gives.TheVariants as gives
 use Rattle.poa_names.specs.declared.PolicySet.{PolicySet}
@@ -40,10 +38,6 @@ way_of ms =
     if has (codes "servant") ms then way.Servant else (
     if has (codes "forward_host") ms || has (codes "forward_port") ms then way.Forward else (
     if has (codes "raise") ms || has (codes "minor") ms then way.Raise else way.Missing)))
-
--- whether the operation had ended: only the servant that always fails can't tell
-unfoldable pub completion_of : ℕ → Completion
-completion_of minor = if minor == FAULT_SERVANT then done.Maybe else done.No
 
 -- the keys of the other ways aren't there
 unfoldable pub no_other : Place → Members → Result (Unit {0}) ConfFault

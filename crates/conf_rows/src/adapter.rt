@@ -1,19 +1,17 @@
 //! The adapters of a configuration.
-ghost use Rattle.std.specs.Prelude.{◌≡◌, ◌≤◌, ◌<◌, true, false, [], length, None, IfOk, IfSome, option_map, Option};
-ghost use Rattle.std.specs.List.{slice_get};
-ghost use Rattle.toml.specs.View.{view, table_view, items_view};
-ghost use Rattle.conf_fields.specs.Entries.{entries_of};
+ghost use Rattle.std.specs.Prelude.{◌≡◌, ◌≤◌, true, false, [], length, None, IfOk, IfSome, Option};
+ghost use Rattle.toml.specs.View.{table_view};
 ghost use Rattle.conf_fields.specs.FieldGives.{FieldGives, GivesView};
 ghost use Rattle.conf_fields.specs.Look.{only_known};
-ghost use Rattle.conf_fields.specs.Numbers.{Find, IsNumber, find_in, noted, place_of};
+ghost use Rattle.conf_fields.specs.Numbers.{Find, IsNumber, find_in, place_of};
 ghost use Rattle.conf_rules.specs.Adapters.{IsPreset};
 ghost use Rattle.conf_rules.specs.Entries.{EachAfter};
 ghost use Rattle.conf_rows.specs.Found.{HasParent, IsFound, IsManagerNumber, IsRead, IsReadAfter};
-ghost use Rattle.conf_fields.specs.declared.Place.TheVariants as place;
 ghost use Rattle.text_words.specs.Path.{path_text};
-ghost use Rattle.conf_rows.specs.Adapters.{adapter_keys as the_adapter_keys, parent_text as the_parent_text, parent_boots as the_parent_boots, boots_at as the_boots_at, boot_at as the_boot_at, manager_number as the_manager_number, preset_given as the_preset_given, preset_at as the_preset_at, root_at as the_root_at, template_at as the_template_at, entry_at as the_entry_at, adapter_at as the_adapter_at, adapter_in, adapter_after, adapter_paths, adapters_of};
+ghost use Rattle.conf_rows.specs.Adapters.{adapter_keys as the_adapter_keys, parent_text as the_parent_text, parent_boots as the_parent_boots, boots_at as the_boots_at, boot_at as the_boot_at, manager_number as the_manager_number, preset_given as the_preset_given, preset_at as the_preset_at, root_at as the_root_at, template_at as the_template_at, entry_at as the_entry_at, adapter_at as the_adapter_at, adapter_after, adapter_paths, adapters_of};
 
 use crate::policies::policies_at;
+use crate::reading::{Reader, read};
 use crate::rule::rules_at;
 use conf_fields::{
     ConfFault, Numbers, Place, entries_at, find, flag_or, has, known_keys, no_numbers, none_of,
@@ -251,59 +249,43 @@ fn adapter_at<'a>(
     Ok((adapter, text))
 }
 
-/// Reads the entry at index `i`, and notes its path.
-fn next_adapter(
-    alloc: Global,
-    i: u32,
-    value: &Value,
-    managers: &Numbers,
-    servants: &Numbers,
-    paths: &mut Numbers,
-    adapters: &[AdapterConf],
-) -> Result<AdapterConf, ConfFault>
-    ensures entry { FieldGives result
-        (adapter_in i (find_in managers.now) (find_in servants.now) (find_in paths.old) adapters.now (view value.now)) }
-    ensures read { IfOk result (λ a. IsRead (find_in managers.now) (find_in servants.now) (find_in paths.old) adapters.now a) }
-    ensures noted { IfOk result (λ a. find_in paths.new ≡ noted (path_text a.path) i (find_in paths.old)) }
-{
-    let table = table_in(alloc, Place::Adapter(i), value)?;
-    let (adapter, text) = {
-        let earlier = Earlier {
-            managers,
-            servants,
-            paths,
-            adapters,
-        };
-        adapter_at(alloc, i, &earlier, table)?
-    };
-    note(alloc, paths, text, i)?;
-    Ok(adapter)
+/// Reads adapters, by the numbers of managers and servants.
+#[derive(Drop)]
+struct AdapterRows<'a> {
+    managers: &'a Numbers,
+    servants: &'a Numbers,
 }
 
-fn entries(
-    alloc: Global,
-    values: &[Value],
-    managers: &Numbers,
-    servants: &Numbers,
-    paths: &mut Numbers,
-) -> Result<Items<AdapterConf>, ConfFault>
-    requires few { length values.now ≤ 1024 }
-    requires start { find_in paths.old ≡ place_of (adapter_paths []) }
-    ensures value { FieldGives result
-        (entries_of (adapter_after (find_in managers.now) (find_in servants.now)) [] (items_view values.now)) }
-    ensures paths { IfOk result (λ adapters. find_in paths.new ≡ place_of (adapter_paths adapters)) }
-    ensures read { IfOk result (λ adapters. EachAfter (IsReadAfter (find_in managers.now) (find_in servants.now)) [] adapters) }
-    ensures few { IfOk result (λ adapters. length adapters ≤ 1024) }
-{
-    let mut adapters = Vec::new(alloc);
-    for (i, value) in values.iter().enumerate() {
-        let earlier = adapters.as_slice();
-        let adapter = next_adapter(alloc, i as u32, value, managers, servants, paths, earlier)?;
-        let Ok(()) = adapters.push(adapter) else {
-            return Err(ConfFault::WantMemory);
+impl<'a> Reader for AdapterRows<'a> {
+    type Entry = AdapterConf;
+
+    ghost after = { λ r. adapter_after (find_in r.managers.now) (find_in r.servants.now) };
+
+    ghost rule = { λ r. IsReadAfter (find_in r.managers.now) (find_in r.servants.now) };
+
+    ghost names = { λ _. adapter_paths };
+
+    fn next(
+        &self,
+        alloc: Global,
+        i: u32,
+        done: &[AdapterConf],
+        value: &Value,
+        paths: &mut Numbers,
+    ) -> Result<AdapterConf, ConfFault> {
+        let table = table_in(alloc, Place::Adapter(i), value)?;
+        let (adapter, text) = {
+            let earlier = Earlier {
+                managers: self.managers,
+                servants: self.servants,
+                paths,
+                adapters: done,
+            };
+            adapter_at(alloc, i, &earlier, table)?
         };
+        note(alloc, paths, text, i)?;
+        Ok(adapter)
     }
-    Ok(Items::from_vec(adapters))
 }
 
 /// The adapters of the document, and the places of their paths, by the numbers of managers and servants.
@@ -321,6 +303,7 @@ pub fn adapters(
 {
     let values = entries_at(alloc, Place::Top, top, "adapter", 1024)?;
     let mut paths = no_numbers(alloc);
-    let adapters = entries(alloc, values, managers, servants, &mut paths)?;
+    let reader = AdapterRows { managers, servants };
+    let adapters = read(alloc, &reader, values, &mut paths)?;
     Ok((adapters, paths))
 }

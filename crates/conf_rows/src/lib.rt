@@ -5,6 +5,7 @@
 mod adapter;
 mod manager;
 mod policies;
+mod reading;
 mod rule;
 mod servant;
 

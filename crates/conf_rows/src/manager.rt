@@ -1,16 +1,15 @@
 //! The managers of a configuration.
-ghost use Rattle.std.specs.Prelude.{◌≡◌, ◌≤◌, ◌<◌, ◌+◌, true, [], length, None, IfOk, IfErr};
-ghost use Rattle.toml.specs.View.{view, table_view, items_view};
-ghost use Rattle.conf_fields.specs.Entries.{entries_of};
-ghost use Rattle.conf_fields.specs.FieldGives.{FieldGives, GivesView};
+ghost use Rattle.std.specs.Prelude.{◌≡◌, ◌≤◌, true, [], length, None, IfOk, IfErr};
+ghost use Rattle.toml.specs.View.{table_view};
+ghost use Rattle.conf_fields.specs.FieldGives.{GivesView};
 ghost use Rattle.text_words.specs.Name.{is_name};
 ghost use Rattle.conf_rules.specs.Entries.{EachAfter};
 ghost use Rattle.conf_rules.specs.Rules.{IsManager};
-ghost use Rattle.conf_fields.specs.Numbers.{find_in, noted, place_of};
-ghost use Rattle.conf_fields.specs.declared.Place.TheVariants as place;
+ghost use Rattle.conf_fields.specs.Numbers.{find_in, place_of};
 ghost use Rattle.conf_fields.specs.declared.ConfFault.TheVariants as fault;
-ghost use Rattle.conf_rows.specs.Managers.{manager_at as the_manager_at, manager_in, manager_after, manager_names, managers_of};
+ghost use Rattle.conf_rows.specs.Managers.{manager_at as the_manager_at, manager_after, manager_names, managers_of};
 
+use crate::reading::{Reader, read};
 use conf_fields::{
     ConfFault, Numbers, Place, entries_at, known_keys, name_at, no_numbers, not_twice, note,
     table_in, word_or,
@@ -39,46 +38,33 @@ fn manager_at<'a>(
     Ok((ManagerConf { name, start }, text))
 }
 
-/// Reads the entry at index `i`, and notes its name.
-fn next_manager(
-    alloc: Global,
-    i: u32,
-    value: &Value,
-    numbers: &mut Numbers,
-) -> Result<ManagerConf, ConfFault>
-    requires { i < 1024 }
-    ensures entry { FieldGives result (manager_in (place.Manager i) (find_in numbers.old) (view value.now)) }
-    ensures fresh { IfOk result (λ m. find_in numbers.old m.name ≡ None) }
-    ensures named { IfOk result (λ m. is_name m.name ≡ true) }
-    ensures noted { IfOk result (λ m. find_in numbers.new ≡ noted m.name (i + 1) (find_in numbers.old)) }
-{
-    let at = Place::Manager(i);
-    let table = table_in(alloc, at, value)?;
-    let (manager, text) = manager_at(alloc, at, numbers, table)?;
-    note(alloc, numbers, text, i + 1)?;
-    Ok(manager)
-}
+/// Reads managers. The first has the number 1, since `root` is 0.
+#[derive(Drop)]
+struct ManagerRows;
 
-fn entries(
-    alloc: Global,
-    values: &[Value],
-    numbers: &mut Numbers,
-) -> Result<Items<ManagerConf>, ConfFault>
-    requires few { length values.now ≤ 1024 }
-    requires start { find_in numbers.old ≡ place_of (manager_names []) }
-    ensures value { FieldGives result (entries_of manager_after [] (items_view values.now)) }
-    ensures numbers { IfOk result (λ managers. find_in numbers.new ≡ place_of (manager_names managers)) }
-    ensures kept { IfOk result (λ managers. EachAfter IsManager [] managers) }
-    ensures few { IfOk result (λ managers. length managers ≤ 1024) }
-{
-    let mut managers = Vec::new(alloc);
-    for (i, value) in values.iter().enumerate() {
-        let manager = next_manager(alloc, i as u32, value, numbers)?;
-        let Ok(()) = managers.push(manager) else {
-            return Err(ConfFault::WantMemory);
-        };
+impl Reader for ManagerRows {
+    type Entry = ManagerConf;
+
+    ghost after = { λ _. manager_after };
+
+    ghost rule = { λ _. IsManager };
+
+    ghost names = { λ _. manager_names };
+
+    fn next(
+        &self,
+        alloc: Global,
+        i: u32,
+        _done: &[ManagerConf],
+        value: &Value,
+        numbers: &mut Numbers,
+    ) -> Result<ManagerConf, ConfFault> {
+        let at = Place::Manager(i);
+        let table = table_in(alloc, at, value)?;
+        let (manager, text) = manager_at(alloc, at, numbers, table)?;
+        note(alloc, numbers, text, i + 1)?;
+        Ok(manager)
     }
-    Ok(Items::from_vec(managers))
 }
 
 fn root_alone(alloc: Global) -> Result<Numbers, ConfFault>
@@ -100,6 +86,6 @@ pub fn managers(alloc: Global, top: &Table) -> Result<(Items<ManagerConf>, Numbe
 {
     let values = entries_at(alloc, Place::Top, top, "manager", 1024)?;
     let mut numbers = root_alone(alloc)?;
-    let managers = entries(alloc, values, &mut numbers)?;
+    let managers = read(alloc, &ManagerRows, values, &mut numbers)?;
     Ok((managers, numbers))
 }

@@ -10,14 +10,14 @@ ghost use Rattle.std.specs.List.{AllByRecursion};
 ghost use Rattle.conf_fields.specs.declared.ConfFault.TheVariants as fault;
 ghost use Rattle.conf_fields.specs.declared.Place.TheVariants as place;
 ghost use Rattle.poa_names.specs.Policies.{is_servant_manager as the_servant_manager};
-ghost use Rattle.conf_rows.specs.Rules.{matched as the_matched, no_other as the_no_other, not_raised as the_not_raised, way_of as the_way_of, completion_of as the_completion_of, fresh_at as the_fresh_at, servant_given as the_servant_given, forward_given as the_forward_given, raise_given as the_raise_given, given_by as the_given_by, rule_at as the_rule_at, rule_in, rule_after, rules_at as the_rules_at, is_empty as the_empty, rule_keys as the_rule_keys};
+ghost use Rattle.conf_rows.specs.Rules.{matched as the_matched, no_other as the_no_other, not_raised as the_not_raised, way_of as the_way_of, fresh_at as the_fresh_at, servant_given as the_servant_given, forward_given as the_forward_given, raise_given as the_raise_given, given_by as the_given_by, rule_at as the_rule_at, rule_in, rule_after, rules_at as the_rules_at, is_empty as the_empty, rule_keys as the_rule_keys};
 
 use conf_fields::{
     ConfFault, Numbers, Place, at_most, has, host_at, id_of_text, items_at, known_keys, member_at,
     none_of, number_named, number_or, only_if, port_at, table_in, word_at, wrong,
 };
-use poa_base::minors::FAULT_SERVANT;
-use poa_base::{Completion, Endpoint, Gives, Items, Oid, PolicySet, RuleConf, SysExc};
+use poa_base::minors::completion_of;
+use poa_base::{Endpoint, Gives, Items, Oid, PolicySet, RuleConf, SysExc};
 use std::alloc::Global;
 use toml::{Table, Value};
 
@@ -78,17 +78,6 @@ fn matched_at(alloc: Global, at: Place, table: &Table) -> Result<Option<Oid>, Co
     match matched(alloc, text)? {
         Some(oid) => Ok(oid),
         None => wrong(alloc, at, "id"),
-    }
-}
-
-#[tactic(auto, unfolding(crate::specs::Rules::completion_of))]
-fn completion_of(minor: u32) -> Completion
-    ensures { result ≡ the_completion_of minor }
-{
-    if minor == FAULT_SERVANT {
-        Completion::Maybe
-    } else {
-        Completion::No
     }
 }
 

@@ -1,15 +1,14 @@
 //! The servants of a configuration.
-ghost use Rattle.std.specs.Prelude.{◌≡◌, ◌≤◌, ◌<◌, ◌+◌, true, [], length, None, IfOk};
-ghost use Rattle.toml.specs.View.{view, table_view, items_view};
-ghost use Rattle.conf_fields.specs.Entries.{entries_of};
+ghost use Rattle.std.specs.Prelude.{◌≡◌, ◌≤◌, true, [], length, None, IfOk};
+ghost use Rattle.toml.specs.View.{table_view};
 ghost use Rattle.conf_fields.specs.FieldGives.{FieldGives, GivesView};
 ghost use Rattle.text_words.specs.Name.{is_name};
 ghost use Rattle.conf_rules.specs.Entries.{EachAfter};
 ghost use Rattle.conf_rules.specs.Rules.{IsServant};
-ghost use Rattle.conf_fields.specs.Numbers.{find_in, noted, place_of};
-ghost use Rattle.conf_fields.specs.declared.Place.TheVariants as place;
-ghost use Rattle.conf_rows.specs.Servants.{without_value as the_without_value, register_opening, opening as the_opening, servant_at as the_servant_at, servant_in, servant_after, servant_names, servants_of};
+ghost use Rattle.conf_fields.specs.Numbers.{find_in, place_of};
+ghost use Rattle.conf_rows.specs.Servants.{without_value as the_without_value, register_opening, opening as the_opening, servant_at as the_servant_at, servant_after, servant_names, servants_of};
 
+use crate::reading::{Reader, read};
 use conf_fields::{
     ConfFault, Numbers, Place, entries_at, integer_or, known_keys, name_at, no_numbers, none_of,
     not_twice, note, table_in, word_at,
@@ -66,45 +65,33 @@ fn servant_at<'a>(
     Ok((ServantConf { name, state }, text))
 }
 
-/// Reads the entry at index `i`, and notes its name.
-fn next_servant(
-    alloc: Global,
-    i: u32,
-    value: &Value,
-    numbers: &mut Numbers,
-) -> Result<ServantConf, ConfFault>
-    ensures entry { FieldGives result (servant_in (place.Servant i) (find_in numbers.old) (view value.now)) }
-    ensures fresh { IfOk result (λ s. find_in numbers.old s.name ≡ None) }
-    ensures named { IfOk result (λ s. is_name s.name ≡ true) }
-    ensures noted { IfOk result (λ s. find_in numbers.new ≡ noted s.name i (find_in numbers.old)) }
-{
-    let at = Place::Servant(i);
-    let table = table_in(alloc, at, value)?;
-    let (servant, text) = servant_at(alloc, at, numbers, table)?;
-    note(alloc, numbers, text, i)?;
-    Ok(servant)
-}
+/// Reads servants.
+#[derive(Drop)]
+struct ServantRows;
 
-fn entries(
-    alloc: Global,
-    values: &[Value],
-    numbers: &mut Numbers,
-) -> Result<Items<ServantConf>, ConfFault>
-    requires few { length values.now ≤ 1024 }
-    requires start { find_in numbers.old ≡ place_of (servant_names []) }
-    ensures value { FieldGives result (entries_of servant_after [] (items_view values.now)) }
-    ensures numbers { IfOk result (λ servants. find_in numbers.new ≡ place_of (servant_names servants)) }
-    ensures kept { IfOk result (λ servants. EachAfter IsServant [] servants) }
-    ensures few { IfOk result (λ servants. length servants ≤ 1024) }
-{
-    let mut servants = Vec::new(alloc);
-    for (i, value) in values.iter().enumerate() {
-        let servant = next_servant(alloc, i as u32, value, numbers)?;
-        let Ok(()) = servants.push(servant) else {
-            return Err(ConfFault::WantMemory);
-        };
+impl Reader for ServantRows {
+    type Entry = ServantConf;
+
+    ghost after = { λ _. servant_after };
+
+    ghost rule = { λ _. IsServant };
+
+    ghost names = { λ _. servant_names };
+
+    fn next(
+        &self,
+        alloc: Global,
+        i: u32,
+        _done: &[ServantConf],
+        value: &Value,
+        numbers: &mut Numbers,
+    ) -> Result<ServantConf, ConfFault> {
+        let at = Place::Servant(i);
+        let table = table_in(alloc, at, value)?;
+        let (servant, text) = servant_at(alloc, at, numbers, table)?;
+        note(alloc, numbers, text, i)?;
+        Ok(servant)
     }
-    Ok(Items::from_vec(servants))
 }
 
 /// The servants of the document, and the numbers of their names, from 0 on.
@@ -117,6 +104,6 @@ pub fn servants(alloc: Global, top: &Table) -> Result<(Items<ServantConf>, Numbe
 {
     let values = entries_at(alloc, Place::Top, top, "servant", 1024)?;
     let mut numbers = no_numbers(alloc);
-    let servants = entries(alloc, values, &mut numbers)?;
+    let servants = read(alloc, &ServantRows, values, &mut numbers)?;
     Ok((servants, numbers))
 }
