@@ -10,7 +10,7 @@ use Rattle.arrival_tables.specs.Queued.{IsQueue}
 
 -- the newest entry first
 abbrev pub history : Known → List Entry
-history k = reverse k.entries.now
+history k = reverse k.entries.now.items
 
 pub record IsTold (k : Known) : Type 0 where
   pub called : KnowsCalls (history k) k.calls.now.places.items

@@ -1,13 +1,15 @@
 //! Where in the journal each call arrived.
-ghost use Rattle.std.specs.Prelude.{◌≡◌, [], ◌∷◌, ◌<◌, ℕ, true, List, length, Some, None, reverse, option_copied, vec_len, vec_capacity, IfOk, IsOk, OnOk};
+ghost use Rattle.std.specs.Prelude.{◌≡◌, [], ◌∷◌, ◌<◌, ℕ, true, List, length, Some, None, reverse, option_copied, option_map, vec_len, vec_capacity, IfOk, IsOk, OnOk};
 ghost use Rattle.std.specs.List.{slice_get};
 ghost use Rattle.poa_base.specs.declared.Entry.{Entry};
+ghost use Rattle.journal_entries.specs.Rows.{seen};
 ghost use Rattle.poa_history.specs.Arrivals as arrived;
 ghost use Rattle.standing_of.specs.Entries as made;
 ghost use Rattle.arrival_tables.specs.Queued as queued;
 ghost use Rattle.arrival_tables.specs.Placed as placed;
 ghost use Rattle.arrival_tables.specs.Placed.{KnowsCalls};
 
+use journal_entries::{Entries, EntryView, Row};
 use poa_base::{Attempt, Call, Entry, WantMemory};
 use poa_history::Stage;
 use standing_queries::workers::arrival_in;
@@ -29,8 +31,8 @@ pub fn none(alloc: Global) -> Calls
 }
 
 /// The entry with which a call arrived.
-fn entry_of<'a>(entries: &'a [Entry], places: &[usize], arrival: u64) -> Option<&'a Entry>
-    ensures { option_copied result ≡ placed.entry_of entries.now places.now arrival }
+fn entry_of<'a>(entries: &'a Entries, places: &[usize], arrival: u64) -> Option<EntryView<'a>>
+    ensures { option_map seen result ≡ placed.entry_of entries.now.items places.now arrival }
 {
     match places.get(arrival as usize) {
         Some(place) => entries.get(*place),
@@ -39,44 +41,44 @@ fn entry_of<'a>(entries: &'a [Entry], places: &[usize], arrival: u64) -> Option<
 }
 
 /// The call that arrived with an entry.
-fn call_in(entry: Option<&Entry>) -> Option<&Call>
-    ensures { option_copied result ≡ placed.call_in (option_copied entry.entry) }
+fn call_in(entry: Option<EntryView<'_>>) -> Option<&Call>
+    ensures { option_copied result ≡ placed.call_in (option_map seen entry.entry) }
 {
     match entry {
-        Some(Entry::Arrive { call, .. }) => Some(call),
+        Some(Row::Whole(Entry::Arrive { call, .. })) => Some(call),
         _ => None,
     }
 }
 
 /// The connection on which a call arrived with an entry.
-fn conn_in(entry: Option<&Entry>) -> Option<u32>
-    ensures { result ≡ placed.conn_in (option_copied entry.entry) }
+fn conn_in(entry: Option<EntryView<'_>>) -> Option<u32>
+    ensures { result ≡ placed.conn_in (option_map seen entry.entry) }
 {
     match entry {
-        Some(Entry::Arrive { conn, .. }) => Some(*conn),
+        Some(Row::Whole(Entry::Arrive { conn, .. })) => Some(*conn),
         _ => None,
     }
 }
 
 /// The call of an arrival.
-pub fn call<'a>(entries: &'a [Entry], calls: &Calls, arrival: u64) -> Option<&'a Call>
-    ensures { KnowsCalls (reverse entries.now) calls.now.places.items
-        → option_copied result ≡ arrived.call_of (reverse entries.now) arrival }
+pub fn call<'a>(entries: &'a Entries, calls: &Calls, arrival: u64) -> Option<&'a Call>
+    ensures { KnowsCalls (reverse entries.now.items) calls.now.places.items
+        → option_copied result ≡ arrived.call_of (reverse entries.now.items) arrival }
 {
     call_in(entry_of(entries, &calls.places, arrival))
 }
 
 /// The connection of an arrival.
-pub fn conn(entries: &[Entry], calls: &Calls, arrival: u64) -> Option<u32>
-    ensures { KnowsCalls (reverse entries.now) calls.now.places.items → result ≡ arrived.conn_of (reverse entries.now) arrival }
+pub fn conn(entries: &Entries, calls: &Calls, arrival: u64) -> Option<u32>
+    ensures { KnowsCalls (reverse entries.now.items) calls.now.places.items → result ≡ arrived.conn_of (reverse entries.now.items) arrival }
 {
     conn_in(entry_of(entries, &calls.places, arrival))
 }
 
 /// The call that an entry admits.
-pub fn call_admitted<'a>(entries: &'a [Entry], calls: &Calls, entry: &Entry) -> Option<&'a Call>
-    ensures { KnowsCalls (reverse entries.now) calls.now.places.items
-        → option_copied result ≡ made.call_admitted (reverse entries.now) entry.now }
+pub fn call_admitted<'a>(entries: &'a Entries, calls: &Calls, entry: &Entry) -> Option<&'a Call>
+    ensures { KnowsCalls (reverse entries.now.items) calls.now.places.items
+        → option_copied result ≡ made.call_admitted (reverse entries.now.items) entry.now }
 {
     match entry {
         Entry::Admit { arrival, .. } => call(entries, calls, *arrival),
@@ -85,9 +87,9 @@ pub fn call_admitted<'a>(entries: &'a [Entry], calls: &Calls, entry: &Entry) -> 
 }
 
 /// The call of an arrival, where there is one.
-fn call_at<'a>(entries: &'a [Entry], calls: &Calls, arrival: Option<u64>) -> Option<&'a Call>
-    ensures { KnowsCalls (reverse entries.now) calls.now.places.items
-        → option_copied result ≡ elim arrival [ Some r ↦ arrived.call_of (reverse entries.now) r | None ↦ None ] }
+fn call_at<'a>(entries: &'a Entries, calls: &Calls, arrival: Option<u64>) -> Option<&'a Call>
+    ensures { KnowsCalls (reverse entries.now.items) calls.now.places.items
+        → option_copied result ≡ elim arrival [ Some r ↦ arrived.call_of (reverse entries.now.items) r | None ↦ None ] }
 {
     match arrival {
         Some(arrival) => call(entries, calls, arrival),
@@ -98,13 +100,13 @@ fn call_at<'a>(entries: &'a [Entry], calls: &Calls, arrival: Option<u64>) -> Opt
 /// The call that goes back to the queue with an entry, where one does. It is given what the entry's worker had
 /// begun.
 pub fn call_tried<'a>(
-    entries: &'a [Entry],
+    entries: &'a Entries,
     calls: &Calls,
     entry: &Entry,
     stage: Stage,
 ) -> Option<&'a Call>
-    ensures { KnowsCalls (reverse entries.now) calls.now.places.items → stage ≡ made.stage_at (reverse entries.now) entry.now
-        → option_copied result ≡ queued.call_tried (reverse entries.now) entry.now }
+    ensures { KnowsCalls (reverse entries.now.items) calls.now.places.items → stage ≡ made.stage_at (reverse entries.now.items) entry.now
+        → option_copied result ≡ queued.call_tried (reverse entries.now.items) entry.now }
 {
     match entry {
         Entry::Tried {

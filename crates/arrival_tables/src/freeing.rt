@@ -10,9 +10,9 @@ ghost use Rattle.standing_queries.specs.Seen.{seen};
 use history_holds::Freed;
 use poa_base::Entry;
 use poa_history::Stage;
-use poa_verdicts::flight_of;
 use standing_queries::Standing;
 use standing_queries::commands::is_accepted;
+use standing_queries::flights::flight_of;
 use standing_queries::searches::activation_numbered;
 use standing_queries::workers::arrival_in;
 
@@ -23,7 +23,7 @@ fn landing(standing: &Standing, arrival: Option<u64>) -> Freed
     let Some(arrival) = arrival else {
         return Freed::nothing();
     };
-    match flight_of(standing, arrival) {
+    match flight_of(&standing.flights, arrival) {
         Some(flight) => Freed {
             landed: Some(flight.adapter),
             moved: flight.activation,

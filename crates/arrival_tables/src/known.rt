@@ -22,6 +22,7 @@ use crate::queue::{Queue, is_crowded, waits};
 use crate::workers::{Workers, stage};
 use adapter_settings::Settings;
 use held_queue::HeldQueue;
+use journal_entries::Entries;
 use poa_base::{Config, Entry, Verdict, WantMemory};
 use poa_history::Stage;
 use poa_verdicts::{Look, going_on, look_at, removal, verdict_on};
@@ -34,7 +35,7 @@ pub struct Known<'a> {
     pub config: &'a Config,
     pub run: u32,
     /// The journal, the oldest entry first.
-    pub entries: &'a [Entry],
+    pub entries: &'a Entries,
     pub calls: &'a Calls,
     pub queue: &'a Queue,
     pub standing: &'a Standing,

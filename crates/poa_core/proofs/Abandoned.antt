@@ -17,8 +17,12 @@ module _ (w : ℕ) (i : Inside) (kept : IsKept i) (low : w < 16) (going : is_aba
   abandoned_room =
       record {
         entries =
-            some_room (vec_len i.entries) (length i.desk.owing.items + length i.desk.outbox.items) (stay i.tables) (vec_capacity i.entries)
-            (stay_going (history i) w i.tables low going kept.agrees.tables) kept.space;
+            record {
+              row =
+                  some_room (length i.entries.items) (length i.desk.owing.items + length i.desk.outbox.items) (stay i.tables) (i.entries.capacity)
+                  (stay_going (history i) w i.tables low going kept.agrees.tables) kept.space;
+              whole = λ is. absurd (let e : true ≡ false = is in cc);
+            };
         calls = λ is. absurd (let e : false ≡ true = is in cc);
         queue = λ is. absurd (let e : false ≡ true = is in cc);
         held = λ is. absurd (let e : false ≡ true = is in cc);

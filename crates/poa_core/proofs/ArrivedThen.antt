@@ -92,9 +92,9 @@ module _ (conn size : ℕ) (call : Call) (old new : Inside) (ready : IsReady old
               owed = owed_without new.config new.run new.limit
                   (history old) conn size call noted.runs.legal new.desk.owing.items noted.before.which noted.before.each unasked;
             });
-        space = space_of (vec_len old.entries) (vec_len new.entries) (length old.desk.owing.items + length old.desk.outbox.items)
+        space = space_of (length old.entries.items) (length new.entries.items) (length old.desk.owing.items + length old.desk.outbox.items)
             (length new.desk.owing.items + length new.desk.outbox.items)
-            (stay old.tables) (stay new.tables) (vec_capacity old.entries) (vec_capacity new.entries) 0 noted.len
+            (stay old.tables) (stay new.tables) (old.entries.capacity) (new.entries.capacity) 0 noted.len
             (none_more (length old.desk.owing.items + length old.desk.outbox.items) (length new.desk.owing.items + length new.desk.outbox.items) noted.as_many)
             (omega arith) same_stay noted.capacity ready.space;
       }
@@ -121,9 +121,9 @@ module _ (conn size : ℕ) (call : Call) (old new : Inside) (ready : IsReady old
                   (new_owes new.config new.run new.limit (history old) conn size call noted.runs.legal row at (sym (ap (λ (o : Owing). o.conn) it))
                   (sym (ap (λ (o : Owing). o.number) it)) (sym (ap (λ (o : Owing). o.head) it)) (sym (ap (λ (o : Owing). o.wait) it))) asked);
             });
-        space = space_of (vec_len old.entries) (vec_len new.entries) (length old.desk.owing.items + length old.desk.outbox.items)
+        space = space_of (length old.entries.items) (length new.entries.items) (length old.desk.owing.items + length old.desk.outbox.items)
             (length desk.owing.items + length desk.outbox.items)
-            (stay old.tables) (stay new.tables) (vec_capacity old.entries) (vec_capacity new.entries) 1 noted.len
+            (stay old.tables) (stay new.tables) (old.entries.capacity) (new.entries.capacity) 1 noted.len
             (one_more (length old.desk.owing.items + length old.desk.outbox.items) (length new.desk.owing.items) (length new.desk.outbox.items)
             (length desk.owing.items) (length desk.outbox.items) noted.as_many (ap length owing ∙ length-append new.desk.owing.items (row ∷ []))
             (ap length outbox)) (omega arith) same_stay noted.capacity ready.space;

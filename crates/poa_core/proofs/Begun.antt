@@ -22,8 +22,8 @@ pub record IsNew (i : Inside) : Type 0 where
   pub outbox : i.desk.outbox.items ≡ []
   pub room : HasRoom i.desk
   pub entries : i.entries.items ≡ []
-  pub len : vec_len i.entries ≡ 0
-  pub space : 18 ≤ vec_capacity i.entries
+  pub len : length i.entries.items ≡ 0
+  pub space : 18 ≤ i.entries.capacity
 
 space_of : (l a b s room : ℕ) → l ≡ 0 → a ≡ 0 → b ≡ 0 → s ≡ 18 → 18 ≤ room → l + (a + b + s) + 0 ≤ room
 space_of l a b s room w x y z fits = omega (arith, w, x, y, z, fits)
@@ -40,6 +40,6 @@ begun_kept i is =
             filed = subst (AreFiled i.config i.run (opened_in i) []) (sym is.outbox) (record { which = refl; each = λ f none. absurd none });
             room = is.room;
           });
-      space = space_of (vec_len i.entries) (length i.desk.owing.items) (length i.desk.outbox.items) (stay i.tables) (vec_capacity i.entries)
+      space = space_of (length i.entries.items) (length i.desk.owing.items) (length i.desk.outbox.items) (stay i.tables) (i.entries.capacity)
           is.len (ap length is.owing) (ap length is.outbox) (stay_is [] i.tables is.tables ∙ ap (λ n. 2 + n) none_begun) is.space;
     }

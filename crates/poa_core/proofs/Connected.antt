@@ -52,8 +52,12 @@ pub left_room : (conn : ℕ) (i : Inside) → IsKept i → IsOpen (history i) co
 left_room conn i kept open_ =
     record {
       entries =
-          some_room (vec_len i.entries) (length i.desk.owing.items + length i.desk.outbox.items) (stay i.tables) (vec_capacity i.entries)
-          (stay_open (history i) conn i.tables open_ kept.agrees.tables) kept.space;
+          record {
+            row =
+                some_room (length i.entries.items) (length i.desk.owing.items + length i.desk.outbox.items) (stay i.tables) (i.entries.capacity)
+                (stay_open (history i) conn i.tables open_ kept.agrees.tables) kept.space;
+            whole = λ is. absurd (let e : true ≡ false = is in cc);
+          };
       calls = λ is. absurd (let e : false ≡ true = is in cc);
       queue = λ is. absurd (let e : false ≡ true = is in cc);
       held = λ is. absurd (let e : false ≡ true = is in cc);

@@ -49,9 +49,9 @@ module _ (conn : ℕ) (i : Inside) (kept : IsKept i) (desk : Desk) (given : IsGi
                 filed = subst (AreFiled i.config i.run (opened_in i) (history i)) outbox_same agrees.filed;
                 room = given.room;
               };
-          space = subst (λ (fs : List Filed). vec_len i.entries + (length desk.owing.items + length fs + stay i.tables) + 0 ≤ vec_capacity i.entries)
+          space = subst (λ (fs : List Filed). length i.entries.items + (length desk.owing.items + length fs + stay i.tables) + 0 ≤ i.entries.capacity)
               outbox_same
-              (subst (λ os. vec_len i.entries + (length os + length i.desk.outbox.items + stay i.tables) + 0 ≤ vec_capacity i.entries)
+              (subst (λ os. length i.entries.items + (length os + length i.desk.outbox.items + stay i.tables) + 0 ≤ i.entries.capacity)
               (sym given.owing) kept.space);
         })
 
@@ -69,8 +69,8 @@ module _ (conn : ℕ) (i : Inside) (kept : IsKept i) (desk : Desk) (given : IsGi
 
     pub space_for_one : HasSpace 1 then_
     space_for_one =
-        space_of (vec_len i.entries) (length i.desk.owing.items) (length desk.owing.items) (length i.desk.outbox.items) (length desk.outbox.items)
-        (stay i.tables) (vec_capacity i.entries)
+        space_of (length i.entries.items) (length i.desk.owing.items) (length desk.owing.items) (length i.desk.outbox.items) (length desk.outbox.items)
+        (stay i.tables) (i.entries.capacity)
         (ap length given.owing) one_less kept.space
 
     some_room : (l many s room : ℕ) → l + (many + s) + 1 ≤ room → l < room
@@ -79,7 +79,12 @@ module _ (conn : ℕ) (i : Inside) (kept : IsKept i) (desk : Desk) (given : IsGi
     pub collect_room : HasRoomForEntry (Collect conn f.arrival) then_
     collect_room =
         record {
-          entries = some_room (vec_len i.entries) (length desk.owing.items + length desk.outbox.items) (stay i.tables) (vec_capacity i.entries) space_for_one;
+          entries =
+              record {
+                row =
+                    some_room (length i.entries.items) (length desk.owing.items + length desk.outbox.items) (stay i.tables) (i.entries.capacity) space_for_one;
+                whole = λ is. absurd (let e : true ≡ false = is in cc);
+              };
           calls = λ is. absurd (let e : false ≡ true = is in cc);
           queue = λ is. absurd (let e : false ≡ true = is in cc);
           held = λ is. absurd (let e : false ≡ true = is in cc);

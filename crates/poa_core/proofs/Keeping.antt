@@ -46,9 +46,9 @@ pub kept_then : (k : ℕ) (e : Entry) (old new : Inside) → IsNoted e old new �
 kept_then k e old new noted same less space =
     record {
       agrees = agrees_then e old new noted same;
-      space = space_then k (vec_len old.entries) (vec_len new.entries) (length old.desk.owing.items + length old.desk.outbox.items)
+      space = space_then k (length old.entries.items) (length new.entries.items) (length old.desk.owing.items + length old.desk.outbox.items)
           (length new.desk.owing.items + length new.desk.outbox.items)
-          (stay old.tables) (stay new.tables) (vec_capacity old.entries) (vec_capacity new.entries) noted.len noted.as_many less noted.capacity space;
+          (stay old.tables) (stay new.tables) (old.entries.capacity) (new.entries.capacity) noted.len noted.as_many less noted.capacity space;
     }
 
 pub at_most : (a b k : ℕ) → a ≡ b → 1 ≤ k → a + 1 ≤ b + k
@@ -96,25 +96,23 @@ turn_stage past (Collect conn a) is = absurd (let e : false ≡ true = is in cc)
 turn_stage past (Abandon w) is = absurd (let e : false ≡ true = is in cc)
 
 -- it comes with what the journal and the tables say of it
-pub asked_then : (old mid : Inside) (k : Coming) (es es' : List Entry) → es ≡ mid.entries.items → es' ≡ mid.entries.items → Agrees (history mid) mid
-    → life mid ≡ life old
-    → IsRun old.config old.run old.limit (k.entry.now ∷ history old) → is_turn k.entry.now ≡ true → k.stage ≡ stage_at (history old) k.entry.now
-    → (KnowsCalls (reverse es) mid.tables.calls.places.items → k.stage ≡ stage_at (reverse es) k.entry.now
-    → option_copied k.call ≡ call_at (reverse es) k.entry.now)
-    → ((w : ℕ) → AnswersAs mid.config mid.run (reverse es') (seen mid.state.standing) → k.stage ≡ stage (reverse es') w
-    → k.runs ≡ servant_run mid.config mid.run (reverse es') k.stage)
+pub asked_then : (old mid : Inside) (k : Coming) → Agrees (history mid) mid → life mid ≡ life old
+    → IsRun old.config old.run old.limit (k.entry.now ∷ history old)
+    → is_turn k.entry.now ≡ true → k.stage ≡ stage_at (history old) k.entry.now
+    → (KnowsCalls (history mid) mid.tables.calls.places.items → k.stage ≡ stage_at (history mid) k.entry.now
+    → option_copied k.call ≡ call_at (history mid) k.entry.now)
+    → ((run limit w : ℕ) → IsRun mid.config run limit (history mid) → AnswersAs mid.config run (history mid) (seen mid.state.standing)
+    → k.stage ≡ stage (history mid) w
+    → k.runs ≡ servant_run mid.config run (history mid) k.stage)
     → IsAsked mid.config mid.run mid.limit (opened_in mid) (history mid) k mid.state
-asked_then old mid k es es' same same' agrees life_is follows turn begun_is called served =
+asked_then old mid k agrees life_is follows turn begun_is called served =
     (let begun = begun_still k.entry.now k.stage old mid life_is begun_is in record {
       follows = runs_still k.entry.now old mid life_is follows;
       turn = turn;
       begun_is = begun;
-      call_is =
-          subst (λ (xs : List Entry). KnowsCalls (reverse xs) mid.tables.calls.places.items → k.stage ≡ stage_at (reverse xs) k.entry.now
-          → option_copied k.call ≡ call_at (reverse xs) k.entry.now) same called agrees.tables.calls begun;
+      call_is = called agrees.tables.calls begun;
       servant_is = (let by = turn_stage (history mid) k.entry.now turn in
-          subst (λ (xs : List Entry). (w : ℕ) → AnswersAs mid.config mid.run (reverse xs) (seen mid.state.standing) → k.stage ≡ stage (reverse xs) w
-          → k.runs ≡ servant_run mid.config mid.run (reverse xs) k.stage) same' served by.0
+          served mid.run mid.limit by.0 agrees.runs
           (answers_state mid.config mid.run mid.limit (opened_in mid) (history mid) mid.state agrees.runs agrees.state) (begun ∙ by.1));
       state = agrees.state;
     })

@@ -17,3 +17,4 @@ pub mod Begun
 pub mod TableFits
 pub mod CommandFits
 pub mod ReplyFits
+pub mod Admitted

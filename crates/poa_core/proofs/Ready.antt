@@ -10,6 +10,7 @@ use Rattle.call_tables.specs.Decided.{AreFiled}
 use Rattle.poa_core.specs.declared.tables.Tables.{Tables}
 use Rattle.poa_core.specs.Agrees.{Agrees, KnowsTables, history, opened_in}
 use Rattle.poa_core.specs.Noting.{HasRoomForEntry}
+use Rattle.journal_entries.specs.Rows.{HasRoomFor}
 use Rattle.poa_core.specs.Turning.{is_ending}
 use Rattle.poa_core.specs.Kept.{IsKept, HasSpace, needed, stay, to_come}
 use Rattle.poa_core.proofs.Connected.{some_room}
@@ -19,10 +20,12 @@ use Rattle.poa_core.proofs.Space.{stay_is, stay_ending}
 -- one that only ends what was begun has had its room since then
 pub ending_room : (e : Entry) (i : Inside) → IsKept i → IsRun i.config i.run i.limit (e ∷ history i) → is_ending e ≡ true → HasRoomForEntry e i
 ending_room e i kept follows ends =
-    by_ending (λ x. vec_len i.entries < vec_capacity i.entries → HasRoomForEntry x i)
-    (λ w some. record { entries = some; calls = none_ _; queue = none_ _; held = none_ _; tally = tt; desk = kept.agrees.room })
-    (λ w x y some. record { entries = some; calls = none_ _; queue = none_ _; held = none_ _; tally = tt; desk = kept.agrees.room }) e ends
-    (some_room (vec_len i.entries) (length i.desk.owing.items + length i.desk.outbox.items) (stay i.tables) (vec_capacity i.entries)
+    by_ending (λ x. length i.entries.items < i.entries.capacity → HasRoomForEntry x i)
+    (λ w some. record
+    { entries = record { row = some; whole = λ is. absurd (let x : true ≡ false = is in cc) }; calls = none_ _; queue = none_ _; held = none_ _; tally = tt; desk = kept.agrees.room })
+    (λ w x y some. record
+    { entries = record { row = some; whole = λ is. absurd (let x : true ≡ false = is in cc) }; calls = none_ _; queue = none_ _; held = none_ _; tally = tt; desk = kept.agrees.room }) e ends
+    (some_room (length i.entries.items) (length i.desk.owing.items + length i.desk.outbox.items) (stay i.tables) (i.entries.capacity)
     (stay_ending i.config i.run i.limit (history i) e i.tables follows.legal.0 ends kept.agrees.tables) kept.space)
   where
     none_ : (A : Type 0) → false ≡ true → A
@@ -47,22 +50,29 @@ kept_again i t d kept same owing outbox room =
         filed = subst (AreFiled i.config i.run (opened_in i) (history i)) (sym outbox) a.filed;
         room = room;
       };
-      space = again (vec_len i.entries) (length i.desk.owing.items) (length i.desk.outbox.items) (stay i.tables) (length d.owing.items) (length d.outbox.items)
-          (stay t) (vec_capacity i.entries)
+      space = again (length i.entries.items) (length i.desk.owing.items) (length i.desk.outbox.items) (stay i.tables) (length d.owing.items)
+          (length d.outbox.items) (stay t) (i.entries.capacity)
           (ap length owing) (ap length outbox) (stay_is (history i) t tables ∙ sym (stay_is (history i) i.tables a.tables)) kept.space;
     })
   where
     again : (l a b s a' b' s' room : ℕ) → a' ≡ a → b' ≡ b → s' ≡ s → l + (a + b + s) + 0 ≤ room → l + (a' + b' + s') + 0 ≤ room
     again l a b s a' b' s' room x y z fits = omega (arith, x, y, z, fits)
 
-pub entries_kept : (i new : Inside) → IsKept i → Agrees (history i) new → new.entries.items ≡ i.entries.items → vec_len new.entries ≡ vec_len i.entries
-    → vec_capacity i.entries ≤ vec_capacity new.entries → to_come new ≡ to_come i → IsKept new
-entries_kept i new kept agrees items len more same =
+pub entries_kept : (i new : Inside) → IsKept i → Agrees (history i) new → new.entries.items ≡ i.entries.items → i.entries.capacity ≤ new.entries.capacity
+    → to_come new ≡ to_come i → IsKept new
+entries_kept i new kept agrees items more same =
     record {
       agrees = subst (λ (es : List Entry). Agrees (reverse es) new) (sym items) agrees;
-      space = again (vec_len i.entries) (to_come i) (vec_capacity i.entries) (vec_len new.entries) (to_come new)
-          (vec_capacity new.entries) len same more kept.space;
+      space = again (length i.entries.items) (to_come i) (i.entries.capacity) (length new.entries.items) (to_come new) (new.entries.capacity)
+          (ap length items) same more kept.space;
     }
   where
     again : (l come room l' come' room' : ℕ) → l' ≡ l → come' ≡ come → room ≤ room' → l + come + 0 ≤ room → l' + come' + 0 ≤ room'
     again l come room l' come' room' a b c fits = omega (arith, a, b, c, fits)
+
+-- one more entry has its room, whatever it is
+pub ready_entries : (e : Entry) (i : Inside) → HasSpace 2 i → 0 < i.entries.spare → HasRoomFor e i.entries
+ready_entries e i space whole = record { row = below (length i.entries.items) (to_come i) i.entries.capacity space; whole = λ _. whole }
+  where
+    below : (l come room : ℕ) → l + come + 2 ≤ room → l < room
+    below l come room fits = omega (arith, fits)

@@ -1,5 +1,5 @@
 -- What stays true of the core between its calls.
-use Rattle.std.specs.Prelude.{◌≡◌, ℕ, ◌+◌, ◌≤◌, Bool, true, false, not, if◌then◌else◌, List, ◌∷◌, length, is_some, slice_index_or, vec_len, vec_capacity}
+use Rattle.std.specs.Prelude.{◌≡◌, ℕ, ◌+◌, ◌<◌, ◌≤◌, Bool, true, false, not, if◌then◌else◌, List, ◌∷◌, length, is_some, slice_index_or, vec_len, vec_capacity}
 use Rattle.poa_base.specs.declared.Entry.{Entry}
 use Rattle.poa_base.specs.declared.Entry.TheVariants.{Entered, Arrive, Filled, Left, Collect}
 use Rattle.poa_history.specs.declared.stage.Stage.TheVariants.{Free}
@@ -44,7 +44,7 @@ to_come i = length i.desk.owing.items + length i.desk.outbox.items + stay i.tabl
 
 -- the journal has room for them, and for so many more
 abbrev pub HasSpace : ℕ → Inside → Type 0
-HasSpace more i = vec_len i.entries + to_come i + more ≤ vec_capacity i.entries
+HasSpace more i = length i.entries.items + to_come i + more ≤ i.entries.capacity
 
 pub record IsKept (i : Inside) : Type 0 where
   pub agrees : Agrees (history i) i
@@ -58,6 +58,7 @@ needed e = if is_ending e then 0 else 2
 pub record IsReady (i : Inside) : Type 0 where
   pub agrees : Agrees (history i) i
   pub space : HasSpace 2 i
+  pub whole : 0 < i.entries.spare
   pub calls : vec_len i.tables.calls.places + 1 ≤ vec_capacity i.tables.calls.places
   pub queue : HasPlace i.tables.queue
   pub held : HasRoomForCall i.tables.held.ready.heap

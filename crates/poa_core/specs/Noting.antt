@@ -12,7 +12,8 @@ use Rattle.arrival_tables.specs.Placed.{arrives}
 use Rattle.arrival_tables.specs.Queued.{HasPlace}
 use Rattle.held_queue.specs.Numbers.{HasRoom as HasRoomForCall}
 use Rattle.held_queue.specs.Waiting.{may_queue}
-use Rattle.run_tally.specs.Tallies.{HasRoomFor}
+use Rattle.run_tally.specs.Tallies.{HasRoomFor as HasRoomForTally}
+use Rattle.journal_entries.specs.Rows.{HasRoomFor}
 use Rattle.adapter_state.specs.State.{IsState}
 use Rattle.poa_core.specs.declared.inside.Inside.{Inside}
 use Rattle.poa_core.specs.declared.turning.Brought.{Brought}
@@ -23,11 +24,11 @@ use Rattle.poa_core.specs.Turning.{IsBrought}
 
 -- there is room for the entry
 pub record HasRoomForEntry (e : Entry) (i : Inside) : Type 0 where
-  pub entries : vec_len i.entries < vec_capacity i.entries
+  pub entries : HasRoomFor e i.entries
   pub calls : arrives e ≡ true → vec_len i.tables.calls.places < vec_capacity i.tables.calls.places
   pub queue : may_queue e ≡ true → HasPlace i.tables.queue
   pub held : may_queue e ≡ true → HasRoomForCall i.tables.held.ready.heap
-  pub tally : HasRoomFor e i.tables.tally
+  pub tally : HasRoomForTally e i.tables.tally
   pub desk : HasRoom i.desk
 
 -- what stands is that after the entry; all else that of the history before it
@@ -52,5 +53,5 @@ pub record IsNoted (e : Entry) (old new : Inside) : Type 0 where
   pub room : HasRoom new.desk
   pub spare : HasRoomForOne old.desk → HasRoomForOne new.desk
   pub life_is : life new ≡ with_entry e (life old)
-  pub len : vec_len new.entries ≡ vec_len old.entries + 1
-  pub capacity : vec_capacity new.entries ≡ vec_capacity old.entries
+  pub len : length new.entries.items ≡ length old.entries.items + 1
+  pub capacity : new.entries.capacity ≡ old.entries.capacity

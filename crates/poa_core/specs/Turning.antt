@@ -1,9 +1,10 @@
 -- How the core takes an entry of a worker.
-use Rattle.std.specs.Prelude.{◌≡◌, ℕ, Bool, true, false, List, ◌∷◌, Option, None, option_copied}
+use Rattle.std.specs.Prelude.{◌≡◌, ℕ, ◌==◌, Bool, true, false, if◌then◌else◌, List, [], ◌∷◌, Option, Some, None, option_copied}
 use Rattle.poa_base.specs.declared.Call.{Call}
 use Rattle.poa_base.specs.declared.Config.{Config}
 use Rattle.poa_base.specs.declared.Entry.{Entry}
 use Rattle.poa_base.specs.declared.Entry.TheVariants.{Admit, Run, Done, Etherealized}
+use Rattle.poa_base.specs.declared.Verdict.{Verdict}
 use Rattle.poa_history.specs.States.{Stored, servant_run}
 use Rattle.history_openings.specs.Runs.{IsRun}
 use Rattle.standing_of.specs.Entries.{stage_at}
@@ -32,6 +33,21 @@ abbrev pub is_ending : Entry → Bool
 is_ending (Done w) = true
 is_ending (Etherealized w cleanup remaining) = true
 is_ending e = false
+
+-- the verdict of the newest Admit of an arrival; while it is being served, it stands admitted by it
+abbrev pub last_verdict : List Entry → ℕ → Option Verdict
+last_verdict [] r = None
+last_verdict (Admit w a verdict ∷ past) r = if a == r then Some verdict else last_verdict past r
+last_verdict (e ∷ past) r = last_verdict past r
+
+-- an entry admits that arrival
+abbrev pub admits : Entry → ℕ → Bool
+admits (Admit w a verdict) r = a == r
+admits e r = false
+
+abbrev pub verdict_in : Option Entry → Option Verdict
+verdict_in (Some (Admit w r verdict)) = Some verdict
+verdict_in e = None
 
 -- an entry of a worker comes behind a history, with what the history says of it
 pub record IsAsked (c : Config) (run limit : ℕ) (opened : Stored) (past : List Entry) (k : Coming) (s : State) : Type 0 where

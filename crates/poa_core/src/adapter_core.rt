@@ -26,6 +26,7 @@ use crate::{abandoning, arriving, beginning, collecting, connecting, stepping};
 use arrival_tables::queue;
 use call_tables::Filed;
 use history_openings::laws::{lifetimes_are_kept, runs_last};
+use journal_entries::Entries;
 use poa_base::{Call, Config, Entry, Path, Store, WantMemory};
 use poa_tree::nodes;
 use run_history::Givens;
@@ -173,10 +174,9 @@ impl Core {
         let _inside = &self.inside;
     }
 
-    /// The journal's entries, the oldest first. They are a legal history of a run of an accepted configuration, which keeps the lifetime of every
-    /// activation, leaves nothing undone, and keeps the updates of each object that a servant activator brings.
-    pub fn entries(&self) -> &[Entry]
-        ensures entries { result.now ≡ reverse self.now.history }
+    /// For proofs: the history is legal, keeps the lifetime of every activation, leaves nothing undone, and keeps the
+    /// updates of each object that a servant activator brings.
+    pub fn keeps_laws(&self)
         ensures legal { IsLegal self.now.config self.now.run self.now.limit self.now.history }
         ensures runs { IsRun self.now.config self.now.run self.now.limit self.now.history }
         ensures lifetime { HasLifetime self.now.config self.now.run self.now.history }
@@ -185,6 +185,21 @@ impl Core {
     {
         lifetimes_are_kept();
         runs_last();
+        let _inside = &self.inside;
+    }
+
+    /// The journal's entries, the oldest first. They are a legal history of a run of an accepted configuration, which keeps
+    /// the lifetime of every activation, leaves nothing undone, and keeps the updates of each object that a servant
+    /// activator brings.
+    pub fn entries(&self) -> &Entries
+        ensures entries { result.now.items ≡ reverse self.now.history }
+        ensures legal { IsLegal self.now.config self.now.run self.now.limit self.now.history }
+        ensures runs { IsRun self.now.config self.now.run self.now.limit self.now.history }
+        ensures lifetime { HasLifetime self.now.config self.now.run self.now.history }
+        ensures undone { LeavesNothing self.now.config self.now.run self.now.history }
+        ensures updates { KeepsUpdates self.now.config self.now.run (opened self.now) self.now.history }
+    {
+        self.keeps_laws();
         &self.inside.entries
     }
 

@@ -7,6 +7,7 @@ ghost use Rattle.poa_core.specs.Kept.{IsKept, life};
 use crate::inside::Inside;
 use crate::tables;
 use call_tables::Desk;
+use journal_entries::Entries;
 use poa_base::{Config, Store, WantMemory};
 use std::alloc::Global;
 
@@ -26,8 +27,8 @@ pub fn begin(
 {
     let tables = tables::none(alloc)?;
     let state = adapter_state::opening(alloc, &config, run, &opening)?;
-    let mut entries = Vec::new(alloc);
-    entries.try_reserve(18)?;
+    let mut entries = Entries::new(alloc)?;
+    entries.reserve(18)?;
     Ok(Inside {
         alloc,
         config,

@@ -2,7 +2,8 @@
 use crate::tables::Tables;
 use adapter_state::State;
 use call_tables::Desk;
-use poa_base::{Config, Entry, Store};
+use journal_entries::Entries;
+use poa_base::{Config, Store};
 use std::alloc::Global;
 
 /// The givens of a run, its journal, and what the journal comes to, so that nobody has to go over it again.
@@ -15,7 +16,7 @@ pub struct Inside {
     /// What was stored when the run began.
     pub opening: Store,
     /// The journal, the oldest entry first.
-    pub entries: Vec<Entry>,
+    pub entries: Entries,
     pub tables: Tables,
     /// Who is owed a reply, and which are decided.
     pub desk: Desk,

@@ -16,6 +16,7 @@ mod inside;
 mod noting;
 mod quieting;
 mod room;
+mod serving;
 mod step_out;
 mod stepping;
 mod tables;

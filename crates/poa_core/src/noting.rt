@@ -31,5 +31,5 @@ pub fn note(inside: &mut Inside, entry: Entry, stage: Stage, brought: Brought)
         &mut inside.desk,
     );
     tables::advance(&entry, &inside.entries, stage, freed, &mut inside.tables);
-    inside.entries.push_reserved(entry);
+    inside.entries.push(entry);
 }

@@ -41,7 +41,7 @@ pub fn make_room(inside: &mut Inside) -> Result<(), WantMemory>
     tables::reserve(&mut inside.tables)?;
     inside.desk.reserve()?;
     let most = most(inside).ok_or(WantMemory)?;
-    inside.entries.try_reserve(most)
+    inside.entries.reserve(most)
 }
 
 /// Whether an entry only ends what was begun.
@@ -53,7 +53,7 @@ fn is_ending(entry: &Entry) -> bool
 
 /// Makes room for an entry of a worker; all else is as it was. One that only ends what was begun has its room since
 /// then, and takes no memory.
-#[tactic(auto, using(crate::proofs::Ready::ending_room, crate::proofs::Ready::ending_space, crate::proofs::Ready::ready_space))]
+#[tactic(auto, using(crate::proofs::Ready::ending_room, crate::proofs::Ready::ending_space, crate::proofs::Ready::ready_space, crate::proofs::Ready::ready_entries))]
 pub fn make_room_for(inside: &mut Inside, entry: &Entry) -> Result<(), WantMemory>
     requires kept { IsKept inside.old }
     requires follows { IsRun inside.old.config inside.old.run inside.old.limit (entry.now ∷ history inside.old) }

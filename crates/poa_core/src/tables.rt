@@ -15,6 +15,7 @@ ghost use Rattle.poa_core.specs.Agrees.{KnowsTables};
 use arrival_tables::{Calls, Queue, Workers, calls, queue, workers};
 use held_queue::HeldQueue;
 use history_holds::Freed;
+use journal_entries::Entries;
 use poa_base::{Entry, WantMemory};
 use poa_history::Stage;
 use run_tally::Tally;
@@ -58,15 +59,15 @@ pub fn reserve(tables: &mut Tables) -> Result<(), WantMemory>
 }
 
 /// An entry comes behind the journal's, for which there is room. It is given what the entry frees.
-pub fn advance(entry: &Entry, entries: &[Entry], stage: Stage, freed: Freed, tables: &mut Tables)
+pub fn advance(entry: &Entry, entries: &Entries, stage: Stage, freed: Freed, tables: &mut Tables)
     requires calls { arrives entry.now ≡ true → vec_len tables.old.calls.places < vec_capacity tables.old.calls.places }
     requires queue { may_queue entry.now ≡ true → HasPlace tables.old.queue }
     requires held { may_queue entry.now ≡ true → HasRoom tables.old.held.ready.heap }
     requires tally { HasRoomFor entry.now tables.old.tally }
-    ensures { (c : Config) (run limit : ℕ) → IsRun c run limit (entry.now ∷ reverse entries.now)
-        → stage ≡ stage_at (reverse entries.now) entry.now
-        → freed ≡ freed_by c run (reverse entries.now) entry.now → KnowsTables c run (reverse entries.now) tables.old
-        → KnowsTables c run (entry.now ∷ reverse entries.now) tables.new }
+    ensures { (c : Config) (run limit : ℕ) → IsRun c run limit (entry.now ∷ reverse entries.now.items)
+        → stage ≡ stage_at (reverse entries.now.items) entry.now
+        → freed ≡ freed_by c run (reverse entries.now.items) entry.now → KnowsTables c run (reverse entries.now.items) tables.old
+        → KnowsTables c run (entry.now ∷ reverse entries.now.items) tables.new }
 {
     let arrivals = tables.tally.arrivals;
     let admitted = calls::call_admitted(entries, &tables.calls, entry);

@@ -1,11 +1,7 @@
 //! The entries that workers make.
 ghost use Rattle.std.specs.Prelude.{◌≡◌, ◌∷◌, ℕ, true, false, List, reverse, option_copied, IfOk, IsOk, OnOk, OnErr};
-ghost use Rattle.poa_history.specs.Stages as begun;
-ghost use Rattle.poa_history.specs.States.{Stored, servant_run};
+ghost use Rattle.poa_history.specs.States.{Stored};
 ghost use Rattle.standing_of.specs.Entries.{stage_at};
-ghost use Rattle.standing_queries.specs.Answers.{AnswersAs};
-ghost use Rattle.standing_queries.specs.Seen.{seen};
-ghost use Rattle.arrival_tables.specs.Begun.{only_ends};
 ghost use Rattle.arrival_tables.specs.Placed.{KnowsCalls};
 ghost use Rattle.call_replies.specs.Comes.{call_at as the_call_at};
 ghost use Rattle.adapter_state.specs.State.{IsState};
@@ -20,11 +16,10 @@ use arrival_tables::{Calls, calls, freed_by};
 use call_replies::{Decision, decision_of};
 use call_tables::{Ordered, Wait, ordered_by, wait_by};
 use history_holds::Freed;
-use poa_base::{Call, Config, Entry, Sid, WantMemory};
+use journal_entries::Entries;
+use poa_base::{Call, Config, Entry, WantMemory};
 use poa_history::Stage;
-use servant_states::servant_by;
-use standing_queries::Standing;
-use standing_queries::workers::{admitted, arrival_in};
+use standing_queries::workers::arrival_in;
 use std::alloc::Global;
 
 /// What an entry of a worker brings, beside what it changes.
@@ -39,13 +34,13 @@ pub struct Brought {
 
 /// The call of which an entry speaks: that of the arrival that it admits, or that its worker is at.
 pub fn call_at<'a>(
-    entries: &'a [Entry],
+    entries: &'a Entries,
     known: &Calls,
     entry: &Entry,
     stage: Stage,
 ) -> Option<&'a Call>
-    ensures { KnowsCalls (reverse entries.now) known.now.places.items → stage ≡ stage_at (reverse entries.now) entry.now
-        → option_copied result ≡ the_call_at (reverse entries.now) entry.now }
+    ensures { KnowsCalls (reverse entries.now.items) known.now.places.items → stage ≡ stage_at (reverse entries.now.items) entry.now
+        → option_copied result ≡ the_call_at (reverse entries.now.items) entry.now }
 {
     let arrival = match entry {
         Entry::Admit { arrival, .. } => Some(*arrival),
@@ -72,25 +67,6 @@ fn call_admitted<'a>(coming: &Coming<'a>) -> Option<&'a Call>
     match coming.entry {
         Entry::Admit { .. } => coming.call,
         _ => None,
-    }
-}
-
-/// The servant of a request that a worker runs. `WantMemory` stands for a number that doesn't fit 32 bits, and is never
-/// answered where what was begun is only to be ended.
-pub fn servant_in(
-    config: &Config,
-    standing: &Standing,
-    entries: &[Entry],
-    stage: Stage,
-) -> Result<Option<Sid>, WantMemory>
-    ensures servant { (run worker : ℕ) → AnswersAs config.now run (reverse entries.now) (seen standing.now)
-        → stage ≡ begun.stage (reverse entries.now) worker
-        → IfOk result (λ servant. servant ≡ servant_run config.now run (reverse entries.now) stage) }
-    ensures ends { only_ends stage ≡ true → IsOk result }
-{
-    match stage {
-        Stage::Serving(arrival) => servant_by(config, standing, admitted(entries, arrival)),
-        _ => Ok(None),
     }
 }
 

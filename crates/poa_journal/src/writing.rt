@@ -1,11 +1,14 @@
 //! Whole texts printed.
 ghost use Rattle.std.specs.Prelude.{◌≡◌, ◌∷◌, ◌++◌, [], IfOk, OnOk, map};
 ghost use Rattle.poa_base.specs.Rows.{row_seen};
+ghost use Rattle.poa_base.specs.Store.{states};
+ghost use Rattle.journal_entries.specs.Rows.{seen};
 ghost use Rattle.text_words.specs.Token.{spelled};
 ghost use Rattle.journal_lines.specs.Entry.{entry_tokens};
 ghost use Rattle.journal_lines.specs.Row.{row_tokens};
 ghost use Rattle.poa_journal.specs.Journal.{head_tokens, journal_text, text_of};
 
+use journal_entries::{Entries, EntryView, Row as KeptRow};
 use journal_lines::{put_entry, put_row};
 use journal_words::Mark;
 use poa_base::{Bytes, Entry, Journal, Row, Store, WantMemory};
@@ -16,12 +19,9 @@ use text_words::{Worded, put_number, put_word};
 pub fn print(alloc: Global, journal: &Journal) -> Result<Bytes, WantMemory>
     ensures { IfOk result (λ text. text ≡ journal_text journal.now) }
 {
-    print_parts(
-        alloc,
-        journal.run,
-        &journal.opening,
-        journal.entries.as_slice(),
-    )
+    let mut out = front(alloc, journal.run, &journal.opening)?;
+    put_entries(&mut out, journal.entries.as_slice())?;
+    Ok(Bytes::from_vec(out))
 }
 
 /// The text of the journal that has these parts: the number of the run, what was stored when it began, and the
@@ -30,15 +30,23 @@ pub fn print_parts(
     alloc: Global,
     run: u32,
     opening: &Store,
-    entries: &[Entry],
+    entries: &Entries,
 ) -> Result<Bytes, WantMemory>
-    ensures { IfOk result (λ text. text ≡ journal_text (record { run = run; opening = opening.now; entries = entries.now })) }
+    ensures { IfOk result (λ text. text ≡ journal_text (record { run = run; opening = opening.now; entries = entries.now.items })) }
+{
+    let mut out = front(alloc, run, opening)?;
+    put_kept(&mut out, entries)?;
+    Ok(Bytes::from_vec(out))
+}
+
+/// The head line, and the rows of what was stored when the run began.
+fn front(alloc: Global, run: u32, opening: &Store) -> Result<Vec<u8>, WantMemory>
+    ensures { IfOk result (λ out. out.items ≡ text_of (head_tokens run ∷ map row_tokens (states opening.now))) }
 {
     let mut out = head_line(alloc, run)?;
     let rows = opening.rows()?;
     put_rows(&mut out, rows.as_slice())?;
-    put_entries(&mut out, entries)?;
-    Ok(Bytes::from_vec(out))
+    Ok(out)
 }
 
 /// The line of an entry, without its LF.
@@ -78,5 +86,27 @@ fn put_entries(out: &mut Vec<u8>, entries: &[Entry]) -> Result<(), WantMemory>
         put_entry(out, entry)?;
         out.push(b'\n')?;
     }
+    Ok(())
+}
+
+fn put_kept(out: &mut Vec<u8>, entries: &Entries) -> Result<(), WantMemory>
+    ensures { OnOk result (out.new.items ≡ out.old.items ++ text_of (map entry_tokens entries.now.items)) }
+{
+    for place in 0..entries.len() {
+        if let Some(view) = entries.get(place) {
+            put_line(out, view)?;
+        }
+    }
+    Ok(())
+}
+
+fn put_line(out: &mut Vec<u8>, view: EntryView<'_>) -> Result<(), WantMemory>
+    ensures { OnOk result (out.new.items ≡ out.old.items ++ text_of (entry_tokens (seen view.entry) ∷ [])) }
+{
+    match view {
+        KeptRow::Whole(entry) => put_entry(out, entry)?,
+        _ => put_entry(out, &view.to_entry()?)?,
+    }
+    out.push(b'\n')?;
     Ok(())
 }

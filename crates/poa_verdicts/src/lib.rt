@@ -12,5 +12,5 @@ mod verdicts;
 
 pub use looks::{Look, look_at};
 pub use rules::brought;
-pub use turns::{attempt, flight_of, going_on, removal};
+pub use turns::{attempt, going_on, removal};
 pub use verdicts::verdict_on;

@@ -16,19 +16,9 @@ use poa_tree::Node;
 use poa_tree::nodes::node_numbered;
 use standing_queries::Standing;
 use standing_queries::activations::{is_complete, is_ending};
-use standing_queries::flights::is_used;
+use standing_queries::flights::{flight_of, is_used};
 use standing_queries::searches::activation_numbered;
 use standing_queries::templates::{children_at, has_activator, has_template};
-
-/// What is in flight for an arrival.
-pub fn flight_of(standing: &Standing, arrival: u64) -> Option<&Flight>
-    ensures { option_copied result ≡ turns.flight_of (seen standing.now) arrival }
-{
-    standing
-        .flights
-        .iter()
-        .find(|flight| flight.arrival == arrival)
-}
 
 /// What an adapter activator answers for a child, where its parent lives.
 fn attempt_by(
@@ -107,7 +97,7 @@ fn attempt_for(config: &Config, standing: &Standing, flight: &Flight) -> Attempt
 pub fn attempt(config: &Config, standing: &Standing, arrival: u64) -> Attempt
     ensures { result ≡ turns.attempt config.now (seen standing.now) arrival }
 {
-    match flight_of(standing, arrival) {
+    match flight_of(&standing.flights, arrival) {
         Some(flight) => attempt_for(config, standing, flight),
         None => Attempt::No,
     }

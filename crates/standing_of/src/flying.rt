@@ -1,5 +1,5 @@
 //! What an entry begins and ends in flight.
-ghost use Rattle.std.specs.Prelude.{◌≡◌, ◌==◌, filter, find, not, IfOk, OnOk, OnErr, option_copied};
+ghost use Rattle.std.specs.Prelude.{◌≡◌, ◌==◌, filter, not, IfOk, OnOk, OnErr, option_copied};
 ghost use Rattle.poa_history.specs.Changes as changes;
 ghost use Rattle.standing_queries.specs.Seen.{seen};
 
@@ -9,6 +9,7 @@ use poa_base::{Name, Path, Verdict, WantMemory};
 use poa_history::{Flight, Phase};
 use poa_tree::walks::{adapter_met, child_met, walk};
 use standing_queries::Standing;
+use standing_queries::flights::flight_of;
 use standing_queries::keys::walk_to;
 use std::alloc::Global;
 
@@ -138,13 +139,6 @@ pub fn end_flight(standing: &mut Standing, arrival: Option<u64>)
     if let Some(arrival) = arrival {
         take_off(&mut standing.flights, arrival);
     }
-}
-
-/// What is in flight for an arrival.
-fn flight_of(flights: &[Flight], arrival: u64) -> Option<&Flight>
-    ensures { option_copied result ≡ find (λ f. f.arrival == arrival) flights.now }
-{
-    flights.iter().find(|flight| flight.arrival == arrival)
 }
 
 /// The path of the missing child for which the arrival is tried.

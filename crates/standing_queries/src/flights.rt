@@ -1,10 +1,17 @@
 //! What is in flight.
-ghost use Rattle.std.specs.Prelude.{◌≡◌, ◌==◌, ◌&&◌, Some, None, true, false};
+ghost use Rattle.std.specs.Prelude.{◌≡◌, ◌==◌, ◌&&◌, Some, None, true, false, find, option_copied};
 ghost use Rattle.poa_history.specs.Standings as stands;
 ghost use Rattle.poa_tree.specs.Paths as paths;
 
 use poa_base::Name;
 use poa_history::Flight;
+
+/// What is in flight for an arrival.
+pub fn flight_of(flights: &[Flight], arrival: u64) -> Option<&Flight>
+    ensures { option_copied result ≡ find (λ f. f.arrival == arrival) flights.now }
+{
+    flights.iter().find(|flight| flight.arrival == arrival)
+}
 
 /// Whether the request is in flight in the activation.
 fn uses(flight: &Flight, activation: u32) -> bool

@@ -1,4 +1,4 @@
-use Rattle.std.proofs.Common.{◌≤◌, arith, sym, ◌∙◌}
+use Rattle.std.proofs.Common.{◌≤◌, arith, ap, length, sym, ◌∙◌}
 use Rattle.poa_core.proofs.Begun.{begun_kept}
 use Rattle.poa_core.proofs.beginning.begin.Goals as goal
 
@@ -10,10 +10,10 @@ returns-clause-kept c =
       limited = c.requires.limit;
       state = c.in_ok-state.ensures;
       tables = c.in_ok-tables.ensures c.args.config c.args.run;
-      owing = c.new.ensures.owing;
-      outbox = c.new.ensures.outbox;
-      room = c.new.ensures.room;
-      entries = c.try_reserve.ensures.items ∙ c.new-entries.ensures.items;
-      len = c.try_reserve.ensures.len ∙ c.new-entries.ensures.len;
-      space = (let fits = c.in_ok-try_reserve.ensures.ok in let len = c.try_reserve.ensures.len in omega (arith, fits, len));
+      owing = c.new-2.ensures.owing;
+      outbox = c.new-2.ensures.outbox;
+      room = c.new-2.ensures.room;
+      entries = c.reserve.ensures.items ∙ c.in_ok-entries.ensures;
+      len = ap length (c.reserve.ensures.items ∙ c.in_ok-entries.ensures);
+      space = (let fits = c.in_ok-reserve.ensures.room in omega (arith, fits));
     })

@@ -26,4 +26,4 @@ returns-clause-kept c =
     let a = k.agrees in
     entries_kept (record i { tables = c.reserve.new.tables; desk = c.reserve-2.new.self }) _ k
     (record { runs = a.runs; state = a.state; tables = a.tables; owed = a.owed; filed = a.filed; room = a.room })
-    c.try_reserve.ensures.items c.try_reserve.ensures.len c.try_reserve.ensures.capacity refl)
+    c.reserve-3.ensures.items c.reserve-3.ensures.kept refl)

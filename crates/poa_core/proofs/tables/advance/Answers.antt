@@ -1,4 +1,4 @@
-use Rattle.std.proofs.Common.{reverse, ◌∷◌}
+use Rattle.std.proofs.Common.{reverse, ◌∷◌, ◌∙◌}
 use Rattle.history_openings.proofs.Opened.{given, alone, within}
 use Rattle.poa_core.proofs.Turned.{manned_before}
 use Rattle.poa_core.proofs.Tabled.{length_reversed}
@@ -6,9 +6,9 @@ use Rattle.poa_core.proofs.tables.advance.Goals as goal
 
 pub returns : goal.returns
 returns c = λ conf run limit follows begun freed known.
-    let past = reverse c.args.entries.now in
+    let past = reverse c.args.entries.now.items in
     record {
-      calls = c.advance-5.ensures past (length_reversed c.args.entries.now) known.calls;
+      calls = c.advance-5.ensures past (c.len.ensures ∙ length_reversed c.args.entries.now.items) known.calls;
       queue = c.advance-2.ensures conf run limit past follows.legal.0 (manned_before conf run limit past c.args.entry.now follows) known.tally.calls begun
           (c.call_tried-tried.ensures known.calls begun) known.queue;
       held = c.advance-3.ensures.held conf run limit past (given conf run limit (c.args.entry.now ∷ past) follows)

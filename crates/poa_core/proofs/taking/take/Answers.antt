@@ -12,8 +12,8 @@ bring-requires c =
       mid.limit,
       opened_in mid,
       history mid,
-      asked_then c.args.inside.now mid _ _ _ c.deref.ensures.value c.deref-2.ensures.value agrees c.make_room_for.ensures.life c.requires.follows
-          c.requires.turn c.requires.begun c.call_at-call.ensures (c.in_ok-runs.ensures.servant mid.run),
+      asked_then c.args.inside.now mid _ agrees c.make_room_for.ensures.life c.requires.follows c.requires.turn c.requires.begun c.call_at-call.ensures
+          c.in_ok-runs.ensures.servant,
     )
 
 pub note-requires-clause-room : goal.note-requires-clause-room
@@ -31,11 +31,11 @@ note-requires-clause-halfway c =
       follows = runs_still entry old mid c.make_room_for.ensures.life c.requires.follows;
       begun_is = begun_still entry c.args.stage old mid c.make_room_for.ensures.life c.requires.begun;
       state = c.in_ok-brought.ensures.ok mid.limit (opened_in mid) (history mid)
-          (asked_then old mid _ _ _ c.deref.ensures.value c.deref-2.ensures.value agrees c.make_room_for.ensures.life c.requires.follows c.requires.turn
-          c.requires.begun c.call_at-call.ensures (c.in_ok-runs.ensures.servant mid.run));
+          (asked_then old mid _ agrees c.make_room_for.ensures.life c.requires.follows c.requires.turn c.requires.begun c.call_at-call.ensures
+          c.in_ok-runs.ensures.servant);
       brought = c.in_ok-brought.ensures.brought mid.limit (opened_in mid) (history mid)
-          (asked_then old mid _ _ _ c.deref.ensures.value c.deref-2.ensures.value agrees c.make_room_for.ensures.life c.requires.follows c.requires.turn
-          c.requires.begun c.call_at-call.ensures (c.in_ok-runs.ensures.servant mid.run));
+          (asked_then old mid _ agrees c.make_room_for.ensures.life c.requires.follows c.requires.turn c.requires.begun c.call_at-call.ensures
+          c.in_ok-runs.ensures.servant);
       tables = agrees.tables;
       owed = agrees.owed;
       left = left_still entry mid c.requires.turn agrees.filed;

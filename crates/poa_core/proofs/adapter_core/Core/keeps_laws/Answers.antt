@@ -6,7 +6,7 @@ use Rattle.history_openings.specs.Runs.{IsRun}
 use Rattle.history_openings.proofs.Lasting.{keeps_updates, leaves_nothing}
 use Rattle.run_history.specs.Life.{Life, opened}
 use Rattle.poa_core.specs.Agrees.{history}
-use Rattle.poa_core.proofs.adapter_core.Core.entries.Goals as goal
+use Rattle.poa_core.proofs.adapter_core.Core.keeps_laws.Goals as goal
 
 pub returns-clause-runs : goal.returns-clause-runs
 returns-clause-runs c =
