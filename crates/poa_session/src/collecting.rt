@@ -11,7 +11,7 @@ ghost use Rattle.poa_session.specs.Paying.{Gathers, NextGathered, Pays, PutsOn};
 
 use crate::writing::write_all;
 use admin_line::write_answer;
-use giop_msg::write_reply;
+use giop_msg::put_reply;
 use outside::Link;
 use poa_base::{Head, Reply, SessionEnd, WantMemory};
 use poa_core::Collected;
@@ -128,20 +128,15 @@ fn put_collected(
 {
     match collected {
         Collected::Reply { head, reply, .. } => {
-            put_reply(alloc, replies, head, reply)?;
+            tell(alloc, replies, head, reply)?;
             Ok(None)
         }
         Collected::Nothing { owed } => Ok(Some(*owed)),
     }
 }
 
-// Puts a reply behind the others.
-fn put_reply(
-    alloc: Global,
-    replies: &mut Vec<u8>,
-    head: &Head,
-    reply: &Reply,
-) -> Result<(), WantMemory>
+// Puts what a reply is told by behind the others.
+fn tell(alloc: Global, replies: &mut Vec<u8>, head: &Head, reply: &Reply) -> Result<(), WantMemory>
     ensures { OnOk result (replies.new.items ≡ replies.old.items ++ told head.now reply.now) }
 {
     if let Reply::Answer { number, answer } = reply {
@@ -153,8 +148,7 @@ fn put_reply(
     if !answers(head, reply) {
         return Err(WantMemory);
     }
-    let bytes = write_reply(alloc, head, reply)?;
-    replies.extend_from_slice(bytes.as_slice())
+    put_reply(alloc, replies, head, reply)
 }
 
 // Whether a reply answers a message with this head.

@@ -10,6 +10,7 @@ ghost use Rattle.session_laws.specs.Expecting.{Expects};
 ghost use Rattle.session_input.specs.Hearing.{OfIntake};
 ghost use Rattle.poa_session.specs.Settling.{Converses};
 
+use crate::buffers::Buffers;
 use crate::closing::settle;
 use crate::flow::Flow;
 use crate::rounds::round;
@@ -21,9 +22,6 @@ use session_input::Input;
 use session_laws::Peer;
 use std::alloc::Global;
 use std::sync::Wait;
-
-/// How much a read takes at most.
-const PIECE: usize = 65_536;
 
 /// Serves a connection round by round, until one of the two sides ends the session. How it ended.
 pub(crate) fn converse<R: Wait, L: Link>(
@@ -50,7 +48,7 @@ pub(crate) fn converse<R: Wait, L: Link>(
     ensures written { HasCause (L.shown link.old).write_faults (L.shown link.new).write_faults (result ≡ SessionEnd.WriteFault) }
 {
     let mut input = Input::new(alloc, peer);
-    let Ok(mut buffer) = Vec::from_elem(alloc, 0u8, PIECE) else {
+    let Ok(mut buffers) = Buffers::new(alloc) else {
         return SessionEnd::WantMemory;
     };
     if hang(rt, shared, link, conn).is_err() {
@@ -64,7 +62,7 @@ pub(crate) fn converse<R: Wait, L: Link>(
         aid,
         link,
         &mut input,
-        buffer.as_mut_slice(),
+        &mut buffers,
         conn,
         peer,
     )
@@ -79,7 +77,7 @@ fn talk<R: Wait, L: Link>(
     aid: &mut Aid,
     link: &mut L,
     input: &mut Input,
-    buffer: &mut [u8],
+    buffers: &mut Buffers,
     conn: u32,
     peer: Peer,
 ) -> SessionEnd
@@ -88,7 +86,7 @@ fn talk<R: Wait, L: Link>(
     requires conn { HoldsConnection (view seat.old) conn }
     requires fresh { Expects peer (OfIntake input.old) [] [] }
     requires taken { input.old.taken ≡ 0 }
-    requires buffer { 0 < length buffer.old }
+    requires room { 0 < length buffers.old.piece.items }
     ensures seat { IsIdle shared.now seat.new }
     ensures ready { IsReady shared.now aid.new.seat }
     ensures aids { Aids aid.old.seat aid.new.seat }
@@ -100,7 +98,7 @@ fn talk<R: Wait, L: Link>(
     ensures written { HasCause (L.shown link.old).write_faults (L.shown link.new).write_faults (result ≡ SessionEnd.WriteFault) }
 {
     for _ in rt.forever() {
-        match round(rt, alloc, shared, seat, aid, link, input, buffer, conn) {
+        match round(rt, alloc, shared, seat, aid, link, input, buffers, conn) {
             Flow::On => {}
             Flow::Ends(end) => return settle(rt, alloc, shared, seat, link, conn, peer, end),
             Flow::Broke(end) => return end,

@@ -3,6 +3,7 @@
 //! of `session_laws`; that it was so, by the seat and the link, in `specs/Served.antt`.
 #![tactic(auto)]
 
+mod buffers;
 mod closing;
 mod collecting;
 mod conversing;

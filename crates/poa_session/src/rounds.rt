@@ -10,6 +10,7 @@ ghost use Rattle.poa_shared.specs.Seen.{HoldsConnection};
 ghost use Rattle.poa_worker.specs.Helping.{Aids, IsReady};
 ghost use Rattle.poa_session.specs.Rounding.{Rounds};
 
+use crate::buffers::Buffers;
 use crate::exchanging::exchange;
 use crate::flow::Flow;
 use crate::taking_in::take_in;
@@ -32,18 +33,18 @@ pub(crate) fn round<R: Wait, L: Link>(
     aid: &mut Aid,
     link: &mut L,
     input: &mut Input,
-    buffer: &mut [u8],
+    buffers: &mut Buffers,
     conn: u32,
 ) -> Flow
     requires seat { IsIdle shared.now seat.old }
     requires aid { IsReady shared.now aid.old.seat }
     requires conn { HoldsConnection (view seat.old) conn }
-    requires buffer { 0 < length buffer.old }
+    requires room { 0 < length buffers.old.piece.items }
     ensures seat { IsIdle shared.now seat.new }
     ensures ready { IsReady shared.now aid.new.seat }
     ensures aids { Aids aid.old.seat aid.new.seat }
     ensures conn { HoldsConnection (view seat.new) conn }
-    ensures buffer { length buffer.new ≡ length buffer.old }
+    ensures room { length buffers.new.piece.items ≡ length buffers.old.piece.items }
     ensures rounds { (g : Givens) → (view seat.old).givens ≡ Some g → (peer : Peer)
         → Rounds g peer conn (view seat.old) (L.shown link.old) input.old (view seat.new) (L.shown link.new) input.new result }
     ensures read { (g : Givens) → (view seat.old).givens ≡ Some g
@@ -53,15 +54,16 @@ pub(crate) fn round<R: Wait, L: Link>(
 {
     // Before it looks: what is decided or shut from here on ends the read that waits.
     shared.attend(conn);
-    let mut replies = Vec::new(alloc);
-    let have = match exchange(rt, alloc, shared, seat, aid, input, conn, &mut replies) {
+    let replies = &mut buffers.replies;
+    replies.clear();
+    let have = match exchange(rt, alloc, shared, seat, aid, input, conn, replies) {
         Ok(have) => have,
         Err(flow) => return flow,
     };
-    if !write_all(link, replies.as_slice()) {
+    if !write_all(link, &buffers.replies) {
         return Flow::Broke(SessionEnd::WriteFault);
     }
-    match take_in(link, input, buffer, have) {
+    match take_in(link, input, &mut buffers.piece, have) {
         Some(end) => Flow::Ends(end),
         None => Flow::On,
     }

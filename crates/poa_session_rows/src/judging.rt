@@ -1,6 +1,7 @@
 //! What is asked of a session.
 use crate::messages::{CALLS, REPLIES};
 use crate::playing::Played;
+use journal_entries::{Entries, Row};
 use poa_base::{Call, Entry, SessionEnd};
 
 /// What a session is, by how it ended.
@@ -36,10 +37,10 @@ pub fn judge(played: &Played) -> Judgement {
 }
 
 /// Whether the calls that arrived are the first of the client's, which are numbered from 1.
-fn are_first_calls(entries: &[Entry]) -> bool {
+fn are_first_calls(entries: &Entries) -> bool {
     let mut number: u32 = 0;
-    for entry in entries {
-        if let Entry::Arrive { call, .. } = entry {
+    for place in 0..entries.len() {
+        if let Some(Row::Whole(Entry::Arrive { call, .. })) = entries.get(place) {
             number = number.saturating_add(1);
             if !matches!(call, Call::Request { head, .. } if head.id == number) {
                 return false;
@@ -51,11 +52,8 @@ fn are_first_calls(entries: &[Entry]) -> bool {
 
 /// Whether the worker gave the run up.
 fn has_given_up(played: &Played) -> bool {
-    played
-        .core
-        .entries()
-        .iter()
-        .any(|entry| matches!(entry, Entry::Abandon { worker: 0 }))
+    let entries = played.core.entries();
+    (0..entries.len()).any(|place| matches!(entries.get(place), Some(Row::Abandon { worker: 0 })))
 }
 
 /// Whether these bytes are so many replies.

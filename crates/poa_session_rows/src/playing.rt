@@ -2,6 +2,7 @@
 use crate::messages::CALLS;
 use crate::worked_link::WorkedLink;
 use conf_toml::read_config;
+use journal_entries::Row;
 use outside_memory::MemLink;
 use poa_base::{Entry, Session, Store, WantMemory};
 use poa_core::Core;
@@ -35,19 +36,17 @@ pub struct Played {
 impl Played {
     /// How many calls arrived.
     pub fn arrived(&self) -> usize {
-        self.core
-            .entries()
-            .iter()
-            .filter(|entry| matches!(entry, Entry::Arrive { .. }))
+        let entries = self.core.entries();
+        (0..entries.len())
+            .filter(|place| matches!(entries.get(*place), Some(Row::Whole(Entry::Arrive { .. }))))
             .count()
     }
 
     /// How many replies were given.
     pub fn given(&self) -> usize {
-        self.core
-            .entries()
-            .iter()
-            .filter(|entry| matches!(entry, Entry::Collect { .. }))
+        let entries = self.core.entries();
+        (0..entries.len())
+            .filter(|place| matches!(entries.get(*place), Some(Row::Collect { .. })))
             .count()
     }
 

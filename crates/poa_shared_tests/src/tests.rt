@@ -40,7 +40,7 @@ const JUDGED: usize = 300;
 
 /// Whether the journal is legal so far, as a slow program computes it from the definitions.
 fn is_legal(alloc: Global, core: &Core) -> Result<bool, Fail> {
-    let entries = core.entries();
+    let entries = core.entries().to_vec(alloc)?;
     let place = first_illegal(
         alloc,
         core.config(),
@@ -130,7 +130,7 @@ fn two_callers_add_to_one_object(rt: HostRuntime) -> Result<(), Fail> {
     let played = played(&rt, alloc, &tasks)?;
     let sums = sums(alloc, &played)?;
     assert!(rt; sums.as_slice() == [1, 2].as_slice() || sums.as_slice() == [2, 1].as_slice());
-    let entries = played.core.entries();
+    let entries = played.core.entries().to_vec(alloc)?;
     let runs = entries
         .iter()
         .filter(|entry| matches!(entry, Entry::Run { .. }))
@@ -153,6 +153,7 @@ fn sixteen<R: Threads + Wait + Sync>(rt: &R, alloc: Global, calls: u32) -> Resul
     let collected = played
         .core
         .entries()
+        .to_vec(alloc)?
         .iter()
         .filter(|entry| matches!(entry, Entry::Collect { .. }))
         .count();
@@ -202,11 +203,11 @@ fn a_worker_gives_up_while_calls_are_held_and_objects_deactivated(
         tasks.push(Task::Caller { number, calls: 10 })?;
     }
     let played = played(&rt, alloc, &tasks)?;
-    let entries = played.core.entries();
+    let entries = played.core.entries().to_vec(alloc)?;
     assert_eq!(rt; given(&played), 43);
     assert!(rt; played.core.phase() == Phase::Abandoned { worker: 1 });
-    assert_eq!(rt; held(entries), 3);
-    assert!(rt; has_removal(entries));
+    assert_eq!(rt; held(entries.as_slice()), 3);
+    assert!(rt; has_removal(entries.as_slice()));
     assert!(rt; entries.len() <= JUDGED);
     assert!(rt; is_legal(alloc, &played.core)?);
     Ok(())

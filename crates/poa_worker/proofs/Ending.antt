@@ -1,12 +1,9 @@
 -- How a worker's turns come to their end.
-use Rattle.std.proofs.Common.{◌≡◌, ℕ, zero, suc, not, ◌+◌, ◌<◌, Bool, true, false, List, [], ◌∷◌, ◌++◌, length, if◌then◌else◌, ◌&&◌, ◌||◌, ◌==◌, Some, None, Result, Ok, refl, sym, ap, ◌∙◌, subst, inl, inr, ⊎_elim, arith}
+use Rattle.std.proofs.Common.{◌≡◌, ℕ, zero, suc, not, ◌+◌, ◌<◌, Bool, true, false, List, [], ◌∷◌, length, if◌then◌else◌, ◌&&◌, ◌||◌, ◌==◌, Some, None, Result, Ok, refl, sym, ap, ◌∙◌, subst, inl, inr, ⊎_elim, arith}
 use Rattle.std.proofs.lemmas.Bool.{and_parts, eqb-true, eq-eqb, ne_eqb}
-use Rattle.std.proofs.lemmas.List.{append_assoc}
 use Rattle.std.specs.declared.alloc.AllocError.{AllocError}
 use mathlib.Core.Logic.{dite}
-use mathlib.Core.Option.{some}
 use native.Mathlib.Decide.{ℕ_discrete}
-use lib.ListN.{get_elem?}
 use Rattle.poa_base.specs.declared.Entry.{Entry}
 use Rattle.poa_base.specs.declared.Entry.TheVariants.{Abandon}
 use Rattle.poa_base.specs.declared.Point.{Point}
@@ -25,15 +22,16 @@ use Rattle.poa_shared.specs.Seen.{past, Turns}
 use Rattle.poa_shared.specs.Events.{Event}
 use Rattle.run_history.specs.Life.{life_at}
 use Rattle.poa_worker.specs.declared.work_end.WorkEnd.TheVariants as work_end
-use Rattle.poa_worker.specs.Worked.{Worked}
+use Rattle.poa_worker.specs.Making.{Makes}
+use Rattle.poa_worker.specs.Worked.{IsGivenUpAt, IsMadeAt, IsTurnAt, Worked}
 use Rattle.poa_worker.specs.Pauses.{HasSeenAll, IsPaused, MakesTurns, Pauses}
 use Rattle.poa_worker.specs.declared.pause.Pause.{Pause}
 use Rattle.poa_worker.specs.declared.pause.Pause.TheVariants as pause
-use Rattle.poa_worker.proofs.Seeing.{one_seen, one_stands, found_longer}
-use Rattle.poa_worker.proofs.Steps.{makes_through, step_none, turn_stays}
+use Rattle.poa_worker.proofs.Making.{call_none, call_one, in_either, makes_through}
+use Rattle.poa_worker.proofs.Seeing.{one_stands}
+use Rattle.poa_worker.proofs.Steps.{turn_stays, turns_through}
 use Rattle.seat_lock.specs.declared.view.View.{View}
 use Rattle.seat_lock.specs.Histories.{In}
-use Rattle.seat_lock.proofs.Histories.{prefix_through, prefix_below}
 use Rattle.seat_lock.proofs.Totals.{at_below, in_added}
 
 -- where so many numbers pass as none, none does
@@ -95,80 +93,58 @@ module _ (worker : ℕ) (g : Givens) (v w : View Givens Entry) (given : v.givens
       (seen_all g v w it.0 it.1, ap (λ h. is_abandoned h worker) same ∙ it.2.0)
 
 module _ (worker : ℕ) (g : Givens) (u v : View Givens Entry) (so_far : MakesTurns worker u v) where
-  pub ends_closed : HasSeenAll g v → IsClosed g worker (past v) → Worked g worker u v work_end.Closed
-  ends_closed all closed = record {
-    grows = so_far.grows;
-    runs = all.runs;
-    knows = all.knows;
-    given = so_far.given;
-    base = so_far.base;
-    room = so_far.room;
-    made = so_far.made;
-    mine = so_far.mine;
-    each = so_far.each;
-    cause = closed;
-  }
+  ends_closed : HasSeenAll g v → IsClosed g worker (past v) → Worked g worker u v work_end.Closed
+  ends_closed all closed = record { makes = so_far; runs = all.runs; knows = all.knows; cause = closed }
 
-  pub ends_stopped : HasSeenAll g v → is_abandoned (past v) worker ≡ true → Worked g worker u v (work_end.Stopped worker)
-  ends_stopped all stopped = record {
-    grows = so_far.grows;
-    runs = all.runs;
-    knows = all.knows;
-    given = so_far.given;
-    base = so_far.base;
-    room = so_far.room;
-    made = so_far.made;
-    mine = so_far.mine;
-    each = so_far.each;
-    cause = (refl, stopped);
-  }
+  ends_stopped : HasSeenAll g v → is_abandoned (past v) worker ≡ true → Worked g worker u v (work_end.Stopped worker)
+  ends_stopped all stopped = record { makes = so_far; runs = all.runs; knows = all.knows; cause = (refl, stopped) }
 
   module _ (w : View Givens Entry) (h : List Entry) (t : Turns g v h w) where
+    abbrev IsTurn : List Entry → List ℕ → ℕ → Type 0
+    IsTurn log made place = IsTurnAt worker log place
+
+    abbrev IsMade : List Entry → List ℕ → ℕ → Type 0
+    IsMade = IsMadeAt work_end.WantMemory worker
+
     -- another gave the run up in this worker's name
     given_up_before : past w ≡ h → is_abandoned h worker ≡ true → Worked g worker u w work_end.WantMemory
     given_up_before is stands =
-        let now = makes_through worker u v w so_far (step_none worker g v w h t is) in
+        let none : MakesTurns worker v w = call_none IsTurn g v w h t is in
         record {
-          grows = now.grows;
+          makes = makes_through IsTurn IsTurn IsMade u v w so_far none
+              (λ place turn. inl (turn_stays worker v.seen w.seen place none.grows turn)) (λ place low turn. inl turn);
           runs = t.runs;
           knows = t.knows;
-          given = now.given;
-          base = now.base;
-          room = now.room;
-          made = now.made;
-          mine = now.mine;
-          each = λ place there. (let it = now.each place there in (it.0, inl it.1));
           cause = ap (λ l. is_abandoned l worker) is ∙ stands;
         }
 
     -- the worker gives the run up itself, last
+    gives_up_last : past w ≡ Abandon worker ∷ h → Makes (IsGivenUpAt worker) v w
+    gives_up_last is = call_one (IsGivenUpAt worker) g v w h t (Abandon worker) is
+        (record {
+          stands = one_stands g v w h t (Abandon worker) is;
+          last = λ other there. ⊎_elim
+              (λ (i : In other []). absurd (omega arith))
+              (λ (at : other ≡ length h). omega arith)
+              (in_added other (length h) [] there);
+        })
+
     given_up_now : past w ≡ Abandon worker ∷ h → Worked g worker u w work_end.WantMemory
     given_up_now is =
-        let grows = one_seen g v w h t (Abandon worker) is in
-        let longer = found_longer g v w h t in
-        let low = prefix_below u.seen v.seen so_far.grows in
+        let last = gives_up_last is in
         record {
-          grows = prefix_through u.seen v.seen w.seen so_far.grows grows;
+          makes = makes_through IsTurn (IsGivenUpAt worker) IsMade u v w so_far last
+              (λ place turn. inl (turn_stays worker v.seen w.seen place last.grows turn))
+              (λ place low it. inr (record {
+                stands = it.stands;
+                last = λ other there. ⊎_elim
+                    (λ (i : In other so_far.made).
+                    (let turn = (so_far.each other i).1 in let below = at_below v.seen other turn.entry turn.stands in omega arith))
+                    (λ (i : In other last.made). it.last other i)
+                    (in_either other so_far.made last.made there);
+              }));
           runs = t.runs;
           knows = t.knows;
-          given = t.given ∙ so_far.given;
-          base = t.base ∙ so_far.base;
-          room = t.room ∙ so_far.room;
-          made = so_far.made ++ length h ∷ [];
-          mine = t.one_made (Abandon worker) is ∙ (ap (λ l. l ++ length h ∷ []) so_far.mine ∙ append_assoc u.mine so_far.made (length h ∷ []));
-          each = λ place there. ⊎_elim
-              (λ (i : In place so_far.made). (let it = so_far.each place i in (it.0, inl (turn_stays worker v.seen w.seen place grows it.1))))
-              (λ (at : place ≡ length h). (
-                omega arith,
-                inr (record {
-                  stands = subst (λ k. get_elem? w.seen k ≡ some (Abandon worker)) (sym at) (one_stands g v w h t (Abandon worker) is);
-                  last = λ other i. ⊎_elim
-                      (λ (o : In other so_far.made). (let it = so_far.each other o in let below = at_below v.seen other it.1.entry it.1.stands in omega arith))
-                      (λ (o : other ≡ length h). omega arith)
-                      (in_added other (length h) so_far.made i);
-                }),
-              ))
-              (in_added place (length h) so_far.made there);
           cause = ap (λ l. is_abandoned l worker) is ∙ ap (λ b. b || is_abandoned h worker) (eq-eqb worker worker refl);
         }
 
@@ -187,7 +163,7 @@ module _ (worker : ℕ) (u v v' w : View Givens Entry) (so_far : (g : Givens) �
   paused g given =
       let old = so_far g given in
       let new = turned g (ap (λ x. x.givens) same ∙ (old.given ∙ given)) in
-      (makes_through worker u v w old (subst (λ x. MakesTurns worker x w) same new.0), new.1)
+      (turns_through worker u v w old (subst (λ x. MakesTurns worker x w) same new.0), new.1)
 
   pub goes_further : (g : Givens) → u.givens ≡ Some g → MakesTurns worker u w
   goes_further g given = (paused g given).0

@@ -1,7 +1,7 @@
 -- A worker's turns that another makes by a seat of his own.
-use Rattle.std.proofs.Common.{◌≡◌, ℕ, List, [], ◌∷◌, ◌++◌, length, reverse, Some, None, Result, Ok, Err, refl, sym, ap, ◌∙◌, ⊎_elim, arith}
+use Rattle.std.proofs.Common.{◌≡◌, ℕ, List, [], ◌∷◌, ◌++◌, reverse, Some, None, Result, Ok, Err, sym, ap, ◌∙◌}
 use Rattle.std.specs.Prelude.{Option}
-use Rattle.std.proofs.lemmas.List.{append-nil, append_assoc, length-reverse, reverse-reverse}
+use Rattle.std.proofs.lemmas.List.{append-nil, length-reverse, reverse-reverse}
 use Rattle.std.specs.declared.alloc.AllocError.{AllocError}
 use Rattle.poa_base.specs.declared.Entry.{Entry}
 use Rattle.poa_core.specs.declared.step_out.StepOut.{StepOut}
@@ -9,28 +9,24 @@ use Rattle.poa_core.specs.declared.step_out.StepOut.TheVariants as step_out
 use Rattle.poa_shared.specs.Events.{Event, StepsRunning}
 use Rattle.poa_shared.specs.Seen.{past, Turns}
 use Rattle.poa_worker.specs.Helping.{Aids, Helps, IsHelpAt, SeatOf}
-use Rattle.poa_worker.proofs.Seeing.{found_longer, one_seen, same_seen, seen_one}
-use Rattle.poa_worker.proofs.Steps.{in_either, turn_own, IsOf}
+use Rattle.poa_worker.proofs.Making.{call_none, call_one, makes_none, makes_through}
+use Rattle.poa_worker.proofs.Seeing.{seen_one}
+use Rattle.poa_worker.proofs.Steps.{turn_own, IsOf}
 use Rattle.run_history.specs.declared.givens.Givens.{Givens}
 use Rattle.run_tally.specs.Phases.{phase_of}
 use Rattle.run_tally.specs.declared.phase.Phase.TheVariants.{Running}
-use Rattle.seat_lock.specs.Histories.{In, IsPrefix}
+use Rattle.seat_lock.specs.Histories.{IsPrefix}
 use Rattle.seat_lock.specs.Seats.{view}
 use Rattle.seat_lock.specs.declared.view.View.{View}
-use Rattle.seat_lock.proofs.Histories.{prefix_below, prefix_self, prefix_through}
-use Rattle.seat_lock.proofs.Totals.{in_added}
+use Rattle.seat_lock.proofs.Histories.{prefix_through}
+
+abbrev IsHelp : List Entry → List ℕ → ℕ → Type 0
+IsHelp log made place = IsHelpAt log place
 
 pub helps_none : (v : View Givens Entry) → Helps v v
-helps_none v = record {
-  grows = prefix_self v.seen;
-  given = refl;
-  base = refl;
-  room = refl;
-  made = [];
-  mine = sym (append-nil v.mine);
-  each = λ place there. absurd (omega arith);
-}
+helps_none = makes_none IsHelp
 
+-- a help is one in a longer journal too
 pub help_stays : (short long : List Entry) (place : ℕ) → IsPrefix short long → IsHelpAt short place → IsHelpAt long place
 help_stays short long place p t = record {
   before = t.before;
@@ -42,67 +38,36 @@ help_stays short long place p t = record {
   running = t.running;
 }
 
-pub helps_through : (u v w : View Givens Entry) → Helps u v → Helps v w → Helps u w
-helps_through u v w a b = record {
-  grows = prefix_through u.seen v.seen w.seen a.grows b.grows;
-  given = b.given ∙ a.given;
-  base = b.base ∙ a.base;
-  room = b.room ∙ a.room;
-  made = a.made ++ b.made;
-  mine = b.mine ∙ (ap (λ l. l ++ b.made) a.mine ∙ append_assoc u.mine a.made b.made);
-  each = λ place there. ⊎_elim
-      (λ (i : In place a.made). (let old = a.each place i in (old.0, help_stays v.seen w.seen place b.grows old.1)))
-      (λ (i : In place b.made). (let new = b.each place i in let low = prefix_below u.seen v.seen a.grows in let at = new.0 in (omega arith, new.1)))
-      (in_either place a.made b.made there);
-}
+helps_through : (u v w : View Givens Entry) → Helps u v → Helps v w → Helps u w
+helps_through u v w a b =
+    makes_through IsHelp IsHelp IsHelp u v w a b (λ place help. help_stays v.seen w.seen place b.grows help) (λ place low help. help)
 
 module _ (g : Givens) (v w : View Givens Entry) (h : List Entry) (t : Turns g v h w) where
-  step_none : past w ≡ h → Helps v w
-  step_none is = record {
-    grows = same_seen g v w h t is;
-    given = t.given;
-    base = t.base;
-    room = t.room;
-    made = [];
-    mine = t.none_made is ∙ sym (append-nil v.mine);
-    each = λ place there. absurd (omega arith);
-  }
+  help_none : past w ≡ h → Helps v w
+  help_none = call_none IsHelp g v w h t
 
-  step_one : (e : Entry) → past w ≡ e ∷ h → IsOf 0 e → phase_of h ≡ Running → Helps v w
-  step_one e is own running = record {
-    grows = one_seen g v w h t e is;
-    given = t.given;
-    base = t.base;
-    room = t.room;
-    made = length h ∷ [];
-    mine = t.one_made e is;
-    each = λ place there. ⊎_elim
-        (λ (i : In place []). absurd (omega arith))
-        (λ (at : place ≡ length h). (
-          (let low = found_longer g v w h t in omega arith),
-          record {
-            before = reverse h;
-            entry = e;
-            stands = ([], seen_one g v w h t e is ∙ sym (append-nil (reverse h ++ e ∷ [])));
-            place_is = at ∙ sym (length-reverse h);
-            own = own.0;
-            going = own.1;
-            running = ap phase_of (reverse-reverse h) ∙ running;
-          },
-        ))
-        (in_added place (length h) [] there);
-  }
+  help_one : (e : Entry) → past w ≡ e ∷ h → IsOf 0 e → phase_of h ≡ Running → Helps v w
+  help_one e is own running = call_one IsHelp g v w h t e is
+      (record {
+        before = reverse h;
+        entry = e;
+        stands = ([], seen_one g v w h t e is ∙ sym (append-nil (reverse h ++ e ∷ [])));
+        place_is = sym (length-reverse h);
+        own = own.0;
+        going = own.1;
+        running = ap phase_of (reverse-reverse h) ∙ running;
+      })
 
 -- whatever a step answers, it made a turn or nothing
 step_helps : (r : Option (Result StepOut AllocError)) (g : Givens) (v w : View Givens Entry) → v.givens ≡ Some g
     → Event (λ old new. StepsRunning 0 old r new) v w → Helps v w
-step_helps None g v w given ev = (let it = ev g given in step_none g v w it.0 it.1 (ap (λ l. l.history) it.2.1))
-step_helps (Some (Ok step_out.Stopped)) g v w given ev = (let it = ev g given in step_none g v w it.0 it.1 (ap (λ l. l.history) it.2.1.1))
-step_helps (Some (Ok (step_out.Idle over))) g v w given ev = (let it = ev g given in step_none g v w it.0 it.1 (ap (λ l. l.history) it.2.1.3))
+step_helps None g v w given ev = (let it = ev g given in help_none g v w it.0 it.1 (ap (λ l. l.history) it.2.1))
+step_helps (Some (Ok step_out.Stopped)) g v w given ev = (let it = ev g given in help_none g v w it.0 it.1 (ap (λ l. l.history) it.2.1.1))
+step_helps (Some (Ok (step_out.Idle over))) g v w given ev = (let it = ev g given in help_none g v w it.0 it.1 (ap (λ l. l.history) it.2.1.3))
 step_helps (Some (Ok (step_out.Did point))) g v w given ev =
     (let it = ev g given in let one = it.2.1.2 in
-    step_one g v w it.0 it.1 one.0 (ap (λ l. l.history) one.2) (turn_own g.config g.run it.0 0 one.0 one.1) it.2.0)
-step_helps (Some (Err fault)) g v w given ev = (let it = ev g given in step_none g v w it.0 it.1 (ap (λ l. l.history) it.2.1.2))
+    help_one g v w it.0 it.1 one.0 (ap (λ l. l.history) one.2) (turn_own g.config g.run it.0 0 one.0 one.1) it.2.0)
+step_helps (Some (Err fault)) g v w given ev = (let it = ev g given in help_none g v w it.0 it.1 (ap (λ l. l.history) it.2.1.2))
 
 -- a step after the turns so far
 pub steps_on : (r : Option (Result StepOut AllocError)) (u v w : View Givens Entry) → ((g : Givens) → u.givens ≡ Some g → Helps u v)

@@ -1,4 +1,5 @@
 pub mod Seeing
+pub mod Making
 pub mod Steps
 pub mod Ending
 pub mod Helped

@@ -1,11 +1,6 @@
 -- A step of a worker makes a turn of its, or nothing; what it made before stays a turn.
-use Rattle.std.proofs.Common.{◌≡◌, ℕ, List, [], ◌∷◌, ◌++◌, length, Some, None, Result, Ok, Err, not, ◌⊎◌, refl, sym, ap, ◌∙◌, subst, inl, inr, ⊎_elim, arith}
-use Rattle.std.proofs.lemmas.List.{append-nil, append_assoc}
+use Rattle.std.proofs.Common.{◌≡◌, ℕ, List, ◌∷◌, Some, None, Result, Ok, Err, not, refl, ap, ◌∙◌, subst}
 use Rattle.std.specs.declared.alloc.AllocError.{AllocError}
-use mathlib.Core.Logic.{dite}
-use mathlib.Core.Option.{some}
-use native.Mathlib.Decide.{ℕ_discrete}
-use lib.ListN.{get_elem?}
 use Rattle.poa_base.specs.declared.Config.{Config}
 use Rattle.poa_base.specs.declared.Entry.{Entry}
 use Rattle.poa_base.specs.declared.Entry.TheVariants.{Admit, Tried, Incarnated, Run, Done, TakeOut, Etherealized, Abandon}
@@ -26,12 +21,11 @@ use Rattle.poa_shared.specs.Seen.{past, Turns}
 use Rattle.poa_shared.specs.Events.{Event}
 use Rattle.poa_worker.specs.Worked.{IsTurnAt}
 use Rattle.poa_worker.specs.Pauses.{MakesTurns}
-use Rattle.poa_worker.proofs.Seeing.{same_seen, one_seen, one_stands, found_longer}
+use Rattle.poa_worker.proofs.Making.{call_none, call_one, makes_through}
+use Rattle.poa_worker.proofs.Seeing.{one_stands}
 use Rattle.seat_lock.specs.declared.view.View.{View}
-use Rattle.seat_lock.specs.Histories.{In, IsPrefix, times}
+use Rattle.seat_lock.specs.Histories.{IsPrefix}
 use Rattle.seat_lock.proofs.Calls.{at_prefix}
-use Rattle.seat_lock.proofs.Histories.{prefix_self, prefix_through, prefix_below}
-use Rattle.seat_lock.proofs.Totals.{in_added, times_both}
 
 -- the entry is one of the worker, and not its Abandon
 abbrev pub IsOf : ℕ → Entry → Type 0
@@ -59,80 +53,36 @@ turn_own c run h w e is =
       | admits r v free less unadmitted told same ↦ subst (IsOf w) same (refl, λ (q : Admit w r v ≡ Abandon w). cc)
     ]
 
--- what stands in one of two lists
-pub in_either : (x : ℕ) (xs ys : List ℕ) → In x (xs ++ ys) → In x xs ⊎ In x ys
-in_either x xs ys there =
-    let both = times_both x xs ys in
-    dite (ℕ_discrete (times x xs) 0) (λ (none : times x xs ≡ 0). inr (omega arith)) (λ (some : times x xs ≡ 0 → ⊥). inl (omega arith))
-
 module _ (worker : ℕ) where
-  pub makes_none : (v : View Givens Entry) → MakesTurns worker v v
-  makes_none v = record {
-    grows = prefix_self v.seen;
-    given = refl;
-    base = refl;
-    room = refl;
-    made = [];
-    mine = sym (append-nil v.mine);
-    each = λ place there. absurd (omega arith);
-  }
-
+  -- a turn is one in a longer journal too
   pub turn_stays : (short long : List Entry) (place : ℕ) → IsPrefix short long → IsTurnAt worker short place → IsTurnAt worker long place
   turn_stays short long place p t = record { entry = t.entry; stands = at_prefix short long place t.entry p t.stands; own = t.own; going = t.going }
 
-  pub makes_through : (u v w : View Givens Entry) → MakesTurns worker u v → MakesTurns worker v w → MakesTurns worker u w
-  makes_through u v w a b = record {
-    grows = prefix_through u.seen v.seen w.seen a.grows b.grows;
-    given = b.given ∙ a.given;
-    base = b.base ∙ a.base;
-    room = b.room ∙ a.room;
-    made = a.made ++ b.made;
-    mine = b.mine ∙ (ap (λ l. l ++ b.made) a.mine ∙ append_assoc u.mine a.made b.made);
-    each = λ place there. ⊎_elim
-        (λ (i : In place a.made). (let old = a.each place i in (old.0, turn_stays v.seen w.seen place b.grows old.1)))
-        (λ (i : In place b.made). (let new = b.each place i in let low = prefix_below u.seen v.seen a.grows in let at = new.0 in (omega arith, new.1)))
-        (in_either place a.made b.made there);
-  }
+  abbrev IsTurn : List Entry → List ℕ → ℕ → Type 0
+  IsTurn log made place = IsTurnAt worker log place
+
+  pub turns_through : (u v w : View Givens Entry) → MakesTurns worker u v → MakesTurns worker v w → MakesTurns worker u w
+  turns_through u v w a b =
+      makes_through IsTurn IsTurn IsTurn u v w a b (λ place turn. turn_stays v.seen w.seen place b.grows turn) (λ place low turn. turn)
 
   module _ (g : Givens) (v w : View Givens Entry) (h : List Entry) (t : Turns g v h w) where
-    pub step_none : past w ≡ h → MakesTurns worker v w
-    step_none is = record {
-      grows = same_seen g v w h t is;
-      given = t.given;
-      base = t.base;
-      room = t.room;
-      made = [];
-      mine = t.none_made is ∙ sym (append-nil v.mine);
-      each = λ place there. absurd (omega arith);
-    }
+    turn_none : past w ≡ h → MakesTurns worker v w
+    turn_none = call_none IsTurn g v w h t
 
-    pub step_one : (e : Entry) → past w ≡ e ∷ h → IsOf worker e → MakesTurns worker v w
-    step_one e is own = record {
-      grows = one_seen g v w h t e is;
-      given = t.given;
-      base = t.base;
-      room = t.room;
-      made = length h ∷ [];
-      mine = t.one_made e is;
-      each = λ place there. ⊎_elim
-          (λ (i : In place []). absurd (omega arith))
-          (λ (at : place ≡ length h). (
-            (let low = found_longer g v w h t in omega arith),
-            record { entry = e; stands = subst (λ k. get_elem? w.seen k ≡ some e) (sym at) (one_stands g v w h t e is); own = own.0; going = own.1 },
-          ))
-          (in_added place (length h) [] there);
-    }
+    turn_one : (e : Entry) → past w ≡ e ∷ h → IsOf worker e → MakesTurns worker v w
+    turn_one e is own =
+        call_one IsTurn g v w h t e is (record { entry = e; stands = one_stands g v w h t e is; own = own.0; going = own.1 })
 
   -- whatever a step answers, it made a turn or nothing
   pub step_makes : (r : Result StepOut AllocError) (g : Givens) (v w : View Givens Entry) → v.givens ≡ Some g → Event (λ old new. Steps worker old r new) v w
       → MakesTurns worker v w
-  step_makes (Ok step_out.Stopped) g v w given ev = (let it = ev g given in step_none g v w it.0 it.1 (ap (λ l. l.history) it.2.1))
-  step_makes (Ok (step_out.Idle over)) g v w given ev = (let it = ev g given in step_none g v w it.0 it.1 (ap (λ l. l.history) it.2.3))
+  step_makes (Ok step_out.Stopped) g v w given ev = (let it = ev g given in turn_none g v w it.0 it.1 (ap (λ l. l.history) it.2.1))
+  step_makes (Ok (step_out.Idle over)) g v w given ev = (let it = ev g given in turn_none g v w it.0 it.1 (ap (λ l. l.history) it.2.3))
   step_makes (Ok (step_out.Did point)) g v w given ev =
-      (let it = ev g given in let one = it.2.2 in step_one g v w it.0 it.1 one.0 (ap (λ l. l.history) one.2) (turn_own g.config g.run it.0 worker one.0 one.1))
-  step_makes (Err fault) g v w given ev = (let it = ev g given in step_none g v w it.0 it.1 (ap (λ l. l.history) it.2.2))
+      (let it = ev g given in let one = it.2.2 in turn_one g v w it.0 it.1 one.0 (ap (λ l. l.history) one.2) (turn_own g.config g.run it.0 worker one.0 one.1))
+  step_makes (Err fault) g v w given ev = (let it = ev g given in turn_none g v w it.0 it.1 (ap (λ l. l.history) it.2.2))
 
   -- a step after the turns so far
   pub steps_on : (r : Result StepOut AllocError) (u v w : View Givens Entry) → ((g : Givens) → u.givens ≡ Some g → MakesTurns worker u v)
       → Event (λ old new. Steps worker old r new) v w → (g : Givens) → u.givens ≡ Some g → MakesTurns worker u w
-  steps_on r u v w so_far ev g given = (let old = so_far g given in makes_through u v w old (step_makes r g v w (old.given ∙ given) ev))
+  steps_on r u v w so_far ev g given = (let old = so_far g given in turns_through u v w old (step_makes r g v w (old.given ∙ given) ev))

@@ -1,15 +1,16 @@
 -- What one who makes a worker's turns by a seat of his own did, read on that seat. A place is an index into the journal.
-use Rattle.std.specs.Prelude.{◌≡◌, ℕ, ◌≤◌, List, [], ◌∷◌, ◌++◌, length, reverse, Option, Some, None, IfSome}
+use Rattle.std.specs.Prelude.{◌≡◌, ℕ, List, [], ◌∷◌, ◌++◌, length, reverse, Option, Some, None, IfSome}
 use Rattle.poa_base.specs.declared.Entry.{Entry}
 use Rattle.poa_base.specs.declared.Entry.TheVariants.{Abandon}
 use Rattle.poa_shared.specs.Seats.{IsIdle}
 use Rattle.poa_shared.specs.declared.shared.Shared.{Shared}
+use Rattle.poa_worker.specs.Making.{Makes}
 use Rattle.run_history.specs.Life.{Life}
 use Rattle.run_history.specs.Owners.{worker_of}
 use Rattle.run_history.specs.declared.givens.Givens.{Givens}
 use Rattle.run_tally.specs.Phases.{phase_of}
 use Rattle.run_tally.specs.declared.phase.Phase.TheVariants.{Running}
-use Rattle.seat_lock.specs.Histories.{In, IsPrefix}
+use Rattle.seat_lock.specs.Histories.{IsPrefix}
 use Rattle.seat_lock.specs.Seats.{Seat, view}
 use Rattle.seat_lock.specs.declared.view.View.{View}
 
@@ -24,14 +25,8 @@ pub record IsHelpAt (log : List Entry) (place : ℕ) : Type 0 where
   pub running : phase_of (reverse before) ≡ Running
 
 -- between two views of a seat turns of the first worker were made, each while the run was running, and nothing else
-pub record Helps (old new : View Givens Entry) : Type 0 where
-  pub grows : IsPrefix old.seen new.seen
-  pub given : new.givens ≡ old.givens
-  pub base : new.base ≡ old.base
-  pub room : new.room ≡ old.room
-  pub made : List ℕ
-  pub mine : new.mine ≡ old.mine ++ made
-  pub each : (place : ℕ) → In place made → (length old.seen ≤ place) × IsHelpAt new.seen place
+abbrev pub Helps : View Givens Entry → View Givens Entry → Type 0
+Helps = Makes (λ log made place. IsHelpAt log place)
 
 abbrev pub SeatOf : Type 0
 SeatOf = Seat (Option Life) (View Givens Entry)

@@ -1,3 +1,4 @@
+pub mod Making
 pub mod Worked
 pub mod Pauses
 pub mod Helping

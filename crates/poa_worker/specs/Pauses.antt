@@ -1,5 +1,5 @@
 -- What a worker has done so far, while it goes on.
-use Rattle.std.specs.Prelude.{◌≡◌, ℕ, ◌≤◌, true, List, ◌++◌, length, None, Result, Ok, Err}
+use Rattle.std.specs.Prelude.{◌≡◌, ℕ, true, None, Result, Ok, Err}
 use Rattle.std.specs.declared.alloc.AllocError.{AllocError}
 use Rattle.poa_base.specs.declared.Entry.{Entry}
 use Rattle.poa_core.specs.Answers.{point_of}
@@ -12,20 +12,14 @@ use Rattle.poa_shared.specs.Seen.{past}
 use Rattle.poa_worker.specs.declared.pause.Pause.{Pause}
 use Rattle.poa_worker.specs.declared.pause.Pause.TheVariants as pause
 use Rattle.run_endings.specs.Closing.{IsClosed}
+use Rattle.poa_worker.specs.Making.{Makes}
 use Rattle.poa_worker.specs.Worked.{IsTurnAt}
 use Rattle.seat_lock.specs.declared.view.View.{View}
-use Rattle.seat_lock.specs.Histories.{In, IsPrefix}
 use Rattle.seat_lock.specs.Steps.{Knows}
 
 -- between two views of its seat the worker made turns, and nothing else
-pub record MakesTurns (worker : ℕ) (old new : View Givens Entry) : Type 0 where
-  pub grows : IsPrefix old.seen new.seen
-  pub given : new.givens ≡ old.givens
-  pub base : new.base ≡ old.base
-  pub room : new.room ≡ old.room
-  pub made : List ℕ
-  pub mine : new.mine ≡ old.mine ++ made
-  pub each : (place : ℕ) → In place made → (length old.seen ≤ place) × IsTurnAt worker new.seen place
+abbrev pub MakesTurns : ℕ → View Givens Entry → View Givens Entry → Type 0
+MakesTurns worker = Makes (λ log made place. IsTurnAt worker log place)
 
 -- the seat has seen all, as it has after each call
 pub record HasSeenAll (g : Givens) (v : View Givens Entry) : Type 0 where

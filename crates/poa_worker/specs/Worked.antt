@@ -1,5 +1,5 @@
 -- What a worker did on a shared core, read on its seat. A place is an index into the journal.
-use Rattle.std.specs.Prelude.{◌≡◌, ℕ, ◌≤◌, true, List, ◌++◌, length, Some, ◌⊎◌}
+use Rattle.std.specs.Prelude.{◌≡◌, ℕ, ◌≤◌, true, List, Some, ◌⊎◌}
 use mathlib.Core.Option.{some}
 use lib.ListN.{get_elem?}
 use Rattle.poa_base.specs.declared.Entry.{Entry}
@@ -10,10 +10,11 @@ use Rattle.run_history.specs.declared.givens.Givens.{Givens}
 use Rattle.run_history.specs.Runs.{IsLog}
 use Rattle.run_history.specs.Owners.{owner_of, worker_of}
 use Rattle.poa_shared.specs.Seen.{past}
+use Rattle.poa_worker.specs.Making.{Makes}
 use Rattle.poa_worker.specs.declared.work_end.WorkEnd.{WorkEnd}
 use Rattle.poa_worker.specs.declared.work_end.WorkEnd.TheVariants.{Closed, Stopped, WantMemory}
 use Rattle.seat_lock.specs.declared.view.View.{View}
-use Rattle.seat_lock.specs.Histories.{In, IsPrefix}
+use Rattle.seat_lock.specs.Histories.{In}
 use Rattle.seat_lock.specs.Steps.{Knows}
 
 -- at this place stands an entry of the worker that isn't its Abandon; in a legal journal that is the worker's next turn there
@@ -41,14 +42,7 @@ HasCause WantMemory g worker h = is_abandoned h worker ≡ true
 
 -- what `work` did between two views of its seat
 pub record Worked (g : Givens) (worker : ℕ) (old new : View Givens Entry) (end : WorkEnd) : Type 0 where
-  pub grows : IsPrefix old.seen new.seen
+  pub makes : Makes (IsMadeAt end worker) old new
   pub runs : IsLog g new.seen
   pub knows : Knows owner_of new new.seen
-  pub given : new.givens ≡ old.givens
-  pub base : new.base ≡ old.base
-  pub room : new.room ≡ old.room
-  pub made : List ℕ
-  pub mine : new.mine ≡ old.mine ++ made
-  -- each entry came after all that the seat had seen, and is a turn
-  pub each : (place : ℕ) → In place made → (length old.seen ≤ place) × IsMadeAt end worker new.seen made place
   pub cause : HasCause end g worker (past new)

@@ -44,7 +44,7 @@ pub(crate) fn answer<S: Source, K: Sink>(
         return Status::WantMemory;
     };
     // For its clauses: the history so far is legal.
-    let _ = service.core.entries();
+    service.core.keeps_laws();
     let mut taken = 0;
     while taken < INPUT_LIMIT {
         match read_front(source, &mut buffer, INPUT_LIMIT - taken) {
@@ -94,7 +94,7 @@ fn take_piece<K: Sink>(
     ensures ready { IsReady service.new }
 {
     // For its clauses: the history so far is legal.
-    let _ = service.core.entries();
+    service.core.keeps_laws();
     let Ok(()) = service.framer.feed(piece) else {
         return Some(Status::WantMemory);
     };

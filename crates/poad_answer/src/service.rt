@@ -63,7 +63,7 @@ impl Service {
         ensures ready { IsReady self.new }
     {
         // For its clauses: the history so far is legal.
-        let _ = self.core.entries();
+        self.core.keeps_laws();
         loop {
             if let Some(why) = self.serve_next(alloc) {
                 return why;
@@ -84,7 +84,7 @@ impl Service {
             Next::Message(message) => {
                 let stop = self.serve_message(alloc, &message);
                 // For its clauses: the history so far is legal.
-                let _ = self.core.entries();
+                self.core.keeps_laws();
                 stop
             }
             Next::NeedMore { have } => Some(Stop::Waits { have }),

@@ -10,6 +10,9 @@ use poa_base::WantMemory;
 use poa_core::{Collected, Core, StepOut};
 use std::alloc::Global;
 
+/// How many bytes the replies to a message have mostly: those of one with a number or a short text.
+const REPLY: usize = 64;
+
 /// Worker 0 takes turns until it has nothing to do.
 pub(crate) fn take_turns(core: &mut Core) -> Result<(), WantMemory>
     requires { IsServing core.old.history }
@@ -32,7 +35,7 @@ pub(crate) fn collected(alloc: Global, core: &mut Core) -> Result<Vec<u8>, WantM
     ensures collects { IfOk result (λ bytes. CollectsAll reply_bytes 0 core.old bytes.items core.new) }
     ensures serving { IsServing core.new.history }
 {
-    let mut bytes = Vec::new(alloc);
+    let mut bytes = Vec::with_capacity(alloc, REPLY)?;
     // No memory holds so many replies.
     for _ in 0..u64::MAX {
         match core.collect(0) {

@@ -18,7 +18,7 @@ impl Report {
     pub fn put_journal(&mut self, case: &Case, core: &Core, files: &MemFiles) -> Result<()> {
         let text = print_parts(self.alloc, core.run(), core.opening(), core.entries())?;
         let is_put = files.content("journal") == Some(text.as_slice());
-        let read = if is_read(self.alloc, core, text.as_slice()) {
+        let read = if is_read(self.alloc, core, text.as_slice())? {
             "read"
         } else {
             "unread"
@@ -36,21 +36,24 @@ impl Report {
 }
 
 /// Whether the text of a core's journal reads as that journal.
-fn is_read(alloc: Global, core: &Core, text: &[u8]) -> bool {
-    match read(alloc, text) {
-        Ok(journal) => journal.run == core.run() && journal.entries.as_slice() == core.entries(),
+fn is_read(alloc: Global, core: &Core, text: &[u8]) -> Result<bool> {
+    let entries = core.entries().to_vec(alloc)?;
+    Ok(match read(alloc, text) {
+        Ok(journal) => {
+            journal.run == core.run() && journal.entries.as_slice() == entries.as_slice()
+        }
         Err(_) => false,
-    }
+    })
 }
 
 /// Whether a journal is legal, where it isn't too long to be looked over.
 fn judgement(alloc: Global, core: &Core) -> Result<String> {
-    let entries = core.entries();
-    if entries.len() > LOOKED_OVER {
+    if core.entries().len() > LOOKED_OVER {
         return Ok(String::from_str(alloc, "long")?);
     }
+    let entries = core.entries().to_vec(alloc)?;
     let (config, opening) = (core.config(), core.opening());
-    match first_illegal(alloc, config, core.run(), CALLS, opening, entries)? {
+    match first_illegal(alloc, config, core.run(), CALLS, opening, &entries)? {
         Some(place) => Ok(format!(in alloc; "illegal {place}")?),
         None => Ok(String::from_str(alloc, "legal")?),
     }

@@ -3,6 +3,7 @@ use Rattle.std.proofs.Common.{◌≡◌, ℕ, ◌<◌, List, [], ◌∷◌, ◌+
 use Rattle.outside.specs.Link.{Shown}
 use Rattle.poa_base.specs.declared.Entry.{Entry}
 use Rattle.poa_base.specs.declared.Entry.TheVariants.{Entered}
+use Rattle.poa_worker.proofs.Making.{in_either}
 use Rattle.run_history.specs.declared.givens.Givens.{Givens}
 use Rattle.run_history.specs.Owners.{owner_of}
 use Rattle.poa_shared.specs.Seen.{Owns}
@@ -14,7 +15,7 @@ use Rattle.seat_lock.proofs.Totals.{times_here}
 use Rattle.session_laws.specs.declared.peer.Peer.{Peer}
 use Rattle.serve_pieces.specs.Ledgers.{IsExplained, IsOfConns, IsOfWorkers}
 use Rattle.serve_pieces.specs.Visits.{Visit, Visited, EachVisited, IsGone, conn_in, conns_of}
-use Rattle.serve_pieces.proofs.Places.{in_either, in_first, in_second, stood_before}
+use Rattle.serve_pieces.proofs.Places.{in_first, in_second, stood_before}
 
 -- an entry is explained by more connections and workers too, and as the journal grows
 pub explained_more : (conns workers conns' workers' : List ℕ) (short long : List Entry) (place : ℕ) → ((c : ℕ) → In c conns → In c conns')

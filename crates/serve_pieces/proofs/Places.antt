@@ -3,25 +3,18 @@ use Rattle.std.proofs.Common.{◌≡◌, ℕ, ◌<◌, true, false, if◌then◌
 use Rattle.std.proofs.lemmas.Bool.{eqb-true, eq-eqb}
 use Rattle.std.proofs.lemmas.List.{length-reverse}
 use mathlib.Core.List.{reverse-cons}
-use mathlib.Core.Logic.{dite}
 use mathlib.Core.Option.{some, some-ne-none}
-use native.Mathlib.Decide.{ℕ_discrete}
 use lib.ListN.{get_elem?}
 use Rattle.poa_base.specs.declared.Entry.{Entry}
 use Rattle.poa_history.specs.Stages.{is_at}
 use Rattle.run_history.specs.Owners.{owner_of}
 use Rattle.session_laws.specs.Records.{places_by}
-use Rattle.seat_lock.specs.Histories.{times, Belongs, In, IsPrefix}
+use Rattle.seat_lock.specs.Histories.{Belongs, In, IsPrefix}
 use Rattle.seat_lock.proofs.Lists.{at_last, at_longer}
 use Rattle.seat_lock.proofs.Calls.{at_prefix}
 use Rattle.seat_lock.proofs.Totals.{at_push, at_there, in_added, in_last, in_longer, one_at, times_both}
 
--- what stands in one of two lists
-pub in_either : (x : ℕ) (xs ys : List ℕ) → In x (xs ++ ys) → In x xs ⊎ In x ys
-in_either x xs ys there =
-    let both = times_both x xs ys in
-    dite (ℕ_discrete (times x xs) 0) (λ (none : times x xs ≡ 0). inr (omega arith)) (λ (some_ : times x xs ≡ 0 → ⊥). inl (omega arith))
-
+-- what stands in one of two lists stands in both
 pub in_first : (x : ℕ) (xs ys : List ℕ) → In x xs → In x (xs ++ ys)
 in_first x xs ys there = (let both = times_both x xs ys in omega arith)
 

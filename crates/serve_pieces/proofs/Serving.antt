@@ -9,6 +9,7 @@ use lib.ListN.{get_elem?}
 use Rattle.outside.specs.Link.{Shown}
 use Rattle.poa_base.specs.declared.Entry.{Entry}
 use Rattle.poa_base.specs.declared.Entry.TheVariants.{Entered}
+use Rattle.poa_worker.proofs.Making.{in_either}
 use Rattle.run_history.specs.declared.givens.Givens.{Givens}
 use Rattle.run_history.specs.Owners.{owner_of}
 use Rattle.poa_session.specs.Served.{RefusedAs, Served, ServedAs}
@@ -23,7 +24,7 @@ use Rattle.session_laws.specs.declared.peer.Peer.{Peer}
 use Rattle.serve_pieces.specs.Doors.{Attends}
 use Rattle.serve_pieces.specs.Ledgers.{IsExplained}
 use Rattle.serve_pieces.specs.Visits.{Visit, conn_in, conns_of}
-use Rattle.serve_pieces.proofs.Places.{in_either, in_first, in_second, place_stands, stands_at_place}
+use Rattle.serve_pieces.proofs.Places.{in_first, in_second, place_stands, stands_at_place}
 use Rattle.serve_pieces.proofs.Entering.{entered_once}
 use Rattle.serve_pieces.proofs.Growing.{adds_behind, each_later, explained_more, owns_later, Adds}
 

@@ -9,6 +9,7 @@ use Rattle.poa_shared.specs.Seen.{HoldsConnection}
 use Rattle.poa_worker.specs.Worked.{Worked as WorkedAs}
 use Rattle.poa_worker.specs.declared.work_end.WorkEnd.{WorkEnd}
 use Rattle.poa_worker.specs.declared.work_end.WorkEnd.TheVariants.{Closed, Stopped, WantMemory}
+use Rattle.poa_worker.proofs.Making.{in_either}
 use Rattle.run_history.specs.declared.givens.Givens.{Givens}
 use Rattle.run_tally.specs.declared.full.Full.{Full}
 use Rattle.seat_lock.specs.declared.view.View.{View}
@@ -18,7 +19,7 @@ use Rattle.serve_pieces.specs.Doors.{DoorKept}
 use Rattle.serve_pieces.specs.declared.ran.PieceEnd.{PieceEnd}
 use Rattle.serve_pieces.specs.declared.ran.PieceEnd.TheVariants.{DoorEnd, DoorFailed, NotRunning, Worked}
 use Rattle.serve_pieces.specs.declared.task.Task.{Task}
-use Rattle.serve_pieces.proofs.Places.{in_either, in_first, in_second}
+use Rattle.serve_pieces.proofs.Places.{in_first, in_second}
 use Rattle.serve_run.specs.Attending.{AllServed, Attended, DoorsServed}
 use Rattle.serve_run.specs.Holding.{Holds}
 use Rattle.serve_run.specs.Lanes.{AreServed, LanesServed}
@@ -210,7 +211,7 @@ module _ {A L : Type 0} (g : Givens) (shown : L → Shown) (standing : A → Opt
       given = ap (λ x. x.givens) joined.joined ∙ (inner.same.given ∙ kept.given);
       base = ap (λ x. x.base) joined.joined ∙ (inner.same.base ∙ kept.base);
       room = (let r : j.room ≡ w.room + joined.ran.seat.me.0.room + 1 = ap (λ x. x.room) joined.joined in
-          let none : joined.ran.seat.me.0.room ≡ 0 = worked.room ∙ first_room in let same = inner.same.room in omega arith);
+          let none : joined.ran.seat.me.0.room ≡ 0 = worked.makes.room ∙ first_room in let same = inner.same.room in omega arith);
     }
 
     not_yet : In fewer (workers_in inner.shifts) → ⊥

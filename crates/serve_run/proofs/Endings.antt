@@ -24,6 +24,7 @@ use Rattle.run_endings.proofs.Freed.{freed}
 use Rattle.run_endings.proofs.LateCalls.{late}
 use Rattle.run_endings.proofs.Over.{closed_over, history_before}
 use Rattle.poa_worker.specs.Helping.{IsHelpAt}
+use Rattle.poa_worker.proofs.Making.{in_either}
 use Rattle.run_history.specs.declared.givens.Givens.{Givens}
 use Rattle.run_history.specs.Owners.{owner_of, worker_of}
 use Rattle.run_history.specs.Runs.{IsHistory, IsLog}
@@ -37,7 +38,7 @@ use Rattle.session_laws.specs.Records.{is_late}
 use Rattle.session_laws.specs.declared.peer.Peer.{Peer}
 use Rattle.serve_pieces.specs.Visits.{Visit, Visited, EachVisited, conn_in, conns_of}
 use Rattle.serve_pieces.proofs.Entering.{entered_low, entered_once}
-use Rattle.serve_pieces.proofs.Places.{in_either, stood_before}
+use Rattle.serve_pieces.proofs.Places.{stood_before}
 use Rattle.serve_run.specs.Tours.{Tour, Shift, conns_in, workers_in, EachToured, EachWorked, HasWorked}
 use Rattle.serve_run.specs.Holding.{Holds}
 use Rattle.serve_run.specs.Served.{IsRunOver}

@@ -9,6 +9,7 @@ use Rattle.poa_base.specs.declared.Entry.TheVariants.{Abandon}
 use Rattle.poa_history.specs.Legal.{is_filled}
 use Rattle.poa_worker.specs.Helping.{Helps, IsHelpAt}
 use Rattle.poa_worker.proofs.Helped.{help_stays}
+use Rattle.poa_worker.proofs.Making.{makes_all}
 use Rattle.run_history.specs.declared.givens.Givens.{Givens}
 use Rattle.run_history.specs.Owners.{worker_of}
 use Rattle.run_tally.specs.Leaving.{is_shut}
@@ -78,7 +79,7 @@ turns_more v j made adds few many more new old place w there own = ⊎_elim
 -- the seat of an aid made turns of the first worker alone
 module _ (first u : View Givens Entry) (fresh : first.mine ≡ []) (helps : Helps first u) where
   pub help_at : (place : ℕ) → In place u.mine → IsHelpAt u.seen place
-  help_at place there = (helps.each place (subst (In place) (helps.mine ∙ ap (λ l. l ++ helps.made) fresh) there)).1
+  help_at = makes_all (λ log made place. IsHelpAt log place) first u fresh helps
 
   pub ledger_helped : Ledger [] (0 ∷ []) u
   ledger_helped = record {

@@ -6,6 +6,7 @@ use Rattle.outside.specs.Link.{Shown}
 use Rattle.poa_base.specs.declared.Entry.{Entry}
 use Rattle.poa_worker.specs.Helping.{Aids, Helps, SeatOf}
 use Rattle.poa_worker.proofs.Helped.{help_stays}
+use Rattle.poa_worker.proofs.Making.{in_either}
 use Rattle.run_history.specs.declared.givens.Givens.{Givens}
 use Rattle.run_history.specs.Owners.{owner_of}
 use Rattle.seat_lock.specs.Histories.{Belongs, In}
@@ -15,7 +16,7 @@ use Rattle.seat_lock.specs.Views.{longer}
 use Rattle.seat_lock.specs.declared.view.View.{View}
 use Rattle.serve_pieces.specs.Ledgers.{Ledger}
 use Rattle.serve_pieces.proofs.Growing.{Adds}
-use Rattle.serve_pieces.proofs.Places.{in_either, in_first, in_second, stood_before}
+use Rattle.serve_pieces.proofs.Places.{in_first, in_second, stood_before}
 use Rattle.serve_run.specs.Aiding.{AidJoined, IsSplit}
 use Rattle.serve_run.specs.Holding.{Holds}
 use Rattle.serve_run.specs.Lanes.{AreServed, LanesServed}

@@ -3,6 +3,7 @@ use Rattle.std.proofs.Common.{◌≡◌, ℕ, ◌+◌, List, [], ◌∷◌, ◌+
 use Rattle.outside.specs.Accepting.{Standing}
 use Rattle.outside.specs.Link.{Shown}
 use Rattle.poa_base.specs.declared.Entry.{Entry}
+use Rattle.poa_worker.proofs.Making.{in_either}
 use Rattle.run_history.specs.declared.givens.Givens.{Givens}
 use Rattle.run_history.specs.Owners.{owner_of, worker_of}
 use Rattle.run_tally.specs.declared.full.Full.{Full}
@@ -18,7 +19,7 @@ use Rattle.serve_pieces.specs.Ledgers.{IsOfConns, IsOfWorkers}
 use Rattle.serve_pieces.specs.Visits.{conns_of}
 use Rattle.serve_pieces.specs.declared.ran.PieceEnd.{PieceEnd}
 use Rattle.serve_pieces.proofs.Growing.{each_later, Adds}
-use Rattle.serve_pieces.proofs.Places.{in_either, in_first, in_second, stood_before}
+use Rattle.serve_pieces.proofs.Places.{in_first, in_second, stood_before}
 use Rattle.serve_run.specs.Tours.{Tour, Shift, conns_in, workers_in, EachToured, EachWorked, HasToured, HasWorked, IsWorkersAt}
 use Rattle.serve_run.specs.Holding.{Holds}
 use Rattle.serve_run.proofs.Helping.{turns_more}

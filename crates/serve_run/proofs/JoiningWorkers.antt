@@ -4,9 +4,10 @@ use Rattle.outside.specs.Accepting.{Standing}
 use Rattle.outside.specs.Link.{Shown}
 use Rattle.poa_base.specs.declared.Entry.{Entry}
 use Rattle.poa_worker.specs.Helping.{IsHelpAt}
-use Rattle.poa_worker.specs.Worked.{Worked}
+use Rattle.poa_worker.specs.Worked.{IsMadeAt, IsTurnAt, Worked}
 use Rattle.poa_worker.specs.declared.work_end.WorkEnd.TheVariants.{Closed}
 use Rattle.poa_worker.proofs.Helped.{help_stays}
+use Rattle.poa_worker.proofs.Making.{in_either, makes_all}
 use Rattle.run_history.specs.declared.givens.Givens.{Givens}
 use Rattle.run_history.specs.Owners.{owner_of, worker_of}
 use Rattle.seat_lock.specs.declared.view.View.{View}
@@ -16,7 +17,7 @@ use Rattle.seat_lock.proofs.Calls.{at_prefix}
 use Rattle.seat_lock.proofs.Totals.{one_at}
 use Rattle.serve_pieces.specs.Ledgers.{IsOfConns, IsOfWorkers, Ledger}
 use Rattle.serve_pieces.proofs.Growing.{Adds}
-use Rattle.serve_pieces.proofs.Places.{in_either, in_first, in_second, stood_before}
+use Rattle.serve_pieces.proofs.Places.{in_first, in_second, stood_before}
 use Rattle.serve_run.specs.Tours.{Tour, Shift, conns_in, workers_in, IsWorkersAt}
 use Rattle.serve_run.specs.Holding.{Holds, IsLast}
 use Rattle.serve_run.proofs.Closing.{belongs_before}
@@ -26,13 +27,14 @@ use Rattle.serve_run.proofs.JoiningDoors.{each_toured, each_worked}
 use Rattle.serve_run.proofs.Numbers.{here_in, one_in}
 
 module _ (g : Givens) (worker : ℕ) (first u : View Givens Entry) (fresh : first.mine ≡ []) (worked : Worked g worker first u Closed) where
-  mine_made : u.mine ≡ worked.made
-  mine_made = worked.mine ∙ ap (λ l. l ++ worked.made) fresh
+  -- all that its seat made are turns of it
+  turn_at : (place : ℕ) → In place u.mine → IsTurnAt worker u.seen place
+  turn_at = makes_all (IsMadeAt Closed worker) first u fresh worked.makes
 
   -- a worker's seat made its turns alone
   pub ledger_worked : Ledger [] (worker ∷ []) u
   ledger_worked = record {
-    explained = λ place there. (let it = (worked.each place (subst (In place) mine_made there)).1 in
+    explained = λ place there. (let it = turn_at place there in
         record { entry = it.entry; stands = it.stands; of = inr (worker, here_in worker, it.own) });
     closed = worked.knows.closed;
     within = worked.knows.within;
@@ -80,7 +82,7 @@ module _ {A L : Type 0} (g : Givens) (shown : L → Shown) (standing : A → Opt
   -- each entry that its seat made is one of it
   is_own : (place w : ℕ) → In place u.mine → IsWorkersAt w j.seen place → In w (workers_in (shift ∷ shifts))
   is_own place w there at =
-      let it = (worked.each place (subst (In place) (mine_made g worker first u fresh worked) there)).1 in
+      let it = turn_at g worker first u fresh worked place there in
       let same : it.entry ≡ at.entry = one_at j.seen place it.entry at.entry (at_prefix u.seen j.seen place it.entry unites.second it.stands) at.stands in
       let e : Some worker ≡ Some w = sym it.own ∙ (ap worker_of same ∙ at.own) in
       let k : worker ≡ w = cc in

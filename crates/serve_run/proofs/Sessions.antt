@@ -15,6 +15,7 @@ use Rattle.poa_base.specs.declared.SessionEnd.{SessionEnd}
 use Rattle.poa_history.specs.Stages.{is_abandoned}
 use Rattle.poa_session.specs.Served.{RefusedAs, ServedAs}
 use Rattle.poa_worker.specs.Helping.{IsHelpAt}
+use Rattle.poa_worker.proofs.Making.{in_either}
 use Rattle.run_history.specs.declared.givens.Givens.{Givens}
 use Rattle.run_history.specs.Owners.{owner_of, worker_of, HasNone}
 use Rattle.run_history.specs.Runs.{IsLog}
@@ -27,7 +28,7 @@ use Rattle.session_laws.specs.Sessions.{Session}
 use Rattle.serve_pieces.specs.Ledgers.{IsOfConns, IsOfWorkers}
 use Rattle.serve_pieces.specs.Visits.{Visit, Visited, EachVisited}
 use Rattle.serve_pieces.proofs.Entering.{entered_low}
-use Rattle.serve_pieces.proofs.Places.{in_either, in_second, stood_before}
+use Rattle.serve_pieces.proofs.Places.{in_second, stood_before}
 use Rattle.serve_run.specs.Tours.{Tour, Shift, conns_in, workers_in, EachToured, EachWorked, HasWorked}
 use Rattle.serve_run.specs.Holding.{Holds}
 use Rattle.serve_run.specs.Served.{AreConnections, EachDoor, EachSession, NoneGaveUp, IsSession, IsTurnedAway}

@@ -5,6 +5,7 @@ use native.Mathlib.Decide.{ℕ_discrete}
 use Rattle.poa_base.specs.declared.Entry.{Entry}
 use Rattle.poa_base.specs.declared.Entry.TheVariants.{Entered}
 use Rattle.poa_shared.specs.Seen.{Owns}
+use Rattle.poa_worker.proofs.Making.{in_either}
 use Rattle.run_history.specs.declared.givens.Givens.{Givens}
 use Rattle.run_history.specs.Owners.{owner_of}
 use Rattle.seat_lock.specs.declared.view.View.{View}
@@ -14,7 +15,7 @@ use Rattle.seat_lock.proofs.Calls.{at_prefix}
 use Rattle.seat_lock.proofs.Histories.{closed_both, prefix_below}
 use Rattle.serve_pieces.specs.Ledgers.{Ledger}
 use Rattle.serve_pieces.proofs.Growing.{explained_more, owns_later, Adds}
-use Rattle.serve_pieces.proofs.Places.{in_either, in_first, in_second}
+use Rattle.serve_pieces.proofs.Places.{in_first, in_second}
 use Rattle.serve_run.proofs.Closing.{closed_longer}
 
 -- one of the two seats, and the place at which a connection of it entered

@@ -16,7 +16,7 @@ loop-init g c = record {
   sits = λ givens given. sits_new givens c.args.peer c.args.conn (view c.args.seat.now)
       (g.L.Link.shown c.args.link.now) c.args.input.now c.requires.fresh c.requires.taken;
   writes = omega arith;
-  buffer = c.requires.buffer;
+  room = c.requires.room;
 }
 
 pub loop-preserved : goal.loop-preserved
@@ -32,7 +32,7 @@ loop-preserved g c = record {
       (g.L.Link.shown c.loop.link) c.loop.input before (view c.round.new.seat) (g.L.Link.shown c.round.new.link) c.round.new.input
       (c.in-On.ensures.rounds givens (before.adds.given ∙ given) c.args.peer));
   writes = (let was = c.loop.invariant.writes in let more = c.in-On.ensures.written.later in omega (arith, was, more));
-  buffer = subst (λ n. 0 < n) (sym c.in-On.ensures.buffer) c.loop.invariant.buffer;
+  room = subst (λ n. 0 < n) (sym c.in-On.ensures.room) c.loop.invariant.room;
 }
 
 pub returns-in-Ends-clause-converses : goal.returns-in-Ends-clause-converses

@@ -17,5 +17,5 @@ invariant-loop g l = record {
   sits : (givens : Givens) → (view l.initial.seat).givens ≡ Some givens
       → Sits givens l.peer l.conn (view l.initial.seat) (g.L.Link.shown l.initial.link) (view l.seat) (g.L.Link.shown l.link) l.input;
   writes : (g.L.Link.shown l.initial.link).write_faults ≤ (g.L.Link.shown l.link).write_faults;
-  buffer : 0 < length l.buffer;
+  room : 0 < length l.buffers.piece.items;
 }

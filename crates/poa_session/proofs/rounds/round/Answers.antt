@@ -10,29 +10,29 @@ use Rattle.poa_session.proofs.rounds.round.Goals as goal
 pub returns-in-Err-clause-rounds : goal.returns-in-Err-clause-rounds
 returns-in-Err-clause-rounds g c = λ givens given peer.
     exchange_over givens peer c.args.conn (view c.args.seat.now) (g.L.Link.shown c.args.link.now) c.args.input.now c.requires.conn.owns
-    (view c.exchange.new.seat) c.exchange.new.input c.new-replies.result.items c.exchange.new.replies.items c.new-replies.ensures.items
+    (view c.exchange.new.seat) c.exchange.new.input c.clear.new.self.items c.exchange.new.replies.items c.clear.ensures.items
     c.in-Err.flow (c.in-Err.ensures.exchanges givens given peer)
 
 pub returns-then-not-write_all-clause-rounds : goal.returns-then-not-write_all-clause-rounds
 returns-then-not-write_all-clause-rounds g c = λ givens given peer.
     exchange_cut givens peer c.args.conn (view c.args.seat.now) (g.L.Link.shown c.args.link.now) c.args.input.now c.requires.conn.owns
-    (view c.exchange.new.seat) c.exchange.new.input c.new-replies.result.items c.exchange.new.replies.items c.new-replies.ensures.items
-    c.in-Ok.have (c.in-Ok.ensures.exchanges givens given peer) c.as_slice.result.now c.as_slice.ensures.value
+    (view c.exchange.new.seat) c.exchange.new.input c.clear.new.self.items c.exchange.new.replies.items c.clear.ensures.items
+    c.in-Ok.have (c.in-Ok.ensures.exchanges givens given peer) c.deref.result.now c.deref.ensures.value
     (g.L.Link.shown c.write_all.new.link) c.if-not-write_all.ensures.writes
 
 pub returns-in-Some-clause-rounds : goal.returns-in-Some-clause-rounds
 returns-in-Some-clause-rounds g c = λ givens given peer.
     exchange_ended givens peer c.args.conn (view c.args.seat.now) (g.L.Link.shown c.args.link.now) c.args.input.now c.requires.conn.owns
-    (view c.exchange.new.seat) c.exchange.new.input c.new-replies.result.items c.exchange.new.replies.items c.new-replies.ensures.items
-    c.in-Ok.have (c.in-Ok.ensures.exchanges givens given peer) c.as_slice.result.now c.as_slice.ensures.value
+    (view c.exchange.new.seat) c.exchange.new.input c.clear.new.self.items c.exchange.new.replies.items c.clear.ensures.items
+    c.in-Ok.have (c.in-Ok.ensures.exchanges givens given peer) c.deref.result.now c.deref.ensures.value
     (g.L.Link.shown c.write_all.new.link) c.if-not-write_all.ensures.writes
     c.take_in.new.input (g.L.Link.shown c.take_in.new.link) c.in-Some.end c.in-Some.ensures.takes
 
-pub returns-clause-rounds : goal.returns-clause-rounds
-returns-clause-rounds g c = λ givens given peer.
+pub returns-in-None-clause-rounds : goal.returns-in-None-clause-rounds
+returns-in-None-clause-rounds g c = λ givens given peer.
     exchange_on givens peer c.args.conn (view c.args.seat.now) (g.L.Link.shown c.args.link.now) c.args.input.now c.requires.conn.owns
-    (view c.exchange.new.seat) c.exchange.new.input c.new-replies.result.items c.exchange.new.replies.items c.new-replies.ensures.items
-    c.in-Ok.have (c.in-Ok.ensures.exchanges givens given peer) c.as_slice.result.now c.as_slice.ensures.value
+    (view c.exchange.new.seat) c.exchange.new.input c.clear.new.self.items c.exchange.new.replies.items c.clear.ensures.items
+    c.in-Ok.have (c.in-Ok.ensures.exchanges givens given peer) c.deref.result.now c.deref.ensures.value
     (g.L.Link.shown c.write_all.new.link) c.if-not-write_all.ensures.writes
     c.take_in.new.input (g.L.Link.shown c.take_in.new.link) c.in-None.ensures.takes
 
@@ -51,8 +51,8 @@ returns-in-Some-clause-read g c = λ givens given.
           (c.in-Some.ensures.failed.rose (let e : Ends c.in-Some.end ≡ Ends ReadFault = is in let same : c.in-Some.end ≡ ReadFault = cc in ap Some same));
     })
 
-pub returns-clause-read : goal.returns-clause-read
-returns-clause-read g c = λ givens given.
+pub returns-in-None-clause-read : goal.returns-in-None-clause-read
+returns-in-None-clause-read g c = λ givens given.
     record {
       later = le_trans c.if-not-write_all.ensures.writes.moved.read_faults c.in-None.ensures.failed.later;
       rose = λ is. absurd (let e : On ≡ Ends ReadFault = is in cc);

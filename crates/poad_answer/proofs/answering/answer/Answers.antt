@@ -20,10 +20,10 @@ loop-taken-init g c = record {
   runs = run_starts _ _ _ c.in-Ok-new.service c.in-Ok-new.ensures.served c.in-Ok-new.ensures.reached c.in-Ok-new.ensures.core c.in-Ok-new.ensures.replies
       c.in-Ok-new.ensures.waiting
       (record {
-        legal = c.entries.ensures.legal;
-        lifetime = c.entries.ensures.lifetime;
-        undone = c.entries.ensures.undone;
-        updates = c.entries.ensures.updates;
+        legal = c.keeps_laws.ensures.legal;
+        lifetime = c.keeps_laws.ensures.lifetime;
+        undone = c.keeps_laws.ensures.undone;
+        updates = c.keeps_laws.ensures.updates;
       });
   ready = ready_first c.args.config c.in-Ok-new.service c.in-Ok-new.ensures.core c.in-Ok-new.ensures.limited;
   within = omega arith;

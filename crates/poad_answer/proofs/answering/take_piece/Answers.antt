@@ -7,7 +7,12 @@ use Rattle.poad_answer.proofs.answering.take_piece.Goals as goal
 pub returns-in_default-clause-takes : goal.returns-in_default-clause-takes
 returns-in_default-clause-takes g c =
     piece_refused c.args.piece.now c.args.service.now _ (g.K.Sink.held c.args.sink.now)
-    (record { legal = c.entries.ensures.legal; lifetime = c.entries.ensures.lifetime; undone = c.entries.ensures.undone; updates = c.entries.ensures.updates })
+    (record {
+      legal = c.keeps_laws.ensures.legal;
+      lifetime = c.keeps_laws.ensures.lifetime;
+      undone = c.keeps_laws.ensures.undone;
+      updates = c.keeps_laws.ensures.updates;
+    })
 
 pub returns-then-not-write_replies-clause-takes : goal.returns-then-not-write_replies-clause-takes
 returns-then-not-write_replies-clause-takes g c =

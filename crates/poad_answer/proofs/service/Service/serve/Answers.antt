@@ -8,10 +8,10 @@ loop-why-init c =
       serves =
           serves_none c.args.self.now
           (record {
-            legal = c.entries.ensures.legal;
-            lifetime = c.entries.ensures.lifetime;
-            undone = c.entries.ensures.undone;
-            updates = c.entries.ensures.updates;
+            legal = c.keeps_laws.ensures.legal;
+            lifetime = c.keeps_laws.ensures.lifetime;
+            undone = c.keeps_laws.ensures.undone;
+            updates = c.keeps_laws.ensures.updates;
           });
       ready = c.requires;
     }

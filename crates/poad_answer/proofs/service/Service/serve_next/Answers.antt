@@ -16,7 +16,12 @@ returns-in-Message-clause-turns c =
     (record { framer = c.next.new.self; core = c.args.self.now.core; replies = c.args.self.now.replies; waiting = c.args.self.now.waiting })
     c.serve_message-stop.new.self c.in-Message.message took fewer c.next.ensures.reached refl refl c.serve_message-stop.ensures.framer
     c.serve_message-stop.ensures.handled
-    (record { legal = c.entries.ensures.legal; lifetime = c.entries.ensures.lifetime; undone = c.entries.ensures.undone; updates = c.entries.ensures.updates })
+    (record {
+      legal = c.keeps_laws.ensures.legal;
+      lifetime = c.keeps_laws.ensures.lifetime;
+      undone = c.keeps_laws.ensures.undone;
+      updates = c.keeps_laws.ensures.updates;
+    })
 
 pub returns-in-Bad-clause-turns : goal.returns-in-Bad-clause-turns
 returns-in-Bad-clause-turns c =
