@@ -1,6 +1,6 @@
 -- Digits read one after another.
 use Rattle.std.proofs.Common.{◌≡◌, ℕ, ◌+◌, ◌*◌, ◌-◌, ◌<◌, ◌≤◌, List, [], ◌∷◌, arith, drop, get_or, length, suc, ap, drop-cons}
-use Rattle.command_words.specs.Serving.{read_on}
+use Rattle.command_words.specs.Numbers.{read_on}
 
 -- a number is no less with more digits
 pub grown : (n : ℕ) (cs : List ℕ) → n ≤ read_on n cs

@@ -1,9 +1,10 @@
 -- The words behind `serve`: the file of a configuration, and options in any place.
-use Rattle.std.specs.Prelude.{◌≡◌, ℕ, ◌==◌, ◌+◌, ◌*◌, ◌-◌, ◌&&◌, nat_lt, nat_le, Bool, true, false, if◌then◌else◌, List, [], ◌∷◌, ◌++◌, length, Option, Some, None, option_map, codes, String, string_bytes, map}
+use Rattle.std.specs.Prelude.{◌≡◌, ℕ, ◌==◌, nat_lt, Bool, true, false, if◌then◌else◌, List, [], ◌∷◌, ◌++◌, length, Option, Some, None, option_map, codes, String, string_bytes, map}
 use Rattle.std.specs.List.{after_first, before_first, position_or_len}
 use Rattle.std.specs.Option.{IsSomeAnd}
-use Rattle.std.specs.Str.{all_ascii_digits, bytes_eq}
+use Rattle.std.specs.Str.{bytes_eq}
 use Rattle.std.specs.declared.alloc.Global.{Global}
+use Rattle.command_words.specs.Numbers.{number_in}
 use Rattle.command_words.specs.Words.{argument, at_most_one, exactly_one}
 use Rattle.command_words.specs.declared.plan.Plan.{Plan}
 use Rattle.command_words.specs.declared.place.Place.{Place as PlaceOfReader}
@@ -86,17 +87,6 @@ settings_of place (w ∷ ws) = word_at place w >>= (λ r. option_map (followed r
 abbrev pub values_of : List ℕ → List Setting → List (List ℕ)
 values_of name [] = []
 values_of name (s ∷ more) = if bytes_eq s.name name then s.value ∷ values_of name more else values_of name more
-
--- the number that digits write behind those of n
-abbrev pub read_on : ℕ → List ℕ → ℕ
-read_on n [] = n
-read_on n (c ∷ cs) = read_on (n * 10 + (c - 48)) cs
-
--- the number of one to ten digits within these bounds
-abbrev pub number_in : ℕ → ℕ → List ℕ → Option ℕ
-number_in least most w =
-    if nat_lt 0 (length w) && nat_le (length w) 10 && all_ascii_digits w && nat_le least (read_on 0 w) && nat_le
-    (read_on 0 w) most then Some (read_on 0 w) else None
 
 -- the run of a server that words ask for
 pub record Serve : Type 0 where

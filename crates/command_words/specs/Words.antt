@@ -1,7 +1,8 @@
 -- The words of a command line.
-use Rattle.std.specs.Prelude.{ℕ, ◌==◌, Bool, true, false, if◌then◌else◌, List, [], ◌∷◌, Option, Some, None, option_map, codes, String, string_bytes, map}
+use Rattle.std.specs.Prelude.{ℕ, ◌==◌, ◌≤◌, Bool, true, false, if◌then◌else◌, List, [], ◌∷◌, Option, Some, None, option_map, codes, String, string_bytes, map}
 use Rattle.std.specs.declared.alloc.Global.{Global}
 use Rattle.std.specs.Str.{bytes_eq}
+use Rattle.command_words.specs.Numbers.{long_number, number_in}
 use Rattle.command_words.specs.declared.command.Command.{Command}
 use Rattle.command_words.specs.declared.command.Command.TheVariants as command
 
@@ -12,6 +13,7 @@ pub data Meant : Type 0 where
   check : List ℕ → Meant  -- to check the configuration in the file of this name
   iors : List ℕ → Meant  -- to print the references of the configuration in the file of this name
   replay : List ℕ → List ℕ → Meant  -- to play, on the configuration in the first file, the script in the second
+  load : ℕ → ℕ → Meant  -- to play so many draws of the generator that starts with the second number
 
 -- a word that isn't empty
 abbrev pub filled : List ℕ → Option (List ℕ)
@@ -65,6 +67,16 @@ abbrev pub single : Bool → Option (List (List ℕ)) → Option (Option (List �
 single true arguments = option_map Some (exactly_one arguments)
 single false arguments = at_most_one arguments
 
+-- a load, of both its numbers
+abbrev pub both : Option ℕ → Option ℕ → Option Meant
+both (Some n) (Some start) = Some (load n start)
+both calls start = None
+
+-- of at most 200,000 calls, from a number below 2^64
+abbrev pub load_of : Option (List ℕ × List ℕ) → Option Meant
+load_of None = None
+load_of (Some words) = both (number_in 0 200000 words.0) (long_number words.1)
+
 -- the command of a first word, and of the arguments behind it
 abbrev pub named : List ℕ → Option (List (List ℕ)) → Option Meant
 named word arguments =
@@ -72,7 +84,8 @@ named word arguments =
     if bytes_eq word (codes "show") then option_map show (exactly_one arguments) else (
     if bytes_eq word (codes "check") then option_map check (exactly_one arguments) else (
     if bytes_eq word (codes "iors") then option_map iors (exactly_one arguments) else (
-    if bytes_eq word (codes "replay") then option_map (λ files. replay files.0 files.1) (exactly_two arguments) else None))))
+    if bytes_eq word (codes "replay") then option_map (λ files. replay files.0 files.1) (exactly_two arguments) else (
+    if bytes_eq word (codes "load") then load_of (exactly_two arguments) else None)))))
 
 abbrev pub command_of : List (List ℕ) → Option Meant
 command_of [] = None
@@ -82,6 +95,11 @@ command_of (w ∷ ws) = named w (arguments_of false ws)
 abbrev pub command_in : List (String Global) → Option Meant
 command_in words = command_of (map string_bytes words)
 
+-- a load is of at most 200,000 calls
+abbrev pub IsWithin : Meant → Type 0
+IsWithin (load n start) = n ≤ 200000
+IsWithin m = Unit {0}
+
 -- a command as the program has it
 abbrev pub seen : Command → Meant
 seen (command.Answer name) = answer (option_map (λ n. n.now) name)
@@ -89,3 +107,4 @@ seen (command.Show text) = show text.now
 seen (command.Check name) = check name.now
 seen (command.Iors name) = iors name.now
 seen (command.Replay config script) = replay config.now script.now
+seen (command.Load calls start) = load calls start

@@ -18,4 +18,10 @@ pub enum Command<'a> {
         /// The name of the file with the script.
         script: &'a str,
     },
+    /// To play so many draws of the generator that starts with a number.
+    Load {
+        /// At most 200,000.
+        calls: u32,
+        start: u64,
+    },
 }

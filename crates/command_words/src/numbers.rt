@@ -3,12 +3,15 @@ ghost use Rattle.std.specs.Prelude.{◌≡◌, ◌+◌, ◌*◌, ◌-◌, ◌<�
 ghost use Rattle.std.specs.Option.{SomeIff};
 ghost use Rattle.std.specs.Str.{all_ascii_digits};
 ghost use Rattle.command_words.specs.declared.fault.WordsFault.TheVariants.{BadWords};
-ghost use Rattle.command_words.specs.Serving as spec;
+ghost use Rattle.command_words.specs.Numbers as spec;
 
 use crate::fault::WordsFault;
 
 // The digits that a number has at most, zeros in front included.
 const MOST_DIGITS: usize = 10;
+
+// And those of a long one.
+const MOST_LONG_DIGITS: usize = 20;
 
 /// The number of one to ten digits within these bounds that a word is.
 pub(crate) fn number_in(word: &str, least: u32, most: u32) -> Result<u32, WordsFault>
@@ -26,6 +29,18 @@ pub(crate) fn number_in(word: &str, least: u32, most: u32) -> Result<u32, WordsF
     } else {
         Err(WordsFault::BadWords)
     }
+}
+
+/// The number below 2^64 of one to twenty digits that a word is.
+pub(crate) fn long_number(word: &str) -> Result<u64, WordsFault>
+    ensures ok { IfOk result (λ n. spec.long_number word.now ≡ Some n) }
+    ensures bad { result ≡ Err BadWords → spec.long_number word.now ≡ None }
+{
+    let digits = word.as_bytes();
+    if digits.is_empty() || digits.len() > MOST_LONG_DIGITS || !are_digits(digits) {
+        return Err(WordsFault::BadWords);
+    }
+    read(digits).ok_or(WordsFault::BadWords)
 }
 
 fn are_digits(word: &[u8]) -> bool

@@ -2,16 +2,20 @@
 ghost use Rattle.std.specs.Prelude.{◌≡◌, IfOk, Err, Some, None, false, map, string_bytes};
 ghost use Rattle.command_words.specs.declared.fault.WordsFault.TheVariants.{BadWords};
 ghost use Rattle.command_words.specs.Words as spec;
-ghost use Rattle.command_words.specs.Words.{arguments_of, command_in, seen};
+ghost use Rattle.command_words.specs.Words.{IsWithin, arguments_of, command_in, seen};
 
 use crate::command::Command;
 use crate::fault::WordsFault;
+use crate::numbers::{long_number, number_in};
 use crate::parsing::{one_argument, required_argument, two_arguments};
 use std::alloc::Global;
 
-/// The command that the words are.
+const MOST_CALLS: u32 = 200_000;
+
+/// The command that the words are. A load is of at most 200,000 calls.
 pub fn command_of<'a>(alloc: Global, words: &'a [String]) -> Result<Command<'a>, WordsFault>
     ensures ok { IfOk result (λ command. command_in words.now ≡ Some (seen command)) }
+    ensures within { IfOk result (λ command. IsWithin (seen command)) }
     ensures bad { result ≡ Err BadWords → command_in words.now ≡ None }
 {
     match words {
@@ -23,6 +27,7 @@ pub fn command_of<'a>(alloc: Global, words: &'a [String]) -> Result<Command<'a>,
 // The command of a first word, and of those behind it.
 fn named<'a>(alloc: Global, word: &str, rest: &'a [String]) -> Result<Command<'a>, WordsFault>
     ensures ok { IfOk result (λ command. spec.named word.now (arguments_of false (map string_bytes rest.now)) ≡ Some (seen command)) }
+    ensures within { IfOk result (λ command. IsWithin (seen command)) }
     ensures bad { result ≡ Err BadWords → spec.named word.now (arguments_of false (map string_bytes rest.now)) ≡ None }
 {
     match word {
@@ -34,6 +39,21 @@ fn named<'a>(alloc: Global, word: &str, rest: &'a [String]) -> Result<Command<'a
             let (config, script) = two_arguments(alloc, "replay", rest)?;
             Ok(Command::Replay { config, script })
         }
+        "load" => {
+            let (calls, start) = two_arguments(alloc, "load", rest)?;
+            load_of(calls, start)
+        }
         _ => Err(WordsFault::BadWords),
     }
+}
+
+// A load of at most 200,000 calls, from a number below 2^64.
+fn load_of<'a>(calls: &str, start: &str) -> Result<Command<'a>, WordsFault>
+    ensures ok { IfOk result (λ command. spec.load_of (Some (calls.now, start.now)) ≡ Some (seen command)) }
+    ensures within { IfOk result (λ command. IsWithin (seen command)) }
+    ensures bad { result ≡ Err BadWords → spec.load_of (Some (calls.now, start.now)) ≡ None }
+{
+    let calls = number_in(calls, 0, MOST_CALLS)?;
+    let start = long_number(start)?;
+    Ok(Command::Load { calls, start })
 }

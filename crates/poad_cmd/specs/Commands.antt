@@ -1,13 +1,14 @@
 -- What a command does. These words are for a contract inside of this crate.
 use Rattle.std.specs.Prelude.{◌≡◌, ℕ, List, Option}
 use Rattle.outside.specs.Keeping.{Contents}
-use Rattle.command_words.specs.Words.{Meant, answer, show, check, iors, replay}
+use Rattle.command_words.specs.Words.{Meant, answer, load, show, check, iors, replay}
 use Rattle.conf_print.specs.declared.Asked.TheVariants.{Counts, References}
 use Rattle.poad_files.specs.Filing.{Filed}
 use Rattle.poad_files.specs.Showing.{Tells}
 use Rattle.poad_files.specs.declared.status.Status.{Status}
 use Rattle.poad_answer.specs.Answering.{AnswersBy}
 use Rattle.poad_cmd.specs.Playing.{PlaysFiles}
+use Rattle.poad_load.specs.Writing.{LoadGives}
 
 -- by the contents of the files, what is left of the source and what the sink holds, before and after, and by the source and the files
 -- themselves
@@ -17,6 +18,8 @@ Does (answer name) status old new left_old left_new held_old held_new source_old
     AnswersBy name status old new left_old left_new held_old held_new
 Does (replay file script) status old new left_old left_new held_old held_new source_old source_new files_old files_new =
     PlaysFiles file script status old new held_old held_new × (source_new ≡ source_old)
+Does (load n start) status old new left_old left_new held_old held_new source_old source_new files_old files_new =
+    LoadGives n start status held_old held_new × (source_new ≡ source_old) × (files_new ≡ files_old)
 Does (show text) status old new left_old left_new held_old held_new source_old source_new files_old files_new =
     Tells status text held_old held_new × (source_new ≡ source_old) × (files_new ≡ files_old)
 Does (check name) status old new left_old left_new held_old held_new source_old source_new files_old files_new =

@@ -1,6 +1,6 @@
 //! The commands of the program: `run_words` does what the words of a command line say, over a source, a
 //! sink and files, and answers how it ended. `answer` serves the GIOP messages of the source, in order, by the
-//! adapter of a configuration. `replay` plays a script on one. `show` prints a reference, and `check` and `iors`
+//! adapter of a configuration. `replay` plays a script on one, and `load` a drawn one. `show` prints a reference, and `check` and `iors`
 //! print what a configuration has.
 #![tactic(auto)]
 

@@ -3,7 +3,7 @@ ghost use Rattle.std.specs.Prelude.{◌≡◌, ◌≢◌, ◌⊎◌, ℕ, List, 
 ghost use Rattle.outside.specs.Cause.{HasCause};
 ghost use Rattle.outside.specs.Told.{IfTold};
 ghost use Rattle.command_words.specs.Words as spec;
-ghost use Rattle.command_words.specs.Words.{command_in, seen};
+ghost use Rattle.command_words.specs.Words.{IsWithin, command_in, seen};
 ghost use Rattle.conf_print.specs.declared.Asked.TheVariants.{Counts, References};
 ghost use Rattle.poad_answer.specs.Answering.{AnswersBy};
 ghost use Rattle.poad_cmd.specs.Commands.{Does};
@@ -11,6 +11,7 @@ ghost use Rattle.poad_cmd.specs.Playing.{PlaysFiles};
 ghost use Rattle.poad_files.specs.Showing.{Tells};
 ghost use Rattle.poad_files.specs.Filing.{Filed};
 ghost use Rattle.poad_files.specs.Taking.{HoldsStill};
+ghost use Rattle.poad_load.specs.Writing.{LoadGives};
 
 use crate::playing::play_files;
 use command_words::{Command, WordsFault, command_of};
@@ -18,6 +19,7 @@ use conf_print::Asked;
 use outside::{Files, Sink, Source};
 use poad_answer::answer_by;
 use poad_files::{Host, Status, print_file, show_text};
+use poad_load::load;
 use std::alloc::Global;
 
 /// Does what the words say.
@@ -25,6 +27,8 @@ use std::alloc::Global;
 /// - `answer`, `answer FILE`: reads GIOP messages from the source, serves them by a run of the configuration in the
 ///   file, or of the built-in one, and writes the replies to the sink.
 /// - `replay FILE SCRIPT`: plays the script in a file on a run of a configuration, and writes what it prints.
+/// - `load N START`: plays N calls, which a generator draws from START on, with turns of workers between them, on a
+///   configuration of the program, and writes what is counted of the run.
 /// - `show IOR`: prints the reference to the sink.
 /// - `check FILE`: reads the configuration in the file, and prints how many there are of each kind.
 /// - `iors FILE`: reads the configuration in the file, and prints the references of its objects.
@@ -70,6 +74,9 @@ pub fn run_words<S: Source, K: Sink, F: Files>(
     ensures plays { (file script : List ℕ) → command_in words.now ≡ Some (spec.replay file script)
         → PlaysFiles file script result (F.contents host.old.files) (F.contents host.new.files) (K.held host.old.sink)
         (K.held host.new.sink) × (host.new.source ≡ host.old.source) }
+    ensures loads { (n start : ℕ) → command_in words.now ≡ Some (spec.load n start)
+        → LoadGives n start result (K.held host.old.sink) (K.held host.new.sink) × (host.new.source ≡ host.old.source)
+        × (host.new.files ≡ host.old.files) }
     ensures shows { (text : List ℕ) → command_in words.now ≡ Some (spec.show text)
         → Tells result text (K.held host.old.sink) (K.held host.new.sink) × (host.new.source ≡ host.old.source)
         × (host.new.files ≡ host.old.files) }
@@ -100,6 +107,7 @@ fn run_command<S: Source, K: Sink, F: Files>(
     host: &mut Host<S, K, F>,
 ) -> Status
     requires patient { S.is_waiting host.old.source ≡ false }
+    requires within { IsWithin (seen command) }
     ensures does { Does (seen command.entry) result (F.contents host.old.files) (F.contents host.new.files) (S.left host.old.source)
         (S.left host.new.source)
         (K.held host.old.sink) (K.held host.new.sink) host.old.source host.new.source host.old.files host.new.files }
@@ -124,6 +132,7 @@ fn run_command<S: Source, K: Sink, F: Files>(
         Command::Replay { config, script } => {
             play_files(alloc, config, script, &mut host.files, &mut host.sink)
         }
+        Command::Load { calls, start } => load(alloc, calls, start, &mut host.sink),
         Command::Show(text) => show_text(alloc, text.as_bytes(), &mut host.sink),
         Command::Check(name) => {
             print_file(alloc, Asked::Counts, name, &mut host.files, &mut host.sink)

@@ -105,7 +105,7 @@ impl Player {
             → self.new.printed.items ≡ self.old.printed.items ++ entry_line e) }
     {
         match self.core.entries().last() {
-            Some(entry) => print_entry(&mut self.printed, entry),
+            Some(view) => print_entry(&mut self.printed, &view.to_entry()?),
             // There is one behind each turn that was made.
             None => Err(WantMemory),
         }

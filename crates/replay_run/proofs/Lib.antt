@@ -7,3 +7,4 @@ pub mod Told
 pub mod Meeting
 pub mod Steps
 pub mod Whole
+pub mod Gathered

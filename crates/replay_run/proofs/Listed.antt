@@ -80,7 +80,7 @@ next_name names i name channels channel pushed less is push all =
     let cut : take (i + 1) names ≡ take i names ++ name ∷ [] = take_more names i name less ∙ ap (λ n. take i names ++ n ∷ []) (sym is) in
     subst (λ (ns : List (List ℕ)). AreFresh ns pushed) (sym cut) (subst (λ (cs : List Channel). AreFresh (take i names ++ name ∷ []) cs) (sym push) all)
 
-past : {A : Type 0} (xs : List A) (i : ℕ) → length xs ≤ i → drop i xs ≡ []
+pub past : {A : Type 0} (xs : List A) (i : ℕ) → length xs ≤ i → drop i xs ≡ []
 past xs i more = grind (arith, common_steps)
 
 -- all was done

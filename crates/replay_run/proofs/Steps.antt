@@ -48,7 +48,7 @@ life_givens : (P : Life → List ℕ → Life → Type 0) → ((a : Life) (text 
     → OnLife P w text v → Givens w.life v.life
 life_givens P keep w text v o = subst (λ (u : World). Givens w.life u.life) (sym o.became) (keep w.life text o.life o.does)
 
-play_givens : (s : Step) (w : World) (text : List ℕ) (v : World) → Plays s w text v → Givens w.life v.life
+pub play_givens : (s : Step) (w : World) (text : List ℕ) (v : World) → Plays s w text v → Givens w.life v.life
 play_givens (step.Ask place id path oid operation argument) w text v p =
     (let bytes : List ℕ = asked w.life id path oid operation argument in line_givens (Feeds bytes) (feeds_givens bytes) place w text v p)
 play_givens (step.Feed place bytes) w text v p = line_givens (Feeds bytes) (feeds_givens bytes) place w text v p

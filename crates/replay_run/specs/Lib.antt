@@ -3,3 +3,4 @@ pub mod Reading
 pub mod Talking
 pub mod Playing
 pub mod Keeping
+pub mod Quiet

@@ -50,8 +50,8 @@ pub fn replay(
     Ok(result_of(player))
 }
 
-// A player before the first line.
-fn player_of(alloc: Global, config: Config, limit: u64) -> Result<Player, WantMemory>
+/// A player before the first line.
+pub(crate) fn player_of(alloc: Global, config: Config, limit: u64) -> Result<Player, WantMemory>
     requires rules { KeepsRules config }
     requires limit { (1 ≤ limit) × (limit ≤ 4000000) }
     ensures { IfOk result (λ player. IsAtFirst config limit player) }
@@ -77,7 +77,7 @@ fn result_of(player: Player) -> Played
     ensures undone { LeavesNothing player.core.config player.core.run player.core.history }
     ensures updates { KeepsUpdates player.core.config player.core.run (opened player.core) player.core.history }
 {
-    let _ = player.core.entries();
+    player.core.keeps_laws();
     let Player {
         core,
         printed,
@@ -108,8 +108,8 @@ fn play_all(
     Ok(())
 }
 
-// Plays a step.
-fn play(
+/// Plays a step.
+pub(crate) fn play(
     alloc: Global,
     player: &mut Player,
     channels: &mut Vec<Channel>,

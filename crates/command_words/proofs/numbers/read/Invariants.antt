@@ -1,5 +1,5 @@
 use Rattle.std.proofs.Common.{◌≡◌, ◌<◌, ◌^◌, drop}
-use Rattle.command_words.specs.Serving.{read_on}
+use Rattle.command_words.specs.Numbers.{read_on}
 use Rattle.command_words.proofs.numbers.read.Given as goal
 
 abbrev pub invariant-loop-digit : goal.invariant-loop-digit

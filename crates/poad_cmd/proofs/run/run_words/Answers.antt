@@ -1,5 +1,5 @@
 -- The words are a command, which is done, or none.
-use Rattle.command_words.specs.Words.{Meant, answer, show, check, iors, replay, command_in, seen}
+use Rattle.command_words.specs.Words.{Meant, answer, load, show, check, iors, replay, command_in, seen}
 use Rattle.poad_cmd.specs.Commands.{Does}
 use Rattle.poad_cmd.proofs.Commanded.{as_meant, not_none}
 use Rattle.poad_cmd.proofs.run.run_words.Goals as goal
@@ -28,6 +28,14 @@ returns-in-Ok-clause-plays g c file script meant = as_meant
     (g.K.Sink.held c.args.host.now.sink) (g.K.Sink.held c.run_command.new.host.sink) c.args.host.now.source c.run_command.new.host.source c.args.host.now.files
     c.run_command.new.host.files)
     (seen c.in-Ok.command) (replay file script) (command_in c.args.words.now) c.in-Ok.ensures.ok meant c.run_command.ensures.does
+
+pub returns-in-Ok-clause-loads : goal.returns-in-Ok-clause-loads
+returns-in-Ok-clause-loads g c n start meant = as_meant
+    (λ (m : Meant). Does m c.run_command.result (g.F.Files.contents c.args.host.now.files) (g.F.Files.contents c.run_command.new.host.files)
+    (g.S.Source.left c.args.host.now.source) (g.S.Source.left c.run_command.new.host.source)
+    (g.K.Sink.held c.args.host.now.sink) (g.K.Sink.held c.run_command.new.host.sink) c.args.host.now.source c.run_command.new.host.source c.args.host.now.files
+    c.run_command.new.host.files)
+    (seen c.in-Ok.command) (load n start) (command_in c.args.words.now) c.in-Ok.ensures.ok meant c.run_command.ensures.does
 
 pub returns-in-Ok-clause-shows : goal.returns-in-Ok-clause-shows
 returns-in-Ok-clause-shows g c text meant = as_meant
