@@ -1,9 +1,11 @@
-//! Times the framing of streams. With no argument it frames each stream once and prints how many messages came; with `measure` it prints the table.
+//! Times the framing of streams and the viewing of a request. With no argument it frames each stream once and prints how many
+//! messages came; with `measure` it prints the table.
 #![tactic(auto)]
 
 mod feeding;
 mod streams;
 mod table;
+mod viewing;
 
 use anyhow::Result;
 use std::env;

@@ -2,6 +2,7 @@
 
 use crate::feeding::messages_of;
 use crate::streams::{empty_fragments, open_requests, requests};
+use crate::viewing::views_of;
 use anyhow::Result;
 use std::alloc::Global;
 use std::time::{Clock, CpuClock};
@@ -58,7 +59,32 @@ pub fn print<R: Clock + CpuClock + Print>(rt: &R, alloc: Global, measure: bool) 
     for row in &rows {
         print_row(rt, alloc, row, measure)?;
     }
+    print_views(rt, alloc, measure)
+}
+
+/// Prints how many of a thousand views of a request lend its operation, or how fast a million are made.
+fn print_views<R: Clock + CpuClock + Print>(rt: &R, alloc: Global, measure: bool) -> Result<()> {
+    if !measure {
+        let views = views_of(alloc, 1000)?;
+        println!(rt; "views of a request: {views}")?;
+        return Ok(());
+    }
+    let mut best = u64::MAX;
+    for _ in 0..TIMES {
+        best = best.min(timed_views(rt, alloc)?);
+    }
+    let speed = 1_000_000_000_000_000 / best.max(1);
+    let micros = best / 1000;
+    println!(rt; "1,000,000 views of a 72-byte request: {micros} us, {speed} a second")?;
     Ok(())
+}
+
+/// Views the request a million times.
+fn timed_views<R: Clock + CpuClock>(rt: &R, alloc: Global) -> Result<u64> {
+    let before = rt.process_cpu_time()?;
+    views_of(alloc, 1_000_000)?;
+    let spent = rt.process_cpu_time()?.saturating_sub(before);
+    Ok(spent.as_nanos().min(1 << 50) as u64)
 }
 
 /// Prints how many messages the row's stream has, or how fast it is framed.
