@@ -1,3 +1,4 @@
 mod FactsAre
 mod CommandsAre
 pub mod GoingOn
+pub mod StillFacts

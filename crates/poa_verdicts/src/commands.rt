@@ -25,16 +25,15 @@ use poa_base::limits::ADAPTERS;
 use poa_base::{
     Answer, Command, Config, ManagerState, Name, Oid, Order, Path, Reason, Sid, Verdict, WantMemory,
 };
-use poa_history::Activation;
 use poa_tree::Node;
 use poa_tree::nodes::node_at;
 use poa_tree::paths::parent_path;
-use standing_queries::Standing;
 use standing_queries::commands::{is_implicit, live_at, referred};
 use standing_queries::flights::is_tried;
 use standing_queries::ids::{made_id, next};
 use standing_queries::searches::is_in_map;
 use standing_queries::templates::{has_template, manager_number, policies_at, servant_number};
+use standing_queries::{Activations, Standing};
 use std::alloc::Global;
 
 fn refusal(reason: Reason) -> Option<Verdict>
@@ -211,8 +210,8 @@ pub fn is_bad_id(config: &Config, run: u32, made: u32, path: &[Name], oid: &[u8]
 }
 
 /// Whether one of them is of the id and active.
-fn is_any_active(activations: &[Activation], adapter: u32, oid: &[u8]) -> bool
-    ensures { result ≡ list_any (λ a. stands.is_of adapter oid.now a && stands.is_active a) activations.now }
+fn is_any_active(activations: &Activations, adapter: u32, oid: &[u8]) -> bool
+    ensures { result ≡ list_any (λ a. stands.is_of adapter oid.now a && stands.is_active a) activations.now.kept }
 {
     activations
         .iter()
@@ -227,8 +226,8 @@ fn has_active(standing: &Standing, adapter: u32, oid: &Oid) -> bool
 }
 
 /// Whether one of them is of the id and not over.
-fn is_any_kept(config: &Config, activations: &[Activation], adapter: u32, oid: &[u8]) -> bool
-    ensures { result ≡ list_any (λ a. stands.is_of adapter oid.now a && not (ends.is_over config.now a)) activations.now }
+fn is_any_kept(config: &Config, activations: &Activations, adapter: u32, oid: &[u8]) -> bool
+    ensures { result ≡ list_any (λ a. stands.is_of adapter oid.now a && not (ends.is_over config.now a)) activations.now.kept }
 {
     activations
         .iter()

@@ -22,13 +22,13 @@ use poa_choose::{Facts, KeyFact, MapFact, WalkFact};
 use poa_history::Activation;
 use poa_tree::Found;
 use poa_tree::walks::{adapter_met, child_met, place_met, walk};
-use standing_queries::Standing;
 use standing_queries::activations::{is_active, is_begun, is_of};
 use standing_queries::calls::{is_locate, target_of};
 use standing_queries::ends::{is_finished, is_over};
 use standing_queries::flights::{is_running, is_tried};
 use standing_queries::keys::{adapter_at, key_in};
 use standing_queries::templates::{children_at, manager_at, policies_at, rules_at};
+use standing_queries::{Activations, Standing};
 use std::alloc::Global;
 
 /// What a key is to this run.
@@ -90,8 +90,8 @@ pub(crate) fn is_active_of(adapter: u32, oid: &[u8], activation: &Activation) ->
 }
 
 /// The activation of the id that is active.
-fn active_of<'a>(activations: &'a [Activation], adapter: u32, oid: &[u8]) -> Option<&'a Activation>
-    ensures { option_copied result ≡ find (λ a. stands.is_of adapter oid.now a && stands.is_active a) activations.now }
+fn active_of<'a>(activations: &'a Activations, adapter: u32, oid: &[u8]) -> Option<&'a Activation>
+    ensures { option_copied result ≡ find (λ a. stands.is_of adapter oid.now a && stands.is_active a) activations.now.kept }
 {
     activations
         .iter()
@@ -108,11 +108,11 @@ pub(crate) fn is_kept_of(config: &Config, adapter: u32, oid: &[u8], activation: 
 /// The activation of the id that isn't over.
 fn kept_of<'a>(
     config: &Config,
-    activations: &'a [Activation],
+    activations: &'a Activations,
     adapter: u32,
     oid: &[u8],
 ) -> Option<&'a Activation>
-    ensures { option_copied result ≡ find (λ a. stands.is_of adapter oid.now a && not (ends.is_over config.now a)) activations.now }
+    ensures { option_copied result ≡ find (λ a. stands.is_of adapter oid.now a && not (ends.is_over config.now a)) activations.now.kept }
 {
     activations
         .iter()
@@ -120,8 +120,8 @@ fn kept_of<'a>(
 }
 
 /// What they are for an id.
-fn slot_among(config: &Config, activations: &[Activation], adapter: u32, oid: &[u8]) -> MapFact
-    ensures { result ≡ situations.slot_of config.now activations.now adapter oid.now }
+fn slot_among(config: &Config, activations: &Activations, adapter: u32, oid: &[u8]) -> MapFact
+    ensures { result ≡ situations.slot_of config.now activations.now.kept adapter oid.now }
 {
     match active_of(activations, adapter, oid) {
         Some(activation) => MapFact::Active(activation.number),
@@ -154,9 +154,12 @@ fn is_changing_in(config: &Config, adapter: u32, activation: &Activation) -> boo
 }
 
 /// Whether one of them is unfinished in the adapter.
-fn is_any_changing(config: &Config, activations: &[Activation], adapter: u32) -> bool
-    ensures { result ≡ situations.is_changing config.now activations.now adapter }
+fn is_any_changing(config: &Config, activations: &Activations, adapter: u32) -> bool
+    ensures { result ≡ situations.is_changing config.now activations.now.kept adapter }
 {
+    if activations.is_still() {
+        return false;
+    }
     activations
         .iter()
         .any(|activation| is_changing_in(config, adapter, activation))

@@ -178,8 +178,11 @@ fn is_due(config: &Config, standing: &Standing, activation: &Activation) -> bool
 
 /// The first that is due of those that are kept.
 fn first_due<'a>(config: &Config, standing: &'a Standing) -> Option<&'a Activation>
-    ensures { option_copied result ≡ find (turns.is_due config.now (seen standing.now)) standing.now.activations.items }
+    ensures { option_copied result ≡ find (turns.is_due config.now (seen standing.now)) standing.now.activations.kept }
 {
+    if standing.activations.is_still() {
+        return None;
+    }
     standing
         .activations
         .iter()

@@ -91,13 +91,3 @@ module _ (c : Config) (run : ℕ) (past : List Entry) (e : Entry) (old mid : Sta
         subst (λ (s : Standing). length s.activations ≤ 4294967296) (sym settle) (few_settled c run past mid few_mid) in
         let same = forgets.forgets.begun in omega (arith, few, same));
   }
-
-  -- so many fit, and none that is over is kept
-  pub kept_live : (settles new : Standing) (n : ℕ) (items left : List Activation) → settles ≡ settled c mid → StandsFor c settles new
-      → settles.activations ≡ behind n items
-      → (n + length items ≤ 18446744073709551615 → left ≡ live c items) → list_any (is_over c) left ≡ false
-  kept_live settles new n items left settle forgets are leaves =
-      let few = (kept_ended settles new settle forgets).few in
-      let same = forgets.forgets.begun in
-      let long = length_behind n items ∙ sym (ap length are) in
-      ap (λ as'. list_any (is_over c) as') (leaves (omega (arith, few, same, long))) ∙ none_over c items

@@ -1,5 +1,4 @@
 mod Dropping
-mod TakingOut
 pub mod Settled
 mod Still
 pub mod ChangesAlike

@@ -1,18 +1,28 @@
 -- No change reaches an activation that is forgotten.
 use Rattle.std.specs.Prelude.{◌≡◌, ℕ, Bool, true, false, not, ◌&&◌, ◌||◌, ◌==◌, if◌then◌else◌, List, [], ◌∷◌, map, refl}
-use Rattle.std.proofs.Common.{sym, ap, ap₂}
+use Rattle.std.proofs.Common.{sym, ap, ap₂, ◌∙◌}
 use Rattle.poa_base.specs.declared.Config.{Config}
 use Rattle.poa_tree.specs.declared.node.Node.{Node}
 use Rattle.poa_tree.specs.Nodes.{stands_under}
 use Rattle.poa_history.specs.declared.activation.Activation.{Activation}
 use Rattle.poa_history.specs.declared.activation.Phase.{Phase}
 use Rattle.poa_history.specs.declared.activation.Phase.TheVariants.{Begun, Complete, Void}
-use Rattle.poa_history.specs.Changes.{at_number, come_to, ended_by_destroy, is_elsewhere}
+use Rattle.poa_history.specs.Changes.{at_number, come_to, ended_by_destroy, is_elsewhere, with_activations}
 use Rattle.poa_history.specs.Ends.{is_left, let_out}
 use Rattle.poa_history.specs.Standings.{Standing, is_mapped, has_servant, is_of}
 use Rattle.poa_history.specs.Templates.{has_activator, manager_at}
-use Rattle.standing_queries.specs.Seen.{forgotten, behind}
-use Rattle.standing_queries.proofs.Behind.{any_behind, second_fails}
+use Rattle.standing_queries.specs.declared.standing.Standing.{Standing as Held}
+use Rattle.standing_queries.specs.Seen.{forgotten, behind, seen}
+use Rattle.standing_queries.specs.Tables.{Table}
+use Rattle.standing_queries.proofs.Behind.{any_behind, map_behind, second_fails}
+
+-- each activation of a table is changed, and so each that is seen
+pub changed_each : (s : Held) (t : Table) (f : Activation → Activation) → f forgotten ≡ forgotten
+    → t ≡ record s.activations { kept = map f s.activations.kept }
+    → record (seen s) { activations = behind t.forgotten t.kept } ≡ with_activations f (seen s)
+changed_each s t f same is =
+    ap (λ (u : Table). record (seen s) { activations = behind u.forgotten u.kept }) is
+    ∙ ap (λ as'. record (seen s) { activations = as' }) (map_behind f same s.activations.forgotten s.activations.kept)
 
 -- where a change leaves it, the change where a test says so leaves it too
 pub still_where : (b : Bool) (a : Activation) → a ≡ forgotten → (if b then a else forgotten) ≡ forgotten

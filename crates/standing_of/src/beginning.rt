@@ -7,9 +7,9 @@ ghost use Rattle.standing_queries.specs.Seen.{seen};
 use poa_base::{AdapterConf, Config, ObjectConf, Oid, Path, Sid, WantMemory};
 use poa_history::{Activation, Phase};
 use poa_tree::Node;
-use standing_queries::Standing;
 use standing_queries::commands::number_at;
 use standing_queries::ids::{made_id, next};
+use standing_queries::{Activations, Standing};
 use std::alloc::Global;
 
 /// The adapter is created, and gets the next number.
@@ -83,8 +83,7 @@ fn root_alone(alloc: Global) -> Result<Standing, WantMemory>
         count: 0,
         made: 0,
         flights: Vec::new(alloc),
-        forgotten: 0,
-        activations: Vec::new(alloc),
+        activations: Activations::new(alloc),
     };
     add_node(&mut standing, &Path::root(alloc))?;
     Ok(standing)

@@ -234,7 +234,7 @@ pub fn advance_kept(
         → OnOk result (StandsAfter config.now run (entry.now ∷ past) (seen standing.new)) }
     ensures forgets { (past : List Entry) → StandsAfter config.now run past (seen standing.old) → stage ≡ entries.stage_at past entry.now
         → option_copied call.entry ≡ entries.call_admitted past entry.now
-        → entries.may_end entry.now ≡ true → OnOk result (list_any (is_over config.now) standing.new.activations.items ≡ false) }
+        → entries.may_end entry.now ≡ true → OnOk result (list_any (is_over config.now) standing.new.activations.kept ≡ false) }
     ensures err { OnErr result (seen standing.new ≡ seen standing.old) }
     ensures ends { entries.takes_no_memory entry.now ≡ true → entries.names_servant entry.now ≡ false → IsOk result }
     ensures named { entries.takes_no_memory entry.now ≡ true → length config.now.servants ≤ 2 ^ 32 → IsOk result }

@@ -74,7 +74,7 @@ fn add_trial(
     Ok(())
 }
 
-/// A request is admitted, and its activation begun. Both lists have their room before either changes.
+/// A request is admitted, and its activation begun. The flight has its room before either changes.
 fn add_incarnation(
     alloc: Global,
     standing: &mut Standing,
@@ -89,14 +89,13 @@ fn add_incarnation(
     let adapter = adapter_met(walk(&standing.nodes, key.path.as_slice()));
     let activation = begun(number, adapter, key.path, key.oid, Phase::Begun);
     standing.flights.reserve(1)?;
-    standing.activations.reserve(1)?;
+    standing.activations.push(activation)?;
     standing.flights.push_reserved(Flight {
         arrival,
         adapter,
-        activation: Some(activation.number),
+        activation: Some(number),
         child: None,
     });
-    standing.activations.push_reserved(activation);
     Ok(())
 }
 

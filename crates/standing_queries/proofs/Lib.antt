@@ -4,3 +4,5 @@ pub mod Numbers
 pub mod Behind
 pub mod Kept
 pub mod Itself
+pub mod RowsKept
+pub mod Moving

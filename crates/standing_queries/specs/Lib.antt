@@ -1,3 +1,4 @@
+pub mod Tables
 pub mod Seen
 pub mod Kept
 pub mod Answers

@@ -34,5 +34,5 @@ seen s =
       count = s.count;
       made = s.made;
       flights = s.flights.items;
-      activations = behind s.forgotten s.activations.items;
+      activations = behind s.activations.forgotten s.activations.kept;
     }

@@ -7,6 +7,7 @@ ghost use Rattle.poa_history.specs.Ends as ends;
 ghost use Rattle.standing_queries.specs.Seen.{seen};
 
 use crate::activations::is_void;
+use crate::active_map::Activations;
 use crate::standing::Standing;
 use crate::templates::has_activator;
 use poa_base::{Config, Name};
@@ -49,9 +50,9 @@ fn are_lived_under(
     config: &Config,
     nodes: &[Node],
     path: &[Name],
-    activations: &[Activation],
+    activations: &Activations,
 ) -> bool
-    ensures { result ≡ list_any (λ a. not (ends.is_over config.now a) && stands_under nodes.now path.now a.adapter) activations.now }
+    ensures { result ≡ list_any (λ a. not (ends.is_over config.now a) && stands_under nodes.now path.now a.adapter) activations.now.kept }
 {
     activations
         .iter()

@@ -6,6 +6,7 @@ ghost use Rattle.poa_history.specs.Settling as settling;
 ghost use Rattle.poa_history.specs.Templates as configured;
 ghost use Rattle.standing_queries.specs.Seen.{seen};
 
+use crate::active_map::Activations;
 use crate::ends::is_over;
 use crate::standing::Standing;
 use crate::templates::{has_activator, manager_at};
@@ -63,11 +64,11 @@ fn is_ended(config: &Config, manager: u32, begun: usize, activation: &Activation
 }
 
 /// Whether those of the activations that a deactivation of the manager ends are over.
-fn all_ended(config: &Config, manager: u32, begun: usize, activations: &[Activation]) -> bool
+fn all_ended(config: &Config, manager: u32, begun: usize, activations: &Activations) -> bool
     ensures { result ≡ list_all
         (λ a. ends.is_over config.now a ||
         (not (nat_lt a.number begun) || not
-        (configured.has_activator config.now a.path && (configured.manager_at config.now a.path == manager)))) activations.now }
+        (configured.has_activator config.now a.path && (configured.manager_at config.now a.path == manager)))) activations.now.kept }
 {
     activations
         .iter()

@@ -5,24 +5,16 @@ ghost use Rattle.poa_history.specs.Turns as turns;
 ghost use Rattle.standing_queries.specs.Seen.{seen};
 
 use crate::activations::{has_servant, is_mapped};
+use crate::active_map::Activations;
 use crate::standing::Standing;
 use poa_base::Sid;
 use poa_history::Activation;
-
-/// The first of them that has the number.
-fn first_numbered(activations: &[Activation], number: u32) -> Option<&Activation>
-    ensures { option_copied result ≡ find (λ a. a.number == number) activations.now }
-{
-    activations
-        .iter()
-        .find(|activation| activation.number == number)
-}
 
 /// The activation of a number, where it isn't forgotten.
 pub fn activation_numbered(standing: &Standing, number: u32) -> Option<&Activation>
     ensures { option_copied result ≡ turns.activation_numbered (seen standing.now) number }
 {
-    first_numbered(&standing.activations, number)
+    standing.activations.numbered(number)
 }
 
 /// Whether the servant is in the map of the adapter by this activation.
@@ -34,9 +26,9 @@ fn is_by(adapter: u32, servant: Sid, activation: &Activation) -> bool
 }
 
 /// The first of them by which the servant is in the map of the adapter.
-fn first_mapped(activations: &[Activation], adapter: u32, servant: Sid) -> Option<&Activation>
+fn first_mapped(activations: &Activations, adapter: u32, servant: Sid) -> Option<&Activation>
     ensures { option_copied result ≡ find (λ a. (a.adapter == adapter) && (stands.is_mapped a && stands.has_servant servant a))
-        activations.now }
+        activations.now.kept }
 {
     activations
         .iter()
@@ -52,8 +44,8 @@ pub fn mapped(standing: &Standing, adapter: u32, servant: Sid) -> Option<&Activa
 }
 
 /// Whether the servant is in the map of the adapter by one of them.
-fn is_any_by(activations: &[Activation], adapter: u32, servant: Sid) -> bool
-    ensures { result ≡ stands.is_in_map activations.now adapter servant }
+fn is_any_by(activations: &Activations, adapter: u32, servant: Sid) -> bool
+    ensures { result ≡ stands.is_in_map activations.now.kept adapter servant }
 {
     activations
         .iter()

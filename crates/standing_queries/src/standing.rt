@@ -1,9 +1,10 @@
 //! What stands after a history.
-ghost use Rattle.std.specs.Prelude.{◌≡◌, ◌+◌, ◌<◌, length, IfOk};
+ghost use Rattle.std.specs.Prelude.{◌≡◌, ◌<◌, length, IfOk};
 ghost use Rattle.standing_queries.specs.Seen.{seen};
 
+use crate::active_map::Activations;
 use poa_base::WantMemory;
-use poa_history::{Activation, Flight};
+use poa_history::Flight;
 use poa_tree::Node;
 
 /// What stands after a history.
@@ -17,10 +18,8 @@ pub struct Standing {
     pub made: u32,
     /// The requests and trials in flight.
     pub flights: Vec<Flight>,
-    /// How many activations were begun, are over and are kept no longer.
-    pub forgotten: usize,
-    /// The other activations, in the order in which they were begun.
-    pub activations: Vec<Activation>,
+    /// The activations that were begun.
+    pub activations: Activations,
 }
 
 impl Standing {
@@ -29,14 +28,6 @@ impl Standing {
         ensures begun { IfOk result (λ begun. begun ≡ length (seen self.now).activations) }
         ensures few { IfOk result (λ begun. begun < 4294967296) }
     {
-        count(self.forgotten, self.activations.len())
+        self.activations.begun()
     }
-}
-
-/// How many they are together.
-fn count(forgotten: usize, kept: usize) -> Result<u32, WantMemory>
-    ensures { IfOk result (λ count. count ≡ forgotten + kept) }
-{
-    let count = forgotten.checked_add(kept).ok_or(WantMemory)?;
-    u32::try_from(count).map_err(|_| WantMemory)
 }

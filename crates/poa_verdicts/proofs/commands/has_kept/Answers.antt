@@ -10,7 +10,6 @@ pub returns : goal.returns
 returns c =
     (let s = c.args.standing.now in
     c.is_any_kept.ensures
-    ∙ ap (λ id. list_any (λ a. is_of c.args.adapter id a && not (is_over c.args.config.now a)) c.deref.result.now) c.as_slice.ensures.value
-    ∙ ap (list_any (λ a. is_of c.args.adapter c.args.oid.now a && not (is_over c.args.config.now a))) c.deref.ensures.value
+    ∙ ap (λ id. list_any (λ a. is_of c.args.adapter id a && not (is_over c.args.config.now a)) c.args.standing.now.activations.kept) c.as_slice.ensures.value
     ∙ sym (any_behind (λ a. is_of c.args.adapter c.args.oid.now a && not (is_over c.args.config.now a))
-    (second_fails (is_of c.args.adapter c.args.oid.now forgotten) _ refl) s.forgotten s.activations.items))
+    (second_fails (is_of c.args.adapter c.args.oid.now forgotten) _ refl) s.activations.forgotten s.activations.kept))

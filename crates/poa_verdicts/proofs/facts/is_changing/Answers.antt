@@ -8,6 +8,5 @@ pub returns : goal.returns
 returns c =
     (let s = c.args.standing.now in
     c.is_any_changing.ensures
-    ∙ ap (λ as'. is_changing c.args.config.now as' c.args.adapter) c.deref.ensures.value
     ∙ sym (any_behind (λ a. (a.adapter == c.args.adapter) && is_unfinished c.args.config.now a)
-    (second_fails (forgotten.adapter == c.args.adapter) _ refl) s.forgotten s.activations.items))
+    (second_fails (forgotten.adapter == c.args.adapter) _ refl) s.activations.forgotten s.activations.kept))

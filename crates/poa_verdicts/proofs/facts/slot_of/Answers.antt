@@ -14,8 +14,8 @@ returns c =
     let adapter = c.args.adapter in
     let oid = c.args.oid.now in
     c.slot_among.ensures
-    ∙ ap (λ as'. slot_of config as' adapter oid) c.deref.ensures.value
     ∙ ap₂ (λ o p. elim o [ Some a ↦ Active a.number | None ↦ elim p [ Some a ↦ Busy a.number | None ↦ Free ] ])
-    (sym (find_behind (λ a. is_of adapter oid a && is_active a) (second_fails (is_of adapter oid forgotten) _ refl) s.forgotten s.activations.items))
+    (sym (find_behind (λ a. is_of adapter oid a && is_active a) (second_fails
+    (is_of adapter oid forgotten) _ refl) s.activations.forgotten s.activations.kept))
     (sym (find_behind (λ a. is_of adapter oid a && not (is_over config a))
-    (second_fails (is_of adapter oid forgotten) _ refl) s.forgotten s.activations.items)))
+    (second_fails (is_of adapter oid forgotten) _ refl) s.activations.forgotten s.activations.kept)))

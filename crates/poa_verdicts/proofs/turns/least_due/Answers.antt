@@ -5,4 +5,5 @@ use Rattle.standing_queries.proofs.Behind.{find_behind}
 use Rattle.poa_verdicts.proofs.turns.least_due.Goals as goal
 
 pub returns : goal.returns
-returns c = (let s = c.args.standing.now in c.first_due.ensures ∙ sym (find_behind (is_due c.args.config.now (seen s)) refl s.forgotten s.activations.items))
+returns c = (let s = c.args.standing.now in c.first_due.ensures
+    ∙ sym (find_behind (is_due c.args.config.now (seen s)) refl s.activations.forgotten s.activations.kept))

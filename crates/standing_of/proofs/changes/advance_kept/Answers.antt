@@ -1,6 +1,8 @@
-use Rattle.std.proofs.Common.{refl, sym}
+use Rattle.std.specs.List.{list_any}
+use Rattle.std.proofs.Common.{sym, ap, ◌∙◌}
+use Rattle.poa_history.specs.Ends.{is_over}
 use Rattle.standing_queries.specs.Seen.{seen}
-use Rattle.standing_of.proofs.Forgotten.{kept_begun, kept_ended, kept_live}
+use Rattle.standing_of.proofs.Forgotten.{kept_begun, kept_ended, none_over}
 use Rattle.standing_of.proofs.changes.advance_kept.Goals as goal
 
 pub returns-then-may_end-clause-ok : goal.returns-then-may_end-clause-ok
@@ -11,10 +13,7 @@ returns-then-may_end-clause-ok c past kept begun admits =
 
 pub returns-then-may_end-clause-forgets : goal.returns-then-may_end-clause-forgets
 returns-then-may_end-clause-forgets c past kept begun admits ends =
-    kept_live c.args.config.now c.args.run past c.args.entry.now (seen c.args.standing.now) (seen c.change.new.standing) kept c.in_ok-has_number.ensures.few
-    (c.in_ok-change.ensures.ok past begun admits)
-    (seen c.settle.new.standing) (seen c.forget.new.standing) c.settle.new.standing.forgotten c.settle.new.standing.activations.items
-    c.forget.new.standing.activations.items c.settle.ensures c.forget.ensures.same refl c.forget.ensures.all
+    ap (λ as'. list_any (is_over c.args.config.now) as') c.forget.ensures.all ∙ none_over c.args.config.now c.settle.new.standing.activations.kept
 
 pub returns-else-may_end-clause-ok : goal.returns-else-may_end-clause-ok
 returns-else-may_end-clause-ok c past kept begun admits =

@@ -1,12 +1,22 @@
-use Rattle.std.proofs.Common.{ℕ, false, ◌≡◌, ◌++◌, ◌∷◌, [], Some, None, ◌∙◌, ap, ap₂, length, List}
+use Rattle.std.proofs.Common.{ℕ, false, ◌≡◌, ◌++◌, ◌∷◌, [], Some, None, ◌∙◌, ◌<◌, ap, ap₂, sym, subst, length, List}
 use Rattle.poa_names.specs.declared.Key.{Key}
 use Rattle.poa_tree.specs.Walks.{walk, adapter_met}
 use Rattle.poa_history.specs.declared.activation.Activation.{Activation}
 use Rattle.poa_history.specs.declared.activation.Phase.TheVariants.{Begun}
 use Rattle.poa_history.specs.declared.flight.Flight.{Flight}
+use Rattle.poa_history.specs.Changes.{with_request}
 use Rattle.standing_queries.specs.Seen.{seen, behind}
-use Rattle.standing_queries.proofs.Behind.{pushed_behind}
+use Rattle.standing_queries.specs.Tables.{Table}
+use Rattle.standing_queries.proofs.Behind.{length_behind, pushed_behind}
 use Rattle.standing_of.proofs.flying.add_incarnation.Goals as goal
+
+pub push-requires-clause-next : goal.push-requires-clause-next
+push-requires-clause-next c =
+    (let t = c.args.standing.now.activations in
+    ap (λ (a : Activation). a.number) c.begun-activation.ensures ∙ c.in_ok-number.ensures.begun ∙ sym (length_behind t.forgotten t.kept))
+
+pub push-requires-clause-few : goal.push-requires-clause-few
+push-requires-clause-few c = subst (λ n. n < 4294967296) (sym (ap (λ (a : Activation). a.number) c.begun-activation.ensures)) c.in_ok-number.ensures.few
 
 pub returns-clause-ok : goal.returns-clause-ok
 returns-clause-ok c =
@@ -31,10 +41,10 @@ returns-clause-ok c =
     c.begun-activation.ensures ∙ ap (λ whose. numbered whose c.in_ok-number.number c.adapter_met-adapter.result) c.in_ok-key.ensures
     ∙ ap₂ (numbered key) c.in_ok-number.ensures.begun adapter in
     let flown : ℕ → ℕ → Flight = (λ n k. record { arrival = c.args.arrival; adapter = k; activation = Some n; child = None }) in
-    ap₂ (λ flights activations. record (seen s) { flights = flights; activations = activations })
+    ap₂ (λ flights (t : Table). record (seen s) { flights = flights; activations = behind t.forgotten t.kept })
     (c.push_reserved.ensures.items
-    ∙ (ap (λ (fs : List Flight). fs ++ flown c.begun-activation.result.number c.adapter_met-adapter.result ∷ []) c.in_ok-reserve.ensures.items
-    ∙ ap₂ (λ n k. s.flights.items ++ flown n k ∷ []) (ap (λ (a : Activation). a.number) begun) adapter))
-    (ap (behind s.forgotten)
-    (c.push_reserved-2.ensures.items ∙ ap (λ (as' : List Activation). as' ++ c.begun-activation.result ∷ []) c.in_ok-reserve-2.ensures.items)
-    ∙ pushed_behind s.forgotten s.activations.items _ _ begun))
+    ∙ (ap (λ (fs : List Flight). fs ++ flown c.in_ok-number.number c.adapter_met-adapter.result ∷ []) c.in_ok-reserve.ensures.items
+    ∙ ap₂ (λ n k. s.flights.items ++ flown n k ∷ []) c.in_ok-number.ensures.begun adapter))
+    c.in_ok-push.ensures.ok
+    ∙ ap (λ activations. record (with_request c.args.arrival key (Some (length (seen s).activations)) (seen s)) { activations = activations })
+    (pushed_behind s.activations.forgotten s.activations.kept _ _ begun))

@@ -9,7 +9,6 @@ pub returns : goal.returns
 returns c =
     (let s = c.args.standing.now in
     c.are_lived_under.ensures
-    ∙ (ap (λ ns. list_any (λ a. not (ends.is_over c.args.config.now a) && stands_under ns c.args.path.now a.adapter) c.deref-2.result.now) c.deref.ensures.value
-    ∙ ap (list_any (λ a. not (ends.is_over c.args.config.now a) && stands_under s.nodes.items c.args.path.now a.adapter)) c.deref-2.ensures.value)
-    ∙ sym (any_behind (λ a. not (ends.is_over c.args.config.now a) && stands_under s.nodes.items c.args.path.now a.adapter) refl s.forgotten
-    s.activations.items))
+    ∙ ap (λ ns. list_any (λ a. not (ends.is_over c.args.config.now a) && stands_under ns c.args.path.now a.adapter) s.activations.kept) c.deref.ensures.value
+    ∙ sym (any_behind (λ a. not (ends.is_over c.args.config.now a) && stands_under s.nodes.items c.args.path.now a.adapter) refl s.activations.forgotten
+    s.activations.kept))

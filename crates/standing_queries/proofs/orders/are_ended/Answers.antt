@@ -1,6 +1,5 @@
-use Rattle.std.proofs.Common.{◌∙◌, not, ◌&&◌, ◌||◌, ◌==◌, ap, sym, refl}
+use Rattle.std.proofs.Common.{◌∙◌, not, ◌&&◌, ◌||◌, ◌==◌, sym, refl}
 use Rattle.std.specs.Prelude.{nat_lt}
-use Rattle.std.specs.List.{list_all}
 use Rattle.poa_history.specs.Ends as ends
 use Rattle.poa_history.specs.Templates as configured
 use Rattle.standing_queries.proofs.Behind.{all_behind}
@@ -11,11 +10,7 @@ returns c =
     (let s = c.args.standing.now in
     let config = c.args.config.now in
     c.all_ended.ensures
-    ∙ ap (list_all
-    (λ a. ends.is_over config a ||
-    (not (nat_lt a.number c.args.begun) || not (configured.has_activator config a.path && (configured.manager_at config a.path == c.args.manager)))))
-    c.deref.ensures.value
     ∙ sym (all_behind
     (λ a. ends.is_over config a ||
     (not (nat_lt a.number c.args.begun) || not (configured.has_activator config a.path && (configured.manager_at config a.path == c.args.manager)))) refl
-    s.forgotten s.activations.items))
+    s.activations.forgotten s.activations.kept))

@@ -1,5 +1,4 @@
-use Rattle.std.proofs.Common.{◌∙◌, ◌==◌, ap, sym, arith}
-use Rattle.std.specs.Prelude.{find}
+use Rattle.std.proofs.Common.{◌∙◌, ◌==◌, sym, arith}
 use Rattle.std.proofs.lemmas.Bool.{eqb-true, false_from_ne_true}
 use Rattle.standing_queries.specs.Seen.{forgotten}
 use Rattle.standing_queries.proofs.Behind.{find_behind}
@@ -8,9 +7,8 @@ use Rattle.standing_queries.proofs.searches.activation_numbered.Goals as goal
 pub returns : goal.returns
 returns c =
     (let s = c.args.standing.now in
-    c.first_numbered.ensures
-    ∙ ap (find (λ a. a.number == c.args.number)) c.deref.ensures.value
+    c.numbered.ensures
     ∙ sym (find_behind (λ a. a.number == c.args.number)
     (false_from_ne_true (forgotten.number == c.args.number)
-    (λ same. (let e = eqb-true forgotten.number c.args.number same in let low = c.ranges.number.fits in omega (arith, e, low)))) s.forgotten
-    s.activations.items))
+    (λ same. (let e = eqb-true forgotten.number c.args.number same in let low = c.ranges.number.fits in omega (arith, e, low)))) s.activations.forgotten
+    s.activations.kept))

@@ -1,5 +1,4 @@
-use Rattle.std.proofs.Common.{◌∙◌, ◌==◌, ◌&&◌, ap, sym, refl}
-use Rattle.std.specs.List.{list_any}
+use Rattle.std.proofs.Common.{◌∙◌, ◌==◌, ◌&&◌, sym, refl}
 use Rattle.poa_history.specs.Standings as stands
 use Rattle.standing_queries.specs.Seen.{forgotten}
 use Rattle.standing_queries.proofs.Behind.{any_behind, second_fails}
@@ -9,6 +8,5 @@ pub returns : goal.returns
 returns c =
     (let s = c.args.standing.now in
     c.is_any_by.ensures
-    ∙ ap (list_any (λ a. (a.adapter == c.args.adapter) && (stands.is_mapped a && stands.has_servant c.args.servant a))) c.deref.ensures.value
     ∙ sym (any_behind (λ a. (a.adapter == c.args.adapter) && (stands.is_mapped a && stands.has_servant c.args.servant a))
-    (second_fails (forgotten.adapter == c.args.adapter) _ refl) s.forgotten s.activations.items))
+    (second_fails (forgotten.adapter == c.args.adapter) _ refl) s.activations.forgotten s.activations.kept))

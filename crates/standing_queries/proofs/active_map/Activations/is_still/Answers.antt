@@ -1,0 +1,11 @@
+use Rattle.std.proofs.Common.{◌==◌, not, ap, ◌∙◌}
+use Rattle.std.specs.List.{list_any}
+use Rattle.std.specs.Map.{values_of}
+use Rattle.standing_queries.specs.Tables.{Table, is_moving}
+use Rattle.standing_queries.proofs.RowsKept.{none_moving}
+use Rattle.standing_queries.proofs.active_map.Activations.is_still.Goals as goal
+
+pub returns : goal.returns
+returns c =
+    ap (λ n. n == 0) c.self.invariant.counted ∙ none_moving (values_of c.self.inside.rows.entries)
+    ∙ ap (λ (t : Table). not (list_any is_moving t.kept)) c.self.view_is

@@ -1,0 +1,101 @@
+//! The rows of a table of activations, changed in place. Takes no memory.
+ghost use Rattle.std.specs.Prelude.{◌≡◌, ◌+◌, ◌==◌, ◌&&◌, true, filter, length, if◌then◌else◌};
+ghost use Rattle.std.specs.BTreeMap.{IsOrdered, values};
+ghost use Rattle.std.specs.Ordering.{nat_cmp};
+ghost use Rattle.poa_tree.specs.Nodes as tree;
+ghost use Rattle.poa_history.specs.Changes as changes;
+ghost use Rattle.poa_history.specs.Ends as ends;
+ghost use Rattle.poa_history.specs.Standings as stands;
+ghost use Rattle.poa_history.specs.Standings.{Standing as Stood};
+ghost use Rattle.poa_history.specs.Templates as configured;
+ghost use Rattle.standing_queries.specs.Kept.{is_live};
+ghost use Rattle.standing_queries.specs.Tables as tables;
+
+use crate::activations::is_active;
+use crate::changing::{end_activators, end_of_id, end_under, let_out};
+use crate::ends::is_over;
+use poa_base::{Config, Name, Oid};
+use poa_history::{Activation, Flight};
+use poa_tree::Node;
+use std::collections::BTreeMap;
+
+/// Activations by their numbers.
+pub type Rows = BTreeMap<u32, Activation>;
+
+/// Whether the activation is on its way in or out.
+pub fn is_moving(activation: &Activation) -> bool
+    ensures { result ≡ tables.is_moving activation.now }
+{
+    !is_active(activation) || activation.out
+}
+
+/// As one that moves counts.
+pub fn moves(activation: &Activation) -> usize
+    ensures { result ≡ tables.weight activation.now }
+{
+    if is_moving(activation) { 1 } else { 0 }
+}
+
+/// How many of them are on their way in or out.
+pub fn count_moving(rows: &Rows) -> usize
+    ensures { result ≡ length (filter tables.is_moving (values rows.now)) }
+{
+    rows.values()
+        .filter(|activation| is_moving(activation))
+        .count()
+}
+
+/// The activations of the adapters that stand at the path or below it are ending.
+pub fn end_all_under(rows: &mut Rows, nodes: &[Node], path: &[Name], etherealize: bool)
+    ensures { rows.new.entries ≡ tables.with_each
+        (λ a. if tree.stands_under nodes.now path.now a.adapter then changes.ended_by_destroy etherealize a else a) rows.old.entries }
+{
+    rows.retain(|_, activation| {
+        end_under(nodes, path, etherealize, activation);
+        true
+    });
+}
+
+/// Those of the activations that are the manager's, with a servant activator, are ending.
+pub fn end_all_activators(rows: &mut Rows, config: &Config, manager: usize)
+    ensures { rows.new.entries ≡ tables.with_each
+        (λ a. if configured.has_activator config.now a.path &&
+        (configured.manager_at config.now a.path == manager) then changes.ended_by_destroy true a else a) rows.old.entries }
+{
+    rows.retain(|_, activation| {
+        end_activators(config, manager, activation);
+        true
+    });
+}
+
+/// Those of the activations that are of the id are ending.
+pub fn end_all_of_id(rows: &mut Rows, adapter: u32, oid: &Oid)
+    ensures { rows.new.entries ≡ tables.with_each
+        (λ a. if stands.is_of adapter oid.now a then record a { ending = true } else a) rows.old.entries }
+{
+    rows.retain(|_, activation| {
+        end_of_id(adapter, oid, activation);
+        true
+    });
+}
+
+/// The activations that are to leave the map do.
+pub fn let_all_out(rows: &mut Rows, config: &Config, flights: &[Flight])
+    ensures { (s : Stood) → s.flights ≡ flights.now → rows.new.entries ≡ tables.with_each (ends.let_out config.now s) rows.old.entries }
+{
+    rows.retain(|_, activation| {
+        let_out(config, flights, activation);
+        true
+    });
+}
+
+/// Keeps those that aren't over, and tells how many go.
+pub fn keep_live(rows: &mut Rows, config: &Config) -> usize
+    ensures live { rows.new.entries ≡ filter (λ e. is_live config.now e.1) rows.old.entries }
+    ensures over { result + length rows.new.entries ≡ length rows.old.entries }
+    ensures ordered { IsOrdered nat_cmp rows.new }
+{
+    let all = rows.len();
+    rows.retain(|_, activation| !is_over(config, activation));
+    all - rows.len()
+}
