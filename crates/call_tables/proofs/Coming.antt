@@ -1,7 +1,5 @@
 -- An entry that comes to the desk.
-use Rattle.std.proofs.Common.{◌≡◌, ℕ, ◌+◌, Bool, not, List, [], ◌∷◌, ◌++◌, map, filter, length, Option, refl, sym, ap, subst, ◌∙◌, arith, ◌<◌, ◌≤◌}
-use Rattle.std.proofs.lemmas.List.{length-append, length-map}
-use Rattle.std.proofs.lemmas.List.Filters.{length-filter_both}
+use Rattle.std.proofs.Common.{◌≡◌, ℕ, not, List, [], ◌∷◌, ◌++◌, map, filter, Option, refl, sym, ap, subst, ◌∙◌}
 use Rattle.poa_base.specs.declared.Config.{Config}
 use Rattle.poa_base.specs.declared.Reply.{Reply}
 use Rattle.poa_base.specs.declared.Verdict.{Verdict}
@@ -93,19 +91,6 @@ module _ (c : Config) (e : Entry) (standing : Standing) (target : Option ℕ) (r
       subst (AreFiled c k.run k.opened (e ∷ k.past)) (sym (is ∙ ap (λ rs. fs ++ map (file target reply) rs) files))
       (filed_then c k.run k.limit k.opened k.past e k.manned k.legal target reply k.decides os k.owed fs left.which left.each)
 
--- what leaves the one list comes into the other
-pub as_many_then : (now : Owing → Bool) (f : Owing → FiledRow) (g : Owing → Owing) (os new : List Owing) (fs filed : List FiledRow)
-    → new ≡ filter (λ o. not (now o)) (map g os) → filed ≡ fs ++ map f (filter now (map g os)) → length new + length filed ≡ length os + length fs
-as_many_then now f g os new fs filed new_is filed_is =
-    let new_long : length new ≡ length (filter (λ o. not (now o)) (map g os)) = ap length new_is in
-    let filed_long : length filed ≡ length fs + length (map f (filter now (map g os))) = ap length filed_is
-    ∙ length-append fs (map f (filter now (map g os))) in
-    let mapped : length (map f (filter now (map g os))) ≡ length (filter now (map g os)) = length-map (filter now (map g os)) f in
-    let parts : length (filter now (map g os)) + length (filter (λ o. not (now o)) (map g os)) ≡ length (map g os) =
-    length-filter_both now (λ o. not (now o)) (λ _. refl) (map g os) in
-    let whole : length (map g os) ≡ length os = length-map os g in
-    omega arith
-
 -- no other entry gives a row something to wait for
 pub waits_not : (e : Entry) (wait : Option Wait) (os : List Owing) → ((w r : ℕ) (v : Verdict) → e ≡ Admit w r v → ⊥) → os ≡ map (waited_by e wait) os
 waits_not (Admit w a v) wait os none = absurd (none w a v refl)
@@ -121,9 +106,3 @@ waits_not (Done w) wait os none = sym (map_same os)
 waits_not (TakeOut w n x) wait os none = sym (map_same os)
 waits_not (Etherealized w x y) wait os none = sym (map_same os)
 waits_not (Abandon w) wait os none = sym (map_same os)
-
--- where there was room for one more, there still is
-pub spare_then : (l l' l'' p p' p'' many many' q q' q'' : ℕ) → l'' ≤ l' → l' ≤ l → p'' ≡ p' → p' ≡ p → many' ≡ many → q'' ≡ q' → q' ≡ q → (l < p) × (many < q)
-    → (l'' < p'') × (many' < q'')
-spare_then l l' l'' p p' p'' many many' q q' q'' a b c d e f g room =
-    ((let h = room.0 in omega (arith, a, b, c, d, h)), (let h = room.1 in omega (arith, e, f, g, h)))

@@ -1,15 +1,10 @@
 -- Filing the replies of the calls that an entry decides.
-use Rattle.std.proofs.Common.{◌≡◌, ℕ, ◌+◌, ◌<◌, zero, ◌||◌, Bool, true, false, List, [], ◌∷◌, ◌++◌, map, filter, take, length, get_or, not, suc, ◌≤◌, arith, cond, nat_lt, Some, None, find, slice_get, refl, sym, ap, subst, ◌∙◌, if◌then◌else◌, Option}
-use Rattle.std.specs.Option.{unwrap_or, IsSome, IfSome}
-use Rattle.std.specs.Prelude.{◌↔◌}
-use Rattle.std.specs.List.{list_any, position, position_or_len}
-use Rattle.std.proofs.lemmas.Bool.{ltb-true, ltb-false}
-use Rattle.std.proofs.lemmas.Option.{slice_get-get_or, slice_get_past}
-use Rattle.std.proofs.lemmas.List.{take_more, append_assoc, map-append, length-append, length-map}
+use Rattle.std.proofs.Common.{◌≡◌, ℕ, ◌+◌, ◌<◌, zero, ◌||◌, ◌==◌, Bool, true, false, List, [], ◌∷◌, ◌++◌, map, filter, take, drop, length, get_or, not, suc, arith, refl, sym, ap, ap₂, ◌∙◌, if◌then◌else◌, Option}
+use Rattle.std.specs.List.{list_any}
+use Rattle.std.proofs.lemmas.Option.{slice_get-get_or}
+use Rattle.std.proofs.lemmas.List.{take_more, append_assoc, append-nil, map-append}
 use Rattle.std.proofs.lemmas.List.Elements.{filter-append}
-use Rattle.std.proofs.lemmas.List.Folds.{list_any-append, find_at}
-use Rattle.std.proofs.lemmas.List.Filters.{length-filter_both}
-use Rattle.std.proofs.lemmas.List.Sums.{prefix_len-le-length}
+use Rattle.std.proofs.lemmas.List.Folds.{list_any-append}
 use Rattle.poa_base.specs.declared.Reply.{Reply}
 use Rattle.poa_base.specs.declared.Reply.TheVariants.{Answer as AnswerReply}
 use Rattle.poa_base.specs.declared.Answer.TheVariants.{Good}
@@ -34,43 +29,19 @@ files_same now target reply first o same =
     [ true ↦ ap (λ f. f ∷ []) (file_same target reply first o same) | false ↦ refl ]
 
 -- what was filed of the first rows, and then of the next one
-pub filed_more : (now : Owing → Bool) (target : Option ℕ) (reply first : Reply) (old : List Filed) (os : List Owing) (i : ℕ) (o : Owing)
+filed_more : (now : Owing → Bool) (target : Option ℕ) (reply first : Reply) (p : Filed → Bool) (old : List Filed) (os : List Owing) (i : ℕ) (o : Owing)
     → i < length os → o ≡ get_or os i o → (is_at o.arrival target ≡ true → reply ≡ first)
-    → (old ++ map (file target first) (filter now (take i os))) ++ map (file target reply) (filter now (o ∷ [])) ≡ old ++ map (file target first)
-    (filter now (take (i + 1) os))
-filed_more now target reply first old os i o below is same =
+    → (old ++ filter p (map (file target first) (filter now (take i os)))) ++ filter p (map (file target reply) (filter now (o ∷ [])))
+    ≡ old ++ filter p (map (file target first) (filter now (take (i + 1) os)))
+filed_more now target reply first p old os i o below is same =
     let f = file target first in
-    ap (λ fs. (old ++ map f (filter now (take i os))) ++ fs) (files_same now target reply first o same)
-    ∙ append_assoc old (map f (filter now (take i os))) (map f (filter now (o ∷ [])))
-    ∙ ap (λ fs. old ++ fs) (sym (map-append f (filter now (take i os)) (filter now (o ∷ []))))
-    ∙ ap (λ os'. old ++ map f os') (sym (filter-append now (take i os) (o ∷ [])))
-    ∙ ap (λ x. old ++ map f (filter now (take i os ++ x ∷ []))) is
-    ∙ ap (λ xs. old ++ map f (filter now xs)) (sym (take_more os i o below))
-
--- what was filed isn't owed any more, so there is as much room as before
-pub room_kept : {A B : Type 0} (p : A → Bool) (f : A → B) (old : List B) (xs : List A) (room : ℕ) → length old + length xs ≤ room
-    → length (old ++ map f (filter p xs)) + length (filter (λ x. not (p x)) xs) ≤ room
-room_kept p f old xs room fits =
-    let both : length (old ++ map f (filter p xs)) ≡ length old + length (map f (filter p xs)) = length-append old (map f (filter p xs)) in
-    let as_many : length (map f (filter p xs)) ≡ length (filter p xs) = length-map (filter p xs) f in
-    let parts : length (filter p xs) + length (filter (λ x. not (p x)) xs) ≡ length xs = length-filter_both p (λ x. not (p x)) (λ _. refl) xs in
-    omega arith
-
-pub room_after : {A B : Type 0} (p : A → Bool) (f : A → B) (old : List B) (xs : List A) (new : List B) (left : List A) (room more : ℕ)
-    → length old + length xs ≤ room
-    → new ≡ old ++ map f (filter p xs) → left ≡ filter (λ x. not (p x)) xs → more ≡ room → length new + length left ≤ more
-room_after p f old xs new left room more fits new_is left_is more_is =
-    let kept = room_kept p f old xs room fits in
-    let new_long : length new ≡ length (old ++ map f (filter p xs)) = ap length new_is in
-    let left_long : length left ≡ length (filter (λ x. not (p x)) xs) = ap length left_is in
-    omega arith
-
--- the place of the first element that passes, or the one behind all
-pub found_or_behind : {A : Type 0} (p : A → Bool) (xs : List A) → unwrap_or (position p xs) (length xs) ≡ position_or_len p xs
-found_or_behind p xs =
-    elim (nat_lt (position_or_len p xs) (length xs)) as (λ b. nat_lt (position_or_len p xs) (length xs) ≡ b
-    → unwrap_or (cond b (Some (position_or_len p xs)) None) (length xs) ≡ position_or_len p xs)
-    [ true ↦ λ _. refl | false ↦ λ none. (let behind : length xs ≤ position_or_len p xs = ltb-false (position_or_len p xs) (length xs) none in let within : position_or_len p xs ≤ length xs = prefix_len-le-length (λ x. not (p x)) xs in omega arith) ] refl
+    ap (λ fs. (old ++ filter p (map f (filter now (take i os)))) ++ filter p fs) (files_same now target reply first o same)
+    ∙ append_assoc old (filter p (map f (filter now (take i os)))) (filter p (map f (filter now (o ∷ []))))
+    ∙ ap (λ fs. old ++ fs) (sym (filter-append p (map f (filter now (take i os))) (map f (filter now (o ∷ [])))))
+    ∙ ap (λ fs. old ++ filter p fs) (sym (map-append f (filter now (take i os)) (filter now (o ∷ []))))
+    ∙ ap (λ os'. old ++ filter p (map f os')) (sym (filter-append now (take i os) (o ∷ [])))
+    ∙ ap (λ x. old ++ filter p (map f (filter now (take i os ++ x ∷ [])))) is
+    ∙ ap (λ xs. old ++ filter p (map f (filter now xs))) (sym (take_more os i o below))
 
 get_same : {A : Type 0} (xs : List A) (i : ℕ) (d e : A) → i < length xs → get_or xs i d ≡ get_or xs i e
 get_same [] i d e below = absurd (omega arith)
@@ -94,43 +65,60 @@ none_before p xs i x below is none =
     parts false false no_ = (refl, refl)
 
 -- a row is filed, after those before it
-pub file_step : (now : Owing → Bool) (target : Option ℕ) (first : Reply) (os : List Owing) (i : ℕ) (d : Owing) (reply left : Reply) (old mid new : List Filed)
+pub file_step : (now : Owing → Bool) (target : Option ℕ) (first : Reply) (os : List Owing) (i : ℕ) (d : Owing) (reply left : Reply) (old mid new : ℕ → List Filed)
     → i < length os → IsAlone target os
-    → new ≡ mid ++ map (file target reply) (filter now (get_or os i d ∷ []))
-    → (is_at (get_or os i d).arrival target ≡ false → left ≡ reply)
-    → mid ≡ old ++ map (file target first) (filter now (take i os))
+    → ((n : ℕ) → new n ≡ mid n ++ filter (λ f. f.conn == n) (map (file target reply) (filter now (get_or os i d ∷ []))))
+    → (list_any (λ o. is_at o.arrival target) (get_or os i d ∷ []) ≡ false → left ≡ reply)
+    → ((n : ℕ) → mid n ≡ old n ++ filter (λ f. f.conn == n) (map (file target first) (filter now (take i os))))
     → (list_any (λ o. is_at o.arrival target) (take i os) ≡ false → reply ≡ first)
-    → (new ≡ old ++ map (file target first) (filter now (take (i + 1) os))) × (list_any (λ o. is_at o.arrival target) (take (i + 1) os) ≡ false → left ≡ first)
+    → ((n : ℕ) → new n ≡ old n ++ filter (λ f. f.conn == n) (map (file target first) (filter now (take (i + 1) os))))
+    × (list_any (λ o. is_at o.arrival target) (take (i + 1) os) ≡ false → left ≡ first)
 file_step now target first os i d reply left old mid new below alone new_is left_is mid_is reply_is =
     let o = get_or os i d in
     let here : o ≡ get_or os i o = get_same os i d o below in (
-      new_is
-          ∙ ap (λ fs. fs ++ map (file target reply) (filter now (o ∷ []))) mid_is
-          ∙ filed_more now target reply first old os i o below here (λ at. reply_is (alone i o (slice_get-get_or os i d below) at)),
-      λ none. (let before = none_before (λ p. is_at p.arrival target) os i o below here none in left_is before.1 ∙ reply_is before.0),
+      λ n. (new_is n
+          ∙ ap (λ fs. fs ++ filter (λ f. f.conn == n) (map (file target reply) (filter now (o ∷ [])))) (mid_is n)
+          ∙ filed_more now target reply first (λ f. f.conn == n) (old n) os i o below here
+          (λ at. reply_is (alone i o (slice_get-get_or os i d below) at))),
+      λ none. (let before = none_before (λ p. is_at p.arrival target) os i o below here none in left_is (ap (λ b. b || false) before.1) ∙ reply_is before.0),
     )
 
--- the first element that passes stands at its place; none does where that is behind all
-pub first_is : {A : Type 0} (p : A → Bool) (xs : List A) (i : ℕ) (x : A) → i ≡ position_or_len p xs → i < length xs → x ≡ get_or xs i x → Some x ≡ find p xs
-first_is p xs i x at below is =
-    ap (λ y. Some y) is ∙ sym (slice_get-get_or xs i x below) ∙ ap (slice_get xs) at ∙ sym (find_at p xs)
-
-pub none_is : {A : Type 0} (p : A → Bool) (xs : List A) (i : ℕ) → i ≡ position_or_len p xs → length xs ≤ i → None ≡ find p xs
-none_is p xs i at behind = sym (slice_get_past xs i behind) ∙ ap (slice_get xs) at ∙ sym (find_at p xs)
+-- where no row is decided nothing is filed
+pub unfiled : (target : Option ℕ) (reply : Reply) (old : List Filed) (rows : List Owing) (p : Filed → Bool) → rows ≡ []
+    → old ≡ old ++ filter p (map (file target reply) rows)
+unfiled target reply old rows p none = sym (ap (λ os. old ++ filter p (map (file target reply) os)) none ∙ append-nil old)
 
 -- the target's row alone is filed
-pub filed_one : (target : Option ℕ) (reply : Reply) (row : Owing) (old : List Filed) (rows : List Owing) → rows ≡ row ∷ [] → is_at row.arrival target ≡ true
-    → old ++ record { arrival = row.arrival; conn = row.conn; head = row.head; reply = reply } ∷ [] ≡ old ++ map (file target reply) rows
-filed_one target reply row old rows one at =
-    ap (λ b. old ++ record { arrival = row.arrival; conn = row.conn; head = row.head; reply = if b then reply else AnswerReply row.number Good } ∷ []) (sym at)
-    ∙ ap (λ os. old ++ map (file target reply) os) (sym one)
+pub filed_one : (target : Option ℕ) (reply : Reply) (row : Owing) (rows : List Owing) → rows ≡ row ∷ [] → is_at row.arrival target ≡ true
+    → record { arrival = row.arrival; conn = row.conn; head = row.head; reply = reply } ∷ [] ≡ map (file target reply) rows
+filed_one target reply row rows one at =
+    ap (λ b. record { arrival = row.arrival; conn = row.conn; head = row.head; reply = if b then reply else AnswerReply row.number Good } ∷ []) (sym at)
+    ∙ ap (map (file target reply)) (sym one)
 
--- what is taken from the place of the first element that passes is what is found
-pub taken_is : {A : Type 0} (p : A → Bool) (xs : List A) (i : ℕ) (taken : Option A) {n : ℕ} → n ≡ length xs → i ≡ position_or_len p xs
-    → (IsSome taken ↔ (i < n)) → IfSome taken (λ x. x ≡ get_or xs i x) → taken ≡ find p xs
-taken_is p xs i (Some x) many at there value = first_is p xs i x at (subst (λ m. i < m) many (there.0 refl)) value
-taken_is p xs i None many at there value =
-    elim (nat_lt i (length xs)) as (λ b. nat_lt i (length xs) ≡ b → None ≡ find p xs) [
-      | true ↦ (λ low. absurd (let e : false ≡ true = there.1 (subst (λ m. i < m) (sym many) (ltb-true i (length xs) low)) in cc))
-      | false ↦ (λ high. none_is p xs i at (ltb-false i (length xs) high))
-    ] refl
+-- a list that is long enough has an element
+pub some_of : {A : Type 0} (xs : List A) {i : ℕ} → i < length xs → A
+some_of [] below = absurd (omega (arith, below))
+some_of (x ∷ xs) below = x
+
+-- a queue whose first element goes behind the others, or leaves, where as many have been there before
+pub next_first : {A : Type 0} (xs behind : List A) (i : ℕ) (d : A) → i < length xs
+    → (take 1 (drop i xs ++ behind) ≡ get_or xs i d ∷ []) × (drop 1 (drop i xs ++ behind) ≡ drop (i + 1) xs ++ behind)
+next_first [] behind i d below = absurd (omega (arith, below))
+next_first (x ∷ xs) behind zero d below = (refl, refl)
+next_first (x ∷ xs) behind (suc i) d below =
+    (let more : suc i + 1 ≡ suc (i + 1) = omega arith in
+    let rest = next_first xs behind i d (omega (arith, below)) in (rest.0, rest.1 ∙ ap (λ n. drop n (x ∷ xs) ++ behind) (sym more)))
+
+-- those that have been there and stay are behind those that haven't
+pub kept_step : (now : Owing → Bool) (os : List Owing) (i : ℕ) (d : Owing) (mid new : List Owing) → i < length os
+    → mid ≡ drop i os ++ filter (λ o. not (now o)) (take i os)
+    → new ≡ drop 1 mid ++ filter (λ o. not (now o)) (take 1 mid)
+    → new ≡ drop (i + 1) os ++ filter (λ o. not (now o)) (take (i + 1) os)
+kept_step now os i d mid new below mid_is new_is =
+    let out : Owing → Bool = λ o. not (now o) in
+    let parts = next_first os (filter out (take i os)) i d below in
+    new_is
+    ∙ ap₂ (λ xs ys. xs ++ filter out ys) (ap (drop 1) mid_is ∙ parts.1) (ap (take 1) mid_is ∙ parts.0)
+    ∙ append_assoc (drop (i + 1) os) (filter out (take i os)) (filter out (get_or os i d ∷ []))
+    ∙ ap (λ xs. drop (i + 1) os ++ xs) (sym (filter-append out (take i os) (get_or os i d ∷ []))
+    ∙ ap (filter out) (sym (take_more os i d below)))

@@ -1,4 +1,7 @@
 pub mod Lists
+pub mod Taken
+pub mod Put
+pub mod Awaiting
 pub mod Filing
 pub mod InPlace
 pub mod Waiting
@@ -10,6 +13,7 @@ pub mod Given
 pub mod Arrived
 pub mod Removed
 pub mod DeskAfter
+pub mod Outgoing
 pub mod Answered
 pub mod Coming
 pub mod Rising

@@ -1,5 +1,5 @@
 -- What a desk of replies does.
-use Rattle.std.specs.Prelude.{◌≡◌, ℕ, ◌+◌, ◌≤◌, ◌<◌, not, Bool, true, false, ◌||◌, ◌==◌, if◌then◌else◌, suc, List, ◌∷◌, ◌++◌, map, filter, length, take, drop, slice_get, Option, Some, None}
+use Rattle.std.specs.Prelude.{◌≡◌, ℕ, ◌+◌, ◌<◌, ◌^◌, not, Bool, true, false, ◌||◌, ◌==◌, if◌then◌else◌, suc, List, ◌∷◌, ◌++◌, map, filter, length, take, drop, slice_get, Option, Some, None}
 use Rattle.std.specs.VecDeque.{deque_len, deque_capacity}
 use Rattle.std.specs.List.{list_any, position_or_len}
 use Rattle.poa_base.specs.declared.Config.{Config}
@@ -25,6 +25,7 @@ use Rattle.standing_queries.specs.Answers.{AnswersAs}
 use Rattle.standing_queries.specs.Numbers.{below}
 use Rattle.call_tables.specs.Owed.{is_owed, Owes, AreOwed}
 use Rattle.call_tables.specs.Decided.{answered, IsFiled, Decides}
+use Rattle.call_tables.specs.Outboxes.{HasRoomAt, replies_at}
 use Rattle.call_tables.specs.Waits.{wait_begun, has_come, ordered_by}
 
 -- the row of an arrival gets what it waits for
@@ -51,13 +52,23 @@ IsAlone target os =
     (i : ℕ) (o : Owing) → slice_get os i ≡ Some o → is_at o.arrival target ≡ true
     → list_any (λ p. is_at p.arrival target) (take i os) ≡ false
 
--- there is room for the replies of those that are owed one
-abbrev pub HasRoom : Desk → Type 0
-HasRoom d = length d.outbox.items + length d.owing.items ≤ deque_capacity d.outbox
+-- these are its decided replies that aren't collected, in the order in which they were decided: each outbox has those of its
+-- connection, and so many are due as calls are owed one and as there are of these
+pub record Files (d : Desk) (fs : List Filed) : Type 0 where
+  pub each : (conn : ℕ) → replies_at d.outboxes.boxes.items conn ≡ filter (λ f. f.conn == conn) fs
+  pub due : d.due ≡ length d.owing.items + length fs
 
--- there is room for one more
-abbrev pub HasRoomForOne : Desk → Type 0
-HasRoomForOne d = (deque_len d.owing < deque_capacity d.owing) × (length d.outbox.items + length d.owing.items < deque_capacity d.outbox)
+-- there are such, of which this is true
+pub record HasFiled (P : List Filed → Type 0) (d : Desk) : Type 0 where
+  pub replies : List Filed
+  pub files : Files d replies
+  pub holds : P replies
+
+-- there is room for one call more of a connection, and for its reply
+pub record HasRoomForOne (conn : ℕ) (d : Desk) : Type 0 where
+  pub owing : deque_len d.owing < deque_capacity d.owing
+  pub outbox : HasRoomAt d.outboxes.boxes.items conn
+  pub due : d.due + 1 < 2 ^ 64
 
 -- the place of the first reply of a connection
 abbrev pub first_of : ℕ → List Filed → ℕ

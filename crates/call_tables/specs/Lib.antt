@@ -1,4 +1,5 @@
 pub mod Waits
 pub mod Owed
 pub mod Decided
+pub mod Outboxes
 pub mod Desk

@@ -1,12 +1,12 @@
 //! The desk after an entry.
-ghost use Rattle.std.specs.Prelude.{◌≡◌, ◌+◌, ◌≤◌, ◌∷◌, ◌++◌, not, filter, length, map};
-ghost use Rattle.std.specs.VecDeque.{deque_len, deque_capacity};
+ghost use Rattle.std.specs.Prelude.{◌≡◌, ◌∷◌, ℕ, List, map};
 ghost use Rattle.poa_history.specs.Arrivals.{arrivals};
 ghost use Rattle.standing_queries.specs.Seen.{seen};
 ghost use Rattle.call_tables.specs.Decided.{AreFiled};
 ghost use Rattle.call_tables.specs.Owed.{AreOwed};
 ghost use Rattle.call_tables.specs.Desk as desks;
-ghost use Rattle.call_tables.specs.Desk.{AreLeft, AreOwedBefore, Comes, HasRoom, HasRoomForOne};
+ghost use Rattle.call_tables.specs.Desk.{AreLeft, AreOwedBefore, Comes, Files, HasFiled, HasRoomForOne};
+ghost use Rattle.call_tables.specs.declared.filed.Filed.{Filed as FiledRow};
 
 use crate::desk::Desk;
 use crate::wait::{Ordered, Wait};
@@ -15,13 +15,10 @@ use standing_queries::Standing;
 
 /// An arrival that is admitted gets what it waits for from now on.
 fn set_wait(entry: &Entry, wait: Option<Wait>, desk: &mut Desk)
-    requires { HasRoom desk.old }
     ensures owing { desk.new.owing.items ≡ map (desks.waited_by entry.now wait) desk.old.owing.items }
-    ensures outbox { desk.new.outbox.items ≡ desk.old.outbox.items }
-    ensures room { HasRoom desk.new }
-    ensures fewer { deque_len desk.new.owing ≤ deque_len desk.old.owing }
-    ensures places { deque_capacity desk.new.owing ≡ deque_capacity desk.old.owing }
-    ensures capacity { deque_capacity desk.new.outbox ≡ deque_capacity desk.old.outbox }
+    ensures files { (fs : List FiledRow) → Files desk.old fs → Files desk.new fs }
+    ensures due { desk.new.due ≡ desk.old.due }
+    ensures spare { (conn : ℕ) → HasRoomForOne conn desk.old → HasRoomForOne conn desk.new }
 {
     if let Entry::Admit { arrival, .. } = entry {
         desk.set_wait(*arrival, wait);
@@ -41,19 +38,16 @@ pub fn advance(
     ordered: Option<Ordered>,
     desk: &mut Desk,
 )
-    requires room { HasRoom desk.old }
     requires comes { Comes config.now entry.now (seen standing.now) target reply wait ordered desk.old.owing.items }
     ensures before { (k : Comes config.now entry.now (seen standing.now) target reply wait ordered desk.old.owing.items)
         → AreOwedBefore config.now k.run k.past entry.now desk.new.owing.items }
     ensures owed { (k : Comes config.now entry.now (seen standing.now) target reply wait ordered desk.old.owing.items)
         → arrivals (entry.now ∷ k.past) ≡ arrivals k.past → AreOwed config.now k.run (entry.now ∷ k.past) desk.new.owing.items }
     ensures filed { (k : Comes config.now entry.now (seen standing.now) target reply wait ordered desk.old.owing.items)
-        → AreLeft config.now k.run k.opened k.past entry.now desk.old.outbox.items
-        → AreFiled config.now k.run k.opened (entry.now ∷ k.past) desk.new.outbox.items }
-    ensures as_many { length desk.new.owing.items + length desk.new.outbox.items ≡ length desk.old.owing.items + length
-        desk.old.outbox.items }
-    ensures room { HasRoom desk.new }
-    ensures spare { HasRoomForOne desk.old → HasRoomForOne desk.new }
+        → HasFiled (AreLeft config.now k.run k.opened k.past entry.now) desk.old
+        → HasFiled (AreFiled config.now k.run k.opened (entry.now ∷ k.past)) desk.new }
+    ensures due { desk.new.due ≡ desk.old.due }
+    ensures spare { (conn : ℕ) → HasRoomForOne conn desk.old → HasRoomForOne conn desk.new }
 {
     set_wait(entry, wait, desk);
     desk.decide(config, standing, target, reply, ordered);

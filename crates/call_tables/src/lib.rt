@@ -1,10 +1,13 @@
 //! The tables that the adapter's core keeps of calls: those that are owed a reply, with what each command that
-//! waits is waiting for, and the decided replies that aren't collected, in the order in which they are given.
+//! waits is waiting for, and the decided replies that aren't collected, in an outbox of each connection.
 #![tactic(auto)]
 
 mod advancing;
 mod desk;
 mod filed;
+mod fresh;
+mod outbox;
+mod outboxes;
 mod owing;
 mod rows;
 mod wait;
@@ -12,5 +15,8 @@ mod wait;
 pub use advancing::advance;
 pub use desk::Desk;
 pub use filed::Filed;
+pub use fresh::Fresh;
+pub use outbox::Outbox;
+pub use outboxes::Outboxes;
 pub use owing::Owing;
 pub use wait::{Ordered, Wait, ordered_by, wait_by};

@@ -1,15 +1,17 @@
 //! The rows of the calls that are owed a reply, as entries decide them.
-ghost use Rattle.std.specs.Prelude.{◌≡◌, ◌+◌, ◌==◌, ◌≤◌, ◌<◌, ◌++◌, ◌∷◌, ℕ, true, false, not, [], find, position, filter, length, map, take, slice_get, Some, None, if◌then◌else◌, IfOk, OnOk};
+ghost use Rattle.std.specs.Prelude.{◌≡◌, ◌==◌, ◌≤◌, ◌++◌, ℕ, false, not, drop, filter, length, map, take};
 ghost use Rattle.std.specs.VecDeque.{deque_len, deque_capacity};
 ghost use Rattle.std.specs.List.{list_any};
 ghost use Rattle.poa_history.specs.Stages as begun;
 ghost use Rattle.standing_queries.specs.Seen.{seen};
 ghost use Rattle.call_tables.specs.Desk as desks;
-ghost use Rattle.call_tables.specs.Desk.{IsAlone, HasRoom};
+ghost use Rattle.call_tables.specs.Desk.{IsAlone};
+ghost use Rattle.call_tables.specs.Outboxes.{HasRoomAt, awaited_at, replies_at};
 ghost use Rattle.standing_queries.specs.Numbers.{Ascends};
 ghost use Rattle.call_tables.specs.Owed.{arrivals_of, has_wait};
 
 use crate::filed::Filed;
+use crate::outboxes::Outboxes;
 use crate::owing::Owing;
 use crate::wait::{Ordered, Wait, has_come};
 use poa_base::{Answer, Config, Reply};
@@ -56,78 +58,63 @@ fn filed(target: Option<u64>, reply: &mut Reply, owing: &Owing) -> Filed
     }
 }
 
-/// Files the reply of a call that is decided.
-fn file_one(
+/// The first row is filed where its call is decided, and goes behind the others else.
+fn file_first(
     config: &Config,
     standing: &Standing,
     target: Option<u64>,
     reply: &mut Reply,
     ordered: Option<Ordered>,
-    owing: &Owing,
-    outbox: &mut VecDeque<Filed>,
+    owing: &mut VecDeque<Owing>,
+    outboxes: &mut Outboxes,
 )
-    requires { deque_len outbox.old < deque_capacity outbox.old }
-    ensures filed { outbox.new.items ≡ outbox.old.items ++ map (desks.file target reply.old)
-        (filter (desks.is_decided config.now (seen standing.now) target ordered) (owing.now ∷ [])) }
-    ensures left { begun.is_at owing.now.arrival target ≡ false → reply.new ≡ reply.old }
-    ensures len { deque_len outbox.new ≤ deque_len outbox.old + 1 }
-    ensures capacity { deque_capacity outbox.new ≡ deque_capacity outbox.old }
+    requires awaited { (n : ℕ) → awaited_at outboxes.old.boxes.items n ≡ length (filter (λ o. o.conn == n) owing.old.items) }
+    ensures kept { owing.new.items ≡ drop 1 owing.old.items ++ filter
+        (λ o. not (desks.is_decided config.now (seen standing.now) target ordered o)) (take 1 owing.old.items) }
+    ensures filed { (n : ℕ) → replies_at outboxes.new.boxes.items n ≡ replies_at outboxes.old.boxes.items n ++ filter (λ f. f.conn == n)
+        (map (desks.file target reply.old) (filter (desks.is_decided config.now (seen standing.now) target ordered) (take 1 owing.old.items))) }
+    ensures awaited { (n : ℕ) → awaited_at outboxes.new.boxes.items n ≡ length (filter (λ o. o.conn == n) owing.new.items) }
+    ensures left { list_any (λ o. begun.is_at o.arrival target) (take 1 owing.old.items) ≡ false → reply.new ≡ reply.old }
+    ensures fewer { deque_len owing.new ≤ deque_len owing.old }
+    ensures places { deque_capacity owing.new ≡ deque_capacity owing.old }
+    ensures room { (n : ℕ) → HasRoomAt outboxes.old.boxes.items n → HasRoomAt outboxes.new.boxes.items n }
 {
-    if is_decided(config, standing, target, ordered, owing) {
-        outbox.push_back_reserved(filed(target, reply, owing));
+    let Some(row) = owing.pop_front() else {
+        return;
+    };
+    if is_decided(config, standing, target, ordered, &row) {
+        outboxes.file(filed(target, reply, &row));
+    } else {
+        owing.push_back_reserved(row);
     }
 }
 
-/// Files the replies of those that are decided.
+/// Files the replies of those that are decided; the others stay.
 pub(crate) fn file_decided(
     config: &Config,
     standing: &Standing,
     target: Option<u64>,
     reply: Reply,
     ordered: Option<Ordered>,
-    owing: &VecDeque<Owing>,
-    outbox: &mut VecDeque<Filed>,
+    owing: &mut VecDeque<Owing>,
+    outboxes: &mut Outboxes,
 )
-    requires alone { IsAlone target owing.now.items }
-    requires room { deque_len outbox.old + length owing.now.items ≤ deque_capacity outbox.old }
-    ensures filed { outbox.new.items ≡ outbox.old.items ++ map (desks.file target reply)
-        (filter (desks.is_decided config.now (seen standing.now) target ordered) owing.now.items) }
-    ensures capacity { deque_capacity outbox.new ≡ deque_capacity outbox.old }
+    requires alone { IsAlone target owing.old.items }
+    requires awaited { (n : ℕ) → awaited_at outboxes.old.boxes.items n ≡ length (filter (λ o. o.conn == n) owing.old.items) }
+    ensures kept { owing.new.items ≡ filter (λ o. not (desks.is_decided config.now (seen standing.now) target ordered o)) owing.old.items }
+    ensures filed { (n : ℕ) → replies_at outboxes.new.boxes.items n ≡ replies_at outboxes.old.boxes.items n ++ filter (λ f. f.conn == n)
+        (map (desks.file target reply) (filter (desks.is_decided config.now (seen standing.now) target ordered) owing.old.items)) }
+    ensures awaited { (n : ℕ) → awaited_at outboxes.new.boxes.items n ≡ length (filter (λ o. o.conn == n) owing.new.items) }
+    ensures fewer { deque_len owing.new ≤ deque_len owing.old }
+    ensures places { deque_capacity owing.new ≡ deque_capacity owing.old }
+    ensures room { (n : ℕ) → HasRoomAt outboxes.old.boxes.items n → HasRoomAt outboxes.new.boxes.items n }
 {
     let mut reply = reply;
     for i in 0..owing.len() {
-        file_one(
-            config, standing, target, &mut reply, ordered, &owing[i], outbox,
+        file_first(
+            config, standing, target, &mut reply, ordered, owing, outboxes,
         );
     }
-}
-
-/// Whether the call is owed a reply still.
-fn stays(
-    config: &Config,
-    standing: &Standing,
-    target: Option<u64>,
-    ordered: Option<Ordered>,
-    owing: &Owing,
-) -> bool
-    ensures { result ≡ not (desks.is_decided config.now (seen standing.now) target ordered owing.now) }
-{
-    !is_decided(config, standing, target, ordered, owing)
-}
-
-/// Keeps those that aren't decided.
-pub(crate) fn keep_undecided(
-    config: &Config,
-    standing: &Standing,
-    target: Option<u64>,
-    ordered: Option<Ordered>,
-    owing: &mut VecDeque<Owing>,
-)
-    ensures kept { owing.new.items ≡ filter (λ o. not (desks.is_decided config.now (seen standing.now) target ordered o)) owing.old.items }
-    ensures fewer { deque_len owing.new ≤ deque_len owing.old }
-    ensures capacity { deque_capacity owing.new ≡ deque_capacity owing.old }
-{
-    owing.retain(|row| stays(config, standing, target, ordered, row));
 }
 
 /// The row of an arrival gets what it waits for.
@@ -161,16 +148,17 @@ pub(crate) fn file_target(
     target: Option<u64>,
     reply: Reply,
     owing: &mut VecDeque<Owing>,
-    outbox: &mut VecDeque<Filed>,
+    outboxes: &mut Outboxes,
 )
     requires ascends { Ascends (arrivals_of owing.old.items) }
-    requires room { deque_len outbox.old + length owing.old.items ≤ deque_capacity outbox.old }
+    requires awaited { (n : ℕ) → awaited_at outboxes.old.boxes.items n ≡ length (filter (λ o. o.conn == n) owing.old.items) }
     ensures kept { owing.new.items ≡ filter (λ o. not (begun.is_at o.arrival target)) owing.old.items }
-    ensures filed { outbox.new.items ≡ outbox.old.items ++ map (desks.file target reply)
-        (filter (λ o. begun.is_at o.arrival target) owing.old.items) }
+    ensures filed { (n : ℕ) → replies_at outboxes.new.boxes.items n ≡ replies_at outboxes.old.boxes.items n ++ filter (λ f. f.conn == n)
+        (map (desks.file target reply) (filter (λ o. begun.is_at o.arrival target) owing.old.items)) }
+    ensures awaited { (n : ℕ) → awaited_at outboxes.new.boxes.items n ≡ length (filter (λ o. o.conn == n) owing.new.items) }
     ensures fewer { deque_len owing.new ≤ deque_len owing.old }
     ensures places { deque_capacity owing.new ≡ deque_capacity owing.old }
-    ensures capacity { deque_capacity outbox.new ≡ deque_capacity outbox.old }
+    ensures room { (n : ℕ) → HasRoomAt outboxes.old.boxes.items n → HasRoomAt outboxes.new.boxes.items n }
 {
     let Some(arrival) = target else {
         return;
@@ -179,37 +167,11 @@ pub(crate) fn file_target(
         return;
     };
     if let Some(row) = owing.remove(place) {
-        outbox.push_back_reserved(Filed {
+        outboxes.file(Filed {
             arrival: row.arrival,
             conn: row.conn,
             head: row.head,
             reply,
         });
     }
-}
-
-fn first_at(outbox: &VecDeque<Filed>, conn: u32) -> Option<usize>
-    ensures { result ≡ position (λ f. f.conn == conn) outbox.now.items }
-{
-    outbox.iter().position(|filed| filed.conn == conn)
-}
-
-/// The place of the first reply of a connection; behind them all where there is none.
-pub(crate) fn first_of(outbox: &VecDeque<Filed>, conn: u32) -> usize
-    ensures { result ≡ desks.first_of conn outbox.now.items }
-{
-    first_at(outbox, conn).unwrap_or(outbox.len())
-}
-
-/// How many replies a connection is owed.
-pub(crate) fn owed_to(owing: &VecDeque<Owing>, conn: u32) -> u64
-    ensures { result ≡ length (filter (λ o. o.conn == conn) owing.now.items) }
-{
-    let mut owed = 0;
-    for i in 0..owing.len() {
-        if owing[i].conn == conn {
-            owed += 1;
-        }
-    }
-    owed
 }

@@ -8,7 +8,6 @@ pub mod Connected
 pub mod Abandoned
 pub mod Ready
 pub mod Keeping
-pub mod Taken
 pub mod GivenOut
 pub mod NextTurn
 pub mod Filling

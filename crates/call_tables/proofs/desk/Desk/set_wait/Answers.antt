@@ -1,5 +1,6 @@
-use Rattle.std.proofs.Common.{map, sym, ap, ◌∙◌}
+use Rattle.std.proofs.Common.{◌==◌, filter, length, map, sym, ap, ◌∙◌}
 use Rattle.call_tables.specs.Desk.{set_wait}
+use Rattle.call_tables.proofs.Awaiting.{waits_apart}
 use Rattle.call_tables.proofs.NoneWaits.{unset, none_given}
 use Rattle.call_tables.proofs.desk.Desk.set_wait.Goals as goal
 
@@ -7,3 +8,8 @@ pub returns-else-is_some-clause-owing : goal.returns-else-is_some-clause-owing
 returns-else-is_some-clause-owing c =
     sym (ap (λ wait. map (set_wait c.args.arrival wait) c.args.self.now.owing.items) (none_given c.args.wait (sym c.is_some.ensures ∙ c.if-is_some.false))
     ∙ unset c.args.arrival c.args.self.now.owing.items (sym c.args.self.now.waits_is ∙ c.if-self.false))
+
+pub invariant_of-self-clause-awaited : goal.invariant_of-self-clause-awaited
+invariant_of-self-clause-awaited c = λ conn. (c.args.self.now.awaited conn
+    ∙ sym (waits_apart c.args.arrival c.args.wait c.args.self.now.owing.items conn)
+    ∙ ap (λ os. length (filter (λ o. o.conn == conn) os)) (sym c.put_waits.ensures.waits))

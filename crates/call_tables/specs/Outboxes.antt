@@ -1,0 +1,22 @@
+-- What the outboxes of connections hold.
+use Rattle.std.specs.Prelude.{ℕ, ◌+◌, ◌<◌, List, [], Some, None, slice_get}
+use Rattle.std.specs.Option.{IsSomeAnd}
+use Rattle.std.specs.VecDeque.{deque_len, deque_capacity}
+use Rattle.call_tables.specs.declared.filed.Filed.{Filed}
+use Rattle.call_tables.specs.declared.outbox.Outbox.{Outbox}
+
+-- the decided replies of a connection that aren't collected; of one that asked nothing there are none
+abbrev pub replies_at : List Outbox → ℕ → List Filed
+replies_at boxes conn = elim (slice_get boxes conn) [ Some box ↦ box.replies.items | None ↦ [] ]
+
+-- how many of its calls await a reply
+abbrev pub awaited_at : List Outbox → ℕ → ℕ
+awaited_at boxes conn = elim (slice_get boxes conn) [ Some box ↦ box.awaited | None ↦ 0 ]
+
+-- there is room for the reply of one more call
+abbrev pub HasRoomForOne : Outbox → Type 0
+HasRoomForOne box = deque_len box.replies + box.awaited < deque_capacity box.replies
+
+-- of this connection
+abbrev pub HasRoomAt : List Outbox → ℕ → Type 0
+HasRoomAt boxes conn = IsSomeAnd (slice_get boxes conn) HasRoomForOne
