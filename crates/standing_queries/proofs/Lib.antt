@@ -6,3 +6,5 @@ pub mod Kept
 pub mod Itself
 pub mod RowsKept
 pub mod Moving
+pub mod Ided
+pub mod IdsKept

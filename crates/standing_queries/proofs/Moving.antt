@@ -1,8 +1,8 @@
 -- What is asked of activations that are on their way in or out, where none is.
-use Rattle.std.specs.Prelude.{◌≡◌, ℕ, Bool, true, false, not, ◌||◌, ◌&&◌, ◌==◌, cond, List, [], ◌∷◌, map, filter, find, length, Option, Some, None, refl}
+use Rattle.std.specs.Prelude.{◌≡◌, Bool, true, false, not, List, [], ◌∷◌, map, filter, find, Some, None, refl}
 use Rattle.std.specs.List.{list_any}
 use Rattle.std.proofs.Common.{sym, ap, ap₂, ◌∙◌}
-use Rattle.std.proofs.lemmas.Bool.{or_parts, or_from, and_parts, and_left, and_right, not-true, not-false, not_from_true, cond-true, cond-false}
+use Rattle.std.proofs.lemmas.Bool.{or_parts, or_from, and_parts, and_left, and_right, not-true, not-false, cond-true, cond-false}
 use Rattle.poa_base.specs.declared.Config.{Config}
 use Rattle.poa_history.specs.declared.activation.Activation.{Activation}
 use Rattle.poa_history.specs.declared.activation.Phase.{Phase}

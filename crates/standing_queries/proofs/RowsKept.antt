@@ -1,12 +1,12 @@
 -- The rows of a table, and what a change of one of them or of each leaves.
-use Rattle.std.specs.Prelude.{◌≡◌, ℕ, ◌+◌, ◌<◌, ◌≤◌, Bool, true, false, not, ◌||◌, ◌&&◌, ◌==◌, if◌then◌else◌, cond, List, [], ◌∷◌, ◌++◌, map, filter, find, length, Option, Some, None, refl}
+use Rattle.std.specs.Prelude.{◌≡◌, ℕ, ◌+◌, ◌<◌, ◌≤◌, Bool, true, false, not, ◌||◌, ◌==◌, if◌then◌else◌, cond, List, [], ◌∷◌, ◌++◌, map, filter, find, length, Some, None, refl}
 use Rattle.std.specs.List.{AllByRecursion, list_any, sum_by}
 use Rattle.std.specs.Option.{option_map, unwrap_or}
 use Rattle.std.specs.List.Sorted.{IsStrictlySortedBy}
 use Rattle.std.specs.BTreeMap.{is_at, insert_entry}
 use Rattle.std.specs.Map.{keys_of, values_of, lookup, set_value}
 use Rattle.std.specs.Ordering.{nat_cmp, is_eq, match_ordering}
-use Rattle.std.specs.declared.cmp.Ordering.TheVariants.{Less, Equal, Greater}
+use Rattle.std.specs.declared.cmp.Ordering.TheVariants.{Less, Greater}
 use Rattle.std.proofs.Common.{inl, inr, sym, ap, ap₂, subst, ◌∙◌, arith}
 use Rattle.std.proofs.lemmas.Bool.{cond_both, cond-true, cond-false, eqb-true, eq-eqb, ne_eqb, not-true}
 use Rattle.std.proofs.lemmas.Grind.{common_steps}
@@ -33,10 +33,10 @@ keeps_where test f keeps =
 
 -- ---- a look-up by a number
 
-at_is : (n k : ℕ) → is_at (nat_cmp n) k ≡ (k == n)
+pub at_is : (n k : ℕ) → is_at (nat_cmp n) k ≡ (k == n)
 at_is n k = grind (arith, common_steps)
 
-apart : (n k m : ℕ) → nat_cmp n k ≡ Less → m ≡ k → (m == n) ≡ false
+pub apart : (n k m : ℕ) → nat_cmp n k ≡ Less → m ≡ k → (m == n) ≡ false
 apart n k m less is = ap (λ x. x == n) is ∙ sym (at_is n k) ∙ ap is_eq less
 
 pub row_found : (n : ℕ) (rows : List (ℕ × Activation)) → IsKeyed rows → lookup (is_at (nat_cmp n)) rows ≡ find (λ a. a.number == n) (values_of rows)

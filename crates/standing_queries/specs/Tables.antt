@@ -1,11 +1,13 @@
 -- The activations that were begun, as a table keeps them.
 use Rattle.std.specs.Prelude.{◌≡◌, ℕ, ◌+◌, ◌<◌, ◌≤◌, Bool, not, ◌||◌, cond, List, [], ◌∷◌, map, filter, length}
 use Rattle.std.specs.List.Sorted.{IsStrictlySortedBy}
+use Rattle.std.specs.BTreeMap.{BTreeMap}
 use Rattle.std.specs.Map.{keys_of, values_of}
 use Rattle.std.specs.Ordering.{nat_cmp}
 use Rattle.poa_history.specs.declared.activation.Activation.{Activation}
-use Rattle.poa_history.specs.Standings.{is_active}
+use Rattle.poa_history.specs.Standings.{is_active, is_of}
 use Rattle.poa_tree.specs.Trees.{In}
+use Rattle.standing_queries.specs.ById.{Ids, numbers_of}
 
 pub record Table : Type 0 where
   -- how many were begun, are over and are kept no longer
@@ -37,6 +39,15 @@ pub record IsTable (forgotten moving : ℕ) (rows : List (ℕ × Activation)) : 
   pub earlier : (n : ℕ) → In n (keys_of rows) → n < forgotten + length rows
   pub few : forgotten + length rows ≤ 4294967296
   pub counted : moving ≡ length (filter is_moving (values_of rows))
+
+-- the index has of each id the numbers of its activations, in their order
+abbrev pub IsIndexed : BTreeMap ℕ Ids → List Activation → Type 0
+IsIndexed ids activations = (k : ℕ) (oid : List ℕ) → numbers_of ids k oid ≡ map (λ a. a.number) (filter (is_of k oid) activations)
+
+-- the rows, and the index of their activations by id
+pub record IsWhole (forgotten moving : ℕ) (ids : BTreeMap ℕ Ids) (rows : List (ℕ × Activation)) : Type 0 where
+  pub table : IsTable forgotten moving rows
+  pub indexed : IsIndexed ids (values_of rows)
 
 -- a change leaves what an activation is found by
 pub record Keeps (f : Activation → Activation) : Type 0 where

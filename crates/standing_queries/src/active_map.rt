@@ -11,10 +11,11 @@ ghost use Rattle.poa_history.specs.Templates as configured;
 ghost use Rattle.standing_queries.specs.Kept.{live};
 ghost use Rattle.standing_queries.specs.Tables.{is_moving};
 
+use crate::by_id::{Index, add, numbers_of, remove};
 use crate::changing::{come_to, etherealize, is_other, let_go};
 use crate::rows::{
-    Rows, count_moving, end_all_activators, end_all_of_id, end_all_under, keep_live, let_all_out,
-    moves,
+    Rows, count_moving, end_all_activators, end_all_of_id, end_all_under, first_active, first_live,
+    forget_ids, keep_live, let_all_out, moves,
 };
 use poa_base::{Config, Name, Oid, WantMemory};
 use poa_history::{Activation, Flight, Phase};
@@ -27,23 +28,26 @@ use std::marker::Model;
 /// The activations that were begun, but for those that are over and are forgotten.
 #[derive(Debug, Drop)]
 pub struct Activations {
+    alloc: Global,
     /// How many are forgotten.
     forgotten: usize,
     /// The others, by their numbers.
     rows: Rows,
+    /// Their numbers by adapter and id.
+    ids: Index,
     /// How many of these are on their way in or out.
     moving: usize,
 }
 
 impl Model for Activations {
     ghost use Rattle.std.specs.Map.{values_of};
-    ghost use Rattle.standing_queries.specs.Tables.{Table, IsTable};
+    ghost use Rattle.standing_queries.specs.Tables.{Table, IsWhole};
 
     ghost Value = { Table };
 
     ghost view = { λ t. record { forgotten = t.forgotten; kept = values_of t.rows.entries } };
 
-    ghost invariant = { λ t. IsTable t.forgotten t.moving t.rows.entries };
+    ghost invariant = { λ t. IsWhole t.forgotten t.moving t.ids t.rows.entries };
 }
 
 impl Activations {
@@ -52,8 +56,10 @@ impl Activations {
         ensures { result ≡ record { forgotten = 0; kept = [] } }
     {
         Activations {
+            alloc,
             forgotten: 0,
             rows: BTreeMap::new(alloc),
+            ids: BTreeMap::new(alloc),
             moving: 0,
         }
     }
@@ -88,6 +94,20 @@ impl Activations {
         self.rows.get(&number)
     }
 
+    /// The first of an id that is active.
+    pub fn active_of(&self, adapter: u32, oid: &[u8]) -> Option<&Activation>
+        ensures { option_copied result ≡ find (λ a. stands.is_of adapter oid.now a && stands.is_active a) self.now.kept }
+    {
+        first_active(&self.rows, numbers_of(&self.ids, adapter, oid))
+    }
+
+    /// The first of an id that isn't over.
+    pub fn live_of(&self, config: &Config, adapter: u32, oid: &[u8]) -> Option<&Activation>
+        ensures { option_copied result ≡ find (λ a. stands.is_of adapter oid.now a && not (ends.is_over config.now a)) self.now.kept }
+    {
+        first_live(&self.rows, config, numbers_of(&self.ids, adapter, oid))
+    }
+
     /// One more is begun, which has the next number.
     pub fn push(&mut self, activation: Activation) -> Result<(), WantMemory>
         requires next { activation.number ≡ self.old.forgotten + length self.old.kept }
@@ -95,10 +115,22 @@ impl Activations {
         ensures ok { OnOk result (self.new ≡ record self.old { kept = self.old.kept ++ activation ∷ [] }) }
         ensures err { OnErr result (self.new ≡ self.old) }
     {
+        let number = activation.number;
         let more = moves(&activation);
-        self.rows.insert(activation.number, activation)?;
-        self.moving += more;
-        Ok(())
+        let oid = activation.oid.as_slice();
+        add(self.alloc, &mut self.ids, activation.adapter, oid, number)?;
+        match self.rows.insert(number, activation) {
+            Ok(_) => {
+                self.moving += more;
+                Ok(())
+            }
+            Err(failed) => {
+                let activation = &failed.value.1;
+                let oid = activation.oid.as_slice();
+                remove(&mut self.ids, activation.adapter, oid, number);
+                Err(WantMemory)
+            }
+        }
     }
 
     /// That of a number, which is being incarnated, has come so far.
@@ -206,6 +238,7 @@ impl Activations {
         ensures kept { self.new.kept ≡ live config.now self.old.kept }
     {
         if self.moving > 0 {
+            forget_ids(&mut self.ids, &self.rows, config);
             self.forgotten += keep_live(&mut self.rows, config);
             self.moving = count_moving(&self.rows);
         }

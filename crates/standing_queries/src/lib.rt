@@ -6,6 +6,7 @@
 
 pub mod activations;
 mod active_map;
+mod by_id;
 pub mod calls;
 mod changing;
 pub mod commands;

@@ -1,6 +1,10 @@
 //! The rows of a table of activations, changed in place. Takes no memory.
-ghost use Rattle.std.specs.Prelude.{◌≡◌, ◌+◌, ◌==◌, ◌&&◌, true, filter, length, if◌then◌else◌};
-ghost use Rattle.std.specs.BTreeMap.{IsOrdered, values};
+ghost use Rattle.std.specs.Prelude.{◌≡◌, ◌+◌, ◌==◌, ◌&&◌, Some, None, true, filter, find, length, if◌then◌else◌};
+ghost use Rattle.std.specs.BTreeMap.{IsOrdered, get, values};
+ghost use Rattle.std.specs.List.{filter_map};
+ghost use Rattle.std.specs.List.Sorted.{IsStrictlySortedBy};
+ghost use Rattle.std.specs.Map.{keys_of};
+ghost use Rattle.std.specs.Option.{option_and_then, option_copied};
 ghost use Rattle.std.specs.Ordering.{nat_cmp};
 ghost use Rattle.poa_tree.specs.Nodes as tree;
 ghost use Rattle.poa_history.specs.Changes as changes;
@@ -8,10 +12,11 @@ ghost use Rattle.poa_history.specs.Ends as ends;
 ghost use Rattle.poa_history.specs.Standings as stands;
 ghost use Rattle.poa_history.specs.Standings.{Standing as Stood};
 ghost use Rattle.poa_history.specs.Templates as configured;
-ghost use Rattle.standing_queries.specs.Kept.{is_live};
+ghost use Rattle.standing_queries.specs.Kept.{is_live, live};
 ghost use Rattle.standing_queries.specs.Tables as tables;
 
 use crate::activations::is_active;
+use crate::by_id::{Index, remove};
 use crate::changing::{end_activators, end_of_id, end_under, let_out};
 use crate::ends::is_over;
 use poa_base::{Config, Name, Oid};
@@ -43,6 +48,62 @@ pub fn count_moving(rows: &Rows) -> usize
     rows.values()
         .filter(|activation| is_moving(activation))
         .count()
+}
+
+/// The activation of a number, where it is active.
+fn active_at(rows: &Rows, number: u32) -> Option<&Activation>
+    ensures { option_copied result ≡ option_and_then (λ a. if stands.is_active a then Some a else None) (get nat_cmp rows.now number) }
+{
+    match rows.get(&number) {
+        Some(activation) => {
+            if is_active(activation) {
+                Some(activation)
+            } else {
+                None
+            }
+        }
+        None => None,
+    }
+}
+
+/// The first of some numbers whose activation is active.
+pub fn first_active<'a>(rows: &'a Rows, numbers: &[u32]) -> Option<&'a Activation>
+    ensures { option_copied result ≡ find stands.is_active (filter_map (get nat_cmp rows.now) numbers.now) }
+{
+    for number in numbers {
+        if let Some(activation) = active_at(rows, *number) {
+            return Some(activation);
+        }
+    }
+    None
+}
+
+/// The activation of a number, where it isn't over.
+fn live_at<'a>(rows: &'a Rows, config: &Config, number: u32) -> Option<&'a Activation>
+    ensures { option_copied result ≡ option_and_then (λ a. if is_live config.now a then Some a else None) (get nat_cmp rows.now number) }
+{
+    match rows.get(&number) {
+        Some(activation) => {
+            if is_over(config, activation) {
+                None
+            } else {
+                Some(activation)
+            }
+        }
+        None => None,
+    }
+}
+
+/// The first of some numbers whose activation isn't over.
+pub fn first_live<'a>(rows: &'a Rows, config: &Config, numbers: &[u32]) -> Option<&'a Activation>
+    ensures { option_copied result ≡ find (is_live config.now) (filter_map (get nat_cmp rows.now) numbers.now) }
+{
+    for number in numbers {
+        if let Some(activation) = live_at(rows, config, *number) {
+            return Some(activation);
+        }
+    }
+    None
 }
 
 /// The activations of the adapters that stand at the path or below it are ending.
@@ -98,4 +159,23 @@ pub fn keep_live(rows: &mut Rows, config: &Config) -> usize
     let all = rows.len();
     rows.retain(|_, activation| !is_over(config, activation));
     all - rows.len()
+}
+
+/// The numbers of those that are over are taken out of the index.
+pub fn forget_ids(index: &mut Index, rows: &Rows, config: &Config)
+    requires keyed { tables.IsKeyed rows.now.entries }
+    requires ordered { IsStrictlySortedBy nat_cmp (keys_of rows.now.entries) }
+    requires indexed { tables.IsIndexed index.old (values rows.now) }
+    ensures { tables.IsIndexed index.new (live config.now (values rows.now)) }
+{
+    for activation in rows.values() {
+        if is_over(config, activation) {
+            remove(
+                index,
+                activation.adapter,
+                activation.oid.as_slice(),
+                activation.number,
+            );
+        }
+    }
 }

@@ -1,11 +1,10 @@
-use Rattle.std.proofs.Common.{◌≡◌, ◌+◌, ◌-◌, ◌≤◌, ◌==◌, ◌&&◌, true, map, find, refl, sym, ap, subst, ◌∙◌, arith}
-use Rattle.std.specs.Prelude.{if◌then◌else◌}
+use Rattle.std.proofs.Common.{◌+◌, ◌-◌, ◌≤◌, ◌==◌, map, refl, sym, ap, subst, ◌∙◌, arith}
 use Rattle.std.specs.Map.{values_of}
 use Rattle.std.specs.Option.{option_copied_mut}
-use Rattle.poa_history.specs.declared.activation.Activation.{Activation}
 use Rattle.poa_history.specs.Changes.{at_number, come_to}
 use Rattle.poa_history.specs.Standings.{is_begun}
-use Rattle.standing_queries.specs.Tables.{Table, weight}
+use Rattle.standing_queries.specs.Tables.{Table, IsIndexed}
+use Rattle.standing_queries.proofs.IdsKept.{indexed_each}
 use Rattle.standing_queries.proofs.RowsKept.{keeps_where, row_set, row_absent, weight_within, table_set, tabled}
 use Rattle.standing_queries.proofs.active_map.Activations.bring.Goals as goal
 
@@ -13,7 +12,8 @@ pub overflow_sub-self : goal.overflow_sub-self
 overflow_sub-self c =
     (let t = c.self.inside in
     let had = sym c.get_mut.ensures.value ∙ ap option_copied_mut c.in-Some.is in
-    subst (λ m. m ≤ t.moving) (sym c.moves.ensures) (weight_within t.forgotten t.moving c.args.number t.rows.entries c.self.invariant c.in-Some.activation.now had))
+    subst (λ m. m ≤ t.moving) (sym c.moves.ensures)
+    (weight_within t.forgotten t.moving c.args.number t.rows.entries c.self.invariant.table c.in-Some.activation.now had))
 
 pub invariant_of-self : goal.invariant_of-self
 invariant_of-self c =
@@ -22,13 +22,25 @@ invariant_of-self c =
     let b = c.come_to.new.activation in
     let had = sym c.get_mut.ensures.value ∙ ap option_copied_mut c.in-Some.is in
     let written = c.get_mut.follows.holds b in
-    let within = weight_within t.forgotten t.moving c.args.number t.rows.entries c.self.invariant a had in
+    let within = weight_within t.forgotten t.moving c.args.number t.rows.entries c.self.invariant.table a had in
     let before = c.moves.ensures in
     let after = c.moves-in-Some.ensures in
-    table_set t.forgotten t.moving c.args.number t.rows.entries (c.get_mut.follows.lender b).entries
-    (come_to c.args.phase) a b c.self.invariant had written.0 written.1
-    (c.come_to.ensures) (keeps_where is_begun (λ x. record x { phase = c.args.phase }) (record { number = λ x. refl; adapter = λ x. refl; oid = λ x. refl }))
-    (t.moving - c.moves.result + c.moves-in-Some.result) (omega (arith, within, before, after)))
+    record {
+      table =
+          table_set t.forgotten t.moving c.args.number t.rows.entries (c.get_mut.follows.lender b).entries (come_to c.args.phase) a b
+          c.self.invariant.table had written.0 written.1
+          (c.come_to.ensures)
+          (keeps_where is_begun (λ x. record x { phase = c.args.phase }) (record { number = λ x. refl; adapter = λ x. refl; oid = λ x. refl }))
+          (t.moving - c.moves.result + c.moves-in-Some.result) (omega (arith, within, before, after));
+      indexed =
+          subst (IsIndexed t.ids)
+          (sym (ap values_of written.0
+          ∙ row_set c.args.number (come_to c.args.phase) t.rows.entries c.self.invariant.table.keyed c.self.invariant.table.ordered a b had
+          (c.come_to.ensures)))
+          (indexed_each t.ids (at_number c.args.number (come_to c.args.phase))
+          (keeps_where (λ x. x.number == c.args.number) (come_to c.args.phase) (keeps_where is_begun (λ x. record x { phase = c.args.phase }) (record { number = λ x. refl; adapter = λ x. refl; oid = λ x. refl })))
+          (values_of t.rows.entries) c.self.invariant.indexed);
+    })
 
 pub returns-in-Some : goal.returns-in-Some
 returns-in-Some c =
@@ -39,7 +51,7 @@ returns-in-Some c =
     let written = c.get_mut.follows.holds b in
     ap (tabled t.forgotten)
     (ap values_of written.0
-    ∙ row_set c.args.number (come_to c.args.phase) t.rows.entries c.self.invariant.keyed c.self.invariant.ordered a b had
+    ∙ row_set c.args.number (come_to c.args.phase) t.rows.entries c.self.invariant.table.keyed c.self.invariant.table.ordered a b had
     (c.come_to.ensures))
     ∙ ap (λ (u : Table). tabled u.forgotten (map (at_number c.args.number (come_to c.args.phase)) u.kept)) c.self.view_is)
 
@@ -49,5 +61,5 @@ returns-in_default c =
     let same = ap (λ m. m.entries) c.get_mut.follows.holds-at-none in
     let none = sym c.get_mut.ensures.value ∙ ap option_copied_mut c.in_default.is in
     ap (λ es. tabled t.forgotten (values_of es)) same
-    ∙ ap (tabled t.forgotten) (sym (row_absent c.args.number (come_to c.args.phase) t.rows.entries c.self.invariant.keyed none))
+    ∙ ap (tabled t.forgotten) (sym (row_absent c.args.number (come_to c.args.phase) t.rows.entries c.self.invariant.table.keyed none))
     ∙ ap (λ (u : Table). tabled u.forgotten (map (at_number c.args.number (come_to c.args.phase)) u.kept)) c.self.view_is)

@@ -1,22 +1,27 @@
-use Rattle.std.proofs.Common.{◌≡◌, ◌+◌, ◌≤◌, ◌==◌, ◌&&◌, true, map, find, refl, sym, ap, subst, ◌∙◌, arith}
+use Rattle.std.proofs.Common.{map, refl, sym, ap, subst, ◌∙◌}
 use Rattle.std.specs.Prelude.{if◌then◌else◌}
 use Rattle.std.specs.Map.{values_of}
-use Rattle.std.specs.Option.{option_copied_mut}
 use Rattle.poa_history.specs.declared.activation.Activation.{Activation}
 use Rattle.poa_tree.specs.Nodes.{stands_under}
 use Rattle.poa_history.specs.Changes.{ended_by_destroy}
-use Rattle.standing_queries.specs.Tables.{Table}
+use Rattle.standing_queries.specs.Tables.{Table, IsIndexed}
+use Rattle.standing_queries.proofs.IdsKept.{indexed_each}
 use Rattle.standing_queries.proofs.RowsKept.{keeps_where, table_each, values_each, tabled}
 use Rattle.standing_queries.proofs.active_map.Activations.end_below.Goals as goal
 
 pub invariant_of-self : goal.invariant_of-self
 invariant_of-self c =
     (let t = c.self.inside in
-    table_each t.forgotten t.moving c.count_moving-self-inside.result t.rows.entries c.end_all_under.new.rows.entries
-    (λ a. if stands_under c.args.nodes.now c.args.path.now a.adapter then ended_by_destroy c.args.etherealize a else a) c.self.invariant c.end_all_under.ensures
-    (keeps_where (λ a. stands_under c.args.nodes.now c.args.path.now a.adapter) (ended_by_destroy c.args.etherealize)
-    (record { number = λ x. refl; adapter = λ x. refl; oid = λ x. refl }))
-    c.count_moving-self-inside.ensures)
+    let f : Activation → Activation = (λ a. if stands_under c.args.nodes.now c.args.path.now a.adapter then ended_by_destroy c.args.etherealize a else a) in
+    let keeps = keeps_where (λ a. stands_under c.args.nodes.now c.args.path.now a.adapter) (ended_by_destroy c.args.etherealize) (record { number = λ x. refl; adapter = λ x. refl; oid = λ x. refl }) in
+    record {
+      table =
+          table_each t.forgotten t.moving c.count_moving-self-inside.result t.rows.entries c.end_all_under.new.rows.entries f c.self.invariant.table c.end_all_under.ensures
+          keeps c.count_moving-self-inside.ensures;
+      indexed =
+          subst (IsIndexed t.ids) (sym (ap values_of c.end_all_under.ensures ∙ values_each f t.rows.entries))
+          (indexed_each t.ids f keeps (values_of t.rows.entries) c.self.invariant.indexed);
+    })
 
 pub returns : goal.returns
 returns c =

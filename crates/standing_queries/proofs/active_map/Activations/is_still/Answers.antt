@@ -7,5 +7,5 @@ use Rattle.standing_queries.proofs.active_map.Activations.is_still.Goals as goal
 
 pub returns : goal.returns
 returns c =
-    ap (λ n. n == 0) c.self.invariant.counted ∙ none_moving (values_of c.self.inside.rows.entries)
+    ap (λ n. n == 0) c.self.invariant.table.counted ∙ none_moving (values_of c.self.inside.rows.entries)
     ∙ ap (λ (t : Table). not (list_any is_moving t.kept)) c.self.view_is

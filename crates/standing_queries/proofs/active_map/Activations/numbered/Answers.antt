@@ -5,5 +5,5 @@ use Rattle.standing_queries.proofs.active_map.Activations.numbered.Goals as goal
 
 pub returns : goal.returns
 returns c =
-    c.get.ensures.value ∙ row_found c.args.number c.self.inside.rows.entries c.self.invariant.keyed
+    c.get.ensures.value ∙ row_found c.args.number c.self.inside.rows.entries c.self.invariant.table.keyed
     ∙ ap (λ (t : Table). find (λ a. a.number == c.args.number) t.kept) c.self.view_is
