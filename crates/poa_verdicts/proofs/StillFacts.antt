@@ -1,5 +1,5 @@
 -- Where no activation is on its way in or out, none is unfinished and none is to be taken out.
-use Rattle.std.specs.Prelude.{◌≡◌, false, not, ◌&&◌, ◌==◌}
+use Rattle.std.specs.Prelude.{◌≡◌, false, not, ◌&&◌}
 use Rattle.std.proofs.lemmas.Bool.{and_left, and_right, or_from}
 use Rattle.poa_base.specs.declared.Config.{Config}
 use Rattle.poa_history.specs.declared.activation.Activation.{Activation}

@@ -1,5 +1,5 @@
-use Rattle.std.proofs.Common.{◌∙◌, ◌==◌, ◌&&◌, ap, sym, refl}
-use Rattle.poa_history.specs.Situations.{is_changing, is_unfinished}
+use Rattle.std.proofs.Common.{◌∙◌, ◌==◌, ◌&&◌, sym, refl}
+use Rattle.poa_history.specs.Situations.{is_unfinished}
 use Rattle.standing_queries.specs.Seen.{forgotten}
 use Rattle.standing_queries.proofs.Behind.{any_behind, second_fails}
 use Rattle.poa_verdicts.proofs.facts.is_changing.Goals as goal

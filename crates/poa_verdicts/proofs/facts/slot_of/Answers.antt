@@ -1,7 +1,6 @@
-use Rattle.std.proofs.Common.{◌∙◌, not, ◌&&◌, Some, None, ap, ap₂, sym, refl}
+use Rattle.std.proofs.Common.{◌∙◌, not, ◌&&◌, Some, None, ap₂, sym, refl}
 use Rattle.poa_choose.specs.declared.MapFact.TheVariants.{Active, Busy, Free}
 use Rattle.poa_history.specs.Ends.{is_over}
-use Rattle.poa_history.specs.Situations.{slot_of}
 use Rattle.poa_history.specs.Standings.{is_active, is_of}
 use Rattle.standing_queries.specs.Seen.{forgotten}
 use Rattle.standing_queries.proofs.Behind.{find_behind, second_fails}
