@@ -2,3 +2,4 @@ mod FactsAre
 mod CommandsAre
 pub mod GoingOn
 pub mod StillFacts
+pub mod Looking

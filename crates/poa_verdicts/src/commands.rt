@@ -18,7 +18,6 @@ ghost use Rattle.poa_tree.specs.Nodes as tree;
 ghost use Rattle.standing_queries.specs.Seen.{seen};
 ghost use Rattle.adapter_settings.specs.Told.{Tells};
 
-use crate::facts::{is_active_of, is_kept_of};
 use crate::references::reference_text;
 use adapter_settings::{Settings, endpoint_of, manager_state};
 use poa_base::limits::ADAPTERS;
@@ -213,9 +212,7 @@ pub fn is_bad_id(config: &Config, run: u32, made: u32, path: &[Name], oid: &[u8]
 fn is_any_active(activations: &Activations, adapter: u32, oid: &[u8]) -> bool
     ensures { result ≡ list_any (λ a. stands.is_of adapter oid.now a && stands.is_active a) activations.now.kept }
 {
-    activations
-        .iter()
-        .any(|activation| is_active_of(adapter, oid, activation))
+    activations.active_of(adapter, oid).is_some()
 }
 
 /// Whether the id has an activation that is active.
@@ -229,9 +226,7 @@ fn has_active(standing: &Standing, adapter: u32, oid: &Oid) -> bool
 fn is_any_kept(config: &Config, activations: &Activations, adapter: u32, oid: &[u8]) -> bool
     ensures { result ≡ list_any (λ a. stands.is_of adapter oid.now a && not (ends.is_over config.now a)) activations.now.kept }
 {
-    activations
-        .iter()
-        .any(|activation| is_kept_of(config, adapter, oid, activation))
+    activations.live_of(config, adapter, oid).is_some()
 }
 
 /// Whether the id has an activation that isn't over.

@@ -1,12 +1,10 @@
 //! What stands about a request or a locate: the facts that the table of verdicts asks.
-ghost use Rattle.std.specs.Prelude.{◌≡◌, ◌==◌, ◌&&◌, ℕ, List, Some, None, if◌then◌else◌, find, not, option_and_then, option_copied, IfOk};
+ghost use Rattle.std.specs.Prelude.{◌≡◌, ◌==◌, ◌&&◌, ℕ, List, Some, None, if◌then◌else◌, option_and_then, option_copied, IfOk};
 ghost use Rattle.poa_base.specs.declared.Entry.{Entry};
 ghost use Rattle.poa_choose.specs.declared.KeyFact.TheVariants.{OtherRun, Persistent, Transient};
 ghost use Rattle.poa_history.specs.Arrivals as calls;
 ghost use Rattle.poa_history.specs.Situations as situations;
-ghost use Rattle.poa_history.specs.Ends as ends;
 ghost use Rattle.poa_history.specs.Keys as keys;
-ghost use Rattle.poa_history.specs.Standings as stands;
 ghost use Rattle.standing_queries.specs.Answers.{AnswersAs};
 ghost use Rattle.standing_queries.specs.Seen.{seen};
 ghost use Rattle.poa_tree.specs.Walks.{place_met as place_is, walk as walk_along};
@@ -22,9 +20,9 @@ use poa_choose::{Facts, KeyFact, MapFact, WalkFact};
 use poa_history::Activation;
 use poa_tree::Found;
 use poa_tree::walks::{adapter_met, child_met, place_met, walk};
-use standing_queries::activations::{is_active, is_begun, is_of};
+use standing_queries::activations::is_begun;
 use standing_queries::calls::{is_locate, target_of};
-use standing_queries::ends::{is_finished, is_over};
+use standing_queries::ends::is_finished;
 use standing_queries::flights::{is_running, is_tried};
 use standing_queries::keys::{adapter_at, key_in};
 use standing_queries::templates::{children_at, manager_at, policies_at, rules_at};
@@ -82,50 +80,13 @@ fn differs(config: &Config, key: &KeyView<'_>, path: &[Name], adapter: u32) -> b
     }
 }
 
-/// Whether the activation is of the id, and active.
-pub(crate) fn is_active_of(adapter: u32, oid: &[u8], activation: &Activation) -> bool
-    ensures { result ≡ stands.is_of adapter oid.now activation.now && stands.is_active activation.now }
-{
-    is_of(adapter, oid, activation) && is_active(activation)
-}
-
-/// The activation of the id that is active.
-fn active_of<'a>(activations: &'a Activations, adapter: u32, oid: &[u8]) -> Option<&'a Activation>
-    ensures { option_copied result ≡ find (λ a. stands.is_of adapter oid.now a && stands.is_active a) activations.now.kept }
-{
-    activations
-        .iter()
-        .find(|activation| is_active_of(adapter, oid, activation))
-}
-
-/// Whether the activation is of the id, and not over.
-pub(crate) fn is_kept_of(config: &Config, adapter: u32, oid: &[u8], activation: &Activation) -> bool
-    ensures { result ≡ stands.is_of adapter oid.now activation.now && not (ends.is_over config.now activation.now) }
-{
-    is_of(adapter, oid, activation) && !is_over(config, activation)
-}
-
-/// The activation of the id that isn't over.
-fn kept_of<'a>(
-    config: &Config,
-    activations: &'a Activations,
-    adapter: u32,
-    oid: &[u8],
-) -> Option<&'a Activation>
-    ensures { option_copied result ≡ find (λ a. stands.is_of adapter oid.now a && not (ends.is_over config.now a)) activations.now.kept }
-{
-    activations
-        .iter()
-        .find(|activation| is_kept_of(config, adapter, oid, activation))
-}
-
 /// What they are for an id.
 fn slot_among(config: &Config, activations: &Activations, adapter: u32, oid: &[u8]) -> MapFact
     ensures { result ≡ situations.slot_of config.now activations.now.kept adapter oid.now }
 {
-    match active_of(activations, adapter, oid) {
+    match activations.active_of(adapter, oid) {
         Some(activation) => MapFact::Active(activation.number),
-        None => match kept_of(config, activations, adapter, oid) {
+        None => match activations.live_of(config, adapter, oid) {
             Some(activation) => MapFact::Busy(activation.number),
             None => MapFact::Free,
         },
