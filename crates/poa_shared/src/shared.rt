@@ -13,6 +13,7 @@ use poa_base::WantMemory;
 use poa_core::Core;
 use seat_lock::SeatLock;
 use std::alloc::Global;
+use std::hint::spin_loop;
 use std::sync::{Mutex, MutexGuard, Wait};
 
 /// What a thread knows of the one history, and by which it takes part in it. It has no bytes.
@@ -21,6 +22,10 @@ pub type Seat = seat_lock::Seat<Core>;
 /// The place before the lock, held. Who holds it finds the lock free, so that many calls of one thread cost one hand-over.
 /// It is let go before a bell is rung, a gate is passed, or bytes are read or written.
 pub type Front<'a> = MutexGuard<'a, ()>;
+
+/// How often one looks for the place before the lock until one sleeps for it. A hold takes a few microseconds, which is less
+/// than it takes to fall asleep and to be woken.
+const TRIES: u32 = 200;
 
 /// An adapter that many threads share, each through a seat of its own.
 #[derive(Drop)]
@@ -48,6 +53,12 @@ impl Shared {
 
     /// Waits for the place before the lock. No clause speaks of it.
     pub fn front<R: Wait>(&self, rt: &R) -> Front<'_> {
+        for _ in 0..TRIES {
+            if let Some(front) = self.front.try_lock() {
+                return front;
+            }
+            spin_loop();
+        }
         self.front.lock(rt)
     }
 
