@@ -19,7 +19,7 @@ module _ (w : ℕ) (i : Inside) (kept : IsKept i) (low : w < 16) (going : is_aba
         entries =
             record {
               row =
-                  some_room (length i.entries.items) (length i.desk.owing.items + length i.desk.outbox.items) (stay i.tables) (i.entries.capacity)
+                  some_room (length i.entries.items) i.desk.due (stay i.tables) (i.entries.capacity)
                   (stay_going (history i) w i.tables low going kept.agrees.tables) kept.space;
               whole = λ is. absurd (let e : true ≡ false = is in cc);
             };
@@ -27,7 +27,6 @@ module _ (w : ℕ) (i : Inside) (kept : IsKept i) (low : w < 16) (going : is_aba
         queue = λ is. absurd (let e : false ≡ true = is in cc);
         held = λ is. absurd (let e : false ≡ true = is in cc);
         tally = tt;
-        desk = kept.agrees.room;
       }
 
   pub abandoned_kept : (new : Inside) → IsNoted (Abandon w) i new → IsKept new

@@ -1,7 +1,6 @@
 -- A call arrives.
 use Rattle.std.proofs.Common.{◌≡◌, ℕ, ◌+◌, ◌^◌, ◌≤◌, Bool, true, false, not, ◌&&◌, ◌||◌, nat_lt, nat_le, List, [], ◌∷◌, ◌++◌, Some, None, ◌⊎◌, inl, inr, if◌then◌else◌, refl, sym, ap, subst, ◌∙◌, length, vec_len, vec_capacity, arith}
 use Rattle.std.proofs.lemmas.Bool.{ltb-true, leb-true, and_parts}
-use Rattle.std.proofs.lemmas.List.{length-append}
 use Rattle.poa_base.specs.declared.Call.{Call}
 use Rattle.poa_base.specs.declared.Entry.{Entry}
 use Rattle.poa_base.specs.declared.Entry.TheVariants.{Arrive}
@@ -12,16 +11,17 @@ use Rattle.run_tally.specs.Limits.{has_room, is_taken}
 use Rattle.call_tables.specs.declared.desk.Desk.{Desk}
 use Rattle.call_tables.specs.declared.owing.Owing.{Owing}
 use Rattle.call_tables.specs.Owed.{AreOwed, head_of}
-use Rattle.call_tables.specs.Decided.{AreFiled}
-use Rattle.call_tables.specs.Desk.{HasRoom as HasRoomInDesk}
+use Rattle.call_tables.specs.declared.filed.Filed.{Filed}
+use Rattle.call_tables.specs.Desk.{Files}
 use Rattle.call_tables.proofs.DeskAfter.{new_owes, owed_with, owed_without}
 use Rattle.poa_core.specs.declared.inside.Inside.{Inside}
 use Rattle.poa_core.specs.Arriving.{row_of}
-use Rattle.poa_core.specs.Agrees.{Agrees, history, opened_in}
+use Rattle.poa_core.specs.Agrees.{Agrees, history}
 use Rattle.poa_core.specs.Noting.{IsNoted}
 use Rattle.poa_core.specs.Kept.{IsKept, IsReady, IsQuiet, stay}
 use Rattle.poa_core.proofs.Space.{stay_after}
 use Rattle.poa_core.proofs.Keeping.{longer}
+use Rattle.poa_core.proofs.Filed.{filed_as, filed_in}
 
 not_true : (b : Bool) → not b ≡ true → b ≡ false
 not_true false is = refl
@@ -64,7 +64,7 @@ arrived_quiet conn size call i ready open_ sized taken =
       state = agrees.state;
       tables = agrees.tables;
       owed = agrees.owed;
-      left = record { which = agrees.filed.which; each = agrees.filed.each };
+      left = filed_as i.desk (λ fs filed. record { which = filed.which; each = filed.each }) agrees.filed;
     })
 
 module _ (conn size : ℕ) (call : Call) (old new : Inside) (ready : IsReady old) (noted : IsNoted (Arrive conn size call) old new) where
@@ -88,15 +88,12 @@ module _ (conn size : ℕ) (call : Call) (old new : Inside) (ready : IsReady old
               state = noted.state;
               tables = noted.tables;
               filed = noted.filed;
-              room = noted.room;
               owed = owed_without new.config new.run new.limit
                   (history old) conn size call noted.runs.legal new.desk.owing.items noted.before.which noted.before.each unasked;
             });
-        space = space_of (length old.entries.items) (length new.entries.items) (length old.desk.owing.items + length old.desk.outbox.items)
-            (length new.desk.owing.items + length new.desk.outbox.items)
+        space = space_of (length old.entries.items) (length new.entries.items) old.desk.due new.desk.due
             (stay old.tables) (stay new.tables) (old.entries.capacity) (new.entries.capacity) 0 noted.len
-            (none_more (length old.desk.owing.items + length old.desk.outbox.items) (length new.desk.owing.items + length new.desk.outbox.items) noted.as_many)
-            (omega arith) same_stay noted.capacity ready.space;
+            (none_more old.desk.due new.desk.due noted.due) (omega arith) same_stay noted.capacity ready.space;
       }
     where
       none_more : (a b : ℕ) → b ≡ a → b ≡ a + 0
@@ -104,29 +101,25 @@ module _ (conn size : ℕ) (call : Call) (old new : Inside) (ready : IsReady old
 
   -- it asks one, and is owed it
   pub kept_asked : (row : Owing) (desk : Desk) → row_of old.tables.tally.arrivals conn call ≡ Some row → asks (Some call) ≡ true
-      → desk.owing.items ≡ new.desk.owing.items ++ row ∷ [] → desk.outbox.items ≡ new.desk.outbox.items → HasRoomInDesk desk
+      → desk.owing.items ≡ new.desk.owing.items ++ row ∷ [] → ((fs : List Filed) → Files new.desk fs → Files desk fs) → desk.due ≡ new.desk.due + 1
       → IsKept (record new { desk = desk })
-  kept_asked row desk is asked owing outbox room =
+  kept_asked row desk is asked owing files due =
       record {
         agrees = subst (λ h. Agrees h (record new { desk = desk })) (sym (longer e old new noted))
             (record {
               runs = noted.runs;
               state = noted.state;
               tables = noted.tables;
-              room = room;
-              filed = subst (λ fs. AreFiled new.config new.run (opened_in new) (e ∷ history old) fs) (sym outbox) noted.filed;
+              filed = filed_in new.desk desk files noted.filed;
               owed = subst (λ os. AreOwed new.config new.run (e ∷ history old) os) (sym owing)
                   (owed_with new.config new.run new.limit (history old) conn size call noted.runs.legal new.desk.owing.items row noted.before.which
                   noted.before.each at
                   (new_owes new.config new.run new.limit (history old) conn size call noted.runs.legal row at (sym (ap (λ (o : Owing). o.conn) it))
                   (sym (ap (λ (o : Owing). o.number) it)) (sym (ap (λ (o : Owing). o.head) it)) (sym (ap (λ (o : Owing). o.wait) it))) asked);
             });
-        space = space_of (length old.entries.items) (length new.entries.items) (length old.desk.owing.items + length old.desk.outbox.items)
-            (length desk.owing.items + length desk.outbox.items)
+        space = space_of (length old.entries.items) (length new.entries.items) old.desk.due desk.due
             (stay old.tables) (stay new.tables) (old.entries.capacity) (new.entries.capacity) 1 noted.len
-            (one_more (length old.desk.owing.items + length old.desk.outbox.items) (length new.desk.owing.items) (length new.desk.outbox.items)
-            (length desk.owing.items) (length desk.outbox.items) noted.as_many (ap length owing ∙ length-append new.desk.owing.items (row ∷ []))
-            (ap length outbox)) (omega arith) same_stay noted.capacity ready.space;
+            (due ∙ ap (λ n. n + 1) noted.due) (omega arith) same_stay noted.capacity ready.space;
       }
     where
       made : Owing
@@ -137,9 +130,6 @@ module _ (conn size : ℕ) (call : Call) (old new : Inside) (ready : IsReady old
 
       at : row.arrival ≡ arrivals (history old)
       at = sym (ap (λ (o : Owing). o.arrival) it) ∙ ready.agrees.tables.tally.calls
-
-      one_more : (a b d b' d' : ℕ) → b + d ≡ a → b' ≡ b + 1 → d' ≡ d → b' + d' ≡ a + 1
-      one_more a b d b' d' x y z = omega (arith, x, y, z)
 
 -- the row tells whether it asks one
 pub has_row : (r conn : ℕ) (call : Call) (row : Owing) → row_of r conn call ≡ Some row → asks (Some call) ≡ true

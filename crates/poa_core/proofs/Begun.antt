@@ -2,8 +2,7 @@
 use Rattle.std.proofs.Common.{◌≡◌, ℕ, ◌+◌, ◌^◌, ◌<◌, ◌≤◌, [], length, reverse, refl, sym, ap, subst, ◌∙◌, vec_len, vec_capacity, arith}
 use Rattle.conf_rules.specs.Rules.{KeepsRules}
 use Rattle.call_tables.specs.Owed.{AreOwed}
-use Rattle.call_tables.specs.Decided.{AreFiled}
-use Rattle.call_tables.specs.Desk.{HasRoom}
+use Rattle.call_tables.specs.Desk.{Files}
 use Rattle.adapter_state.specs.State.{IsState}
 use Rattle.poa_core.specs.declared.inside.Inside.{Inside}
 use Rattle.poa_core.specs.Agrees.{Agrees, KnowsTables, opened_in}
@@ -19,14 +18,13 @@ pub record IsNew (i : Inside) : Type 0 where
   pub state : IsState i.config i.run (opened_in i) [] i.state
   pub tables : KnowsTables i.config i.run [] i.tables
   pub owing : i.desk.owing.items ≡ []
-  pub outbox : i.desk.outbox.items ≡ []
-  pub room : HasRoom i.desk
+  pub files : Files i.desk []
   pub entries : i.entries.items ≡ []
   pub len : length i.entries.items ≡ 0
   pub space : 18 ≤ i.entries.capacity
 
-space_of : (l a b s room : ℕ) → l ≡ 0 → a ≡ 0 → b ≡ 0 → s ≡ 18 → 18 ≤ room → l + (a + b + s) + 0 ≤ room
-space_of l a b s room w x y z fits = omega (arith, w, x, y, z, fits)
+space_of : (l due owing s room : ℕ) → l ≡ 0 → due ≡ owing + 0 → owing ≡ 0 → s ≡ 18 → 18 ≤ room → l + (due + s) + 0 ≤ room
+space_of l due owing s room w x y z fits = omega (arith, w, x, y, z, fits)
 
 pub begun_kept : (i : Inside) → IsNew i → IsKept i
 begun_kept i is =
@@ -37,9 +35,8 @@ begun_kept i is =
             state = is.state;
             tables = is.tables;
             owed = subst (AreOwed i.config i.run []) (sym is.owing) (record { which = refl; each = λ o none. absurd none });
-            filed = subst (AreFiled i.config i.run (opened_in i) []) (sym is.outbox) (record { which = refl; each = λ f none. absurd none });
-            room = is.room;
+            filed = record { replies = []; files = is.files; holds = record { which = refl; each = λ f none. absurd none } };
           });
-      space = space_of (length i.entries.items) (length i.desk.owing.items) (length i.desk.outbox.items) (stay i.tables) (i.entries.capacity)
-          is.len (ap length is.owing) (ap length is.outbox) (stay_is [] i.tables is.tables ∙ ap (λ n. 2 + n) none_begun) is.space;
+      space = space_of (length i.entries.items) i.desk.due (length i.desk.owing.items) (stay i.tables) (i.entries.capacity)
+          is.len is.files.due (ap length is.owing) (stay_is [] i.tables is.tables ∙ ap (λ n. 2 + n) none_begun) is.space;
     }

@@ -9,6 +9,7 @@ use Rattle.poa_core.specs.Agrees.{history}
 use Rattle.poa_core.specs.Noting.{HasRoomForEntry, IsNoted}
 use Rattle.poa_core.specs.Kept.{IsKept, IsReady, IsQuiet, stay}
 use Rattle.poa_core.proofs.Space.{stay_entered, stay_left, stay_open}
+use Rattle.poa_core.proofs.Filed.{filed_as}
 use Rattle.poa_core.proofs.Keeping.{kept_then}
 
 pub entered_quiet : (conn : ℕ) (i : Inside) → IsReady i → conn ≡ connections (history i) → conn < 4000000 → IsQuiet (history i) (Entered conn) i
@@ -19,7 +20,7 @@ entered_quiet conn i ready is few =
       state = agrees.state;
       tables = agrees.tables;
       owed = agrees.owed;
-      left = record { which = agrees.filed.which; each = agrees.filed.each };
+      left = filed_as i.desk (λ fs filed. record { which = filed.which; each = filed.each }) agrees.filed;
     })
 
 pub ok_so : {T E : Type 0} {P : Type 0} (r : Result T E) → OnOk r P → false ≡ is_err r → P
@@ -42,7 +43,7 @@ left_quiet conn i kept open_ =
       state = agrees.state;
       tables = agrees.tables;
       owed = agrees.owed;
-      left = record { which = agrees.filed.which; each = agrees.filed.each };
+      left = filed_as i.desk (λ fs filed. record { which = filed.which; each = filed.each }) agrees.filed;
     })
 
 pub some_room : (l many s room : ℕ) → 1 ≤ s → l + (many + s) + 0 ≤ room → l < room
@@ -54,7 +55,7 @@ left_room conn i kept open_ =
       entries =
           record {
             row =
-                some_room (length i.entries.items) (length i.desk.owing.items + length i.desk.outbox.items) (stay i.tables) (i.entries.capacity)
+                some_room (length i.entries.items) i.desk.due (stay i.tables) (i.entries.capacity)
                 (stay_open (history i) conn i.tables open_ kept.agrees.tables) kept.space;
             whole = λ is. absurd (let e : true ≡ false = is in cc);
           };
@@ -62,7 +63,6 @@ left_room conn i kept open_ =
       queue = λ is. absurd (let e : false ≡ true = is in cc);
       held = λ is. absurd (let e : false ≡ true = is in cc);
       tally = tt;
-      desk = kept.agrees.room;
     }
 
 pub less_one : (s s' : ℕ) → s' + 1 ≡ s → s' + 1 ≤ s + 0

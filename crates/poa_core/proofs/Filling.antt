@@ -19,6 +19,7 @@ use Rattle.poa_core.specs.Kept.{IsKept, IsQuiet, stay}
 use Rattle.poa_core.proofs.Space.{stay_filled, stay_unfilled}
 use Rattle.poa_core.proofs.Connected.{some_room, less_one}
 use Rattle.poa_core.proofs.Keeping.{kept_then}
+use Rattle.poa_core.proofs.Filed.{filed_as}
 
 full_of : (limit : ℕ) (h : List Entry) (size : ℕ) → is_filled h ≡ false → has_room limit h size ≡ false → (limit ≤ arrivals h)
     ⊎ (2 ^ 30 < arrived_bytes h + size)
@@ -73,7 +74,7 @@ module _ (conn size : ℕ) (i : Inside) (kept : IsKept i) (unfilled : is_filled 
         state = agrees.state;
         tables = agrees.tables;
         owed = agrees.owed;
-        left = record { which = agrees.filed.which; each = agrees.filed.each };
+        left = filed_as i.desk (λ fs filed. record { which = filed.which; each = filed.each }) agrees.filed;
       })
 
   pub filled_room : HasRoomForEntry (Filled conn size) i
@@ -82,7 +83,7 @@ module _ (conn size : ℕ) (i : Inside) (kept : IsKept i) (unfilled : is_filled 
         entries =
             record {
               row =
-                  some_room (length i.entries.items) (length i.desk.owing.items + length i.desk.outbox.items) (stay i.tables) (i.entries.capacity)
+                  some_room (length i.entries.items) i.desk.due (stay i.tables) (i.entries.capacity)
                   (stay_unfilled (history i) i.tables unfilled kept.agrees.tables) kept.space;
               whole = λ is. absurd (let e : true ≡ false = is in cc);
             };
@@ -90,7 +91,6 @@ module _ (conn size : ℕ) (i : Inside) (kept : IsKept i) (unfilled : is_filled 
         queue = λ is. absurd (let e : false ≡ true = is in cc);
         held = λ is. absurd (let e : false ≡ true = is in cc);
         tally = tt;
-        desk = kept.agrees.room;
       }
 
   pub filled_kept : (new : Inside) → IsNoted (Filled conn size) i new → IsKept new

@@ -1,5 +1,5 @@
 -- A connection is given its next reply.
-use Rattle.std.proofs.Common.{◌≡◌, ℕ, ◌+◌, ◌<◌, ◌≤◌, ◌==◌, true, false, List, length, map, find, Some, None, option_map, refl, sym, ap, subst, ◌∙◌, vec_len, vec_capacity, arith}
+use Rattle.std.proofs.Common.{◌≡◌, ℕ, ◌+◌, ◌<◌, ◌≤◌, ◌==◌, true, false, List, length, find, Option, Some, None, option_map, refl, sym, ap, subst, ◌∙◌, vec_len, vec_capacity, arith}
 use Rattle.poa_base.specs.declared.Entry.TheVariants.{Collect}
 use Rattle.poa_history.specs.Replies.{next_reply, owed}
 use Rattle.poa_tree.specs.Trees.{In}
@@ -8,7 +8,7 @@ use Rattle.call_tables.specs.declared.desk.Desk.{Desk}
 use Rattle.call_tables.specs.declared.filed.Filed.{Filed}
 use Rattle.call_tables.specs.Owed.{AreOwed}
 use Rattle.call_tables.specs.Decided.{AreFiled, IsFiled}
-use Rattle.call_tables.specs.Desk.{HasRoom, without_first}
+use Rattle.call_tables.specs.Desk.{Files, HasFiled, without_first}
 use Rattle.call_tables.proofs.Given.{next_is}
 use Rattle.call_tables.proofs.Removed.{left_which, left_in}
 use Rattle.poa_core.specs.declared.inside.Inside.{Inside}
@@ -17,61 +17,59 @@ use Rattle.poa_core.specs.Noting.{HasRoomForEntry, IsNoted}
 use Rattle.poa_core.specs.Kept.{IsKept, HasSpace, IsQuiet, stay}
 use Rattle.poa_core.proofs.Space.{stay_after}
 use Rattle.poa_core.proofs.Keeping.{kept_then, at_most}
-use Rattle.poa_core.proofs.Taken.{none_taken, one_taken}
+use Rattle.poa_core.proofs.Ready.{desk_kept}
+use Rattle.call_tables.proofs.Taken.{none_taken, one_taken}
 
--- the desk after its first reply of the connection was given out
-pub record IsGiven (conn : ℕ) (old new : Desk) : Type 0 where
-  pub outbox : new.outbox.items ≡ without_first conn old.outbox.items
+-- the desk after its first reply of the connection was given out, if there was one
+pub record IsGiven (conn : ℕ) (result : Option Filed) (old new : Desk) : Type 0 where
+  pub given : (fs : List Filed) → Files old fs → result ≡ find (λ f. f.conn == conn) fs
+  pub files : (fs : List Filed) → Files old fs → Files new (without_first conn fs)
   pub owing : new.owing.items ≡ old.owing.items
-  pub room : HasRoom new
 
-module _ (conn : ℕ) (i : Inside) (kept : IsKept i) (desk : Desk) (given : IsGiven conn i.desk desk) where
+module _ (conn : ℕ) (i : Inside) (kept : IsKept i) (result : Option Filed) (desk : Desk) (given : IsGiven conn result i.desk desk) where
   abbrev then_ : Inside
   then_ = record i { desk = desk }
+
+  abbrev filed : HasFiled (AreFiled i.config i.run (opened_in i) (history i)) i.desk
+  filed = kept.agrees.filed
 
   pub owed_still : AreOwed i.config i.run (history i) desk.owing.items
   owed_still = subst (AreOwed i.config i.run (history i)) (sym given.owing) kept.agrees.owed
 
   -- there was none
-  module _ (none : find (λ (f : Filed). f.conn == conn) i.desk.outbox.items ≡ None) where
-    outbox_same : i.desk.outbox.items ≡ desk.outbox.items
-    outbox_same = sym (given.outbox ∙ none_taken (λ (f : Filed). f.conn == conn) i.desk.outbox.items none)
+  module _ (none : result ≡ None) where
+    none_found : (fs : List Filed) → Files i.desk fs → find (λ (f : Filed). f.conn == conn) fs ≡ None
+    none_found fs files = sym (given.given fs files) ∙ none
 
     pub kept_without : IsKept then_
     kept_without =
-        (let agrees = kept.agrees in record {
-          agrees =
-              record {
-                runs = agrees.runs;
-                state = agrees.state;
-                tables = agrees.tables;
-                owed = owed_still;
-                filed = subst (AreFiled i.config i.run (opened_in i) (history i)) outbox_same agrees.filed;
-                room = given.room;
-              };
-          space = subst (λ (fs : List Filed). length i.entries.items + (length desk.owing.items + length fs + stay i.tables) + 0 ≤ i.entries.capacity)
-              outbox_same
-              (subst (λ os. length i.entries.items + (length os + length i.desk.outbox.items + stay i.tables) + 0 ≤ i.entries.capacity)
-              (sym given.owing) kept.space);
-        })
+        desk_kept i desk kept given.owing
+        (λ fs files. subst (Files desk) (none_taken (λ (f : Filed). f.conn == conn) fs (none_found fs files)) (given.files fs files))
 
     pub none_next : next_reply i.config i.run (history i) conn ≡ None
-    none_next = next_is i.config i.run (opened_in i) (history i) i.desk.outbox.items conn kept.agrees.filed ∙ ap (option_map (λ (f : Filed). f.arrival)) none
+    none_next =
+        next_is i.config i.run (opened_in i) (history i) filed.replies conn filed.holds
+        ∙ ap (option_map (λ (f : Filed). f.arrival)) (none_found filed.replies filed.files)
 
   -- there was this one
-  module _ (f : Filed) (some : find (λ (f : Filed). f.conn == conn) i.desk.outbox.items ≡ Some f) where
-    one_less : length desk.outbox.items + 1 ≡ length i.desk.outbox.items
-    one_less = ap (λ (fs : List Filed). length fs + 1) given.outbox ∙ one_taken (λ (f : Filed). f.conn == conn) f i.desk.outbox.items some
+  module _ (f : Filed) (some : result ≡ Some f) where
+    found : find (λ (f : Filed). f.conn == conn) filed.replies ≡ Some f
+    found = sym (given.given filed.replies filed.files) ∙ some
 
-    space_of : (l owing owing' outbox outbox' s room : ℕ) → owing' ≡ owing → outbox' + 1 ≡ outbox → l + (owing + outbox + s) + 0 ≤ room
-        → l + (owing' + outbox' + s) + 1 ≤ room
-    space_of l owing owing' outbox outbox' s room a b fits = omega (arith, a, b, fits)
+    less_due : (due due' owing owing' many many' : ℕ) → due ≡ owing + many → due' ≡ owing' + many' → owing' ≡ owing → many' + 1 ≡ many → due' + 1 ≡ due
+    less_due due due' owing owing' many many' x y a b = omega (arith, x, y, a, b)
+
+    one_less : desk.due + 1 ≡ i.desk.due
+    one_less =
+        less_due i.desk.due desk.due (length i.desk.owing.items) (length desk.owing.items) (length filed.replies) (length (without_first conn filed.replies))
+        filed.files.due (given.files filed.replies filed.files).due (ap length given.owing)
+        (one_taken (λ (f : Filed). f.conn == conn) f filed.replies found)
+
+    space_of : (l due due' s room : ℕ) → due' + 1 ≡ due → l + (due + s) + 0 ≤ room → l + (due' + s) + 1 ≤ room
+    space_of l due due' s room a fits = omega (arith, a, fits)
 
     pub space_for_one : HasSpace 1 then_
-    space_for_one =
-        space_of (length i.entries.items) (length i.desk.owing.items) (length desk.owing.items) (length i.desk.outbox.items) (length desk.outbox.items)
-        (stay i.tables) (i.entries.capacity)
-        (ap length given.owing) one_less kept.space
+    space_for_one = space_of (length i.entries.items) i.desk.due desk.due (stay i.tables) (i.entries.capacity) one_less kept.space
 
     some_room : (l many s room : ℕ) → l + (many + s) + 1 ≤ room → l < room
     some_room l many s room fits = omega (arith, fits)
@@ -81,19 +79,18 @@ module _ (conn : ℕ) (i : Inside) (kept : IsKept i) (desk : Desk) (given : IsGi
         record {
           entries =
               record {
-                row =
-                    some_room (length i.entries.items) (length desk.owing.items + length desk.outbox.items) (stay i.tables) (i.entries.capacity) space_for_one;
+                row = some_room (length i.entries.items) desk.due (stay i.tables) (i.entries.capacity) space_for_one;
                 whole = λ is. absurd (let e : true ≡ false = is in cc);
               };
           calls = λ is. absurd (let e : false ≡ true = is in cc);
           queue = λ is. absurd (let e : false ≡ true = is in cc);
           held = λ is. absurd (let e : false ≡ true = is in cc);
           tally = tt;
-          desk = given.room;
         }
 
     pub next_here : next_reply i.config i.run (history i) conn ≡ Some f.arrival
-    next_here = next_is i.config i.run (opened_in i) (history i) i.desk.outbox.items conn kept.agrees.filed ∙ ap (option_map (λ (f : Filed). f.arrival)) some
+    next_here =
+        next_is i.config i.run (opened_in i) (history i) filed.replies conn filed.holds ∙ ap (option_map (λ (f : Filed). f.arrival)) found
 
     pub collect_quiet : IsQuiet (history i) (Collect conn f.arrival) then_
     collect_quiet =
@@ -104,14 +101,17 @@ module _ (conn : ℕ) (i : Inside) (kept : IsKept i) (desk : Desk) (given : IsGi
           tables = agrees.tables;
           owed = owed_still;
           left = record {
-            which = ap (λ fs. map (λ (f : Filed). f.arrival) fs) given.outbox
-                ∙ left_which i.config i.run (opened_in i) (history i) i.desk.outbox.items conn f agrees.filed some;
-            each = λ g there. agrees.filed.each g (left_in conn i.desk.outbox.items g (subst (λ fs. In g fs) given.outbox there));
+            replies = without_first conn filed.replies;
+            files = given.files filed.replies filed.files;
+            holds = record {
+              which = left_which i.config i.run (opened_in i) (history i) filed.replies conn f filed.holds found;
+              each = λ g there. filed.holds.each g (left_in conn filed.replies g there);
+            };
           };
         })
 
     pub filed_here : IsFiled i.config i.run (opened_in i) (history i) f
-    filed_here = kept.agrees.filed.each f (find_in (λ (f : Filed). f.conn == conn) f i.desk.outbox.items some).0
+    filed_here = filed.holds.each f (find_in (λ (f : Filed). f.conn == conn) f filed.replies found).0
 
     pub kept_with : (new : Inside) → IsNoted (Collect conn f.arrival) then_ new → IsKept new
     kept_with new noted =

@@ -13,6 +13,7 @@ use Rattle.standing_queries.specs.Seen.{seen}
 use Rattle.standing_of.specs.Entries.{stage_at}
 use Rattle.arrival_tables.specs.Placed.{KnowsCalls}
 use Rattle.call_replies.specs.Comes.{call_at}
+use Rattle.call_tables.specs.declared.filed.Filed.{Filed}
 use Rattle.call_tables.specs.Desk.{AreLeft}
 use Rattle.call_tables.specs.Decided.{AreFiled}
 use Rattle.adapter_state.specs.declared.coming.Coming.{Coming}
@@ -34,7 +35,7 @@ longer e old new noted = ap (λ (l : Life). l.history) noted.life_is
 pub agrees_then : (e : Entry) (old new : Inside) → IsNoted e old new → arrivals (e ∷ history old) ≡ arrivals (history old) → Agrees (history new) new
 agrees_then e old new noted same =
     subst (λ h. Agrees h new) (sym (longer e old new noted))
-    (record { runs = noted.runs; state = noted.state; tables = noted.tables; owed = noted.owed same; filed = noted.filed; room = noted.room })
+    (record { runs = noted.runs; state = noted.state; tables = noted.tables; owed = noted.owed same; filed = noted.filed })
 
 -- the journal has the room that it needs
 space_then : (k l l' many many' s s' room room' : ℕ) → l' ≡ l + 1 → many' ≡ many → s' + 1 ≤ s + k → room' ≡ room → l + (many + s) + k ≤ room
@@ -46,9 +47,8 @@ pub kept_then : (k : ℕ) (e : Entry) (old new : Inside) → IsNoted e old new �
 kept_then k e old new noted same less space =
     record {
       agrees = agrees_then e old new noted same;
-      space = space_then k (length old.entries.items) (length new.entries.items) (length old.desk.owing.items + length old.desk.outbox.items)
-          (length new.desk.owing.items + length new.desk.outbox.items)
-          (stay old.tables) (stay new.tables) (old.entries.capacity) (new.entries.capacity) noted.len noted.as_many less noted.capacity space;
+      space = space_then k (length old.entries.items) (length new.entries.items) old.desk.due new.desk.due
+          (stay old.tables) (stay new.tables) (old.entries.capacity) (new.entries.capacity) noted.len noted.due less noted.capacity space;
     }
 
 pub at_most : (a b k : ℕ) → a ≡ b → 1 ≤ k → a + 1 ≤ b + k
@@ -118,18 +118,18 @@ asked_then old mid k agrees life_is follows turn begun_is called served =
     })
 
 -- a worker's entry collects nothing
-pub left_still : (e : Entry) (i : Inside) → is_turn e ≡ true → AreFiled i.config i.run (opened_in i) (history i) i.desk.outbox.items
-    → AreLeft i.config i.run (opened_in i) (history i) e i.desk.outbox.items
-left_still (Admit w r v) i is filed = record { which = filed.which; each = filed.each }
-left_still (Tried w a) i is filed = record { which = filed.which; each = filed.each }
-left_still (Incarnated w a) i is filed = record { which = filed.which; each = filed.each }
-left_still (Run w) i is filed = record { which = filed.which; each = filed.each }
-left_still (Done w) i is filed = record { which = filed.which; each = filed.each }
-left_still (TakeOut w n x) i is filed = record { which = filed.which; each = filed.each }
-left_still (Etherealized w x y) i is filed = record { which = filed.which; each = filed.each }
-left_still (Entered conn) i is filed = absurd (let e : false ≡ true = is in cc)
-left_still (Arrive conn size call) i is filed = absurd (let e : false ≡ true = is in cc)
-left_still (Filled conn size) i is filed = absurd (let e : false ≡ true = is in cc)
-left_still (Left conn) i is filed = absurd (let e : false ≡ true = is in cc)
-left_still (Collect conn a) i is filed = absurd (let e : false ≡ true = is in cc)
-left_still (Abandon w) i is filed = absurd (let e : false ≡ true = is in cc)
+pub left_still : (e : Entry) (i : Inside) → is_turn e ≡ true → (fs : List Filed) → AreFiled i.config i.run (opened_in i) (history i) fs
+    → AreLeft i.config i.run (opened_in i) (history i) e fs
+left_still (Admit w r v) i is fs filed = record { which = filed.which; each = filed.each }
+left_still (Tried w a) i is fs filed = record { which = filed.which; each = filed.each }
+left_still (Incarnated w a) i is fs filed = record { which = filed.which; each = filed.each }
+left_still (Run w) i is fs filed = record { which = filed.which; each = filed.each }
+left_still (Done w) i is fs filed = record { which = filed.which; each = filed.each }
+left_still (TakeOut w n x) i is fs filed = record { which = filed.which; each = filed.each }
+left_still (Etherealized w x y) i is fs filed = record { which = filed.which; each = filed.each }
+left_still (Entered conn) i is fs filed = absurd (let e : false ≡ true = is in cc)
+left_still (Arrive conn size call) i is fs filed = absurd (let e : false ≡ true = is in cc)
+left_still (Filled conn size) i is fs filed = absurd (let e : false ≡ true = is in cc)
+left_still (Left conn) i is fs filed = absurd (let e : false ≡ true = is in cc)
+left_still (Collect conn a) i is fs filed = absurd (let e : false ≡ true = is in cc)
+left_still (Abandon w) i is fs filed = absurd (let e : false ≡ true = is in cc)

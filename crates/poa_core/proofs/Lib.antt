@@ -8,6 +8,7 @@ pub mod Connected
 pub mod Abandoned
 pub mod Ready
 pub mod Keeping
+pub mod Filed
 pub mod GivenOut
 pub mod NextTurn
 pub mod Filling

@@ -4,11 +4,11 @@ use Rattle.poa_base.specs.declared.Entry.{Entry}
 use Rattle.history_openings.specs.Runs.{IsRun}
 use Rattle.poa_core.specs.declared.inside.Inside.{Inside}
 use Rattle.call_tables.specs.declared.desk.Desk.{Desk}
-use Rattle.call_tables.specs.Desk.{HasRoom}
+use Rattle.call_tables.specs.declared.filed.Filed.{Filed}
+use Rattle.call_tables.specs.Desk.{Files}
 use Rattle.call_tables.specs.Owed.{AreOwed}
-use Rattle.call_tables.specs.Decided.{AreFiled}
 use Rattle.poa_core.specs.declared.tables.Tables.{Tables}
-use Rattle.poa_core.specs.Agrees.{Agrees, KnowsTables, history, opened_in}
+use Rattle.poa_core.specs.Agrees.{Agrees, KnowsTables, history}
 use Rattle.poa_core.specs.Noting.{HasRoomForEntry}
 use Rattle.journal_entries.specs.Rows.{HasRoomFor}
 use Rattle.poa_core.specs.Turning.{is_ending}
@@ -16,16 +16,15 @@ use Rattle.poa_core.specs.Kept.{IsKept, HasSpace, needed, stay, to_come}
 use Rattle.poa_core.proofs.Connected.{some_room}
 use Rattle.poa_core.proofs.Endings.{by_ending}
 use Rattle.poa_core.proofs.Space.{stay_is, stay_ending}
+use Rattle.poa_core.proofs.Filed.{due_same, filed_in}
 
 -- one that only ends what was begun has had its room since then
 pub ending_room : (e : Entry) (i : Inside) → IsKept i → IsRun i.config i.run i.limit (e ∷ history i) → is_ending e ≡ true → HasRoomForEntry e i
 ending_room e i kept follows ends =
     by_ending (λ x. length i.entries.items < i.entries.capacity → HasRoomForEntry x i)
-    (λ w some. record
-    { entries = record { row = some; whole = λ is. absurd (let x : true ≡ false = is in cc) }; calls = none_ _; queue = none_ _; held = none_ _; tally = tt; desk = kept.agrees.room })
-    (λ w x y some. record
-    { entries = record { row = some; whole = λ is. absurd (let x : true ≡ false = is in cc) }; calls = none_ _; queue = none_ _; held = none_ _; tally = tt; desk = kept.agrees.room }) e ends
-    (some_room (length i.entries.items) (length i.desk.owing.items + length i.desk.outbox.items) (stay i.tables) (i.entries.capacity)
+    (λ w some. record { entries = of_row (Done w) some refl; calls = none_ _; queue = none_ _; held = none_ _; tally = tt })
+    (λ w x y some. record { entries = of_row (Etherealized w x y) some refl; calls = none_ _; queue = none_ _; held = none_ _; tally = tt }) e ends
+    (some_room (length i.entries.items) i.desk.due (stay i.tables) (i.entries.capacity)
     (stay_ending i.config i.run i.limit (history i) e i.tables follows.legal.0 ends kept.agrees.tables) kept.space)
   where
     none_ : (A : Type 0) → false ≡ true → A
@@ -37,27 +36,32 @@ ending_space e i ends = subst (λ b. HasSpace (if b then 0 else 2) i) (sym ends)
 pub ready_space : (e : Entry) (i : Inside) → is_ending e ≡ false → HasSpace 2 i → HasSpace (needed e) i
 ready_space e i begins = subst (λ b. HasSpace (if b then 0 else 2) i) (sym begins)
 
--- what is kept stays so where tables and desk have more room, and the journal as much at least
-pub kept_again : (i : Inside) (t : Tables) (d : Desk) → IsKept i → ((h : List Entry) → KnowsTables i.config i.run h i.tables → KnowsTables i.config i.run h t)
-    → d.owing.items ≡ i.desk.owing.items → d.outbox.items ≡ i.desk.outbox.items → HasRoom d → IsKept (record i { tables = t; desk = d })
-kept_again i t d kept same owing outbox room =
+-- what is kept stays so where the tables have more room
+pub tables_kept : (i : Inside) (t : Tables) → IsKept i → ((h : List Entry) → KnowsTables i.config i.run h i.tables → KnowsTables i.config i.run h t)
+    → IsKept (record i { tables = t })
+tables_kept i t kept same =
     (let a = kept.agrees in let tables = same (history i) a.tables in record {
+      agrees = record { runs = a.runs; state = a.state; tables = tables; owed = a.owed; filed = a.filed };
+      space = subst (λ n. length i.entries.items + (i.desk.due + n) + 0 ≤ i.entries.capacity)
+          (stay_is (history i) i.tables a.tables ∙ sym (stay_is (history i) t tables)) kept.space;
+    })
+
+-- and where the desk has more room, or less
+pub desk_kept : (i : Inside) (d : Desk) → IsKept i → d.owing.items ≡ i.desk.owing.items → ((fs : List Filed) → Files i.desk fs → Files d fs)
+    → IsKept (record i { desk = d })
+desk_kept i d kept owing files =
+    (let a = kept.agrees in record {
       agrees = record {
         runs = a.runs;
         state = a.state;
-        tables = tables;
+        tables = a.tables;
         owed = subst (AreOwed i.config i.run (history i)) (sym owing) a.owed;
-        filed = subst (AreFiled i.config i.run (opened_in i) (history i)) (sym outbox) a.filed;
-        room = room;
+        filed = filed_in i.desk d files a.filed;
       };
-      space = again (length i.entries.items) (length i.desk.owing.items) (length i.desk.outbox.items) (stay i.tables) (length d.owing.items)
-          (length d.outbox.items) (stay t) (i.entries.capacity)
-          (ap length owing) (ap length outbox) (stay_is (history i) t tables ∙ sym (stay_is (history i) i.tables a.tables)) kept.space;
+      space = subst (λ n. length i.entries.items + (n + stay i.tables) + 0 ≤ i.entries.capacity) (sym (due_same i.desk d a.filed owing files)) kept.space;
     })
-  where
-    again : (l a b s a' b' s' room : ℕ) → a' ≡ a → b' ≡ b → s' ≡ s → l + (a + b + s) + 0 ≤ room → l + (a' + b' + s') + 0 ≤ room
-    again l a b s a' b' s' room x y z fits = omega (arith, x, y, z, fits)
 
+-- and where the journal has as much room at least
 pub entries_kept : (i new : Inside) → IsKept i → Agrees (history i) new → new.entries.items ≡ i.entries.items → i.entries.capacity ≤ new.entries.capacity
     → to_come new ≡ to_come i → IsKept new
 entries_kept i new kept agrees items more same =

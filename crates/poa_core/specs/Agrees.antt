@@ -12,7 +12,7 @@ use Rattle.arrival_tables.specs.Begun.{KnowsWorkers}
 use Rattle.run_tally.specs.Tallies.{IsTally}
 use Rattle.call_tables.specs.Owed.{AreOwed}
 use Rattle.call_tables.specs.Decided.{AreFiled}
-use Rattle.call_tables.specs.Desk.{HasRoom}
+use Rattle.call_tables.specs.Desk.{HasFiled}
 use Rattle.adapter_state.specs.State.{IsState}
 use Rattle.poa_core.specs.declared.tables.Tables.{Tables}
 use Rattle.poa_core.specs.declared.inside.Inside.{Inside}
@@ -32,8 +32,7 @@ pub record Agrees (h : List Entry) (i : Inside) : Type 0 where
   pub state : IsState i.config i.run (opened_in i) h i.state
   pub tables : KnowsTables i.config i.run h i.tables
   pub owed : AreOwed i.config i.run h i.desk.owing.items
-  pub filed : AreFiled i.config i.run (opened_in i) h i.desk.outbox.items
-  pub room : HasRoom i.desk
+  pub filed : HasFiled (AreFiled i.config i.run (opened_in i) h) i.desk
 
 -- the journal, the newest entry first
 abbrev pub history : Inside → List Entry

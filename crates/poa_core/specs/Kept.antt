@@ -7,7 +7,7 @@ use Rattle.poa_history.specs.Searches.{count_below}
 use Rattle.history_openings.specs.Runs.{IsRun}
 use Rattle.run_tally.specs.declared.Tally.{Tally}
 use Rattle.run_tally.specs.Tallies.{flag_of, HasRoomForOne as HasRoomForConnection}
-use Rattle.call_tables.specs.Desk.{AreLeft, HasRoomForOne}
+use Rattle.call_tables.specs.Desk.{AreLeft, HasFiled}
 use Rattle.arrival_tables.specs.declared.workers.Workers.{Workers}
 use Rattle.arrival_tables.specs.Begun.{only_ends}
 use Rattle.arrival_tables.specs.Queued.{HasPlace}
@@ -40,7 +40,7 @@ stay t = by_connections t.tally + by_workers t.workers
 -- how many entries may still come that take no memory: a Collect of each reply, a Left of each connection, one Filled,
 -- a Done or an Etherealized of each worker that has only that to do, an Abandon of each worker
 abbrev pub to_come : Inside → ℕ
-to_come i = length i.desk.owing.items + length i.desk.outbox.items + stay i.tables
+to_come i = i.desk.due + stay i.tables
 
 -- the journal has room for them, and for so many more
 abbrev pub HasSpace : ℕ → Inside → Type 0
@@ -54,7 +54,7 @@ pub record IsKept (i : Inside) : Type 0 where
 abbrev pub needed : Entry → ℕ
 needed e = if is_ending e then 0 else 2
 
--- there is room for one entry more, whatever it is
+-- there is room for one entry more, whatever it is; for a call's reply the desk has room
 pub record IsReady (i : Inside) : Type 0 where
   pub agrees : Agrees (history i) i
   pub space : HasSpace 2 i
@@ -63,7 +63,6 @@ pub record IsReady (i : Inside) : Type 0 where
   pub queue : HasPlace i.tables.queue
   pub held : HasRoomForCall i.tables.held.ready.heap
   pub tally : HasRoomForConnection i.tables.tally
-  pub desk : HasRoomForOne i.desk
 
 -- the run as it is seen
 abbrev pub life : Inside → Life
@@ -85,4 +84,4 @@ pub record IsQuiet (h : List Entry) (e : Entry) (i : Inside) : Type 0 where
   pub state : IsState i.config i.run (opened_in i) h i.state
   pub tables : KnowsTables i.config i.run h i.tables
   pub owed : AreOwed i.config i.run h i.desk.owing.items
-  pub left : AreLeft i.config i.run (opened_in i) h e i.desk.outbox.items
+  pub left : HasFiled (AreLeft i.config i.run (opened_in i) h e) i.desk

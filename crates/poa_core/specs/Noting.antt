@@ -1,5 +1,5 @@
 -- How the core notes an entry behind its journal.
-use Rattle.std.specs.Prelude.{◌≡◌, ◌+◌, ◌<◌, true, List, ◌∷◌, length, vec_len, vec_capacity}
+use Rattle.std.specs.Prelude.{◌≡◌, ℕ, ◌+◌, ◌<◌, true, List, ◌∷◌, length, vec_len, vec_capacity}
 use Rattle.poa_base.specs.declared.Entry.{Entry}
 use Rattle.poa_history.specs.declared.stage.Stage.{Stage}
 use Rattle.history_openings.specs.Runs.{IsRun}
@@ -7,7 +7,7 @@ use Rattle.standing_of.specs.Entries.{stage_at}
 use Rattle.call_tables.specs.Owed.{AreOwed}
 use Rattle.poa_history.specs.Arrivals.{arrivals}
 use Rattle.call_tables.specs.Decided.{AreFiled}
-use Rattle.call_tables.specs.Desk.{AreLeft, AreOwedBefore, HasRoom, HasRoomForOne}
+use Rattle.call_tables.specs.Desk.{AreLeft, AreOwedBefore, HasFiled, HasRoomForOne}
 use Rattle.arrival_tables.specs.Placed.{arrives}
 use Rattle.arrival_tables.specs.Queued.{HasPlace}
 use Rattle.held_queue.specs.Numbers.{HasRoom as HasRoomForCall}
@@ -29,7 +29,6 @@ pub record HasRoomForEntry (e : Entry) (i : Inside) : Type 0 where
   pub queue : may_queue e ≡ true → HasPlace i.tables.queue
   pub held : may_queue e ≡ true → HasRoomForCall i.tables.held.ready.heap
   pub tally : HasRoomForTally e i.tables.tally
-  pub desk : HasRoom i.desk
 
 -- what stands is that after the entry; all else that of the history before it
 pub record IsHalfway (h : List Entry) (e : Entry) (begun : Stage) (b : Brought) (i : Inside) : Type 0 where
@@ -39,7 +38,7 @@ pub record IsHalfway (h : List Entry) (e : Entry) (begun : Stage) (b : Brought) 
   pub brought : IsBrought i.config i.run (opened_in i) h e b
   pub tables : KnowsTables i.config i.run h i.tables
   pub owed : AreOwed i.config i.run h i.desk.owing.items
-  pub left : AreLeft i.config i.run (opened_in i) h e i.desk.outbox.items
+  pub left : HasFiled (AreLeft i.config i.run (opened_in i) h e) i.desk
 
 -- the entry was noted, and what is kept says what the history says then, but for a call that arrives with it
 pub record IsNoted (e : Entry) (old new : Inside) : Type 0 where
@@ -48,10 +47,9 @@ pub record IsNoted (e : Entry) (old new : Inside) : Type 0 where
   pub tables : KnowsTables new.config new.run (e ∷ history old) new.tables
   pub before : AreOwedBefore new.config new.run (history old) e new.desk.owing.items
   pub owed : arrivals (e ∷ history old) ≡ arrivals (history old) → AreOwed new.config new.run (e ∷ history old) new.desk.owing.items
-  pub filed : AreFiled new.config new.run (opened_in new) (e ∷ history old) new.desk.outbox.items
-  pub as_many : length new.desk.owing.items + length new.desk.outbox.items ≡ length old.desk.owing.items + length old.desk.outbox.items
-  pub room : HasRoom new.desk
-  pub spare : HasRoomForOne old.desk → HasRoomForOne new.desk
+  pub filed : HasFiled (AreFiled new.config new.run (opened_in new) (e ∷ history old)) new.desk
+  pub due : new.desk.due ≡ old.desk.due
+  pub spare : (conn : ℕ) → HasRoomForOne conn old.desk → HasRoomForOne conn new.desk
   pub life_is : life new ≡ with_entry e (life old)
   pub len : length new.entries.items ≡ length old.entries.items + 1
   pub capacity : new.entries.capacity ≡ old.entries.capacity

@@ -1,6 +1,5 @@
 //! The core of the adapter.
 ghost use Rattle.std.specs.Prelude.{◌≡◌, ℕ, ◌≤◌, ◌<◌, List, option_map, reverse, IfOk};
-ghost use Rattle.call_tables.specs.Decided.{AreFiled};
 ghost use Rattle.run_tally.specs.Phases.{phase_of};
 ghost use Rattle.poa_base.specs.Store.{stored as stored_in};
 ghost use Rattle.conf_rules.specs.Rules.{KeepsRules};
@@ -24,7 +23,7 @@ use crate::inside::Inside;
 use crate::step_out::StepOut;
 use crate::{abandoning, arriving, beginning, collecting, connecting, stepping};
 use arrival_tables::queue;
-use call_tables::Filed;
+use call_tables::Fresh;
 use history_openings::laws::{lifetimes_are_kept, runs_last};
 use journal_entries::Entries;
 use poa_base::{Call, Config, Entry, Path, Store, WantMemory};
@@ -33,7 +32,6 @@ use run_history::Givens;
 use run_tally::{Full, Phase};
 use seat_lock::Chronicle;
 use std::alloc::Global;
-use std::collections::VecDeque;
 use std::marker::Model;
 
 /// The adapter: what a run was given, its journal, and what stands after it. Contracts see the givens and the
@@ -160,11 +158,9 @@ impl Core {
         run_tally::filled(&self.inside.tables.tally)
     }
 
-    /// The decided replies that aren't collected, in the order in which they are given.
-    pub fn decided(&self) -> &VecDeque<Filed>
-        ensures { AreFiled self.now.config self.now.run (opened self.now) self.now.history result.now.items }
-    {
-        &self.inside.desk.outbox
+    /// To whom the last entry gave replies: whom to wake.
+    pub fn fresh(&self) -> Fresh {
+        self.inside.desk.outboxes.fresh
     }
 
     /// For proofs: the history is that of a run of an accepted configuration, and legal.

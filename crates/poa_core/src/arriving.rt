@@ -2,6 +2,7 @@
 ghost use Rattle.std.specs.Prelude.{◌≡◌, Option, Some, None, true, false};
 ghost use Rattle.poa_history.specs.Legal.{IsOpen, IsSize};
 ghost use Rattle.run_tally.specs.Limits as limits;
+ghost use Rattle.call_tables.specs.Desk.{HasRoomForOne};
 ghost use Rattle.poa_core.specs.Agrees.{history};
 ghost use Rattle.poa_core.specs.Answers as answers;
 ghost use Rattle.poa_core.specs.Arriving as arriving;
@@ -12,7 +13,7 @@ ghost use Rattle.poa_base.specs.declared.Entry.TheVariants.{Arrive};
 use crate::arrive_fault::ArriveFault;
 use crate::inside::Inside;
 use crate::quieting::quiet;
-use crate::room::make_room;
+use crate::room::make_room_for_call;
 use call_replies::{asks, head_of, number_of};
 use call_tables::Owing;
 use poa_base::{Call, Entry};
@@ -58,6 +59,7 @@ fn refuse(inside: &mut Inside, conn: u32, size: u64) -> ArriveFault
 /// A call that is taken, and for which there is room, arrives.
 fn place(inside: &mut Inside, conn: u32, call: Call, size: u64)
     requires ready { IsReady inside.old }
+    requires desk { HasRoomForOne conn inside.old.desk }
     requires conn { IsOpen (history inside.old) conn }
     requires size { IsSize size }
     requires taken { limits.is_taken inside.old.limit (history inside.old) size call ≡ true }
@@ -83,7 +85,7 @@ pub fn arrive(inside: &mut Inside, conn: u32, call: Call, size: u64) -> Result<u
     if !run_tally::is_taken(inside.limit, &call, size, &inside.tables.tally) {
         return Err(refuse(inside, conn, size));
     }
-    if make_room(inside).is_err() {
+    if make_room_for_call(inside, conn).is_err() {
         return Err(ArriveFault::WantMemory);
     }
     let arrival = inside.tables.tally.arrivals;

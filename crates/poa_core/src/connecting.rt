@@ -60,4 +60,5 @@ pub fn leave(inside: &mut Inside, conn: u32)
     ensures left { life inside.new ≡ with_entry (Left conn) (life inside.old) }
 {
     quiet(inside, Entry::Left { conn });
+    inside.desk.leave(conn);
 }

@@ -2,6 +2,7 @@
 ghost use Rattle.std.specs.Prelude.{◌≡◌, ◌+◌, ◌≤◌, ◌∷◌, None, true, ◌⊎◌, IsOk, OnOk};
 ghost use Rattle.std.specs.Option.{IsSomeAnd};
 ghost use Rattle.history_openings.specs.Runs.{IsRun};
+ghost use Rattle.call_tables.specs.Desk.{HasRoomForOne};
 ghost use Rattle.poa_core.specs.Agrees.{history};
 ghost use Rattle.poa_core.specs.Kept.{HasSpace, IsKept, IsReady, life, needed, to_come};
 ghost use Rattle.poa_core.specs.Noting.{HasRoomForEntry};
@@ -23,9 +24,7 @@ fn most(inside: &Inside) -> Option<usize>
     let staying = usize::try_from(inside.tables.tally.staying).ok()?;
     inside
         .desk
-        .owing
-        .len()
-        .checked_add(inside.desk.outbox.len())?
+        .due
         .checked_add(staying)?
         .checked_add(WORKERS)?
         .checked_add(4)
@@ -36,12 +35,24 @@ pub fn make_room(inside: &mut Inside) -> Result<(), WantMemory>
     requires { IsKept inside.old }
     ensures ready { OnOk result (IsReady inside.new) }
     ensures kept { IsKept inside.new }
+    ensures desk { inside.new.desk ≡ inside.old.desk }
     ensures life { life inside.new ≡ life inside.old }
 {
     tables::reserve(&mut inside.tables)?;
-    inside.desk.reserve()?;
     let most = most(inside).ok_or(WantMemory)?;
     inside.entries.reserve(most)
+}
+
+/// Makes room for a call of a connection, and for its reply; all else is as it was.
+pub fn make_room_for_call(inside: &mut Inside, conn: u32) -> Result<(), WantMemory>
+    requires { IsKept inside.old }
+    ensures ready { OnOk result (IsReady inside.new) }
+    ensures desk { OnOk result (HasRoomForOne conn inside.new.desk) }
+    ensures kept { IsKept inside.new }
+    ensures life { life inside.new ≡ life inside.old }
+{
+    inside.desk.reserve(conn)?;
+    make_room(inside)
 }
 
 /// Whether an entry only ends what was begun.

@@ -10,7 +10,7 @@ pub returns-in-Some-clause-kept : goal.returns-in-Some-clause-kept
 returns-in-Some-clause-kept c =
     (let is = sym c.row_of-row.ensures ∙ c.in-Some.is in
     kept_asked c.args.conn c.args.size c.args.call c.args.inside.now c.quiet.new.inside c.requires.ready c.quiet.ensures c.in-Some.row c.owe.new.self is
-    (has_row c.args.inside.now.tables.tally.arrivals c.args.conn c.args.call c.in-Some.row is) c.owe.ensures.owing c.owe.ensures.outbox c.owe.ensures.room)
+    (has_row c.args.inside.now.tables.tally.arrivals c.args.conn c.args.call c.in-Some.row is) c.owe.ensures.owing c.owe.ensures.files c.owe.ensures.due)
 
 pub returns-in_default-clause-kept : goal.returns-in_default-clause-kept
 returns-in_default-clause-kept c =

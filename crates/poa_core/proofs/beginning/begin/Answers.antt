@@ -11,8 +11,7 @@ returns-clause-kept c =
       state = c.in_ok-state.ensures;
       tables = c.in_ok-tables.ensures c.args.config c.args.run;
       owing = c.new-2.ensures.owing;
-      outbox = c.new-2.ensures.outbox;
-      room = c.new-2.ensures.room;
+      files = c.new-2.ensures.files;
       entries = c.reserve.ensures.items ∙ c.in_ok-entries.ensures;
       len = ap length (c.reserve.ensures.items ∙ c.in_ok-entries.ensures);
       space = (let fits = c.in_ok-reserve.ensures.room in omega (arith, fits));

@@ -4,8 +4,9 @@ use Rattle.poa_core.specs.Agrees.{history}
 use Rattle.poa_core.proofs.Noted.{desk_comes, life_longer}
 use Rattle.poa_core.proofs.noting.note.Goals as goal
 
-pub advance-requires-clause-comes : goal.advance-requires-clause-comes
-advance-requires-clause-comes c = desk_comes (history c.args.inside.now) c.args.entry c.args.stage c.args.brought c.args.inside.now c.requires.halfway
+pub advance-requires : goal.advance-requires
+advance-requires c =
+    record { comes = desk_comes (history c.args.inside.now) c.args.entry c.args.stage c.args.brought c.args.inside.now c.requires.halfway }
 
 pub returns : goal.returns
 returns c =
@@ -20,8 +21,7 @@ returns c =
       before = c.advance.ensures.before comes;
       owed = c.advance.ensures.owed comes;
       filed = c.advance.ensures.filed comes half.left;
-      as_many = c.advance.ensures.as_many;
-      room = c.advance.ensures.room;
+      due = c.advance.ensures.due;
       spare = c.advance.ensures.spare;
       life_is = life_longer old.config old.run old.limit old.opening c.args.entry old.entries.items c.push.new.self.items c.push.ensures.items;
       len = ap length c.push.ensures.items ∙ length-append old.entries.items (c.args.entry ∷ []);

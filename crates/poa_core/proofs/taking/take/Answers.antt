@@ -3,6 +3,7 @@ use Rattle.arrival_tables.specs.Begun.{only_ends}
 use Rattle.poa_core.specs.Agrees.{history, opened_in}
 use Rattle.poa_core.proofs.Endings.{ending_stage}
 use Rattle.poa_core.proofs.Keeping.{asked_then, runs_still, begun_still, left_still, turn_kept}
+use Rattle.poa_core.proofs.Filed.{filed_as}
 use Rattle.poa_core.proofs.taking.take.Goals as goal
 
 pub bring-requires : goal.bring-requires
@@ -19,7 +20,7 @@ bring-requires c =
 pub note-requires-clause-room : goal.note-requires-clause-room
 note-requires-clause-room c =
     (let room = c.in_ok-make_room_for.ensures.room in
-    record { entries = room.entries; calls = room.calls; queue = room.queue; held = room.held; tally = room.tally; desk = room.desk })
+    record { entries = room.entries; calls = room.calls; queue = room.queue; held = room.held; tally = room.tally })
 
 pub note-requires-clause-halfway : goal.note-requires-clause-halfway
 note-requires-clause-halfway c =
@@ -38,7 +39,7 @@ note-requires-clause-halfway c =
           c.in_ok-runs.ensures.servant);
       tables = agrees.tables;
       owed = agrees.owed;
-      left = left_still entry mid c.requires.turn agrees.filed;
+      left = filed_as mid.desk (left_still entry mid c.requires.turn) agrees.filed;
     }
 
 pub returns-clause-kept : goal.returns-clause-kept
