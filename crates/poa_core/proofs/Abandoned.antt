@@ -1,33 +1,21 @@
 -- A worker gives the run up.
-use Rattle.std.proofs.Common.{◌≡◌, ℕ, ◌+◌, ◌<◌, Bool, true, false, if◌then◌else◌, refl, sym, ap, length, vec_len, vec_capacity}
+use Rattle.std.proofs.Common.{◌≡◌, ℕ, ◌<◌, false, refl, length}
 use Rattle.poa_base.specs.declared.Entry.TheVariants.{Abandon}
 use Rattle.poa_history.specs.Stages.{is_abandoned}
 use Rattle.poa_core.specs.declared.inside.Inside.{Inside}
 use Rattle.poa_core.specs.Agrees.{history}
-use Rattle.poa_core.specs.Answers.{Abandons}
-use Rattle.run_history.specs.Life.{Life, with_entry}
 use Rattle.poa_core.specs.Noting.{HasRoomForEntry, IsNoted}
-use Rattle.poa_core.specs.Kept.{IsKept, IsQuiet, stay}
-use Rattle.poa_core.proofs.Connected.{some_room, less_one}
+use Rattle.poa_core.specs.Kept.{IsKept, stay}
+use Rattle.poa_core.proofs.Connected.{brief_room, some_room, less_one}
 use Rattle.poa_core.proofs.Space.{stay_abandoned, stay_going}
 use Rattle.poa_core.proofs.Keeping.{kept_then}
 
 module _ (w : ℕ) (i : Inside) (kept : IsKept i) (low : w < 16) (going : is_abandoned (history i) w ≡ false) where
   pub abandoned_room : HasRoomForEntry (Abandon w) i
   abandoned_room =
-      record {
-        entries =
-            record {
-              row =
-                  some_room (length i.entries.items) i.desk.due (stay i.tables) (i.entries.capacity)
-                  (stay_going (history i) w i.tables low going kept.agrees.tables) kept.space;
-              whole = λ is. absurd (let e : true ≡ false = is in cc);
-            };
-        calls = λ is. absurd (let e : false ≡ true = is in cc);
-        queue = λ is. absurd (let e : false ≡ true = is in cc);
-        held = λ is. absurd (let e : false ≡ true = is in cc);
-        tally = tt;
-      }
+      brief_room (Abandon w) i refl refl refl tt
+      (some_room (length i.entries.items) i.desk.due (stay i.tables) (i.entries.capacity)
+      (stay_going (history i) w i.tables low going kept.agrees.tables) kept.space)
 
   pub abandoned_kept : (new : Inside) → IsNoted (Abandon w) i new → IsKept new
   abandoned_kept new noted =

@@ -1,5 +1,5 @@
 -- A run that hasn't begun is kept.
-use Rattle.std.proofs.Common.{◌≡◌, ℕ, ◌+◌, ◌^◌, ◌<◌, ◌≤◌, [], length, reverse, refl, sym, ap, subst, ◌∙◌, vec_len, vec_capacity, arith}
+use Rattle.std.proofs.Common.{◌≡◌, ℕ, ◌+◌, ◌^◌, ◌<◌, ◌≤◌, [], length, reverse, refl, sym, ap, subst, ◌∙◌, arith}
 use Rattle.conf_rules.specs.Rules.{KeepsRules}
 use Rattle.call_tables.specs.Owed.{AreOwed}
 use Rattle.call_tables.specs.Desk.{Files}

@@ -1,9 +1,14 @@
 -- A connection enters, or leaves.
-use Rattle.std.proofs.Common.{◌≡◌, ℕ, ◌+◌, ◌<◌, ◌≤◌, true, false, refl, length, vec_len, vec_capacity, arith}
+use Rattle.std.proofs.Common.{◌≡◌, ℕ, ◌+◌, ◌<◌, ◌≤◌, true, false, refl, sym, ◌∙◌, length, arith}
 use Rattle.std.specs.Prelude.{Result, Ok, Err, OnOk, is_err}
+use Rattle.poa_base.specs.declared.Entry.{Entry}
 use Rattle.poa_base.specs.declared.Entry.TheVariants.{Entered, Left}
 use Rattle.poa_history.specs.Arrivals.{connections}
 use Rattle.poa_history.specs.Legal.{IsOpen}
+use Rattle.arrival_tables.specs.Placed.{arrives}
+use Rattle.held_queue.specs.Waiting.{may_queue}
+use Rattle.run_tally.specs.Tallies.{HasRoomFor as HasRoomForTally}
+use Rattle.journal_entries.specs.Rows.{is_brief}
 use Rattle.poa_core.specs.declared.inside.Inside.{Inside}
 use Rattle.poa_core.specs.Agrees.{history}
 use Rattle.poa_core.specs.Noting.{HasRoomForEntry, IsNoted}
@@ -49,21 +54,23 @@ left_quiet conn i kept open_ =
 pub some_room : (l many s room : ℕ) → 1 ≤ s → l + (many + s) + 0 ≤ room → l < room
 some_room l many s room some fits = omega (arith, some, fits)
 
+-- an entry that fits into a row, and of which calls and queues keep nothing, needs no other room
+pub brief_room : (e : Entry) (i : Inside) → is_brief e ≡ true → arrives e ≡ false → may_queue e ≡ false → HasRoomForTally e i.tables.tally
+    → length i.entries.items < i.entries.capacity → HasRoomForEntry e i
+brief_room e i brief apart unqueued tally some =
+    record {
+      entries = record { row = some; whole = λ is. absurd (let x : true ≡ false = sym brief ∙ is in cc) };
+      calls = λ is. absurd (let x : false ≡ true = sym apart ∙ is in cc);
+      queue = λ is. absurd (let x : false ≡ true = sym unqueued ∙ is in cc);
+      held = λ is. absurd (let x : false ≡ true = sym unqueued ∙ is in cc);
+      tally = tally;
+    }
+
 pub left_room : (conn : ℕ) (i : Inside) → IsKept i → IsOpen (history i) conn → HasRoomForEntry (Left conn) i
 left_room conn i kept open_ =
-    record {
-      entries =
-          record {
-            row =
-                some_room (length i.entries.items) i.desk.due (stay i.tables) (i.entries.capacity)
-                (stay_open (history i) conn i.tables open_ kept.agrees.tables) kept.space;
-            whole = λ is. absurd (let e : true ≡ false = is in cc);
-          };
-      calls = λ is. absurd (let e : false ≡ true = is in cc);
-      queue = λ is. absurd (let e : false ≡ true = is in cc);
-      held = λ is. absurd (let e : false ≡ true = is in cc);
-      tally = tt;
-    }
+    brief_room (Left conn) i refl refl refl tt
+    (some_room (length i.entries.items) i.desk.due (stay i.tables) (i.entries.capacity)
+    (stay_open (history i) conn i.tables open_ kept.agrees.tables) kept.space)
 
 pub less_one : (s s' : ℕ) → s' + 1 ≡ s → s' + 1 ≤ s + 0
 less_one s s' is = omega (arith, is)

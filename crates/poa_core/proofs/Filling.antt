@@ -1,5 +1,5 @@
 -- A call isn't taken, and fills the run.
-use Rattle.std.proofs.Common.{◌≡◌, ℕ, ◌+◌, ◌^◌, ◌<◌, ◌≤◌, Bool, true, false, not, ◌&&◌, nat_lt, nat_le, List, Some, None, option_map, is_none, ◌⊎◌, inl, inr, if◌then◌else◌, refl, sym, ap, ap₂, ◌∙◌, length, vec_len, vec_capacity}
+use Rattle.std.proofs.Common.{◌≡◌, ℕ, ◌+◌, ◌^◌, ◌<◌, ◌≤◌, Bool, true, false, not, ◌&&◌, nat_lt, nat_le, List, Some, None, option_map, is_none, ◌⊎◌, inl, inr, if◌then◌else◌, refl, sym, ap, ap₂, ◌∙◌, length}
 use Rattle.std.proofs.lemmas.Bool.{ltb-false, leb-false}
 use Rattle.poa_base.specs.declared.Entry.{Entry}
 use Rattle.poa_base.specs.declared.Entry.TheVariants.{Filled}
@@ -17,7 +17,7 @@ use Rattle.poa_core.specs.Agrees.{history}
 use Rattle.poa_core.specs.Noting.{HasRoomForEntry, IsNoted}
 use Rattle.poa_core.specs.Kept.{IsKept, IsQuiet, stay}
 use Rattle.poa_core.proofs.Space.{stay_filled, stay_unfilled}
-use Rattle.poa_core.proofs.Connected.{some_room, less_one}
+use Rattle.poa_core.proofs.Connected.{brief_room, some_room, less_one}
 use Rattle.poa_core.proofs.Keeping.{kept_then}
 use Rattle.poa_core.proofs.Filed.{filed_as}
 
@@ -79,19 +79,9 @@ module _ (conn size : ℕ) (i : Inside) (kept : IsKept i) (unfilled : is_filled 
 
   pub filled_room : HasRoomForEntry (Filled conn size) i
   filled_room =
-      record {
-        entries =
-            record {
-              row =
-                  some_room (length i.entries.items) i.desk.due (stay i.tables) (i.entries.capacity)
-                  (stay_unfilled (history i) i.tables unfilled kept.agrees.tables) kept.space;
-              whole = λ is. absurd (let e : true ≡ false = is in cc);
-            };
-        calls = λ is. absurd (let e : false ≡ true = is in cc);
-        queue = λ is. absurd (let e : false ≡ true = is in cc);
-        held = λ is. absurd (let e : false ≡ true = is in cc);
-        tally = tt;
-      }
+      brief_room (Filled conn size) i refl refl refl tt
+      (some_room (length i.entries.items) i.desk.due (stay i.tables) (i.entries.capacity)
+      (stay_unfilled (history i) i.tables unfilled kept.agrees.tables) kept.space)
 
   pub filled_kept : (new : Inside) → IsNoted (Filled conn size) i new → IsKept new
   filled_kept new noted =

@@ -1,8 +1,7 @@
 -- A connection is given its next reply.
-use Rattle.std.proofs.Common.{◌≡◌, ℕ, ◌+◌, ◌<◌, ◌≤◌, ◌==◌, true, false, List, length, find, Option, Some, None, option_map, refl, sym, ap, subst, ◌∙◌, vec_len, vec_capacity, arith}
+use Rattle.std.proofs.Common.{◌≡◌, ℕ, ◌+◌, ◌<◌, ◌≤◌, ◌==◌, List, length, find, Option, Some, None, option_map, refl, sym, ap, subst, ◌∙◌, arith}
 use Rattle.poa_base.specs.declared.Entry.TheVariants.{Collect}
 use Rattle.poa_history.specs.Replies.{next_reply, owed}
-use Rattle.poa_tree.specs.Trees.{In}
 use Rattle.poa_tree.proofs.Finding.{find_in}
 use Rattle.call_tables.specs.declared.desk.Desk.{Desk}
 use Rattle.call_tables.specs.declared.filed.Filed.{Filed}
@@ -15,6 +14,7 @@ use Rattle.poa_core.specs.declared.inside.Inside.{Inside}
 use Rattle.poa_core.specs.Agrees.{history, opened_in}
 use Rattle.poa_core.specs.Noting.{HasRoomForEntry, IsNoted}
 use Rattle.poa_core.specs.Kept.{IsKept, HasSpace, IsQuiet, stay}
+use Rattle.poa_core.proofs.Connected.{brief_room}
 use Rattle.poa_core.proofs.Space.{stay_after}
 use Rattle.poa_core.proofs.Keeping.{kept_then, at_most}
 use Rattle.poa_core.proofs.Ready.{desk_kept}
@@ -56,7 +56,8 @@ module _ (conn : ℕ) (i : Inside) (kept : IsKept i) (result : Option Filed) (de
     found : find (λ (f : Filed). f.conn == conn) filed.replies ≡ Some f
     found = sym (given.given filed.replies filed.files) ∙ some
 
-    less_due : (due due' owing owing' many many' : ℕ) → due ≡ owing + many → due' ≡ owing' + many' → owing' ≡ owing → many' + 1 ≡ many → due' + 1 ≡ due
+    less_due : (due due' owing owing' many many' : ℕ) → due ≡ owing + many → due' ≡ owing' + many' → owing' ≡ owing → many' + 1 ≡ many
+        → due' + 1 ≡ due
     less_due due due' owing owing' many many' x y a b = omega (arith, x, y, a, b)
 
     one_less : desk.due + 1 ≡ i.desk.due
@@ -71,22 +72,13 @@ module _ (conn : ℕ) (i : Inside) (kept : IsKept i) (result : Option Filed) (de
     pub space_for_one : HasSpace 1 then_
     space_for_one = space_of (length i.entries.items) i.desk.due desk.due (stay i.tables) (i.entries.capacity) one_less kept.space
 
-    some_room : (l many s room : ℕ) → l + (many + s) + 1 ≤ room → l < room
-    some_room l many s room fits = omega (arith, fits)
+    below : (l due s room : ℕ) → l + (due + s) + 1 ≤ room → l < room
+    below l due s room fits = omega (arith, fits)
 
     pub collect_room : HasRoomForEntry (Collect conn f.arrival) then_
     collect_room =
-        record {
-          entries =
-              record {
-                row = some_room (length i.entries.items) desk.due (stay i.tables) (i.entries.capacity) space_for_one;
-                whole = λ is. absurd (let e : true ≡ false = is in cc);
-              };
-          calls = λ is. absurd (let e : false ≡ true = is in cc);
-          queue = λ is. absurd (let e : false ≡ true = is in cc);
-          held = λ is. absurd (let e : false ≡ true = is in cc);
-          tally = tt;
-        }
+        brief_room (Collect conn f.arrival) then_ refl refl refl tt
+        (below (length i.entries.items) desk.due (stay i.tables) (i.entries.capacity) space_for_one)
 
     pub next_here : next_reply i.config i.run (history i) conn ≡ Some f.arrival
     next_here =

@@ -1,6 +1,7 @@
 -- There is room for an entry of a worker.
-use Rattle.std.proofs.Common.{◌≡◌, ℕ, ◌+◌, ◌<◌, ◌≤◌, true, false, List, ◌∷◌, if◌then◌else◌, sym, subst, ap, ◌∙◌, length, reverse, vec_len, vec_capacity, arith}
+use Rattle.std.proofs.Common.{◌≡◌, ℕ, ◌+◌, ◌<◌, ◌≤◌, true, false, List, ◌∷◌, if◌then◌else◌, refl, sym, subst, ap, ◌∙◌, length, reverse, arith}
 use Rattle.poa_base.specs.declared.Entry.{Entry}
+use Rattle.poa_base.specs.declared.Entry.TheVariants.{Done, Etherealized}
 use Rattle.history_openings.specs.Runs.{IsRun}
 use Rattle.poa_core.specs.declared.inside.Inside.{Inside}
 use Rattle.call_tables.specs.declared.desk.Desk.{Desk}
@@ -13,7 +14,7 @@ use Rattle.poa_core.specs.Noting.{HasRoomForEntry}
 use Rattle.journal_entries.specs.Rows.{HasRoomFor}
 use Rattle.poa_core.specs.Turning.{is_ending}
 use Rattle.poa_core.specs.Kept.{IsKept, HasSpace, needed, stay, to_come}
-use Rattle.poa_core.proofs.Connected.{some_room}
+use Rattle.poa_core.proofs.Connected.{brief_room, some_room}
 use Rattle.poa_core.proofs.Endings.{by_ending}
 use Rattle.poa_core.proofs.Space.{stay_is, stay_ending}
 use Rattle.poa_core.proofs.Filed.{due_same, filed_in}
@@ -22,13 +23,9 @@ use Rattle.poa_core.proofs.Filed.{due_same, filed_in}
 pub ending_room : (e : Entry) (i : Inside) → IsKept i → IsRun i.config i.run i.limit (e ∷ history i) → is_ending e ≡ true → HasRoomForEntry e i
 ending_room e i kept follows ends =
     by_ending (λ x. length i.entries.items < i.entries.capacity → HasRoomForEntry x i)
-    (λ w some. record { entries = of_row (Done w) some refl; calls = none_ _; queue = none_ _; held = none_ _; tally = tt })
-    (λ w x y some. record { entries = of_row (Etherealized w x y) some refl; calls = none_ _; queue = none_ _; held = none_ _; tally = tt }) e ends
+    (λ w. brief_room (Done w) i refl refl refl tt) (λ w x y. brief_room (Etherealized w x y) i refl refl refl tt) e ends
     (some_room (length i.entries.items) i.desk.due (stay i.tables) (i.entries.capacity)
     (stay_ending i.config i.run i.limit (history i) e i.tables follows.legal.0 ends kept.agrees.tables) kept.space)
-  where
-    none_ : (A : Type 0) → false ≡ true → A
-    none_ A is = absurd (let x : false ≡ true = is in cc)
 
 pub ending_space : (e : Entry) (i : Inside) → is_ending e ≡ true → HasSpace 0 i → HasSpace (needed e) i
 ending_space e i ends = subst (λ b. HasSpace (if b then 0 else 2) i) (sym ends)

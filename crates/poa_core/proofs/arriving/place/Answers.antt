@@ -1,4 +1,4 @@
-use Rattle.std.proofs.Common.{Some, sym, ◌∙◌}
+use Rattle.std.proofs.Common.{sym, ◌∙◌}
 use Rattle.poa_core.proofs.ArrivedThen.{arrived_quiet, kept_asked, kept_unasked, has_row, has_none}
 use Rattle.poa_core.proofs.arriving.place.Goals as goal
 

@@ -1,4 +1,4 @@
-use Rattle.std.proofs.Common.{◌≤◌, arith, ap, length, sym, ◌∙◌}
+use Rattle.std.proofs.Common.{arith, ap, length, ◌∙◌}
 use Rattle.poa_core.proofs.Begun.{begun_kept}
 use Rattle.poa_core.proofs.beginning.begin.Goals as goal
 
