@@ -1,5 +1,5 @@
 -- A request that is being served stands admitted by the newest Admit of its arrival.
-use Rattle.std.proofs.Common.{◌≡◌, ℕ, ◌+◌, ◌<◌, ◌==◌, suc, zero, Bool, true, false, if◌then◌else◌, cond, List, [], ◌∷◌, ◌++◌, Option, Some, None, ◌⊎◌, inl, inr, take, length, reverse, refl, sym, ap, subst, ◌∙◌, arith, eq-eqb, eqb-true}
+use Rattle.std.proofs.Common.{◌≡◌, ℕ, ◌+◌, ◌==◌, true, false, if◌then◌else◌, List, [], ◌∷◌, ◌++◌, Option, Some, None, ◌⊎◌, inl, inr, take, reverse, refl, sym, ap, ◌∙◌, eq-eqb, eqb-true}
 use Rattle.std.proofs.lemmas.List.{reverse-append}
 use Rattle.std.specs.List.{slice_get}
 use Rattle.poa_base.specs.declared.Config.{Config}
@@ -7,7 +7,6 @@ use Rattle.poa_base.specs.declared.Entry.{Entry}
 use Rattle.poa_base.specs.declared.Entry.TheVariants.{Entered, Arrive, Filled, Left, Collect, Admit, Tried, Incarnated, Run, Done, TakeOut, Etherealized, Abandon}
 use Rattle.poa_base.specs.declared.Attempt.TheVariants.{Yes, No, Raised, Dying}
 use Rattle.poa_base.specs.declared.Verdict.{Verdict}
-use Rattle.poa_history.specs.declared.stage.Stage.{Stage}
 use Rattle.poa_history.specs.declared.stage.Stage.TheVariants.{Free}
 use Rattle.poa_history.specs.Stages.{admitted, arrival_in, is_at, stage}
 use Rattle.poa_history.proofs.StagesFrom.{arrival_before}

@@ -7,8 +7,8 @@ use Rattle.poa_base.specs.declared.Config.{Config}
 use Rattle.poa_base.specs.declared.Command.{Command}
 use Rattle.poa_base.specs.declared.Command.TheVariants.{Manager, Create, Destroy, Activate, ActivateId, Deactivate, Reference, Preset as PresetLine, Forward as ForwardLine, Unforward, Shutdown, Bad}
 use Rattle.poa_base.specs.declared.Order.{Order}
-use Rattle.poa_base.specs.declared.Reason.TheVariants.{AdapterInactive, NoTemplate, AdapterAlreadyExists, TooMany, WrongPolicy, ServantAlreadyActive, BadId, ObjectAlreadyActive, ObjectNotActive, ServantNotActive, NoForward, BadWord, AdapterNonExistent, NoServant, NoManager}
-use Rattle.poa_base.specs.declared.Answer.TheVariants.{Good, GoodId, GoodIor}
+use Rattle.poa_base.specs.declared.Reason.TheVariants.{AdapterInactive, AdapterAlreadyExists, TooMany, ServantNotActive, AdapterNonExistent, NoServant, NoManager}
+use Rattle.poa_base.specs.declared.Answer.TheVariants.{GoodIor}
 use Rattle.poa_base.specs.declared.Verdict.{Verdict}
 use Rattle.poa_base.specs.declared.Verdict.TheVariants.{Answer, Wait}
 use Rattle.poa_base.specs.declared.Entry.{Entry}

@@ -1,7 +1,7 @@
 -- A connection is given its next reply.
 use Rattle.std.proofs.Common.{◌≡◌, ℕ, ◌+◌, ◌<◌, ◌≤◌, ◌==◌, List, length, find, Option, Some, None, option_map, refl, sym, ap, subst, ◌∙◌, arith}
 use Rattle.poa_base.specs.declared.Entry.TheVariants.{Collect}
-use Rattle.poa_history.specs.Replies.{next_reply, owed}
+use Rattle.poa_history.specs.Replies.{next_reply}
 use Rattle.poa_tree.proofs.Finding.{find_in}
 use Rattle.call_tables.specs.declared.desk.Desk.{Desk}
 use Rattle.call_tables.specs.declared.filed.Filed.{Filed}

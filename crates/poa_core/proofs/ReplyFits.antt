@@ -13,21 +13,21 @@ use Rattle.poa_base.specs.declared.Reply.{Reply}
 use Rattle.poa_base.specs.declared.Reply.TheVariants as replied
 use Rattle.poa_base.specs.declared.Answer.TheVariants.{Good}
 use Rattle.poa_base.specs.declared.Entry.{Entry}
-use Rattle.poa_base.specs.declared.Entry.TheVariants.{Entered, Arrive, Filled, Left, Collect, Admit, Tried, Incarnated, Run, Done, TakeOut, Etherealized, Abandon}
+use Rattle.poa_base.specs.declared.Entry.TheVariants.{Arrive, Admit, Tried, Incarnated, Run}
 use Rattle.poa_base.specs.declared.Attempt.{Attempt}
-use Rattle.poa_base.specs.declared.Attempt.TheVariants.{Yes, No, Raised, Dying}
+use Rattle.poa_base.specs.declared.Attempt.TheVariants.{Yes, Raised, Dying}
 use Rattle.poa_base.specs.declared.Incarnation.{Incarnation}
-use Rattle.poa_base.specs.declared.Incarnation.TheVariants.{Fresh, Named, Double, Forward as ForwardTo, Raise}
+use Rattle.poa_base.specs.declared.Incarnation.TheVariants.{Double, Forward as ForwardTo, Raise}
 use Rattle.poa_base.specs.declared.Verdict.{Verdict}
 use Rattle.poa_base.specs.declared.Verdict.TheVariants.{Serve, Preset, Locator, Incarnate, Try, Refuse, Forward, Addressing, Here, Unknown, Answer, Wait}
 use Rattle.poa_choose.specs.Laws.{runs}
 use Rattle.poa_choose.specs.declared.facts.Choice.TheVariants.{Go}
 use Rattle.poa_choose.specs.Table.{first_row}
 use Rattle.poa_history.specs.declared.stage.Stage.{Stage}
-use Rattle.poa_history.specs.declared.stage.Stage.TheVariants.{Free, Trying, Incarnating, Serving, Ran, Removing}
+use Rattle.poa_history.specs.declared.stage.Stage.TheVariants.{Trying, Incarnating, Serving}
 use Rattle.poa_history.specs.Arrivals.{arrivals, call_of, is_message, is_locate}
 use Rattle.poa_history.specs.Changes.{standing}
-use Rattle.poa_history.specs.InFlight.{IsManned, Holds}
+use Rattle.poa_history.specs.InFlight.{Holds}
 use Rattle.poa_history.specs.Keys.{key_in}
 use Rattle.poa_history.specs.Legal.{IsLegal}
 use Rattle.poa_history.specs.Logs.{forward_of}
@@ -41,7 +41,7 @@ use Rattle.poa_history.proofs.IdsFew.{call_kept, arrivals_kept}
 use Rattle.poa_history.proofs.StepMoves.{chosen_go}
 use Rattle.poa_history.proofs.TurnTells.{IsAdmission, admission_is, trial_is, incarnation_is, run_is}
 use Rattle.history_openings.specs.Runs.{IsRun}
-use Rattle.poa_core.specs.Fits.{fits, FitsCall}
+use Rattle.poa_core.specs.Fits.{FitsCall}
 use Rattle.poa_core.proofs.CommandFits.{for_line, command_fits}
 use Rattle.poa_core.proofs.TableFits.{for_request, for_locate, is_for, row_fits}
 use Rattle.poa_core.proofs.Turned.{manned_before}

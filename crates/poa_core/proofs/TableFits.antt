@@ -21,7 +21,7 @@ use Rattle.poa_choose.specs.declared.facts.MapFact.{MapFact}
 use Rattle.poa_choose.specs.declared.facts.MapFact.TheVariants.{Active as ActiveAs, Busy, Free}
 use Rattle.poa_choose.specs.declared.facts.WalkFact.{WalkFact}
 use Rattle.poa_choose.specs.declared.facts.WalkFact.TheVariants.{Dying, Missing, Found}
-use Rattle.poa_choose.specs.Table.{refuse, serve, is_transient, forward_or, inactive_rule, state_rule, located_rows, locator_rows, activator_rows, manager_rows, default_rows, unmade, processing_rows, map_rows, object_rows, awaits_turn, awaits_main, thread_rows, found_rows, trial_rows, missing_rows, walk_rows, key_rows, first_row}
+use Rattle.poa_choose.specs.Table.{refuse, serve, is_transient, forward_or, state_rule, located_rows, activator_rows, manager_rows, default_rows, unmade, processing_rows, map_rows, awaits_turn, awaits_main, thread_rows, trial_rows, walk_rows, key_rows, first_row}
 
 -- verdicts on requests
 abbrev pub for_request : Verdict → Bool

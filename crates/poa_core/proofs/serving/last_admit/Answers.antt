@@ -1,4 +1,4 @@
-use Rattle.std.proofs.Common.{◌≡◌, ◌+◌, ◌-◌, Some, take, reverse, option_map, arith, sym, ap, ◌∙◌}
+use Rattle.std.proofs.Common.{◌≡◌, ◌+◌, ◌-◌, take, reverse, option_map, arith, sym, ap, ◌∙◌}
 use Rattle.journal_entries.specs.Rows.{seen}
 use Rattle.poa_core.specs.Turning.{last_verdict}
 use Rattle.poa_core.proofs.Admitted.{found, passed}

@@ -1,4 +1,4 @@
-use Rattle.std.proofs.Common.{◌≡◌, reverse, Some, IfOk, sym, ap, subst, ◌∙◌}
+use Rattle.std.proofs.Common.{◌≡◌, reverse, IfOk, sym, ap, subst, ◌∙◌}
 use Rattle.poa_history.specs.declared.stage.Stage.TheVariants.{Serving}
 use Rattle.poa_history.specs.Stages.{arrival_in, stage}
 use Rattle.poa_history.specs.States.{servant_by, servant_run}
