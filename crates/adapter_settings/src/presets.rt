@@ -5,8 +5,8 @@ ghost use Rattle.poa_history.specs.Logs as logs;
 ghost use Rattle.adapter_settings.specs.Told.{IsPresetSet, preset_in, preset_row};
 
 use crate::settings::Settings;
+use active_map::templates::{preset_at, servant_name};
 use poa_base::{Config, Name, Path, WantMemory};
-use standing_queries::templates::{preset_at, servant_name};
 use std::alloc::Global;
 use std::marker::Model;
 

@@ -7,8 +7,8 @@ ghost use Rattle.adapter_settings.specs.Told as told;
 
 use crate::managers::Managers;
 use crate::settings::Settings;
+use active_map::templates::manager_number;
 use poa_base::{Command, Config, ManagerState, Name, Order};
-use standing_queries::templates::manager_number;
 
 /// The state that an order brings.
 fn ordered_state(order: Order) -> ManagerState

@@ -7,12 +7,12 @@ ghost use Rattle.standing_of.specs.Entries.{stage_at};
 ghost use Rattle.standing_queries.specs.Answers.{AnswersAs};
 ghost use Rattle.standing_queries.specs.Seen.{seen};
 
+use active_map::flights::flight_of;
 use history_holds::Freed;
 use poa_base::Entry;
 use poa_history::Stage;
 use standing_queries::Standing;
 use standing_queries::commands::is_accepted;
-use standing_queries::flights::flight_of;
 use standing_queries::searches::activation_numbered;
 use standing_queries::workers::arrival_in;
 

@@ -9,12 +9,12 @@ ghost use Rattle.call_tables.specs.Waits as waits;
 ghost use Rattle.standing_queries.specs.Answers.{AnswersAs};
 ghost use Rattle.standing_queries.specs.Seen.{seen};
 
+use active_map::templates::manager_number;
 use poa_base::{Call, Command, Config, Entry, Name, Order, Verdict, WantMemory};
 use standing_queries::Standing;
 use standing_queries::commands::{command_in, is_accepted, number_at};
 use standing_queries::ends::is_gone;
 use standing_queries::orders::{are_ended, is_quiet};
-use standing_queries::templates::manager_number;
 
 /// What a command waits for, from its Admit on.
 #[derive(Clone, Copy, Debug, Drop)]

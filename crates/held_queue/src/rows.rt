@@ -15,10 +15,10 @@ ghost use Rattle.held_queue.specs.declared.grip.Grip.TheVariants as grips;
 use crate::grip::Grip;
 use crate::numbers::Numbers;
 use crate::row::{Row, move_least};
+use active_map::flights::is_running;
 use history_holds::{Freed, Hold};
 use poa_base::WantMemory;
 use poa_history::Flight;
-use standing_queries::flights::is_running;
 use std::alloc::Global;
 
 /// How a row is held once something was freed.

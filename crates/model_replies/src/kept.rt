@@ -7,8 +7,8 @@ ghost use Rattle.model_replies.specs.Kept as keeps;
 
 use crate::servant_state::ServantState;
 use crate::stored_state::StoredState;
+use active_map::activation::same_servant;
 use poa_base::{Config, Oid, Path, Sid, State, Store, WantMemory};
-use standing_queries::activations::same_servant;
 
 /// Each state that an entry left, after the ones before it.
 #[derive(Debug, Drop)]

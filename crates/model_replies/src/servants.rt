@@ -3,13 +3,13 @@ ghost use Rattle.std.specs.Prelude.{◌≡◌, reverse, option_copied, IfOk};
 ghost use Rattle.poa_history.specs.States as states;
 ghost use Rattle.standing_queries.specs.Seen.{seen};
 
+use active_map::templates::servant_number;
 use poa_base::{Call, Config, Entry, Name, Sid, Verdict, WantMemory};
 use poa_history::{Activation, Phase, Stage};
 use standing_of::standing_of;
 use standing_queries::Standing;
 use standing_queries::calls::call_of;
 use standing_queries::searches::activation_numbered;
-use standing_queries::templates::servant_number;
 use standing_queries::workers::admitted;
 use std::alloc::Global;
 

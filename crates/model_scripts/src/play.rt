@@ -1,6 +1,7 @@
 //! A script that is played.
 use crate::fault::Fault;
 use crate::replies::{put_reply, request_id};
+use active_map::templates::{has_template, policies_at};
 use conf_toml::read_config;
 use model_legal::first_illegal;
 use model_replies::{slow_next_reply, slow_owed, slow_reply};
@@ -11,7 +12,6 @@ use poa_model::slow_next;
 use poa_tree::nodes::node_at;
 use standing_of::standing_of;
 use standing_queries::calls::call_of;
-use standing_queries::templates::{has_template, policies_at};
 use std::alloc::Global;
 use text_words::{any_identity, number32, path, put_number, signed, words};
 

@@ -7,8 +7,8 @@ use Rattle.poa_history.specs.Ends.{is_finished}
 use Rattle.poa_history.specs.Situations.{is_unfinished}
 use Rattle.poa_history.specs.Standings.{Standing, is_begun, is_complete, is_ending}
 use Rattle.poa_history.specs.Turns.{is_due}
-use Rattle.standing_queries.specs.Tables.{is_moving}
-use Rattle.standing_queries.proofs.Moving.{still_begun, still_ending, still_in}
+use Rattle.active_map.specs.Tables.{is_moving}
+use Rattle.active_map.proofs.Moving.{still_begun, still_ending, still_in}
 
 module _ (c : Config) (a : Activation) (still : is_moving a ≡ false) where
   pub still_finished : is_unfinished c a ≡ false

@@ -19,6 +19,9 @@ ghost use Rattle.standing_queries.specs.Seen.{seen};
 ghost use Rattle.adapter_settings.specs.Told.{Tells};
 
 use crate::references::reference_text;
+use active_map::Activations;
+use active_map::flights::is_tried;
+use active_map::templates::{has_template, manager_number, policies_at, servant_number};
 use adapter_settings::{Settings, endpoint_of, manager_state};
 use poa_base::limits::ADAPTERS;
 use poa_base::{
@@ -27,12 +30,10 @@ use poa_base::{
 use poa_tree::Node;
 use poa_tree::nodes::node_at;
 use poa_tree::paths::parent_path;
+use standing_queries::Standing;
 use standing_queries::commands::{is_implicit, live_at, referred};
-use standing_queries::flights::is_tried;
 use standing_queries::ids::{made_id, next};
 use standing_queries::searches::is_in_map;
-use standing_queries::templates::{has_template, manager_number, policies_at, servant_number};
-use standing_queries::{Activations, Standing};
 use std::alloc::Global;
 
 fn refusal(reason: Reason) -> Option<Verdict>

@@ -13,6 +13,11 @@ ghost use Rattle.poa_verdicts.specs.Said.{IsAsSaid};
 
 use crate::commands::is_bad_id;
 use crate::rules::located;
+use active_map::Activations;
+use active_map::activation::is_begun;
+use active_map::flights::{is_running, is_tried};
+use active_map::over::is_finished;
+use active_map::templates::{children_at, manager_at, policies_at, rules_at};
 use adapter_settings::{Settings, forward_of, manager_state, preset_of};
 use object_key::KeyView;
 use poa_base::{Bytes, Call, Config, Endpoint, ManagerState, Name, Stamp, WantMemory};
@@ -20,13 +25,9 @@ use poa_choose::{Facts, KeyFact, MapFact, WalkFact};
 use poa_history::Activation;
 use poa_tree::Found;
 use poa_tree::walks::{adapter_met, child_met, place_met, walk};
-use standing_queries::activations::is_begun;
+use standing_queries::Standing;
 use standing_queries::calls::{is_locate, target_of};
-use standing_queries::ends::is_finished;
-use standing_queries::flights::{is_running, is_tried};
 use standing_queries::keys::{adapter_at, key_in};
-use standing_queries::templates::{children_at, manager_at, policies_at, rules_at};
-use standing_queries::{Activations, Standing};
 use std::alloc::Global;
 
 /// What a key is to this run.

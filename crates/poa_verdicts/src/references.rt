@@ -2,10 +2,10 @@
 ghost use Rattle.std.specs.Prelude.{◌≡◌, IfOk};
 ghost use Rattle.poa_history.specs.References as references;
 
+use active_map::templates::policies_at;
 use ior_object::write_reference;
 use poa_base::{Bytes, Config, Endpoint, Key, Oid, Path, Stamp, WantMemory};
 use servant_kinds::type_id;
-use standing_queries::templates::policies_at;
 use std::alloc::Global;
 
 /// The key of an object.

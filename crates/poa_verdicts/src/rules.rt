@@ -6,6 +6,7 @@ ghost use Rattle.poa_history.specs.Rules as rules;
 ghost use Rattle.poa_history.specs.Templates.{servant_name};
 ghost use Rattle.standing_queries.specs.Seen.{seen};
 
+use active_map::templates::{policies_at, rules_at, servant_name};
 use poa_base::{
     Completion, Config, ExcName, Gives, Incarnation, Name, Sid, SysExc, WantMemory, minors,
 };
@@ -14,7 +15,6 @@ use poa_history::Activation;
 use standing_queries::Standing;
 use standing_queries::rules::rule_for;
 use standing_queries::searches::is_in_map;
-use standing_queries::templates::{policies_at, rules_at, servant_name};
 
 /// The id isn't active.
 const NOT_ACTIVE: SysExc = SysExc {

@@ -9,16 +9,16 @@ ghost use Rattle.poa_verdicts.specs.Needs.{needs_memory};
 
 use crate::facts::is_changing;
 use crate::rules::brought;
+use active_map::activation::{is_complete, is_ending};
+use active_map::flights::{flight_of, is_used};
+use active_map::templates::{children_at, has_activator, has_template};
 use poa_base::limits::ADAPTERS;
 use poa_base::{Attempt, Children, Config, Entry, Name, WantMemory};
 use poa_history::{Activation, Flight, Stage};
 use poa_tree::Node;
 use poa_tree::nodes::node_numbered;
 use standing_queries::Standing;
-use standing_queries::activations::{is_complete, is_ending};
-use standing_queries::flights::{flight_of, is_used};
 use standing_queries::searches::activation_numbered;
-use standing_queries::templates::{children_at, has_activator, has_template};
 
 /// What an adapter activator answers for a child, where its parent lives.
 fn attempt_by(

@@ -2,10 +2,10 @@
 ghost use Rattle.std.specs.Prelude.{◌≡◌, IfOk, option_copied};
 ghost use Rattle.poa_history.specs.States as states;
 
+use active_map::templates::rules_at;
 use poa_base::{Config, Gives, Items, Kind, State, TryClone, WantMemory};
 use poa_history::Activation;
 use standing_queries::rules::rule_for;
-use standing_queries::templates::rules_at;
 use std::alloc::Global;
 
 /// The kind of the fresh servants that an activation's rule brings.

@@ -4,11 +4,11 @@ ghost use Rattle.poa_history.specs.States as states;
 ghost use Rattle.poa_history.specs.Turns as turns;
 ghost use Rattle.standing_queries.specs.Seen.{seen};
 
+use active_map::templates::servant_number;
 use poa_base::{Config, Name, Sid, Verdict, WantMemory};
 use poa_history::{Activation, Phase};
 use standing_queries::Standing;
 use standing_queries::searches::activation_numbered;
-use standing_queries::templates::servant_number;
 
 /// The servant of an activation.
 fn servant_of(activation: Option<&Activation>) -> Option<Sid>

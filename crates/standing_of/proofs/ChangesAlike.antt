@@ -45,7 +45,8 @@ use Rattle.poa_history.specs.Later.{IsLater}
 use Rattle.poa_history.proofs.ActivationsLater.{later_self, later_ended, later_ending, later_out, later_told, later_come, later_let_out}
 use Rattle.poa_history.proofs.SettledKept.{or_first, or_second}
 use Rattle.standing_queries.specs.Seen.{forgotten}
-use Rattle.standing_queries.specs.Kept.{is_live, live, Forgets, StandsFor}
+use Rattle.active_map.specs.Live.{is_live, live}
+use Rattle.standing_queries.specs.Kept.{Forgets, StandsFor}
 use Rattle.standing_queries.proofs.Kept.{any_alike, find_alike}
 use Rattle.standing_of.proofs.Still.{still_come, still_told, still_taken, still_below, still_off, still_ending, still_in, takes_alike}
 use Rattle.standing_queries.proofs.Behind.{first_fails, second_fails}

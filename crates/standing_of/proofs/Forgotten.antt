@@ -12,7 +12,8 @@ use Rattle.poa_history.specs.Standings.{Standing}
 use Rattle.poa_tree.specs.Trees.{In}
 use Rattle.poa_tree.proofs.Members.{in_kept}
 use Rattle.standing_queries.specs.Seen.{forgotten, behind}
-use Rattle.standing_queries.specs.Kept.{is_live, live, Forgets, StandsFor, StandsAfter}
+use Rattle.active_map.specs.Live.{is_live, live}
+use Rattle.standing_queries.specs.Kept.{Forgets, StandsFor, StandsAfter}
 use Rattle.standing_queries.proofs.Behind.{length_behind}
 use Rattle.standing_of.specs.Entries.{may_begin, may_end}
 use Rattle.standing_of.proofs.ChangesAlike.{stands_changed, stands_settled, stands_through}

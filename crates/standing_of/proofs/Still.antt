@@ -13,7 +13,7 @@ use Rattle.poa_history.specs.Standings.{Standing, is_mapped, has_servant, is_of}
 use Rattle.poa_history.specs.Templates.{has_activator, manager_at}
 use Rattle.standing_queries.specs.declared.standing.Standing.{Standing as Held}
 use Rattle.standing_queries.specs.Seen.{forgotten, behind, seen}
-use Rattle.standing_queries.specs.Tables.{Table}
+use Rattle.active_map.specs.Tables.{Table}
 use Rattle.standing_queries.proofs.Behind.{any_behind, map_behind, second_fails}
 
 -- each activation of a table is changed, and so each that is seen

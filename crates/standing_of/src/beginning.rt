@@ -4,12 +4,13 @@ ghost use Rattle.poa_tree.specs.Paths.{is_root};
 ghost use Rattle.poa_history.specs.Opening as opens;
 ghost use Rattle.standing_queries.specs.Seen.{seen};
 
+use active_map::Activations;
 use poa_base::{AdapterConf, Config, ObjectConf, Oid, Path, Sid, WantMemory};
 use poa_history::{Activation, Phase};
 use poa_tree::Node;
+use standing_queries::Standing;
 use standing_queries::commands::number_at;
 use standing_queries::ids::{made_id, next};
-use standing_queries::{Activations, Standing};
 use std::alloc::Global;
 
 /// The adapter is created, and gets the next number.

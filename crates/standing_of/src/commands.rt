@@ -6,12 +6,12 @@ ghost use Rattle.standing_queries.specs.Seen.{seen};
 
 use crate::beginning::{add_activation, add_node};
 use crate::ending::{deactivate, destroy, turn_off};
+use active_map::templates::{manager_number, servant_number};
 use poa_base::{Command, Config, Name, Order, Path, Sid, WantMemory};
 use poa_history::Phase;
 use standing_queries::Standing;
 use standing_queries::commands::{is_implicit, live_at, number_at};
 use standing_queries::ids::{made_id, next};
-use standing_queries::templates::{manager_number, servant_number};
 use std::alloc::Global;
 
 /// The phase of an activation that this servant completes. Fails where the servant's number has more than 32

@@ -4,12 +4,12 @@ ghost use Rattle.poa_history.specs.Changes as changes;
 ghost use Rattle.standing_queries.specs.Seen.{seen};
 
 use crate::beginning::begun;
+use active_map::flights::flight_of;
 use object_key::KeyView;
 use poa_base::{Name, Path, Verdict, WantMemory};
 use poa_history::{Flight, Phase};
 use poa_tree::walks::{adapter_met, child_met, walk};
 use standing_queries::Standing;
-use standing_queries::flights::flight_of;
 use standing_queries::keys::walk_to;
 use std::alloc::Global;
 

@@ -1,6 +1,7 @@
 //! Those of the activations that are over are forgotten. Takes no memory.
 ghost use Rattle.std.specs.Prelude.{◌≡◌};
-ghost use Rattle.standing_queries.specs.Kept.{StandsFor, live};
+ghost use Rattle.active_map.specs.Live.{live};
+ghost use Rattle.standing_queries.specs.Kept.{StandsFor};
 ghost use Rattle.standing_queries.specs.Seen.{seen};
 
 use poa_base::Config;

@@ -8,7 +8,8 @@ use Rattle.poa_history.specs.declared.activation.Activation.{Activation}
 use Rattle.poa_history.specs.Ends.{is_over}
 use Rattle.poa_tree.specs.Trees.{In}
 use Rattle.standing_queries.specs.Seen.{forgotten}
-use Rattle.standing_queries.specs.Kept.{is_live, Forgets}
+use Rattle.active_map.specs.Live.{is_live}
+use Rattle.standing_queries.specs.Kept.{Forgets}
 
 pub any_kept : {A : Type 0} (keeps test : A → Bool) (xs : List A) → ((x : A) → In x xs → keeps x ≡ false → test x ≡ false)
     → list_any test (filter keeps xs) ≡ list_any test xs

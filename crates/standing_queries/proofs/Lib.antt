@@ -4,7 +4,3 @@ pub mod Numbers
 pub mod Behind
 pub mod Kept
 pub mod Itself
-pub mod RowsKept
-pub mod Moving
-pub mod Ided
-pub mod IdsKept

@@ -1,20 +1,13 @@
 -- What is kept of what stands: some of the activations that are over may be forgotten.
-use Rattle.std.specs.Prelude.{◌≡◌, ℕ, ◌≤◌, Bool, not, List, filter, length, ◌⊎◌}
+use Rattle.std.specs.Prelude.{◌≡◌, ℕ, ◌≤◌, List, length, ◌⊎◌}
 use Rattle.poa_base.specs.declared.Config.{Config}
 use Rattle.poa_base.specs.declared.Entry.{Entry}
 use Rattle.poa_history.specs.declared.activation.Activation.{Activation}
 use Rattle.poa_history.specs.Changes.{standing}
-use Rattle.poa_history.specs.Ends.{is_over}
 use Rattle.poa_history.specs.Standings.{Standing}
 use Rattle.poa_tree.specs.Trees.{In}
+use Rattle.active_map.specs.Live.{live}
 use Rattle.standing_queries.specs.Seen.{forgotten}
-
-abbrev pub is_live : Config → Activation → Bool
-is_live c a = not (is_over c a)
-
--- those that aren't over, in the order of their begin
-abbrev pub live : Config → List Activation → List Activation
-live c activations = filter (is_live c) activations
 
 -- the second list is the first, where some of those that are over are forgotten
 pub record Forgets (c : Config) (all some : List Activation) : Type 0 where

@@ -1,5 +1,3 @@
-pub mod ById
-pub mod Tables
 pub mod Seen
 pub mod Kept
 pub mod Answers

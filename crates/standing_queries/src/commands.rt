@@ -9,7 +9,7 @@ ghost use Rattle.standing_queries.specs.Seen.{seen};
 use crate::calls::call_of;
 use crate::searches::mapped;
 use crate::standing::Standing;
-use crate::templates::policies_at;
+use active_map::templates::policies_at;
 use poa_base::{Answer, Call, Command, Config, Entry, Name, Sid, Verdict};
 use poa_history::Activation;
 use poa_tree::Node;

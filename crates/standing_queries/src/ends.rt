@@ -1,4 +1,4 @@
-//! When an activation is over, and when an adapter is gone.
+//! When an adapter is gone.
 ghost use Rattle.std.specs.Prelude.{◌≡◌, ◌&&◌, ◌||◌, not};
 ghost use Rattle.std.specs.List.{list_any};
 ghost use Rattle.poa_tree.specs.Nodes.{stands_under};
@@ -6,30 +6,12 @@ ghost use Rattle.poa_tree.specs.Paths.{is_root};
 ghost use Rattle.poa_history.specs.Ends as ends;
 ghost use Rattle.standing_queries.specs.Seen.{seen};
 
-use crate::activations::is_void;
-use crate::active_map::Activations;
 use crate::standing::Standing;
-use crate::templates::has_activator;
+use active_map::Activations;
+use active_map::over::is_over;
 use poa_base::{Config, Name};
 use poa_history::Activation;
 use poa_tree::{Node, nodes};
-
-/// Whether it is out of the map, and etherealized where that is due.
-pub fn is_finished(config: &Config, activation: &Activation) -> bool
-    ensures { result ≡ ends.is_finished config.now activation.now }
-{
-    activation.out
-        && (activation.quiet
-            || activation.etherealized
-            || !has_activator(config, activation.path.as_slice()))
-}
-
-/// Whether it holds its id no longer.
-pub fn is_over(config: &Config, activation: &Activation) -> bool
-    ensures { result ≡ ends.is_over config.now activation.now }
-{
-    is_void(activation) || is_finished(config, activation)
-}
 
 /// Whether something is in flight at the path or below it.
 fn is_flown_under(standing: &Standing, path: &[Name]) -> bool

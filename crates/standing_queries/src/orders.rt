@@ -6,10 +6,10 @@ ghost use Rattle.poa_history.specs.Settling as settling;
 ghost use Rattle.poa_history.specs.Templates as configured;
 ghost use Rattle.standing_queries.specs.Seen.{seen};
 
-use crate::active_map::Activations;
-use crate::ends::is_over;
 use crate::standing::Standing;
-use crate::templates::{has_activator, manager_at};
+use active_map::Activations;
+use active_map::over::is_over;
+use active_map::templates::{has_activator, manager_at};
 use poa_base::Config;
 use poa_history::Activation;
 use poa_tree::Node;

@@ -4,9 +4,9 @@ ghost use Rattle.poa_history.specs.Standings as stands;
 ghost use Rattle.poa_history.specs.Turns as turns;
 ghost use Rattle.standing_queries.specs.Seen.{seen};
 
-use crate::activations::{has_servant, is_mapped};
-use crate::active_map::Activations;
 use crate::standing::Standing;
+use active_map::Activations;
+use active_map::activation::{has_servant, is_mapped};
 use poa_base::Sid;
 use poa_history::Activation;
 

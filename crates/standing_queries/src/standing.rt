@@ -2,7 +2,7 @@
 ghost use Rattle.std.specs.Prelude.{◌≡◌, ◌<◌, length, IfOk};
 ghost use Rattle.standing_queries.specs.Seen.{seen};
 
-use crate::active_map::Activations;
+use active_map::Activations;
 use poa_base::WantMemory;
 use poa_history::Flight;
 use poa_tree::Node;

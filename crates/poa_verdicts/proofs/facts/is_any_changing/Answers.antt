@@ -1,7 +1,7 @@
 use Rattle.std.proofs.Common.{◌==◌, ◌&&◌, sym, ◌∙◌}
 use Rattle.std.proofs.lemmas.Bool.{and_right, not-true}
 use Rattle.poa_history.specs.Situations.{is_unfinished}
-use Rattle.standing_queries.proofs.Moving.{any_still}
+use Rattle.active_map.proofs.Moving.{any_still}
 use Rattle.poa_verdicts.proofs.StillFacts.{still_finished}
 use Rattle.poa_verdicts.proofs.facts.is_any_changing.Goals as goal
 

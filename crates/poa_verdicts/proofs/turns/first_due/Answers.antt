@@ -2,7 +2,7 @@ use Rattle.std.proofs.Common.{sym, ◌∙◌}
 use Rattle.std.proofs.lemmas.Bool.{not-true}
 use Rattle.poa_history.specs.Turns.{is_due}
 use Rattle.standing_queries.specs.Seen.{seen}
-use Rattle.standing_queries.proofs.Moving.{find_still}
+use Rattle.active_map.proofs.Moving.{find_still}
 use Rattle.poa_verdicts.proofs.StillFacts.{still_undue}
 use Rattle.poa_verdicts.proofs.turns.first_due.Goals as goal
 

@@ -1,7 +1,7 @@
 use Rattle.std.proofs.Common.{ℕ, List, false, ◌∙◌, ◌<◌, ap, ap₂, sym, subst}
 use Rattle.poa_history.specs.declared.activation.Activation.{Activation}
 use Rattle.standing_queries.specs.Seen.{seen, behind}
-use Rattle.standing_queries.specs.Tables.{Table}
+use Rattle.active_map.specs.Tables.{Table}
 use Rattle.standing_queries.proofs.Behind.{length_behind, pushed_behind}
 use Rattle.standing_of.proofs.beginning.add_activation.Goals as goal
 

@@ -6,7 +6,7 @@ use Rattle.poa_history.specs.declared.activation.Phase.TheVariants.{Begun}
 use Rattle.poa_history.specs.declared.flight.Flight.{Flight}
 use Rattle.poa_history.specs.Changes.{with_request}
 use Rattle.standing_queries.specs.Seen.{seen, behind}
-use Rattle.standing_queries.specs.Tables.{Table}
+use Rattle.active_map.specs.Tables.{Table}
 use Rattle.standing_queries.proofs.Behind.{length_behind, pushed_behind}
 use Rattle.standing_of.proofs.flying.add_incarnation.Goals as goal
 

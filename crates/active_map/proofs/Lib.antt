@@ -1,0 +1,4 @@
+pub mod RowsKept
+pub mod Moving
+pub mod Ided
+pub mod IdsKept

@@ -1,0 +1,246 @@
+//! The activations that were begun, in a table: found by their numbers, and changed in place.
+ghost use Rattle.std.specs.Prelude.{◌≡◌, ◌+◌, ◌<◌, ◌++◌, ◌∷◌, [], ◌==◌, ◌&&◌, Some, None, true, false, not, map, filter, find, length, option_copied, if◌then◌else◌, IfOk, OnOk, OnErr};
+ghost use Rattle.std.specs.List.{list_any};
+ghost use Rattle.std.specs.Map.Iter.{deref, ShowsInOrder};
+ghost use Rattle.poa_tree.specs.Nodes as tree;
+ghost use Rattle.poa_history.specs.Changes as changes;
+ghost use Rattle.poa_history.specs.Ends as ends;
+ghost use Rattle.poa_history.specs.Standings as stands;
+ghost use Rattle.poa_history.specs.Standings.{Standing as Stood};
+ghost use Rattle.poa_history.specs.Templates as configured;
+ghost use Rattle.active_map.specs.Live.{live};
+ghost use Rattle.active_map.specs.Tables.{is_moving};
+
+use crate::by_id::{Index, add, numbers_of, remove};
+use crate::changing::{come_to, etherealize, is_other, let_go};
+use crate::rows::{
+    Rows, count_moving, end_all_activators, end_all_of_id, end_all_under, first_active, first_live,
+    forget_ids, keep_live, let_all_out, moves,
+};
+use poa_base::{Config, Name, Oid, WantMemory};
+use poa_history::{Activation, Flight, Phase};
+use poa_tree::Node;
+use std::alloc::Global;
+use std::collections::BTreeMap;
+use std::collections::btree_map::Values;
+use std::marker::Model;
+
+/// The activations that were begun, but for those that are over and are forgotten.
+#[derive(Debug, Drop)]
+pub struct Activations {
+    alloc: Global,
+    /// How many are forgotten.
+    forgotten: usize,
+    /// The others, by their numbers.
+    rows: Rows,
+    /// Their numbers by adapter and id.
+    ids: Index,
+    /// How many of these are on their way in or out.
+    moving: usize,
+}
+
+impl Model for Activations {
+    ghost use Rattle.std.specs.Map.{values_of};
+    ghost use Rattle.active_map.specs.Tables.{Table, IsWhole};
+
+    ghost Value = { Table };
+
+    ghost view = { λ t. record { forgotten = t.forgotten; kept = values_of t.rows.entries } };
+
+    ghost invariant = { λ t. IsWhole t.forgotten t.moving t.ids t.rows.entries };
+}
+
+impl Activations {
+    /// None. Takes no memory.
+    pub fn new(alloc: Global) -> Self
+        ensures { result ≡ record { forgotten = 0; kept = [] } }
+    {
+        Activations {
+            alloc,
+            forgotten: 0,
+            rows: BTreeMap::new(alloc),
+            ids: BTreeMap::new(alloc),
+            moving: 0,
+        }
+    }
+
+    /// How many were begun, which numbers the next one. Fails where it has more than 32 bits.
+    pub fn begun(&self) -> Result<u32, WantMemory>
+        ensures { IfOk result (λ begun. begun ≡ self.now.forgotten + length self.now.kept) }
+    {
+        let begun = self.forgotten + self.rows.len();
+        u32::try_from(begun).map_err(|_| WantMemory)
+    }
+
+    /// Those that are kept, in the order in which they were begun.
+    pub fn iter(&self) -> Values<'_, u32, Activation>
+        ensures rest { result ≡ self.now.kept }
+        ensures runs { ShowsInOrder (deref {X = Activation}) }
+    {
+        self.rows.values()
+    }
+
+    /// Whether none is on its way in or out.
+    pub fn is_still(&self) -> bool
+        ensures { result ≡ not (list_any is_moving self.now.kept) }
+    {
+        self.moving == 0
+    }
+
+    /// That of a number, where it is kept.
+    pub fn numbered(&self, number: u32) -> Option<&Activation>
+        ensures { option_copied result ≡ find (λ a. a.number == number) self.now.kept }
+    {
+        self.rows.get(&number)
+    }
+
+    /// The first of an id that is active.
+    pub fn active_of(&self, adapter: u32, oid: &[u8]) -> Option<&Activation>
+        ensures { option_copied result ≡ find (λ a. stands.is_of adapter oid.now a && stands.is_active a) self.now.kept }
+    {
+        first_active(&self.rows, numbers_of(&self.ids, adapter, oid))
+    }
+
+    /// The first of an id that isn't over.
+    pub fn live_of(&self, config: &Config, adapter: u32, oid: &[u8]) -> Option<&Activation>
+        ensures { option_copied result ≡ find (λ a. stands.is_of adapter oid.now a && not (ends.is_over config.now a)) self.now.kept }
+    {
+        first_live(&self.rows, config, numbers_of(&self.ids, adapter, oid))
+    }
+
+    /// One more is begun, which has the next number.
+    pub fn push(&mut self, activation: Activation) -> Result<(), WantMemory>
+        requires next { activation.number ≡ self.old.forgotten + length self.old.kept }
+        requires few { activation.number < 4294967296 }
+        ensures ok { OnOk result (self.new ≡ record self.old { kept = self.old.kept ++ activation ∷ [] }) }
+        ensures err { OnErr result (self.new ≡ self.old) }
+    {
+        let number = activation.number;
+        let more = moves(&activation);
+        let oid = activation.oid.as_slice();
+        add(self.alloc, &mut self.ids, activation.adapter, oid, number)?;
+        match self.rows.insert(number, activation) {
+            Ok(_) => {
+                self.moving += more;
+                Ok(())
+            }
+            Err(failed) => {
+                let activation = &failed.value.1;
+                let oid = activation.oid.as_slice();
+                remove(&mut self.ids, activation.adapter, oid, number);
+                Err(WantMemory)
+            }
+        }
+    }
+
+    /// That of a number, which is being incarnated, has come so far.
+    pub fn bring(&mut self, number: u32, phase: Phase)
+        ensures { self.new ≡ record self.old { kept = map (changes.at_number number (changes.come_to phase)) self.old.kept } }
+    {
+        if let Some(activation) = self.rows.get_mut(&number) {
+            self.moving -= moves(activation);
+            come_to(phase, activation);
+            self.moving += moves(activation);
+        }
+    }
+
+    /// Whether the servant of an activation is in the map of its adapter by another one.
+    fn is_elsewhere(&self, activation: &Activation) -> bool
+        ensures { result ≡ changes.is_elsewhere self.now.kept activation.now }
+    {
+        self.rows.values().any(|other| is_other(activation, other))
+    }
+
+    /// Whether the servant of that of a number stays in the map by another one.
+    fn remains(&self, number: u32) -> bool
+        ensures { result ≡ elim (find (λ a. a.number == number) self.now.kept)
+            [ Some a ↦ changes.is_elsewhere self.now.kept a | None ↦ false ] }
+    {
+        match self.numbered(number) {
+            Some(activation) => self.is_elsewhere(activation),
+            None => false,
+        }
+    }
+
+    /// That of a number is taken out of the map.
+    pub fn take_out(&mut self, number: u32)
+        ensures { self.new ≡ record self.old {
+          kept = map
+              (changes.at_number number (λ a. record a { out = true; remaining = changes.is_elsewhere self.old.kept a })) self.old.kept;
+        } }
+    {
+        let remaining = self.remains(number);
+        if let Some(activation) = self.rows.get_mut(&number) {
+            self.moving -= moves(activation);
+            let_go(remaining, activation);
+            self.moving += moves(activation);
+        }
+    }
+
+    /// The servant of that of a number is etherealized.
+    pub fn etherealize(&mut self, number: u32)
+        ensures { self.new ≡ record self.old
+            { kept = map (changes.at_number number (λ a. record a { etherealized = true })) self.old.kept } }
+    {
+        if let Some(activation) = self.rows.get_mut(&number) {
+            self.moving -= moves(activation);
+            etherealize(activation);
+            self.moving += moves(activation);
+        }
+    }
+
+    /// Those of the adapters that stand at the path or below it are ending.
+    pub fn end_below(&mut self, nodes: &[Node], path: &[Name], etherealize: bool)
+        ensures { self.new ≡ record self.old {
+          kept = map
+              (λ a. if tree.stands_under nodes.now path.now a.adapter then changes.ended_by_destroy etherealize a else a) self.old.kept;
+        } }
+    {
+        end_all_under(&mut self.rows, nodes, path, etherealize);
+        self.moving = count_moving(&self.rows);
+    }
+
+    /// Those of the manager that have a servant activator are ending.
+    pub fn end_managed(&mut self, config: &Config, manager: usize)
+        ensures { self.new ≡ record self.old {
+          kept = map
+              (λ a. if configured.has_activator config.now a.path &&
+              (configured.manager_at config.now a.path == manager) then changes.ended_by_destroy true a else a) self.old.kept;
+        } }
+    {
+        end_all_activators(&mut self.rows, config, manager);
+        self.moving = count_moving(&self.rows);
+    }
+
+    /// Those of an id are ending.
+    pub fn end_id(&mut self, adapter: u32, oid: &Oid)
+        ensures { self.new ≡ record self.old
+            { kept = map (λ a. if stands.is_of adapter oid.now a then record a { ending = true } else a) self.old.kept } }
+    {
+        end_all_of_id(&mut self.rows, adapter, oid);
+        self.moving = count_moving(&self.rows);
+    }
+
+    /// Those that are to leave the map do.
+    pub fn let_out(&mut self, config: &Config, flights: &[Flight])
+        ensures { (s : Stood) → s.flights ≡ flights.now
+            → self.new ≡ record self.old { kept = map (ends.let_out config.now s) self.old.kept } }
+    {
+        if self.moving > 0 {
+            let_all_out(&mut self.rows, config, flights);
+            self.moving = count_moving(&self.rows);
+        }
+    }
+
+    /// Those that are over are forgotten, but for their number.
+    pub fn forget(&mut self, config: &Config)
+        ensures forgotten { self.new.forgotten ≡ self.old.forgotten + length (filter (ends.is_over config.now) self.old.kept) }
+        ensures kept { self.new.kept ≡ live config.now self.old.kept }
+    {
+        if self.moving > 0 {
+            forget_ids(&mut self.ids, &self.rows, config);
+            self.forgotten += keep_live(&mut self.rows, config);
+            self.moving = count_moving(&self.rows);
+        }
+    }
+}

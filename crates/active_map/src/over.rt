@@ -1,0 +1,25 @@
+//! When an activation is over.
+ghost use Rattle.std.specs.Prelude.{◌≡◌, ◌&&◌, ◌||◌, not};
+ghost use Rattle.poa_history.specs.Ends as ends;
+
+use crate::activation::is_void;
+use crate::templates::has_activator;
+use poa_base::Config;
+use poa_history::Activation;
+
+/// Whether it is out of the map, and etherealized where that is due.
+pub fn is_finished(config: &Config, activation: &Activation) -> bool
+    ensures { result ≡ ends.is_finished config.now activation.now }
+{
+    activation.out
+        && (activation.quiet
+            || activation.etherealized
+            || !has_activator(config, activation.path.as_slice()))
+}
+
+/// Whether it holds its id no longer.
+pub fn is_over(config: &Config, activation: &Activation) -> bool
+    ensures { result ≡ ends.is_over config.now activation.now }
+{
+    is_void(activation) || is_finished(config, activation)
+}
