@@ -102,7 +102,8 @@ fn remove_in(ids: &mut Ids, oid: &[u8], number: u32)
 
 /// One less of an id of an adapter. Takes no memory.
 pub fn remove(index: &mut Index, adapter: u32, oid: &[u8], number: u32)
-    ensures { by_id.IsAt adapter oid.now (filter (λ n. not (n == number)) (by_id.numbers_of index.old adapter oid.now)) index.old index.new }
+    ensures { by_id.IsAt adapter oid.now (filter (λ n. not (n == number)) (by_id.numbers_of index.old adapter oid.now))
+        index.old index.new }
 {
     if let Some(ids) = index.get_mut(&adapter) {
         remove_in(ids, oid, number);

@@ -47,7 +47,8 @@ impl Outboxes {
     pub fn expect(&mut self, conn: u32)
         requires { HasRoomAt self.old.boxes.items conn }
         ensures replies { (n : ℕ) → replies_at self.new.boxes.items n ≡ replies_at self.old.boxes.items n }
-        ensures awaited { (n : ℕ) → awaited_at self.new.boxes.items n ≡ (if conn == n then 1 else 0) + awaited_at self.old.boxes.items n }
+        ensures awaited { (n : ℕ)
+            → awaited_at self.new.boxes.items n ≡ (if conn == n then 1 else 0) + awaited_at self.old.boxes.items n }
     {
         if let Some(outbox) = self.boxes.get_mut(conn as usize) {
             outbox.expect();
@@ -57,8 +58,10 @@ impl Outboxes {
     /// A call that awaits a reply is given this one. Takes no memory.
     pub fn file(&mut self, filed: Filed)
         requires { 0 < awaited_at self.old.boxes.items filed.conn }
-        ensures replies { (n : ℕ) → replies_at self.new.boxes.items n ≡ replies_at self.old.boxes.items n ++ (if filed.conn == n then filed ∷ [] else []) }
-        ensures awaited { (n : ℕ) → (if filed.conn == n then 1 else 0) + awaited_at self.new.boxes.items n ≡ awaited_at self.old.boxes.items n }
+        ensures replies { (n : ℕ) → replies_at self.new.boxes.items n ≡ replies_at self.old.boxes.items n
+            ++ (if filed.conn == n then filed ∷ [] else []) }
+        ensures awaited { (n : ℕ)
+            → (if filed.conn == n then 1 else 0) + awaited_at self.new.boxes.items n ≡ awaited_at self.old.boxes.items n }
         ensures room { (n : ℕ) → HasRoomAt self.old.boxes.items n → HasRoomAt self.new.boxes.items n }
     {
         self.fresh.note(&filed);
@@ -68,7 +71,8 @@ impl Outboxes {
     /// The first reply of a connection is given out. Takes no memory.
     pub fn take(&mut self, conn: u32) -> Option<Filed>
         ensures given { result ≡ slice_get (replies_at self.old.boxes.items conn) 0 }
-        ensures replies { (n : ℕ) → replies_at self.new.boxes.items n ≡ drop (if conn == n then 1 else 0) (replies_at self.old.boxes.items n) }
+        ensures replies { (n : ℕ)
+            → replies_at self.new.boxes.items n ≡ drop (if conn == n then 1 else 0) (replies_at self.old.boxes.items n) }
         ensures awaited { (n : ℕ) → awaited_at self.new.boxes.items n ≡ awaited_at self.old.boxes.items n }
     {
         self.boxes.get_mut(conn as usize)?.take()
@@ -99,7 +103,8 @@ impl Outboxes {
 #[tactic(auto, using(crate::proofs::Put::is_there))]
 fn file_in(boxes: &mut Vec<Outbox>, filed: Filed)
     requires { 0 < awaited_at boxes.old.items filed.conn }
-    ensures replies { (n : ℕ) → replies_at boxes.new.items n ≡ replies_at boxes.old.items n ++ (if filed.conn == n then filed ∷ [] else []) }
+    ensures replies { (n : ℕ)
+        → replies_at boxes.new.items n ≡ replies_at boxes.old.items n ++ (if filed.conn == n then filed ∷ [] else []) }
     ensures awaited { (n : ℕ) → (if filed.conn == n then 1 else 0) + awaited_at boxes.new.items n ≡ awaited_at boxes.old.items n }
     ensures room { (n : ℕ) → HasRoomAt boxes.old.items n → HasRoomAt boxes.new.items n }
 {

@@ -72,7 +72,8 @@ fn file_first(
     ensures kept { owing.new.items ≡ drop 1 owing.old.items ++ filter
         (λ o. not (desks.is_decided config.now (seen standing.now) target ordered o)) (take 1 owing.old.items) }
     ensures filed { (n : ℕ) → replies_at outboxes.new.boxes.items n ≡ replies_at outboxes.old.boxes.items n ++ filter (λ f. f.conn == n)
-        (map (desks.file target reply.old) (filter (desks.is_decided config.now (seen standing.now) target ordered) (take 1 owing.old.items))) }
+        (map (desks.file target reply.old)
+        (filter (desks.is_decided config.now (seen standing.now) target ordered) (take 1 owing.old.items))) }
     ensures awaited { (n : ℕ) → awaited_at outboxes.new.boxes.items n ≡ length (filter (λ o. o.conn == n) owing.new.items) }
     ensures left { list_any (λ o. begun.is_at o.arrival target) (take 1 owing.old.items) ≡ false → reply.new ≡ reply.old }
     ensures fewer { deque_len owing.new ≤ deque_len owing.old }

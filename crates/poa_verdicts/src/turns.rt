@@ -83,8 +83,10 @@ fn attempt_in(config: &Config, standing: &Standing, adapter: u32, child: &[Name]
 
 /// What the adapter activator answers for the child of a trial.
 fn attempt_for(config: &Config, standing: &Standing, flight: &Flight) -> Attempt
-    ensures { result ≡ elim flight.now.child
-        [ None ↦ Attempt.No | Some child ↦ turns.attempt_at config.now (seen standing.now) (turns.node_of (seen standing.now) flight.now.adapter) child ] }
+    ensures { result ≡ elim flight.now.child [
+      | None ↦ Attempt.No
+      | Some child ↦ turns.attempt_at config.now (seen standing.now) (turns.node_of (seen standing.now) flight.now.adapter) child
+    ] }
 {
     match &flight.child {
         Some(child) => attempt_in(config, standing, flight.adapter, child.as_slice()),

@@ -32,8 +32,19 @@ pub fn add_node(standing: &mut Standing, path: &Path) -> Result<(), WantMemory>
 
 /// An activation that has begun.
 pub fn begun(number: u32, adapter: u32, path: Path, oid: Oid, phase: Phase) -> Activation
-    ensures { result ≡ record
-        { number = number; adapter = adapter; path = path; oid = oid; phase = phase; ending = false; quiet = false; out = false; cleanup = false; remaining = false; etherealized = false } }
+    ensures { result ≡ record {
+      number = number;
+      adapter = adapter;
+      path = path;
+      oid = oid;
+      phase = phase;
+      ending = false;
+      quiet = false;
+      out = false;
+      cleanup = false;
+      remaining = false;
+      etherealized = false;
+    } }
 {
     Activation {
         number,
