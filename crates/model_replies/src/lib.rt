@@ -8,6 +8,7 @@ mod acting;
 mod deciding;
 mod entries;
 mod kept;
+pub mod laws;
 mod next_reply;
 mod owing;
 mod reply;
@@ -16,6 +17,10 @@ mod servants;
 mod stored_state;
 
 pub use deciding::decided;
+pub use entries::kept_of;
+pub use kept::{Kept, stored_in};
 pub use next_reply::slow_next_reply;
 pub use owing::slow_owed;
 pub use reply::slow_reply;
+pub use servant_state::ServantState;
+pub use stored_state::StoredState;
