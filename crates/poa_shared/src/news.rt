@@ -1,9 +1,10 @@
 //! Whom a turn concerns.
 use crate::bell::SLOTS;
-use call_tables::Filed;
-use poa_base::Reply;
+use call_tables::Fresh;
 use poa_core::Phase;
-use std::collections::VecDeque;
+
+// The bits of `Fresh::others` are those of slots.
+const _: () = prove!(SLOTS == 64);
 
 /// Whom to wake after arrivals and turns, once the place before the lock is let go.
 #[derive(Clone, Copy, Debug, Drop)]
@@ -56,17 +57,15 @@ impl News {
         self.is_for_workers = false;
     }
 
-    /// Notes the replies that were decided behind so many. A command may have made calls ready for any worker.
-    pub(crate) fn note(&mut self, decided: &VecDeque<Filed>, known: usize) {
-        for place in known..decided.len() {
-            let filed = &decided[place];
-            if self.own != Some(filed.conn) {
-                self.slots |= 1 << (filed.conn % SLOTS);
-            }
-            if matches!(filed.reply, Reply::Answer { .. }) {
-                self.is_for_workers = true;
+    /// Notes to whom an entry gave replies. A command may have made calls ready for any worker.
+    pub(crate) fn note(&mut self, fresh: Fresh) {
+        if let Some(conn) = fresh.first {
+            if self.own != Some(conn) {
+                self.slots |= 1 << (conn % SLOTS);
             }
         }
+        self.slots |= fresh.others;
+        self.is_for_workers |= fresh.has_answer;
     }
 
     /// Notes the phase before and after a turn: that a shutdown was admitted concerns everybody.

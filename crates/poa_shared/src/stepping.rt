@@ -77,10 +77,11 @@ fn step_noted(core: &mut Core, worker: u32, news: &mut News) -> Result<StepOut, 
     requires { worker < 16 }
     ensures { answers.Steps worker core.old result core.new }
 {
-    let known = core.decided().len();
     let phase = core.phase();
     let result = core.step(worker);
-    news.note(core.decided(), known);
+    if let Ok(StepOut::Did(_)) = result {
+        news.note(core.fresh());
+    }
     news.note_phase(phase, core.phase());
     result
 }

@@ -46,9 +46,12 @@ returns-clause-collected c =
     (let given : IsGiven c.args.conn c.collect.result c.args.inside.now.desk c.collect.new.self =
     record { given = c.collect.ensures.given; files = c.collect.ensures.files; owing = c.collect.ensures.owing } in
     let i = c.args.inside.now in
-    let its = filed_here c.args.conn i c.requires c.collect.result c.collect.new.self given c.in-Some.filed c.in-Some.is in
-    (next_here c.args.conn i c.requires c.collect.result c.collect.new.self given c.in-Some.filed c.in-Some.is, sym its.head, its.reply,
-    c.quiet.ensures.life_is))
+    let its = filed_here c.args.conn i c.requires c.collect.result c.collect.new.self given c.in-Some.filed c.in-Some.is in (
+      next_here c.args.conn i c.requires c.collect.result c.collect.new.self given c.in-Some.filed c.in-Some.is,
+      sym its.head,
+      its.reply,
+      c.quiet.ensures.life_is,
+    ))
 
 pub returns-clause-fits : goal.returns-clause-fits
 returns-clause-fits c =
