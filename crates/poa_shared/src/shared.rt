@@ -23,8 +23,8 @@ pub type Seat = seat_lock::Seat<Core>;
 /// It is let go before a bell is rung, a gate is passed, or bytes are read or written.
 pub type Front<'a> = MutexGuard<'a, ()>;
 
-/// How often one looks for the place before the lock until one sleeps for it: some forty microseconds. A hold takes a few,
-/// which is less than it takes to fall asleep and to be woken, so a few callers that wait for each other do so awake.
+/// How often one looks for the place before the lock until one sleeps for it. A hold takes a few microseconds, which is less
+/// than it takes to fall asleep and to be woken, so a few callers that wait for each other do so awake.
 const TRIES: u32 = 700;
 
 /// An adapter that many threads share, each through a seat of its own.
