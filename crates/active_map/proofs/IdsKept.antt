@@ -145,7 +145,7 @@ indexed_less ids ids' a before after first last indexed is k oid =
 -- ---- looked up
 
 -- behind a row no activation has its number
-behind_differs : (k : ℕ) (rows : List (ℕ × Activation)) → IsKeyed rows → AllByRecursion (λ y. nat_cmp k y ≡ Less) (keys_of rows) → (a : Activation)
+pub behind_differs : (k : ℕ) (rows : List (ℕ × Activation)) → IsKeyed rows → AllByRecursion (λ y. nat_cmp k y ≡ Less) (keys_of rows) → (a : Activation)
     → In a (values_of rows) → (a.number == k) ≡ false
 behind_differs k [] keyed past a there = absurd there
 behind_differs k (row ∷ rows) keyed past a (inl same) = apart k row.0 a.number past.0 (ap (λ (b : Activation). b.number) same ∙ keyed.0)

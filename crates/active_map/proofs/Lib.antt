@@ -2,3 +2,4 @@ pub mod RowsKept
 pub mod Moving
 pub mod Ided
 pub mod IdsKept
+pub mod Removal

@@ -12,7 +12,8 @@ ghost use Rattle.active_map.specs.Live.{live};
 ghost use Rattle.active_map.specs.Tables.{is_moving};
 
 use crate::by_id::{Index, add, numbers_of, remove};
-use crate::changing::{come_to, etherealize, is_other, let_go};
+use crate::changing::{come_to, etherealize, is_other, let_go, let_out};
+use crate::over::is_over;
 use crate::rows::{
     Rows, count_moving, end_all_activators, end_all_of_id, end_all_under, first_active, first_live,
     forget_ids, keep_live, let_all_out, moves,
@@ -230,6 +231,37 @@ impl Activations {
             let_all_out(&mut self.rows, config, flights);
             self.moving = count_moving(&self.rows);
         }
+    }
+
+    /// That of a number leaves the map where it is to.
+    pub fn let_out_at(&mut self, config: &Config, flights: &[Flight], number: u32)
+        ensures { (s : Stood) → s.flights ≡ flights.now
+            → self.new ≡ record self.old { kept = map (changes.at_number number (ends.let_out config.now s)) self.old.kept } }
+    {
+        if let Some(activation) = self.rows.get_mut(&number) {
+            self.moving -= moves(activation);
+            let_out(config, flights, activation);
+            self.moving += moves(activation);
+        }
+    }
+
+    /// That of a number is forgotten where it is over, but for its number.
+    pub fn forget_at(&mut self, config: &Config, number: u32)
+        ensures forgotten { self.new.forgotten ≡ self.old.forgotten
+            + length (filter (λ a. (a.number == number) && ends.is_over config.now a) self.old.kept) }
+        ensures kept { self.new.kept ≡ filter (λ a. not ((a.number == number) && ends.is_over config.now a)) self.old.kept }
+    {
+        let Some(activation) = self.rows.get(&number) else {
+            return;
+        };
+        if !is_over(config, activation) {
+            return;
+        }
+        self.moving -= moves(activation);
+        let oid = activation.oid.as_slice();
+        remove(&mut self.ids, activation.adapter, oid, number);
+        let _gone = self.rows.remove(&number);
+        self.forgotten += 1;
     }
 
     /// Those that are over are forgotten, but for their number.

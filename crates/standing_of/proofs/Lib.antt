@@ -4,3 +4,4 @@ mod Still
 pub mod ChangesAlike
 mod Few
 mod Forgotten
+pub mod Staying

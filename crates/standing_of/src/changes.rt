@@ -17,6 +17,7 @@ use crate::flying::{admit, child_tried, end_flight};
 use crate::forgetting::forget;
 use crate::lives::{complete, etherealize, take_out};
 use crate::settling::settle;
+use crate::touched::touched_by;
 use poa_base::{Attempt, Call, Config, Entry, Incarnation, Path, Sid, Verdict, WantMemory};
 use poa_history::{Phase, Stage};
 use standing_queries::Standing;
@@ -190,9 +191,10 @@ pub fn advance(
     ensures ends { entries.takes_no_memory entry.now ≡ true → entries.names_servant entry.now ≡ false → IsOk result }
     ensures named { entries.takes_no_memory entry.now ≡ true → length config.now.servants ≤ 2 ^ 32 → IsOk result }
 {
+    let touched = touched_by(entry, stage, &standing.flights);
     change(alloc, config, run, entry, stage, call, standing)?;
     if may_end(entry) {
-        settle(config, standing);
+        settle(config, standing, touched);
     }
     Ok(())
 }
@@ -240,9 +242,10 @@ pub fn advance_kept(
     ensures named { entries.takes_no_memory entry.now ≡ true → length config.now.servants ≤ 2 ^ 32 → IsOk result }
 {
     has_number(entry, standing)?;
+    let touched = touched_by(entry, stage, &standing.flights);
     change(alloc, config, run, entry, stage, call, standing)?;
     if may_end(entry) {
-        settle(config, standing);
+        settle(config, standing, touched);
         forget(config, standing);
     }
     Ok(())

@@ -11,6 +11,7 @@ mod forgetting;
 pub mod laws;
 mod lives;
 mod settling;
+mod touched;
 
 pub use beginning::opening;
 pub use changes::{advance, advance_kept, standing_of};

@@ -2,17 +2,28 @@
 ghost use Rattle.std.specs.Prelude.{◌≡◌, map};
 ghost use Rattle.poa_history.specs.Ends as ends;
 ghost use Rattle.standing_queries.specs.Seen.{seen};
+ghost use Rattle.standing_of.specs.Touched.{Others, is_touched};
 
+use crate::touched::Touched;
 use poa_base::Config;
 use standing_queries::Standing;
 use standing_queries::ends::stays;
 
-/// What is to leave the map does.
-fn let_out_ended(config: &Config, standing: &mut Standing)
-    ensures { seen standing.new ≡ record (seen standing.old)
+/// What is to leave the map does, where none but what is touched is to.
+fn let_out_ended(config: &Config, standing: &mut Standing, touched: Touched)
+    ensures { Others config.now (is_touched touched) (seen standing.old)
+        → seen standing.new ≡ record (seen standing.old)
         { activations = map (ends.let_out config.now (seen standing.old)) (seen standing.old).activations } }
 {
-    standing.activations.let_out(config, &standing.flights);
+    match touched {
+        Touched::Nothing => {}
+        Touched::One(number) => {
+            standing
+                .activations
+                .let_out_at(config, &standing.flights, number);
+        }
+        Touched::All => standing.activations.let_out(config, &standing.flights),
+    }
 }
 
 /// The adapters that are gone are dropped, from the last one down. The others are asked of those that are
@@ -27,10 +38,11 @@ fn drop_gone(config: &Config, standing: &mut Standing)
     }
 }
 
-/// What has ended goes.
-pub fn settle(config: &Config, standing: &mut Standing)
-    ensures { seen standing.new ≡ ends.settled config.now (seen standing.old) }
+/// What has ended goes, where no activation but what is touched is to leave the map.
+pub fn settle(config: &Config, standing: &mut Standing, touched: Touched)
+    ensures { Others config.now (is_touched touched) (seen standing.old)
+        → seen standing.new ≡ ends.settled config.now (seen standing.old) }
 {
-    let_out_ended(config, standing);
+    let_out_ended(config, standing, touched);
     drop_gone(config, standing);
 }

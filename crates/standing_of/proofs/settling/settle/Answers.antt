@@ -3,4 +3,4 @@ use Rattle.poa_history.specs.Ends.{without_ended}
 use Rattle.standing_of.proofs.settling.settle.Goals as goal
 
 pub returns : goal.returns
-returns c = c.drop_gone.ensures ∙ ap (without_ended c.args.config.now) c.let_out_ended.ensures
+returns c = λ others. (c.drop_gone.ensures ∙ ap (without_ended c.args.config.now) (c.let_out_ended.ensures others))

@@ -1,0 +1,74 @@
+use Rattle.std.proofs.Common.{◌+◌, ◌-◌, ◌≤◌, ◌==◌, true, [], map, refl, sym, ap, subst, ◌∙◌, arith}
+use Rattle.std.specs.Map.{values_of}
+use Rattle.std.specs.Option.{option_copied_mut}
+use Rattle.poa_history.specs.Changes.{at_number}
+use Rattle.poa_history.specs.Ends.{is_left, let_out}
+use Rattle.poa_history.specs.Standings.{Standing}
+use Rattle.active_map.specs.Tables.{Table, IsIndexed}
+use Rattle.active_map.proofs.IdsKept.{indexed_each}
+use Rattle.active_map.proofs.RowsKept.{keeps_where, row_set, row_absent, weight_within, weight_few, moving_few, table_set, tabled}
+use Rattle.active_map.proofs.activations.Activations.let_out_at.Goals as goal
+
+pub overflow_sub-self : goal.overflow_sub-self
+overflow_sub-self c =
+    (let t = c.self.inside in
+    let had = sym c.get_mut.ensures.value ∙ ap option_copied_mut c.in-Some.is in
+    subst (λ m. m ≤ t.moving) (sym c.moves.ensures)
+    (weight_within t.forgotten t.moving c.args.number t.rows.entries c.self.invariant.table c.in-Some.activation.now had))
+
+pub overflow_add-self : goal.overflow_add-self
+overflow_add-self c =
+    (let few = moving_few _ _ _ c.self.invariant.table in let one = weight_few c.let_out.new.activation in let more = c.moves-in-Some.ensures in
+    omega (arith, few, one, more))
+
+pub invariant_of-self : goal.invariant_of-self
+invariant_of-self c =
+    (let t = c.self.inside in
+    let s : Standing = record { nodes = []; count = 0; made = 0; flights = c.args.flights.now; activations = [] } in
+    let f = let_out c.args.config.now s in
+    let keeps = keeps_where (is_left c.args.config.now s) (λ x. record x { out = true }) (record { number = λ x. refl; adapter = λ x. refl; oid = λ x. refl }) in
+    let a = c.in-Some.activation.now in
+    let b = c.let_out.new.activation in
+    let had = sym c.get_mut.ensures.value ∙ ap option_copied_mut c.in-Some.is in
+    let written = c.get_mut.follows.holds b in
+    let within = weight_within t.forgotten t.moving c.args.number t.rows.entries c.self.invariant.table a had in
+    let before = c.moves.ensures in
+    let after = c.moves-in-Some.ensures in
+    record {
+      table =
+          table_set t.forgotten t.moving c.args.number t.rows.entries (c.get_mut.follows.lender b).entries f a b
+          c.self.invariant.table had written.0 written.1
+          (c.let_out.ensures s refl)
+          keeps
+          (t.moving - c.moves.result + c.moves-in-Some.result) (omega (arith, within, before, after));
+      indexed =
+          subst (IsIndexed t.ids)
+          (sym (ap values_of written.0
+          ∙ row_set c.args.number f t.rows.entries c.self.invariant.table.keyed c.self.invariant.table.ordered a b had
+          (c.let_out.ensures s refl)))
+          (indexed_each t.ids (at_number c.args.number f)
+          (keeps_where (λ x. x.number == c.args.number) f keeps)
+          (values_of t.rows.entries) c.self.invariant.indexed);
+    })
+
+pub returns-in-Some : goal.returns-in-Some
+returns-in-Some c = λ s flown.
+    (let t = c.self.inside in
+    let a = c.in-Some.activation.now in
+    let b = c.let_out.new.activation in
+    let had = sym c.get_mut.ensures.value ∙ ap option_copied_mut c.in-Some.is in
+    let written = c.get_mut.follows.holds b in
+    ap (tabled t.forgotten)
+    (ap values_of written.0
+    ∙ row_set c.args.number (let_out c.args.config.now s) t.rows.entries c.self.invariant.table.keyed c.self.invariant.table.ordered a b had
+    (c.let_out.ensures s flown))
+    ∙ ap (λ (u : Table). tabled u.forgotten (map (at_number c.args.number (let_out c.args.config.now s)) u.kept)) c.self.view_is)
+
+pub returns-in_default : goal.returns-in_default
+returns-in_default c = λ s flown.
+    (let t = c.self.inside in
+    let same = ap (λ m. m.entries) c.get_mut.follows.holds-at-none in
+    let none = sym c.get_mut.ensures.value ∙ ap option_copied_mut c.in_default.is in
+    ap (λ es. tabled t.forgotten (values_of es)) same
+    ∙ ap (tabled t.forgotten) (sym (row_absent c.args.number (let_out c.args.config.now s) t.rows.entries c.self.invariant.table.keyed none))
+    ∙ ap (λ (u : Table). tabled u.forgotten (map (at_number c.args.number (let_out c.args.config.now s)) u.kept)) c.self.view_is)
