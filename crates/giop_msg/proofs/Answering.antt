@@ -6,7 +6,7 @@ use Rattle.giop_msg.specs.declared.incoming.Incoming.{Incoming}
 use Rattle.giop_msg.specs.declared.incoming.Incoming.TheVariants as incoming
 use Rattle.giop_msg.specs.declared.fault.MsgFault.{MsgFault}
 use Rattle.giop_msg.specs.declared.fault.MsgFault.TheVariants.{WantMemory}
-use Rattle.giop_msg.specs.declared.kind.TheConstants.{HEADER}
+use Rattle.giop_answer.specs.declared.kind.TheConstants.{HEADER}
 use Rattle.giop_msg.specs.declared.seen.Seen.{Seen}
 use Rattle.giop_msg.specs.declared.view_fault.ViewFault.{ViewFault}
 use Rattle.giop_msg.specs.Call.{CallOf}

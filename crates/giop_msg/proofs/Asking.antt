@@ -14,12 +14,12 @@ use Rattle.poa_base.specs.declared.Body.{Body}
 use Rattle.poa_base.specs.declared.Datum.{Datum}
 use Rattle.poa_base.specs.declared.Head.{Head}
 use Rattle.giop_frame.specs.Part.{is_little}
-use Rattle.giop_msg.specs.declared.kind.TheConstants.{HEADER, MINOR, REQUEST}
+use Rattle.giop_answer.specs.declared.kind.TheConstants.{HEADER, MINOR, REQUEST}
 use Rattle.giop_msg.specs.declared.target.TheConstants.{KEY_ADDRESS}
 use Rattle.giop_msg.specs.Fields.{ReadsAll, fields_start}
 use Rattle.giop_msg.specs.Target.{by_key, key_fields, IsTarget}
 use Rattle.giop_msg.specs.Request.{opening_fields, closing_fields, body_at, request_head}
-use Rattle.giop_msg.specs.Reply.{datum_field}
+use Rattle.giop_answer.specs.Reply.{datum_field}
 use Rattle.giop_msg.specs.Ask.{request_draft, request_end, argument_bytes, request_bytes, asked_body, IsAsk}
 use Rattle.giop_msg.specs.Laws.{WrittenIsMessage, WrittenAsks}
 use Rattle.giop_msg.proofs.Fields.{reads_split}

@@ -10,7 +10,7 @@ use Rattle.giop_msg.specs.declared.incoming.Incoming.{Incoming}
 use Rattle.giop_msg.specs.declared.incoming.Incoming.TheVariants as incoming
 use Rattle.giop_msg.specs.declared.fault.MsgFault.{MsgFault}
 use Rattle.giop_msg.specs.declared.fault.MsgFault.TheVariants.{Malformed, NotForServer, WantMemory}
-use Rattle.giop_msg.specs.declared.kind.TheConstants.{REQUEST, CANCEL_REQUEST, LOCATE_REQUEST, CLOSE_CONNECTION}
+use Rattle.giop_answer.specs.declared.kind.TheConstants.{REQUEST, CANCEL_REQUEST, LOCATE_REQUEST, CLOSE_CONNECTION}
 use Rattle.giop_msg.specs.Fields.{fields_start}
 use Rattle.giop_msg.specs.Header.{message_type, IsForClient}
 use Rattle.giop_msg.specs.Request.{body_at, request_head, IsRequest}

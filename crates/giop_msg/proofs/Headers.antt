@@ -2,9 +2,9 @@
 use Rattle.std.proofs.Common.{◌≡◌, ℕ, ◌<◌, Bool, true, false, List, drop, refl, arith}
 use Rattle.giop_frame.specs.Part.{is_little}
 use Rattle.giop_frame.specs.Message.{IsMessage}
-use Rattle.giop_msg.specs.declared.kind.TheConstants.{HEADER, MINOR}
+use Rattle.giop_answer.specs.declared.kind.TheConstants.{HEADER, MINOR}
 use Rattle.giop_msg.specs.Header.{message_type}
-use Rattle.giop_msg.specs.Outgoing.{framed}
+use Rattle.giop_answer.specs.Outgoing.{framed}
 
 pub framed-type : (minor kind : ℕ) (little : Bool) (content : List ℕ) → message_type (framed minor kind little content) ≡ kind
 framed-type minor kind true content = refl

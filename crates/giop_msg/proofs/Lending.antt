@@ -19,7 +19,7 @@ use Rattle.ior_profile.specs.Key.{TellsKey, HasKey}
 use Rattle.profile_view.proofs.Lying.{key_lies}
 use Rattle.giop_msg.specs.declared.incoming.Incoming.{Incoming}
 use Rattle.giop_msg.specs.declared.incoming.Incoming.TheVariants as incoming
-use Rattle.giop_msg.specs.declared.kind.TheConstants.{HEADER}
+use Rattle.giop_answer.specs.declared.kind.TheConstants.{HEADER}
 use Rattle.giop_msg.specs.Fields.{fields_start}
 use Rattle.giop_msg.specs.Target.{Target, by_key, by_profile, by_reference, ReadsAddress, GivesKey, IsTarget}
 use Rattle.giop_msg.specs.Request.{opening_fields, IsRequest}

@@ -19,4 +19,3 @@ pub mod Headers
 pub mod Asking
 pub mod Answering
 pub mod Lending
-pub mod Replies

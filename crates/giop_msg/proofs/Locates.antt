@@ -10,7 +10,7 @@ use Rattle.cdr_core.proofs.Refusals.{none_where_refused}
 use Rattle.poa_base.specs.declared.Call.TheVariants.{Request, Locate, Line}
 use Rattle.poa_base.specs.declared.Head.{Head}
 use Rattle.giop_frame.specs.Part.{is_little}
-use Rattle.giop_msg.specs.declared.kind.TheConstants.{LOCATE_REQUEST}
+use Rattle.giop_answer.specs.declared.kind.TheConstants.{LOCATE_REQUEST}
 use Rattle.giop_msg.specs.Fields.{fields_start}
 use Rattle.giop_msg.specs.Header.{message_type}
 use Rattle.giop_msg.specs.Target.{IsTarget}

@@ -2,7 +2,7 @@
 use Rattle.std.proofs.Common.{◌≡◌, ℕ, List, arith}
 use Rattle.giop_msg.specs.declared.incoming.Incoming.{Incoming}
 use Rattle.giop_msg.specs.declared.incoming.Incoming.TheVariants as incoming
-use Rattle.giop_msg.specs.declared.kind.TheConstants.{REQUEST, CANCEL_REQUEST, LOCATE_REQUEST, CLOSE_CONNECTION}
+use Rattle.giop_answer.specs.declared.kind.TheConstants.{REQUEST, CANCEL_REQUEST, LOCATE_REQUEST, CLOSE_CONNECTION}
 use Rattle.giop_msg.specs.Header.{message_type, IsForClient}
 use Rattle.giop_msg.specs.Reading.{NoCall}
 use Rattle.giop_msg.specs.Call.{HasId, Asks, IsMalformed}

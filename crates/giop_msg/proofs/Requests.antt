@@ -5,7 +5,7 @@ use Rattle.poa_base.specs.declared.Body.{Body}
 use Rattle.poa_base.specs.declared.Call.TheVariants.{Request, Locate, Line}
 use Rattle.poa_base.specs.declared.Head.{Head}
 use Rattle.giop_frame.specs.Part.{is_little}
-use Rattle.giop_msg.specs.declared.kind.TheConstants.{HEADER, REQUEST}
+use Rattle.giop_answer.specs.declared.kind.TheConstants.{HEADER, REQUEST}
 use Rattle.giop_msg.specs.Fields.{fields_start}
 use Rattle.giop_msg.specs.Target.{IsTarget}
 use Rattle.giop_msg.specs.Request.{opening_fields, closing_fields, body_at, request_head, IsOpening, IsClosing, IsRequest}

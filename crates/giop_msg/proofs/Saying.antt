@@ -10,7 +10,7 @@ use Rattle.giop_msg.specs.declared.incoming.Incoming.{Incoming}
 use Rattle.giop_msg.specs.declared.incoming.Incoming.TheVariants as incoming
 use Rattle.giop_msg.specs.declared.fault.MsgFault.{MsgFault}
 use Rattle.giop_msg.specs.declared.fault.MsgFault.TheVariants.{Malformed, NotForServer}
-use Rattle.giop_msg.specs.declared.kind.TheConstants.{REQUEST, REPLY, CANCEL_REQUEST, LOCATE_REQUEST, LOCATE_REPLY, CLOSE_CONNECTION, MESSAGE_ERROR}
+use Rattle.giop_answer.specs.declared.kind.TheConstants.{REQUEST, REPLY, CANCEL_REQUEST, LOCATE_REQUEST, LOCATE_REPLY, CLOSE_CONNECTION, MESSAGE_ERROR}
 use Rattle.giop_msg.specs.Call.{MakesCall, Asks, CallOf}
 use Rattle.giop_msg.specs.Fields.{fields_start}
 use Rattle.giop_msg.specs.Header.{message_type, IsForClient}

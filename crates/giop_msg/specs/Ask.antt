@@ -7,11 +7,11 @@ use Rattle.poa_base.specs.declared.Body.{Body}
 use Rattle.poa_base.specs.declared.Call.{Call}
 use Rattle.poa_base.specs.declared.Call.TheVariants.{Request}
 use Rattle.poa_base.specs.declared.Datum.{Datum}
-use Rattle.giop_msg.specs.declared.kind.TheConstants.{MINOR, REQUEST, HEADER}
-use Rattle.giop_msg.specs.Outgoing.{framed, fields_draft}
+use Rattle.giop_answer.specs.declared.kind.TheConstants.{MINOR, REQUEST, HEADER}
+use Rattle.giop_answer.specs.Outgoing.{framed, fields_draft}
 use Rattle.giop_msg.specs.Target.{key_fields}
 use Rattle.giop_msg.specs.Request.{opening_fields, closing_fields}
-use Rattle.giop_msg.specs.Reply.{datum_field}
+use Rattle.giop_answer.specs.Reply.{datum_field}
 
 -- the fields in front of the body: the reserved octets are 0, the target is told by its key, no contexts
 abbrev pub request_draft : Ask → Draft

@@ -3,7 +3,7 @@ use Rattle.std.specs.Prelude.{◌≡◌, ℕ, List, [], ◌∷◌, drop}
 use Rattle.cdr_core.specs.Field.{Field}
 use Rattle.cdr_core.specs.Cursor.{Cursor, Reads}
 use Rattle.giop_frame.specs.Part.{is_little}
-use Rattle.giop_msg.specs.declared.kind.TheConstants.{HEADER}
+use Rattle.giop_answer.specs.declared.kind.TheConstants.{HEADER}
 
 -- the fields are spelled one behind the other from the first cursor on, and the second stands behind them
 abbrev pub ReadsAll : List Field → Cursor → Cursor → Type 0

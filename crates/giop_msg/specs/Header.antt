@@ -1,6 +1,6 @@
 -- The header of a message: CORBA 3.3 Part 2, 9.4.1.
 use Rattle.std.specs.Prelude.{ℕ, List, slice_index, ◌≡◌, ◌⊎◌}
-use Rattle.giop_msg.specs.declared.kind.TheConstants.{REPLY, LOCATE_REPLY, MESSAGE_ERROR}
+use Rattle.giop_answer.specs.declared.kind.TheConstants.{REPLY, LOCATE_REPLY, MESSAGE_ERROR}
 
 -- the type of a message
 abbrev pub message_type : List ℕ → ℕ

@@ -7,8 +7,5 @@ pub mod Call
 pub mod Reading
 pub mod Seen
 pub mod Lent
-pub mod Outgoing
-pub mod Exception
-pub mod Reply
 pub mod Ask
 pub mod Laws

@@ -4,7 +4,7 @@ use Rattle.cdr_core.specs.Field.{ulong}
 use Rattle.cdr_core.specs.Cursor.{Cursor, Reads}
 use Rattle.poa_base.specs.declared.Head.{Head}
 use Rattle.giop_frame.specs.Part.{is_little}
-use Rattle.giop_msg.specs.declared.kind.TheConstants.{MINOR}
+use Rattle.giop_answer.specs.declared.kind.TheConstants.{MINOR}
 use Rattle.giop_msg.specs.Fields.{fields_start}
 use Rattle.giop_msg.specs.Target.{IsTarget}
 

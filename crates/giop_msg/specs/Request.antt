@@ -6,7 +6,7 @@ use Rattle.cdr_core.specs.Cursor.{Cursor}
 use Rattle.poa_base.specs.declared.Head.{Head}
 use Rattle.poa_base.specs.declared.Body.{Body}
 use Rattle.giop_frame.specs.Part.{is_little}
-use Rattle.giop_msg.specs.declared.kind.TheConstants.{MINOR}
+use Rattle.giop_answer.specs.declared.kind.TheConstants.{MINOR}
 use Rattle.giop_msg.specs.Fields.{ReadsAll, fields_start}
 use Rattle.giop_msg.specs.Target.{IsTarget}
 

@@ -1,15 +1,14 @@
 //! Requests that are written: CORBA 3.3 Part 2, 9.4.2.
 ghost use Rattle.std.specs.Prelude.{◌≡◌, ◌<◌, ◌^◌, IfOk, OnOk, IsFalse};
 ghost use Rattle.giop_frame.specs.Message.{IsMessage};
-ghost use Rattle.giop_msg.specs.Outgoing.{fields_draft};
+ghost use Rattle.giop_answer.specs.Outgoing.{fields_draft};
 ghost use Rattle.giop_msg.specs.Request.{opening_fields};
 ghost use Rattle.giop_msg.specs.Ask.{request_bytes, request_draft, argument_bytes as bytes_of_argument, IsAsk};
 
-use crate::field::put_datum;
-use crate::kind::{HEADER, MINOR, REQUEST};
-use crate::outgoing::framed;
 use crate::target::KEY_ADDRESS;
 use cdr_core::Writer;
+use giop_answer::kind::{HEADER, MINOR, REQUEST};
+use giop_answer::{framed, put_datum};
 use poa_base::{Ask, Bytes, Datum, WantMemory};
 use std::alloc::Global;
 

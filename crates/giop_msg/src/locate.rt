@@ -5,11 +5,11 @@ ghost use Rattle.giop_msg.specs.Call.{Asks};
 ghost use Rattle.giop_msg.specs.Reading.{NoCall};
 ghost use Rattle.giop_msg.specs.Seen.{asked_by};
 
-use crate::kind::{HEADER, LOCATE_REQUEST, MINOR};
 use crate::seen::Seen;
 use crate::target::view_target;
 use crate::view_fault::Unreadable;
 use crate::viewing::{enter, is_little};
+use giop_answer::kind::{HEADER, LOCATE_REQUEST, MINOR};
 use poa_base::Head;
 
 /// The call that a LocateRequest makes.

@@ -4,18 +4,18 @@ ghost use Rattle.cdr_core.specs.Cursor.{Cursor};
 ghost use Rattle.poa_base.specs.declared.Body.{Body};
 ghost use Rattle.giop_frame.specs.Part.{is_little as little_flag};
 ghost use Rattle.giop_msg.specs.Header.{message_type};
-ghost use Rattle.giop_msg.specs.declared.kind.TheConstants.{REQUEST};
+ghost use Rattle.giop_answer.specs.declared.kind.TheConstants.{REQUEST};
 ghost use Rattle.giop_msg.specs.Request.{body_at as body_behind, IsOpening, IsClosing};
 ghost use Rattle.giop_msg.specs.Call.{Asks};
 ghost use Rattle.giop_msg.specs.Reading.{IsContext, HasContexts, NoCall};
 ghost use Rattle.giop_msg.specs.Seen.{asked_by};
 
-use crate::kind::{HEADER, MINOR};
 use crate::seen::Seen;
 use crate::target::view_target;
 use crate::view_fault::Unreadable;
 use crate::viewing::{enter, is_little};
 use cdr_core::{PartFault, View};
+use giop_answer::kind::{HEADER, MINOR};
 use poa_base::Head;
 
 /// The first fields of a Request.

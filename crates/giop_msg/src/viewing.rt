@@ -9,12 +9,12 @@ ghost use Rattle.giop_msg.specs.Call.{CallOf, HasId};
 ghost use Rattle.giop_msg.specs.Seen.{asked_by, told_by, answer_of};
 ghost use Rattle.giop_msg.specs.Lent.{LendsParts};
 
-use crate::kind::{CANCEL_REQUEST, CLOSE_CONNECTION, HEADER, LOCATE_REQUEST, REQUEST};
 use crate::locate::view_locate;
 use crate::request::view_request;
 use crate::seen::Seen;
 use crate::view_fault::{Unreadable, ViewFault};
 use cdr_core::View;
+use giop_answer::kind::{CANCEL_REQUEST, CLOSE_CONNECTION, HEADER, LOCATE_REQUEST, REQUEST};
 use giop_frame::Message;
 
 /// What a message asks of a server: the call of a Request or a LocateRequest, the id of a CancelRequest, or a

@@ -8,7 +8,7 @@ use Rattle.poa_base.specs.declared.Reply.{Reply}
 use Rattle.poa_base.specs.declared.Reply.TheVariants.{Outcome, Forward, Addressing, Here, UnknownObject, Answer}
 use Rattle.giop_msg.specs.declared.Incoming.TheVariants as incoming
 use Rattle.giop_msg.specs.Call.{CallOf}
-use Rattle.giop_msg.specs.Reply.{AnswersHead}
+use Rattle.giop_answer.specs.Reply.{AnswersHead}
 use Rattle.poa_core.specs.Answers.{head_of}
 use Rattle.poa_core.specs.Fits.{FitsCall, fits_request, fits_locate}
 use Rattle.giop_replies.specs.Calls.{IsHeaded, IsSaid, IsReplyTo}

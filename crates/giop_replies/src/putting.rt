@@ -1,6 +1,6 @@
 //! A reply behind other bytes.
 ghost use Rattle.std.specs.Prelude.{◌≡◌, ◌++◌, OnOk};
-ghost use Rattle.giop_msg.specs.Reply.{reply_bytes};
+ghost use Rattle.giop_answer.specs.Reply.{reply_bytes};
 ghost use Rattle.giop_replies.specs.Calls.{IsReplyTo};
 
 use poa_base::{Head, Reply, WantMemory};
@@ -16,5 +16,5 @@ pub fn put_reply(
     requires { IsReplyTo head.now reply.now }
     ensures { OnOk result (out.new.items ≡ out.old.items ++ reply_bytes head.now reply.now) }
 {
-    giop_msg::put_reply(alloc, out, head, reply)
+    giop_answer::put_reply(alloc, out, head, reply)
 }

@@ -5,7 +5,7 @@
 use crate::calls::head;
 use crate::fault::Fault;
 use crate::play::Play;
-use giop_msg::write_reply;
+use giop_answer::write_reply;
 use model_replies::{Kept, ServantState, slow_reply};
 use poa_base::{Bytes, Call, Datum, Entry, Incarnation, Outcome, Reply, State};
 use standing_queries::calls::call_of;

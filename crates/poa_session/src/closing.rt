@@ -11,7 +11,7 @@ ghost use Rattle.poa_session.specs.Writing.{Writes};
 
 use crate::paying::pay;
 use crate::writing::write_all;
-use giop_msg::{write_closing, write_error};
+use giop_answer::{write_closing, write_error};
 use outside::Link;
 use poa_base::SessionEnd;
 use poa_shared::{Seat, Shared};

@@ -3,7 +3,7 @@ ghost use Rattle.std.specs.Prelude.{◌≡◌, ◌≢◌, ◌≤◌, ◌++◌, S
 ghost use Rattle.seat_lock.specs.Seats.{view};
 ghost use Rattle.outside.specs.Cause.{HasCause};
 ghost use Rattle.run_history.specs.declared.Givens.{Givens};
-ghost use Rattle.giop_msg.specs.Reply.{AnswersHead};
+ghost use Rattle.giop_answer.specs.Reply.{AnswersHead};
 ghost use Rattle.session_laws.specs.Records.{told};
 ghost use Rattle.poa_shared.specs.Seats.{IsIdle};
 ghost use Rattle.poa_shared.specs.Seen.{HoldsConnection, Owns};
@@ -11,7 +11,7 @@ ghost use Rattle.poa_session.specs.Paying.{Gathers, NextGathered, Pays, PutsOn};
 
 use crate::writing::write_all;
 use admin_line::write_answer;
-use giop_msg::put_reply;
+use giop_answer::put_reply;
 use outside::Link;
 use poa_base::{Head, Reply, SessionEnd, WantMemory};
 use poa_core::Collected;

@@ -4,7 +4,7 @@ use Rattle.poa_base.specs.declared.Call.{Call}
 use Rattle.poa_base.specs.declared.Head.{Head}
 use Rattle.poa_base.specs.declared.Point.{Point}
 use Rattle.poa_base.specs.declared.Reply.{Reply}
-use Rattle.giop_msg.specs.Reply.{reply_bytes}
+use Rattle.giop_answer.specs.Reply.{reply_bytes}
 use Rattle.poad_answer.specs.Serving.{IsServing}
 use Rattle.run_history.specs.Life.{Life, with_entry}
 use Rattle.poa_core.specs.Answers.{Steps, Collects, is_taken}

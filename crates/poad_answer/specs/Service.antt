@@ -14,7 +14,7 @@ use Rattle.poad_answer.specs.declared.service.Service.{Service}
 use Rattle.poad_answer.specs.declared.stop.Stop.{Stop}
 use Rattle.poad_answer.specs.declared.stop.Stop.TheVariants.{Waits, Closed, Refused, Full, NoMemory}
 use Rattle.poa_base.specs.declared.Config.{Config}
-use Rattle.giop_msg.specs.Reply.{reply_bytes}
+use Rattle.giop_answer.specs.Reply.{reply_bytes}
 use Rattle.replay_player.specs.Collecting.{CollectsAll}
 use Rattle.poad_answer.specs.Serving.{MessageGives, GivesAsked, IsLegalRun, IsServing, Serves, Works}
 use Rattle.poad_answer.specs.Run.{life_at_answer}

@@ -7,7 +7,7 @@ use Rattle.giop_frame.specs.Stream.{Framed}
 use Rattle.giop_msg.specs.declared.Incoming.{Incoming}
 use Rattle.giop_msg.specs.declared.Incoming.TheVariants as incoming
 use Rattle.giop_msg.specs.Call.{CallOf}
-use Rattle.giop_msg.specs.Reply.{reply_bytes}
+use Rattle.giop_answer.specs.Reply.{reply_bytes}
 use Rattle.poa_history.specs.Legal.{IsLegal, IsOpen}
 use Rattle.poa_history.specs.Lifetime.{HasLifetime}
 use Rattle.history_laws.specs.Lasting.{KeepsUpdates, LeavesNothing}

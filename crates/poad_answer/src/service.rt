@@ -14,8 +14,9 @@ ghost use Rattle.poad_answer.specs.Service.{IsAsked, IsNew, IsReady, ServesUpTo,
 
 use crate::stop::Stop;
 use crate::turns::{collected, take_turns};
+use giop_answer::{write_closing, write_error};
 use giop_frame::{Framer, Message, Next};
-use giop_msg::{Incoming, MsgFault, read_call, write_closing, write_error};
+use giop_msg::{Incoming, MsgFault, read_call};
 use outside::Sink;
 use poa_base::limits::CALLS;
 use poa_base::{Call, Config, Store, WantMemory};

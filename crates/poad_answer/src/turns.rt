@@ -1,6 +1,6 @@
 //! The turns of worker 0, and the replies that are decided then.
 ghost use Rattle.std.specs.Prelude.{◌<◌, IfOk, OnOk};
-ghost use Rattle.giop_msg.specs.Reply.{reply_bytes};
+ghost use Rattle.giop_answer.specs.Reply.{reply_bytes};
 ghost use Rattle.poad_answer.specs.Serving.{IsServing};
 ghost use Rattle.replay_player.specs.Collecting.{CollectsAll};
 ghost use Rattle.poad_answer.specs.Serving.{Works};

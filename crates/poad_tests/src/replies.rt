@@ -1,5 +1,5 @@
 //! A reply of the first version, which has its fields in another order.
-use giop_msg::write_reply;
+use giop_answer::write_reply;
 use poa_base::{Datum, Head, Outcome, Reply};
 use std::test::Fail;
 

@@ -7,7 +7,7 @@ ghost use Rattle.replay_player.specs.Collecting.{CollectsAll};
 ghost use Rattle.replay_player.specs.Effects.{CollectsNext, Works};
 
 use crate::player::Player;
-use giop_msg::write_reply;
+use giop_answer::write_reply;
 use poa_base::{Head, Reply, WantMemory};
 use poa_core::Collected;
 use replay_lines::{print_answer, print_bytes};

@@ -3,7 +3,7 @@ use Rattle.std.specs.Prelude.{◌≡◌, ℕ, List, [], ◌∷◌, ◌++◌, Opt
 use Rattle.poa_base.specs.declared.Head.{Head}
 use Rattle.poa_base.specs.declared.Reply.{Reply}
 use Rattle.poa_base.specs.declared.Reply.TheVariants.{Answer}
-use Rattle.giop_msg.specs.Reply.{reply_bytes}
+use Rattle.giop_answer.specs.Reply.{reply_bytes}
 use Rattle.run_history.specs.Life.{Life, givens_of}
 use Rattle.replay_player.specs.Collecting.{CollectsAll}
 use Rattle.replay_player.specs.Working.{Stays, Then}

@@ -10,7 +10,7 @@ use Rattle.run_history.specs.declared.Givens.{Givens}
 use Rattle.run_tally.specs.Leaving.{is_shut}
 use Rattle.run_tally.specs.Limits.{filled_at}
 use Rattle.seat_lock.specs.Histories.{IsPrefix}
-use Rattle.giop_msg.specs.Outgoing.{framed}
+use Rattle.giop_answer.specs.Outgoing.{framed}
 use Rattle.session_laws.specs.declared.peer.Peer.{Peer}
 use Rattle.session_laws.specs.declared.peer.Peer.TheVariants.{Client, Administrator}
 use Rattle.session_laws.specs.Hearing.{Heard, Stop, closed, over, bad, HearsMessages}

@@ -3,7 +3,7 @@ use Rattle.std.proofs.Common.{ℕ, ◌+◌, List, ap, ap₂, ◌++◌, ◌∙◌
 use Rattle.std.proofs.lemmas.List.{take-replicate}
 use Rattle.cdr_core.specs.Spelling.{gap, written}
 use Rattle.cdr_core.specs.Draft.{Draft, with_field}
-use Rattle.giop_msg.specs.Reply.{datum_field}
+use Rattle.giop_answer.specs.Reply.{datum_field}
 use Rattle.giop_msg.proofs.ask.argument_bytes.Goals as goal
 
 pub returns : goal.returns

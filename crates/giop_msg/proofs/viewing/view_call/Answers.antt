@@ -3,7 +3,7 @@ use Rattle.std.proofs.Common.{◌≡◌, ℕ, ◌≤◌, List, length, Result, s
 use Rattle.std.specs.Prelude.{IfOk}
 use Rattle.giop_msg.specs.declared.incoming.Incoming.{Incoming}
 use Rattle.giop_msg.specs.declared.fault.MsgFault.{MsgFault}
-use Rattle.giop_msg.specs.declared.kind.TheConstants.{HEADER}
+use Rattle.giop_answer.specs.declared.kind.TheConstants.{HEADER}
 use Rattle.giop_msg.specs.Call.{CallOf}
 use Rattle.giop_msg.specs.Seen.{asked_by, answer_of}
 use Rattle.giop_msg.specs.Lent.{LendsParts}

@@ -1,5 +1,5 @@
 use Rattle.std.proofs.Common.{List, ℕ, [], append-nil, subst}
-use Rattle.giop_msg.specs.Reply.{reply_bytes}
+use Rattle.giop_answer.specs.Reply.{reply_bytes}
 use Rattle.replay_player.specs.Collecting.{CollectsAll}
 use Rattle.replay_player.proofs.Collected.{collected_none}
 use Rattle.poad_answer.proofs.Worked.{given_to, replies_more, serving_collected}

@@ -10,9 +10,9 @@ use Rattle.cdr_core.specs.Laws.{IsBehind}
 use Rattle.cdr_core.proofs.Behind.{written_behind}
 use Rattle.poa_base.specs.declared.Head.{Head}
 use Rattle.poa_base.specs.declared.Reply.{Reply}
-use Rattle.giop_msg.specs.declared.kind.TheConstants.{HEADER}
-use Rattle.giop_msg.specs.Outgoing.{framed}
-use Rattle.giop_msg.specs.Reply.{reply_bytes, reply_fields, reply_kind, opening_of, content_draft}
+use Rattle.giop_answer.specs.declared.kind.TheConstants.{HEADER}
+use Rattle.giop_answer.specs.Outgoing.{framed}
+use Rattle.giop_answer.specs.Reply.{reply_bytes, reply_fields, reply_kind, opening_of, content_draft}
 
 begins_behind : (little : Bool) (front : List ℕ) → IsBehind front (draft_behind little HEADER front) (empty_draft little HEADER)
 begins_behind little front = record { order = refl; bytes = sym (append-nil front); aligned = omega arith }

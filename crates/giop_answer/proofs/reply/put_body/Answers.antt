@@ -3,8 +3,8 @@ use Rattle.std.proofs.Common.{◌≡◌, ℕ, List, subst}
 use Rattle.std.specs.Prelude.{OnOk}
 use Rattle.cdr_core.specs.Fields.{with_fields}
 use Rattle.ior_profile.specs.Profile.{profile_of}
-use Rattle.giop_msg.specs.Reply.{reference_fields}
-use Rattle.giop_msg.proofs.reply.put_body.Goals as goal
+use Rattle.giop_answer.specs.Reply.{reference_fields}
+use Rattle.giop_answer.proofs.reply.put_body.Goals as goal
 
 pub returns-in-Forward-clause-ok : goal.returns-in-Forward-clause-ok
 returns-in-Forward-clause-ok c =

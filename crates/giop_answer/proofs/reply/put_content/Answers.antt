@@ -2,9 +2,9 @@
 use Rattle.std.proofs.Common.{◌++◌, ap, ◌∙◌}
 use Rattle.cdr_core.specs.Draft.{Draft}
 use Rattle.cdr_core.specs.Fields.{with_fields}
-use Rattle.giop_msg.specs.Reply.{reply_fields, opening_of, content_draft}
-use Rattle.giop_msg.proofs.Replies.{content_behind, on_ok}
-use Rattle.giop_msg.proofs.reply.put_content.Goals as goal
+use Rattle.giop_answer.specs.Reply.{reply_fields, opening_of, content_draft}
+use Rattle.giop_answer.proofs.Replies.{content_behind, on_ok}
+use Rattle.giop_answer.proofs.reply.put_content.Goals as goal
 
 pub returns-clause-ok : goal.returns-clause-ok
 returns-clause-ok c =

@@ -12,10 +12,10 @@ use Rattle.poa_base.specs.declared.Reply.{Reply}
 use Rattle.poa_base.specs.declared.Reply.TheVariants as reply
 use Rattle.cdr_core.specs.Fields.{with_fields}
 use Rattle.ior_profile.specs.Profile.{profile_of}
-use Rattle.giop_msg.specs.declared.kind.TheConstants as kind
-use Rattle.giop_msg.specs.declared.status.TheConstants as status
-use Rattle.giop_msg.specs.Exception.{exception_fields}
-use Rattle.giop_msg.specs.Outgoing.{framed, fields_draft}
+use Rattle.giop_answer.specs.declared.kind.TheConstants as kind
+use Rattle.giop_answer.specs.declared.status.TheConstants as status
+use Rattle.giop_answer.specs.Exception.{exception_fields}
+use Rattle.giop_answer.specs.Outgoing.{framed, fields_draft}
 
 -- an argument or a result as a field
 abbrev pub datum_field : Datum → Field

@@ -1,9 +1,9 @@
 -- The header and the fields follow what stood there, and the header tells their size.
 use Rattle.std.proofs.Common.{◌++◌, [], List, ℕ, length, ap, sym, ◌∙◌, arith, length-append}
-use Rattle.giop_msg.specs.Outgoing.{framed}
-use Rattle.giop_msg.specs.Reply.{content_draft, reply_kind}
-use Rattle.giop_msg.proofs.Replies.{headed, header_len, on_ok, reply_framed, written_back}
-use Rattle.giop_msg.proofs.reply.append_reply.Goals as goal
+use Rattle.giop_answer.specs.Outgoing.{framed}
+use Rattle.giop_answer.specs.Reply.{content_draft, reply_kind}
+use Rattle.giop_answer.proofs.Replies.{headed, header_len, on_ok, reply_framed, written_back}
+use Rattle.giop_answer.proofs.reply.append_reply.Goals as goal
 
 pub tell_size-requires : goal.tell_size-requires
 tell_size-requires c =

@@ -7,7 +7,7 @@ use Rattle.poa_names.specs.declared.SysExc.{SysExc}
 use Rattle.poa_names.specs.declared.Completion.{Completion}
 use Rattle.poa_names.specs.declared.Completion.TheVariants.{Yes, No, Maybe}
 use Rattle.poa_base.specs.Minors.{completion_of}
-use Rattle.giop_msg.specs.declared.exception.TheConstants.{COMPLETED_YES, COMPLETED_NO, COMPLETED_MAYBE}
+use Rattle.giop_answer.specs.declared.exception.TheConstants.{COMPLETED_YES, COMPLETED_NO, COMPLETED_MAYBE}
 
 -- the repository id of an exception
 abbrev pub exception_id : ExcName → List ℕ

@@ -2,7 +2,7 @@
 ghost use Rattle.std.specs.Prelude.{◌≡◌, ◌≤◌, ◌++◌, length, take, vec_len, IfOk, OnOk, OnErr};
 ghost use Rattle.cdr_core.specs.Fields.{with_fields};
 ghost use Rattle.ior_profile.specs.Profile.{profile_of};
-ghost use Rattle.giop_msg.specs.Reply.{reply_bytes, reply_kind as kind_of_reply, content_draft, reply_fields, outcome_fields, reference_fields, value_fields, opening_of, reply_status as status_of, outcome_status as status_of_outcome, locate_status as status_of_locate, hides_results as hides, AnswersHead};
+ghost use Rattle.giop_answer.specs.Reply.{reply_bytes, reply_kind as kind_of_reply, content_draft, reply_fields, outcome_fields, reference_fields, value_fields, opening_of, reply_status as status_of, outcome_status as status_of_outcome, locate_status as status_of_locate, hides_results as hides, AnswersHead};
 
 use crate::exception::put_exception;
 use crate::field::put_datum;

@@ -5,7 +5,7 @@ use Rattle.cdr_core.specs.Field.{Field}
 use Rattle.cdr_core.specs.Spelling.{number_bytes}
 use Rattle.cdr_core.specs.Draft.{Draft, empty_draft}
 use Rattle.cdr_core.specs.Fields.{with_fields}
-use Rattle.giop_msg.specs.declared.kind.TheConstants.{HEADER}
+use Rattle.giop_answer.specs.declared.kind.TheConstants.{HEADER}
 
 -- a header of this minor version, type and byte order, in front of these bytes
 abbrev pub framed : ℕ → ℕ → Bool → List ℕ → List ℕ

@@ -1,8 +1,8 @@
 -- A message with nothing in front of it.
 use Rattle.std.proofs.Common.{◌++◌, [], ap, refl, ◌∙◌}
-use Rattle.giop_msg.specs.Outgoing.{framed}
-use Rattle.giop_msg.proofs.Replies.{written_back}
-use Rattle.giop_msg.proofs.outgoing.framed.Goals as goal
+use Rattle.giop_answer.specs.Outgoing.{framed}
+use Rattle.giop_answer.proofs.Replies.{written_back}
+use Rattle.giop_answer.proofs.outgoing.framed.Goals as goal
 
 pub returns : goal.returns
 returns c =

@@ -1,6 +1,6 @@
 //! The messages that end a connection: CORBA 3.3 Part 2, 9.4.7 and 9.4.8.
 ghost use Rattle.std.specs.Prelude.{◌≡◌, [], false};
-ghost use Rattle.giop_msg.specs.Outgoing.{framed};
+ghost use Rattle.giop_answer.specs.Outgoing.{framed};
 
 use crate::kind::{CLOSE_CONNECTION, MESSAGE_ERROR, MINOR};
 

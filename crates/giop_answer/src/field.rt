@@ -1,13 +1,13 @@
 //! Arguments and results as fields.
 ghost use Rattle.std.specs.Prelude.{◌≡◌, length, take, OnOk};
 ghost use Rattle.cdr_core.specs.Draft.{with_field};
-ghost use Rattle.giop_msg.specs.Reply.{datum_field};
+ghost use Rattle.giop_answer.specs.Reply.{datum_field};
 
 use cdr_core::Writer;
 use poa_base::{Datum, WantMemory};
 
 /// An argument or a result.
-pub(crate) fn put_datum(writer: &mut Writer, datum: &Datum) -> Result<(), WantMemory>
+pub fn put_datum(writer: &mut Writer, datum: &Datum) -> Result<(), WantMemory>
     ensures ok { OnOk result (writer.new ≡ with_field (datum_field datum.now) writer.old) }
     ensures front { take (length writer.old.bytes) writer.new.bytes ≡ writer.old.bytes }
 {

@@ -1,7 +1,7 @@
 //! System exceptions as they are told: CORBA 3.3 Part 1, A.5, and Part 2, 9.4.3.2.
 ghost use Rattle.std.specs.Prelude.{◌≡◌, ◌+◌, ◌^◌, ◌<◌, length, take, OnOk};
 ghost use Rattle.cdr_core.specs.Fields.{with_fields};
-ghost use Rattle.giop_msg.specs.Exception.{exception_id as id_of, completion_number as number_of, exception_fields};
+ghost use Rattle.giop_answer.specs.Exception.{exception_id as id_of, completion_number as number_of, exception_fields};
 
 use cdr_core::Writer;
 use poa_base::minors::completion_of;

@@ -1,5 +1,5 @@
-use Rattle.giop_msg.proofs.Replies.{front_through}
-use Rattle.giop_msg.proofs.reply.put_fields.Goals as goal
+use Rattle.giop_answer.proofs.Replies.{front_through}
+use Rattle.giop_answer.proofs.reply.put_fields.Goals as goal
 
 pub returns-clause-front : goal.returns-clause-front
 returns-clause-front c =

@@ -1,6 +1,6 @@
 //! Messages that are written.
 ghost use Rattle.std.specs.Prelude.{◌≡◌, ◌+◌, ◌^◌, ◌<◌, ◌≤◌, ◌++◌, [], ℕ, List, length, take, vec_len, IfOk, OnOk, OnErr};
-ghost use Rattle.giop_msg.specs.Outgoing.{framed as framed_bytes};
+ghost use Rattle.giop_answer.specs.Outgoing.{framed as framed_bytes};
 
 use crate::kind::HEADER;
 use poa_base::{Bytes, WantMemory};
@@ -8,7 +8,7 @@ use std::alloc::Global;
 
 /// A header of this minor version, type and byte order, and what follows it: CORBA 3.3 Part 2, 9.4.1.
 /// `WantMemory` is also the answer to 2^32 bytes or more, whose size no header tells.
-pub(crate) fn framed(
+pub fn framed(
     alloc: Global,
     minor: u8,
     kind: u8,

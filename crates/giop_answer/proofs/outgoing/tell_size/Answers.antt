@@ -1,9 +1,9 @@
 -- The message behind the front is the one that tells its size.
 use Rattle.std.proofs.Common.{◌++◌, List, [], ℕ, take, drop, ap, ap₂, sym, ◌∙◌}
 use Rattle.std.proofs.Math.Seq.{drop-append_seam, take-append_seam}
-use Rattle.giop_msg.specs.Outgoing.{framed}
-use Rattle.giop_msg.proofs.Replies.{on_ok}
-use Rattle.giop_msg.proofs.outgoing.tell_size.Goals as goal
+use Rattle.giop_answer.specs.Outgoing.{framed}
+use Rattle.giop_answer.proofs.Replies.{on_ok}
+use Rattle.giop_answer.proofs.outgoing.tell_size.Goals as goal
 
 pub returns-clause-ok : goal.returns-clause-ok
 returns-clause-ok c = λ front content minor kind begins stands.
