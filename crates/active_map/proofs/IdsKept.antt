@@ -152,7 +152,7 @@ behind_differs k (row ∷ rows) keyed past a (inl same) = apart k row.0 a.number
 behind_differs k (row ∷ rows) keyed past a (inr there) = behind_differs k rows keyed.1 past.1 a there
 
 -- a row is found by the number of its activation
-row_of : (rows : List (ℕ × Activation)) → IsKeyed rows → IsStrictlySortedBy nat_cmp (keys_of rows) → (a : Activation) → In a (values_of rows)
+pub row_of : (rows : List (ℕ × Activation)) → IsKeyed rows → IsStrictlySortedBy nat_cmp (keys_of rows) → (a : Activation) → In a (values_of rows)
     → lookup (is_at (nat_cmp a.number)) rows ≡ Some a
 row_of [] keyed ordered a there = absurd there
 row_of (row ∷ rows) keyed ordered a (inl same) =

@@ -3,3 +3,4 @@ pub mod Moving
 pub mod Ided
 pub mod IdsKept
 pub mod Removal
+pub mod Asking

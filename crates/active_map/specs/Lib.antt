@@ -1,3 +1,4 @@
 pub mod ById
 pub mod Tables
 pub mod Live
+pub mod Asked

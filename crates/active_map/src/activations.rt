@@ -5,14 +5,16 @@ ghost use Rattle.std.specs.Map.Iter.{deref, ShowsInOrder};
 ghost use Rattle.poa_tree.specs.Nodes as tree;
 ghost use Rattle.poa_history.specs.Changes as changes;
 ghost use Rattle.poa_history.specs.Ends as ends;
+ghost use Rattle.poa_history.specs.Situations as situations;
 ghost use Rattle.poa_history.specs.Standings as stands;
 ghost use Rattle.poa_history.specs.Standings.{Standing as Stood};
 ghost use Rattle.poa_history.specs.Templates as configured;
 ghost use Rattle.active_map.specs.Live.{live};
 ghost use Rattle.active_map.specs.Tables.{is_moving};
 
+use crate::adapters::{has_changing, has_live, has_other};
 use crate::by_id::{Index, add, numbers_of, remove};
-use crate::changing::{come_to, etherealize, is_other, let_go, let_out};
+use crate::changing::{come_to, etherealize, let_go, let_out};
 use crate::over::is_over;
 use crate::rows::{
     Rows, count_moving, end_all_activators, end_all_of_id, end_all_under, first_active, first_live,
@@ -109,6 +111,26 @@ impl Activations {
         first_live(&self.rows, config, numbers_of(&self.ids, adapter, oid))
     }
 
+    /// Whether one of an adapter isn't over.
+    pub fn has_live(&self, config: &Config, adapter: u32) -> bool
+        ensures { result ≡ list_any (λ a. (a.adapter == adapter) && not (ends.is_over config.now a)) self.now.kept }
+    {
+        match self.ids.get(&adapter) {
+            Some(ids) => has_live(&self.rows, ids, config, adapter),
+            None => false,
+        }
+    }
+
+    /// Whether an incarnation or etherealization is unfinished in an adapter.
+    pub fn is_changing(&self, config: &Config, adapter: u32) -> bool
+        ensures { result ≡ situations.is_changing config.now self.now.kept adapter }
+    {
+        match self.ids.get(&adapter) {
+            Some(ids) => has_changing(&self.rows, ids, config, adapter),
+            None => false,
+        }
+    }
+
     /// One more is begun, which has the next number.
     pub fn push(&mut self, activation: Activation) -> Result<(), WantMemory>
         requires next { activation.number ≡ self.old.forgotten + length self.old.kept }
@@ -149,7 +171,10 @@ impl Activations {
     fn is_elsewhere(&self, activation: &Activation) -> bool
         ensures { result ≡ changes.is_elsewhere self.now.kept activation.now }
     {
-        self.rows.values().any(|other| is_other(activation, other))
+        match self.ids.get(&activation.adapter) {
+            Some(ids) => has_other(&self.rows, ids, activation),
+            None => false,
+        }
     }
 
     /// Whether the servant of that of a number stays in the map by another one.

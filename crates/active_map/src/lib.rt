@@ -5,6 +5,7 @@
 
 pub mod activation;
 mod activations;
+mod adapters;
 mod by_id;
 mod changing;
 pub mod flights;

@@ -1,8 +1,9 @@
 //! When an activation is over.
 ghost use Rattle.std.specs.Prelude.{◌≡◌, ◌&&◌, ◌||◌, not};
 ghost use Rattle.poa_history.specs.Ends as ends;
+ghost use Rattle.poa_history.specs.Situations as situations;
 
-use crate::activation::is_void;
+use crate::activation::{is_begun, is_void};
 use crate::templates::has_activator;
 use poa_base::Config;
 use poa_history::Activation;
@@ -22,4 +23,11 @@ pub fn is_over(config: &Config, activation: &Activation) -> bool
     ensures { result ≡ ends.is_over config.now activation.now }
 {
     is_void(activation) || is_finished(config, activation)
+}
+
+/// Whether its incarnation or etherealization hasn't ended.
+pub fn is_unfinished(config: &Config, activation: &Activation) -> bool
+    ensures { result ≡ situations.is_unfinished config.now activation.now }
+{
+    is_begun(activation) || (activation.out && !is_finished(config, activation))
 }

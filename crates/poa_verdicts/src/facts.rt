@@ -1,5 +1,5 @@
 //! What stands about a request or a locate: the facts that the table of verdicts asks.
-ghost use Rattle.std.specs.Prelude.{◌≡◌, ◌==◌, ◌&&◌, ℕ, List, Some, None, if◌then◌else◌, option_and_then, option_copied, IfOk};
+ghost use Rattle.std.specs.Prelude.{◌≡◌, ℕ, List, Some, None, if◌then◌else◌, option_and_then, option_copied, IfOk};
 ghost use Rattle.poa_base.specs.declared.Entry.{Entry};
 ghost use Rattle.poa_choose.specs.declared.KeyFact.TheVariants.{OtherRun, Persistent, Transient};
 ghost use Rattle.poa_history.specs.Arrivals as calls;
@@ -14,15 +14,12 @@ ghost use Rattle.poa_verdicts.specs.Said.{IsAsSaid};
 use crate::commands::is_bad_id;
 use crate::rules::located;
 use active_map::Activations;
-use active_map::activation::is_begun;
 use active_map::flights::{is_running, is_tried};
-use active_map::over::is_finished;
 use active_map::templates::{children_at, manager_at, policies_at, rules_at};
 use adapter_settings::{Settings, forward_of, manager_state, preset_of};
 use object_key::KeyView;
 use poa_base::{Bytes, Call, Config, Endpoint, ManagerState, Name, Stamp, WantMemory};
 use poa_choose::{Facts, KeyFact, MapFact, WalkFact};
-use poa_history::Activation;
 use poa_tree::Found;
 use poa_tree::walks::{adapter_met, child_met, place_met, walk};
 use standing_queries::Standing;
@@ -101,20 +98,6 @@ fn slot_of(config: &Config, standing: &Standing, adapter: u32, oid: &[u8]) -> Ma
     slot_among(config, &standing.activations, adapter, oid)
 }
 
-/// Whether its incarnation or etherealization hasn't ended.
-fn is_unfinished(config: &Config, activation: &Activation) -> bool
-    ensures { result ≡ situations.is_unfinished config.now activation.now }
-{
-    is_begun(activation) || (activation.out && !is_finished(config, activation))
-}
-
-/// Whether it is of the adapter and hasn't ended.
-fn is_changing_in(config: &Config, adapter: u32, activation: &Activation) -> bool
-    ensures { result ≡ (activation.now.adapter == adapter) && situations.is_unfinished config.now activation.now }
-{
-    activation.adapter == adapter && is_unfinished(config, activation)
-}
-
 /// Whether one of them is unfinished in the adapter.
 fn is_any_changing(config: &Config, activations: &Activations, adapter: u32) -> bool
     ensures { result ≡ situations.is_changing config.now activations.now.kept adapter }
@@ -122,9 +105,7 @@ fn is_any_changing(config: &Config, activations: &Activations, adapter: u32) -> 
     if activations.is_still() {
         return false;
     }
-    activations
-        .iter()
-        .any(|activation| is_changing_in(config, adapter, activation))
+    activations.is_changing(config, adapter)
 }
 
 /// Whether an incarnation or etherealization is unfinished in the adapter.
