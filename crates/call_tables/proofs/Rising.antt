@@ -1,5 +1,5 @@
 -- Rows in the order of their arriving, and the one row of a target among them.
-use Rattle.std.proofs.Common.{◌≡◌, ℕ, ◌<◌, ◌≤◌, zero, suc, Bool, true, false, not, List, [], ◌∷◌, filter, length, get_or, cond, nat_lt, Some, Ok, Err, inl, inr, refl, sym, ap, ap₂, ◌∙◌, arith}
+use Rattle.std.proofs.Common.{◌≡◌, ℕ, ◌<◌, ◌≤◌, zero, suc, Bool, true, false, not, List, [], ◌∷◌, filter, length, get_or, cond, nat_lt, Some, Ok, Err, inl, inr, refl, sym, ap₂, arith}
 use Rattle.std.specs.List.{remove}
 use Rattle.std.specs.List.Sorted.{IsBinarySearchResult}
 use Rattle.std.specs.Ordering.{nat_cmp}
@@ -68,13 +68,9 @@ module _ (r : ℕ) where
       )
 
   -- what the search finds is filed, and nothing else
-  pub found : (os : List Owing) (i : ℕ) (row : Owing) → Ascends (arrivals_of os) → i < length os → IsBinarySearchResult (λ o. nat_cmp o.arrival r) os (Ok i)
-      → row ≡ get_or os i row
-      → (filter its os ≡ row ∷ []) × (filter (λ o. not (its o)) os ≡ remove os i) × (its row ≡ true)
-  found os i row up low is same =
-      (let at = ranked (get_or os i row).arrival r _ (sym (is row)) in
-      let alone = alone_at os i row up low at in
-      (alone.0 ∙ ap (λ o. o ∷ []) (sym same), alone.1, its_is row (ap (λ o. o.arrival) same ∙ at)))
+  pub found : (os : List Owing) (i : ℕ) (d : Owing) → Ascends (arrivals_of os) → i < length os → IsBinarySearchResult (λ o. nat_cmp o.arrival r) os (Ok i)
+      → (filter its os ≡ get_or os i d ∷ []) × (filter (λ o. not (its o)) os ≡ remove os i)
+  found os i d up low is = alone_at os i d up low (ranked (get_or os i d).arrival r _ (sym (is d)))
 
   pub missing : (os : List Owing) (i : ℕ) → Ascends (arrivals_of os) → IsBinarySearchResult (λ o. nat_cmp o.arrival r) os (Err i) → (filter its os ≡ [])
       × (filter (λ o. not (its o)) os ≡ os)

@@ -1,5 +1,5 @@
 //! The rows of the calls that are owed a reply, as entries decide them.
-ghost use Rattle.std.specs.Prelude.{◌≡◌, ◌==◌, ◌≤◌, ◌++◌, ℕ, false, not, drop, filter, length, map, take};
+ghost use Rattle.std.specs.Prelude.{◌≡◌, ◌==◌, ◌≤◌, ◌++◌, ℕ, Some, false, not, drop, filter, length, map, option_to_list, take};
 ghost use Rattle.std.specs.VecDeque.{deque_len, deque_capacity};
 ghost use Rattle.std.specs.List.{list_any};
 ghost use Rattle.poa_history.specs.Stages as begun;
@@ -144,6 +144,20 @@ pub(crate) fn any_waits(owing: &VecDeque<Owing>) -> bool
     owing.iter().any(|row| row.wait.is_some())
 }
 
+/// The row of an arrival is taken out.
+fn take_row(owing: &mut VecDeque<Owing>, arrival: u64) -> Option<Owing>
+    requires { Ascends (arrivals_of owing.old.items) }
+    ensures row { option_to_list result ≡ filter (λ o. begun.is_at o.arrival (Some arrival)) owing.old.items }
+    ensures kept { owing.new.items ≡ filter (λ o. not (begun.is_at o.arrival (Some arrival))) owing.old.items }
+    ensures fewer { deque_len owing.new ≤ deque_len owing.old }
+    ensures places { deque_capacity owing.new ≡ deque_capacity owing.old }
+{
+    let Ok(place) = owing.binary_search_by_key(&arrival, |row| row.arrival) else {
+        return None;
+    };
+    owing.remove(place)
+}
+
 /// Files the reply of the target alone.
 pub(crate) fn file_target(
     target: Option<u64>,
@@ -164,10 +178,7 @@ pub(crate) fn file_target(
     let Some(arrival) = target else {
         return;
     };
-    let Ok(place) = owing.binary_search_by_key(&arrival, |row| row.arrival) else {
-        return;
-    };
-    if let Some(row) = owing.remove(place) {
+    if let Some(row) = take_row(owing, arrival) {
         outboxes.file(Filed {
             arrival: row.arrival,
             conn: row.conn,
