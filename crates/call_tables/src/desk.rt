@@ -31,12 +31,13 @@ pub struct Desk {
 }
 
 impl Desk {
-    ghost use Rattle.std.specs.Prelude.{◌≤◌, ◌+◌, ◌++◌, ◌∷◌, List, not, [], find, map, OnOk};
+    ghost use Rattle.std.specs.Prelude.{◌≤◌, ◌+◌, ◌++◌, ◌∷◌, List, not, [], find, map, IsOk, OnOk};
     ghost use Rattle.standing_queries.specs.Seen.{seen};
     ghost use Rattle.call_tables.specs.declared.filed.Filed.{Filed as FiledRow};
     ghost use Rattle.call_tables.specs.Desk as desks;
     ghost use Rattle.call_tables.specs.Desk.{Files, IsAlone, HasRoomForOne};
     ghost use Rattle.standing_queries.specs.Numbers.{Ascends};
+    ghost use Rattle.call_tables.specs.Outboxes.{room_at, room_left};
     ghost use Rattle.call_tables.specs.Owed.{arrivals_of};
 
     /// Nobody is owed a reply. Takes no memory.
@@ -52,12 +53,14 @@ impl Desk {
         }
     }
 
-    /// Makes room for a call of a connection that is owed a reply, and for its reply.
+    /// Makes room for a call of a connection that is owed a reply, and for its reply. Where there is room already it
+    /// takes no memory.
     pub fn reserve(&mut self, conn: u32) -> Result<(), WantMemory>
         ensures owing { self.new.owing.items ≡ self.old.owing.items }
         ensures files { (fs : List FiledRow) → Files self.old fs → Files self.new fs }
         ensures due { self.new.due ≡ self.old.due }
         ensures more { OnOk result (HasRoomForOne conn self.new) }
+        ensures has_room { HasRoomForOne conn self.old → IsOk result }
     {
         self.due.checked_add(1).ok_or(WantMemory)?;
         self.owing.reserve(1)?;
@@ -148,6 +151,7 @@ impl Desk {
         ensures owing { self.new.owing.items ≡ self.old.owing.items }
         ensures files { (fs : List FiledRow) → Files self.old fs → Files self.new fs }
         ensures due { self.new.due ≡ self.old.due }
+        ensures room { (n : ℕ) → room_at self.new.outboxes.boxes.items n ≡ room_left conn self.old.outboxes.boxes.items n }
     {
         self.outboxes.release(conn);
     }

@@ -18,8 +18,8 @@ pub struct Outbox {
 }
 
 impl Outbox {
-    ghost use Rattle.std.specs.Prelude.{◌≡◌, ◌<◌, ◌++◌, ◌∷◌, [], drop, slice_get, OnOk};
-    ghost use Rattle.call_tables.specs.Outboxes.{HasRoomForOne};
+    ghost use Rattle.std.specs.Prelude.{◌≡◌, ◌<◌, ◌++◌, ◌∷◌, [], drop, slice_get, if◌then◌else◌, IsOk, OnOk};
+    ghost use Rattle.call_tables.specs.Outboxes.{HasRoomForOne, is_idle};
 
     /// Of a connection that asked nothing. Takes no memory.
     pub fn new(alloc: Global) -> Outbox
@@ -32,11 +32,12 @@ impl Outbox {
         }
     }
 
-    /// Makes room for the reply of one more call.
+    /// Makes room for the reply of one more call. Where there is room already it takes no memory.
     pub fn reserve(&mut self) -> Result<(), WantMemory>
         ensures replies { self.new.replies.items ≡ self.old.replies.items }
         ensures awaited { self.new.awaited ≡ self.old.awaited }
         ensures more { OnOk result (HasRoomForOne self.new) }
+        ensures has_room { HasRoomForOne self.old → IsOk result }
     {
         let awaited = self.awaited.checked_add(1).ok_or(WantMemory)?;
         self.replies.reserve(awaited)?;
@@ -73,12 +74,13 @@ impl Outbox {
     }
 
     /// Gives its room back where the connection is owed nothing. Takes no memory.
-    pub fn release(&mut self, alloc: Global)
+    pub fn release(&mut self)
         ensures replies { self.new.replies.items ≡ self.old.replies.items }
         ensures awaited { self.new.awaited ≡ self.old.awaited }
+        ensures room { deque_capacity self.new.replies ≡ (if is_idle self.old then 0 else deque_capacity self.old.replies) }
     {
         if self.awaited == 0 && self.replies.is_empty() {
-            self.replies = VecDeque::new(alloc);
+            self.replies.shrink_to_fit();
         }
     }
 }

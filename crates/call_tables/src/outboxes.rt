@@ -1,6 +1,6 @@
 //! The outboxes of all connections.
-ghost use Rattle.std.specs.Prelude.{◌≡◌, ◌+◌, ◌<◌, ◌≤◌, ◌++◌, ◌∷◌, ◌==◌, ℕ, [], drop, length, slice_get, if◌then◌else◌, OnOk};
-ghost use Rattle.call_tables.specs.Outboxes.{HasRoomAt, awaited_at, replies_at};
+ghost use Rattle.std.specs.Prelude.{◌≡◌, ◌+◌, ◌<◌, ◌≤◌, ◌++◌, ◌∷◌, ◌==◌, ℕ, [], drop, length, slice_get, if◌then◌else◌, IsOk, OnOk};
+ghost use Rattle.call_tables.specs.Outboxes.{HasRoomAt, awaited_at, replies_at, room_at, room_left};
 
 use crate::filed::Filed;
 use crate::fresh::Fresh;
@@ -30,11 +30,12 @@ impl Outboxes {
         }
     }
 
-    /// Makes room for the reply of one more call of a connection.
+    /// Makes room for the reply of one more call of a connection. Where there is room already it takes no memory.
     pub fn reserve(&mut self, conn: u32) -> Result<(), WantMemory>
         ensures replies { (n : ℕ) → replies_at self.new.boxes.items n ≡ replies_at self.old.boxes.items n }
         ensures awaited { (n : ℕ) → awaited_at self.new.boxes.items n ≡ awaited_at self.old.boxes.items n }
         ensures more { OnOk result (HasRoomAt self.new.boxes.items conn) }
+        ensures has_room { HasRoomAt self.old.boxes.items conn → IsOk result }
     {
         reach(self.alloc, &mut self.boxes, conn)?;
         match self.boxes.get_mut(conn as usize) {
@@ -92,9 +93,10 @@ impl Outboxes {
     pub fn release(&mut self, conn: u32)
         ensures replies { (n : ℕ) → replies_at self.new.boxes.items n ≡ replies_at self.old.boxes.items n }
         ensures awaited { (n : ℕ) → awaited_at self.new.boxes.items n ≡ awaited_at self.old.boxes.items n }
+        ensures room { (n : ℕ) → room_at self.new.boxes.items n ≡ room_left conn self.old.boxes.items n }
     {
         if let Some(outbox) = self.boxes.get_mut(conn as usize) {
-            outbox.release(self.alloc);
+            outbox.release();
         }
     }
 }
@@ -116,6 +118,8 @@ fn file_in(boxes: &mut Vec<Outbox>, filed: Filed)
 fn reach(alloc: Global, boxes: &mut Vec<Outbox>, conn: u32) -> Result<(), WantMemory>
     ensures replies { (n : ℕ) → replies_at boxes.new.items n ≡ replies_at boxes.old.items n }
     ensures awaited { (n : ℕ) → awaited_at boxes.new.items n ≡ awaited_at boxes.old.items n }
+    ensures same { conn < length boxes.old.items → boxes.new.items ≡ boxes.old.items }
+    ensures there { conn < length boxes.old.items → IsOk result }
 {
     for _ in boxes.len()..conn as usize + 1 {
         boxes.push(Outbox::new(alloc))?;
