@@ -4,3 +4,4 @@ pub mod Numbers
 pub mod Behind
 pub mod Kept
 pub mod Itself
+pub mod Exchange

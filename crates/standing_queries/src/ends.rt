@@ -1,16 +1,15 @@
 //! When an adapter is gone.
-ghost use Rattle.std.specs.Prelude.{◌≡◌, ◌&&◌, ◌||◌, not};
+ghost use Rattle.std.specs.Prelude.{◌≡◌, ◌==◌, ◌&&◌, ◌||◌, not};
 ghost use Rattle.std.specs.List.{list_any};
 ghost use Rattle.poa_tree.specs.Nodes.{stands_under};
-ghost use Rattle.poa_tree.specs.Paths.{is_root};
+ghost use Rattle.poa_tree.specs.Paths.{is_root, leads_to};
 ghost use Rattle.poa_history.specs.Ends as ends;
 ghost use Rattle.standing_queries.specs.Seen.{seen};
 
 use crate::standing::Standing;
 use active_map::Activations;
-use active_map::over::is_over;
 use poa_base::{Config, Name};
-use poa_history::Activation;
+use poa_tree::paths::leads_to;
 use poa_tree::{Node, nodes};
 
 /// Whether something is in flight at the path or below it.
@@ -20,14 +19,26 @@ fn is_flown_under(standing: &Standing, path: &[Name]) -> bool
     standing.flights.iter().any(|flight| nodes::stands_under(&standing.nodes, path, flight.adapter))
 }
 
-/// Whether the activation isn't over and is of an adapter at the path or below it.
-fn lives_under(config: &Config, nodes: &[Node], path: &[Name], activation: &Activation) -> bool
-    ensures { result ≡ not (ends.is_over config.now activation.now) && stands_under nodes.now path.now activation.now.adapter }
+/// Whether the adapter is at the path or below it, and one of its activations isn't over.
+fn is_lived_in(config: &Config, node: &Node, path: &[Name], activations: &Activations) -> bool
+    ensures { result ≡ leads_to path.now node.now.path
+        && list_any (λ a. (a.adapter == node.now.number) && not (ends.is_over config.now a)) activations.now.kept }
 {
-    !is_over(config, activation) && nodes::stands_under(nodes, path, activation.adapter)
+    leads_to(path, node.path.as_slice()) && activations.has_live(config, node.number)
 }
 
-/// Whether one of the activations isn't over, and is of an adapter at the path or below it.
+/// Whether one of the adapters is at the path or below it, and one of its activations isn't over.
+fn are_lived_in(config: &Config, nodes: &[Node], path: &[Name], activations: &Activations) -> bool
+    ensures { result ≡ list_any
+        (λ n. leads_to path.now n.path && list_any (λ a. (a.adapter == n.number) && not (ends.is_over config.now a)) activations.now.kept) nodes.now }
+{
+    nodes
+        .iter()
+        .any(|node| is_lived_in(config, node, path, activations))
+}
+
+/// Whether one of the activations isn't over, and is of an adapter at the path or below it. The adapters are asked,
+/// since those of an adapter are found at once.
 fn are_lived_under(
     config: &Config,
     nodes: &[Node],
@@ -36,9 +47,7 @@ fn are_lived_under(
 ) -> bool
     ensures { result ≡ list_any (λ a. not (ends.is_over config.now a) && stands_under nodes.now path.now a.adapter) activations.now.kept }
 {
-    activations
-        .iter()
-        .any(|activation| lives_under(config, nodes, path, activation))
+    are_lived_in(config, nodes, path, activations)
 }
 
 /// Whether an activation at the path or below it isn't over.
