@@ -39,8 +39,7 @@ pub fn has_live(rows: &Rows, ids: &Ids, config: &Config, adapter: u32) -> bool
     ensures { result ≡ list_any (λ numbers. list_any
         (λ n. at_one (λ a. (a.adapter == adapter) && not (ends.is_over config.now a)) (get nat_cmp rows.now n)) numbers.items) (values ids.now) }
 {
-    ids.values()
-        .any(|numbers| is_any_live(rows, config, adapter, numbers.as_slice()))
+    ids.values().any(|numbers| is_any_live(rows, config, adapter, numbers.as_slice()))
 }
 
 /// Whether the activation of a number is of the adapter, and its incarnation or etherealization hasn't ended.
@@ -67,8 +66,7 @@ pub fn has_changing(rows: &Rows, ids: &Ids, config: &Config, adapter: u32) -> bo
     ensures { result ≡ list_any (λ numbers. list_any
         (λ n. at_one (λ a. (a.adapter == adapter) && situations.is_unfinished config.now a) (get nat_cmp rows.now n)) numbers.items) (values ids.now) }
 {
-    ids.values()
-        .any(|numbers| is_any_changing(rows, config, adapter, numbers.as_slice()))
+    ids.values().any(|numbers| is_any_changing(rows, config, adapter, numbers.as_slice()))
 }
 
 /// Whether the activation of a number has the servant of another in the map of the same adapter.
@@ -94,6 +92,5 @@ fn is_any_other(rows: &Rows, activation: &Activation, numbers: &[u32]) -> bool
 pub fn has_other(rows: &Rows, ids: &Ids, activation: &Activation) -> bool
     ensures { result ≡ list_any (λ numbers. list_any (λ n. at_one (is_other activation.now) (get nat_cmp rows.now n)) numbers.items) (values ids.now) }
 {
-    ids.values()
-        .any(|numbers| is_any_other(rows, activation, numbers.as_slice()))
+    ids.values().any(|numbers| is_any_other(rows, activation, numbers.as_slice()))
 }
