@@ -166,6 +166,12 @@ row_of (row ∷ rows) keyed ordered a (inr there) =
     ∙ behind_differs row.0 rows keyed.1 (sorted_head nat_cmp row.0 (keys_of rows) ordered) a there)))
     ∙ row_of rows keyed.1 (sorted_tail nat_cmp row.0 (keys_of rows) ordered) a there
 
+pub number_alone : (rows : List (ℕ × Activation)) → IsKeyed rows → IsStrictlySortedBy nat_cmp (keys_of rows) → (a b : Activation) → In a (values_of rows)
+    → In b (values_of rows) → a.number ≡ b.number → a ≡ b
+number_alone rows keyed ordered a b a_in b_in same =
+    (let found : Some a ≡ Some b = sym (row_of rows keyed ordered a a_in) ∙ ap (λ n. lookup (is_at (nat_cmp n)) rows) same
+    ∙ row_of rows keyed ordered b b_in in cc)
+
 -- the number of an activation is that of no other
 pub values_apart : (rows : List (ℕ × Activation)) → IsKeyed rows → IsStrictlySortedBy nat_cmp (keys_of rows) → (before after : List Activation) (a : Activation)
     → values_of rows ≡ before ++ a ∷ after → Others a.number before × Others a.number after
@@ -264,14 +270,20 @@ forgets_all c ids all so_far =
     subst (λ as'. IsIndexed ids (live c as')) (sym (so_far.split ∙ append-nil so_far.done))
     (subst (IsIndexed ids) (append-nil (live c so_far.done)) so_far.indexed)
 
--- those that were begun before have other numbers
+-- those that were begun before have lesser numbers
+pub earlier_less : (n : ℕ) (rows : List (ℕ × Activation)) → IsKeyed rows → ((k : ℕ) → In k (keys_of rows) → k < n) → (a : Activation)
+    → In a (values_of rows) → a.number < n
+earlier_less n [] keyed earlier a there = absurd there
+earlier_less n (row ∷ rows) keyed earlier a (inl same) =
+    (let low = earlier row.0 (inl refl) in
+    let its : a.number ≡ row.0 = ap (λ (x : Activation). x.number) same ∙ keyed.0 in omega (arith, low, its))
+earlier_less n (row ∷ rows) keyed earlier a (inr there) = earlier_less n rows keyed.1 (λ k is. earlier k (inr is)) a there
+
+-- and so other ones
 pub earlier_others : (n : ℕ) (rows : List (ℕ × Activation)) → IsKeyed rows → ((k : ℕ) → In k (keys_of rows) → k < n) → Others n (values_of rows)
-earlier_others n [] keyed earlier b there = absurd there
-earlier_others n (row ∷ rows) keyed earlier b (inl same) =
-    false_from_ne_true (b.number == n) (λ hit. (let low = earlier row.0 (inl refl) in
-    let e : b.number ≡ n = eqb-true b.number n hit in
-    let its : b.number ≡ row.0 = ap (λ (x : Activation). x.number) same ∙ keyed.0 in omega (arith, low, e, its)))
-earlier_others n (row ∷ rows) keyed earlier b (inr there) = earlier_others n rows keyed.1 (λ k is. earlier k (inr is)) b there
+earlier_others n rows keyed earlier b there =
+    false_from_ne_true (b.number == n) (λ hit. (let low = earlier_less n rows keyed earlier b there in
+    let e : b.number ≡ n = eqb-true b.number n hit in omega (arith, low, e)))
 
 -- what was added and taken away again
 pub indexed_back : (ids mid ids' : BTreeMap ℕ Ids) (as' : List Activation) (a : Activation) → Others a.number as' → IsIndexed ids as'

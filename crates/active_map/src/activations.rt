@@ -3,6 +3,8 @@ ghost use Rattle.std.specs.Prelude.{◌≡◌, ◌+◌, ◌<◌, ◌++◌, ◌�
 ghost use Rattle.std.specs.List.{list_any};
 ghost use Rattle.std.specs.Map.Iter.{deref, ShowsInOrder};
 ghost use Rattle.poa_tree.specs.Nodes as tree;
+ghost use Rattle.poa_tree.specs.Trees.{In};
+ghost use Rattle.poa_history.specs.declared.activation.Activation.{Activation as Kept};
 ghost use Rattle.poa_history.specs.Changes as changes;
 ghost use Rattle.poa_history.specs.Ends as ends;
 ghost use Rattle.poa_history.specs.Situations as situations;
@@ -88,6 +90,14 @@ impl Activations {
         ensures { result ≡ not (list_any is_moving self.now.kept) }
     {
         self.moving == 0
+    }
+
+    /// What is known of the numbers of those that are kept: each has 32 bits, and is that of no other.
+    pub fn numbers(&self)
+        ensures fit { (a : Kept) → In a self.now.kept → a.number < 4294967296 }
+        ensures alone { (a b : Kept) → In a self.now.kept → In b self.now.kept → a.number ≡ b.number → a ≡ b }
+    {
+        let _rows = &self.rows;
     }
 
     /// That of a number, where it is kept.
