@@ -18,7 +18,7 @@ use Rattle.history_openings.specs.Runs.{IsRun}
 use Rattle.history_openings.proofs.Opened.{given, alone, within}
 use Rattle.standing_queries.specs.declared.standing.Standing.{Standing}
 use Rattle.standing_queries.specs.Answers.{AnswersAs}
-use Rattle.standing_queries.specs.Kept.{StandsFor, StandsAfter}
+use Rattle.standing_queries.specs.Kept.{KeepsNoneOver, StandsFor, StandsAfter}
 use Rattle.standing_queries.specs.Seen.{seen}
 use Rattle.standing_of.specs.Entries.{stage_at, call_admitted}
 use Rattle.adapter_state.proofs.Answering.{answers}
@@ -40,11 +40,12 @@ ok_then (Err x) f p = tt
 -- no servant acts, comes or leaves
 pub quiet_state : (c : Config) (run limit : ℕ) (opened : Stored) (past : List Entry) (e : Entry) (s : State) (stands : Standing) (set : Settings)
     → IsRun c run limit (e ∷ past) → is_quiet e ≡ true
-    → Holds c run opened past (kept_in s.servants) → StandsAfter c run (e ∷ past) (seen stands) → Tells c (e ∷ past) set
+    → Holds c run opened past (kept_in s.servants) → StandsAfter c run (e ∷ past) (seen stands) → KeepsNoneOver c (seen stands) → Tells c (e ∷ past) set
     → IsState c run opened (e ∷ past) (record { standing = stands; settings = set; servants = s.servants })
-quiet_state c run limit opened past e s stands set follows quiet held stands_is tells =
+quiet_state c run limit opened past e s stands set follows quiet held stands_is none_over tells =
     record {
       stands = stands_is;
+      none_over = none_over;
       set = tells;
       held = quiet_holds c run limit opened past e (given c run limit (e ∷ past) follows) (within c run limit (e ∷ past) follows) follows.legal quiet
           (kept_in s.servants) held;

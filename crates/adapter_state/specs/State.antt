@@ -8,7 +8,7 @@ use Rattle.poa_base.specs.declared.Entry.TheVariants.{Admit, Tried, Incarnated, 
 use Rattle.poa_history.specs.Arrivals.{call_of}
 use Rattle.poa_history.specs.States.{Stored, call_run, servant_run}
 use Rattle.history_openings.specs.Runs.{IsRun}
-use Rattle.standing_queries.specs.Kept.{StandsAfter}
+use Rattle.standing_queries.specs.Kept.{KeepsNoneOver, StandsAfter}
 use Rattle.standing_queries.specs.Seen.{seen}
 use Rattle.standing_of.specs.Entries.{stage_at}
 use Rattle.adapter_settings.specs.Told.{Tells}
@@ -21,6 +21,8 @@ use Rattle.adapter_state.specs.declared.state.State.{State}
 pub record IsState (c : Config) (run : ℕ) (opened : Stored) (h : List Entry) (s : State) : Type 0 where
   -- what stands, where activations that are over may be forgotten
   pub stands : StandsAfter c run h (seen s.standing)
+  -- of the activations that are kept none is over
+  pub none_over : KeepsNoneOver c (seen s.standing)
   pub set : Tells c h s.settings
   pub held : Holds c run opened h (kept_in s.servants)
 

@@ -85,6 +85,7 @@ pub quiet_state : (c : Config) (run limit : ℕ) (opened : Stored) (h : List Ent
 quiet_state c run limit opened h e s follows still state =
     record {
       stands = kept_still c run h e (seen s.standing) (nothing_changed c run h e (nothing_by e still)) state.stands;
+      none_over = state.none_over;
       set = same_set c h e s.settings still state.set;
       held = quiet_holds c run limit opened h e (given c run limit (e ∷ h) follows) (within c run limit (e ∷ h) follows) follows.legal (quiet_by e still)
           (kept_in s.servants) state.held;

@@ -1,7 +1,7 @@
 -- What is forgotten of what is seen.
-use Rattle.std.specs.Prelude.{◌≡◌, ℕ, ◌+◌, ◌≤◌, ◌<◌, zero, suc, true, false, not, ◌||◌, List, [], ◌∷◌, filter, length, cond, ◌⊎◌, refl}
-use Rattle.std.specs.List.{list_any}
-use Rattle.std.proofs.Common.{inl, inr, sym, ap, ap₂, subst, ◌∙◌, arith}
+use Rattle.std.specs.Prelude.{◌≡◌, ℕ, ◌+◌, ◌≤◌, ◌<◌, zero, suc, Bool, true, false, not, List, [], ◌∷◌, filter, length, cond, ◌⊎◌, refl}
+use Rattle.std.proofs.Common.{inl, inr, sym, ap, subst, ◌∙◌, arith}
+use Rattle.std.proofs.lemmas.Bool.{cond-false}
 use Rattle.std.proofs.lemmas.List.Filters.{length-filter_both}
 use Rattle.poa_base.specs.declared.Config.{Config}
 use Rattle.poa_base.specs.declared.Entry.{Entry}
@@ -11,9 +11,10 @@ use Rattle.poa_history.specs.Ends.{is_over, settled}
 use Rattle.poa_history.specs.Standings.{Standing}
 use Rattle.poa_tree.specs.Trees.{In}
 use Rattle.poa_tree.proofs.Members.{in_kept}
+use Rattle.poa_history.proofs.SettledKept.{not_true}
 use Rattle.standing_queries.specs.Seen.{forgotten, behind}
 use Rattle.active_map.specs.Live.{is_live, live}
-use Rattle.standing_queries.specs.Kept.{Forgets, StandsFor, StandsAfter}
+use Rattle.standing_queries.specs.Kept.{Forgets, KeepsNoneOver, StandsFor, StandsAfter}
 use Rattle.standing_queries.proofs.Behind.{length_behind}
 use Rattle.standing_of.specs.Entries.{may_begin, may_end}
 use Rattle.standing_of.proofs.ChangesAlike.{stands_changed, stands_settled, stands_through}
@@ -24,51 +25,58 @@ live_behind : (c : Config) (n : ℕ) (kept : List Activation) → live c (behind
 live_behind c zero kept = refl
 live_behind c (suc n) kept = live_behind c n kept
 
-live_twice : (c : Config) (as' : List Activation) → live c (live c as') ≡ live c as'
-live_twice c [] = refl
-live_twice c (a ∷ as') =
-    elim (is_live c a) as (λ b. is_live c a ≡ b → live c (cond b (a ∷ live c as') (live c as')) ≡ cond b (a ∷ live c as') (live c as')) [
-      | true ↦ (λ lives. ap₂ (λ b bs. cond b (a ∷ bs) bs) lives (live_twice c as'))
-      | false ↦ (λ _. live_twice c as')
+-- where only what is over goes, all that live are left
+live_left : (c : Config) (p : Activation → Bool) → ((a : Activation) → p a ≡ true → is_over c a ≡ true) → (as' : List Activation)
+    → live c (filter (λ a. not (p a)) as') ≡ live c as'
+live_left c p over [] = refl
+live_left c p over (a ∷ as') =
+    elim (p a) as (λ b. p a ≡ b → live c (cond (not b) (a ∷ filter (λ x. not (p x)) as') (filter (λ x. not (p x)) as')) ≡ live c (a ∷ as')) [
+      | true ↦ (λ is. live_left c p over as' ∙ sym (cond-false (is_live c a) (a ∷ live c as') (live c as') (ap not (over a is))))
+      | false ↦ (λ _. ap (λ bs. cond (is_live c a) (a ∷ bs) bs) (live_left c p over as'))
     ] refl
 
--- of what is left none is over
-pub none_over : (c : Config) (as' : List Activation) → list_any (is_over c) (live c as') ≡ false
-none_over c [] = refl
-none_over c (a ∷ as') =
-    elim (is_over c a) as (λ b. is_over c a ≡ b → list_any (is_over c) (cond (not b) (a ∷ live c as') (live c as')) ≡ false) [
-      | true ↦ (λ _. none_over c as')
-      | false ↦ (λ lives. ap (λ b. b || list_any (is_over c) (live c as')) lives ∙ none_over c as')
-    ] refl
-
-from_behind : (n : ℕ) (kept : List Activation) (a : Activation) → In a (behind n kept) → (a ≡ forgotten) ⊎ In a kept
+pub from_behind : (n : ℕ) (kept : List Activation) (a : Activation) → In a (behind n kept) → (a ≡ forgotten) ⊎ In a kept
 from_behind zero kept a there = inr there
 from_behind (suc n) kept a (inl same) = inl same
 from_behind (suc n) kept a (inr there) = from_behind n kept a there
 
-in_behind : (n : ℕ) (kept : List Activation) (a : Activation) → In a kept → In a (behind n kept)
+pub in_behind : (n : ℕ) (kept : List Activation) (a : Activation) → In a kept → In a (behind n kept)
 in_behind zero kept a there = there
 in_behind (suc n) kept a there = inr (in_behind n kept a there)
 
--- those that are over are forgotten, and as many more are known to have been begun
-pub forgets_over : (c : Config) (s : Standing) (n m : ℕ) (kept left : List Activation) → s.activations ≡ behind n kept
-    → m ≡ n + length (filter (is_over c) kept) → left ≡ live c kept
-    → StandsFor c s (record s { activations = behind m left })
-forgets_over c s n m kept left is count keeps =
-    subst (λ l. StandsFor c s (record s { activations = behind m l })) (sym keeps) (record {
-      same = refl;
-      forgets = subst (λ all. Forgets c all (behind m (live c kept))) (sym is) (record {
-        begun = sym (length_behind m (live c kept)) ∙ as_many ∙ length_behind n kept;
-        lives = live_behind c m (live c kept) ∙ live_twice c kept ∙ sym (live_behind c n kept);
-        known = λ a there. elim (from_behind m (live c kept) a there)
-            [ inl spent ↦ inl spent | inr lives ↦ inr (in_behind n kept a (in_kept (is_live c) a kept lives).0) ];
-      });
-    })
-  where
-    as_many : m + length (live c kept) ≡ n + length kept
-    as_many =
-        (let both : length (filter (is_over c) kept) + length (filter (is_live c) kept) ≡ length kept =
-        length-filter_both (is_over c) (is_live c) (λ a. refl) kept in omega (arith, both, count))
+-- some of those that are over are forgotten, and as many more are known to have been begun
+module _ (c : Config) (s : Standing) (p : Activation → Bool) (n m : ℕ) (kept left : List Activation) (is : s.activations ≡ behind n kept)
+    (keeps : left ≡ filter (λ a. not (p a)) kept) where
+  abbrev passed : List Activation
+  passed = filter (λ a. not (p a)) kept
+
+  pub forgets_some : ((a : Activation) → p a ≡ true → is_over c a ≡ true) → m ≡ n + length (filter p kept)
+      → StandsFor c s (record s { activations = behind m left })
+  forgets_some over count =
+      subst (λ l. StandsFor c s (record s { activations = behind m l })) (sym keeps) (record {
+        same = refl;
+        forgets = subst (λ all. Forgets c all (behind m passed)) (sym is) (record {
+          begun = sym (length_behind m passed) ∙ as_many ∙ length_behind n kept;
+          lives = live_behind c m passed ∙ live_left c p over kept ∙ sym (live_behind c n kept);
+          known = λ a there. elim (from_behind m passed a there)
+              [ inl spent ↦ inl spent | inr lives ↦ inr (in_behind n kept a (in_kept (λ x. not (p x)) a kept lives).0) ];
+        });
+      })
+    where
+      as_many : m + length passed ≡ n + length kept
+      as_many =
+          (let both : length (filter p kept) + length passed ≡ length kept = length-filter_both p (λ a. not (p a)) (λ a. refl) kept in
+          omega (arith, both, count))
+
+  -- where what isn't among them is over only where it is forgotten, none that is over is left
+  pub none_left : ((a : Activation) → In a s.activations → p a ≡ false → is_over c a ≡ true → a ≡ forgotten)
+      → KeepsNoneOver c (record s { activations = behind m left })
+  none_left others a there over =
+      elim (from_behind m left a there) [
+        | inl spent ↦ spent
+        | inr lives ↦ (let was = in_kept (λ x. not (p x)) a kept (subst (In a) keeps lives) in
+            others a (subst (In a) (sym is) (in_behind n kept a was.0)) (not_true (p a) was.1) over)
+      ]
 
 -- what is kept after an entry, where what has ended went and what is over was forgotten
 module _ (c : Config) (run : ℕ) (past : List Entry) (e : Entry) (old mid : Standing) (kept : StandsAfter c run past old)

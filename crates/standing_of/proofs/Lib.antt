@@ -5,3 +5,4 @@ pub mod ChangesAlike
 mod Few
 mod Forgotten
 pub mod Staying
+pub mod Overs

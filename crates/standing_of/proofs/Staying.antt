@@ -26,8 +26,8 @@ use Rattle.poa_history.specs.Templates.{has_activator}
 use Rattle.poa_tree.specs.Trees.{In}
 use Rattle.standing_queries.specs.Kept.{StandsAfter}
 use Rattle.standing_of.specs.Flying.{uses}
-use Rattle.standing_of.specs.Touched.{Others, Still}
-use Rattle.poa_tree.proofs.Members.{in_either, in_image}
+use Rattle.standing_of.specs.Touched.{Others, SameOthers, Still}
+use Rattle.poa_tree.proofs.Members.{image_in, in_either, in_image}
 use Rattle.standing_of.proofs.Still.{still_in}
 
 -- what was settled is so
@@ -69,18 +69,30 @@ ended_others c touched s (Some r) apart others a there untouched =
     ∙ others a there untouched
 
 -- one that is changed is touched
+pub same_changed : (touched : ℕ → Bool) (as' : List Activation) (n : ℕ) (f : Activation → Activation) → touched n ≡ true
+    → ((a : Activation) → (f a).number ≡ a.number) → SameOthers touched as' (map (at_number n f) as')
+same_changed touched as' n f own keeps = record {
+  stood = λ a there untouched. (let from = in_image (at_number n f) a as' there in
+      let b = from.0 in
+      elim (cases_Bool (b.number == n)) [
+        | inl hit ↦ absurd (is_own b.number hit
+            (ap touched (sym (ap (λ (x : Activation). x.number) (from.2 ∙ cond-true (b.number == n) (f b) b hit) ∙ keeps b)) ∙ untouched))
+        | inr miss ↦ subst (λ x. In x as') (sym (from.2 ∙ cond-false (b.number == n) (f b) b miss)) from.1
+      ]);
+  stays = λ a there untouched. elim (cases_Bool (a.number == n)) [
+    | inl hit ↦ absurd (is_own a.number hit untouched)
+    | inr miss ↦ subst (λ x. In x (map (at_number n f) as')) (cond-false (a.number == n) (f a) a miss) (image_in (at_number n f) a as' there)
+  ];
+}
+  where
+    is_own : (k : ℕ) → (k == n) ≡ true → touched k ≡ false → ⊥
+    is_own k hit untouched = true≢false (sym own ∙ ap touched (sym (eqb-true k n hit)) ∙ untouched)
+
 pub changed_others : (c : Config) (touched : ℕ → Bool) (s : Standing) (n : ℕ) (f : Activation → Activation) → touched n ≡ true
     → ((a : Activation) → (f a).number ≡ a.number)
     → Others c touched s → Others c touched (with_activations (at_number n f) s)
-changed_others c touched s n f is_touched same others a there untouched =
-    (let from = in_image (at_number n f) a s.activations there in
-    let b = from.0 in
-    elim (cases_Bool (b.number == n)) [
-      | inl hit ↦ absurd (true≢false (sym is_touched ∙ ap touched (sym (eqb-true b.number n hit))
-          ∙ ap touched (sym (ap (λ (x : Activation). x.number) (from.2 ∙ cond-true (b.number == n) (f b) b hit) ∙ same b)) ∙ untouched))
-      | inr miss ↦ (let is : a ≡ b = from.2 ∙ cond-false (b.number == n) (f b) b miss in
-          subst (λ x. let_out c s x ≡ x) (sym is) (others b from.1 (ap (λ (x : Activation). touched x.number) (sym is) ∙ untouched)))
-    ])
+changed_others c touched s n f own keeps others a there untouched =
+    others a ((same_changed touched s.activations n f own keeps).stood a there untouched) untouched
 
 -- where none is touched, none goes
 pub none_goes : (c : Config) (s : Standing) → Others c (λ k. false) s → (as' : List Activation) → ((a : Activation) → In a as' → In a s.activations)
@@ -88,6 +100,9 @@ pub none_goes : (c : Config) (s : Standing) → Others c (λ k. false) s → (as
 none_goes c s others [] there = refl
 none_goes c s others (a ∷ as') there =
     ap₂ (λ x xs. x ∷ xs) (sym (others a (there a (inl refl)) refl)) (none_goes c s others as' (λ b in_. there b (inr in_)))
+
+pub turned : (k n : ℕ) → (k == n) ≡ false → (n == k) ≡ false
+turned k n miss = false_from_ne_true (n == k) (λ same. true≢false (sym (eq-eqb k n (sym (eqb-true n k same))) ∙ miss))
 
 -- where one is, that one alone may
 pub one_goes : (c : Config) (s : Standing) (n : ℕ) → Others c (λ k. n == k) s → (as' : List Activation) → ((a : Activation) → In a as' → In a s.activations)
@@ -97,12 +112,9 @@ one_goes c s n others (a ∷ as') there =
     ap₂ (λ x xs. x ∷ xs)
     (elim (cases_Bool (a.number == n)) [
       | inl hit ↦ cond-true (a.number == n) (let_out c s a) a hit
-      | inr miss ↦ cond-false (a.number == n) (let_out c s a) a miss ∙ sym (others a (there a (inl refl)) (turned a.number miss))
+      | inr miss ↦ cond-false (a.number == n) (let_out c s a) a miss ∙ sym (others a (there a (inl refl)) (turned a.number n miss))
     ])
     (one_goes c s n others as' (λ b in_. there b (inr in_)))
-  where
-    turned : (k : ℕ) → (k == n) ≡ false → (n == k) ≡ false
-    turned k miss = false_from_ne_true (n == k) (λ same. true≢false (sym (eq-eqb k n (sym (eqb-true n k same))) ∙ miss))
 
 -- what is no less than one has it
 pub has_own : (touched : ℕ → Bool) (n : ℕ) → ((k : ℕ) → touched k ≡ false → (n == k) ≡ false) → touched n ≡ true
@@ -133,6 +145,25 @@ incarnated_others c touched s r n answer own apart still = by_answer answer
     by_answer Double = refused
     by_answer (Forward e) = refused
     by_answer (Raise x) = refused
+
+pub incarnated_same : (c : Config) (touched : ℕ → Bool) (s : Standing) (r n : ℕ) (answer : Incarnation) → touched n ≡ true
+    → SameOthers touched s.activations (with_incarnated c (Incarnating r n) answer s).activations
+incarnated_same c touched s r n answer own = by_answer answer
+  where
+    brought : (phase : Phase) → SameOthers touched s.activations (map (at_number n (come_to phase)) s.activations)
+    brought phase = same_changed touched s.activations n (come_to phase) own (come_keeps phase)
+
+    by_answer : (answer : Incarnation) → SameOthers touched s.activations (with_incarnated c (Incarnating r n) answer s).activations
+    by_answer (Fresh m) = brought (Complete (FreshServant n))
+    by_answer (Named name) = brought (servant_of c name)
+    by_answer Double = brought Void
+    by_answer (Forward e) = brought Void
+    by_answer (Raise x) = brought Void
+
+-- none is
+pub same_all : (touched : ℕ → Bool) (before after : List Activation) → after ≡ before → SameOthers touched before after
+same_all touched before after is =
+    record { stood = λ a there _. subst (In a) is there; stays = λ a there _. subst (In a) (sym is) there }
 
 -- a child that is created
 pub child_others : (c : Config) (touched : ℕ → Bool) (s : Standing) (child : Option (List (List ℕ))) → Others c touched s → Others c touched (with_child child s)

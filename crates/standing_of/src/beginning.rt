@@ -2,6 +2,7 @@
 ghost use Rattle.std.specs.Prelude.{◌≡◌, ◌≤◌, ◌&&◌, false, not, length, IfOk, OnOk, OnErr};
 ghost use Rattle.poa_tree.specs.Paths.{is_root};
 ghost use Rattle.poa_history.specs.Opening as opens;
+ghost use Rattle.standing_queries.specs.Kept.{KeepsNoneOver};
 ghost use Rattle.standing_queries.specs.Seen.{seen};
 
 use active_map::Activations;
@@ -163,6 +164,7 @@ fn add_objects(
 pub fn opening(alloc: Global, config: &Config, run: u32) -> Result<Standing, WantMemory>
     ensures stands { IfOk result (λ standing. seen standing ≡ opens.opening config.now run) }
     ensures few { IfOk result (λ standing. length (seen standing).activations ≤ 4294967296) }
+    ensures none_over { IfOk result (λ standing. KeepsNoneOver config.now (seen standing)) }
 {
     let mut standing = root_alone(alloc)?;
     add_boots(config.adapters.as_slice(), &mut standing)?;

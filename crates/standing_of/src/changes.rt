@@ -8,7 +8,7 @@ ghost use Rattle.poa_history.specs.Ends.{is_over};
 ghost use Rattle.poa_history.specs.Keys as keys;
 ghost use Rattle.poa_history.specs.Logs.{command_in as command_of, is_accepted as accepts};
 ghost use Rattle.standing_of.specs.Entries as entries;
-ghost use Rattle.standing_queries.specs.Kept.{StandsAfter};
+ghost use Rattle.standing_queries.specs.Kept.{KeepsNoneOver, StandsAfter};
 ghost use Rattle.standing_queries.specs.Seen.{seen};
 
 use crate::beginning::{add_node, opening};
@@ -221,7 +221,7 @@ fn has_number(entry: &Entry, standing: &Standing) -> Result<(), WantMemory>
 }
 
 /// An entry is made after those before it, what has ended goes, and those of the activations that are over then are
-/// forgotten. It is given, and fails, as `advance`.
+/// forgotten, where those that were over before it had been. It is given, and fails, as `advance`.
 pub fn advance_kept(
     alloc: Global,
     config: &Config,
@@ -234,9 +234,9 @@ pub fn advance_kept(
     ensures ok { (past : List Entry) → StandsAfter config.now run past (seen standing.old) → stage ≡ entries.stage_at past entry.now
         → option_copied call.entry ≡ entries.call_admitted past entry.now
         → OnOk result (StandsAfter config.now run (entry.now ∷ past) (seen standing.new)) }
-    ensures forgets { (past : List Entry) → StandsAfter config.now run past (seen standing.old) → stage ≡ entries.stage_at past entry.now
-        → option_copied call.entry ≡ entries.call_admitted past entry.now
-        → entries.may_end entry.now ≡ true → OnOk result (list_any (is_over config.now) standing.new.activations.kept ≡ false) }
+    ensures forgets { (past : List Entry) → StandsAfter config.now run past (seen standing.old) → KeepsNoneOver config.now (seen standing.old)
+        → stage ≡ entries.stage_at past entry.now → option_copied call.entry ≡ entries.call_admitted past entry.now
+        → OnOk result (list_any (is_over config.now) standing.new.activations.kept ≡ false) }
     ensures err { OnErr result (seen standing.new ≡ seen standing.old) }
     ensures ends { entries.takes_no_memory entry.now ≡ true → entries.names_servant entry.now ≡ false → IsOk result }
     ensures named { entries.takes_no_memory entry.now ≡ true → length config.now.servants ≤ 2 ^ 32 → IsOk result }
@@ -246,7 +246,10 @@ pub fn advance_kept(
     change(alloc, config, run, entry, stage, call, standing)?;
     if may_end(entry) {
         settle(config, standing, touched);
-        forget(config, standing);
+        forget(config, standing, touched);
+        standing.activations.numbers();
+    } else {
+        standing.activations.numbers();
     }
     Ok(())
 }

@@ -1,16 +1,21 @@
 //! Those of the activations that are over are forgotten. Takes no memory.
 ghost use Rattle.std.specs.Prelude.{◌≡◌};
-ghost use Rattle.active_map.specs.Live.{live};
-ghost use Rattle.standing_queries.specs.Kept.{StandsFor};
+ghost use Rattle.standing_queries.specs.Kept.{KeepsNoneOver, StandsFor};
 ghost use Rattle.standing_queries.specs.Seen.{seen};
+ghost use Rattle.standing_of.specs.Touched.{OverTouched, is_touched};
 
+use crate::touched::Touched;
 use poa_base::Config;
 use standing_queries::Standing;
 
-/// Those that are over are forgotten, but for their number.
-pub fn forget(config: &Config, standing: &mut Standing)
+/// Those of the touched that are over are forgotten, but for their number.
+pub fn forget(config: &Config, standing: &mut Standing, touched: Touched)
     ensures same { StandsFor config.now (seen standing.old) (seen standing.new) }
-    ensures all { standing.new.activations.kept ≡ live config.now standing.old.activations.kept }
+    ensures all { OverTouched config.now (is_touched touched) (seen standing.old) → KeepsNoneOver config.now (seen standing.new) }
 {
-    standing.activations.forget(config);
+    match touched {
+        Touched::Nothing => {}
+        Touched::One(number) => standing.activations.forget_at(config, number),
+        Touched::All => standing.activations.forget(config),
+    }
 }

@@ -8,7 +8,7 @@ ghost use Rattle.poa_history.specs.Standings.{Standing as Stood};
 ghost use Rattle.standing_of.specs.Entries as entries;
 ghost use Rattle.poa_history.specs.declared.flight.Flight.{Flight as Flown};
 ghost use Rattle.poa_tree.specs.Trees.{In};
-ghost use Rattle.standing_of.specs.Touched.{Others, Still, is_touched};
+ghost use Rattle.standing_of.specs.Touched.{Others, SameOthers, Still, is_touched};
 ghost use Rattle.standing_of.specs.Flying.{uses};
 
 use poa_base::Entry;
@@ -79,8 +79,10 @@ fn with_ended(touched: Touched, flights: &[Flight], arrival: Option<u64>) -> Tou
 
 /// What an incarnation that ends touches: its activation, and that in which its request is in flight.
 fn by_incarnation(stage: Stage, flights: &[Flight]) -> Touched
-    ensures { (c : Conf) (answer : Answered) (s : Stood) → s.flights ≡ flights.now → Still c s
+    ensures leaves { (c : Conf) (answer : Answered) (s : Stood) → s.flights ≡ flights.now → Still c s
         → Others c (is_touched result) (changes.with_incarnated c stage answer s) }
+    ensures same { (c : Conf) (answer : Answered) (s : Stood)
+        → SameOthers (is_touched result) s.activations (changes.with_incarnated c stage answer s).activations }
 {
     match stage {
         Stage::Incarnating(arrival, number) => {
@@ -92,7 +94,8 @@ fn by_incarnation(stage: Stage, flights: &[Flight]) -> Touched
 
 /// What the servant that was taken down touches.
 fn by_removal(stage: Stage) -> Touched
-    ensures { (c : Conf) (s : Stood) → Still c s → Others c (is_touched result) (changes.with_etherealized stage s) }
+    ensures leaves { (c : Conf) (s : Stood) → Still c s → Others c (is_touched result) (changes.with_etherealized stage s) }
+    ensures same { (s : Stood) → SameOthers (is_touched result) s.activations (changes.with_etherealized stage s).activations }
 {
     match stage {
         Stage::Removing(number) => Touched::One(number),
@@ -100,10 +103,13 @@ fn by_removal(stage: Stage) -> Touched
     }
 }
 
-/// What an entry touches, behind a standing in which nothing is left to go.
+/// What an entry touches: of the others none leaves the map, behind a standing in which nothing is left to go, and
+/// none comes or changes.
 pub fn touched_by(entry: &Entry, stage: Stage, flights: &[Flight]) -> Touched
-    ensures { (c : Conf) (run : ℕ) (past : List EntryOf) (s : Stood) → s.flights ≡ flights.now → stage ≡ entries.stage_at past entry.now
+    ensures leaves { (c : Conf) (run : ℕ) (past : List EntryOf) (s : Stood) → s.flights ≡ flights.now → stage ≡ entries.stage_at past entry.now
         → Still c s → Others c (is_touched result) (changes.changed c run past entry.now s) }
+    ensures same { (c : Conf) (run : ℕ) (past : List EntryOf) (s : Stood) → stage ≡ entries.stage_at past entry.now
+        → SameOthers (is_touched result) s.activations (changes.changed c run past entry.now s).activations }
 {
     match entry {
         Entry::Admit { .. } => Touched::All,

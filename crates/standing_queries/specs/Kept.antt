@@ -1,9 +1,10 @@
 -- What is kept of what stands: some of the activations that are over may be forgotten.
-use Rattle.std.specs.Prelude.{◌≡◌, ℕ, ◌≤◌, List, length, ◌⊎◌}
+use Rattle.std.specs.Prelude.{◌≡◌, ℕ, ◌≤◌, true, List, length, ◌⊎◌}
 use Rattle.poa_base.specs.declared.Config.{Config}
 use Rattle.poa_base.specs.declared.Entry.{Entry}
 use Rattle.poa_history.specs.declared.activation.Activation.{Activation}
 use Rattle.poa_history.specs.Changes.{standing}
+use Rattle.poa_history.specs.Ends.{is_over}
 use Rattle.poa_history.specs.Standings.{Standing}
 use Rattle.poa_tree.specs.Trees.{In}
 use Rattle.active_map.specs.Live.{live}
@@ -22,6 +23,10 @@ pub record Forgets (c : Config) (all some : List Activation) : Type 0 where
 pub record StandsFor (c : Config) (s t : Standing) : Type 0 where
   pub same : t ≡ record s { activations = t.activations }
   pub forgets : Forgets c s.activations t.activations
+
+-- those of the activations that are over are all forgotten
+abbrev pub KeepsNoneOver : Config → Standing → Type 0
+KeepsNoneOver c t = (a : Activation) → In a t.activations → is_over c a ≡ true → a ≡ forgotten
 
 -- what is kept after a history: no more activations were begun than 32 bits number
 pub record StandsAfter (c : Config) (run : ℕ) (h : List Entry) (t : Standing) : Type 0 where

@@ -1,5 +1,6 @@
 use Rattle.std.proofs.Common.{◌∙◌, sym, ap}
 use Rattle.standing_queries.specs.Seen.{seen}
+use Rattle.standing_of.proofs.Overs.{kept_none}
 use Rattle.adapter_settings.specs.Told.{may_grow}
 use Rattle.adapter_state.proofs.Stated.{ok_then, quiet_state, admits_quietly, done_is, admitted_is, growing_stays}
 use Rattle.adapter_state.proofs.advancing.admit.Goals as goal
@@ -12,7 +13,7 @@ returns-then-grows-clause-ok c = λ limit opened past next.
     (quiet_state c.args.config.now c.args.run limit opened past e c.args.state.now c.args.state.now.standing c.apply.new.settings next.follows
     (admits_quietly e c.requires.0 c.requires.1 c.args.verdict.now c.requires.2) next.state.held
     (growing_stays c.args.config.now c.args.run past e c.requires.0 c.requires.1 c.args.verdict.now c.requires.2
-    (ap may_grow (sym done) ∙ sym c.if-grows.ensures) (seen c.args.state.now.standing) next.state.stands))
+    (ap may_grow (sym done) ∙ sym c.if-grows.ensures) (seen c.args.state.now.standing) next.state.stands) next.state.none_over)
     (c.apply.ensures.ok past e next.state.set done)
 
 pub returns-clause-ok : goal.returns-clause-ok
@@ -23,5 +24,8 @@ returns-clause-ok c = λ limit opened past next.
     (quiet_state c.args.config.now c.args.run limit opened past e c.args.state.now c.advance_kept.new.standing c.apply-2.new.settings next.follows
     (admits_quietly e c.requires.0 c.requires.1 c.args.verdict.now c.requires.2) next.state.held
     (c.in_ok-advance_kept.ensures.ok past next.state.stands next.begun_is
-    (admitted_is past e _ c.requires.0 c.requires.1 c.args.verdict.now c.requires.2 next.call_is)))
+    (admitted_is past e _ c.requires.0 c.requires.1 c.args.verdict.now c.requires.2 next.call_is))
+    (kept_none c.args.config.now c.advance_kept.new.standing
+    (c.in_ok-advance_kept.ensures.forgets past next.state.stands next.state.none_over next.begun_is
+    (admitted_is past e _ c.requires.0 c.requires.1 c.args.verdict.now c.requires.2 next.call_is))))
     (c.apply-2.ensures.ok past e next.state.set done)

@@ -1,5 +1,6 @@
 use Rattle.servant_states.specs.Kept.{kept_in}
 use Rattle.servant_states.proofs.Writes.{at_error, unchanged_holds}
+use Rattle.standing_of.proofs.Overs.{kept_none}
 use Rattle.adapter_state.proofs.Stated.{comes, serves_no_command, serves_no_call}
 use Rattle.adapter_state.proofs.advancing.served.Goals as goal
 
@@ -13,6 +14,7 @@ returns-in_err-outcome-clause-err c = λ opened past state.
     at_error c.from_residual.result
     (record {
       stands = state.stands;
+      none_over = state.none_over;
       set = state.set;
       held = unchanged_holds c.args.config.now c.args.run opened past (kept_in c.args.state.now.servants)
           (kept_in c.advance.new.servants) c.in_err-outcome.ensures.err state.held;
@@ -22,6 +24,9 @@ pub returns-clause-ok : goal.returns-clause-ok
 returns-clause-ok c = λ limit opened past next.
     record {
       stands = c.in_ok-advance_kept.ensures.ok past next.state.stands next.begun_is (serves_no_call past c.args.coming.now.entry.now c.requires.kind);
+      none_over = kept_none c.args.config.now c.advance_kept.new.standing
+          (c.in_ok-advance_kept.ensures.forgets past next.state.stands next.state.none_over next.begun_is
+          (serves_no_call past c.args.coming.now.entry.now c.requires.kind));
       set = c.in_ok-apply.ensures.ok past c.args.coming.now.entry.now next.state.set (serves_no_command past c.args.coming.now.entry.now c.requires.kind);
       held = c.in_ok-outcome.ensures.ok (comes c.args.config.now c.args.run limit opened past c.args.coming.now c.args.state.now next c.requires.kind);
     }

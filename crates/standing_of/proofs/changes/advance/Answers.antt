@@ -19,6 +19,6 @@ returns-then-may_end-clause-ok c past before begun admits =
     let now = c.in_ok-change.ensures.ok past begun admits in
     c.settle.ensures
     (subst (Others conf (is_touched c.touched_by-touched.result)) (sym now)
-    (c.touched_by-touched.ensures conf c.args.run past (seen c.args.standing.now) (sym c.deref.ensures.value) begun
+    (c.touched_by-touched.ensures.leaves conf c.args.run past (seen c.args.standing.now) (sym c.deref.ensures.value) begun
     (subst (Still conf) (sym before) (standing_still conf c.args.run past))))
     ∙ ap (settled conf) (now ∙ ap (changed conf c.args.run past c.args.entry.now) before))
