@@ -1,5 +1,5 @@
 -- What is decided of the arrival that an entry speaks of, and of those that wait.
-use Rattle.std.specs.Prelude.{◌≡◌, ℕ, Bool, true, false, not, ◌&&◌, ◌||◌, ◌==◌, if◌then◌else◌, List, ◌∷◌, Option, Some, None, option_map, option_and_then, unwrap_or, refl}
+use Rattle.std.specs.Prelude.{◌≡◌, ℕ, Bool, true, false, not, ◌&&◌, ◌||◌, ◌==◌, if◌then◌else◌, List, ◌∷◌, Option, Some, None, option_map, option_and_then, refl}
 use Rattle.std.proofs.Common.{sym, subst, ap, ap₂, ◌∙◌}
 use Rattle.std.proofs.lemmas.Bool.{cond_both, true≢false, eqb-true}
 use Rattle.adapter_settings.specs.declared.settings.Settings.{Settings}
@@ -14,7 +14,7 @@ use Rattle.poa_base.specs.declared.Incarnation.{Incarnation}
 use Rattle.poa_base.specs.declared.Incarnation.TheVariants.{Fresh, Named, Double, Forward as ForwardTo, Raise}
 use Rattle.poa_base.specs.declared.Outcome.{Outcome}
 use Rattle.poa_base.specs.declared.Reply.{Reply}
-use Rattle.poa_base.specs.declared.Reply.TheVariants.{Outcome as Ended, Addressing, Answer as AnswerReply}
+use Rattle.poa_base.specs.declared.Reply.TheVariants.{Outcome as Ended, Answer as AnswerReply}
 use Rattle.poa_names.specs.declared.Sid.{Sid}
 use Rattle.poa_base.specs.declared.Verdict.{Verdict}
 use Rattle.poa_base.specs.declared.Verdict.TheVariants.{Serve, Preset, Locator, Incarnate, Try, Refuse, Forward, Addressing as AddressingVerdict, Here, Unknown, Answer, Wait}
@@ -78,19 +78,27 @@ module _ (c : Config) (run : ℕ) (opened : Stored) (past : List Entry) where
     pub reply_is : (r : ℕ) → decided c run past r ≡ false → decided c run (e ∷ past) r ≡ true
         → reply_by c run opened past e r ≡ Some (AnswerReply (number_of (call_of past r)) Good)
 
-  pub decides_none : (e : Entry) (reply : Reply) → IsNot e → Decides c run opened past e None reply
-  decides_none e reply not_ = record { target_is = λ r less. not_.decided_is r; reply_is = λ r less before after. not_.reply_is r before after }
+  decides_none : (e : Entry) → IsNot e → Decides c run opened past e None
+  decides_none e not_ = record { target_is = λ r less. not_.decided_is r; reply_is = λ r less before after. not_.reply_is r before after }
 
-  pub decides_some : (e : Entry) (o : Option Reply) → IsFixed c run opened past e o → Decides c run opened past e (arrival_at past e) (unwrap_or o Addressing)
-  decides_some e o fixed =
+  -- it speaks of no arrival
+  decides_nobody : (e : Entry) (o : Option Reply) → arrival_at past e ≡ None → IsFixed c run opened past e o → Decides c run opened past e None
+  decides_nobody e o none fixed =
       record {
-        target_is = λ r less. fixed.decided_is r;
+        target_is = λ r less. fixed.decided_is r ∙ ap (is_at r) none;
+        reply_is = λ r less before after. fixed.reply_is r ∙ ap (λ t. reply_or_good (is_at r t) o past r) none;
+      }
+
+  decides_some : (e : Entry) (o : Option Reply) (a : ℕ) (x : Reply) → arrival_at past e ≡ Some a → o ≡ Some x → IsFixed c run opened past e o
+      → Decides c run opened past e (Some (record { arrival = a; reply = x }))
+  decides_some e o a x at is fixed =
+      record {
+        target_is = λ r less. fixed.decided_is r ∙ ap (is_at r) at;
         reply_is = λ r less before after.
             fixed.reply_is r
-            ∙ subst (λ x. reply_or_good (is_at r (arrival_at past e)) x past r ≡ Some
-            (if is_at r (arrival_at past e) then unwrap_or x Addressing else AnswerReply (number_of (call_of past r)) Good)) (sym fixed.is)
-            (elim (is_at r (arrival_at past e)) as (λ b. reply_or_good b (Some fixed.some) past r ≡ Some
-            (if b then fixed.some else AnswerReply (number_of (call_of past r)) Good)) [ true ↦ refl | false ↦ refl ]);
+            ∙ ap₂ (λ t y. reply_or_good (is_at r t) y past r) at is
+            ∙ elim (a == r) as (λ b. reply_or_good b (Some x) past r ≡ Some (if b then x else AnswerReply (number_of (call_of past r)) Good))
+            [ true ↦ refl | false ↦ refl ];
       }
 
   unless_waits : (e : Entry) (r : ℕ) → is_decided_by past e r ≡ false → is_waiting (admitted (e ∷ past) r) ≡ false → decided c run past r ≡ false
@@ -289,13 +297,23 @@ module _ (c : Config) (run : ℕ) (opened : Stored) (past : List Entry) where
     target_is (Abandon w) may comes = absurd (true≢false (sym may))
 
     -- an entry that may decide its arrival decides it, with its reply
-    pub may_decides : (e : Entry) → may_decide e ≡ true → Comes c run opened past e begun call settings outcome
-        → Decides c run opened past e (target_in begun e) (unwrap_or (reply_in c past call outcome e) Addressing)
-    may_decides e may comes =
-        subst (λ t. Decides c run opened past e t (unwrap_or (reply_in c past call outcome e) Addressing)) (sym (target_is e may comes))
-        (decides_some e (reply_in c past call outcome e) (is_fixed e may comes))
+    pub may_decides : (e : Entry) (a : ℕ) (x : Reply) → may_decide e ≡ true → Comes c run opened past e begun call settings outcome
+        → target_in begun e ≡ Some a → reply_in c past call outcome e ≡ Some x → Decides c run opened past e (Some (record { arrival = a; reply = x }))
+    may_decides e a x may comes at is =
+        decides_some e (reply_in c past call outcome e) a x (sym (target_is e may comes) ∙ at) is (is_fixed e may comes)
+
+    -- where there is no such arrival, it decides none
+    pub decides_without : (e : Entry) → may_decide e ≡ true → Comes c run opened past e begun call settings outcome → target_in begun e ≡ None
+        → Decides c run opened past e None
+    decides_without e may comes none =
+        decides_nobody e (reply_in c past call outcome e) (sym (target_is e may comes) ∙ none) (is_fixed e may comes)
+
+    -- it has a reply
+    pub has_reply : (e : Entry) → may_decide e ≡ true → Comes c run opened past e begun call settings outcome → reply_in c past call outcome e ≡ None → ⊥
+    has_reply e may comes none =
+        (let fixed = is_fixed e may comes in
+        let same : None ≡ Some fixed.some = sym none ∙ fixed.is in cc)
 
     -- and one that may not decides none
-    pub never_decides : (e : Entry) (reply : Reply) → may_decide e ≡ false → Comes c run opened past e begun call settings outcome
-        → Decides c run opened past e None reply
-    never_decides e reply never comes = decides_none e reply (is_not comes.manned e never)
+    pub never_decides : (e : Entry) → may_decide e ≡ false → Comes c run opened past e begun call settings outcome → Decides c run opened past e None
+    never_decides e never comes = decides_none e (is_not comes.manned e never)

@@ -5,24 +5,17 @@ ghost use Rattle.call_replies.specs.Comes.{Comes};
 ghost use Rattle.call_replies.specs.Fixed as fixed;
 ghost use Rattle.call_tables.specs.Decided.{Decides};
 ghost use Rattle.poa_base.specs.declared.Entry.{Entry};
-ghost use Rattle.poa_base.specs.declared.Reply.TheVariants.{Addressing};
 ghost use Rattle.poa_history.specs.Replies as replies;
 ghost use Rattle.poa_history.specs.States.{Stored};
 
 use crate::endings::{reply_admitted, reply_incarnated};
 use crate::tried::reply_tried;
 use adapter_settings::Settings;
+use call_tables::Decision;
 use poa_base::{Attempt, Call, Config, Entry, Outcome, Reply, Verdict, WantMemory};
 use poa_history::Stage;
 use standing_queries::workers::{arrival_in, brings};
 use std::alloc::Global;
-
-/// What an entry decides: the arrival, if one, and its reply; any reply where there is none.
-#[derive(Debug, Drop)]
-pub struct Decision {
-    pub target: Option<u64>,
-    pub reply: Reply,
-}
 
 /// Whether a verdict is the end of a call.
 fn is_final(verdict: &Verdict) -> bool
@@ -91,10 +84,11 @@ fn reply_in(
     }
 }
 
-/// What an entry decides, where `stage` is what its worker had begun, `call` the call of the arrival that it
-/// speaks of, `settings` tells what was set, and `outcome` is, at a Run, the one of the servant that runs. A
-/// command that waited has its reply `ok` of whatever entry. `WantMemory`: no memory was left for the reply; a
-/// Run, and an entry that goes on with its call, never answers it.
+/// What an entry decides of the arrival that it speaks of; `None` where it goes on with it, or speaks of none. Here
+/// `stage` is what its worker had begun, `call` the call of that arrival, `settings` tells what was set, and
+/// `outcome` is, at a Run, the one of the servant that runs. A command that waited has its reply `ok` of whatever
+/// entry. `WantMemory`: no memory was left for the reply; a Run, and an entry that goes on with its call, never
+/// answers it.
 pub fn decision_of(
     alloc: Global,
     config: &Config,
@@ -103,22 +97,21 @@ pub fn decision_of(
     call: Option<&Call>,
     settings: &Settings,
     outcome: Option<Outcome>,
-) -> Result<Decision, WantMemory>
+) -> Result<Option<Decision>, WantMemory>
     ensures decides { (run : ℕ) (opened : Stored) (past : List Entry)
         → Comes config.now run opened past entry.now stage (option_copied call.entry) settings.now outcome
-        → IfOk result (λ it. Decides config.now run opened past entry.now it.target it.reply) }
-    ensures none { fixed.may_decide entry.now ≡ false → IfOk result (λ it. it ≡ record { target = None; reply = Addressing }) }
+        → IfOk result (Decides config.now run opened past entry.now) }
+    ensures none { fixed.may_decide entry.now ≡ false → IfOk result (λ it. it ≡ None) }
     ensures ends { fixed.may_want entry.now ≡ false → IsOk result }
 {
     if !may_decide(entry) {
-        return Ok(Decision {
-            target: None,
-            reply: Reply::Addressing,
-        });
+        return Ok(None);
     }
-    let reply = reply_in(alloc, config, entry, call, settings, outcome)?;
-    Ok(Decision {
-        target: target_in(stage, entry),
-        reply: reply.unwrap_or(Reply::Addressing),
-    })
+    let Some(arrival) = target_in(stage, entry) else {
+        return Ok(None);
+    };
+    let Some(reply) = reply_in(alloc, config, entry, call, settings, outcome)? else {
+        return Ok(None);
+    };
+    Ok(Some(Decision { arrival, reply }))
 }

@@ -10,7 +10,7 @@ mod forwards;
 mod tried;
 
 pub use asking::{asks, head_of};
-pub use decision::{Decision, decision_of, may_decide};
+pub use decision::{decision_of, may_decide};
 pub use endings::{good, reply_admitted, reply_incarnated};
 pub use exceptions::{number_of, raised_to};
 pub use forwards::forwarded_to;

@@ -26,9 +26,10 @@ use Rattle.call_tables.specs.declared.owing.Owing.{Owing}
 use Rattle.standing_queries.specs.Numbers.{below, Ascends}
 use Rattle.call_tables.specs.Waits.{wait_of, wait_in, ordered_by}
 use Rattle.call_tables.specs.Owed.{is_owed, head_of, AreOwed, Owes, IsCurrent, arrivals_of}
-use Rattle.call_tables.specs.Decided.{answered, AreFiled, IsFiled, Decides}
+use Rattle.call_tables.specs.Decided.{answered, AreFiled, IsFiled}
 use Rattle.call_tables.specs.Desk.{is_decided, file, waited, IsAlone}
 use Rattle.standing_queries.proofs.Numbers.{in_below}
+use Rattle.call_tables.proofs.Fixed.{Fixes}
 use Rattle.call_tables.proofs.Deciding.{AreRows, owed_which}
 use Rattle.call_tables.proofs.FiledAfter.{row_stays, filed_after, each_filed}
 use Rattle.call_tables.proofs.RowsNext.{TriesNone, rows_next}
@@ -100,7 +101,7 @@ collected_before c run limit (Etherealized w x y) past r legal is = collected_de
 collected_before c run limit (Abandon w) past r legal is = collected_decided c run limit past r legal.1 is
 
 module _ (c : Config) (run limit : ℕ) (opened : Stored) (past : List Entry) (e : Entry) (manned : IsManned c run past) (legal : IsLegal c run limit (e ∷ past))
-    (target : Option ℕ) (reply : Reply) (decides : Decides c run opened past e target reply) (os : List Owing) (owed : AreOwed c run past os) where
+    (target : Option ℕ) (reply : Reply) (decides : Fixes c run opened past e target reply) (os : List Owing) (owed : AreOwed c run past os) where
   abbrev now : Owing → Bool
   now o = is_decided c (standing c run (e ∷ past)) target (ordered_by c past e) o
 

@@ -24,9 +24,10 @@ use Rattle.call_tables.specs.declared.wait.Ordered.{Ordered}
 use Rattle.standing_queries.specs.Numbers.{below}
 use Rattle.call_tables.specs.Waits.{is_overtaking, has_come}
 use Rattle.call_tables.specs.Owed.{head_of, Owes, IsCurrent}
-use Rattle.call_tables.specs.Decided.{is_answered_by, answered, IsFiled, Decides}
+use Rattle.call_tables.specs.Decided.{is_answered_by, answered, IsFiled}
 use Rattle.call_tables.specs.Desk.{is_decided, file}
 use Rattle.standing_queries.proofs.Numbers.{in_below}
+use Rattle.call_tables.proofs.Fixed.{Fixes}
 use Rattle.call_tables.proofs.Waiting.{IsOvertaken}
 use Rattle.call_tables.proofs.Deciding.{AreRows, row_owed, row_fresh, row_decided, filed_which}
 use Rattle.call_tables.proofs.Kept.{conn_arrived, conn_kept, replied_decided, reply_kept, reply_fixed}
@@ -51,7 +52,7 @@ in_append x (z ∷ xs) ys (inr more) = elim (in_append x xs ys more) [ inl a ↦
 
 module _ (c : Config) (run : ℕ) (opened : Stored) (past : List Entry) (e : Entry) (ordered : Option Ordered) (os : List Owing)
     (rows : AreRows c run past e ordered os)
-    (target : Option ℕ) (reply : Reply) (decides : Decides c run opened past e target reply) where
+    (target : Option ℕ) (reply : Reply) (decides : Fixes c run opened past e target reply) where
   -- a row that isn't decided is owed a reply still
   pub row_stays : (o : Owing) → In o (filter (λ o. not (is_decided c (standing c run (e ∷ past)) target ordered o)) os) → Owes c run (e ∷ past) o
   row_stays o there =

@@ -1,5 +1,5 @@
 -- The replies that are decided, and not collected.
-use Rattle.std.specs.Prelude.{◌≡◌, ℕ, ◌<◌, Bool, true, false, not, ◌&&◌, List, [], ◌∷◌, ◌++◌, map, filter, Option, Some, if◌then◌else◌}
+use Rattle.std.specs.Prelude.{◌≡◌, ℕ, ◌<◌, ◌==◌, Bool, true, false, not, ◌&&◌, List, [], ◌∷◌, ◌++◌, map, filter, Option, Some, None, option_map, if◌then◌else◌}
 use Rattle.poa_base.specs.declared.Config.{Config}
 use Rattle.poa_base.specs.declared.Reply.{Reply}
 use Rattle.poa_base.specs.declared.Reply.TheVariants.{Answer as AnswerReply}
@@ -10,6 +10,7 @@ use Rattle.poa_history.specs.Replies.{asks, decided, is_collected, is_decided_by
 use Rattle.poa_history.specs.Stages.{is_at}
 use Rattle.poa_history.specs.States.{Stored}
 use Rattle.poa_tree.specs.Trees.{In}
+use Rattle.call_tables.specs.declared.decision.Decision.{Decision}
 use Rattle.call_tables.specs.declared.filed.Filed.{Filed}
 use Rattle.standing_queries.specs.Numbers.{below}
 use Rattle.call_tables.specs.Owed.{head_of}
@@ -34,9 +35,17 @@ pub record AreFiled (c : Config) (run : ℕ) (opened : Stored) (h : List Entry) 
   pub which : map (λ f. f.arrival) fs ≡ filter (λ r. not (is_collected h r)) (answered c run h)
   pub each : (f : Filed) → In f fs → IsFiled c run opened h f
 
--- what an entry decides: the target, with its reply; to a command that waited the reply is `ok`
-pub record Decides (c : Config) (run : ℕ) (opened : Stored) (past : List Entry) (e : Entry) (target : Option ℕ)
-    (reply : Reply) : Type 0 where
-  pub target_is : (r : ℕ) → r < arrivals past → is_decided_by past e r ≡ is_at r target
+-- the arrival that is decided, if one
+abbrev pub target_of : Option Decision → Option ℕ
+target_of decision = option_map (λ it. it.arrival) decision
+
+-- the reply of an arrival that an entry decides; to a command that waited it is `ok`
+abbrev pub reply_to : Option Decision → ℕ → ℕ → Reply
+reply_to (Some it) r number = if it.arrival == r then it.reply else AnswerReply number Good
+reply_to None r number = AnswerReply number Good
+
+-- what an entry decides: this arrival or none that it speaks of, and commands that waited
+pub record Decides (c : Config) (run : ℕ) (opened : Stored) (past : List Entry) (e : Entry) (decision : Option Decision) : Type 0 where
+  pub target_is : (r : ℕ) → r < arrivals past → is_decided_by past e r ≡ is_at r (target_of decision)
   pub reply_is : (r : ℕ) → r < arrivals past → decided c run past r ≡ false → decided c run (e ∷ past) r ≡ true
-      → reply_by c run opened past e r ≡ Some (if is_at r target then reply else AnswerReply (number_of (call_of past r)) Good)
+      → reply_by c run opened past e r ≡ Some (reply_to decision r (number_of (call_of past r)))

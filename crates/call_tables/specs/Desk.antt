@@ -16,6 +16,7 @@ use Rattle.poa_history.specs.Stages.{is_at}
 use Rattle.poa_history.specs.Standings.{Standing}
 use Rattle.poa_history.specs.States.{Stored}
 use Rattle.poa_tree.specs.Trees.{In}
+use Rattle.call_tables.specs.declared.decision.Decision.{Decision}
 use Rattle.call_tables.specs.declared.desk.Desk.{Desk}
 use Rattle.call_tables.specs.declared.filed.Filed.{Filed}
 use Rattle.call_tables.specs.declared.owing.Owing.{Owing}
@@ -93,7 +94,7 @@ WaitIs c run past (Admit w a verdict) wait = wait ≡ wait_begun c run past a ve
 WaitIs c run past e wait = Unit {0}
 
 -- an entry comes to the desk of a legal history: what stands then, what it decides, what is waited for and ordered are those of the history
-pub record Comes (c : Config) (e : Entry) (standing : Standing) (target : Option ℕ) (reply : Reply) (wait : Option Wait)
+pub record Comes (c : Config) (e : Entry) (standing : Standing) (decision : Option Decision) (wait : Option Wait)
     (ordered : Option Ordered) (os : List Owing) : Type 0 where
   pub run : ℕ
   pub limit : ℕ
@@ -102,7 +103,7 @@ pub record Comes (c : Config) (e : Entry) (standing : Standing) (target : Option
   pub manned : IsManned c run past
   pub legal : IsLegal c run limit (e ∷ past)
   pub stands : AnswersAs c run (e ∷ past) standing
-  pub decides : Decides c run opened past e target reply
+  pub decides : Decides c run opened past e decision
   pub waits : WaitIs c run past e wait
   pub orders : ordered ≡ ordered_by c past e
   pub owed : AreOwed c run past os

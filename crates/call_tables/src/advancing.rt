@@ -1,13 +1,14 @@
 //! The desk after an entry.
-ghost use Rattle.std.specs.Prelude.{◌≡◌, ◌∷◌, ℕ, List, map};
+ghost use Rattle.std.specs.Prelude.{◌≡◌, ◌∷◌, ℕ, List, map, IfSome};
 ghost use Rattle.poa_history.specs.Arrivals.{arrivals};
 ghost use Rattle.standing_queries.specs.Seen.{seen};
-ghost use Rattle.call_tables.specs.Decided.{AreFiled};
+ghost use Rattle.call_tables.specs.Decided.{AreFiled, target_of};
 ghost use Rattle.call_tables.specs.Owed.{AreOwed};
 ghost use Rattle.call_tables.specs.Desk as desks;
 ghost use Rattle.call_tables.specs.Desk.{AreLeft, AreOwedBefore, Comes, Files, HasFiled, HasRoomForOne};
 ghost use Rattle.call_tables.specs.declared.filed.Filed.{Filed as FiledRow};
 
+use crate::decision::Decision;
 use crate::desk::Desk;
 use crate::wait::{Ordered, Wait};
 use poa_base::{Config, Entry, Reply};
@@ -25,30 +26,41 @@ fn set_wait(entry: &Entry, wait: Option<Wait>, desk: &mut Desk)
     }
 }
 
-/// An entry comes: it decides the target, with this reply, and each command for which what it waits for has come.
+/// The arrival that is decided, and its reply; where none is, a reply that no row gets.
+fn parted(decision: Option<Decision>) -> (Option<u64>, Reply)
+    ensures target { result.0 ≡ target_of decision }
+    ensures reply { IfSome decision (λ it. result.1 ≡ it.reply) }
+{
+    match decision {
+        Some(it) => (Some(it.arrival), it.reply),
+        None => (None, Reply::Addressing),
+    }
+}
+
+/// An entry comes: it decides this arrival, if one, and each command for which what it waits for has come.
 /// `standing` is what stands after it. A call that arrives with it is owed its reply afterwards, by `owe`; what
 /// it collects was collected before. Takes no memory.
 pub fn advance(
     config: &Config,
     standing: &Standing,
     entry: &Entry,
-    target: Option<u64>,
-    reply: Reply,
+    decision: Option<Decision>,
     wait: Option<Wait>,
     ordered: Option<Ordered>,
     desk: &mut Desk,
 )
-    requires comes { Comes config.now entry.now (seen standing.now) target reply wait ordered desk.old.owing.items }
-    ensures before { (k : Comes config.now entry.now (seen standing.now) target reply wait ordered desk.old.owing.items)
+    requires comes { Comes config.now entry.now (seen standing.now) decision wait ordered desk.old.owing.items }
+    ensures before { (k : Comes config.now entry.now (seen standing.now) decision wait ordered desk.old.owing.items)
         → AreOwedBefore config.now k.run k.past entry.now desk.new.owing.items }
-    ensures owed { (k : Comes config.now entry.now (seen standing.now) target reply wait ordered desk.old.owing.items)
+    ensures owed { (k : Comes config.now entry.now (seen standing.now) decision wait ordered desk.old.owing.items)
         → arrivals (entry.now ∷ k.past) ≡ arrivals k.past → AreOwed config.now k.run (entry.now ∷ k.past) desk.new.owing.items }
-    ensures filed { (k : Comes config.now entry.now (seen standing.now) target reply wait ordered desk.old.owing.items)
+    ensures filed { (k : Comes config.now entry.now (seen standing.now) decision wait ordered desk.old.owing.items)
         → HasFiled (AreLeft config.now k.run k.opened k.past entry.now) desk.old
         → HasFiled (AreFiled config.now k.run k.opened (entry.now ∷ k.past)) desk.new }
     ensures due { desk.new.due ≡ desk.old.due }
     ensures spare { (conn : ℕ) → HasRoomForOne conn desk.old → HasRoomForOne conn desk.new }
 {
     set_wait(entry, wait, desk);
+    let (target, reply) = parted(decision);
     desk.decide(config, standing, target, reply, ordered);
 }

@@ -3,6 +3,7 @@
 #![tactic(auto)]
 
 mod advancing;
+mod decision;
 mod desk;
 mod filed;
 mod fresh;
@@ -13,6 +14,7 @@ mod rows;
 mod wait;
 
 pub use advancing::advance;
+pub use decision::Decision;
 pub use desk::Desk;
 pub use filed::Filed;
 pub use fresh::Fresh;

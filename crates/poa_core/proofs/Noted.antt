@@ -16,7 +16,7 @@ use Rattle.poa_core.specs.Noting.{IsHalfway}
 use Rattle.poa_core.proofs.Turned.{manned_before}
 
 abbrev pub desk_comes : (h : List Entry) (e : Entry) (begun : Stage) (b : Brought) (i : Inside) → IsHalfway h e begun b i
-    → Comes i.config e (seen i.state.standing) b.decision.target b.decision.reply b.wait b.ordered i.desk.owing.items
+    → Comes i.config e (seen i.state.standing) b.decision b.wait b.ordered i.desk.owing.items
 desk_comes h e begun b i half =
     record {
       run = i.run;

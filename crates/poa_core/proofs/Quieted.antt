@@ -2,7 +2,6 @@
 use Rattle.std.proofs.Common.{◌≡◌, ℕ, true, false, List, ◌∷◌, None, refl}
 use Rattle.poa_base.specs.declared.Call.{Call}
 use Rattle.poa_base.specs.declared.Config.{Config}
-use Rattle.poa_base.specs.declared.Reply.TheVariants.{Addressing}
 use Rattle.poa_base.specs.declared.Entry.{Entry}
 use Rattle.poa_base.specs.declared.Entry.TheVariants.{Entered, Arrive, Filled, Left, Collect, Admit, Tried, Incarnated, Run, Done, TakeOut, Etherealized, Abandon}
 use Rattle.poa_history.specs.declared.stage.Stage.TheVariants.{Free}
@@ -64,9 +63,9 @@ same_set c h e s is t =
     (λ _ _. record { managed = t.managed; states = t.states; presets = t.presets; endpoints = t.endpoints })
     (λ _. record { managed = t.managed; states = t.states; presets = t.presets; endpoints = t.endpoints }) e is
 
-decides_none : (c : Config) (run : ℕ) (opened : Stored) (h : List Entry) (e : Entry) → is_turn e ≡ false → Decides c run opened h e None Addressing
+decides_none : (c : Config) (run : ℕ) (opened : Stored) (h : List Entry) (e : Entry) → is_turn e ≡ false → Decides c run opened h e None
 decides_none c run opened h =
-    by_still (λ e. Decides c run opened h e None Addressing) (λ _. record { target_is = λ r _. refl; reply_is = λ r _ _ _. refl })
+    by_still (λ e. Decides c run opened h e None) (λ _. record { target_is = λ r _. refl; reply_is = λ r _ _ _. refl })
     (λ _ _ _. record { target_is = λ r _. refl; reply_is = λ r _ _ _. refl }) (λ _ _. record { target_is = λ r _. refl; reply_is = λ r _ _ _. refl })
     (λ _. record { target_is = λ r _. refl; reply_is = λ r _ _ _. refl }) (λ _ _. record { target_is = λ r _. refl; reply_is = λ r _ _ _. refl })
     (λ _. record { target_is = λ r _. refl; reply_is = λ r _ _ _. refl })
@@ -93,7 +92,7 @@ quiet_state c run limit opened h e s follows still state =
 
 -- it comes to be noted
 pub quiet_halfway : (h : List Entry) (e : Entry) (i : Inside) → IsQuiet h e i
-    → IsHalfway h e Free (record { decision = record { target = None; reply = Addressing }; wait = None; ordered = None; freed = nothing }) i
+    → IsHalfway h e Free (record { decision = None; wait = None; ordered = None; freed = nothing }) i
 quiet_halfway h e i quiet =
     record {
       follows = quiet.follows;

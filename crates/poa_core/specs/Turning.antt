@@ -60,7 +60,7 @@ pub record IsAsked (c : Config) (run limit : ℕ) (opened : Stored) (past : List
 
 -- what it brings is what the history says
 pub record IsBrought (c : Config) (run : ℕ) (opened : Stored) (past : List Entry) (e : Entry) (b : Brought) : Type 0 where
-  pub decides : Decides c run opened past e b.decision.target b.decision.reply
+  pub decides : Decides c run opened past e b.decision
   pub waits : WaitIs c run past e b.wait
   pub orders : b.ordered ≡ ordered_by c past e
   pub frees : b.freed ≡ freed_by c run past e

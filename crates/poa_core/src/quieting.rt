@@ -6,9 +6,8 @@ ghost use Rattle.poa_core.specs.Kept.{IsQuiet};
 use crate::inside::Inside;
 use crate::noting::note;
 use crate::turning::Brought;
-use call_replies::Decision;
 use history_holds::Freed;
-use poa_base::{Entry, Reply};
+use poa_base::Entry;
 use poa_history::Stage;
 
 /// An entry of a connection, or the giving up of a worker, is noted. It changes nothing that stands. Takes no memory.
@@ -18,10 +17,7 @@ pub fn quiet(inside: &mut Inside, entry: Entry)
     ensures { IsNoted entry inside.old inside.new }
 {
     let brought = Brought {
-        decision: Decision {
-            target: None,
-            reply: Reply::Addressing,
-        },
+        decision: None,
         wait: None,
         ordered: None,
         freed: Freed::nothing(),

@@ -13,8 +13,8 @@ ghost use Rattle.poa_core.specs.Turning.{IsAsked, IsBrought};
 
 use adapter_state::{Coming, State};
 use arrival_tables::{Calls, calls, freed_by};
-use call_replies::{Decision, decision_of};
-use call_tables::{Ordered, Wait, ordered_by, wait_by};
+use call_replies::decision_of;
+use call_tables::{Decision, Ordered, Wait, ordered_by, wait_by};
 use history_holds::Freed;
 use journal_entries::Entries;
 use poa_base::{Call, Config, Entry, WantMemory};
@@ -25,7 +25,8 @@ use std::alloc::Global;
 /// What an entry of a worker brings, beside what it changes.
 #[derive(Drop)]
 pub struct Brought {
-    pub decision: Decision,
+    /// What it decides of the arrival that it speaks of.
+    pub decision: Option<Decision>,
     pub wait: Option<Wait>,
     pub ordered: Option<Ordered>,
     /// What it frees of what holds calls.
@@ -77,14 +78,14 @@ fn ran(
     run: u32,
     coming: &Coming<'_>,
     state: &mut State,
-) -> Result<Decision, WantMemory>
+) -> Result<Option<Decision>, WantMemory>
     requires asked { (limit : ℕ) × (opened : Stored) × (past : List EntryOf)
         × IsAsked config.now run limit opened past coming.now state.old }
     requires kind { (w : ℕ) × (coming.now.entry.now ≡ EntryOf.Run w) }
     ensures ok { (limit : ℕ) (opened : Stored) (past : List EntryOf) → IsAsked config.now run limit opened past coming.now state.old
         → OnOk result (IsState config.now run opened (coming.now.entry.now ∷ past) state.new) }
     ensures decides { (limit : ℕ) (opened : Stored) (past : List EntryOf) → IsAsked config.now run limit opened past coming.now state.old
-        → IfOk result (λ it. Decides config.now run opened past coming.now.entry.now it.target it.reply) }
+        → IfOk result (Decides config.now run opened past coming.now.entry.now) }
     ensures err { (opened : Stored) (past : List EntryOf) → IsState config.now run opened past state.old
         → OnErr result (IsState config.now run opened past state.new) }
 {
@@ -108,14 +109,14 @@ fn told(
     run: u32,
     coming: &Coming<'_>,
     state: &mut State,
-) -> Result<Decision, WantMemory>
+) -> Result<Option<Decision>, WantMemory>
     requires asked { (limit : ℕ) × (opened : Stored) × (past : List EntryOf)
         × IsAsked config.now run limit opened past coming.now state.old }
     requires kind { turning.is_run coming.now.entry.now ≡ false }
     ensures ok { (limit : ℕ) (opened : Stored) (past : List EntryOf) → IsAsked config.now run limit opened past coming.now state.old
         → OnOk result (IsState config.now run opened (coming.now.entry.now ∷ past) state.new) }
     ensures decides { (limit : ℕ) (opened : Stored) (past : List EntryOf) → IsAsked config.now run limit opened past coming.now state.old
-        → IfOk result (λ it. Decides config.now run opened past coming.now.entry.now it.target it.reply) }
+        → IfOk result (Decides config.now run opened past coming.now.entry.now) }
     ensures err { (opened : Stored) (past : List EntryOf) → IsState config.now run opened past state.old
         → OnErr result (IsState config.now run opened past state.new) }
     ensures ends { turning.is_ending coming.now.entry.now ≡ true → IsOk result }
@@ -144,12 +145,12 @@ fn decide(
     run: u32,
     coming: &Coming<'_>,
     state: &mut State,
-) -> Result<Decision, WantMemory>
+) -> Result<Option<Decision>, WantMemory>
     requires { (limit : ℕ) × (opened : Stored) × (past : List EntryOf) × IsAsked config.now run limit opened past coming.now state.old }
     ensures ok { (limit : ℕ) (opened : Stored) (past : List EntryOf) → IsAsked config.now run limit opened past coming.now state.old
         → OnOk result (IsState config.now run opened (coming.now.entry.now ∷ past) state.new) }
     ensures decides { (limit : ℕ) (opened : Stored) (past : List EntryOf) → IsAsked config.now run limit opened past coming.now state.old
-        → IfOk result (λ it. Decides config.now run opened past coming.now.entry.now it.target it.reply) }
+        → IfOk result (Decides config.now run opened past coming.now.entry.now) }
     ensures err { (opened : Stored) (past : List EntryOf) → IsState config.now run opened past state.old
         → OnErr result (IsState config.now run opened past state.new) }
     ensures ends { turning.is_ending coming.now.entry.now ≡ true → IsOk result }

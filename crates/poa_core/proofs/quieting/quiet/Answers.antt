@@ -1,5 +1,4 @@
 use Rattle.std.proofs.Common.{None, sym, subst}
-use Rattle.poa_base.specs.declared.Reply.TheVariants.{Addressing}
 use Rattle.history_holds.specs.declared.freed.Freed.{Freed}
 use Rattle.poa_history.specs.declared.stage.Stage.TheVariants.{Free}
 use Rattle.poa_core.specs.Agrees.{history}
@@ -11,5 +10,5 @@ pub note-requires-clause-halfway : goal.note-requires-clause-halfway
 note-requires-clause-halfway c =
     (let i = c.args.inside.now in
     subst (λ (f : Freed). IsHalfway (history i) c.args.entry Free
-    (record { decision = record { target = None; reply = Addressing }; wait = None; ordered = None; freed = f }) i) (sym c.nothing.ensures)
+    (record { decision = None; wait = None; ordered = None; freed = f }) i) (sym c.nothing.ensures)
     (quiet_halfway (history i) c.args.entry i c.requires.quiet))

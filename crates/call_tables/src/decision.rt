@@ -1,0 +1,9 @@
+//! What is decided of a call.
+use poa_base::Reply;
+
+/// The arrival that an entry decides, and its reply.
+#[derive(Debug, Drop)]
+pub struct Decision {
+    pub arrival: u64,
+    pub reply: Reply,
+}
