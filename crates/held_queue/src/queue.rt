@@ -15,16 +15,16 @@ ghost use Rattle.held_queue.specs.Held.{AreHeld, IsSettled};
 ghost use Rattle.held_queue.specs.Numbers.{has, HasRoom};
 ghost use Rattle.held_queue.specs.Rows.{freed_row};
 ghost use Rattle.held_queue.specs.Waiting.{is_waiting, may_queue, received as the_received};
-ghost use Rattle.standing_of.specs.Entries.{stage_at};
+ghost use Rattle.core_standing.specs.Entries.{stage_at};
 
 use crate::numbers::Numbers;
 use crate::row::Row;
 use crate::rows;
+use core_queries::calls::is_message;
+use core_queries::workers::arrival_in;
 use history_holds::{Freed, Hold};
 use poa_base::{Attempt, Entry, WantMemory};
 use poa_history::{Flight, Stage};
-use standing_queries::calls::is_message;
-use standing_queries::workers::arrival_in;
 use std::alloc::Global;
 
 /// The requests and locates that wait: those that are ready to be asked, and the others in rows by what holds them.

@@ -9,13 +9,13 @@ ghost use Rattle.model_legal.specs.Workers.{is_step};
 
 use crate::arriving::{arrived_bytes, had_shutdown, has_left, is_filled};
 use crate::same::is_that;
+use core_queries::calls::{arrivals, connections};
+use core_queries::workers::is_abandoned;
 use model_replies::slow_next_reply;
 use poa_base::limits::CONNECTIONS;
 use poa_base::{Call, Config, Entry, Store, WantMemory};
 use poa_model::slow_next;
 use run_tally::is_shutdown;
-use standing_queries::calls::{arrivals, connections};
-use standing_queries::workers::is_abandoned;
 use std::alloc::Global;
 
 /// How many workers a run has.

@@ -6,9 +6,9 @@
 use crate::due::Due;
 use crate::fault::Fault;
 use crate::play::{CONNECTIONS, Play};
+use core_queries::calls::conn_of;
 use model_replies::{decided, slow_next_reply};
 use poa_base::Entry;
-use standing_queries::calls::conn_of;
 use std::mem;
 
 impl Play {

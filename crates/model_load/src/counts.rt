@@ -3,9 +3,9 @@ use crate::calls::{object_id, path};
 use crate::fault::Fault;
 use crate::play::Play;
 use crate::replies::reply_bytes;
+use core_queries::workers::brings;
 use model_replies::{Kept, kept_of, stored_in};
 use poa_base::{Entry, State};
-use standing_queries::workers::brings;
 use std::alloc::Global;
 
 /// How many objects there are.

@@ -4,10 +4,10 @@ use crate::draw::Draw;
 use crate::due::Due;
 use crate::fault::Fault;
 use conf_toml::read_config;
+use core_queries::calls::arrivals;
 use poa_base::{Call, Config, Entry, Store};
 use poa_model::slow_next;
 use poad_load::CONFIGURATION;
-use standing_queries::calls::arrivals;
 use std::alloc::Global;
 
 /// How many connections there are: those of the clients, and the administrator's behind them.

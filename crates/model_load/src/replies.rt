@@ -5,11 +5,11 @@
 use crate::calls::head;
 use crate::fault::Fault;
 use crate::play::Play;
+use core_queries::calls::call_of;
+use core_queries::workers::{arrival_in, stage};
 use giop_answer::write_reply;
 use model_replies::{Kept, ServantState, slow_reply};
 use poa_base::{Bytes, Call, Datum, Entry, Incarnation, Outcome, Reply, State};
-use standing_queries::calls::call_of;
-use standing_queries::workers::{arrival_in, stage};
 use std::alloc::Global;
 
 /// Of so many requests the reply to one is compared with `slow_reply`.

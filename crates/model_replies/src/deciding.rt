@@ -4,10 +4,10 @@ ghost use Rattle.poa_history.specs.Replies as replies;
 ghost use Rattle.poa_history.specs.Settling as settling;
 ghost use Rattle.poa_history.specs.Stages as begun;
 
-use call_replies::may_decide;
+use core_queries::workers::{admitted, arrival_in, brings, is_at, stage};
+use core_replies::may_decide;
 use poa_base::{Attempt, Config, Entry, Verdict, WantMemory};
 use poa_model::settles;
-use standing_queries::workers::{admitted, arrival_in, brings, is_at, stage};
 use std::alloc::Global;
 
 /// Whether the arrival is the one that the worker is at.

@@ -4,20 +4,20 @@ ghost use Rattle.poa_base.specs.Store.{stored as stored_at_opening};
 ghost use Rattle.poa_history.specs.Changes.{standing as standing_after};
 ghost use Rattle.poa_history.specs.Turns as turns;
 ghost use Rattle.model_replies.specs.Kept as keeps;
-ghost use Rattle.standing_queries.specs.Seen.{seen};
+ghost use Rattle.core_queries.specs.Seen.{seen};
 
 use crate::acting::act;
 use crate::kept::{Kept, state_in, stored_in};
 use crate::servant_state::ServantState;
 use crate::servants::{call_run, servant_run};
 use crate::stored_state::StoredState;
+use core_queries::Standing;
+use core_queries::searches::activation_numbered;
+use core_queries::workers::stage;
+use core_servants::{kind_brought, restored};
+use core_standing::standing_of;
 use poa_base::{Call, Config, Entry, Incarnation, Sid, State, Store, WantMemory};
 use poa_history::{Activation, Phase, Stage};
-use servant_states::{kind_brought, restored};
-use standing_of::standing_of;
-use standing_queries::Standing;
-use standing_queries::searches::activation_numbered;
-use standing_queries::workers::stage;
 use std::alloc::Global;
 
 /// The servant acts on the call.

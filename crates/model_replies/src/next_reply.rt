@@ -6,8 +6,8 @@ ghost use Rattle.poa_history.specs.Searches.{least};
 
 use crate::deciding::decided;
 use crate::owing::is_asked;
+use core_queries::calls::arrivals;
 use poa_base::{Config, Entry, WantMemory};
-use standing_queries::calls::arrivals;
 use std::alloc::Global;
 
 /// Whether the reply to an arrival was collected.

@@ -4,9 +4,9 @@ ghost use Rattle.poa_history.specs.Replies as replies;
 ghost use Rattle.poa_history.specs.Stages as begun;
 
 use crate::deciding::decided;
-use call_replies::asks;
+use core_queries::calls::{arrivals, call_of, conn_of};
+use core_replies::asks;
 use poa_base::{Config, Entry, WantMemory};
-use standing_queries::calls::{arrivals, call_of, conn_of};
 use std::alloc::Global;
 
 /// Whether a connection is that one.

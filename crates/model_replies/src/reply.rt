@@ -10,11 +10,11 @@ use crate::deciding::{decided, is_at_work};
 use crate::entries::kept_of;
 use crate::kept::state_in;
 use crate::servants::{call_run, servant_run};
-use adapter_settings::settings_of;
-use call_replies::{good, reply_admitted, reply_incarnated, reply_tried};
+use core_queries::calls::call_of;
+use core_queries::workers::stage;
+use core_replies::{good, reply_admitted, reply_incarnated, reply_tried};
+use core_settings::settings_of;
 use poa_base::{Attempt, Call, Config, Entry, Reply, Sid, Store, WantMemory};
-use standing_queries::calls::call_of;
-use standing_queries::workers::stage;
 use std::alloc::Global;
 
 /// The reply that the adapter activator's answer fixes, by what was set until then.

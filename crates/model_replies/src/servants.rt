@@ -1,16 +1,16 @@
 //! Which servant runs, and what it runs.
 ghost use Rattle.std.specs.Prelude.{◌≡◌, reverse, option_copied, IfOk};
 ghost use Rattle.poa_history.specs.States as states;
-ghost use Rattle.standing_queries.specs.Seen.{seen};
+ghost use Rattle.core_queries.specs.Seen.{seen};
 
 use active_map::templates::servant_number;
+use core_queries::Standing;
+use core_queries::calls::call_of;
+use core_queries::searches::activation_numbered;
+use core_queries::workers::admitted;
+use core_standing::standing_of;
 use poa_base::{Call, Config, Entry, Name, Sid, Verdict, WantMemory};
 use poa_history::{Activation, Phase, Stage};
-use standing_of::standing_of;
-use standing_queries::Standing;
-use standing_queries::calls::call_of;
-use standing_queries::searches::activation_numbered;
-use standing_queries::workers::admitted;
 use std::alloc::Global;
 
 /// The servant of an activation, where it has one.

@@ -3,6 +3,8 @@ use crate::fault::Fault;
 use crate::replies::{put_reply, request_id};
 use active_map::templates::{has_template, policies_at};
 use conf_toml::read_config;
+use core_queries::calls::call_of;
+use core_standing::standing_of;
 use model_legal::first_illegal;
 use model_replies::{slow_next_reply, slow_owed, slow_reply};
 use object_key::write_key;
@@ -10,8 +12,6 @@ use poa_base::{Body, Bytes, Call, Config, Entry, Head, Key, Path, Stamp, Store, 
 use poa_journal::print_entry;
 use poa_model::slow_next;
 use poa_tree::nodes::node_at;
-use standing_of::standing_of;
-use standing_queries::calls::call_of;
 use std::alloc::Global;
 use text_words::{any_identity, number32, path, put_number, signed, words};
 

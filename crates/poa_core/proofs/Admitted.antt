@@ -11,7 +11,7 @@ use Rattle.poa_history.specs.declared.stage.Stage.TheVariants.{Free}
 use Rattle.poa_history.specs.Stages.{admitted, arrival_in, is_at, stage}
 use Rattle.poa_history.proofs.StagesFrom.{arrival_before}
 use Rattle.history_openings.specs.Runs.{IsRun}
-use Rattle.adapter_state.proofs.Stated.{earlier}
+use Rattle.core_state.proofs.Stated.{earlier}
 use Rattle.journal_entries.proofs.Rowing.{taken_more}
 use Rattle.poa_core.specs.Turning.{admits, last_verdict, verdict_in}
 use Rattle.poa_core.proofs.Turned.{manned_before}

@@ -8,12 +8,12 @@ use Rattle.poa_history.specs.Arrivals.{arrivals, arrived_bytes}
 use Rattle.poa_history.specs.Legal.{IsOpen, IsSize, HasRoom, is_filled, is_shutdown, had_shutdown}
 use Rattle.poa_history.specs.Replies.{asks, number_of}
 use Rattle.run_tally.specs.Limits.{has_room, is_taken}
-use Rattle.call_tables.specs.declared.desk.Desk.{Desk}
-use Rattle.call_tables.specs.declared.owing.Owing.{Owing}
-use Rattle.call_tables.specs.Owed.{AreOwed, head_of}
-use Rattle.call_tables.specs.declared.filed.Filed.{Filed}
-use Rattle.call_tables.specs.Desk.{Files}
-use Rattle.call_tables.proofs.DeskAfter.{new_owes, owed_with, owed_without}
+use Rattle.core_outboxes.specs.declared.desk.Desk.{Desk}
+use Rattle.core_outboxes.specs.declared.owing.Owing.{Owing}
+use Rattle.core_outboxes.specs.Owed.{AreOwed, head_of}
+use Rattle.core_outboxes.specs.declared.filed.Filed.{Filed}
+use Rattle.core_outboxes.specs.Desk.{Files}
+use Rattle.core_outboxes.proofs.DeskAfter.{new_owes, owed_with, owed_without}
 use Rattle.poa_core.specs.declared.inside.Inside.{Inside}
 use Rattle.poa_core.specs.Arriving.{row_of}
 use Rattle.poa_core.specs.Agrees.{Agrees, history}

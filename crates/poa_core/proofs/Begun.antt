@@ -1,9 +1,9 @@
 -- A run that hasn't begun is kept.
 use Rattle.std.proofs.Common.{◌≡◌, ℕ, ◌+◌, ◌^◌, ◌<◌, ◌≤◌, [], length, reverse, refl, sym, ap, subst, ◌∙◌, arith}
 use Rattle.conf_rules.specs.Rules.{KeepsRules}
-use Rattle.call_tables.specs.Owed.{AreOwed}
-use Rattle.call_tables.specs.Desk.{Files}
-use Rattle.adapter_state.specs.State.{IsState}
+use Rattle.core_outboxes.specs.Owed.{AreOwed}
+use Rattle.core_outboxes.specs.Desk.{Files}
+use Rattle.core_state.specs.State.{IsState}
 use Rattle.poa_core.specs.declared.inside.Inside.{Inside}
 use Rattle.poa_core.specs.Agrees.{Agrees, KnowsTables, opened_in}
 use Rattle.poa_core.specs.Kept.{IsKept, stay}

@@ -5,7 +5,7 @@ use Rattle.poa_base.specs.declared.Entry.{Entry}
 use Rattle.poa_base.specs.declared.Entry.TheVariants.{Entered, Left}
 use Rattle.poa_history.specs.Arrivals.{connections}
 use Rattle.poa_history.specs.Legal.{IsOpen}
-use Rattle.arrival_tables.specs.Placed.{arrives}
+use Rattle.core_arrivals.specs.Placed.{arrives}
 use Rattle.held_queue.specs.Waiting.{may_queue}
 use Rattle.run_tally.specs.Tallies.{HasRoomFor as HasRoomForTally}
 use Rattle.journal_entries.specs.Rows.{is_brief}

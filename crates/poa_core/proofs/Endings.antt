@@ -10,13 +10,13 @@ use Rattle.poa_history.specs.Stages.{stage, is_abandoned}
 use Rattle.poa_history.specs.Legal.{MayFollow}
 use Rattle.poa_history.proofs.TurnTells.{done_is, removal_is}
 use Rattle.poa_history.proofs.StagesFrom.{maker, stage_other}
-use Rattle.standing_of.specs.Entries.{stage_at}
-use Rattle.arrival_tables.specs.declared.workers.Workers.{Workers}
-use Rattle.arrival_tables.specs.Begun.{KnowsWorkers, only_ends}
+use Rattle.core_standing.specs.Entries.{stage_at}
+use Rattle.core_arrivals.specs.declared.workers.Workers.{Workers}
+use Rattle.core_arrivals.specs.Begun.{KnowsWorkers, only_ends}
 use Rattle.run_tally.proofs.Staying.{count_few, count_same, count_less, count_near}
-use Rattle.call_tables.specs.Waits.{admits}
-use Rattle.call_replies.specs.Fixed.{may_want}
-use Rattle.adapter_state.specs.State.{is_turn, only_ends as only_ends_by}
+use Rattle.core_outboxes.specs.Waits.{admits}
+use Rattle.core_replies.specs.Fixed.{may_want}
+use Rattle.core_state.specs.State.{is_turn, only_ends as only_ends_by}
 use Rattle.poa_core.specs.Turning.{is_ending}
 use Rattle.poa_core.specs.Kept.{by_workers, is_conn}
 

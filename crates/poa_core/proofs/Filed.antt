@@ -1,8 +1,8 @@
 -- The replies that a desk has filed.
 use Rattle.std.proofs.Common.{◌≡◌, ◌+◌, List, length, sym, ap, ◌∙◌}
-use Rattle.call_tables.specs.declared.desk.Desk.{Desk}
-use Rattle.call_tables.specs.declared.filed.Filed.{Filed}
-use Rattle.call_tables.specs.Desk.{Files, HasFiled}
+use Rattle.core_outboxes.specs.declared.desk.Desk.{Desk}
+use Rattle.core_outboxes.specs.declared.filed.Filed.{Filed}
+use Rattle.core_outboxes.specs.Desk.{Files, HasFiled}
 
 -- more is true of them
 pub filed_as : {P Q : List Filed → Type 0} (d : Desk) → ((fs : List Filed) → P fs → Q fs) → HasFiled P d → HasFiled Q d

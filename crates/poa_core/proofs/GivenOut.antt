@@ -3,13 +3,13 @@ use Rattle.std.proofs.Common.{◌≡◌, ℕ, ◌+◌, ◌<◌, ◌≤◌, ◌==
 use Rattle.poa_base.specs.declared.Entry.TheVariants.{Collect}
 use Rattle.poa_history.specs.Replies.{next_reply}
 use Rattle.poa_tree.proofs.Finding.{find_in}
-use Rattle.call_tables.specs.declared.desk.Desk.{Desk}
-use Rattle.call_tables.specs.declared.filed.Filed.{Filed}
-use Rattle.call_tables.specs.Owed.{AreOwed}
-use Rattle.call_tables.specs.Decided.{AreFiled, IsFiled}
-use Rattle.call_tables.specs.Desk.{Files, HasFiled, without_first}
-use Rattle.call_tables.proofs.Given.{next_is}
-use Rattle.call_tables.proofs.Removed.{left_which, left_in}
+use Rattle.core_outboxes.specs.declared.desk.Desk.{Desk}
+use Rattle.core_outboxes.specs.declared.filed.Filed.{Filed}
+use Rattle.core_outboxes.specs.Owed.{AreOwed}
+use Rattle.core_outboxes.specs.Decided.{AreFiled, IsFiled}
+use Rattle.core_outboxes.specs.Desk.{Files, HasFiled, without_first}
+use Rattle.core_outboxes.proofs.Given.{next_is}
+use Rattle.core_outboxes.proofs.Removed.{left_which, left_in}
 use Rattle.poa_core.specs.declared.inside.Inside.{Inside}
 use Rattle.poa_core.specs.Agrees.{history, opened_in}
 use Rattle.poa_core.specs.Noting.{HasRoomForEntry, IsNoted}
@@ -18,7 +18,7 @@ use Rattle.poa_core.proofs.Connected.{brief_room}
 use Rattle.poa_core.proofs.Space.{stay_after}
 use Rattle.poa_core.proofs.Keeping.{kept_then, at_most}
 use Rattle.poa_core.proofs.Ready.{desk_kept}
-use Rattle.call_tables.proofs.Taken.{none_taken, one_taken}
+use Rattle.core_outboxes.proofs.Taken.{none_taken, one_taken}
 
 -- the desk after its first reply of the connection was given out, if there was one
 pub record IsGiven (conn : ℕ) (result : Option Filed) (old new : Desk) : Type 0 where

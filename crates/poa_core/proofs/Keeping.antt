@@ -8,23 +8,23 @@ use Rattle.poa_history.specs.Arrivals.{arrivals}
 use Rattle.poa_history.specs.Stages.{stage}
 use Rattle.poa_history.specs.States.{servant_run}
 use Rattle.history_openings.specs.Runs.{IsRun}
-use Rattle.standing_queries.specs.Answers.{AnswersAs}
-use Rattle.standing_queries.specs.Seen.{seen}
-use Rattle.standing_of.specs.Entries.{stage_at}
-use Rattle.arrival_tables.specs.Placed.{KnowsCalls}
-use Rattle.call_replies.specs.Comes.{call_at}
-use Rattle.call_tables.specs.declared.filed.Filed.{Filed}
-use Rattle.call_tables.specs.Desk.{AreLeft}
-use Rattle.call_tables.specs.Decided.{AreFiled}
-use Rattle.adapter_state.specs.declared.coming.Coming.{Coming}
-use Rattle.adapter_state.specs.State.{is_turn}
+use Rattle.core_queries.specs.Answers.{AnswersAs}
+use Rattle.core_queries.specs.Seen.{seen}
+use Rattle.core_standing.specs.Entries.{stage_at}
+use Rattle.core_arrivals.specs.Placed.{KnowsCalls}
+use Rattle.core_replies.specs.Comes.{call_at}
+use Rattle.core_outboxes.specs.declared.filed.Filed.{Filed}
+use Rattle.core_outboxes.specs.Desk.{AreLeft}
+use Rattle.core_outboxes.specs.Decided.{AreFiled}
+use Rattle.core_state.specs.declared.coming.Coming.{Coming}
+use Rattle.core_state.specs.State.{is_turn}
 use Rattle.poa_core.specs.declared.inside.Inside.{Inside}
 use Rattle.run_history.specs.Life.{Life}
 use Rattle.poa_core.specs.Agrees.{Agrees, KnowsTables, history, opened_in}
 use Rattle.poa_core.specs.Turning.{IsAsked, is_ending}
 use Rattle.poa_core.specs.Noting.{IsNoted}
 use Rattle.poa_core.specs.Kept.{IsKept, HasSpace, life, needed, stay}
-use Rattle.adapter_state.proofs.Stated.{answers_state}
+use Rattle.core_state.proofs.Stated.{answers_state}
 use Rattle.poa_core.proofs.Space.{stay_turned, stay_ended, turns_arrive_none}
 
 -- the history goes on by the entry

@@ -16,10 +16,10 @@ use Rattle.poa_history.specs.Turns.{attempt, going_on, activation_numbered, turn
 use Rattle.poa_history.specs.Legal.{IsTurn, MayFollow}
 use Rattle.poa_history.proofs.TurnIs.{mapped_by, goes_on, takes, admits, turned}
 use Rattle.history_openings.specs.Runs.{IsRun}
-use Rattle.standing_of.specs.Entries.{stage_at}
-use Rattle.arrival_tables.specs.Begun.{worker_of, only_ends}
-use Rattle.arrival_tables.proofs.Staging.{worker_stage}
-use Rattle.adapter_state.specs.State.{is_turn}
+use Rattle.core_standing.specs.Entries.{stage_at}
+use Rattle.core_arrivals.specs.Begun.{worker_of, only_ends}
+use Rattle.core_arrivals.proofs.Staging.{worker_stage}
+use Rattle.core_state.specs.State.{is_turn}
 use Rattle.poa_core.specs.Turning.{is_ending}
 use Rattle.run_history.specs.Life.{Life}
 use Rattle.poa_core.specs.Answers.{Steps}

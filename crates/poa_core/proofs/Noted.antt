@@ -5,9 +5,9 @@ use Rattle.poa_base.specs.declared.Config.{Config}
 use Rattle.poa_base.specs.Store.{Slots}
 use Rattle.poa_base.specs.declared.Entry.{Entry}
 use Rattle.poa_history.specs.declared.stage.Stage.{Stage}
-use Rattle.standing_queries.specs.Seen.{seen}
-use Rattle.call_tables.specs.Desk.{Comes}
-use Rattle.adapter_state.proofs.Stated.{answers_state}
+use Rattle.core_queries.specs.Seen.{seen}
+use Rattle.core_outboxes.specs.Desk.{Comes}
+use Rattle.core_state.proofs.Stated.{answers_state}
 use Rattle.poa_core.specs.declared.inside.Inside.{Inside}
 use Rattle.poa_core.specs.declared.turning.Brought.{Brought}
 use Rattle.run_history.specs.Life.{Life, with_entry}

@@ -8,20 +8,20 @@ use Rattle.poa_history.specs.declared.stage.Stage.TheVariants.{Free}
 use Rattle.poa_history.specs.States.{Stored}
 use Rattle.history_openings.specs.Runs.{IsRun}
 use Rattle.history_openings.proofs.Opened.{given, within}
-use Rattle.standing_queries.specs.Seen.{seen}
+use Rattle.core_queries.specs.Seen.{seen}
 use Rattle.history_holds.specs.Frees.{nothing, freed_by}
-use Rattle.standing_of.specs.Entries.{stage_at, changes_nothing}
-use Rattle.standing_of.proofs.Settled.{nothing_changed}
-use Rattle.adapter_settings.specs.declared.settings.Settings.{Settings}
-use Rattle.adapter_settings.specs.Told.{Tells}
-use Rattle.servant_states.specs.Kept.{kept_in}
-use Rattle.servant_states.proofs.QuietHolds.{quiet_holds, is_quiet}
-use Rattle.call_tables.specs.Decided.{Decides}
-use Rattle.call_tables.specs.Desk.{WaitIs}
-use Rattle.call_tables.specs.Waits.{ordered_by}
-use Rattle.adapter_state.specs.declared.state.State.{State}
-use Rattle.adapter_state.specs.State.{IsState, is_turn}
-use Rattle.adapter_state.proofs.Stated.{kept_still}
+use Rattle.core_standing.specs.Entries.{stage_at, changes_nothing}
+use Rattle.core_standing.proofs.Settled.{nothing_changed}
+use Rattle.core_settings.specs.declared.settings.Settings.{Settings}
+use Rattle.core_settings.specs.Told.{Tells}
+use Rattle.core_servants.specs.Kept.{kept_in}
+use Rattle.core_servants.proofs.QuietHolds.{quiet_holds, is_quiet}
+use Rattle.core_outboxes.specs.Decided.{Decides}
+use Rattle.core_outboxes.specs.Desk.{WaitIs}
+use Rattle.core_outboxes.specs.Waits.{ordered_by}
+use Rattle.core_state.specs.declared.state.State.{State}
+use Rattle.core_state.specs.State.{IsState, is_turn}
+use Rattle.core_state.proofs.Stated.{kept_still}
 use Rattle.poa_core.specs.declared.inside.Inside.{Inside}
 use Rattle.poa_core.specs.Agrees.{opened_in}
 use Rattle.poa_core.specs.Noting.{IsHalfway}

@@ -4,10 +4,10 @@ use Rattle.poa_base.specs.declared.Entry.{Entry}
 use Rattle.poa_base.specs.declared.Entry.TheVariants.{Done, Etherealized}
 use Rattle.history_openings.specs.Runs.{IsRun}
 use Rattle.poa_core.specs.declared.inside.Inside.{Inside}
-use Rattle.call_tables.specs.declared.desk.Desk.{Desk}
-use Rattle.call_tables.specs.declared.filed.Filed.{Filed}
-use Rattle.call_tables.specs.Desk.{Files}
-use Rattle.call_tables.specs.Owed.{AreOwed}
+use Rattle.core_outboxes.specs.declared.desk.Desk.{Desk}
+use Rattle.core_outboxes.specs.declared.filed.Filed.{Filed}
+use Rattle.core_outboxes.specs.Desk.{Files}
+use Rattle.core_outboxes.specs.Owed.{AreOwed}
 use Rattle.poa_core.specs.declared.tables.Tables.{Tables}
 use Rattle.poa_core.specs.Agrees.{Agrees, KnowsTables, history}
 use Rattle.poa_core.specs.Noting.{HasRoomForEntry}

@@ -14,7 +14,7 @@ use Rattle.run_tally.specs.Tallies.{IsTally}
 use Rattle.run_tally.specs.Leaving.{staying, is_staying}
 use Rattle.run_tally.proofs.Staying.{staying_less}
 use Rattle.run_tally.proofs.Follows.{unfilled_is}
-use Rattle.adapter_state.specs.State.{is_turn}
+use Rattle.core_state.specs.State.{is_turn}
 use Rattle.poa_core.specs.declared.tables.Tables.{Tables}
 use Rattle.poa_core.specs.Agrees.{KnowsTables}
 use Rattle.poa_core.specs.Turning.{is_ending}

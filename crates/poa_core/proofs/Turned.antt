@@ -16,18 +16,18 @@ use Rattle.poa_history.proofs.MannedKept.{all_manned}
 use Rattle.poa_history.proofs.TurnTells.{trial_is, incarnation_is, run_is, done_is, takeout_is, removal_is}
 use Rattle.history_openings.specs.Runs.{IsRun}
 use Rattle.history_openings.proofs.Opened.{given, alone, within}
-use Rattle.standing_queries.specs.Answers.{AnswersAs}
-use Rattle.standing_queries.specs.Seen.{seen}
-use Rattle.standing_of.specs.Entries.{stage_at}
-use Rattle.adapter_settings.specs.declared.settings.Settings.{Settings}
-use Rattle.adapter_settings.specs.Told.{Tells as SettingsTell}
-use Rattle.servant_states.specs.Comes.{outcome_told}
-use Rattle.servant_states.proofs.RunsHave.{serving_has}
-use Rattle.call_replies.specs.Comes.{Comes, HasOutcome, call_at}
-use Rattle.adapter_state.specs.declared.coming.Coming.{Coming}
-use Rattle.adapter_state.specs.State.{IsNext, call_spoken, is_turn, outcome_of}
-use Rattle.adapter_state.specs.declared.state.State.{State}
-use Rattle.adapter_state.proofs.Stated.{answers_state, earlier}
+use Rattle.core_queries.specs.Answers.{AnswersAs}
+use Rattle.core_queries.specs.Seen.{seen}
+use Rattle.core_standing.specs.Entries.{stage_at}
+use Rattle.core_settings.specs.declared.settings.Settings.{Settings}
+use Rattle.core_settings.specs.Told.{Tells as SettingsTell}
+use Rattle.core_servants.specs.Comes.{outcome_told}
+use Rattle.core_servants.proofs.RunsHave.{serving_has}
+use Rattle.core_replies.specs.Comes.{Comes, HasOutcome, call_at}
+use Rattle.core_state.specs.declared.coming.Coming.{Coming}
+use Rattle.core_state.specs.State.{IsNext, call_spoken, is_turn, outcome_of}
+use Rattle.core_state.specs.declared.state.State.{State}
+use Rattle.core_state.proofs.Stated.{answers_state, earlier}
 use Rattle.poa_core.specs.Turning.{IsAsked, call_in, is_run}
 
 pub at_ok : {T E : Type 0} {P : Type 0} (r : Result T E) → P → OnOk r P

@@ -5,15 +5,15 @@ use Rattle.poa_base.specs.declared.Config.{Config}
 use Rattle.poa_base.specs.declared.Entry.{Entry}
 use Rattle.poa_history.specs.States.{Stored}
 use Rattle.history_openings.specs.Runs.{IsRun}
-use Rattle.arrival_tables.specs.Placed.{KnowsCalls}
-use Rattle.arrival_tables.specs.Queued.{IsQueue}
+use Rattle.core_arrivals.specs.Placed.{KnowsCalls}
+use Rattle.core_arrivals.specs.Queued.{IsQueue}
 use Rattle.held_queue.specs.Held.{AreHeld}
-use Rattle.arrival_tables.specs.Begun.{KnowsWorkers}
+use Rattle.core_arrivals.specs.Begun.{KnowsWorkers}
 use Rattle.run_tally.specs.Tallies.{IsTally}
-use Rattle.call_tables.specs.Owed.{AreOwed}
-use Rattle.call_tables.specs.Decided.{AreFiled}
-use Rattle.call_tables.specs.Desk.{HasFiled}
-use Rattle.adapter_state.specs.State.{IsState}
+use Rattle.core_outboxes.specs.Owed.{AreOwed}
+use Rattle.core_outboxes.specs.Decided.{AreFiled}
+use Rattle.core_outboxes.specs.Desk.{HasFiled}
+use Rattle.core_state.specs.State.{IsState}
 use Rattle.poa_core.specs.declared.tables.Tables.{Tables}
 use Rattle.poa_core.specs.declared.inside.Inside.{Inside}
 

@@ -13,10 +13,10 @@ use Rattle.poa_history.specs.Replies.{next_reply, reply_of, owed}
 use Rattle.poa_history.specs.Searches.{count_below}
 use Rattle.poa_history.specs.Stages.{stage, is_unadmitted, is_abandoned}
 use Rattle.poa_history.specs.Turns.{turn}
-use Rattle.arrival_tables.specs.Begun.{only_ends}
+use Rattle.core_arrivals.specs.Begun.{only_ends}
 use Rattle.run_tally.specs.Leaving.{is_shut, are_gone}
 pub use Rattle.run_tally.specs.Limits.{is_taken, filled_at}
-pub use Rattle.call_tables.specs.Owed.{head_of}
+pub use Rattle.core_outboxes.specs.Owed.{head_of}
 use Rattle.run_history.specs.Life.{Life, with_entry, opened}
 use Rattle.poa_core.specs.declared.enter_fault.EnterFault.{EnterFault}
 use Rattle.poa_core.specs.declared.enter_fault.EnterFault.TheVariants as enter_fault

@@ -3,8 +3,8 @@ use Rattle.std.specs.Prelude.{◌≡◌, ℕ, if◌then◌else◌, Option, Some,
 use Rattle.poa_base.specs.declared.Call.{Call}
 use Rattle.poa_history.specs.Replies.{asks, number_of}
 use Rattle.run_tally.specs.Limits.{filled_at}
-use Rattle.call_tables.specs.declared.owing.Owing.{Owing}
-use Rattle.call_tables.specs.Owed.{head_of}
+use Rattle.core_outboxes.specs.declared.owing.Owing.{Owing}
+use Rattle.core_outboxes.specs.Owed.{head_of}
 use Rattle.run_history.specs.Life.{Life}
 use Rattle.poa_core.specs.Answers.{filled_by}
 use Rattle.poa_core.specs.declared.arrive_fault.ArriveFault.{ArriveFault}

@@ -7,16 +7,16 @@ use Rattle.poa_history.specs.Searches.{count_below}
 use Rattle.history_openings.specs.Runs.{IsRun}
 use Rattle.run_tally.specs.declared.Tally.{Tally}
 use Rattle.run_tally.specs.Tallies.{flag_of, HasRoomForOne as HasRoomForConnection}
-use Rattle.call_tables.specs.Desk.{AreLeft, HasFiled}
-use Rattle.arrival_tables.specs.declared.workers.Workers.{Workers}
-use Rattle.arrival_tables.specs.Begun.{only_ends}
-use Rattle.arrival_tables.specs.Queued.{HasPlace}
+use Rattle.core_outboxes.specs.Desk.{AreLeft, HasFiled}
+use Rattle.core_arrivals.specs.declared.workers.Workers.{Workers}
+use Rattle.core_arrivals.specs.Begun.{only_ends}
+use Rattle.core_arrivals.specs.Queued.{HasPlace}
 use Rattle.held_queue.specs.Numbers.{HasRoom as HasRoomForCall}
 use Rattle.poa_core.specs.declared.inside.Inside.{Inside}
 use Rattle.poa_core.specs.declared.tables.Tables.{Tables}
 use Rattle.run_history.specs.Life.{Life}
-use Rattle.call_tables.specs.Owed.{AreOwed}
-use Rattle.adapter_state.specs.State.{IsState, is_turn}
+use Rattle.core_outboxes.specs.Owed.{AreOwed}
+use Rattle.core_state.specs.State.{IsState, is_turn}
 use Rattle.poa_core.specs.Agrees.{Agrees, KnowsTables, history, opened_in}
 use Rattle.poa_core.specs.Turning.{is_ending}
 

@@ -3,18 +3,18 @@ use Rattle.std.specs.Prelude.{◌≡◌, ℕ, ◌+◌, ◌<◌, true, List, ◌�
 use Rattle.poa_base.specs.declared.Entry.{Entry}
 use Rattle.poa_history.specs.declared.stage.Stage.{Stage}
 use Rattle.history_openings.specs.Runs.{IsRun}
-use Rattle.standing_of.specs.Entries.{stage_at}
-use Rattle.call_tables.specs.Owed.{AreOwed}
+use Rattle.core_standing.specs.Entries.{stage_at}
+use Rattle.core_outboxes.specs.Owed.{AreOwed}
 use Rattle.poa_history.specs.Arrivals.{arrivals}
-use Rattle.call_tables.specs.Decided.{AreFiled}
-use Rattle.call_tables.specs.Desk.{AreLeft, AreOwedBefore, HasFiled, HasRoomForOne}
-use Rattle.arrival_tables.specs.Placed.{arrives}
-use Rattle.arrival_tables.specs.Queued.{HasPlace}
+use Rattle.core_outboxes.specs.Decided.{AreFiled}
+use Rattle.core_outboxes.specs.Desk.{AreLeft, AreOwedBefore, HasFiled, HasRoomForOne}
+use Rattle.core_arrivals.specs.Placed.{arrives}
+use Rattle.core_arrivals.specs.Queued.{HasPlace}
 use Rattle.held_queue.specs.Numbers.{HasRoom as HasRoomForCall}
 use Rattle.held_queue.specs.Waiting.{may_queue}
 use Rattle.run_tally.specs.Tallies.{HasRoomFor as HasRoomForTally}
 use Rattle.journal_entries.specs.Rows.{HasRoomFor}
-use Rattle.adapter_state.specs.State.{IsState}
+use Rattle.core_state.specs.State.{IsState}
 use Rattle.poa_core.specs.declared.inside.Inside.{Inside}
 use Rattle.poa_core.specs.declared.turning.Brought.{Brought}
 use Rattle.run_history.specs.Life.{with_entry}

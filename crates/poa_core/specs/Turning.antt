@@ -7,15 +7,15 @@ use Rattle.poa_base.specs.declared.Entry.TheVariants.{Admit, Run, Done, Ethereal
 use Rattle.poa_base.specs.declared.Verdict.{Verdict}
 use Rattle.poa_history.specs.States.{Stored, servant_run}
 use Rattle.history_openings.specs.Runs.{IsRun}
-use Rattle.standing_of.specs.Entries.{stage_at}
+use Rattle.core_standing.specs.Entries.{stage_at}
 use Rattle.history_holds.specs.Frees.{freed_by}
-use Rattle.call_tables.specs.Decided.{Decides}
-use Rattle.call_tables.specs.Desk.{WaitIs}
-use Rattle.call_tables.specs.Waits.{ordered_by}
-use Rattle.adapter_state.specs.declared.state.State.{State}
-use Rattle.adapter_state.specs.declared.coming.Coming.{Coming}
-use Rattle.adapter_state.specs.State.{IsState, is_turn}
-use Rattle.call_replies.specs.Comes.{call_at}
+use Rattle.core_outboxes.specs.Decided.{Decides}
+use Rattle.core_outboxes.specs.Desk.{WaitIs}
+use Rattle.core_outboxes.specs.Waits.{ordered_by}
+use Rattle.core_state.specs.declared.state.State.{State}
+use Rattle.core_state.specs.declared.coming.Coming.{Coming}
+use Rattle.core_state.specs.State.{IsState, is_turn}
+use Rattle.core_replies.specs.Comes.{call_at}
 use Rattle.poa_core.specs.declared.turning.Brought.{Brought}
 
 -- the call that an entry admits or runs

@@ -5,7 +5,7 @@ ghost use Rattle.poa_core.specs.Kept.{IsKept, life};
 
 use crate::inside::Inside;
 use crate::quieting::quiet;
-use arrival_tables::workers;
+use core_arrivals::workers;
 use poa_base::Entry;
 
 /// A worker below 16 gives the run up; one that did before changes nothing. Takes no memory.

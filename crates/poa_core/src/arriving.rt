@@ -2,7 +2,7 @@
 ghost use Rattle.std.specs.Prelude.{◌≡◌, Option, Some, None, true, false};
 ghost use Rattle.poa_history.specs.Legal.{IsOpen, IsSize};
 ghost use Rattle.run_tally.specs.Limits as limits;
-ghost use Rattle.call_tables.specs.Desk.{HasRoomForOne};
+ghost use Rattle.core_outboxes.specs.Desk.{HasRoomForOne};
 ghost use Rattle.poa_core.specs.Agrees.{history};
 ghost use Rattle.poa_core.specs.Answers as answers;
 ghost use Rattle.poa_core.specs.Arriving as arriving;
@@ -14,8 +14,8 @@ use crate::arrive_fault::ArriveFault;
 use crate::inside::Inside;
 use crate::quieting::quiet;
 use crate::room::make_room_for_call;
-use call_replies::{asks, head_of, number_of};
-use call_tables::Owing;
+use core_outboxes::Owing;
+use core_replies::{asks, head_of, number_of};
 use poa_base::{Call, Entry};
 
 /// The row of a call that asks a reply.

@@ -6,7 +6,7 @@ ghost use Rattle.poa_core.specs.Kept.{IsKept, life};
 
 use crate::inside::Inside;
 use crate::tables;
-use call_tables::Desk;
+use core_outboxes::Desk;
 use journal_entries::Entries;
 use poa_base::{Config, Store, WantMemory};
 use std::alloc::Global;
@@ -26,7 +26,7 @@ pub fn begin(
     ensures begun { IfOk result (λ inside. life inside ≡ lives.begun config run limit opening) }
 {
     let tables = tables::none(alloc)?;
-    let state = adapter_state::opening(alloc, &config, run, &opening)?;
+    let state = core_state::opening(alloc, &config, run, &opening)?;
     let mut entries = Entries::new(alloc)?;
     entries.reserve(18)?;
     Ok(Inside {

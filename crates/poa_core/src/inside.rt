@@ -1,7 +1,7 @@
 //! What the core keeps of its run.
 use crate::tables::Tables;
-use adapter_state::State;
-use call_tables::Desk;
+use core_outboxes::Desk;
+use core_state::State;
 use journal_entries::Entries;
 use poa_base::{Config, Store};
 use std::alloc::Global;

@@ -20,7 +20,7 @@ pub fn note(inside: &mut Inside, entry: Entry, stage: Stage, brought: Brought)
         ordered,
         freed,
     } = brought;
-    call_tables::advance(
+    core_outboxes::advance(
         &inside.config,
         &inside.state.standing,
         &entry,

@@ -2,7 +2,7 @@
 ghost use Rattle.std.specs.Prelude.{◌≡◌, ◌+◌, ◌≤◌, ◌∷◌, None, true, ◌⊎◌, IsOk, OnOk};
 ghost use Rattle.std.specs.Option.{IsSomeAnd};
 ghost use Rattle.history_openings.specs.Runs.{IsRun};
-ghost use Rattle.call_tables.specs.Desk.{HasRoomForOne};
+ghost use Rattle.core_outboxes.specs.Desk.{HasRoomForOne};
 ghost use Rattle.poa_core.specs.Agrees.{history};
 ghost use Rattle.poa_core.specs.Kept.{HasSpace, IsKept, IsReady, life, needed, to_come};
 ghost use Rattle.poa_core.specs.Noting.{HasRoomForEntry};

@@ -4,16 +4,16 @@ ghost use Rattle.journal_entries.specs.Rows.{seen as entry_seen};
 ghost use Rattle.poa_history.specs.Stages as begun;
 ghost use Rattle.poa_history.specs.States as states;
 ghost use Rattle.history_openings.specs.Runs.{IsRun};
-ghost use Rattle.standing_queries.specs.Answers.{AnswersAs};
-ghost use Rattle.standing_queries.specs.Seen.{seen};
-ghost use Rattle.arrival_tables.specs.Begun.{only_ends};
+ghost use Rattle.core_queries.specs.Answers.{AnswersAs};
+ghost use Rattle.core_queries.specs.Seen.{seen};
+ghost use Rattle.core_arrivals.specs.Begun.{only_ends};
 ghost use Rattle.poa_core.specs.Turning as turning;
 
+use core_queries::Standing;
+use core_servants::servant_by;
 use journal_entries::{Entries, EntryView, Row};
 use poa_base::{Config, Entry, Sid, Verdict, WantMemory};
 use poa_history::Stage;
-use servant_states::servant_by;
-use standing_queries::Standing;
 
 /// Whether an entry admits an arrival.
 fn admits(view: EntryView<'_>, arrival: u64) -> bool

@@ -2,7 +2,7 @@
 ghost use Rattle.std.specs.Prelude.{◌≡◌, ◌<◌, true, IfOk, IsOk};
 ghost use Rattle.poa_history.specs.Stages as begun;
 ghost use Rattle.poa_history.specs.Turns.{turn};
-ghost use Rattle.arrival_tables.specs.Begun.{only_ends};
+ghost use Rattle.core_arrivals.specs.Begun.{only_ends};
 ghost use Rattle.poa_core.specs.Answers as answers;
 ghost use Rattle.poa_core.specs.Agrees.{history};
 ghost use Rattle.poa_core.specs.Kept.{IsKept, life};
@@ -10,7 +10,7 @@ ghost use Rattle.poa_core.specs.Kept.{IsKept, life};
 use crate::inside::Inside;
 use crate::step_out::StepOut;
 use crate::taking::take;
-use arrival_tables::{Known, queue, workers};
+use core_arrivals::{Known, queue, workers};
 use poa_base::{Entry, Point, WantMemory};
 use poa_history::Stage;
 

@@ -3,16 +3,16 @@ ghost use Rattle.std.specs.Prelude.{◌≡◌, ◌<◌, ◌∷◌, ℕ, true, []
 ghost use Rattle.poa_base.specs.declared.Config.{Config};
 ghost use Rattle.poa_base.specs.declared.Entry.{Entry as EntryOf};
 ghost use Rattle.history_openings.specs.Runs.{IsRun};
-ghost use Rattle.standing_of.specs.Entries.{stage_at};
-ghost use Rattle.arrival_tables.specs.Placed.{arrives};
-ghost use Rattle.arrival_tables.specs.Queued.{HasPlace};
+ghost use Rattle.core_standing.specs.Entries.{stage_at};
+ghost use Rattle.core_arrivals.specs.Placed.{arrives};
+ghost use Rattle.core_arrivals.specs.Queued.{HasPlace};
 ghost use Rattle.history_holds.specs.Frees.{freed_by};
 ghost use Rattle.held_queue.specs.Numbers.{HasRoom};
 ghost use Rattle.held_queue.specs.Waiting.{may_queue};
 ghost use Rattle.run_tally.specs.Tallies.{HasRoomFor, HasRoomForOne};
 ghost use Rattle.poa_core.specs.Agrees.{KnowsTables};
 
-use arrival_tables::{Calls, Queue, Workers, calls, queue, workers};
+use core_arrivals::{Calls, Queue, Workers, calls, queue, workers};
 use held_queue::HeldQueue;
 use history_holds::Freed;
 use journal_entries::Entries;

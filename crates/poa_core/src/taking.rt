@@ -1,8 +1,8 @@
 //! A worker's entry is taken.
 ghost use Rattle.std.specs.Prelude.{◌≡◌, ◌∷◌, true, IsOk, OnOk, OnErr};
 ghost use Rattle.history_openings.specs.Runs.{IsRun};
-ghost use Rattle.standing_of.specs.Entries.{stage_at};
-ghost use Rattle.adapter_state.specs.State.{is_turn};
+ghost use Rattle.core_standing.specs.Entries.{stage_at};
+ghost use Rattle.core_state.specs.State.{is_turn};
 ghost use Rattle.run_history.specs.Life.{with_entry};
 ghost use Rattle.poa_core.specs.Agrees.{history};
 ghost use Rattle.poa_core.specs.Kept.{IsKept, life};
@@ -13,7 +13,7 @@ use crate::noting::note;
 use crate::room::make_room_for;
 use crate::serving::servant_in;
 use crate::turning::{bring, call_at};
-use adapter_state::Coming;
+use core_state::Coming;
 use poa_base::{Entry, WantMemory};
 use poa_history::Stage;
 

@@ -1,25 +1,25 @@
 //! The entries that workers make.
 ghost use Rattle.std.specs.Prelude.{◌≡◌, ◌∷◌, ℕ, true, false, List, reverse, option_copied, IfOk, IsOk, OnOk, OnErr};
 ghost use Rattle.poa_history.specs.States.{Stored};
-ghost use Rattle.standing_of.specs.Entries.{stage_at};
-ghost use Rattle.arrival_tables.specs.Placed.{KnowsCalls};
-ghost use Rattle.call_replies.specs.Comes.{call_at as the_call_at};
-ghost use Rattle.adapter_state.specs.State.{IsState};
+ghost use Rattle.core_standing.specs.Entries.{stage_at};
+ghost use Rattle.core_arrivals.specs.Placed.{KnowsCalls};
+ghost use Rattle.core_replies.specs.Comes.{call_at as the_call_at};
+ghost use Rattle.core_state.specs.State.{IsState};
 ghost use Rattle.poa_base.specs.declared.Entry.{Entry as EntryOf};
-ghost use Rattle.call_tables.specs.Decided.{Decides};
-ghost use Rattle.call_tables.specs.Waits.{call_told};
+ghost use Rattle.core_outboxes.specs.Decided.{Decides};
+ghost use Rattle.core_outboxes.specs.Waits.{call_told};
 ghost use Rattle.poa_core.specs.Turning as turning;
 ghost use Rattle.poa_core.specs.Turning.{IsAsked, IsBrought};
 
-use adapter_state::{Coming, State};
-use arrival_tables::{Calls, calls, freed_by};
-use call_replies::decision_of;
-use call_tables::{Decision, Ordered, Wait, ordered_by, wait_by};
+use core_arrivals::{Calls, calls, freed_by};
+use core_outboxes::{Decision, Ordered, Wait, ordered_by, wait_by};
+use core_queries::workers::arrival_in;
+use core_replies::decision_of;
+use core_state::{Coming, State};
 use history_holds::Freed;
 use journal_entries::Entries;
 use poa_base::{Call, Config, Entry, WantMemory};
 use poa_history::Stage;
-use standing_queries::workers::arrival_in;
 use std::alloc::Global;
 
 /// What an entry of a worker brings, beside what it changes.
@@ -89,7 +89,7 @@ fn ran(
     ensures err { (opened : Stored) (past : List EntryOf) → IsState config.now run opened past state.old
         → OnErr result (IsState config.now run opened past state.new) }
 {
-    let outcome = adapter_state::advance(alloc, config, run, coming, state)?;
+    let outcome = core_state::advance(alloc, config, run, coming, state)?;
     decision_of(
         alloc,
         config,
@@ -134,7 +134,7 @@ fn told(
         call: call_in(coming),
         ..*coming
     };
-    adapter_state::advance(alloc, config, run, &changing, state)?;
+    core_state::advance(alloc, config, run, &changing, state)?;
     Ok(decision)
 }
 

@@ -4,10 +4,10 @@ ghost use Rattle.poa_history.specs.Arrivals as calls;
 ghost use Rattle.poa_history.specs.Stages as begun;
 ghost use Rattle.poa_history.specs.Situations as situations;
 
+use core_queries::calls::{arrivals, call_of, is_message};
+use core_queries::workers::admitted;
 use poa_base::Entry;
 use poa_base::limits::UNADMITTED;
-use standing_queries::calls::{arrivals, call_of, is_message};
-use standing_queries::workers::admitted;
 
 /// Whether an arrival is a request or locate that stands unadmitted.
 fn is_waiting(history: &[Entry], arrival: u64) -> bool

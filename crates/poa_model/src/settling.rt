@@ -6,13 +6,13 @@ ghost use Rattle.poa_history.specs.Changes.{standing};
 ghost use Rattle.poa_history.specs.Opening.{number_at as number_of_path};
 
 use active_map::templates::manager_number;
-use adapter_settings::order_for;
+use core_queries::calls::call_of;
+use core_queries::commands::{command_in, done_by, number_at};
+use core_queries::ends::is_gone;
+use core_queries::orders::{are_ended, is_quiet};
+use core_settings::order_for;
+use core_standing::standing_of;
 use poa_base::{Command, Config, Entry, Name, Order, WantMemory};
-use standing_of::standing_of;
-use standing_queries::calls::call_of;
-use standing_queries::commands::{command_in, done_by, number_at};
-use standing_queries::ends::is_gone;
-use standing_queries::orders::{are_ended, is_quiet};
 use std::alloc::Global;
 
 /// What stood when the arrival was admitted.

@@ -6,12 +6,12 @@ ghost use Rattle.poa_history.specs.declared.stage.Stage.TheVariants.{Free};
 ghost use Rattle.poa_history.specs.Turns as turns;
 
 use crate::verdicts::slow_verdict;
+use core_queries::calls::arrivals;
+use core_queries::workers::{admitted, stage};
+use core_standing::standing_of;
+use core_turns::{going_on, removal};
 use poa_base::{Config, Entry, Store, WantMemory};
 use poa_history::Stage;
-use poa_verdicts::{going_on, removal};
-use standing_of::standing_of;
-use standing_queries::calls::arrivals;
-use standing_queries::workers::{admitted, stage};
 use std::alloc::Global;
 
 /// The Admit of an arrival that is ready for the worker.

@@ -1,6 +1,6 @@
 //! Whom a turn concerns.
 use crate::bell::SLOTS;
-use call_tables::Fresh;
+use core_outboxes::Fresh;
 use poa_core::Phase;
 
 // The bits of `Fresh::others` are those of slots.

@@ -1,6 +1,6 @@
 //! The state in which a fresh servant begins.
+use core_servants::restored;
 use poa_base::{Items, Kind, State};
-use servant_states::restored;
 use std::test::Fail;
 
 #[test]

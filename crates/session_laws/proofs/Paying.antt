@@ -12,7 +12,7 @@ use Rattle.poa_history.specs.Replies.{asks, decided, is_asked, is_collected, is_
 use Rattle.poa_history.specs.Searches.{least, count_below}
 use Rattle.poa_history.specs.Settling.{settles}
 use Rattle.poa_history.specs.Stages.{admitted, is_at}
-use Rattle.call_tables.proofs.Arrived.{admitted_arrived, decided_arrived}
+use Rattle.core_outboxes.proofs.Arrived.{admitted_arrived, decided_arrived}
 use Rattle.session_laws.specs.Records.{IsPaidBy}
 
 below_other : (r n : ℕ) → r < suc n → (r ≡ n → ⊥) → r < n

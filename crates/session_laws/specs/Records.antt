@@ -13,7 +13,7 @@ use Rattle.run_history.specs.declared.Givens.{Givens}
 use Rattle.run_history.specs.Runs.{opened}
 use Rattle.run_history.specs.Owners.{owner_of}
 use Rattle.run_tally.specs.Leaving.{is_shut}
-use Rattle.call_tables.specs.Owed.{head_of}
+use Rattle.core_outboxes.specs.Owed.{head_of}
 use Rattle.giop_answer.specs.Reply.{reply_bytes}
 use Rattle.text_words.specs.Token.{number, spelled}
 use Rattle.admin_answer.specs.Answer.{answer_tokens}

@@ -1,5 +1,5 @@
 use Rattle.std.proofs.Common.{refl, sym, ◌∙◌}
-use Rattle.call_tables.proofs.Given.{owed_is}
+use Rattle.core_outboxes.proofs.Given.{owed_is}
 use Rattle.poa_core.specs.Agrees.{history, opened_in}
 use Rattle.poa_core.proofs.GivenOut.{IsGiven, kept_without, none_next, collect_quiet, kept_with, filed_here, next_here, collect_room, owed_still}
 use Rattle.poa_core.proofs.ReplyFits.{reply_fits}

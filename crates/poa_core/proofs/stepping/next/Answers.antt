@@ -1,4 +1,4 @@
-use Rattle.adapter_state.proofs.Stated.{answers_state}
+use Rattle.core_state.proofs.Stated.{answers_state}
 use Rattle.poa_core.specs.Agrees.{history, opened_in}
 use Rattle.poa_core.proofs.stepping.next.Goals as goal
 

@@ -1,5 +1,5 @@
 use Rattle.std.proofs.Common.{◌≡◌, true, false, ap, ◌∙◌}
-use Rattle.arrival_tables.specs.Begun.{only_ends}
+use Rattle.core_arrivals.specs.Begun.{only_ends}
 use Rattle.poa_core.specs.Agrees.{history, opened_in}
 use Rattle.poa_core.proofs.Endings.{ending_stage}
 use Rattle.poa_core.proofs.Keeping.{asked_then, runs_still, begun_still, left_still, turn_kept}

@@ -1,6 +1,0 @@
-use Rattle.std.proofs.Common.{◌∙◌}
-use Rattle.arrival_tables.proofs.Numbers.{is_found}
-use Rattle.arrival_tables.proofs.ordered.has.Goals as goal
-
-pub returns : goal.returns
-returns c = λ up. c.is_ok.ensures.value ∙ is_found c.args.numbers.now.items c.args.number c.binary_search.result up c.binary_search.ensures.position

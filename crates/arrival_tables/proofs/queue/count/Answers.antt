@@ -1,8 +1,0 @@
-use Rattle.std.proofs.Common.{length, sym, ap, ◌∙◌}
-use Rattle.poa_history.specs.Arrivals.{arrivals}
-use Rattle.poa_history.specs.Stages.{is_unadmitted}
-use Rattle.standing_queries.proofs.Numbers.{counted}
-use Rattle.arrival_tables.proofs.queue.count.Goals as goal
-
-pub returns : goal.returns
-returns c = λ h is. (c.len.ensures ∙ c.args.queue.now.unadmitted.ok.0) ∙ (ap length is.unadmitted_are ∙ sym (counted (is_unadmitted h) (arrivals h)))

@@ -1,0 +1,17 @@
+use Rattle.std.specs.Prelude.{refl}
+use Rattle.std.proofs.Common.{sym, subst}
+use Rattle.poa_history.specs.Arrivals.{arrivals}
+use Rattle.poa_history.specs.Stages.{is_unadmitted}
+use Rattle.core_queries.specs.Numbers.{Ascends}
+use Rattle.core_arrivals.specs.Queued.{is_waiting_line}
+use Rattle.held_queue.specs.Waiting.{is_waiting}
+use Rattle.core_queries.proofs.Numbers.{ascending}
+use Rattle.core_arrivals.proofs.Queueing.{admits}
+use Rattle.core_arrivals.proofs.queue.admit.Goals as goal
+
+pub returns : goal.returns
+returns c = λ config run limit past w v may is.
+    admits config run limit past w c.args.arrival v c.args.queue.now _ may is
+    (c.remove.ensures (subst Ascends (sym is.unadmitted_are) (ascending (is_unadmitted past) (arrivals past))))
+    (c.remove-2.ensures (subst Ascends (sym is.messages_are) (ascending (is_waiting past) (arrivals past))))
+    (c.remove-3.ensures (subst Ascends (sym is.lines_are) (ascending (is_waiting_line past) (arrivals past)))) refl

@@ -1,0 +1,37 @@
+-- What each of the workers below 16 has begun, and which of them gave up.
+use Rattle.std.specs.Prelude.{◌≡◌, ℕ, ◌<◌, Bool, true, false, List, length, Option, Some, None, slice_index_or}
+use Rattle.poa_base.specs.declared.Entry.{Entry}
+use Rattle.poa_base.specs.declared.Entry.TheVariants.{Admit, Tried, Incarnated, Run, Done, TakeOut, Etherealized}
+use Rattle.poa_history.specs.declared.stage.Stage.{Stage}
+use Rattle.poa_history.specs.declared.stage.Stage.TheVariants.{Free, Ran, Removing}
+use Rattle.poa_history.specs.Stages.{stage, is_abandoned}
+use Rattle.core_arrivals.specs.declared.workers.Workers.{Workers}
+
+-- the worker that makes the entry
+abbrev pub worker_of : Entry → Option ℕ
+worker_of (Admit w r verdict) = Some w
+worker_of (Tried w answer) = Some w
+worker_of (Incarnated w answer) = Some w
+worker_of (Run w) = Some w
+worker_of (Done w) = Some w
+worker_of (TakeOut w n etherealize) = Some w
+worker_of (Etherealized w cleanup remaining) = Some w
+worker_of e = None
+
+pub record AreStages (h : List Entry) (stages : List Stage) : Type 0 where
+  pub each : length stages ≡ 16
+  pub are : (w : ℕ) → w < 16 → slice_index_or stages w Free ≡ stage h w
+
+pub record AreAbandoned (h : List Entry) (flags : List Bool) : Type 0 where
+  pub each : length flags ≡ 16
+  pub are : (w : ℕ) → w < 16 → slice_index_or flags w false ≡ is_abandoned h w
+
+pub record KnowsWorkers (h : List Entry) (workers : Workers) : Type 0 where
+  pub begun : AreStages h workers.stages.items
+  pub stopped : AreAbandoned h workers.abandoned.items
+
+-- what was begun is only to be ended
+abbrev pub only_ends : Stage → Bool
+only_ends (Ran r) = true
+only_ends (Removing n) = true
+only_ends stage = false

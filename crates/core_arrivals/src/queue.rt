@@ -1,0 +1,167 @@
+//! Which arrivals wait to be admitted, and which came when too many waited.
+ghost use Rattle.std.specs.Prelude.{◌≡◌, ◌∷◌, ℕ, [], true, List, option_copied, IfOk, OnOk};
+ghost use Rattle.poa_base.specs.declared.Config.{Config};
+ghost use Rattle.poa_base.specs.declared.Entry.{Entry};
+ghost use Rattle.poa_base.specs.declared.Entry.TheVariants as entry_kinds;
+ghost use Rattle.poa_base.specs.declared.Attempt.TheVariants as attempt_kinds;
+ghost use Rattle.poa_base.specs.declared.Verdict.{Verdict};
+ghost use Rattle.poa_history.specs.declared.stage.Stage.TheVariants as stage_kinds;
+ghost use Rattle.poa_history.specs.Arrivals.{arrivals as arrivals_in, call_of};
+ghost use Rattle.poa_history.specs.InFlight.{IsManned};
+ghost use Rattle.poa_history.specs.Legal.{MayFollow};
+ghost use Rattle.poa_history.specs.Searches.{count_below};
+ghost use Rattle.poa_history.specs.Situations as situations;
+ghost use Rattle.poa_history.specs.Stages as begun;
+ghost use Rattle.core_standing.specs.Entries.{stage_at};
+ghost use Rattle.core_arrivals.specs.Queued.{IsQueue, HasPlace, call_tried};
+ghost use Rattle.held_queue.specs.Waiting.{is_waiting, may_queue};
+
+use crate::ordered::{has, insert, insert_if, push_if, remove};
+use core_queries::calls::is_message;
+use core_queries::workers::arrival_in;
+use poa_base::limits::UNADMITTED;
+use poa_base::{Attempt, Call, Entry, WantMemory};
+use poa_history::Stage;
+use std::alloc::Global;
+use std::collections::VecDeque;
+
+/// The arrivals that aren't admitted, in order; those of them that are requests or locates, and those that are lines;
+/// and the arrivals that came when too many requests and locates waited.
+#[derive(Drop)]
+pub struct Queue {
+    pub unadmitted: VecDeque<u64>,
+    pub messages: VecDeque<u64>,
+    pub lines: VecDeque<u64>,
+    pub crowded: VecDeque<u64>,
+}
+
+/// The queue before the first arrival.
+pub fn empty(alloc: Global) -> Queue
+    ensures { IsQueue [] result }
+{
+    Queue {
+        unadmitted: VecDeque::new(alloc),
+        messages: VecDeque::new(alloc),
+        lines: VecDeque::new(alloc),
+        crowded: VecDeque::new(alloc),
+    }
+}
+
+/// How many arrivals wait to be admitted.
+pub fn count(queue: &Queue) -> u64
+    ensures { (h : List Entry) → IsQueue h queue.now → result ≡ count_below (begun.is_unadmitted h) (arrivals_in h) }
+{
+    queue.unadmitted.len() as u64
+}
+
+/// Whether too many waited when it arrived.
+pub fn is_crowded(queue: &Queue, arrival: u64) -> bool
+    ensures { (h : List Entry) → IsQueue h queue.now → result ≡ situations.is_crowded h arrival }
+{
+    has(&queue.crowded, arrival)
+}
+
+/// Whether a request or a locate waits to be admitted.
+pub fn waits(queue: &Queue, arrival: u64) -> bool
+    ensures { (h : List Entry) → IsQueue h queue.now → result ≡ is_waiting h arrival }
+{
+    has(&queue.messages, arrival)
+}
+
+/// Makes room for one call more.
+pub fn reserve(queue: &mut Queue) -> Result<(), WantMemory>
+    ensures unadmitted { queue.new.unadmitted.items ≡ queue.old.unadmitted.items }
+    ensures messages { queue.new.messages.items ≡ queue.old.messages.items }
+    ensures lines { queue.new.lines.items ≡ queue.old.lines.items }
+    ensures crowded { queue.new.crowded.items ≡ queue.old.crowded.items }
+    ensures kept { (h : List Entry) → IsQueue h queue.old → IsQueue h queue.new }
+    ensures room { OnOk result (HasPlace queue.new) }
+{
+    queue.unadmitted.reserve(1)?;
+    queue.messages.reserve(1)?;
+    queue.lines.reserve(1)?;
+    queue.crowded.reserve(1)?;
+    Ok(())
+}
+
+/// A call arrives. It is crowded where too many wait.
+fn arrive(call: &Call, arrival: u64, queue: &mut Queue)
+    requires { HasPlace queue.old }
+    ensures { (past : List Entry) (conn size : ℕ) → arrival ≡ arrivals_in past → IsQueue past queue.old
+        → IsQueue (entry_kinds.Arrive conn size call.now ∷ past) queue.new }
+{
+    let crowded = queue.messages.len() as u64 >= UNADMITTED;
+    queue.unadmitted.push_back_reserved(arrival);
+    let message = is_message(Some(call));
+    push_if(message, &mut queue.messages, arrival);
+    push_if(!message, &mut queue.lines, arrival);
+    push_if(crowded, &mut queue.crowded, arrival);
+}
+
+/// An arrival is admitted.
+fn admit(arrival: u64, queue: &mut Queue)
+    ensures { (c : Config) (run limit : ℕ) (past : List Entry) (w : ℕ) (v : Verdict)
+        → MayFollow c run limit past (entry_kinds.Admit w arrival v)
+        → IsQueue past queue.old → IsQueue (entry_kinds.Admit w arrival v ∷ past) queue.new }
+{
+    remove(&mut queue.unadmitted, arrival);
+    remove(&mut queue.messages, arrival);
+    remove(&mut queue.lines, arrival);
+}
+
+/// An arrival for which a child was made goes back to its place.
+fn put_back(call: Option<&Call>, arrival: u64, queue: &mut Queue)
+    requires { HasPlace queue.old }
+    ensures { (c : Config) (run : ℕ) (past : List Entry) (w n : ℕ) → IsManned c run past → begun.stage past w ≡ stage_kinds.Trying arrival
+        → option_copied call.entry ≡ call_of past arrival
+        → IsQueue past queue.old → IsQueue (entry_kinds.Tried w (attempt_kinds.Yes n) ∷ past) queue.new }
+{
+    insert(&mut queue.unadmitted, arrival);
+    let message = is_message(call);
+    insert_if(message, &mut queue.messages, arrival);
+    insert_if(!message, &mut queue.lines, arrival);
+}
+
+/// A trial made the child.
+fn child_made(call: Option<&Call>, arrival: Option<u64>, queue: &mut Queue)
+    requires { HasPlace queue.old }
+    ensures { (c : Config) (run limit : ℕ) (past : List Entry) (w n : ℕ)
+        → MayFollow c run limit past (entry_kinds.Tried w (attempt_kinds.Yes n)) → IsManned c run past
+        → arrival ≡ begun.arrival_in (begun.stage past w)
+        → option_copied call.entry ≡ call_tried past (entry_kinds.Tried w (attempt_kinds.Yes n))
+        → IsQueue past queue.old → IsQueue (entry_kinds.Tried w (attempt_kinds.Yes n) ∷ past) queue.new }
+{
+    if let Some(arrival) = arrival {
+        put_back(call, arrival, queue);
+    }
+}
+
+/// A trial ends.
+fn tried(answer: Attempt, call: Option<&Call>, arrival: Option<u64>, queue: &mut Queue)
+    requires { may_queue (entry_kinds.Tried 0 answer) ≡ true → HasPlace queue.old }
+    ensures { (c : Config) (run limit : ℕ) (past : List Entry) (w : ℕ) → MayFollow c run limit past (entry_kinds.Tried w answer)
+        → IsManned c run past
+        → arrival ≡ begun.arrival_in (begun.stage past w) → option_copied call.entry ≡ call_tried past (entry_kinds.Tried w answer)
+        → IsQueue past queue.old → IsQueue (entry_kinds.Tried w answer ∷ past) queue.new }
+{
+    match answer {
+        Attempt::Yes { .. } => child_made(call, arrival, queue),
+        Attempt::No | Attempt::Raised | Attempt::Dying => {}
+    }
+}
+
+/// Takes in an entry of the journal: it is given how many calls arrived before, what the entry's worker had
+/// begun, and the call that goes back to the queue where the entry says that a child was made. Takes no memory.
+pub fn advance(entry: &Entry, arrivals: u64, stage: Stage, call: Option<&Call>, queue: &mut Queue)
+    requires { may_queue entry.now ≡ true → HasPlace queue.old }
+    ensures { (c : Config) (run limit : ℕ) (past : List Entry) → MayFollow c run limit past entry.now → IsManned c run past
+        → arrivals ≡ arrivals_in past → stage ≡ stage_at past entry.now → option_copied call.entry ≡ call_tried past entry.now
+        → IsQueue past queue.old → IsQueue (entry.now ∷ past) queue.new }
+{
+    match entry {
+        Entry::Arrive { call, .. } => arrive(call, arrivals, queue),
+        Entry::Admit { arrival, .. } => admit(*arrival, queue),
+        Entry::Tried { answer, .. } => tried(*answer, call, arrival_in(stage), queue),
+        _ => {}
+    }
+}

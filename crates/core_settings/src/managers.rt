@@ -1,0 +1,60 @@
+//! The states of the managers.
+ghost use Rattle.std.specs.Prelude.{◌≡◌, ◌<◌, IfOk, length, slice_set};
+ghost use Rattle.core_settings.specs.States.{start_states, state_at};
+
+use poa_base::{Config, ManagerState, WantMemory};
+use std::alloc::Global;
+use std::marker::Model;
+
+/// The state of each manager, by its number: 0 is `root`, and the configured ones follow.
+#[derive(Debug, Drop)]
+pub struct Managers {
+    states: Vec<ManagerState>,
+}
+
+impl Model for Managers {
+    ghost use Rattle.std.specs.Prelude.{List};
+    ghost use Rattle.poa_names.specs.declared.ManagerState.{ManagerState};
+
+    ghost Value = { List ManagerState };
+
+    ghost view = { λ m. m.states.items };
+}
+
+impl Managers {
+    /// The managers of a configuration, each in its configured state.
+    pub fn new(alloc: Global, config: &Config) -> Result<Self, WantMemory>
+        ensures { IfOk result (λ managers. managers ≡ start_states config.now) }
+    {
+        let mut states = Vec::new(alloc);
+        states.push(config.root)?;
+        for manager in config.managers.as_slice() {
+            states.push(manager.start)?;
+        }
+        Ok(Managers { states })
+    }
+
+    /// How many managers there are.
+    pub fn len(&self) -> usize
+        ensures { result ≡ length self.now }
+    {
+        self.states.len()
+    }
+
+    /// The state of a manager. Takes no memory.
+    pub fn state(&self, manager: u32) -> ManagerState
+        requires { manager < length self.now }
+        ensures { result ≡ state_at self.now manager }
+    {
+        self.states[manager as usize]
+    }
+
+    /// Gives a manager this state whatever it was: an order to an INACTIVE one is refused before it is done.
+    /// Takes no memory.
+    pub fn put(&mut self, manager: usize, state: ManagerState)
+        requires { manager < length self.old }
+        ensures { self.new ≡ slice_set self.old manager state }
+    {
+        self.states[manager] = state;
+    }
+}

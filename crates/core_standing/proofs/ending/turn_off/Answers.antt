@@ -1,0 +1,12 @@
+use Rattle.std.proofs.Common.{◌==◌, ◌&&◌, true, if◌then◌else◌}
+use Rattle.poa_history.specs.Changes.{ended_by_destroy}
+use Rattle.poa_history.specs.Templates.{has_activator, manager_at}
+use Rattle.core_standing.proofs.Still.{changed_each, still_off}
+use Rattle.core_standing.proofs.ending.turn_off.Goals as goal
+
+pub returns : goal.returns
+returns c =
+    (let config = c.args.config.now in
+    changed_each c.args.standing.now _ (λ a. if has_activator config a.path &&
+    (manager_at config a.path == c.args.manager) then ended_by_destroy true a else a)
+    (still_off config c.args.manager) c.end_managed.ensures)

@@ -1,0 +1,12 @@
+use Rattle.std.proofs.Common.{◌≡◌, ◌||◌, ◌++◌, not, filter, take, drop}
+use Rattle.poa_tree.specs.Paths.{is_root}
+use Rattle.poa_history.specs.Ends as ends
+use Rattle.core_queries.specs.Seen.{seen}
+use Rattle.core_standing.proofs.settling.drop_gone.Given as goal
+
+abbrev pub invariant-loop-i : goal.invariant-loop-i
+invariant-loop-i l =
+    seen l.standing ≡ record (seen l.initial.standing) {
+      nodes = take l.i l.initial.standing.nodes.items
+          ++ filter (λ n. is_root n.path || not (ends.is_done_with l.config (seen l.initial.standing) n)) (drop l.i l.initial.standing.nodes.items);
+    }

@@ -1,0 +1,33 @@
+-- Which activations an entry touches.
+use Rattle.std.specs.Prelude.{◌≡◌, ℕ, Bool, true, false, ◌==◌, List}
+use Rattle.poa_base.specs.declared.Config.{Config}
+use Rattle.poa_history.specs.declared.activation.Activation.{Activation}
+use Rattle.poa_history.specs.Ends.{is_over, let_out}
+use Rattle.poa_history.specs.Standings.{Standing}
+use Rattle.poa_tree.specs.Trees.{In}
+use Rattle.core_queries.specs.Seen.{forgotten}
+use Rattle.core_standing.specs.declared.touched.Touched.{Touched}
+use Rattle.core_standing.specs.declared.touched.Touched.TheVariants.{Nothing, One, All}
+
+-- the one of this number is among them
+abbrev pub is_touched : Touched → ℕ → Bool
+is_touched Nothing k = false
+is_touched (One n) k = n == k
+is_touched All k = true
+
+-- none of the activations is to leave the map
+abbrev pub Still : Config → Standing → Type 0
+Still c s = (a : Activation) → In a s.activations → let_out c s a ≡ a
+
+-- none but some that are touched
+abbrev pub Others : Config → (ℕ → Bool) → Standing → Type 0
+Others c touched s = (a : Activation) → In a s.activations → touched a.number ≡ false → let_out c s a ≡ a
+
+-- but for those that are touched the activations are the same
+pub record SameOthers (touched : ℕ → Bool) (before after : List Activation) : Type 0 where
+  pub stood : (a : Activation) → In a after → touched a.number ≡ false → In a before
+  pub stays : (a : Activation) → In a before → touched a.number ≡ false → In a after
+
+-- of those that are over all are forgotten but some that are touched
+abbrev pub OverTouched : Config → (ℕ → Bool) → Standing → Type 0
+OverTouched c touched s = (a : Activation) → In a s.activations → touched a.number ≡ false → is_over c a ≡ true → a ≡ forgotten

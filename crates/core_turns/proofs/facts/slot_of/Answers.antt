@@ -1,0 +1,20 @@
+use Rattle.std.proofs.Common.{◌∙◌, not, ◌&&◌, Some, None, ap₂, sym, refl}
+use Rattle.poa_choose.specs.declared.MapFact.TheVariants.{Active, Busy, Free}
+use Rattle.poa_history.specs.Ends.{is_over}
+use Rattle.poa_history.specs.Standings.{is_active, is_of}
+use Rattle.core_queries.specs.Seen.{forgotten}
+use Rattle.core_queries.proofs.Behind.{find_behind, second_fails}
+use Rattle.core_turns.proofs.facts.slot_of.Goals as goal
+
+pub returns : goal.returns
+returns c =
+    (let s = c.args.standing.now in
+    let config = c.args.config.now in
+    let adapter = c.args.adapter in
+    let oid = c.args.oid.now in
+    c.slot_among.ensures
+    ∙ ap₂ (λ o p. elim o [ Some a ↦ Active a.number | None ↦ elim p [ Some a ↦ Busy a.number | None ↦ Free ] ])
+    (sym (find_behind (λ a. is_of adapter oid a && is_active a) (second_fails
+    (is_of adapter oid forgotten) _ refl) s.activations.forgotten s.activations.kept))
+    (sym (find_behind (λ a. is_of adapter oid a && not (is_over config a))
+    (second_fails (is_of adapter oid forgotten) _ refl) s.activations.forgotten s.activations.kept)))

@@ -1,0 +1,15 @@
+use Rattle.std.proofs.Common.{◌≡◌, subst}
+use Rattle.std.specs.Prelude.{IfOk}
+use Rattle.ior_object.specs.Reference.{reference_text as reference_at}
+use Rattle.poa_history.specs.References as references
+use Rattle.core_turns.proofs.references.reference_text.Goals as goal
+
+pub returns : goal.returns
+returns c =
+    subst (λ k. IfOk c.write_reference.result
+    (λ text. text ≡ reference_at (record { host = c.args.config.now.host; port = c.args.config.now.port })
+    (references.type_of c.args.config.now c.args.servant) k)) c.in_ok-key.ensures
+    (subst (λ t. IfOk c.write_reference.result
+    (λ text. text ≡ reference_at (record { host = c.args.config.now.host; port = c.args.config.now.port }) t c.in_ok-key.key)) c.type_of.ensures
+    (subst (λ e. IfOk c.write_reference.result (λ text. text ≡ reference_at e c.type_of.result.now c.in_ok-key.key)) c.in_ok-endpoint.ensures
+    c.write_reference.ensures))

@@ -1,0 +1,281 @@
+//! What stands about a request or a locate: the facts that the table of verdicts asks.
+ghost use Rattle.std.specs.Prelude.{◌≡◌, ℕ, List, Some, None, if◌then◌else◌, option_and_then, option_copied, IfOk};
+ghost use Rattle.poa_base.specs.declared.Entry.{Entry};
+ghost use Rattle.poa_choose.specs.declared.KeyFact.TheVariants.{OtherRun, Persistent, Transient};
+ghost use Rattle.poa_history.specs.Arrivals as calls;
+ghost use Rattle.poa_history.specs.Situations as situations;
+ghost use Rattle.poa_history.specs.Keys as keys;
+ghost use Rattle.core_queries.specs.Answers.{AnswersAs};
+ghost use Rattle.core_queries.specs.Seen.{seen};
+ghost use Rattle.poa_tree.specs.Walks.{place_met as place_is, walk as walk_along};
+ghost use Rattle.core_settings.specs.Told.{Tells};
+ghost use Rattle.core_turns.specs.Said.{IsAsSaid};
+
+use crate::commands::is_bad_id;
+use crate::rules::located;
+use active_map::Activations;
+use active_map::flights::{is_running, is_tried};
+use active_map::templates::{children_at, manager_at, policies_at, rules_at};
+use core_queries::Standing;
+use core_queries::calls::{is_locate, target_of};
+use core_queries::keys::{adapter_at, key_in};
+use core_settings::{Settings, forward_of, manager_state, preset_of};
+use object_key::KeyView;
+use poa_base::{Bytes, Call, Config, Endpoint, ManagerState, Name, Stamp, WantMemory};
+use poa_choose::{Facts, KeyFact, MapFact, WalkFact};
+use poa_tree::Found;
+use poa_tree::walks::{adapter_met, child_met, place_met, walk};
+use std::alloc::Global;
+
+/// What a key is to this run.
+fn lifespan_fact(run: u32, stamp: Option<Stamp>) -> KeyFact
+    ensures { result ≡ elim stamp [ None ↦ Persistent | Some stamp ↦ (if stamp.run == run then Transient else OtherRun) ] }
+{
+    match stamp {
+        None => KeyFact::Persistent,
+        Some(stamp) => {
+            if stamp.run == run {
+                KeyFact::Transient
+            } else {
+                KeyFact::OtherRun
+            }
+        }
+    }
+}
+
+/// What the target of a call is as a key, where `key` is the one that it spells.
+fn key_fact(run: u32, target: Option<&Bytes>, key: Option<&KeyView<'_>>) -> KeyFact
+    ensures { option_copied key.entry ≡ option_and_then keys.key_of (option_copied target.entry)
+        → result ≡ situations.key_fact run (option_copied target.entry) }
+{
+    if target.is_none() {
+        return KeyFact::Absent;
+    }
+    match key {
+        Some(key) => lifespan_fact(run, key.stamp()),
+        None => KeyFact::Bad,
+    }
+}
+
+fn walk_fact(found: Found) -> WalkFact
+    ensures { result ≡ situations.walk_fact found }
+{
+    match found {
+        Found::Live(_) => WalkFact::Found,
+        Found::Dying(_) => WalkFact::Dying,
+        Found::Missing { .. } => WalkFact::Missing,
+    }
+}
+
+/// Whether the lifespan differs, or the number that a transient key gives.
+fn differs(config: &Config, key: &KeyView<'_>, path: &[Name], adapter: u32) -> bool
+    ensures { path.now ≡ key.now.path → result ≡ situations.differs config.now key.now adapter }
+{
+    let lasts = policies_at(config, path).lasts();
+    match key.stamp() {
+        None => !lasts,
+        Some(stamp) => lasts || stamp.number != adapter,
+    }
+}
+
+/// What they are for an id.
+fn slot_among(config: &Config, activations: &Activations, adapter: u32, oid: &[u8]) -> MapFact
+    ensures { result ≡ situations.slot_of config.now activations.now.kept adapter oid.now }
+{
+    match activations.active_of(adapter, oid) {
+        Some(activation) => MapFact::Active(activation.number),
+        None => match activations.live_of(config, adapter, oid) {
+            Some(activation) => MapFact::Busy(activation.number),
+            None => MapFact::Free,
+        },
+    }
+}
+
+/// What the active object map has for an id.
+fn slot_of(config: &Config, standing: &Standing, adapter: u32, oid: &[u8]) -> MapFact
+    ensures { result ≡ situations.slot_of config.now (seen standing.now).activations adapter oid.now }
+{
+    slot_among(config, &standing.activations, adapter, oid)
+}
+
+/// Whether one of them is unfinished in the adapter.
+fn is_any_changing(config: &Config, activations: &Activations, adapter: u32) -> bool
+    ensures { result ≡ situations.is_changing config.now activations.now.kept adapter }
+{
+    if activations.is_still() {
+        return false;
+    }
+    activations.is_changing(config, adapter)
+}
+
+/// Whether an incarnation or etherealization is unfinished in the adapter.
+pub fn is_changing(config: &Config, standing: &Standing, adapter: u32) -> bool
+    ensures { result ≡ situations.is_changing config.now (seen standing.now).activations adapter }
+{
+    is_any_changing(config, &standing.activations, adapter)
+}
+
+/// What is set, as the facts about a key ask it.
+#[derive(Drop)]
+struct AsSet {
+    state: ManagerState,
+    preset: Option<Name>,
+    entry: Option<Endpoint>,
+}
+
+/// What is set: the state of the manager of a place that the walk along the path meets, the default servant
+/// of the path, and the endpoint of the longest path that leads to it.
+fn as_set(
+    config: &Config,
+    settings: &Settings,
+    place: &[Name],
+    path: &[Name],
+) -> Result<AsSet, WantMemory>
+    ensures { (past : List Entry) → Tells config.now past settings.now
+        → IfOk result (λ set. IsAsSaid config.now past place.now path.now set) }
+{
+    let preset = match preset_of(config, settings, path) {
+        Some(name) => Some(name.clone()?),
+        None => None,
+    };
+    let entry = match forward_of(config, settings, path) {
+        Some(endpoint) => Some(endpoint.clone()?),
+        None => None,
+    };
+    Ok(AsSet {
+        state: manager_state(settings, manager_at(config, place)),
+        preset,
+        entry,
+    })
+}
+
+/// What a call asks, beside its key.
+#[derive(Clone, Copy, Drop)]
+struct Asked {
+    locate: bool,
+    crowded: bool,
+    key: KeyFact,
+}
+
+/// What stands about a key, given what the walk meets and what is set.
+fn facts_met(
+    config: &Config,
+    run: u32,
+    standing: &Standing,
+    set: AsSet,
+    asked: Asked,
+    key: &KeyView<'_>,
+    path: &[Name],
+    found: Found,
+) -> Result<Facts, WantMemory>
+    ensures { (past : List Entry) → path.now ≡ key.now.path
+        → IsAsSaid config.now past (place_is found key.now.path) key.now.path set
+        → IfOk result (λ facts. facts ≡ situations.facts_met config.now run past (seen standing.now)
+        asked.locate asked.crowded asked.key key.now found) }
+{
+    let oid = key.oid();
+    let adapter = adapter_met(found);
+    let place = place_met(found, path);
+    Ok(Facts {
+        locate: asked.locate,
+        crowded: asked.crowded,
+        key: asked.key,
+        walk: walk_fact(found),
+        adapter,
+        manager: manager_at(config, place),
+        state: set.state,
+        trial: is_tried(&standing.flights, child_met(found, path)),
+        tries: children_at(config, place).is_some(),
+        entry: set.entry,
+        differs: differs(config, key, path, adapter),
+        policies: policies_at(config, path),
+        running: is_running(&standing.flights, adapter),
+        slot: slot_of(config, standing, adapter, oid),
+        bad_id: is_bad_id(config, run, standing.made, path, oid),
+        preset: set.preset,
+        rules: !rules_at(config, path).is_empty(),
+        busy: is_changing(config, standing, adapter),
+        next: standing.begun()?,
+        located: located(config, path, oid)?,
+    })
+}
+
+/// What stands about a key of this path.
+fn facts_at(
+    config: &Config,
+    run: u32,
+    standing: &Standing,
+    settings: &Settings,
+    asked: Asked,
+    key: &KeyView<'_>,
+    path: &[Name],
+) -> Result<Facts, WantMemory>
+    ensures { (past : List Entry) → path.now ≡ key.now.path → Tells config.now past settings.now
+        → IfOk result (λ facts. facts ≡ situations.facts_met config.now run past (seen standing.now)
+        asked.locate asked.crowded asked.key key.now (walk_along (seen standing.now).nodes key.now.path)) }
+{
+    let found = walk(&standing.nodes, path);
+    let set = as_set(config, settings, place_met(found, path), path)?;
+    facts_met(config, run, standing, set, asked, key, path, found)
+}
+
+/// What stands about a key. Its path is that of the adapter that stands there, or else a copy.
+fn facts_about(
+    alloc: Global,
+    config: &Config,
+    run: u32,
+    standing: &Standing,
+    settings: &Settings,
+    asked: Asked,
+    key: &KeyView<'_>,
+) -> Result<Facts, WantMemory>
+    ensures { (past : List Entry) → Tells config.now past settings.now
+        → IfOk result (λ facts. facts ≡ situations.facts_met config.now run past (seen standing.now)
+        asked.locate asked.crowded asked.key key.now (walk_along (seen standing.now).nodes key.now.path)) }
+{
+    match adapter_at(&standing.nodes, key.path()) {
+        Some(node) => {
+            let path = node.path.as_slice();
+            facts_at(config, run, standing, settings, asked, key, path)
+        }
+        None => {
+            let path = key.path().to_path(alloc)?;
+            facts_at(config, run, standing, settings, asked, key, path.as_slice())
+        }
+    }
+}
+
+/// What stands about a request or a locate, where so many stood unadmitted when it arrived that it is
+/// `crowded`.
+pub fn facts_of(
+    alloc: Global,
+    config: &Config,
+    run: u32,
+    standing: &Standing,
+    settings: &Settings,
+    crowded: bool,
+    call: &Call,
+) -> Result<Facts, WantMemory>
+    ensures { (past : List Entry) (r : ℕ) → AnswersAs config.now run past (seen standing.now) → Tells config.now past settings.now
+        → crowded ≡ situations.is_crowded past r → calls.call_of past r ≡ Some call.now
+        → IfOk result (λ facts. facts ≡ situations.facts_of config.now run past r) }
+{
+    let key = key_in(Some(call));
+    let asked = Asked {
+        locate: is_locate(Some(call)),
+        crowded,
+        key: key_fact(run, target_of(Some(call)), key.as_ref()),
+    };
+    match key {
+        Some(key) => facts_about(alloc, config, run, standing, settings, asked, &key),
+        None => facts_about(
+            alloc,
+            config,
+            run,
+            standing,
+            settings,
+            asked,
+            &KeyView::empty(),
+        ),
+    }
+}

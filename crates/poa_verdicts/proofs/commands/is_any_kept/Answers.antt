@@ -1,9 +1,0 @@
-use Rattle.std.proofs.Common.{◌∙◌, ◌&&◌, not}
-use Rattle.poa_history.specs.Ends.{is_over}
-use Rattle.poa_history.specs.Standings.{is_of}
-use Rattle.poa_verdicts.proofs.Looking.{lent_any}
-use Rattle.poa_verdicts.proofs.commands.is_any_kept.Goals as goal
-
-pub returns : goal.returns
-returns c =
-    c.is_some.ensures ∙ lent_any (λ a. is_of c.args.adapter c.args.oid.now a && not (is_over c.args.config.now a)) c.args.activations.now.kept c.live_of.result c.live_of.ensures

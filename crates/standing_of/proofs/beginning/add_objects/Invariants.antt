@@ -1,8 +1,0 @@
-use Rattle.std.proofs.Common.{◌≡◌, drop}
-use Rattle.poa_history.specs.Opening as opens
-use Rattle.standing_queries.specs.Seen.{seen}
-use Rattle.standing_of.proofs.beginning.add_objects.Given as goal
-
-abbrev pub invariant-loop-object : goal.invariant-loop-object
-invariant-loop-object l =
-    opens.with_objects l.run (drop l.object-index l.objects) (seen l.standing) ≡ opens.with_objects l.run l.objects (seen l.initial.standing)

@@ -1,9 +1,0 @@
-use Rattle.std.proofs.Common.{true, if◌then◌else◌}
-use Rattle.poa_history.specs.Standings.{is_of}
-use Rattle.standing_of.proofs.Still.{changed_each, still_ending}
-use Rattle.standing_of.proofs.ending.deactivate.Goals as goal
-
-pub returns : goal.returns
-returns c =
-    changed_each c.args.standing.now _ (λ a. if is_of c.args.adapter c.args.oid.now a then record a { ending = true } else a)
-    (still_ending c.args.adapter c.args.oid.now) c.end_id.ensures

@@ -1,6 +1,0 @@
-use Rattle.std.proofs.Common.{◌≡◌, take, reverse}
-use Rattle.poa_history.specs.Stages as begun
-use Rattle.standing_queries.proofs.workers.stage.Given as goal
-
-abbrev pub invariant-loop-entry : goal.invariant-loop-entry
-invariant-loop-entry l = l.stage ≡ begun.stage (reverse (take l.entry-index l.history)) l.worker
