@@ -6,3 +6,4 @@ mod Few
 mod Forgotten
 pub mod Staying
 pub mod Overs
+pub mod Lasting

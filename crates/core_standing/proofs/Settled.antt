@@ -36,7 +36,7 @@ map_still : {A : Type 0} (f : A → A) (xs : List A) → ((x : A) → In x xs �
 map_still f [] same = refl
 map_still f (x ∷ xs) same = ap₂ (λ y ys. y ∷ ys) (same x (inl refl)) (map_still f xs (λ y is. same y (inr is)))
 
-filter_still : {A : Type 0} (keeps : A → Bool) (xs : List A) → ((x : A) → In x xs → keeps x ≡ true) → filter keeps xs ≡ xs
+pub filter_still : {A : Type 0} (keeps : A → Bool) (xs : List A) → ((x : A) → In x xs → keeps x ≡ true) → filter keeps xs ≡ xs
 filter_still keeps [] all = refl
 filter_still keeps (x ∷ xs) all =
     cond_both (keeps x) (x ∷ filter keeps xs) (filter keeps xs) (λ ys. ys ≡ x ∷ xs)
@@ -91,7 +91,7 @@ standing_settled c run [] = opening_settled c run
 standing_settled c run (e ∷ past) = settling_settles c _
 
 -- where more is in flight and more lives, less leaves and less goes
-stays_more : (r d f g a b : Bool) → (f ≡ true → g ≡ true) → (a ≡ true → b ≡ true) → (r || not (d && (not f && not a))) ≡ true
+pub stays_more : (r d f g a b : Bool) → (f ≡ true → g ≡ true) → (a ≡ true → b ≡ true) → (r || not (d && (not f && not a))) ≡ true
     → (r || not (d && (not g && not b))) ≡ true
 stays_more true d f g a b more_f more_a is = refl
 stays_more false false f g a b more_f more_a is = refl

@@ -63,3 +63,9 @@ may_end (Done w) = true
 may_end (TakeOut w n etherealize) = true
 may_end (Etherealized w cleanup remaining) = true
 may_end e = false
+
+-- the servant of an activation leaves with the entry: nothing is in flight that wasn't, and no adapter comes
+abbrev pub is_removal : Entry → Bool
+is_removal (TakeOut w n etherealize) = true
+is_removal (Etherealized w cleanup remaining) = true
+is_removal e = false

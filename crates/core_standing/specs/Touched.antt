@@ -1,9 +1,11 @@
 -- Which activations an entry touches.
-use Rattle.std.specs.Prelude.{◌≡◌, ℕ, Bool, true, false, ◌==◌, List}
+use Rattle.std.specs.Prelude.{◌≡◌, ℕ, Bool, true, false, not, ◌||◌, ◌==◌, List, map}
 use Rattle.poa_base.specs.declared.Config.{Config}
 use Rattle.poa_history.specs.declared.activation.Activation.{Activation}
-use Rattle.poa_history.specs.Ends.{is_over, let_out}
+use Rattle.poa_history.specs.Ends.{is_done_with, is_over, let_out}
 use Rattle.poa_history.specs.Standings.{Standing}
+use Rattle.poa_tree.specs.declared.node.Node.{Node}
+use Rattle.poa_tree.specs.Paths.{is_root}
 use Rattle.poa_tree.specs.Trees.{In}
 use Rattle.core_queries.specs.Seen.{forgotten}
 use Rattle.core_standing.specs.declared.touched.Touched.{Touched}
@@ -31,3 +33,13 @@ pub record SameOthers (touched : ℕ → Bool) (before after : List Activation) 
 -- of those that are over all are forgotten but some that are touched
 abbrev pub OverTouched : Config → (ℕ → Bool) → Standing → Type 0
 OverTouched c touched s = (a : Activation) → In a s.activations → touched a.number ≡ false → is_over c a ≡ true → a ≡ forgotten
+
+-- what is to leave the map did
+abbrev pub left : Config → Standing → Standing
+left c s = record s { activations = map (let_out c s) s.activations }
+
+-- no adapter goes where the adapter of the activation of this number has one that isn't over
+abbrev pub Lasts : Config → ℕ → Standing → Type 0
+Lasts c n s =
+    (a b : Activation) → In a s.activations → a.number ≡ n → In b s.activations → is_over c b ≡ false → b.adapter ≡ a.adapter
+    → (m : Node) → In m s.nodes → (is_root m.path || not (is_done_with c s m)) ≡ true

@@ -172,6 +172,16 @@ fn may_end(entry: &Entry) -> bool
     }
 }
 
+/// Whether the servant of an activation leaves with an entry.
+fn is_removal(entry: &Entry) -> bool
+    ensures { result ≡ entries.is_removal entry.now }
+{
+    match entry {
+        Entry::TakeOut { .. } | Entry::Etherealized { .. } => true,
+        _ => false,
+    }
+}
+
 /// An entry is made after those before it, and what has ended goes. It is given what its worker had begun and,
 /// for an Admit, the call. Fails for want of memory, or of a number of 32 bits; then nothing is changed. An Admit,
 /// and a trial that made the child, may fail, and an incarnation by a servant whose number has more than 32 bits.
@@ -194,7 +204,7 @@ pub fn advance(
     let touched = touched_by(entry, stage, &standing.flights);
     change(alloc, config, run, entry, stage, call, standing)?;
     if may_end(entry) {
-        settle(config, standing, touched);
+        settle(config, standing, touched, false);
     }
     Ok(())
 }
@@ -243,9 +253,10 @@ pub fn advance_kept(
 {
     has_number(entry, standing)?;
     let touched = touched_by(entry, stage, &standing.flights);
+    standing.activations.numbers();
     change(alloc, config, run, entry, stage, call, standing)?;
     if may_end(entry) {
-        settle(config, standing, touched);
+        settle(config, standing, touched, is_removal(entry));
         forget(config, standing, touched);
         standing.activations.numbers();
     } else {

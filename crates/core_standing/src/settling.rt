@@ -1,8 +1,11 @@
 //! What has ended goes. Each change is made in place and takes no memory.
-ghost use Rattle.std.specs.Prelude.{◌≡◌, map};
+ghost use Rattle.std.specs.Prelude.{◌≡◌, ℕ, false, true, map};
 ghost use Rattle.poa_history.specs.Ends as ends;
 ghost use Rattle.core_queries.specs.Seen.{seen};
-ghost use Rattle.core_standing.specs.Touched.{Others, is_touched};
+ghost use Rattle.core_standing.specs.Touched.{Lasts, Others, is_touched, left};
+ghost use Rattle.core_standing.specs.declared.touched.Touched.TheVariants.{One};
+ghost use Rattle.poa_history.specs.declared.activation.Activation.{Activation};
+ghost use Rattle.poa_tree.specs.Trees.{In};
 
 use crate::touched::Touched;
 use core_queries::Standing;
@@ -38,11 +41,30 @@ fn drop_gone(config: &Config, standing: &mut Standing)
     }
 }
 
-/// What has ended goes, where no activation but what is touched is to leave the map.
-pub fn settle(config: &Config, standing: &mut Standing, touched: Touched)
+/// Whether the adapter of the activation that is touched has one that isn't over.
+fn lives_on(config: &Config, standing: &Standing, touched: Touched) -> bool
+    ensures { result ≡ true → (n : ℕ) × (touched ≡ One n) × (a : Activation) × (b : Activation) × In a (seen standing.now).activations
+        × (a.number ≡ n) × In b (seen standing.now).activations × (ends.is_over config.now b ≡ false) × (b.adapter ≡ a.adapter) }
+{
+    let Touched::One(number) = touched else {
+        return false;
+    };
+    match standing.activations.numbered(number) {
+        Some(activation) => standing.activations.has_live(config, activation.adapter),
+        None => false,
+    }
+}
+
+/// What has ended goes, where no activation but what is touched is to leave the map. Where a servant left, the adapters
+/// are looked at only if nothing else lives in the adapter that it left.
+pub fn settle(config: &Config, standing: &mut Standing, touched: Touched, removes: bool)
     ensures { Others config.now (is_touched touched) (seen standing.old)
+        → (removes ≡ true → (n : ℕ) → touched ≡ One n → Lasts config.now n (left config.now (seen standing.old)))
         → seen standing.new ≡ ends.settled config.now (seen standing.old) }
 {
     let_out_ended(config, standing, touched);
+    if removes && lives_on(config, standing, touched) {
+        return;
+    }
     drop_gone(config, standing);
 }

@@ -1,4 +1,5 @@
 use Rattle.std.proofs.Common.{◌∙◌, ap, subst, sym}
+use Rattle.std.proofs.lemmas.Bool.{true≢false}
 use Rattle.poa_history.specs.Changes.{changed}
 use Rattle.poa_history.specs.Ends.{settled}
 use Rattle.core_queries.specs.Seen.{seen}
@@ -21,4 +22,5 @@ returns-then-may_end-clause-ok c past before begun admits =
     (subst (Others conf (is_touched c.touched_by-touched.result)) (sym now)
     (c.touched_by-touched.ensures.leaves conf c.args.run past (seen c.args.standing.now) (sym c.deref.ensures.value) begun
     (subst (Still conf) (sym before) (standing_still conf c.args.run past))))
+    (λ never. absurd (true≢false (sym never)))
     ∙ ap (settled conf) (now ∙ ap (changed conf c.args.run past c.args.entry.now) before))

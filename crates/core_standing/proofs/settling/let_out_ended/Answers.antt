@@ -1,4 +1,4 @@
-use Rattle.std.proofs.Common.{◌≡◌, ◌==◌, ◌∙◌, ap, sym}
+use Rattle.std.proofs.Common.{◌==◌, ◌∙◌, ap, sym}
 use Rattle.poa_history.specs.Changes.{at_number}
 use Rattle.poa_history.specs.Ends.{let_out}
 use Rattle.core_queries.specs.Seen.{forgotten, seen}

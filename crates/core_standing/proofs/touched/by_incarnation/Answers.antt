@@ -1,4 +1,4 @@
-use Rattle.std.proofs.Common.{◌∙◌, subst, sym}
+use Rattle.std.proofs.Common.{subst, sym}
 use Rattle.poa_history.specs.Changes as changes
 use Rattle.poa_tree.specs.Trees.{In}
 use Rattle.core_standing.specs.Touched.{Others, SameOthers, is_touched}

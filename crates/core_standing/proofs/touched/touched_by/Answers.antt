@@ -1,4 +1,4 @@
-use Rattle.std.proofs.Common.{◌∙◌, ◌≡◌, ◌==◌, ℕ, Some, true, inl, inr, refl, subst, sym, ap}
+use Rattle.std.proofs.Common.{◌∙◌, true, inl, inr, refl, subst, sym, ap}
 use Rattle.std.proofs.lemmas.Bool.{eq-eqb}
 use Rattle.poa_history.specs.Changes as changes
 use Rattle.poa_history.specs.Stages.{arrival_in, stage}
