@@ -9,10 +9,9 @@ use Rattle.std.specs.Map.{keys_of, values_of, lookup}
 use Rattle.std.specs.Ordering.{nat_cmp}
 use Rattle.std.proofs.Common.{inl, inr, sym, ap, subst, ◌∙◌}
 use Rattle.std.proofs.lemmas.Bool.{and_from, eq-eqb, false_from_ne_true}
-use Rattle.poa_history.specs.declared.activation.Activation.{Activation}
-use Rattle.poa_history.specs.Standings.{is_of}
+use Rattle.history_standing.specs.declared.activation.Activation.{Activation}
+use Rattle.history_standing.specs.Standings.{is_of}
 use Rattle.poa_history.proofs.GoneIs.{any_in as one_of}
-use Rattle.poa_history.proofs.OutIs.{same_test}
 use Rattle.poa_tree.specs.Paths.{same_bytes}
 use Rattle.poa_tree.specs.Trees.{In}
 use Rattle.poa_tree.proofs.Leading.{same_self}
@@ -21,6 +20,7 @@ use Rattle.active_map.specs.Asked.{at_one}
 use Rattle.active_map.specs.ById.{Ids, numbers_in, numbers_of}
 use Rattle.active_map.specs.Tables.{IsKeyed, IsIndexed}
 use Rattle.active_map.proofs.IdsKept.{row_of}
+use Rattle.history_standing.proofs.Tests.{same_test}
 
 -- what a look-up finds is among the values
 value_in : {K X : Type 0} (test : K → Bool) (es : List (K × X)) (v : X) → lookup test es ≡ Some v → In v (values_of es)

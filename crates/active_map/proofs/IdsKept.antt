@@ -12,9 +12,9 @@ use Rattle.std.proofs.lemmas.List.{append-nil, append_assoc, map-append}
 use Rattle.std.proofs.lemmas.List.Elements.{filter-append}
 use Rattle.std.proofs.lemmas.Map.Keys.{sorted_head, sorted_tail}
 use Rattle.poa_base.specs.declared.Config.{Config}
-use Rattle.poa_history.specs.declared.activation.Activation.{Activation}
-use Rattle.poa_history.specs.Ends.{is_over}
-use Rattle.poa_history.specs.Standings.{is_of}
+use Rattle.history_standing.specs.declared.activation.Activation.{Activation}
+use Rattle.history_standing.specs.Ends.{is_over}
+use Rattle.history_standing.specs.Standings.{is_of}
 use Rattle.poa_tree.specs.Paths.{same_bytes}
 use Rattle.poa_tree.specs.Trees.{In}
 use Rattle.poa_tree.proofs.Leading.{same_self, bytes_same}

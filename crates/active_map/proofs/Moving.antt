@@ -4,12 +4,12 @@ use Rattle.std.specs.List.{list_any}
 use Rattle.std.proofs.Common.{sym, ap, ap₂, ◌∙◌}
 use Rattle.std.proofs.lemmas.Bool.{or_parts, or_from, and_parts, and_left, and_right, not-true, not-false, cond-true, cond-false}
 use Rattle.poa_base.specs.declared.Config.{Config}
-use Rattle.poa_history.specs.declared.activation.Activation.{Activation}
-use Rattle.poa_history.specs.declared.activation.Phase.{Phase}
-use Rattle.poa_history.specs.declared.activation.Phase.TheVariants.{Begun, Complete, Void}
-use Rattle.poa_history.specs.Ends.{is_over, is_left, let_out}
-use Rattle.poa_history.specs.Standings.{Standing, is_complete, is_void, is_begun, is_ending, is_active}
-use Rattle.poa_history.specs.Templates.{has_activator}
+use Rattle.history_standing.specs.declared.activation.Activation.{Activation}
+use Rattle.history_standing.specs.declared.activation.Phase.{Phase}
+use Rattle.history_standing.specs.declared.activation.Phase.TheVariants.{Begun, Complete, Void}
+use Rattle.history_standing.specs.Ends.{is_over, is_left, let_out}
+use Rattle.history_standing.specs.Standings.{Standing, is_complete, is_void, is_begun, is_ending, is_active}
+use Rattle.history_standing.specs.Templates.{has_activator}
 use Rattle.active_map.specs.Tables.{is_moving}
 
 -- one that doesn't move is complete, isn't ending and is in the map

@@ -1,8 +1,8 @@
 -- What is asked of the activation of a number.
 use Rattle.std.specs.Prelude.{Bool, false, not, ◌&&◌, ◌==◌, Option, Some, None}
-use Rattle.poa_history.specs.declared.activation.Activation.{Activation}
-use Rattle.poa_history.specs.declared.activation.Phase.TheVariants.{Begun, Complete, Void}
-use Rattle.poa_history.specs.Standings.{is_mapped, has_servant}
+use Rattle.history_standing.specs.declared.activation.Activation.{Activation}
+use Rattle.history_standing.specs.declared.activation.Phase.TheVariants.{Begun, Complete, Void}
+use Rattle.history_standing.specs.Standings.{is_mapped, has_servant}
 
 -- where there is one
 abbrev pub at_one : (Activation → Bool) → Option Activation → Bool

@@ -1,8 +1,8 @@
 -- The activations that aren't over.
 use Rattle.std.specs.Prelude.{Bool, not, List, filter}
 use Rattle.poa_base.specs.declared.Config.{Config}
-use Rattle.poa_history.specs.declared.activation.Activation.{Activation}
-use Rattle.poa_history.specs.Ends.{is_over}
+use Rattle.history_standing.specs.declared.activation.Activation.{Activation}
+use Rattle.history_standing.specs.Ends.{is_over}
 
 abbrev pub is_live : Config → Activation → Bool
 is_live c a = not (is_over c a)

@@ -4,8 +4,8 @@ use Rattle.std.specs.List.Sorted.{IsStrictlySortedBy}
 use Rattle.std.specs.BTreeMap.{BTreeMap}
 use Rattle.std.specs.Map.{keys_of, values_of}
 use Rattle.std.specs.Ordering.{nat_cmp}
-use Rattle.poa_history.specs.declared.activation.Activation.{Activation}
-use Rattle.poa_history.specs.Standings.{is_active, is_of}
+use Rattle.history_standing.specs.declared.activation.Activation.{Activation}
+use Rattle.history_standing.specs.Standings.{is_active, is_of}
 use Rattle.poa_tree.specs.Trees.{In}
 use Rattle.active_map.specs.ById.{Ids, numbers_of}
 

@@ -1,9 +1,9 @@
 //! What is said of activations.
 ghost use Rattle.std.specs.Prelude.{◌≡◌, ◌==◌, ◌&&◌};
-ghost use Rattle.poa_history.specs.Standings as stands;
+ghost use Rattle.history_standing.specs.Standings as stands;
 
+use history_standing::{Activation, Phase};
 use poa_base::Sid;
-use poa_history::{Activation, Phase};
 
 /// Whether the activation has its servant.
 pub fn is_complete(activation: &Activation) -> bool

@@ -4,13 +4,13 @@ ghost use Rattle.std.specs.List.{list_any};
 ghost use Rattle.std.specs.Map.Iter.{deref, ShowsInOrder};
 ghost use Rattle.poa_tree.specs.Nodes as tree;
 ghost use Rattle.poa_tree.specs.Trees.{In};
-ghost use Rattle.poa_history.specs.declared.activation.Activation.{Activation as Kept};
+ghost use Rattle.history_standing.specs.declared.activation.Activation.{Activation as Kept};
 ghost use Rattle.poa_history.specs.Changes as changes;
-ghost use Rattle.poa_history.specs.Ends as ends;
+ghost use Rattle.history_standing.specs.Ends as ends;
 ghost use Rattle.poa_history.specs.Situations as situations;
-ghost use Rattle.poa_history.specs.Standings as stands;
-ghost use Rattle.poa_history.specs.Standings.{Standing as Stood};
-ghost use Rattle.poa_history.specs.Templates as configured;
+ghost use Rattle.history_standing.specs.Standings as stands;
+ghost use Rattle.history_standing.specs.Standings.{Standing as Stood};
+ghost use Rattle.history_standing.specs.Templates as configured;
 ghost use Rattle.active_map.specs.Live.{live};
 ghost use Rattle.active_map.specs.Tables.{is_moving};
 
@@ -22,8 +22,8 @@ use crate::rows::{
     Rows, count_moving, end_all_activators, end_all_of_id, end_all_under, first_active, first_live,
     forget_ids, keep_live, let_all_out, moves,
 };
+use history_standing::{Activation, Flight, Phase};
 use poa_base::{Config, Name, Oid, WantMemory};
-use poa_history::{Activation, Flight, Phase};
 use poa_tree::Node;
 use std::alloc::Global;
 use std::collections::BTreeMap;

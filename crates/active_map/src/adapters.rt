@@ -4,7 +4,7 @@ ghost use Rattle.std.specs.BTreeMap.{get, values};
 ghost use Rattle.std.specs.List.{list_any};
 ghost use Rattle.std.specs.Ordering.{nat_cmp};
 ghost use Rattle.poa_history.specs.Changes as changes;
-ghost use Rattle.poa_history.specs.Ends as ends;
+ghost use Rattle.history_standing.specs.Ends as ends;
 ghost use Rattle.poa_history.specs.Situations as situations;
 ghost use Rattle.active_map.specs.Asked.{at_one, is_other};
 
@@ -12,8 +12,8 @@ use crate::by_id::Ids;
 use crate::changing;
 use crate::over::{is_over, is_unfinished};
 use crate::rows::Rows;
+use history_standing::Activation;
 use poa_base::Config;
-use poa_history::Activation;
 
 /// Whether the activation of a number is of the adapter, and isn't over.
 fn is_live_at(rows: &Rows, config: &Config, adapter: u32, number: u32) -> bool

@@ -1,18 +1,18 @@
 //! How one activation changes. Each change is made in place and takes no memory.
 ghost use Rattle.std.specs.Prelude.{◌≡◌, ◌==◌, ◌&&◌, false, true, not, if◌then◌else◌};
 ghost use Rattle.poa_tree.specs.Nodes as tree;
-ghost use Rattle.poa_history.specs.declared.activation.Phase.TheVariants.{Begun, Complete, Void};
+ghost use Rattle.history_standing.specs.declared.activation.Phase.TheVariants.{Begun, Complete, Void};
 ghost use Rattle.poa_history.specs.Changes as changes;
-ghost use Rattle.poa_history.specs.Ends as ends;
-ghost use Rattle.poa_history.specs.Standings as stands;
-ghost use Rattle.poa_history.specs.Standings.{Standing as Stood};
-ghost use Rattle.poa_history.specs.Templates as configured;
+ghost use Rattle.history_standing.specs.Ends as ends;
+ghost use Rattle.history_standing.specs.Standings as stands;
+ghost use Rattle.history_standing.specs.Standings.{Standing as Stood};
+ghost use Rattle.history_standing.specs.Templates as configured;
 
 use crate::activation::{has_servant, is_begun, is_complete, is_mapped, is_of};
 use crate::flights::is_used;
 use crate::templates::{has_activator, manager_at};
+use history_standing::{Activation, Flight, Phase};
 use poa_base::{Config, Name, Oid};
-use poa_history::{Activation, Flight, Phase};
 use poa_tree::Node;
 use poa_tree::nodes::stands_under;
 

@@ -1,10 +1,10 @@
 //! What is in flight.
 ghost use Rattle.std.specs.Prelude.{◌≡◌, ◌==◌, ◌&&◌, Some, None, true, false, find, option_copied};
-ghost use Rattle.poa_history.specs.Standings as stands;
+ghost use Rattle.history_standing.specs.Standings as stands;
 ghost use Rattle.poa_tree.specs.Paths as paths;
 
+use history_standing::Flight;
 use poa_base::Name;
-use poa_history::Flight;
 
 /// What is in flight for an arrival.
 pub fn flight_of(flights: &[Flight], arrival: u64) -> Option<&Flight>

@@ -1,12 +1,12 @@
 //! When an activation is over.
 ghost use Rattle.std.specs.Prelude.{◌≡◌, ◌&&◌, ◌||◌, not};
-ghost use Rattle.poa_history.specs.Ends as ends;
+ghost use Rattle.history_standing.specs.Ends as ends;
 ghost use Rattle.poa_history.specs.Situations as situations;
 
 use crate::activation::{is_begun, is_void};
 use crate::templates::has_activator;
+use history_standing::Activation;
 use poa_base::Config;
-use poa_history::Activation;
 
 /// Whether it is out of the map, and etherealized where that is due.
 pub fn is_finished(config: &Config, activation: &Activation) -> bool

@@ -8,10 +8,10 @@ ghost use Rattle.std.specs.Option.{option_and_then, option_copied};
 ghost use Rattle.std.specs.Ordering.{nat_cmp};
 ghost use Rattle.poa_tree.specs.Nodes as tree;
 ghost use Rattle.poa_history.specs.Changes as changes;
-ghost use Rattle.poa_history.specs.Ends as ends;
-ghost use Rattle.poa_history.specs.Standings as stands;
-ghost use Rattle.poa_history.specs.Standings.{Standing as Stood};
-ghost use Rattle.poa_history.specs.Templates as configured;
+ghost use Rattle.history_standing.specs.Ends as ends;
+ghost use Rattle.history_standing.specs.Standings as stands;
+ghost use Rattle.history_standing.specs.Standings.{Standing as Stood};
+ghost use Rattle.history_standing.specs.Templates as configured;
 ghost use Rattle.active_map.specs.Live.{is_live, live};
 ghost use Rattle.active_map.specs.Tables as tables;
 
@@ -19,8 +19,8 @@ use crate::activation::is_active;
 use crate::by_id::{Index, remove};
 use crate::changing::{end_activators, end_of_id, end_under, let_out};
 use crate::over::is_over;
+use history_standing::{Activation, Flight};
 use poa_base::{Config, Name, Oid};
-use poa_history::{Activation, Flight};
 use poa_tree::Node;
 use std::collections::BTreeMap;
 

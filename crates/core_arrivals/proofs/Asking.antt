@@ -14,9 +14,9 @@ use Rattle.poa_choose.specs.Table.{first_row}
 use Rattle.poa_choose.specs.declared.Choice.{Choice}
 use Rattle.poa_choose.specs.declared.Choice.TheVariants as choices
 use Rattle.poa_choose.specs.declared.Facts.{Facts}
-use Rattle.poa_history.specs.Arrivals.{arrivals, call_of, is_message}
+use Rattle.history_standing.specs.Arrivals.{arrivals, call_of, is_message}
 use Rattle.poa_history.specs.Situations.{facts_of}
-use Rattle.poa_history.specs.Stages.{is_unadmitted}
+use Rattle.history_standing.specs.Stages.{is_unadmitted}
 use Rattle.poa_history.specs.Turns.{admission_of, admission}
 use Rattle.poa_history.specs.Verdicts.{chosen, verdict_on, verdict}
 use Rattle.poa_history.proofs.GoneIs.{any_in}

@@ -3,7 +3,7 @@ use Rattle.std.specs.Prelude.{◌≡◌, ℕ, zero, suc, ◌<◌, ◌≤◌, Boo
 use Rattle.std.specs.Option.{option_or}
 use Rattle.std.proofs.Common.{inl, inr, sym, ap, ap₂, ◌∙◌, arith}
 use Rattle.std.proofs.lemmas.Bool.{cond_both, cases_eq, cases_lt, cases_order, ltb-true, ltb-false}
-use Rattle.poa_history.specs.Searches.{first_given}
+use Rattle.history_standing.specs.Searches.{first_given}
 use Rattle.core_arrivals.specs.Firsts.{IsFirst, earlier}
 
 pub given_none : {A : Type 0} (give : ℕ → Option A) (n : ℕ) → ((r : ℕ) → r < n → give r ≡ None) → first_given give n ≡ None

@@ -2,72 +2,15 @@
 use Rattle.std.specs.Prelude.{◌≡◌, ℕ, zero, suc, ◌<◌, ◌≤◌, false, ◌==◌, nat_lt, if◌then◌else◌, List, [], ◌∷◌, ◌++◌, length, reverse, Option, Some, None, refl}
 use Rattle.std.specs.List.{slice_get}
 use Rattle.std.proofs.Common.{inl, inr, sym, subst, ap, ◌∙◌, arith, length-append}
-use Rattle.std.proofs.lemmas.Bool.{cases_Bool, cond_both, true≢false, eqb-true, eq-eqb, ltb-true, ltb-false}
+use Rattle.std.proofs.lemmas.Bool.{cases_Bool, true≢false, eqb-true, eq-eqb, ltb-true, ltb-false}
 use Rattle.std.proofs.lemmas.List.{reverse-append, length-reverse}
 use Rattle.std.proofs.lemmas.Option.{slice_get_past}
 use Rattle.poa_base.specs.declared.Call.{Call}
 use Rattle.poa_base.specs.declared.Entry.{Entry}
 use Rattle.poa_base.specs.declared.Entry.TheVariants.{Entered, Arrive, Filled, Left, Collect, Admit, Tried, Incarnated, Run, Done, TakeOut, Etherealized, Abandon}
-use Rattle.poa_history.specs.Arrivals.{arrivals, call_of, conn_of}
-use Rattle.poa_history.proofs.IdsFew.{call_kept}
+use Rattle.history_standing.specs.Arrivals.{arrivals, call_of, conn_of}
 use Rattle.core_arrivals.specs.Placed.{IsPlaceOf, KnowsCalls, entry_of, call_in, conn_in, arrives}
-
--- beyond the arrivals there is no call
-pub call_beyond : (h : List Entry) (r : ℕ) → arrivals h ≤ r → call_of h r ≡ None
-call_beyond [] r beyond = refl
-call_beyond (Arrive conn size call ∷ past) r beyond =
-    cond_both (r == arrivals past) (Some call) (call_of past r) (λ o. o ≡ None)
-    (λ same. absurd (let e : r ≡ arrivals past = eqb-true r (arrivals past) same in omega (arith, e, beyond)))
-    (λ _. call_beyond past r (omega (arith, beyond)))
-call_beyond (Entered conn ∷ past) r beyond = call_beyond past r beyond
-call_beyond (Filled conn size ∷ past) r beyond = call_beyond past r beyond
-call_beyond (Left conn ∷ past) r beyond = call_beyond past r beyond
-call_beyond (Collect conn a ∷ past) r beyond = call_beyond past r beyond
-call_beyond (Admit w q v ∷ past) r beyond = call_beyond past r beyond
-call_beyond (Tried w a ∷ past) r beyond = call_beyond past r beyond
-call_beyond (Incarnated w a ∷ past) r beyond = call_beyond past r beyond
-call_beyond (Run w ∷ past) r beyond = call_beyond past r beyond
-call_beyond (Done w ∷ past) r beyond = call_beyond past r beyond
-call_beyond (TakeOut w n x ∷ past) r beyond = call_beyond past r beyond
-call_beyond (Etherealized w x y ∷ past) r beyond = call_beyond past r beyond
-call_beyond (Abandon w ∷ past) r beyond = call_beyond past r beyond
-
-conn_beyond : (h : List Entry) (r : ℕ) → arrivals h ≤ r → conn_of h r ≡ None
-conn_beyond [] r beyond = refl
-conn_beyond (Arrive conn size call ∷ past) r beyond =
-    cond_both (r == arrivals past) (Some conn) (conn_of past r) (λ o. o ≡ None)
-    (λ same. absurd (let e : r ≡ arrivals past = eqb-true r (arrivals past) same in omega (arith, e, beyond)))
-    (λ _. conn_beyond past r (omega (arith, beyond)))
-conn_beyond (Entered conn ∷ past) r beyond = conn_beyond past r beyond
-conn_beyond (Filled conn size ∷ past) r beyond = conn_beyond past r beyond
-conn_beyond (Left conn ∷ past) r beyond = conn_beyond past r beyond
-conn_beyond (Collect conn a ∷ past) r beyond = conn_beyond past r beyond
-conn_beyond (Admit w q v ∷ past) r beyond = conn_beyond past r beyond
-conn_beyond (Tried w a ∷ past) r beyond = conn_beyond past r beyond
-conn_beyond (Incarnated w a ∷ past) r beyond = conn_beyond past r beyond
-conn_beyond (Run w ∷ past) r beyond = conn_beyond past r beyond
-conn_beyond (Done w ∷ past) r beyond = conn_beyond past r beyond
-conn_beyond (TakeOut w n x ∷ past) r beyond = conn_beyond past r beyond
-conn_beyond (Etherealized w x y ∷ past) r beyond = conn_beyond past r beyond
-conn_beyond (Abandon w ∷ past) r beyond = conn_beyond past r beyond
-
--- the connection of an earlier call stays what it is
-conn_kept : (e : Entry) (past : List Entry) (r : ℕ) → r < arrivals past → conn_of (e ∷ past) r ≡ conn_of past r
-conn_kept (Arrive conn size call) past r less =
-    cond_both (r == arrivals past) (Some conn) (conn_of past r) (λ o. o ≡ conn_of past r)
-    (λ same. absurd (let e : r ≡ arrivals past = eqb-true r (arrivals past) same in omega (arith, e, less))) (λ _. refl)
-conn_kept (Entered conn) past r less = refl
-conn_kept (Filled conn size) past r less = refl
-conn_kept (Left conn) past r less = refl
-conn_kept (Collect conn a) past r less = refl
-conn_kept (Admit w q v) past r less = refl
-conn_kept (Tried w a) past r less = refl
-conn_kept (Incarnated w a) past r less = refl
-conn_kept (Run w) past r less = refl
-conn_kept (Done w) past r less = refl
-conn_kept (TakeOut w n x) past r less = refl
-conn_kept (Etherealized w x y) past r less = refl
-conn_kept (Abandon w) past r less = refl
+use Rattle.history_standing.proofs.CallsKept.{by_arrival, call_beyond, call_kept, conn_beyond, conn_kept}
 
 -- what the table tells of each call
 module _ (h : List Entry) (places : List ℕ) (knows : KnowsCalls h places) (r : ℕ) where
@@ -111,19 +54,9 @@ place_kept e h r place less is =
     }
 
 same_arrivals : (e : Entry) (h : List Entry) → arrives e ≡ false → arrivals (e ∷ h) ≡ arrivals h
-same_arrivals (Arrive conn size call) h other = absurd (true≢false other)
-same_arrivals (Entered conn) h other = refl
-same_arrivals (Filled conn size) h other = refl
-same_arrivals (Left conn) h other = refl
-same_arrivals (Collect conn a) h other = refl
-same_arrivals (Admit w q v) h other = refl
-same_arrivals (Tried w a) h other = refl
-same_arrivals (Incarnated w a) h other = refl
-same_arrivals (Run w) h other = refl
-same_arrivals (Done w) h other = refl
-same_arrivals (TakeOut w n x) h other = refl
-same_arrivals (Etherealized w x y) h other = refl
-same_arrivals (Abandon w) h other = refl
+same_arrivals e h other =
+    by_arrival h (λ k. arrives k ≡ false → arrivals (k ∷ h) ≡ arrivals h) (λ conn size call none. absurd (true≢false none)) (λ k leaves none. leaves.arrived)
+    e other
 
 pub calls_kept : (e : Entry) (h : List Entry) (places : List ℕ) → arrives e ≡ false → KnowsCalls h places → KnowsCalls (e ∷ h) places
 calls_kept e h places other knows =

@@ -13,14 +13,13 @@ use Rattle.poa_base.specs.declared.Entry.{Entry}
 use Rattle.poa_base.specs.declared.Entry.TheVariants.{Entered, Arrive, Filled, Left, Collect, Admit, Tried, Incarnated, Run, Done, TakeOut, Etherealized, Abandon}
 use Rattle.poa_base.specs.declared.Attempt.{Attempt}
 use Rattle.poa_base.specs.declared.Attempt.TheVariants.{Yes, No, Raised, Dying}
-use Rattle.poa_history.specs.declared.stage.Stage.TheVariants.{Trying}
-use Rattle.poa_history.specs.Arrivals.{arrivals, call_of, is_message}
+use Rattle.history_standing.specs.declared.stage.Stage.TheVariants.{Trying}
+use Rattle.history_standing.specs.Arrivals.{arrivals, call_of, is_message}
 use Rattle.poa_history.specs.Changes.{standing}
 use Rattle.poa_history.specs.InFlight.{Holds, IsManned}
 use Rattle.poa_history.specs.Legal.{MayFollow}
 use Rattle.poa_history.specs.Situations.{is_crowded, waiting_messages}
-use Rattle.poa_history.specs.Stages.{stage, arrival_in, is_at, admitted, is_unadmitted}
-use Rattle.poa_history.proofs.IdsFew.{call_kept}
+use Rattle.history_standing.specs.Stages.{stage, arrival_in, is_at, admitted, is_unadmitted}
 use Rattle.poa_history.proofs.TurnTells.{admission_is}
 use Rattle.core_queries.specs.Numbers.{below}
 use Rattle.core_arrivals.specs.Numbers.{inserted, without}
@@ -29,7 +28,7 @@ use Rattle.core_arrivals.specs.Queued.{IsQueue}
 use Rattle.core_arrivals.specs.declared.queue.Queue.{Queue}
 use Rattle.core_queries.proofs.Numbers.{counted}
 use Rattle.core_arrivals.proofs.Numbers.{same_below, one_less, one_more, any_kept}
-use Rattle.core_arrivals.proofs.Placing.{call_beyond}
+use Rattle.history_standing.proofs.CallsKept.{call_beyond, call_kept}
 
 -- the newest number passes, or not
 newest : (p q : ℕ → Bool) (n : ℕ) (b : Bool) → ((k : ℕ) → k < n → q k ≡ p k) → q n ≡ b

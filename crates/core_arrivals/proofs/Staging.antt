@@ -6,10 +6,10 @@ use Rattle.std.proofs.lemmas.Bool.{cases_Bool, true≢false, eqb-true, eq-eqb}
 use Rattle.poa_base.specs.declared.Config.{Config}
 use Rattle.poa_base.specs.declared.Entry.{Entry}
 use Rattle.poa_base.specs.declared.Entry.TheVariants.{Entered, Arrive, Filled, Left, Collect, Admit, Tried, Incarnated, Run, Done, TakeOut, Etherealized, Abandon}
-use Rattle.poa_history.specs.declared.stage.Stage.{Stage}
-use Rattle.poa_history.specs.declared.stage.Stage.TheVariants.{Free}
+use Rattle.history_standing.specs.declared.stage.Stage.{Stage}
+use Rattle.history_standing.specs.declared.stage.Stage.TheVariants.{Free}
 use Rattle.poa_history.specs.Legal.{MayFollow}
-use Rattle.poa_history.specs.Stages.{stage}
+use Rattle.history_standing.specs.Stages.{stage}
 use Rattle.core_standing.specs.Entries.{stage_at}
 use Rattle.poa_history.proofs.StagesFrom.{maker, stage_other}
 use Rattle.core_arrivals.specs.Begun.{worker_of, AreStages}

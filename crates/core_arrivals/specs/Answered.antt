@@ -1,6 +1,6 @@
 -- What comes of asking a call.
 use Rattle.std.specs.Prelude.{ℕ, Option, Some, None}
-use Rattle.poa_history.specs.Arrivals.{arrivals}
+use Rattle.history_standing.specs.Arrivals.{arrivals}
 use Rattle.poa_history.specs.Verdicts.{verdict}
 use Rattle.held_queue.specs.Waiting.{is_waiting}
 use Rattle.core_arrivals.specs.declared.known.Known.{Known}

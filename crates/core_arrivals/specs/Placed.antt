@@ -4,7 +4,7 @@ use Rattle.std.specs.List.{slice_get}
 use Rattle.poa_base.specs.declared.Call.{Call}
 use Rattle.poa_base.specs.declared.Entry.{Entry}
 use Rattle.poa_base.specs.declared.Entry.TheVariants.{Arrive}
-use Rattle.poa_history.specs.Arrivals.{arrivals, call_of, conn_of}
+use Rattle.history_standing.specs.Arrivals.{arrivals, call_of, conn_of}
 
 -- the entry of the journal at this place is the arriving of that call; a history has its newest entry first
 pub record IsPlaceOf (h : List Entry) (r place : ℕ) : Type 0 where

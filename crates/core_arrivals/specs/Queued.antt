@@ -5,8 +5,8 @@ use Rattle.poa_base.specs.declared.Call.{Call}
 use Rattle.poa_base.specs.declared.Entry.{Entry}
 use Rattle.poa_base.specs.declared.Entry.TheVariants.{Arrive, Tried}
 use Rattle.poa_base.specs.declared.Attempt.TheVariants.{Yes}
-use Rattle.poa_history.specs.Arrivals.{arrivals, call_of, is_message}
-use Rattle.poa_history.specs.Stages.{stage, arrival_in, admitted, is_unadmitted}
+use Rattle.history_standing.specs.Arrivals.{arrivals, call_of, is_message}
+use Rattle.history_standing.specs.Stages.{stage, arrival_in, admitted, is_unadmitted}
 use Rattle.poa_history.specs.Situations.{is_crowded}
 use Rattle.core_queries.specs.Numbers.{below}
 use Rattle.held_queue.specs.Waiting.{is_waiting}

@@ -13,8 +13,8 @@ use core_queries::commands::is_accepted;
 use core_queries::searches::activation_numbered;
 use core_queries::workers::arrival_in;
 use history_holds::Freed;
+use history_standing::Stage;
 use poa_base::Entry;
-use poa_history::Stage;
 
 /// The request or trial of an arrival ends.
 fn landing(standing: &Standing, arrival: Option<u64>) -> Freed

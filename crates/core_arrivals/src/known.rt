@@ -1,12 +1,12 @@
 //! The next entry of a worker: what it has begun goes on, else a removal that is due, else the least arrival that
 //! isn't held is admitted.
 ghost use Rattle.std.specs.Prelude.{◌≡◌, ◌<◌, true, Some, None, if◌then◌else◌, IfOk, IsOk};
-ghost use Rattle.poa_history.specs.declared.stage.Stage.TheVariants.{Free};
+ghost use Rattle.history_standing.specs.declared.stage.Stage.TheVariants.{Free};
 ghost use Rattle.poa_history.specs.Changes.{standing as stands_after};
-ghost use Rattle.poa_history.specs.Stages as begun;
+ghost use Rattle.history_standing.specs.Stages as begun;
 ghost use Rattle.poa_history.specs.Turns as turns;
 ghost use Rattle.core_arrivals.specs.Begun.{KnowsWorkers, only_ends};
-ghost use Rattle.poa_history.specs.Arrivals.{arrivals};
+ghost use Rattle.history_standing.specs.Arrivals.{arrivals};
 ghost use Rattle.poa_history.specs.Situations.{facts_of};
 ghost use Rattle.poa_history.specs.Verdicts.{verdict};
 ghost use Rattle.core_turns.specs.Looks.{looked};
@@ -24,9 +24,9 @@ use core_queries::Standing;
 use core_settings::Settings;
 use core_turns::{Look, going_on, look_at, removal, verdict_on};
 use held_queue::HeldQueue;
+use history_standing::Stage;
 use journal_entries::Entries;
 use poa_base::{Config, Entry, Verdict, WantMemory};
-use poa_history::Stage;
 use std::alloc::Global;
 
 /// What is known of a run, from which a worker's next entry is told.

@@ -8,9 +8,9 @@ use Rattle.poa_base.specs.declared.Order.TheVariants.{Activate, Hold, Discard, D
 use Rattle.poa_base.specs.declared.Entry.{Entry}
 use Rattle.poa_history.specs.Changes.{standing}
 use Rattle.poa_history.specs.Settling.{is_quiet}
-use Rattle.poa_history.specs.Stages.{is_at}
-use Rattle.poa_history.specs.Standings.{Standing}
-use Rattle.poa_history.specs.Templates.{manager_number}
+use Rattle.history_standing.specs.Stages.{is_at}
+use Rattle.history_standing.specs.Standings.{Standing}
+use Rattle.history_standing.specs.Templates.{manager_number}
 use Rattle.core_queries.specs.Answers.{AnswersAs}
 use Rattle.core_outboxes.specs.declared.owing.Owing.{Owing}
 use Rattle.core_outboxes.specs.declared.wait.Ordered.{Ordered}

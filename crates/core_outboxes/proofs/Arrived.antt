@@ -6,13 +6,12 @@ use Rattle.poa_base.specs.declared.Verdict.{Verdict}
 use Rattle.poa_base.specs.declared.Entry.{Entry}
 use Rattle.poa_base.specs.declared.Entry.TheVariants.{Entered, Arrive, Filled, Left, Collect, Admit, Tried, Incarnated, Run, Done, TakeOut, Etherealized, Abandon}
 use Rattle.poa_base.specs.declared.Attempt.TheVariants.{Yes, No, Raised, Dying}
-use Rattle.poa_history.specs.Arrivals.{arrivals}
+use Rattle.history_standing.specs.Arrivals.{arrivals}
 use Rattle.poa_history.specs.Legal.{IsLegal, MayFollow}
 use Rattle.poa_history.specs.Replies.{asks, decided, is_collected, is_decided_by, is_final, is_waiting, next_reply}
-use Rattle.poa_history.specs.Arrivals.{call_of, conn_of}
+use Rattle.history_standing.specs.Arrivals.{call_of, conn_of}
 use Rattle.poa_history.specs.Settling.{settles}
-use Rattle.poa_history.specs.Stages.{stage, arrival_in, is_at, admitted, brings}
-use Rattle.poa_history.proofs.IdsFew.{arrivals_kept}
+use Rattle.history_standing.specs.Stages.{stage, arrival_in, is_at, admitted, brings}
 use Rattle.poa_history.proofs.StagesFrom.{arrival_before}
 use Rattle.poa_history.proofs.TurnTells.{admission_is}
 use Rattle.poa_tree.specs.Trees.{In}
@@ -21,6 +20,7 @@ use Rattle.core_queries.specs.Numbers.{below}
 use Rattle.core_outboxes.specs.Decided.{is_answered_by, answered}
 use Rattle.core_outboxes.proofs.Deciding.{stays_decided}
 use Rattle.core_outboxes.proofs.Given.{within_is}
+use Rattle.history_standing.proofs.CallsKept.{arrivals_kept}
 
 pub at_is : (r : ℕ) (o : Option ℕ) → is_at r o ≡ true → o ≡ Some r
 at_is r None is = absurd (let e : false ≡ true = is in cc)

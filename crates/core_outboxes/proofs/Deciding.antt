@@ -2,12 +2,11 @@
 use Rattle.std.proofs.Common.{◌≡◌, ℕ, ◌<◌, Bool, true, false, not, ◌&&◌, ◌||◌, List, [], ◌∷◌, map, filter, Option, Some, None, refl, sym, ap, ap₂, subst, ◌∙◌, inl, inr}
 use Rattle.poa_base.specs.declared.Config.{Config}
 use Rattle.poa_base.specs.declared.Entry.{Entry}
-use Rattle.poa_history.specs.Arrivals.{arrivals, call_of, conn_of}
+use Rattle.history_standing.specs.Arrivals.{arrivals, call_of, conn_of}
 use Rattle.poa_history.specs.Changes.{standing}
 use Rattle.poa_history.specs.Replies.{asks, decided, is_decided_by, is_waiting, number_of}
 use Rattle.poa_history.specs.Settling.{settles}
-use Rattle.poa_history.specs.Stages.{admitted, is_at}
-use Rattle.poa_history.proofs.IdsFew.{call_kept}
+use Rattle.history_standing.specs.Stages.{admitted, is_at}
 use Rattle.poa_tree.specs.Trees.{In}
 use Rattle.poa_tree.proofs.Members.{in_kept}
 use Rattle.core_outboxes.specs.declared.owing.Owing.{Owing}
@@ -21,6 +20,7 @@ use Rattle.core_outboxes.specs.Desk.{is_decided}
 use Rattle.core_queries.proofs.Numbers.{filter_twice, in_below}
 use Rattle.core_outboxes.proofs.Lists.{filter_agrees, filter_mapped}
 use Rattle.core_outboxes.proofs.Waiting.{comes, IsOvertaken, settles_is}
+use Rattle.history_standing.proofs.CallsKept.{call_kept}
 
 -- what was decided stays so
 pub stays_decided : (c : Config) (run : ℕ) (past : List Entry) (e : Entry) (r : ℕ) → decided c run past r ≡ true → decided c run (e ∷ past) r ≡ true

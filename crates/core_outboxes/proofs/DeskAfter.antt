@@ -9,14 +9,14 @@ use Rattle.poa_base.specs.declared.Reply.{Reply}
 use Rattle.poa_base.specs.declared.Entry.{Entry}
 use Rattle.poa_base.specs.declared.Entry.TheVariants.{Entered, Arrive, Filled, Left, Collect, Admit, Tried, Incarnated, Run, Done, TakeOut, Etherealized, Abandon}
 use Rattle.poa_base.specs.declared.Attempt.TheVariants.{Yes, No, Raised, Dying}
-use Rattle.poa_history.specs.Arrivals.{arrivals, call_of, conn_of}
+use Rattle.history_standing.specs.Arrivals.{arrivals, call_of, conn_of}
 use Rattle.poa_history.specs.Changes.{standing}
 use Rattle.poa_history.specs.InFlight.{IsManned, Holds}
 use Rattle.poa_history.specs.Legal.{IsLegal}
 use Rattle.poa_history.specs.Replies.{asks, decided, is_collected, is_waiting, number_of}
-use Rattle.poa_history.specs.Logs.{command_in}
+use Rattle.history_standing.specs.Logs.{command_in}
 use Rattle.poa_history.specs.Settling.{before_admit, settles}
-use Rattle.poa_history.specs.Stages.{stage, arrival_in, is_at, admitted}
+use Rattle.history_standing.specs.Stages.{stage, arrival_in, is_at, admitted}
 use Rattle.poa_history.specs.States.{Stored}
 use Rattle.poa_history.proofs.TurnTells.{trial_is}
 use Rattle.poa_tree.specs.Trees.{In}

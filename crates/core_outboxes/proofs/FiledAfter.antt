@@ -7,13 +7,12 @@ use Rattle.poa_base.specs.declared.Reply.{Reply}
 use Rattle.poa_base.specs.declared.Reply.TheVariants.{Answer as AnswerReply}
 use Rattle.poa_base.specs.declared.Answer.TheVariants.{Good}
 use Rattle.poa_base.specs.declared.Entry.{Entry}
-use Rattle.poa_history.specs.Arrivals.{arrivals, call_of}
+use Rattle.history_standing.specs.Arrivals.{arrivals, call_of}
 use Rattle.poa_history.specs.Changes.{standing}
 use Rattle.poa_history.specs.Replies.{asks, decided, number_of}
 use Rattle.poa_history.specs.Settling.{is_quiet}
-use Rattle.poa_history.specs.Stages.{is_at}
+use Rattle.history_standing.specs.Stages.{is_at}
 use Rattle.poa_history.specs.States.{Stored}
-use Rattle.poa_history.proofs.IdsFew.{call_kept}
 use Rattle.poa_tree.specs.Trees.{In}
 use Rattle.poa_tree.proofs.Members.{in_kept, in_image}
 use Rattle.core_outboxes.specs.declared.filed.Filed.{Filed as FiledRow}
@@ -30,7 +29,8 @@ use Rattle.core_queries.proofs.Numbers.{in_below}
 use Rattle.core_outboxes.proofs.Fixed.{Fixes}
 use Rattle.core_outboxes.proofs.Waiting.{IsOvertaken}
 use Rattle.core_outboxes.proofs.Deciding.{AreRows, row_owed, row_fresh, row_decided, filed_which}
-use Rattle.core_outboxes.proofs.Kept.{conn_arrived, conn_kept, replied_decided, reply_kept, reply_fixed}
+use Rattle.core_outboxes.proofs.Kept.{replied_decided, reply_kept, reply_fixed}
+use Rattle.history_standing.proofs.CallsKept.{call_kept, conn_arrived, conn_kept}
 
 not_true : (b : Bool) → not b ≡ true → b ≡ false
 not_true false is = refl

@@ -5,11 +5,10 @@ use Rattle.std.proofs.lemmas.List.Folds.{find-append}
 use Rattle.std.proofs.lemmas.List.{length-map}
 use Rattle.poa_base.specs.declared.Config.{Config}
 use Rattle.poa_base.specs.declared.Entry.{Entry}
-use Rattle.poa_history.specs.Arrivals.{arrivals, call_of, conn_of}
+use Rattle.history_standing.specs.Arrivals.{arrivals, call_of, conn_of}
 use Rattle.poa_history.specs.Replies.{asks, decided, is_asked, is_collected, is_newly_decided, next_within, next_reply, owed}
-use Rattle.poa_history.specs.Stages.{is_at}
+use Rattle.history_standing.specs.Stages.{is_at}
 use Rattle.poa_history.specs.States.{Stored}
-use Rattle.poa_history.proofs.IdsFew.{call_kept, arrivals_kept}
 use Rattle.core_outboxes.specs.declared.filed.Filed.{Filed as FiledRow}
 use Rattle.core_outboxes.specs.declared.owing.Owing.{Owing}
 use Rattle.core_queries.specs.Numbers.{below}
@@ -17,6 +16,7 @@ use Rattle.core_outboxes.specs.Owed.{is_owed, AreOwed}
 use Rattle.core_outboxes.specs.Decided.{is_answered_by, answered, AreFiled}
 use Rattle.core_queries.proofs.Numbers.{filter_twice, least_found, counted, in_below}
 use Rattle.core_outboxes.proofs.Lists.{filter_agrees, filter_mapped, find_kept, find_agrees, find_mapped}
+use Rattle.history_standing.proofs.CallsKept.{arrivals_kept, call_kept}
 
 -- a reply of the connection that isn't collected
 abbrev stands_for : List Entry → ℕ → ℕ → Bool

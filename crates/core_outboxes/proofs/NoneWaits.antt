@@ -3,8 +3,8 @@ use Rattle.std.proofs.Common.{◌≡◌, ℕ, Bool, true, false, not, ◌||◌, 
 use Rattle.std.specs.List.{list_any}
 use Rattle.std.proofs.lemmas.Bool.{cond_both}
 use Rattle.poa_base.specs.declared.Config.{Config}
-use Rattle.poa_history.specs.Stages.{is_at}
-use Rattle.poa_history.specs.Standings.{Standing}
+use Rattle.history_standing.specs.Stages.{is_at}
+use Rattle.history_standing.specs.Standings.{Standing}
 use Rattle.poa_tree.specs.Trees.{In}
 use Rattle.core_outboxes.specs.declared.owing.Owing.{Owing}
 use Rattle.core_outboxes.specs.declared.wait.Wait.{Wait}

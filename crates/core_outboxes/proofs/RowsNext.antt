@@ -6,13 +6,12 @@ use Rattle.poa_base.specs.declared.Verdict.{Verdict}
 use Rattle.poa_base.specs.declared.Entry.{Entry}
 use Rattle.poa_base.specs.declared.Entry.TheVariants.{Entered, Arrive, Filled, Left, Collect, Admit, Tried, Incarnated, Run, Done, TakeOut, Etherealized, Abandon}
 use Rattle.poa_base.specs.declared.Attempt.TheVariants.{Yes, No, Raised, Dying}
-use Rattle.poa_history.specs.Arrivals.{arrivals, call_of, conn_of}
+use Rattle.history_standing.specs.Arrivals.{arrivals, call_of, conn_of}
 use Rattle.poa_history.specs.Changes.{standing}
-use Rattle.poa_history.specs.Logs.{command_in, command_done, order_for}
+use Rattle.history_standing.specs.Logs.{command_in, command_done, order_for}
 use Rattle.poa_history.specs.Replies.{is_waiting, number_of}
 use Rattle.poa_history.specs.Settling.{before_admit, is_overtaken}
-use Rattle.poa_history.specs.Stages.{stage, arrival_in, is_at, admitted}
-use Rattle.poa_history.proofs.IdsFew.{call_kept}
+use Rattle.history_standing.specs.Stages.{stage, arrival_in, is_at, admitted}
 use Rattle.poa_tree.specs.Trees.{In}
 use Rattle.poa_tree.proofs.Members.{in_image}
 use Rattle.core_outboxes.specs.declared.owing.Owing.{Owing}
@@ -23,6 +22,7 @@ use Rattle.core_outboxes.specs.Owed.{head_of, Owes, AreOwed, IsCurrent}
 use Rattle.core_outboxes.specs.Desk.{set_wait, waited}
 use Rattle.core_outboxes.proofs.Waiting.{IsOvertaken, overtaken_now}
 use Rattle.core_outboxes.proofs.Deciding.{IsNext, AreRows}
+use Rattle.history_standing.proofs.CallsKept.{call_kept}
 
 -- an arrival whose trial made the child isn't one that waits
 abbrev pub TriesNone : List Entry → Entry → Type 0

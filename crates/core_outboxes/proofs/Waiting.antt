@@ -8,14 +8,14 @@ use Rattle.poa_base.specs.declared.Order.{Order}
 use Rattle.poa_base.specs.declared.Order.TheVariants.{Activate, Hold, Discard, Deactivate}
 use Rattle.poa_base.specs.declared.Entry.{Entry}
 use Rattle.poa_base.specs.declared.Entry.TheVariants.{Entered, Arrive, Filled, Left, Collect, Admit, Tried, Incarnated, Run, Done, TakeOut, Etherealized, Abandon}
-use Rattle.poa_history.specs.Templates.{manager_number}
-use Rattle.poa_history.specs.Arrivals.{call_of}
+use Rattle.history_standing.specs.Templates.{manager_number}
+use Rattle.history_standing.specs.Arrivals.{call_of}
 use Rattle.poa_history.specs.Changes.{standing}
-use Rattle.poa_history.specs.Logs.{command_in, command_done, order_for}
+use Rattle.history_standing.specs.Logs.{command_in, command_done, order_for}
 use Rattle.poa_history.specs.Replies.{is_waiting}
 use Rattle.poa_history.specs.Settling.{before_admit, is_quiet, is_overtaken, order_holds, settles_by, settles}
-use Rattle.poa_history.specs.Stages.{admitted}
-use Rattle.poa_history.specs.Standings.{Standing}
+use Rattle.history_standing.specs.Stages.{admitted}
+use Rattle.history_standing.specs.Standings.{Standing}
 use Rattle.core_outboxes.specs.declared.wait.Wait.{Wait}
 use Rattle.core_outboxes.specs.declared.wait.Wait.TheVariants.{Quiet}
 use Rattle.core_outboxes.specs.declared.wait.Ordered.{Ordered}

@@ -9,16 +9,16 @@ use Rattle.poa_base.specs.declared.Order.TheVariants.{Activate, Hold, Discard, D
 use Rattle.poa_base.specs.declared.Entry.{Entry}
 use Rattle.poa_base.specs.declared.Entry.TheVariants.{Admit}
 use Rattle.poa_base.specs.declared.Verdict.{Verdict}
-use Rattle.poa_history.specs.Templates.{manager_number}
-use Rattle.poa_history.specs.Arrivals.{call_of}
+use Rattle.history_standing.specs.Templates.{manager_number}
+use Rattle.history_standing.specs.Arrivals.{call_of}
 use Rattle.poa_history.specs.Changes.{standing}
-use Rattle.poa_history.specs.Ends.{is_gone}
-use Rattle.poa_history.specs.Logs.{command_in, command_done}
-use Rattle.poa_history.specs.Opening.{number_at}
+use Rattle.history_standing.specs.Ends.{is_gone}
+use Rattle.history_standing.specs.Logs.{command_in, command_done}
+use Rattle.history_standing.specs.Opening.{number_at}
 use Rattle.poa_history.specs.Replies.{is_waiting}
 use Rattle.poa_history.specs.Settling.{before_admit, is_quiet, are_ended}
-use Rattle.poa_history.specs.Stages.{admitted}
-use Rattle.poa_history.specs.Standings.{Standing}
+use Rattle.history_standing.specs.Stages.{admitted}
+use Rattle.history_standing.specs.Standings.{Standing}
 use Rattle.core_outboxes.specs.declared.wait.Wait.{Wait}
 use Rattle.core_outboxes.specs.declared.wait.Wait.TheVariants.{Nothing, Quiet, Off, Gone}
 use Rattle.core_outboxes.specs.declared.wait.Ordered.{Ordered}

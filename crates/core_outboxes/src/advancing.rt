@@ -1,6 +1,6 @@
 //! The desk after an entry.
 ghost use Rattle.std.specs.Prelude.{◌≡◌, ◌∷◌, ℕ, List, map, IfSome};
-ghost use Rattle.poa_history.specs.Arrivals.{arrivals};
+ghost use Rattle.history_standing.specs.Arrivals.{arrivals};
 ghost use Rattle.core_queries.specs.Seen.{seen};
 ghost use Rattle.core_outboxes.specs.Decided.{AreFiled, target_of};
 ghost use Rattle.core_outboxes.specs.Owed.{AreOwed};

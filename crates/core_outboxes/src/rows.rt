@@ -2,7 +2,7 @@
 ghost use Rattle.std.specs.Prelude.{◌≡◌, ◌==◌, ◌≤◌, ◌++◌, ℕ, Some, false, not, drop, filter, length, map, option_to_list, take};
 ghost use Rattle.std.specs.VecDeque.{deque_len, deque_capacity};
 ghost use Rattle.std.specs.List.{list_any};
-ghost use Rattle.poa_history.specs.Stages as begun;
+ghost use Rattle.history_standing.specs.Stages as begun;
 ghost use Rattle.core_queries.specs.Seen.{seen};
 ghost use Rattle.core_outboxes.specs.Desk as desks;
 ghost use Rattle.core_outboxes.specs.Desk.{IsAlone};

@@ -1,7 +1,7 @@
 //! What a command that waits is waiting for.
 ghost use Rattle.std.specs.Prelude.{◌≡◌, ◌==◌, ◌&&◌, ℕ, List, Some, None, if◌then◌else◌, false, option_copied, IfOk, IsOk};
 ghost use Rattle.poa_base.specs.declared.Entry.{Entry as EntryOf};
-ghost use Rattle.poa_history.specs.Logs as logs;
+ghost use Rattle.history_standing.specs.Logs as logs;
 ghost use Rattle.poa_history.specs.Replies as replies;
 ghost use Rattle.core_outboxes.specs.Desk.{WaitIs};
 ghost use Rattle.core_outboxes.specs.Waits.{call_told};

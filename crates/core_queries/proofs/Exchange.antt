@@ -1,19 +1,15 @@
 -- Whether something lives at a path or below it: asked adapter by adapter, or activation by activation.
-use Rattle.std.specs.Prelude.{◌≡◌, ℕ, Bool, true, false, ◌&&◌, ◌==◌, List, refl}
+use Rattle.std.specs.Prelude.{◌≡◌, ℕ, Bool, true, ◌&&◌, ◌==◌, List}
 use Rattle.std.specs.List.{list_any}
 use Rattle.std.proofs.Common.{sym}
 use Rattle.std.proofs.lemmas.Bool.{and_from, and_parts, eq-eqb, eqb-true}
 use Rattle.poa_tree.specs.declared.node.Node.{Node}
 use Rattle.poa_tree.specs.Nodes.{stands_under}
 use Rattle.poa_tree.specs.Paths.{leads_to}
-use Rattle.poa_history.specs.declared.activation.Activation.{Activation}
+use Rattle.history_standing.specs.declared.activation.Activation.{Activation}
 use Rattle.poa_history.proofs.GoneIs.{any_in}
 use Rattle.poa_history.proofs.SettledKept.{any_by}
-
-each_way : (a b : Bool) → (a ≡ true → b ≡ true) → (b ≡ true → a ≡ true) → a ≡ b
-each_way true b on back = sym (on refl)
-each_way false true on back = back refl
-each_way false false on back = refl
+use Rattle.history_standing.proofs.Tests.{same_test}
 
 module _ (lives : Activation → Bool) (ns : List Node) (p : List (List ℕ)) (as' : List Activation) where
   -- one of the adapter lives
@@ -49,4 +45,4 @@ module _ (lives : Activation → Bool) (ns : List Node) (p : List (List ℕ)) (a
       (any_by (has_one n.0) a.0 as' a.1 (and_from (a.0.adapter == n.0.number) (lives a.0) number under.0))))
 
   pub exchanged : list_any by_adapter ns ≡ list_any by_activation as'
-  exchanged = each_way (list_any by_adapter ns) (list_any by_activation as') found_again found_before
+  exchanged = same_test (list_any by_adapter ns) (list_any by_activation as') found_again found_before

@@ -3,7 +3,7 @@ use Rattle.std.proofs.Common.{◌≡◌, ◌≢◌, ℕ, List, Option, Some, Non
 use Rattle.std.specs.Prelude.{IfSome, IfNone}
 use Rattle.poa_names.specs.declared.Key.{Key}
 use Rattle.object_key.specs.Spelling.{key_spelling, IsKey}
-use Rattle.poa_history.specs.Keys.{key_of}
+use Rattle.history_standing.specs.Keys.{key_of}
 use Rattle.poa_history.proofs.KeysSpelled.{key_spelled, spelling_found}
 
 -- the spelling of a key is the key's

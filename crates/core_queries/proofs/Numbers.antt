@@ -5,7 +5,7 @@ use Rattle.std.proofs.lemmas.Bool.{cases_Bool, cond_both, true≢false, eqb-true
 use Rattle.std.proofs.lemmas.List.{append-nil, length-append}
 use Rattle.std.proofs.lemmas.List.Folds.{find-append}
 use Rattle.std.proofs.lemmas.List.Elements.{filter-append}
-use Rattle.poa_history.specs.Searches.{least, count_below}
+use Rattle.history_standing.specs.Searches.{least, count_below}
 use Rattle.poa_tree.specs.Trees.{In}
 use Rattle.poa_tree.proofs.Members.{in_front, in_back, in_either, in_kept}
 use Rattle.core_queries.specs.Numbers.{below, Ascends}

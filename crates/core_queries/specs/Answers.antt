@@ -4,14 +4,14 @@ use Rattle.std.specs.List.{list_any}
 use Rattle.poa_base.specs.declared.Config.{Config}
 use Rattle.poa_base.specs.declared.Entry.{Entry}
 use Rattle.poa_names.specs.declared.Sid.{Sid}
-use Rattle.poa_history.specs.declared.stage.Stage.{Stage}
-use Rattle.poa_history.specs.declared.stage.Stage.TheVariants.{Incarnating, Removing, Serving}
+use Rattle.history_standing.specs.declared.stage.Stage.{Stage}
+use Rattle.history_standing.specs.declared.stage.Stage.TheVariants.{Incarnating, Removing, Serving}
 use Rattle.poa_history.specs.Changes.{standing}
-use Rattle.poa_history.specs.Ends.{is_over, is_gone}
+use Rattle.history_standing.specs.Ends.{is_over, is_gone}
 use Rattle.poa_history.specs.Settling.{are_ended}
 use Rattle.poa_history.specs.Situations.{slot_of, is_changing}
-use Rattle.poa_history.specs.Stages.{stage, admitted}
-use Rattle.poa_history.specs.Standings.{Standing, is_active, is_mapped, has_servant, is_of, is_in_map}
+use Rattle.history_standing.specs.Stages.{stage, admitted}
+use Rattle.history_standing.specs.Standings.{Standing, is_active, is_mapped, has_servant, is_of, is_in_map}
 use Rattle.poa_history.specs.States.{servant_by}
 use Rattle.poa_history.specs.Turns.{activation_numbered, removal}
 

@@ -2,10 +2,10 @@
 use Rattle.std.specs.Prelude.{◌≡◌, ℕ, ◌≤◌, true, List, length, ◌⊎◌}
 use Rattle.poa_base.specs.declared.Config.{Config}
 use Rattle.poa_base.specs.declared.Entry.{Entry}
-use Rattle.poa_history.specs.declared.activation.Activation.{Activation}
+use Rattle.history_standing.specs.declared.activation.Activation.{Activation}
 use Rattle.poa_history.specs.Changes.{standing}
-use Rattle.poa_history.specs.Ends.{is_over}
-use Rattle.poa_history.specs.Standings.{Standing}
+use Rattle.history_standing.specs.Ends.{is_over}
+use Rattle.history_standing.specs.Standings.{Standing}
 use Rattle.poa_tree.specs.Trees.{In}
 use Rattle.active_map.specs.Live.{live}
 use Rattle.core_queries.specs.Seen.{forgotten}

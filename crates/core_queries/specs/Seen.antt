@@ -1,9 +1,9 @@
 -- What stands, as the definitions see it.
 use Rattle.std.specs.Prelude.{ℕ, zero, suc, true, false, List, [], ◌∷◌}
-use Rattle.poa_history.specs.declared.activation.Activation.{Activation}
-use Rattle.poa_history.specs.declared.activation.Phase.TheVariants.{Void}
+use Rattle.history_standing.specs.declared.activation.Activation.{Activation}
+use Rattle.history_standing.specs.declared.activation.Phase.TheVariants.{Void}
 use Rattle.core_queries.specs.declared.standing.Standing.{Standing as Held}
-use Rattle.poa_history.specs.Standings.{Standing}
+use Rattle.history_standing.specs.Standings.{Standing}
 
 -- an activation that is over, of which no more is known: no question finds it, no entry changes it, and no number is its
 abbrev pub forgotten : Activation

@@ -1,6 +1,6 @@
 //! Calls in the order of their arriving.
 ghost use Rattle.std.specs.Prelude.{◌≡◌, ◌≤◌, length, option_copied, reverse};
-ghost use Rattle.poa_history.specs.Arrivals as calls;
+ghost use Rattle.history_standing.specs.Arrivals as calls;
 
 use poa_base::{Bytes, Call, Entry};
 

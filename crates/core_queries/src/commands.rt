@@ -1,17 +1,17 @@
 //! The commands that were done, and the adapters and activations that they name.
 ghost use Rattle.std.specs.Prelude.{◌≡◌, None, if◌then◌else◌, option_copied, reverse};
-ghost use Rattle.poa_history.specs.Commands as rows;
-ghost use Rattle.poa_history.specs.Arrivals as calls;
-ghost use Rattle.poa_history.specs.Logs as logs;
-ghost use Rattle.poa_history.specs.Opening as opens;
+ghost use Rattle.history_standing.specs.Commands as rows;
+ghost use Rattle.history_standing.specs.Arrivals as calls;
+ghost use Rattle.history_standing.specs.Logs as logs;
+ghost use Rattle.history_standing.specs.Opening as opens;
 ghost use Rattle.core_queries.specs.Seen.{seen};
 
 use crate::calls::call_of;
 use crate::searches::mapped;
 use crate::standing::Standing;
 use active_map::templates::policies_at;
+use history_standing::Activation;
 use poa_base::{Answer, Call, Command, Config, Entry, Name, Sid, Verdict};
-use poa_history::Activation;
 use poa_tree::Node;
 use poa_tree::nodes::node_at;
 

@@ -3,7 +3,7 @@ ghost use Rattle.std.specs.Prelude.{◌≡◌, ◌==◌, ◌&&◌, ◌||◌, not
 ghost use Rattle.std.specs.List.{list_any};
 ghost use Rattle.poa_tree.specs.Nodes.{stands_under};
 ghost use Rattle.poa_tree.specs.Paths.{is_root, leads_to};
-ghost use Rattle.poa_history.specs.Ends as ends;
+ghost use Rattle.history_standing.specs.Ends as ends;
 ghost use Rattle.core_queries.specs.Seen.{seen};
 
 use crate::standing::Standing;

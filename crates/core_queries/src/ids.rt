@@ -1,6 +1,6 @@
 //! System-made object ids.
 ghost use Rattle.std.specs.Prelude.{◌≡◌, suc, IfOk};
-ghost use Rattle.poa_history.specs.Opening as opens;
+ghost use Rattle.history_standing.specs.Opening as opens;
 
 use poa_base::{Oid, WantMemory};
 use std::alloc::Global;

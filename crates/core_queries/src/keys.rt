@@ -1,6 +1,6 @@
 //! The key that a target spells, seen where it lies, and what stands at its path.
 ghost use Rattle.std.specs.Prelude.{◌≡◌, option_copied, IfOk};
-ghost use Rattle.poa_history.specs.Keys as keys;
+ghost use Rattle.history_standing.specs.Keys as keys;
 ghost use Rattle.poa_tree.specs.Nodes as tree;
 ghost use Rattle.poa_tree.specs.Walks as walks;
 

@@ -1,17 +1,17 @@
 //! What an order to a manager waits for.
 ghost use Rattle.std.specs.Prelude.{◌≡◌, ◌==◌, ◌&&◌, ◌||◌, not, nat_lt};
 ghost use Rattle.std.specs.List.{list_all, list_any};
-ghost use Rattle.poa_history.specs.Ends as ends;
+ghost use Rattle.history_standing.specs.Ends as ends;
 ghost use Rattle.poa_history.specs.Settling as settling;
-ghost use Rattle.poa_history.specs.Templates as configured;
+ghost use Rattle.history_standing.specs.Templates as configured;
 ghost use Rattle.core_queries.specs.Seen.{seen};
 
 use crate::standing::Standing;
 use active_map::Activations;
 use active_map::over::is_over;
 use active_map::templates::{has_activator, manager_at};
+use history_standing::Activation;
 use poa_base::Config;
-use poa_history::Activation;
 use poa_tree::Node;
 
 /// Whether it is the adapter of this number, and one of the manager's.

@@ -1,6 +1,6 @@
 //! Which rule of a servant manager is for an id.
 ghost use Rattle.std.specs.Prelude.{◌≡◌, option_copied};
-ghost use Rattle.poa_history.specs.Rules as rules;
+ghost use Rattle.history_standing.specs.Rules as rules;
 
 use poa_base::RuleConf;
 

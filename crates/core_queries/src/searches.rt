@@ -1,14 +1,14 @@
 //! The activations that stand, searched.
 ghost use Rattle.std.specs.Prelude.{◌≡◌, ◌==◌, ◌&&◌, find, option_copied};
-ghost use Rattle.poa_history.specs.Standings as stands;
+ghost use Rattle.history_standing.specs.Standings as stands;
 ghost use Rattle.poa_history.specs.Turns as turns;
 ghost use Rattle.core_queries.specs.Seen.{seen};
 
 use crate::standing::Standing;
 use active_map::Activations;
 use active_map::activation::{has_servant, is_mapped};
+use history_standing::Activation;
 use poa_base::Sid;
-use poa_history::Activation;
 
 /// The activation of a number, where it isn't forgotten.
 pub fn activation_numbered(standing: &Standing, number: u32) -> Option<&Activation>

@@ -3,8 +3,8 @@ ghost use Rattle.std.specs.Prelude.{◌≡◌, ◌<◌, length, IfOk};
 ghost use Rattle.core_queries.specs.Seen.{seen};
 
 use active_map::Activations;
+use history_standing::Flight;
 use poa_base::WantMemory;
-use poa_history::Flight;
 use poa_tree::Node;
 
 /// What stands after a history.

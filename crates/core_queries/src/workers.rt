@@ -1,10 +1,10 @@
 //! What each worker has begun, and which arrivals are admitted.
 ghost use Rattle.std.specs.Prelude.{◌≡◌, ◌∷◌, List, option_copied, reverse};
 ghost use Rattle.poa_base.specs.declared.Entry.{Entry};
-ghost use Rattle.poa_history.specs.Stages as begun;
+ghost use Rattle.history_standing.specs.Stages as begun;
 
+use history_standing::Stage;
 use poa_base::{Attempt, Entry, Incarnation, Verdict};
-use poa_history::Stage;
 
 /// Whether an incarnation brought a servant.
 pub fn brings(answer: &Incarnation) -> bool

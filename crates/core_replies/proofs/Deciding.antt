@@ -18,16 +18,16 @@ use Rattle.poa_base.specs.declared.Reply.TheVariants.{Outcome as Ended, Answer a
 use Rattle.poa_names.specs.declared.Sid.{Sid}
 use Rattle.poa_base.specs.declared.Verdict.{Verdict}
 use Rattle.poa_base.specs.declared.Verdict.TheVariants.{Serve, Preset, Locator, Incarnate, Try, Refuse, Forward, Addressing as AddressingVerdict, Here, Unknown, Answer, Wait}
-use Rattle.poa_history.specs.Arrivals.{call_of}
+use Rattle.history_standing.specs.Arrivals.{call_of}
 use Rattle.poa_history.specs.Changes.{standing}
 use Rattle.poa_history.specs.InFlight.{Holds, IsManned}
 use Rattle.poa_history.specs.Replies.{decided, is_decided_by, is_final, is_waiting, number_of, reply_admitted, reply_by, reply_incarnated, reply_run, reply_tried}
 use Rattle.poa_history.specs.Settling.{settles}
-use Rattle.poa_history.specs.Stages.{admitted, arrival_in, brings, is_at, stage}
-use Rattle.poa_history.specs.Standings.{Standing}
+use Rattle.history_standing.specs.Stages.{admitted, arrival_in, brings, is_at, stage}
+use Rattle.history_standing.specs.Standings.{Standing}
 use Rattle.poa_history.specs.States.{Stored, acted, call_run, servant_run, state_of}
-use Rattle.poa_history.specs.declared.stage.Stage.{Stage}
-use Rattle.poa_history.specs.declared.stage.Stage.TheVariants.{Free, Trying, Incarnating, Serving, Ran, Removing}
+use Rattle.history_standing.specs.declared.stage.Stage.{Stage}
+use Rattle.history_standing.specs.declared.stage.Stage.TheVariants.{Free, Trying, Incarnating, Serving, Ran, Removing}
 use Rattle.poa_choose.specs.Laws.{runs}
 use Rattle.poa_choose.specs.declared.Choice.TheVariants.{Go}
 use Rattle.core_outboxes.specs.Decided.{Decides}

@@ -9,8 +9,8 @@ use Rattle.poa_base.specs.declared.Call.{Call}
 use Rattle.poa_base.specs.declared.Config.{Config}
 use Rattle.poa_names.specs.declared.Endpoint.{Endpoint}
 use Rattle.poa_base.specs.declared.Entry.{Entry}
-use Rattle.poa_history.specs.Keys.{key_in}
-use Rattle.poa_history.specs.Logs.{endpoint_of, forward_from}
+use Rattle.history_standing.specs.Keys.{key_in}
+use Rattle.history_standing.specs.Logs.{endpoint_of, forward_from}
 use Rattle.poa_history.specs.Replies as replies
 use Rattle.poa_history.specs.Situations.{key_or_none}
 use Rattle.core_replies.specs.Unmade.{reply_tried}

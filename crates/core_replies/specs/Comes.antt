@@ -8,11 +8,11 @@ use Rattle.poa_base.specs.declared.Entry.{Entry}
 use Rattle.poa_base.specs.declared.Entry.TheVariants.{Admit, Run}
 use Rattle.poa_base.specs.declared.Outcome.{Outcome}
 use Rattle.poa_names.specs.declared.Sid.{Sid}
-use Rattle.poa_history.specs.Arrivals.{call_of}
+use Rattle.history_standing.specs.Arrivals.{call_of}
 use Rattle.poa_history.specs.InFlight.{IsManned}
-use Rattle.poa_history.specs.Stages.{arrival_in, stage}
+use Rattle.history_standing.specs.Stages.{arrival_in, stage}
 use Rattle.poa_history.specs.States.{Stored, acted, call_run, servant_run, state_of}
-use Rattle.poa_history.specs.declared.stage.Stage.{Stage}
+use Rattle.history_standing.specs.declared.stage.Stage.{Stage}
 use Rattle.core_standing.specs.Entries.{stage_at}
 
 -- the arrival that an entry speaks of: the one that it admits, else the one that its worker is at

@@ -9,8 +9,8 @@ use Rattle.poa_base.specs.declared.Outcome.{Outcome}
 use Rattle.poa_base.specs.declared.Reply.{Reply}
 use Rattle.poa_base.specs.declared.Reply.TheVariants.{Outcome as Ended}
 use Rattle.poa_history.specs.Replies.{is_final, reply_admitted, reply_incarnated, reply_tried}
-use Rattle.poa_history.specs.Stages.{arrival_in, brings}
-use Rattle.poa_history.specs.declared.stage.Stage.{Stage}
+use Rattle.history_standing.specs.Stages.{arrival_in, brings}
+use Rattle.history_standing.specs.declared.stage.Stage.{Stage}
 
 -- the entry is the end of a call: but the arrivals of commands that wait, it may decide the one that it speaks of
 abbrev pub may_decide : Entry → Bool

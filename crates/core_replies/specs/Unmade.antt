@@ -7,7 +7,7 @@ use Rattle.poa_base.specs.declared.Attempt.TheVariants.{Raised, Dying}
 use Rattle.poa_base.specs.declared.Call.{Call}
 use Rattle.poa_base.specs.declared.Config.{Config}
 use Rattle.poa_base.specs.declared.Reply.{Reply}
-use Rattle.poa_history.specs.Keys.{key_in}
+use Rattle.history_standing.specs.Keys.{key_in}
 use Rattle.poa_history.specs.Replies.{activator_raised, adapter_dying, forwarded_to, not_exist_omg, raised_to}
 use Rattle.poa_history.specs.Situations.{key_or_none}
 

@@ -13,8 +13,8 @@ use crate::tried::reply_tried;
 use core_outboxes::Decision;
 use core_queries::workers::{arrival_in, brings};
 use core_settings::Settings;
+use history_standing::Stage;
 use poa_base::{Attempt, Call, Config, Entry, Outcome, Reply, Verdict, WantMemory};
-use poa_history::Stage;
 use std::alloc::Global;
 
 /// Whether a verdict is the end of a call.

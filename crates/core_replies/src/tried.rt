@@ -2,7 +2,7 @@
 ghost use Rattle.std.specs.Prelude.{◌≡◌, List, option_copied, IfOk};
 ghost use Rattle.core_settings.specs.Told.{Tells};
 ghost use Rattle.poa_base.specs.declared.Entry.{Entry};
-ghost use Rattle.poa_history.specs.Keys.{key_in as key_of_call};
+ghost use Rattle.history_standing.specs.Keys.{key_in as key_of_call};
 ghost use Rattle.poa_history.specs.Replies as replies;
 ghost use Rattle.poa_history.specs.Situations.{key_or_none};
 ghost use Rattle.core_replies.specs.Unmade.{reply_tried as tried_in, reply_unmade as unmade};

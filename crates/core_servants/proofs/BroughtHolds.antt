@@ -14,22 +14,22 @@ use Rattle.poa_base.specs.declared.Incarnation.TheVariants.{Fresh, Named, Double
 use Rattle.poa_base.specs.Store as slots
 use Rattle.poa_base.specs.Store.{IsReserved, with_room}
 use Rattle.poa_base.proofs.Stored.{stored-with_room, reserved-with_room, reserved-insert}
-use Rattle.poa_history.specs.declared.activation.Activation.{Activation}
-use Rattle.poa_history.specs.declared.activation.Phase.TheVariants.{Begun, Complete, Void}
-use Rattle.poa_history.specs.declared.stage.Stage.TheVariants.{Incarnating}
+use Rattle.history_standing.specs.declared.activation.Activation.{Activation}
+use Rattle.history_standing.specs.declared.activation.Phase.TheVariants.{Begun, Complete, Void}
+use Rattle.history_standing.specs.declared.stage.Stage.TheVariants.{Incarnating}
 use Rattle.poa_tree.specs.Trees.{In}
 use Rattle.poa_history.specs.Alone.{IsGivenAlone}
 use Rattle.poa_history.specs.Bounds.{IsWithinLimits}
 use Rattle.poa_history.specs.Changes.{standing, changed, with_incarnated, at_number, come_to}
-use Rattle.poa_history.specs.Ends.{is_left, let_out}
+use Rattle.history_standing.specs.Ends.{is_left, let_out}
 use Rattle.poa_history.specs.InFlight as flying
 use Rattle.poa_history.specs.Legal.{IsLegal}
-use Rattle.poa_history.specs.Rules.{rule_for, brought, brought_by, named_or_double, not_active}
+use Rattle.history_standing.specs.Rules.{rule_for, brought, brought_by, named_or_double, not_active}
 use Rattle.poa_history.specs.Sound.{IsGiven, IsSound}
-use Rattle.poa_history.specs.Stages.{stage}
-use Rattle.poa_history.specs.Standings.{Standing, is_begun, is_in_map}
+use Rattle.history_standing.specs.Stages.{stage}
+use Rattle.history_standing.specs.Standings.{Standing, is_begun, is_in_map}
 use Rattle.poa_history.specs.States.{Stored, state_of, stored, restored, kind_brought}
-use Rattle.poa_history.specs.Templates.{rules_at, policies_at, is_unique, servant_name}
+use Rattle.history_standing.specs.Templates.{rules_at, policies_at, is_unique, servant_name}
 use Rattle.poa_history.specs.Turns.{activation_numbered}
 use Rattle.poa_tree.proofs.Members.{image_in}
 use Rattle.poa_history.proofs.LegalSound.{legal_sound}

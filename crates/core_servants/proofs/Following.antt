@@ -10,12 +10,12 @@ use Rattle.poa_base.specs.declared.Entry.{Entry}
 use Rattle.poa_base.specs.declared.Entry.TheVariants.{Entered, Arrive, Filled, Left, Collect, Admit, Tried, Incarnated, Run, Done, TakeOut, Etherealized, Abandon}
 use Rattle.poa_base.specs.declared.Incarnation.{Incarnation}
 use Rattle.poa_base.specs.declared.Incarnation.TheVariants.{Fresh, Named, Double, Forward, Raise}
-use Rattle.poa_history.specs.declared.stage.Stage.{Stage}
-use Rattle.poa_history.specs.declared.stage.Stage.TheVariants.{Free, Trying, Incarnating, Serving, Ran, Removing}
+use Rattle.history_standing.specs.declared.stage.Stage.{Stage}
+use Rattle.history_standing.specs.declared.stage.Stage.TheVariants.{Free, Trying, Incarnating, Serving, Ran, Removing}
 use Rattle.poa_history.specs.Changes.{standing}
 use Rattle.poa_history.specs.Legal.{IsLegal}
-use Rattle.poa_history.specs.Stages.{stage}
-use Rattle.poa_history.specs.Standings.{Standing}
+use Rattle.history_standing.specs.Stages.{stage}
+use Rattle.history_standing.specs.Standings.{Standing}
 use Rattle.poa_history.specs.States.{acted, call_run, servant_run, state_of}
 use Rattle.core_servants.specs.Comes.{Comes, HoldsThen, TellsThen, outcome_told, worker_of}
 use Rattle.core_servants.specs.Holds.{Holds}

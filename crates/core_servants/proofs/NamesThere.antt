@@ -23,17 +23,17 @@ use Rattle.poa_choose.specs.Table.{first_row}
 use Rattle.poa_tree.specs.Paths.{same_path}
 use Rattle.poa_tree.specs.declared.node.Node.{Node}
 use Rattle.poa_history.specs.Alone.{IsGivenAlone}
-use Rattle.poa_history.specs.Arrivals.{call_of}
+use Rattle.history_standing.specs.Arrivals.{call_of}
 use Rattle.poa_history.specs.Changes.{standing}
-use Rattle.poa_history.specs.Commands.{command_verdict, live_at, with_servant, preset_row, refusal, good}
+use Rattle.history_standing.specs.Commands.{command_verdict, live_at, with_servant, preset_row, refusal, good}
 use Rattle.poa_history.specs.Legal.{IsLegal, MayFollow}
-use Rattle.poa_history.specs.Logs.{command_done, command_in, is_accepted, preset_by, preset_of}
-use Rattle.poa_history.specs.Rules.{located, located_by, rule_for}
+use Rattle.history_standing.specs.Logs.{command_done, command_in, is_accepted, preset_by, preset_of}
+use Rattle.history_standing.specs.Rules.{located, located_by, rule_for}
 use Rattle.poa_history.specs.Situations.{facts_of, key_or_none}
-use Rattle.poa_history.specs.Keys.{key_in}
-use Rattle.poa_history.specs.Stages.{admitted, arrival_in, is_at, stage}
-use Rattle.poa_history.specs.Standings.{Standing}
-use Rattle.poa_history.specs.Templates.{policies_at, rules_at, servant_name, servant_number, template_or_root, uses_default_servant}
+use Rattle.history_standing.specs.Keys.{key_in}
+use Rattle.history_standing.specs.Stages.{admitted, arrival_in, is_at, stage}
+use Rattle.history_standing.specs.Standings.{Standing}
+use Rattle.history_standing.specs.Templates.{policies_at, rules_at, servant_name, servant_number, template_or_root, uses_default_servant}
 use Rattle.poa_history.specs.Verdicts.{verdict_on}
 use Rattle.poa_history.proofs.CommandAnswers.{is_begin, begin_keyed}
 use Rattle.poa_history.proofs.StepMoves.{admitted_for, chosen_go}

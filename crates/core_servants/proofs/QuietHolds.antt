@@ -10,20 +10,20 @@ use Rattle.poa_base.specs.declared.Entry.{Entry}
 use Rattle.poa_base.specs.declared.Entry.TheVariants.{Entered, Arrive, Filled, Left, Collect, Admit, Tried, Incarnated, Run, Done, TakeOut, Etherealized, Abandon}
 use Rattle.poa_base.specs.declared.Incarnation.TheVariants.{Fresh, Named, Double, Forward as ForwardTo, Raise}
 use Rattle.poa_base.specs.Store.{Slots, IsReserved}
-use Rattle.poa_history.specs.declared.activation.Activation.{Activation}
+use Rattle.history_standing.specs.declared.activation.Activation.{Activation}
 use Rattle.poa_tree.specs.Trees.{In}
 use Rattle.poa_history.specs.Bounds.{IsWithinLimits}
 use Rattle.poa_history.specs.Changes.{standing}
 use Rattle.poa_history.specs.Later.{IsLater}
 use Rattle.poa_history.specs.Legal.{IsLegal}
 use Rattle.poa_history.specs.Sound.{IsGiven, IsSound}
-use Rattle.poa_history.specs.Standings.{Standing}
+use Rattle.history_standing.specs.Standings.{Standing}
 use Rattle.poa_history.specs.States.{Stored, state_of, stored}
 use Rattle.poa_history.proofs.LegalSound.{legal_sound}
-use Rattle.poa_history.proofs.OutIs.{same_test}
 use Rattle.core_servants.specs.Holds.{Holds, keeps_fresh, is_kept}
 use Rattle.core_servants.specs.Kept.{Kept, fresh_at, state_in, stored_in}
 use Rattle.core_servants.proofs.FreshFrom.{IsComing, Tells, kept, comes, fresh_from, fresh_to, kept_is, kept_by}
+use Rattle.history_standing.proofs.Tests.{same_test}
 
 abbrev pub leaves_fresh : Entry → Bool
 leaves_fresh (Incarnated w (Fresh n)) = false

@@ -9,9 +9,9 @@ use Rattle.poa_base.specs.declared.Verdict.{Verdict}
 use Rattle.poa_base.specs.declared.Verdict.TheVariants.{Serve, Preset, Locator, Incarnate, Try, Refuse, Forward, Addressing, Here, Unknown, Answer, Wait}
 use Rattle.poa_choose.specs.Laws.{runs}
 use Rattle.poa_choose.specs.declared.Choice.TheVariants.{Go}
-use Rattle.poa_history.specs.declared.activation.Activation.{Activation}
-use Rattle.poa_history.specs.declared.activation.Phase.TheVariants.{Complete}
-use Rattle.poa_history.specs.declared.stage.Stage.TheVariants.{Serving}
+use Rattle.history_standing.specs.declared.activation.Activation.{Activation}
+use Rattle.history_standing.specs.declared.activation.Phase.TheVariants.{Complete}
+use Rattle.history_standing.specs.declared.stage.Stage.TheVariants.{Serving}
 use Rattle.poa_tree.specs.Trees.{In}
 use Rattle.poa_history.specs.Alone.{IsGivenAlone}
 use Rattle.poa_history.specs.Bounds.{IsWithinLimits}
@@ -19,10 +19,10 @@ use Rattle.poa_history.specs.Changes.{standing}
 use Rattle.poa_history.specs.InFlight.{Holds as HoldsAt, IsRunning, named}
 use Rattle.poa_history.specs.Legal.{IsLegal}
 use Rattle.poa_history.specs.Sound.{IsGiven, IsSound}
-use Rattle.poa_history.specs.Stages.{stage}
-use Rattle.poa_history.specs.Standings.{Standing}
+use Rattle.history_standing.specs.Stages.{stage}
+use Rattle.history_standing.specs.Standings.{Standing}
 use Rattle.poa_history.specs.States.{servant_by, servant_of_activation}
-use Rattle.poa_history.specs.Templates.{servant_number}
+use Rattle.history_standing.specs.Templates.{servant_number}
 use Rattle.poa_history.specs.Turns.{activation_numbered}
 use Rattle.poa_history.proofs.LegalSound.{legal_sound}
 use Rattle.poa_history.proofs.MannedKept.{all_manned}

@@ -18,21 +18,21 @@ use Rattle.poa_base.specs.Store as slots
 use Rattle.poa_base.specs.Store.{IsReserved, place_cmp, with_state}
 use Rattle.poa_base.proofs.Shelves.{place_total, same_place}
 use Rattle.poa_base.proofs.Stored.{stored-with_state, reserved-insert}
-use Rattle.poa_history.specs.declared.activation.Activation.{Activation}
-use Rattle.poa_history.specs.declared.activation.Phase.{Phase}
-use Rattle.poa_history.specs.declared.activation.Phase.TheVariants.{Begun, Complete, Void}
-use Rattle.poa_history.specs.declared.stage.Stage.TheVariants.{Removing}
+use Rattle.history_standing.specs.declared.activation.Activation.{Activation}
+use Rattle.history_standing.specs.declared.activation.Phase.{Phase}
+use Rattle.history_standing.specs.declared.activation.Phase.TheVariants.{Begun, Complete, Void}
+use Rattle.history_standing.specs.declared.stage.Stage.TheVariants.{Removing}
 use Rattle.poa_tree.specs.Paths.{same_bytes, same_path}
 use Rattle.poa_tree.specs.Trees.{In}
 use Rattle.poa_history.specs.Alone.{IsGivenAlone}
 use Rattle.poa_history.specs.Bounds.{IsWithinLimits}
 use Rattle.poa_history.specs.Changes.{standing, changed, with_etherealized, at_number}
-use Rattle.poa_history.specs.Ends.{let_out}
+use Rattle.history_standing.specs.Ends.{let_out}
 use Rattle.poa_history.specs.InFlight as flying
 use Rattle.poa_history.specs.Legal.{IsLegal}
 use Rattle.poa_history.specs.Sound.{IsGiven, IsSound}
-use Rattle.poa_history.specs.Stages.{stage}
-use Rattle.poa_history.specs.Standings.{Standing}
+use Rattle.history_standing.specs.Stages.{stage}
+use Rattle.history_standing.specs.Standings.{Standing}
 use Rattle.poa_history.specs.States.{Stored, state_of, stored, is_stored_by, fresh_only}
 use Rattle.poa_history.specs.Turns.{activation_numbered}
 use Rattle.poa_tree.proofs.Finding.{path_same, same_path_self}
@@ -41,7 +41,6 @@ use Rattle.poa_tree.proofs.Members.{image_in}
 use Rattle.poa_history.proofs.AloneKept.{stands_alone}
 use Rattle.poa_history.proofs.LegalSound.{legal_sound}
 use Rattle.poa_history.proofs.MannedKept.{all_manned}
-use Rattle.poa_history.proofs.OutIs.{same_test}
 use Rattle.poa_history.proofs.TurnTells.{removal_is}
 use Rattle.core_servants.specs.Holds.{Holds, is_fresh, keeps_fresh, is_kept}
 use Rattle.core_servants.specs.Kept.{Kept, fresh_at}
@@ -49,6 +48,7 @@ use Rattle.core_servants.specs.Steps.{Etherealizes, HasRoom, IsStored, Stores, f
 use Rattle.core_servants.proofs.FreshFrom.{kept, comes, fresh_from, found_activation, kept_is, kept_by, keeps_from, keeps_parts}
 use Rattle.core_servants.proofs.QuietHolds.{kept_where, room_later}
 use Rattle.core_servants.proofs.BroughtHolds.{let_out_keeps}
+use Rattle.history_standing.proofs.Tests.{same_test}
 
 equal_is : (r : Ordering) → is_eq r ≡ true → r ≡ Equal
 equal_is Equal is = refl

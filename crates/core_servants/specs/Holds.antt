@@ -5,12 +5,12 @@ use Rattle.poa_names.specs.declared.State.{State}
 use Rattle.poa_names.specs.declared.Sid.TheVariants.{Named as NamedServant, Fresh as FreshServant}
 use Rattle.poa_base.specs.declared.Entry.{Entry}
 use Rattle.poa_base.specs.Store.{IsReserved}
-use Rattle.poa_history.specs.declared.activation.Activation.{Activation}
-use Rattle.poa_history.specs.declared.activation.Phase.{Phase}
-use Rattle.poa_history.specs.declared.activation.Phase.TheVariants.{Begun, Complete, Void}
+use Rattle.history_standing.specs.declared.activation.Activation.{Activation}
+use Rattle.history_standing.specs.declared.activation.Phase.{Phase}
+use Rattle.history_standing.specs.declared.activation.Phase.TheVariants.{Begun, Complete, Void}
 use Rattle.poa_tree.specs.Trees.{In}
 use Rattle.poa_history.specs.Changes.{standing}
-use Rattle.poa_history.specs.Standings.{Standing}
+use Rattle.history_standing.specs.Standings.{Standing}
 use Rattle.poa_history.specs.States.{Stored, state_of, stored}
 use Rattle.poa_history.specs.Turns.{activation_numbered}
 use Rattle.core_servants.specs.Kept.{Kept, fresh_at, state_in, stored_in}

@@ -4,7 +4,7 @@ use Rattle.poa_base.specs.declared.Config.{Config}
 use Rattle.poa_base.specs.declared.Entry.{Entry}
 use Rattle.poa_names.specs.declared.Sid.{Sid}
 use Rattle.poa_history.specs.States.{servant_run}
-use Rattle.poa_history.specs.declared.stage.Stage.TheVariants.{Serving}
+use Rattle.history_standing.specs.declared.stage.Stage.TheVariants.{Serving}
 
 -- a worker that serves the arrival has a servant to run
 abbrev pub HasServant : Config → ℕ → List Entry → ℕ → Type 0

@@ -9,12 +9,12 @@ use Rattle.poa_names.specs.declared.Sid.TheVariants.{Named as NamedServant, Fres
 use Rattle.poa_base.specs.declared.Incarnation.{Incarnation}
 use Rattle.poa_base.specs.declared.Incarnation.TheVariants.{Fresh}
 use Rattle.poa_base.specs.Store.{IsReserved, with_room, with_state}
-use Rattle.poa_history.specs.declared.activation.Activation.{Activation}
-use Rattle.poa_history.specs.declared.activation.Phase.{Phase}
-use Rattle.poa_history.specs.declared.activation.Phase.TheVariants.{Begun, Complete, Void}
-use Rattle.poa_history.specs.declared.stage.Stage.{Stage}
-use Rattle.poa_history.specs.declared.stage.Stage.TheVariants.{Removing}
-use Rattle.poa_history.specs.Standings.{Standing}
+use Rattle.history_standing.specs.declared.activation.Activation.{Activation}
+use Rattle.history_standing.specs.declared.activation.Phase.{Phase}
+use Rattle.history_standing.specs.declared.activation.Phase.TheVariants.{Begun, Complete, Void}
+use Rattle.history_standing.specs.declared.stage.Stage.{Stage}
+use Rattle.history_standing.specs.declared.stage.Stage.TheVariants.{Removing}
+use Rattle.history_standing.specs.Standings.{Standing}
 use Rattle.poa_history.specs.States.{acted, is_servant, kind_brought, restored}
 use Rattle.poa_history.specs.Turns.{activation_numbered}
 use Rattle.core_servants.specs.Kept.{Kept, fresh_at, state_in, stored_in}

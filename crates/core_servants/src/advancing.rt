@@ -10,8 +10,8 @@ use crate::bringing::incarnate;
 use crate::etherealizing::etherealize;
 use crate::servants::Servants;
 use core_queries::Standing;
+use history_standing::Stage;
 use poa_base::{Call, Config, Entry, Outcome, Sid, WantMemory};
-use poa_history::Stage;
 use std::alloc::Global;
 
 /// The servants follow an entry: at a Run the servant that runs acts, and the answer is its outcome; at the

@@ -9,8 +9,8 @@ use crate::kinds::{kind_brought, restored};
 use crate::servants::Servants;
 use core_queries::Standing;
 use core_queries::searches::activation_numbered;
+use history_standing::Activation;
 use poa_base::{Config, Incarnation, WantMemory};
-use poa_history::Activation;
 use servant_kinds::Servant;
 use std::alloc::Global;
 

@@ -7,8 +7,8 @@ ghost use Rattle.core_servants.specs.Steps as steps;
 use crate::servants::Servants;
 use core_queries::Standing;
 use core_queries::searches::activation_numbered;
+use history_standing::{Activation, Phase, Stage};
 use poa_base::Sid;
-use poa_history::{Activation, Phase, Stage};
 
 /// The number of the fresh servant of an activation.
 fn fresh_number(phase: Phase) -> Option<u32>

@@ -4,8 +4,8 @@ ghost use Rattle.poa_history.specs.States as states;
 
 use active_map::templates::rules_at;
 use core_queries::rules::rule_for;
+use history_standing::Activation;
 use poa_base::{Config, Gives, Items, Kind, State, TryClone, WantMemory};
-use poa_history::Activation;
 use std::alloc::Global;
 
 /// The kind of the fresh servants that an activation's rule brings.

@@ -7,8 +7,8 @@ ghost use Rattle.core_queries.specs.Seen.{seen};
 use active_map::templates::servant_number;
 use core_queries::Standing;
 use core_queries::searches::activation_numbered;
+use history_standing::{Activation, Phase};
 use poa_base::{Config, Name, Sid, Verdict, WantMemory};
-use poa_history::{Activation, Phase};
 
 /// The servant of an activation.
 fn servant_of(activation: Option<&Activation>) -> Option<Sid>

@@ -6,7 +6,7 @@ use Rattle.poa_base.specs.declared.Config.{Config}
 use Rattle.poa_base.specs.declared.ManagerConf.{ManagerConf}
 use Rattle.poa_names.specs.declared.ManagerState.TheVariants.{Holding}
 use Rattle.core_settings.specs.States.{start_states, state_at}
-use Rattle.poa_history.specs.Logs.{start_of}
+use Rattle.history_standing.specs.Logs.{start_of}
 use Rattle.core_settings.specs.Told.{Tells}
 
 configured : (ms : List ManagerConf) (k : ℕ)

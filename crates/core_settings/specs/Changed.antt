@@ -2,7 +2,7 @@
 use Rattle.std.specs.Prelude.{◌≡◌, ℕ, suc, List, length, Option, Some, None}
 use Rattle.poa_base.specs.declared.Config.{Config}
 use Rattle.poa_base.specs.declared.Command.{Command}
-use Rattle.poa_history.specs.Logs.{order_for, ordered_state, preset_by, endpoint_by}
+use Rattle.history_standing.specs.Logs.{order_for, ordered_state, preset_by, endpoint_by}
 use Rattle.core_settings.specs.declared.settings.Settings.{Settings}
 use Rattle.core_settings.specs.Told.{state_in, preset_in, endpoint_in}
 

@@ -1,7 +1,7 @@
 //! The default servants of paths.
 ghost use Rattle.std.specs.Prelude.{◌≡◌, [], OnOk, OnErr, option_copied, option_map, position};
 ghost use Rattle.poa_tree.specs.Paths.{same_path};
-ghost use Rattle.poa_history.specs.Logs as logs;
+ghost use Rattle.history_standing.specs.Logs as logs;
 ghost use Rattle.core_settings.specs.Told.{IsPresetSet, preset_in, preset_row};
 
 use crate::settings::Settings;

@@ -1,7 +1,7 @@
 //! What the administrator's commands have set.
 ghost use Rattle.std.specs.Prelude.{◌≡◌, ◌∷◌, [], List, false, reverse, option_copied, IfOk, IsOk, OnOk, OnErr};
 ghost use Rattle.poa_base.specs.declared.Entry.{Entry};
-ghost use Rattle.poa_history.specs.Logs as logs;
+ghost use Rattle.history_standing.specs.Logs as logs;
 ghost use Rattle.core_settings.specs.Told.{Tells, may_grow};
 ghost use Rattle.core_settings.specs.Changed.{Follows};
 

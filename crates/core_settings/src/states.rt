@@ -2,7 +2,7 @@
 ghost use Rattle.std.specs.Prelude.{◌≡◌, ℕ, suc, Some, length, option_copied};
 ghost use Rattle.poa_base.specs.declared.Command.{Command};
 ghost use Rattle.core_settings.specs.States.{state_at};
-ghost use Rattle.poa_history.specs.Logs as logs;
+ghost use Rattle.history_standing.specs.Logs as logs;
 ghost use Rattle.core_settings.specs.Told as told;
 
 use crate::managers::Managers;

@@ -26,20 +26,20 @@ use Rattle.poa_tree.specs.Paths.{is_root}
 use Rattle.poa_tree.specs.Trees.{In}
 use Rattle.poa_tree.specs.Walks.{walk, adapter_met}
 use Rattle.poa_tree.proofs.Members.{in_front, in_back, in_either, in_image, image_in}
-use Rattle.poa_history.specs.declared.activation.Activation.{Activation}
-use Rattle.poa_history.specs.declared.activation.Phase.{Phase}
-use Rattle.poa_history.specs.declared.activation.Phase.TheVariants.{Begun, Complete, Void}
-use Rattle.poa_history.specs.declared.stage.Stage.{Stage}
-use Rattle.poa_history.specs.declared.stage.Stage.TheVariants.{Free, Trying, Incarnating, Serving, Ran, Removing}
-use Rattle.poa_history.specs.Arrivals.{call_of}
-use Rattle.poa_history.specs.Stages.{stage, arrival_in}
-use Rattle.poa_history.specs.Standings.{Standing, is_of, is_void, is_complete, is_mapped, has_servant}
-use Rattle.poa_history.specs.Templates.{has_activator, manager_at, manager_number, servant_number, policies_at, retains, is_unique, activates_implicitly}
-use Rattle.poa_history.specs.Ends.{is_over, is_finished, is_done_with, let_out, settled}
-use Rattle.poa_history.specs.Keys.{key_in}
-use Rattle.poa_history.specs.Logs.{command_done}
-use Rattle.poa_history.specs.Opening.{with_activation, with_made, made_id, number_at}
-use Rattle.poa_history.specs.Commands.{is_implicit, live_at}
+use Rattle.history_standing.specs.declared.activation.Activation.{Activation}
+use Rattle.history_standing.specs.declared.activation.Phase.{Phase}
+use Rattle.history_standing.specs.declared.activation.Phase.TheVariants.{Begun, Complete, Void}
+use Rattle.history_standing.specs.declared.stage.Stage.{Stage}
+use Rattle.history_standing.specs.declared.stage.Stage.TheVariants.{Free, Trying, Incarnating, Serving, Ran, Removing}
+use Rattle.history_standing.specs.Arrivals.{call_of}
+use Rattle.history_standing.specs.Stages.{stage, arrival_in}
+use Rattle.history_standing.specs.Standings.{Standing, is_of, is_void, is_complete, is_mapped, has_servant}
+use Rattle.history_standing.specs.Templates.{has_activator, manager_at, manager_number, servant_number, policies_at, retains, is_unique, activates_implicitly}
+use Rattle.history_standing.specs.Ends.{is_over, is_finished, is_done_with, let_out, settled}
+use Rattle.history_standing.specs.Keys.{key_in}
+use Rattle.history_standing.specs.Logs.{command_done}
+use Rattle.history_standing.specs.Opening.{with_activation, with_made, made_id, number_at}
+use Rattle.history_standing.specs.Commands.{is_implicit, live_at}
 use Rattle.poa_history.specs.Changes.{changed, with_activations, with_request, with_incarnation, with_admitted, ended_by_destroy, with_destroyed, with_manager_off, with_deactivated, servant_of, with_made_activation, with_reference, with_command, child_tried, with_child, without_flight, with_tried, at_number, come_to, with_incarnated, is_elsewhere, with_takeout, with_etherealized}
 use Rattle.poa_history.specs.Later.{IsLater}
 use Rattle.poa_history.proofs.ActivationsLater.{later_self, later_ended, later_ending, later_out, later_told, later_come, later_let_out}

@@ -9,10 +9,10 @@ use Rattle.poa_tree.specs.Nodes.{stands_under}
 use Rattle.poa_tree.specs.Paths.{leads_to, is_root}
 use Rattle.poa_tree.specs.Trees.{In}
 use Rattle.poa_tree.proofs.Leading.{leads_self}
-use Rattle.poa_history.specs.declared.activation.Activation.{Activation}
-use Rattle.poa_history.specs.declared.flight.Flight.{Flight}
-use Rattle.poa_history.specs.Ends.{is_over, is_clear, is_done_with}
-use Rattle.poa_history.specs.Standings.{Standing}
+use Rattle.history_standing.specs.declared.activation.Activation.{Activation}
+use Rattle.history_standing.specs.declared.flight.Flight.{Flight}
+use Rattle.history_standing.specs.Ends.{is_over, is_clear, is_done_with}
+use Rattle.history_standing.specs.Standings.{Standing}
 use Rattle.poa_history.proofs.SettledKept.{none_by, not_true}
 use Rattle.core_queries.proofs.Kept.{any_kept}
 

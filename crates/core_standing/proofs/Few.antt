@@ -7,12 +7,12 @@ use Rattle.poa_base.specs.declared.Entry.{Entry}
 use Rattle.poa_base.specs.declared.Entry.TheVariants.{Entered, Arrive, Filled, Left, Collect, Admit, Tried, Incarnated, Run, Done, TakeOut, Etherealized, Abandon}
 use Rattle.poa_base.specs.declared.Incarnation.{Incarnation}
 use Rattle.poa_base.specs.declared.Incarnation.TheVariants.{Fresh, Named, Double, Forward, Raise}
-use Rattle.poa_history.specs.declared.stage.Stage.{Stage}
-use Rattle.poa_history.specs.declared.stage.Stage.TheVariants.{Free, Trying, Incarnating, Serving, Ran, Removing}
+use Rattle.history_standing.specs.declared.stage.Stage.{Stage}
+use Rattle.history_standing.specs.declared.stage.Stage.TheVariants.{Free, Trying, Incarnating, Serving, Ran, Removing}
 use Rattle.poa_history.specs.Changes.{changed, with_incarnated, with_etherealized}
-use Rattle.poa_history.specs.Ends.{settled, let_out}
-use Rattle.poa_history.specs.Stages.{stage, arrival_in}
-use Rattle.poa_history.specs.Standings.{Standing}
+use Rattle.history_standing.specs.Ends.{settled, let_out}
+use Rattle.history_standing.specs.Stages.{stage, arrival_in}
+use Rattle.history_standing.specs.Standings.{Standing}
 use Rattle.poa_history.proofs.LivesKept.{as_many, one_more, changed_shape}
 use Rattle.poa_history.proofs.Untouched.{activations_fewer, activations_tried}
 use Rattle.core_standing.specs.Entries.{may_begin}

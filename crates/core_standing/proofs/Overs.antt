@@ -11,17 +11,17 @@ use Rattle.poa_base.specs.declared.Entry.{Entry}
 use Rattle.poa_base.specs.declared.Entry.TheVariants.{Entered, Arrive, Filled, Left, Collect, Admit, Tried, Incarnated, Run, Done, TakeOut, Etherealized, Abandon}
 use Rattle.poa_tree.specs.Trees.{In}
 use Rattle.poa_tree.proofs.Members.{in_either, in_image}
-use Rattle.poa_history.specs.declared.activation.Activation.{Activation}
-use Rattle.poa_history.specs.Arrivals.{call_of}
+use Rattle.history_standing.specs.declared.activation.Activation.{Activation}
+use Rattle.history_standing.specs.Arrivals.{call_of}
 use Rattle.poa_history.specs.Changes.{changed, with_admitted, with_command}
-use Rattle.poa_history.specs.Ends.{is_left, is_over, let_out, settled}
-use Rattle.poa_history.specs.Keys.{key_in}
-use Rattle.poa_history.specs.Opening.{opening}
-use Rattle.poa_history.specs.Templates.{has_activator}
-use Rattle.poa_history.specs.declared.activation.Phase.TheVariants.{Begun, Complete, Void}
+use Rattle.history_standing.specs.Ends.{is_left, is_over, let_out, settled}
+use Rattle.history_standing.specs.Keys.{key_in}
+use Rattle.history_standing.specs.Opening.{opening}
+use Rattle.history_standing.specs.Templates.{has_activator}
+use Rattle.history_standing.specs.declared.activation.Phase.TheVariants.{Begun, Complete, Void}
 use Rattle.poa_history.proofs.AloneKept.{all_open}
-use Rattle.poa_history.specs.Logs.{command_in}
-use Rattle.poa_history.specs.Standings.{Standing}
+use Rattle.history_standing.specs.Logs.{command_in}
+use Rattle.history_standing.specs.Standings.{Standing}
 use Rattle.poa_history.proofs.GoneIs.{any_in}
 use Rattle.poa_history.proofs.SettledKept.{none_by}
 use Rattle.core_queries.specs.declared.standing.Standing.{Standing as Held}

@@ -14,18 +14,18 @@ use Rattle.poa_tree.specs.Nodes.{stands_under}
 use Rattle.poa_tree.specs.Paths.{is_root}
 use Rattle.poa_tree.specs.Trees.{In}
 use Rattle.poa_tree.proofs.Members.{in_kept, in_image, in_either}
-use Rattle.poa_history.specs.declared.activation.Activation.{Activation}
-use Rattle.poa_history.specs.declared.activation.Phase.{Phase}
-use Rattle.poa_history.specs.declared.activation.Phase.TheVariants.{Begun}
-use Rattle.poa_history.specs.declared.flight.Flight.{Flight}
-use Rattle.poa_history.specs.Arrivals.{call_of}
+use Rattle.history_standing.specs.declared.activation.Activation.{Activation}
+use Rattle.history_standing.specs.declared.activation.Phase.{Phase}
+use Rattle.history_standing.specs.declared.activation.Phase.TheVariants.{Begun}
+use Rattle.history_standing.specs.declared.flight.Flight.{Flight}
+use Rattle.history_standing.specs.Arrivals.{call_of}
 use Rattle.poa_history.specs.Changes.{standing, changed, with_flight, with_admitted, with_command}
-use Rattle.poa_history.specs.Ends.{is_left, is_over, is_clear, let_out, settled}
-use Rattle.poa_history.specs.Keys.{key_in}
-use Rattle.poa_history.specs.Logs.{command_in}
-use Rattle.poa_history.specs.Opening.{with_activation, opening}
-use Rattle.poa_history.specs.Standings.{Standing, is_complete, is_void, is_used}
-use Rattle.poa_history.specs.Templates.{has_activator}
+use Rattle.history_standing.specs.Ends.{is_left, is_over, is_clear, let_out, settled}
+use Rattle.history_standing.specs.Keys.{key_in}
+use Rattle.history_standing.specs.Logs.{command_in}
+use Rattle.history_standing.specs.Opening.{with_activation, opening}
+use Rattle.history_standing.specs.Standings.{Standing, is_complete, is_void, is_used}
+use Rattle.history_standing.specs.Templates.{has_activator}
 use Rattle.poa_history.proofs.AloneKept.{all_open}
 use Rattle.poa_history.proofs.DyingIs.{opening_live}
 use Rattle.poa_history.proofs.SettledKept.{or_first, or_second}

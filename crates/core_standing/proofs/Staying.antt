@@ -3,25 +3,25 @@ use Rattle.std.specs.Prelude.{◌≡◌, ℕ, suc, Bool, true, false, not, ◌&&
 use Rattle.std.proofs.Common.{inl, inr, sym, ap, ap₂, subst, ◌∙◌}
 use Rattle.std.proofs.lemmas.Bool.{cases_Bool, cond_both, cond-true, cond-false, eq-eqb, eqb-true, false_from_ne_true, true≢false}
 use Rattle.poa_base.specs.declared.Config.{Config}
-use Rattle.poa_history.specs.declared.activation.Activation.{Activation}
-use Rattle.poa_history.specs.declared.flight.Flight.{Flight}
+use Rattle.history_standing.specs.declared.activation.Activation.{Activation}
+use Rattle.history_standing.specs.declared.flight.Flight.{Flight}
 use Rattle.poa_base.specs.declared.Attempt.{Attempt}
 use Rattle.poa_base.specs.declared.Attempt.TheVariants.{Yes, No, Raised, Dying}
 use Rattle.poa_base.specs.declared.Incarnation.{Incarnation}
 use Rattle.poa_base.specs.declared.Incarnation.TheVariants.{Fresh, Named, Double, Forward, Raise}
 use Rattle.poa_names.specs.declared.Sid.TheVariants.{Fresh as FreshServant, Named as NamedServant}
-use Rattle.poa_history.specs.declared.activation.Phase.{Phase}
-use Rattle.poa_history.specs.declared.activation.Phase.TheVariants.{Complete, Void}
-use Rattle.poa_history.specs.declared.stage.Stage.TheVariants.{Incarnating}
+use Rattle.history_standing.specs.declared.activation.Phase.{Phase}
+use Rattle.history_standing.specs.declared.activation.Phase.TheVariants.{Complete, Void}
+use Rattle.history_standing.specs.declared.stage.Stage.TheVariants.{Incarnating}
 use Rattle.poa_base.specs.declared.AdapterConf.{AdapterConf}
 use Rattle.poa_base.specs.declared.ObjectConf.{ObjectConf}
 use Rattle.poa_base.specs.declared.Entry.{Entry}
-use Rattle.poa_history.specs.Opening.{made_id, number_at, root_alone, with_activation, with_boots, with_made, with_node, with_object, with_objects}
+use Rattle.history_standing.specs.Opening.{made_id, number_at, root_alone, with_activation, with_boots, with_made, with_node, with_object, with_objects}
 use Rattle.poa_tree.specs.Paths.{is_root}
 use Rattle.poa_history.specs.Changes.{at_number, changed, child_tried, come_to, servant_of, standing, with_activations, with_child, with_incarnated, with_tried, without_flight}
-use Rattle.poa_history.specs.Ends.{is_left, let_out, settled}
-use Rattle.poa_history.specs.Standings.{Standing, is_begun, is_complete, is_ending, is_used}
-use Rattle.poa_history.specs.Templates.{has_activator}
+use Rattle.history_standing.specs.Ends.{is_left, let_out, settled}
+use Rattle.history_standing.specs.Standings.{Standing, is_begun, is_complete, is_ending, is_used}
+use Rattle.history_standing.specs.Templates.{has_activator}
 use Rattle.poa_tree.specs.Trees.{In}
 use Rattle.core_queries.specs.Kept.{StandsAfter}
 use Rattle.core_standing.specs.Flying.{uses}

@@ -4,13 +4,13 @@ use Rattle.std.proofs.Common.{sym, ap, ap₂, ◌∙◌}
 use Rattle.poa_base.specs.declared.Config.{Config}
 use Rattle.poa_tree.specs.declared.node.Node.{Node}
 use Rattle.poa_tree.specs.Nodes.{stands_under}
-use Rattle.poa_history.specs.declared.activation.Activation.{Activation}
-use Rattle.poa_history.specs.declared.activation.Phase.{Phase}
-use Rattle.poa_history.specs.declared.activation.Phase.TheVariants.{Begun, Complete, Void}
+use Rattle.history_standing.specs.declared.activation.Activation.{Activation}
+use Rattle.history_standing.specs.declared.activation.Phase.{Phase}
+use Rattle.history_standing.specs.declared.activation.Phase.TheVariants.{Begun, Complete, Void}
 use Rattle.poa_history.specs.Changes.{at_number, come_to, ended_by_destroy, is_elsewhere, with_activations}
-use Rattle.poa_history.specs.Ends.{is_left, let_out}
-use Rattle.poa_history.specs.Standings.{Standing, is_mapped, has_servant, is_of}
-use Rattle.poa_history.specs.Templates.{has_activator, manager_at}
+use Rattle.history_standing.specs.Ends.{is_left, let_out}
+use Rattle.history_standing.specs.Standings.{Standing, is_mapped, has_servant, is_of}
+use Rattle.history_standing.specs.Templates.{has_activator, manager_at}
 use Rattle.core_queries.specs.declared.standing.Standing.{Standing as Held}
 use Rattle.core_queries.specs.Seen.{forgotten, behind, seen}
 use Rattle.active_map.specs.Tables.{Table}

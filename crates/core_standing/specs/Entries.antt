@@ -5,11 +5,11 @@ use Rattle.poa_base.specs.declared.Entry.{Entry}
 use Rattle.poa_base.specs.declared.Entry.TheVariants.{Entered, Arrive, Filled, Left, Collect, Abandon, Admit, Tried, Incarnated, Run, Done, TakeOut, Etherealized}
 use Rattle.poa_base.specs.declared.Attempt.TheVariants.{Yes}
 use Rattle.poa_base.specs.declared.Incarnation.TheVariants.{Named}
-use Rattle.poa_history.specs.declared.stage.Stage.{Stage}
-use Rattle.poa_history.specs.declared.stage.Stage.TheVariants.{Free}
-use Rattle.poa_history.specs.Arrivals.{call_of}
-use Rattle.poa_history.specs.Logs.{is_accepted}
-use Rattle.poa_history.specs.Stages.{stage}
+use Rattle.history_standing.specs.declared.stage.Stage.{Stage}
+use Rattle.history_standing.specs.declared.stage.Stage.TheVariants.{Free}
+use Rattle.history_standing.specs.Arrivals.{call_of}
+use Rattle.history_standing.specs.Logs.{is_accepted}
+use Rattle.history_standing.specs.Stages.{stage}
 
 -- what the worker of the entry had begun
 abbrev pub stage_at : List Entry → Entry → Stage

@@ -1,6 +1,6 @@
 -- What is in flight.
 use Rattle.std.specs.Prelude.{ℕ, Bool, false, ◌==◌, Some, None}
-use Rattle.poa_history.specs.declared.flight.Flight.{Flight}
+use Rattle.history_standing.specs.declared.flight.Flight.{Flight}
 
 -- in the activation of this number
 abbrev pub uses : ℕ → Flight → Bool

@@ -1,9 +1,9 @@
 -- Which activations an entry touches.
 use Rattle.std.specs.Prelude.{◌≡◌, ℕ, Bool, true, false, not, ◌||◌, ◌==◌, List, map}
 use Rattle.poa_base.specs.declared.Config.{Config}
-use Rattle.poa_history.specs.declared.activation.Activation.{Activation}
-use Rattle.poa_history.specs.Ends.{is_done_with, is_over, let_out}
-use Rattle.poa_history.specs.Standings.{Standing}
+use Rattle.history_standing.specs.declared.activation.Activation.{Activation}
+use Rattle.history_standing.specs.Ends.{is_done_with, is_over, let_out}
+use Rattle.history_standing.specs.Standings.{Standing}
 use Rattle.poa_tree.specs.declared.node.Node.{Node}
 use Rattle.poa_tree.specs.Paths.{is_root}
 use Rattle.poa_tree.specs.Trees.{In}

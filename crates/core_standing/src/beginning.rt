@@ -1,7 +1,7 @@
 //! What stands before the first entry, and how adapters and activations are added.
 ghost use Rattle.std.specs.Prelude.{◌≡◌, ◌≤◌, ◌&&◌, false, not, length, IfOk, OnOk, OnErr};
 ghost use Rattle.poa_tree.specs.Paths.{is_root};
-ghost use Rattle.poa_history.specs.Opening as opens;
+ghost use Rattle.history_standing.specs.Opening as opens;
 ghost use Rattle.core_queries.specs.Kept.{KeepsNoneOver};
 ghost use Rattle.core_queries.specs.Seen.{seen};
 
@@ -9,8 +9,8 @@ use active_map::Activations;
 use core_queries::Standing;
 use core_queries::commands::number_at;
 use core_queries::ids::{made_id, next};
+use history_standing::{Activation, Phase};
 use poa_base::{AdapterConf, Config, ObjectConf, Oid, Path, Sid, WantMemory};
-use poa_history::{Activation, Phase};
 use poa_tree::Node;
 use std::alloc::Global;
 

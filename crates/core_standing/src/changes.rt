@@ -4,9 +4,9 @@ ghost use Rattle.std.specs.List.{list_any};
 ghost use Rattle.poa_base.specs.declared.Entry.{Entry};
 ghost use Rattle.poa_base.specs.declared.Entry.TheVariants.{Incarnated, Tried};
 ghost use Rattle.poa_history.specs.Changes as changes;
-ghost use Rattle.poa_history.specs.Ends.{is_over};
-ghost use Rattle.poa_history.specs.Keys as keys;
-ghost use Rattle.poa_history.specs.Logs.{command_in as command_of, is_accepted as accepts};
+ghost use Rattle.history_standing.specs.Ends.{is_over};
+ghost use Rattle.history_standing.specs.Keys as keys;
+ghost use Rattle.history_standing.specs.Logs.{command_in as command_of, is_accepted as accepts};
 ghost use Rattle.core_standing.specs.Entries as entries;
 ghost use Rattle.core_queries.specs.Kept.{KeepsNoneOver, StandsAfter};
 ghost use Rattle.core_queries.specs.Seen.{seen};
@@ -23,8 +23,8 @@ use core_queries::calls::call_of;
 use core_queries::commands::{command_in, is_accepted};
 use core_queries::keys::key_in;
 use core_queries::workers::{arrival_in, stage};
+use history_standing::{Phase, Stage};
 use poa_base::{Attempt, Call, Config, Entry, Incarnation, Path, Sid, Verdict, WantMemory};
-use poa_history::{Phase, Stage};
 use std::alloc::Global;
 
 /// The path of the missing child for which the arrival is tried, copied.

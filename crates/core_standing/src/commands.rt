@@ -1,7 +1,7 @@
 //! What a command that is done changes. Either all of it is changed or nothing.
 ghost use Rattle.std.specs.Prelude.{◌≡◌, ℕ, ◌≤◌, ◌^◌, length, Some, None, if◌then◌else◌, option_copied, IfOk, IsOk, OnOk, OnErr};
 ghost use Rattle.poa_history.specs.Changes as changes;
-ghost use Rattle.poa_history.specs.Templates.{manager_number as number_of_manager};
+ghost use Rattle.history_standing.specs.Templates.{manager_number as number_of_manager};
 ghost use Rattle.core_queries.specs.Seen.{seen};
 
 use crate::beginning::{add_activation, add_node};
@@ -10,8 +10,8 @@ use active_map::templates::{manager_number, servant_number};
 use core_queries::Standing;
 use core_queries::commands::{is_implicit, live_at, number_at};
 use core_queries::ids::{made_id, next};
+use history_standing::Phase;
 use poa_base::{Command, Config, Name, Order, Path, Sid, WantMemory};
-use poa_history::Phase;
 use std::alloc::Global;
 
 /// The phase of an activation that this servant completes. Fails where the servant's number has more than 32

@@ -7,9 +7,9 @@ use crate::beginning::begun;
 use active_map::flights::flight_of;
 use core_queries::Standing;
 use core_queries::keys::walk_to;
+use history_standing::{Flight, Phase};
 use object_key::KeyView;
 use poa_base::{Name, Path, Verdict, WantMemory};
-use poa_history::{Flight, Phase};
 use poa_tree::walks::{adapter_met, child_met, walk};
 use std::alloc::Global;
 

@@ -5,7 +5,7 @@ ghost use Rattle.poa_history.specs.Changes as changes;
 ghost use Rattle.core_queries.specs.Seen.{seen};
 
 use core_queries::Standing;
-use poa_history::Phase;
+use history_standing::Phase;
 
 /// The activation that is being incarnated has come so far.
 pub fn complete(standing: &mut Standing, number: u32, phase: Phase)

@@ -1,10 +1,10 @@
 //! What has ended goes. Each change is made in place and takes no memory.
 ghost use Rattle.std.specs.Prelude.{◌≡◌, ℕ, false, true, map};
-ghost use Rattle.poa_history.specs.Ends as ends;
+ghost use Rattle.history_standing.specs.Ends as ends;
 ghost use Rattle.core_queries.specs.Seen.{seen};
 ghost use Rattle.core_standing.specs.Touched.{Lasts, Others, is_touched, left};
 ghost use Rattle.core_standing.specs.declared.touched.Touched.TheVariants.{One};
-ghost use Rattle.poa_history.specs.declared.activation.Activation.{Activation};
+ghost use Rattle.history_standing.specs.declared.activation.Activation.{Activation};
 ghost use Rattle.poa_tree.specs.Trees.{In};
 
 use crate::touched::Touched;

@@ -4,16 +4,16 @@ ghost use Rattle.poa_base.specs.declared.Config.{Config as Conf};
 ghost use Rattle.poa_base.specs.declared.Entry.{Entry as EntryOf};
 ghost use Rattle.poa_base.specs.declared.Incarnation.{Incarnation as Answered};
 ghost use Rattle.poa_history.specs.Changes as changes;
-ghost use Rattle.poa_history.specs.Standings.{Standing as Stood};
+ghost use Rattle.history_standing.specs.Standings.{Standing as Stood};
 ghost use Rattle.core_standing.specs.Entries as entries;
-ghost use Rattle.poa_history.specs.declared.flight.Flight.{Flight as Flown};
+ghost use Rattle.history_standing.specs.declared.flight.Flight.{Flight as Flown};
 ghost use Rattle.poa_tree.specs.Trees.{In};
 ghost use Rattle.core_standing.specs.Touched.{Others, SameOthers, Still, is_touched};
 ghost use Rattle.core_standing.specs.Flying.{uses};
 
 use core_queries::workers::arrival_in;
+use history_standing::{Flight, Stage};
 use poa_base::Entry;
-use poa_history::{Flight, Stage};
 
 /// Which activations an entry touches: each other one stays where it is. It may say more than it has to.
 #[derive(Clone, Copy, Debug, Drop)]

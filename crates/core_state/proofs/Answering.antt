@@ -12,21 +12,21 @@ use Rattle.poa_base.specs.declared.Verdict.TheVariants.{Serve, Preset, Locator, 
 use Rattle.poa_choose.specs.declared.MapFact.TheVariants.{Active, Busy, Free}
 use Rattle.poa_tree.specs.Nodes.{stands_under}
 use Rattle.poa_tree.specs.Trees.{In}
-use Rattle.poa_history.specs.declared.activation.Activation.{Activation}
-use Rattle.poa_history.specs.declared.stage.Stage.TheVariants.{Serving}
+use Rattle.history_standing.specs.declared.activation.Activation.{Activation}
+use Rattle.history_standing.specs.declared.stage.Stage.TheVariants.{Serving}
 use Rattle.poa_history.specs.Alone.{IsGivenAlone}
 use Rattle.poa_history.specs.Bounds.{IsWithinLimits}
 use Rattle.poa_history.specs.Changes.{standing}
-use Rattle.poa_history.specs.Ends.{is_over, is_clear, is_done_with, is_gone}
+use Rattle.history_standing.specs.Ends.{is_over, is_clear, is_done_with, is_gone}
 use Rattle.poa_history.specs.InFlight.{named}
 use Rattle.poa_history.specs.Legal.{IsLegal}
 use Rattle.poa_history.specs.Settling.{are_ended}
 use Rattle.poa_history.specs.Situations.{slot_of, is_unfinished, is_changing}
 use Rattle.poa_history.specs.Sound.{IsGiven, IsSound}
-use Rattle.poa_history.specs.Stages.{stage, admitted}
-use Rattle.poa_history.specs.Standings.{Standing, is_active, is_complete, is_ending, is_mapped, has_servant, is_of, is_in_map, is_used}
+use Rattle.history_standing.specs.Stages.{stage, admitted}
+use Rattle.history_standing.specs.Standings.{Standing, is_active, is_complete, is_ending, is_mapped, has_servant, is_of, is_in_map, is_used}
 use Rattle.poa_history.specs.States.{servant_by, servant_of_activation}
-use Rattle.poa_history.specs.Templates.{has_activator, manager_at}
+use Rattle.history_standing.specs.Templates.{has_activator, manager_at}
 use Rattle.poa_history.specs.Turns.{activation_numbered, is_due, removal}
 use Rattle.poa_history.proofs.LegalSound.{legal_sound}
 use Rattle.poa_history.proofs.MannedKept.{all_manned}

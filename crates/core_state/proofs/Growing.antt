@@ -7,12 +7,12 @@ use Rattle.poa_base.specs.declared.Command.TheVariants.{Manager, Create, Destroy
 use Rattle.poa_base.specs.declared.Verdict.{Verdict}
 use Rattle.poa_base.specs.declared.Entry.{Entry}
 use Rattle.poa_base.specs.declared.Entry.TheVariants.{Admit}
-use Rattle.poa_history.specs.Arrivals.{call_of}
+use Rattle.history_standing.specs.Arrivals.{call_of}
 use Rattle.poa_history.specs.Changes.{standing, with_command, with_admitted}
-use Rattle.poa_history.specs.Ends.{settled}
-use Rattle.poa_history.specs.Keys.{key_in}
-use Rattle.poa_history.specs.Logs.{is_accepted, command_in, command_done}
-use Rattle.poa_history.specs.Standings.{Standing}
+use Rattle.history_standing.specs.Ends.{settled}
+use Rattle.history_standing.specs.Keys.{key_in}
+use Rattle.history_standing.specs.Logs.{is_accepted, command_in, command_done}
+use Rattle.history_standing.specs.Standings.{Standing}
 use Rattle.core_standing.proofs.Settled.{settled_still, standing_settled}
 use Rattle.core_settings.specs.Told.{may_grow}
 

@@ -4,13 +4,13 @@ use Rattle.std.proofs.Common.{inl, inr, sym, ap, ap₂, ◌∙◌}
 use Rattle.std.proofs.lemmas.Bool.{or_cases, and_parts, false_from_ne_true, true≢false}
 use Rattle.poa_base.specs.declared.Config.{Config}
 use Rattle.poa_names.specs.declared.Sid.{Sid}
-use Rattle.poa_history.specs.declared.activation.Activation.{Activation}
-use Rattle.poa_history.specs.declared.activation.Phase.{Phase}
-use Rattle.poa_history.specs.declared.activation.Phase.TheVariants.{Begun, Complete, Void}
-use Rattle.poa_history.specs.Ends.{is_over, is_finished}
+use Rattle.history_standing.specs.declared.activation.Activation.{Activation}
+use Rattle.history_standing.specs.declared.activation.Phase.{Phase}
+use Rattle.history_standing.specs.declared.activation.Phase.TheVariants.{Begun, Complete, Void}
+use Rattle.history_standing.specs.Ends.{is_over, is_finished}
 use Rattle.poa_history.specs.Situations.{is_unfinished}
-use Rattle.poa_history.specs.Standings.{is_active, is_begun, is_complete, is_void}
-use Rattle.poa_history.specs.Templates.{has_activator}
+use Rattle.history_standing.specs.Standings.{is_active, is_begun, is_complete, is_void}
+use Rattle.history_standing.specs.Templates.{has_activator}
 use Rattle.core_queries.proofs.Behind.{first_fails, second_fails}
 
 pub void_phase : (p : Phase) → (elim p [ Void ↦ true | Begun ↦ false | Complete s ↦ false ]) ≡ true → p ≡ Void

@@ -1,7 +1,7 @@
 //! An entry of a worker changes what a history comes to.
 ghost use Rattle.std.specs.Prelude.{◌≡◌, ◌∷◌, ℕ, true, None, if◌then◌else◌, List, option_copied, IfOk, IsOk, OnOk, OnErr};
 ghost use Rattle.poa_base.specs.declared.Entry.{Entry};
-ghost use Rattle.poa_history.specs.Logs as logs;
+ghost use Rattle.history_standing.specs.Logs as logs;
 ghost use Rattle.poa_history.specs.States.{Stored};
 ghost use Rattle.core_settings.specs.Told.{may_grow};
 ghost use Rattle.poa_base.specs.declared.Attempt.{Attempt};

@@ -1,6 +1,6 @@
 //! An entry that comes, with what is known of it.
+use history_standing::Stage;
 use poa_base::{Call, Entry, Sid};
-use poa_history::Stage;
 
 /// An entry of a worker that comes, with what the worker had begun, the call that it speaks of and the servant
 /// that runs.

@@ -7,7 +7,7 @@ ghost use Rattle.poa_history.specs.Alone.{IsGivenAlone};
 ghost use Rattle.poa_history.specs.Bounds.{IsWithinLimits};
 ghost use Rattle.poa_history.specs.Legal.{IsLegal};
 ghost use Rattle.poa_history.specs.Sound.{IsGiven};
-ghost use Rattle.poa_history.specs.Standings.{Standing};
+ghost use Rattle.history_standing.specs.Standings.{Standing};
 ghost use Rattle.core_queries.specs.Answers.{AnswersAs};
 ghost use Rattle.core_queries.specs.Kept.{StandsAfter};
 

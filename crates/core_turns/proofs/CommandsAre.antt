@@ -12,12 +12,12 @@ use Rattle.poa_base.specs.declared.Reason.TheVariants.{AdapterNonExistent, Wrong
 use Rattle.poa_names.specs.declared.Sid.TheVariants.{Named}
 use Rattle.poa_tree.specs.declared.node.Node.{Node}
 use Rattle.poa_history.specs.Changes.{standing}
-use Rattle.poa_history.specs.Commands.{refusal, good, live_at, is_taken, is_bad_id, activate_row, activate_id_row, deactivate_row, referred, is_implicit, reference_row, command_verdict}
-use Rattle.poa_history.specs.Ends.{is_over}
-use Rattle.poa_history.specs.Opening.{made_id}
-use Rattle.poa_history.specs.References.{reference_text}
-use Rattle.poa_history.specs.Standings.{Standing, is_active, is_of}
-use Rattle.poa_history.specs.Templates.{policies_at, retains, is_unique, makes_ids, activates_implicitly, servant_number}
+use Rattle.history_standing.specs.Commands.{refusal, good, live_at, is_taken, is_bad_id, activate_row, activate_id_row, deactivate_row, referred, is_implicit, reference_row, command_verdict}
+use Rattle.history_standing.specs.Ends.{is_over}
+use Rattle.history_standing.specs.Opening.{made_id}
+use Rattle.history_standing.specs.References.{reference_text}
+use Rattle.history_standing.specs.Standings.{Standing, is_active, is_of}
+use Rattle.history_standing.specs.Templates.{policies_at, retains, is_unique, makes_ids, activates_implicitly, servant_number}
 use Rattle.core_queries.specs.Answers.{AnswersAs}
 
 -- what is done with what is found is the same

@@ -9,9 +9,9 @@ use Rattle.poa_choose.specs.declared.Facts.{Facts}
 use Rattle.poa_choose.specs.declared.KeyFact.{KeyFact}
 use Rattle.poa_tree.specs.declared.found.Found.{Found}
 use Rattle.poa_tree.specs.Walks.{walk, adapter_met}
-use Rattle.poa_history.specs.Arrivals.{call_of, is_locate, target_of}
-use Rattle.poa_history.specs.Keys.{key_in}
-use Rattle.poa_history.specs.Standings.{Standing}
+use Rattle.history_standing.specs.Arrivals.{call_of, is_locate, target_of}
+use Rattle.history_standing.specs.Keys.{key_in}
+use Rattle.history_standing.specs.Standings.{Standing}
 use Rattle.poa_history.specs.Changes.{standing}
 use Rattle.poa_history.specs.Situations.{facts_met, facts_of, is_crowded, key_fact, key_or_none}
 use Rattle.core_queries.specs.Answers.{AnswersAs}

@@ -8,14 +8,14 @@ use Rattle.poa_base.specs.declared.Gives.TheVariants.{Fresh as FreshKind, Servan
 use Rattle.poa_base.specs.declared.Incarnation.TheVariants.{Double, Named as Brought, Raise}
 use Rattle.poa_base.specs.declared.RuleConf.{RuleConf}
 use Rattle.poa_names.specs.declared.Sid.TheVariants.{Named}
-use Rattle.poa_history.specs.declared.activation.Activation.{Activation}
-use Rattle.poa_history.specs.declared.stage.Stage.{Stage}
-use Rattle.poa_history.specs.declared.stage.Stage.TheVariants.{Free, Trying, Incarnating, Serving, Ran, Removing}
+use Rattle.history_standing.specs.declared.activation.Activation.{Activation}
+use Rattle.history_standing.specs.declared.stage.Stage.{Stage}
+use Rattle.history_standing.specs.declared.stage.Stage.TheVariants.{Free, Trying, Incarnating, Serving, Ran, Removing}
 use Rattle.poa_history.specs.Changes.{standing}
-use Rattle.poa_history.specs.Rules.{brought, brought_by, not_active, rule_for}
-use Rattle.poa_history.specs.Stages.{stage}
-use Rattle.poa_history.specs.Standings.{Standing}
-use Rattle.poa_history.specs.Templates.{policies_at, is_unique, rules_at, servant_name}
+use Rattle.history_standing.specs.Rules.{brought, brought_by, not_active, rule_for}
+use Rattle.history_standing.specs.Stages.{stage}
+use Rattle.history_standing.specs.Standings.{Standing}
+use Rattle.history_standing.specs.Templates.{policies_at, is_unique, rules_at, servant_name}
 use Rattle.poa_history.specs.Turns.{attempt, going_on}
 use Rattle.core_queries.specs.Answers.{AnswersAs, works_on}
 

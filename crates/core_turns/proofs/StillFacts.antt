@@ -2,10 +2,10 @@
 use Rattle.std.specs.Prelude.{◌≡◌, false, not, ◌&&◌}
 use Rattle.std.proofs.lemmas.Bool.{and_left, and_right, or_from}
 use Rattle.poa_base.specs.declared.Config.{Config}
-use Rattle.poa_history.specs.declared.activation.Activation.{Activation}
-use Rattle.poa_history.specs.Ends.{is_finished}
+use Rattle.history_standing.specs.declared.activation.Activation.{Activation}
+use Rattle.history_standing.specs.Ends.{is_finished}
 use Rattle.poa_history.specs.Situations.{is_unfinished}
-use Rattle.poa_history.specs.Standings.{Standing, is_begun, is_complete, is_ending}
+use Rattle.history_standing.specs.Standings.{Standing, is_begun, is_complete, is_ending}
 use Rattle.poa_history.specs.Turns.{is_due}
 use Rattle.active_map.specs.Tables.{is_moving}
 use Rattle.active_map.proofs.Moving.{still_begun, still_ending, still_in}

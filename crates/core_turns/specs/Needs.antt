@@ -1,7 +1,7 @@
 -- Which steps may need memory.
 use Rattle.std.specs.Prelude.{Bool, true, false}
-use Rattle.poa_history.specs.declared.stage.Stage.{Stage}
-use Rattle.poa_history.specs.declared.stage.Stage.TheVariants.{Incarnating}
+use Rattle.history_standing.specs.declared.stage.Stage.{Stage}
+use Rattle.history_standing.specs.declared.stage.Stage.TheVariants.{Incarnating}
 
 -- a servant activator is asked, whose answer may be an endpoint or a servant's name
 abbrev pub needs_memory : Stage → Bool

@@ -2,8 +2,8 @@
 use Rattle.std.specs.Prelude.{◌≡◌, ℕ, List}
 use Rattle.poa_base.specs.declared.Config.{Config}
 use Rattle.poa_base.specs.declared.Entry.{Entry}
-use Rattle.poa_history.specs.Templates.{manager_at}
-use Rattle.poa_history.specs.Logs.{manager_state, preset_of, forward_of}
+use Rattle.history_standing.specs.Templates.{manager_at}
+use Rattle.history_standing.specs.Logs.{manager_state, preset_of, forward_of}
 use Rattle.core_turns.specs.declared.facts.AsSet.{AsSet}
 
 -- it is what the history says of the manager of the place and of the path

@@ -6,14 +6,14 @@ ghost use Rattle.poa_base.specs.declared.Answer.{Answer};
 ghost use Rattle.poa_base.specs.declared.Entry.{Entry};
 ghost use Rattle.poa_base.specs.declared.Reason.{Reason};
 ghost use Rattle.poa_base.specs.declared.Verdict.{Verdict};
-ghost use Rattle.poa_history.specs.Logs.{endpoint_of as endpoint_is};
+ghost use Rattle.history_standing.specs.Logs.{endpoint_of as endpoint_is};
 ghost use Rattle.std.specs.List.{list_any};
 ghost use Rattle.std.specs.Int.{w32, from_be_bytes};
-ghost use Rattle.poa_history.specs.Commands as rows;
-ghost use Rattle.poa_history.specs.Ends as ends;
-ghost use Rattle.poa_history.specs.Standings as stands;
-ghost use Rattle.poa_history.specs.Opening.{made_id as id_made};
-ghost use Rattle.poa_history.specs.References.{reference_text as text_of_reference};
+ghost use Rattle.history_standing.specs.Commands as rows;
+ghost use Rattle.history_standing.specs.Ends as ends;
+ghost use Rattle.history_standing.specs.Standings as stands;
+ghost use Rattle.history_standing.specs.Opening.{made_id as id_made};
+ghost use Rattle.history_standing.specs.References.{reference_text as text_of_reference};
 ghost use Rattle.poa_tree.specs.Nodes as tree;
 ghost use Rattle.core_queries.specs.Seen.{seen};
 ghost use Rattle.core_settings.specs.Told.{Tells};
@@ -450,7 +450,7 @@ fn unforward_row(config: &Config, settings: &Settings, path: &Path) -> Option<Ve
 }
 
 /// The verdict on a command.
-#[tactic(auto, unfolding(poa_history::specs::Commands::command_verdict))]
+#[tactic(auto, unfolding(history_standing::specs::Commands::command_verdict))]
 pub fn command_verdict(
     alloc: Global,
     config: &Config,

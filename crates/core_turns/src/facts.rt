@@ -2,9 +2,9 @@
 ghost use Rattle.std.specs.Prelude.{◌≡◌, ◌==◌, ℕ, List, Some, None, if◌then◌else◌, option_and_then, option_copied, IfOk};
 ghost use Rattle.poa_base.specs.declared.Entry.{Entry};
 ghost use Rattle.poa_choose.specs.declared.KeyFact.TheVariants.{OtherRun, Persistent, Transient};
-ghost use Rattle.poa_history.specs.Arrivals as calls;
+ghost use Rattle.history_standing.specs.Arrivals as calls;
 ghost use Rattle.poa_history.specs.Situations as situations;
-ghost use Rattle.poa_history.specs.Keys as keys;
+ghost use Rattle.history_standing.specs.Keys as keys;
 ghost use Rattle.core_queries.specs.Answers.{AnswersAs};
 ghost use Rattle.core_queries.specs.Seen.{seen};
 ghost use Rattle.poa_tree.specs.Walks.{place_met as place_is, walk as walk_along};

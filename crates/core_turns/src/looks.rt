@@ -3,7 +3,7 @@ ghost use Rattle.std.specs.Prelude.{◌≡◌, ℕ, List, Option, Some, IfOk};
 ghost use Rattle.poa_base.specs.declared.Entry.{Entry};
 ghost use Rattle.poa_choose.specs.Table as table;
 ghost use Rattle.poa_choose.specs.declared.Facts.{Facts as FactsOf};
-ghost use Rattle.poa_history.specs.Arrivals.{call_of};
+ghost use Rattle.history_standing.specs.Arrivals.{call_of};
 ghost use Rattle.poa_history.specs.Situations as situations;
 ghost use Rattle.history_holds.specs.Blocks as blocks;
 ghost use Rattle.core_queries.specs.Answers.{AnswersAs};

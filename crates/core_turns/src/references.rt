@@ -1,6 +1,6 @@
 //! The reference of an object.
 ghost use Rattle.std.specs.Prelude.{◌≡◌, IfOk};
-ghost use Rattle.poa_history.specs.References as references;
+ghost use Rattle.history_standing.specs.References as references;
 
 use active_map::templates::policies_at;
 use ior_object::write_reference;

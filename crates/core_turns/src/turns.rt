@@ -1,8 +1,8 @@
 //! What a worker has begun goes on, and a removal that is due begins.
 ghost use Rattle.std.specs.Prelude.{◌≡◌, ◌&&◌, None, Some, false, find, not, option_copied, IfOk, IsOk};
 ghost use Rattle.poa_base.specs.declared.Attempt.{Attempt};
-ghost use Rattle.poa_history.specs.Standings as stands;
-ghost use Rattle.poa_history.specs.Templates as configured;
+ghost use Rattle.history_standing.specs.Standings as stands;
+ghost use Rattle.history_standing.specs.Templates as configured;
 ghost use Rattle.poa_history.specs.Turns as turns;
 ghost use Rattle.core_queries.specs.Seen.{seen};
 ghost use Rattle.core_turns.specs.Needs.{needs_memory};
@@ -14,9 +14,9 @@ use active_map::flights::{flight_of, is_used};
 use active_map::templates::{children_at, has_activator, has_template};
 use core_queries::Standing;
 use core_queries::searches::activation_numbered;
+use history_standing::{Activation, Flight, Stage};
 use poa_base::limits::ADAPTERS;
 use poa_base::{Attempt, Children, Config, Entry, Name, WantMemory};
-use poa_history::{Activation, Flight, Stage};
 use poa_tree::Node;
 use poa_tree::nodes::node_numbered;
 

@@ -1,7 +1,7 @@
 //! The verdict on an arrival.
 ghost use Rattle.std.specs.Prelude.{◌≡◌, ℕ, List, Some, true, IfOk};
 ghost use Rattle.poa_base.specs.declared.Entry.{Entry};
-ghost use Rattle.poa_history.specs.Arrivals.{call_of, is_message};
+ghost use Rattle.history_standing.specs.Arrivals.{call_of, is_message};
 ghost use Rattle.poa_history.specs.Situations.{is_crowded};
 ghost use Rattle.poa_history.specs.Verdicts as verdicts;
 ghost use Rattle.core_queries.specs.Answers.{AnswersAs};

@@ -9,7 +9,7 @@ use Rattle.poa_base.specs.declared.Reply.TheVariants.{Outcome, Forward, Addressi
 use Rattle.giop_msg.specs.declared.Incoming.TheVariants as incoming
 use Rattle.giop_msg.specs.Call.{CallOf}
 use Rattle.giop_answer.specs.Reply.{AnswersHead}
-use Rattle.poa_history.specs.Arrivals.{call_of}
+use Rattle.history_standing.specs.Arrivals.{call_of}
 use Rattle.poa_core.specs.Answers.{head_of}
 use Rattle.poa_core.specs.Fits.{FitsCall}
 

@@ -7,13 +7,12 @@ use Rattle.poa_base.specs.declared.Attempt.TheVariants.{Yes, No, Raised, Dying}
 use Rattle.poa_base.specs.declared.Entry.{Entry}
 use Rattle.poa_base.specs.declared.Entry.TheVariants.{Entered, Arrive, Filled, Left, Collect, Admit, Tried, Incarnated, Run, Done, TakeOut, Etherealized, Abandon}
 use Rattle.poa_history.specs.Alone.{IsGivenAlone}
-use Rattle.poa_history.specs.Arrivals.{arrivals, call_of, is_message}
+use Rattle.history_standing.specs.Arrivals.{arrivals, call_of, is_message}
 use Rattle.poa_history.specs.Bounds.{IsWithinLimits}
 use Rattle.poa_history.specs.Legal.{IsLegal}
 use Rattle.poa_history.specs.Situations.{facts_of}
 use Rattle.poa_history.specs.Sound.{IsGiven}
-use Rattle.poa_history.specs.Stages.{stage, arrival_in, is_at, admitted, is_unadmitted}
-use Rattle.poa_history.proofs.IdsFew.{call_kept, arrivals_kept}
+use Rattle.history_standing.specs.Stages.{stage, arrival_in, is_at, admitted, is_unadmitted}
 use Rattle.poa_tree.specs.Trees.{In}
 use Rattle.poa_tree.proofs.Members.{in_image}
 use Rattle.history_holds.specs.Blocks.{Blocks, TakesTurn}
@@ -29,6 +28,7 @@ use Rattle.held_queue.specs.Waiting.{is_waiting, received}
 use Rattle.held_queue.specs.declared.grip.Grip.{Grip}
 use Rattle.held_queue.specs.declared.grip.Grip.TheVariants.{Held, Turn, Loose}
 use Rattle.held_queue.specs.declared.row.Row.{Row}
+use Rattle.history_standing.proofs.CallsKept.{arrivals_kept, call_kept}
 
 -- what waits after an entry waited before, or came with it
 abbrev Waited : List Entry → Entry → ℕ → Type 0

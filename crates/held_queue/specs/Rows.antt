@@ -1,8 +1,8 @@
 -- Rows of calls that are held alike.
 use Rattle.std.specs.Prelude.{◌≡◌, ℕ, zero, suc, ◌≤◌, ◌==◌, Bool, true, false, if◌then◌else◌, List, [], ◌∷◌, ◌⊎◌}
 use Rattle.std.specs.List.{list_any}
-use Rattle.poa_history.specs.declared.flight.Flight.{Flight}
-use Rattle.poa_history.specs.Standings.{is_running}
+use Rattle.history_standing.specs.declared.flight.Flight.{Flight}
+use Rattle.history_standing.specs.Standings.{is_running}
 use Rattle.history_holds.specs.declared.freed.Freed.{Freed}
 use Rattle.history_holds.specs.declared.hold.Hold.{Hold}
 use Rattle.history_holds.specs.declared.hold.Hold.TheVariants.{Main, Turn as HeldTurn}

@@ -3,8 +3,8 @@ use Rattle.std.specs.Prelude.{ℕ, Bool, true, false, ◌&&◌, if◌then◌else
 use Rattle.poa_base.specs.declared.Attempt.TheVariants.{Yes}
 use Rattle.poa_base.specs.declared.Entry.{Entry}
 use Rattle.poa_base.specs.declared.Entry.TheVariants.{Arrive, Tried}
-use Rattle.poa_history.specs.Arrivals.{arrivals, call_of, is_message}
-use Rattle.poa_history.specs.Stages.{stage, arrival_in, is_unadmitted}
+use Rattle.history_standing.specs.Arrivals.{arrivals, call_of, is_message}
+use Rattle.history_standing.specs.Stages.{stage, arrival_in, is_unadmitted}
 
 -- a request or a locate that wasn't admitted
 abbrev pub is_waiting : List Entry → ℕ → Bool

@@ -3,7 +3,7 @@ ghost use Rattle.std.specs.Prelude.{◌≡◌, ◌∷◌, ◌<◌, ◌≤◌, []
 ghost use Rattle.poa_base.specs.declared.Config.{Config};
 ghost use Rattle.poa_base.specs.declared.Entry.{Entry as EntryOf};
 ghost use Rattle.poa_history.specs.Alone.{IsGivenAlone};
-ghost use Rattle.poa_history.specs.Arrivals.{arrivals as arrivals_in};
+ghost use Rattle.history_standing.specs.Arrivals.{arrivals as arrivals_in};
 ghost use Rattle.poa_history.specs.Bounds.{IsWithinLimits};
 ghost use Rattle.poa_history.specs.Changes.{standing};
 ghost use Rattle.poa_history.specs.Legal.{IsLegal};
@@ -23,8 +23,8 @@ use crate::rows;
 use core_queries::calls::is_message;
 use core_queries::workers::arrival_in;
 use history_holds::{Freed, Hold};
+use history_standing::{Flight, Stage};
 use poa_base::{Attempt, Entry, WantMemory};
-use poa_history::{Flight, Stage};
 use std::alloc::Global;
 
 /// The requests and locates that wait: those that are ready to be asked, and the others in rows by what holds them.

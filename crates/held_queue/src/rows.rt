@@ -2,7 +2,7 @@
 ghost use Rattle.std.specs.Prelude.{◌≡◌, ◌<◌, ℕ, true, List, length, map, slice_index_or, IfOk, IfSome, IfNone, OnOk};
 ghost use Rattle.poa_base.specs.declared.Config.{Config};
 ghost use Rattle.poa_base.specs.declared.Entry.{Entry as EntryOf};
-ghost use Rattle.poa_history.specs.Arrivals.{arrivals as arrivals_in};
+ghost use Rattle.history_standing.specs.Arrivals.{arrivals as arrivals_in};
 ghost use Rattle.poa_history.specs.Changes.{standing};
 ghost use Rattle.poa_history.specs.Situations.{facts_of};
 ghost use Rattle.history_holds.specs.Blocks.{Blocks};
@@ -17,8 +17,8 @@ use crate::numbers::Numbers;
 use crate::row::{Row, move_least};
 use active_map::flights::is_running;
 use history_holds::{Freed, Hold};
+use history_standing::Flight;
 use poa_base::WantMemory;
-use poa_history::Flight;
 use std::alloc::Global;
 
 /// How a row is held once something was freed.

@@ -8,22 +8,22 @@ use Rattle.poa_base.specs.declared.Command.{Command}
 use Rattle.poa_base.specs.declared.Entry.{Entry}
 use Rattle.poa_base.specs.declared.Entry.TheVariants.{TakeOut, Etherealized}
 use Rattle.poa_choose.specs.declared.MapFact.TheVariants.{Active, Busy, Free}
-use Rattle.poa_history.specs.declared.activation.Activation.{Activation}
-use Rattle.poa_history.specs.declared.activation.Phase.{Phase}
-use Rattle.poa_history.specs.declared.activation.Phase.TheVariants.{Begun, Complete, Void}
+use Rattle.history_standing.specs.declared.activation.Activation.{Activation}
+use Rattle.history_standing.specs.declared.activation.Phase.{Phase}
+use Rattle.history_standing.specs.declared.activation.Phase.TheVariants.{Begun, Complete, Void}
 use Rattle.poa_history.specs.Alone.{IsGivenAlone}
 use Rattle.poa_history.specs.Bounds.{IsWithinLimits}
 use Rattle.poa_history.specs.Changes.{standing, changed}
-use Rattle.poa_history.specs.Ends.{is_finished, is_over}
+use Rattle.history_standing.specs.Ends.{is_finished, is_over}
 use Rattle.poa_history.specs.InFlight.{IsManned}
 use Rattle.poa_history.specs.Legal.{MayFollow, IsLegal}
-use Rattle.poa_history.specs.Logs.{command_done}
+use Rattle.history_standing.specs.Logs.{command_done}
 use Rattle.poa_history.specs.Out.{has_run_out}
 use Rattle.poa_history.specs.Situations.{slot_of, is_unfinished, is_changing}
 use Rattle.poa_history.specs.Sound.{IsGiven, IsSound}
-use Rattle.poa_history.specs.Stages.{is_at}
-use Rattle.poa_history.specs.Standings.{Standing, is_complete, is_void, is_begun, is_ending, is_active, is_of, is_used}
-use Rattle.poa_history.specs.Templates.{has_activator}
+use Rattle.history_standing.specs.Stages.{is_at}
+use Rattle.history_standing.specs.Standings.{Standing, is_complete, is_void, is_begun, is_ending, is_active, is_of, is_used}
+use Rattle.history_standing.specs.Templates.{has_activator}
 use Rattle.poa_tree.specs.Paths.{same_bytes}
 use Rattle.poa_tree.specs.Trees.{In}
 use Rattle.poa_tree.proofs.Finding.{find_in, find_none}

@@ -5,21 +5,21 @@ use Rattle.std.proofs.lemmas.Bool.{true≢false, eqb-true, eq-eqb, cases_eq, and
 use Rattle.poa_base.specs.declared.Config.{Config}
 use Rattle.poa_base.specs.declared.Entry.{Entry}
 use Rattle.poa_base.specs.declared.Entry.TheVariants.{Entered, Arrive, Filled, Left, Collect, Admit, Tried, Incarnated, Run, Done, TakeOut, Etherealized, Abandon}
-use Rattle.poa_history.specs.declared.flight.Flight.{Flight}
-use Rattle.poa_history.specs.declared.activation.Activation.{Activation}
-use Rattle.poa_history.specs.declared.activation.Phase.{Phase}
-use Rattle.poa_history.specs.declared.stage.Stage.TheVariants.{Incarnating, Ran, Removing}
+use Rattle.history_standing.specs.declared.flight.Flight.{Flight}
+use Rattle.history_standing.specs.declared.activation.Activation.{Activation}
+use Rattle.history_standing.specs.declared.activation.Phase.{Phase}
+use Rattle.history_standing.specs.declared.stage.Stage.TheVariants.{Incarnating, Ran, Removing}
 use Rattle.poa_history.specs.Alone.{IsGivenAlone}
-use Rattle.poa_history.specs.Arrivals.{call_of}
+use Rattle.history_standing.specs.Arrivals.{call_of}
 use Rattle.poa_history.specs.Bounds.{IsWithinLimits}
 use Rattle.poa_history.specs.Changes.{standing, changed, with_admitted}
 use Rattle.poa_history.specs.InFlight.{Holds, IsManned}
-use Rattle.poa_history.specs.Keys.{key_in}
+use Rattle.history_standing.specs.Keys.{key_in}
 use Rattle.poa_history.specs.Legal.{MayFollow, IsLegal}
-use Rattle.poa_history.specs.Logs.{command_done}
+use Rattle.history_standing.specs.Logs.{command_done}
 use Rattle.poa_history.specs.Sound.{IsGiven, IsSound}
-use Rattle.poa_history.specs.Stages.{stage, arrival_in, is_at}
-use Rattle.poa_history.specs.Standings.{Standing, is_running, is_tried}
+use Rattle.history_standing.specs.Stages.{stage, arrival_in, is_at}
+use Rattle.history_standing.specs.Standings.{Standing, is_running, is_tried}
 use Rattle.poa_history.specs.Turns.{flight_of, activation_numbered}
 use Rattle.poa_tree.specs.Paths.{same_path}
 use Rattle.poa_tree.specs.Trees.{In}

@@ -13,9 +13,9 @@ use Rattle.poa_tree.proofs.Finding.{path_same}
 use Rattle.poa_tree.proofs.Leading.{front_same}
 use Rattle.poa_tree.proofs.WalkStands.{Tells, walk_tells}
 use Rattle.poa_choose.specs.declared.WalkFact.TheVariants.{Dying as MeetsDying, Missing as MeetsMissing, Found as Met}
-use Rattle.poa_history.specs.declared.flight.Flight.{Flight}
+use Rattle.history_standing.specs.declared.flight.Flight.{Flight}
 use Rattle.poa_history.specs.Situations.{walk_fact}
-use Rattle.poa_history.specs.Standings.{Standing}
+use Rattle.history_standing.specs.Standings.{Standing}
 use Rattle.poa_history.specs.Sound.{IsSound}
 use Rattle.poa_base.specs.declared.Config.{Config}
 

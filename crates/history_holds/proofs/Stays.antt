@@ -12,21 +12,20 @@ use Rattle.poa_choose.specs.declared.Facts.{Facts}
 use Rattle.poa_choose.specs.declared.WalkFact.{WalkFact}
 use Rattle.poa_choose.specs.declared.WalkFact.TheVariants.{Dying as MeetsDying, Missing as MeetsMissing, Found as Met}
 use Rattle.poa_history.specs.Alone.{IsGivenAlone}
-use Rattle.poa_history.specs.Arrivals.{arrivals, call_of, is_locate, target_of}
+use Rattle.history_standing.specs.Arrivals.{arrivals, call_of, is_locate, target_of}
 use Rattle.poa_history.specs.Bounds.{IsWithinLimits}
 use Rattle.poa_history.specs.Changes.{standing}
-use Rattle.poa_history.specs.Commands.{is_bad_id}
+use Rattle.history_standing.specs.Commands.{is_bad_id}
 use Rattle.poa_history.specs.InFlight.{IsManned}
-use Rattle.poa_history.specs.Keys.{key_in}
+use Rattle.history_standing.specs.Keys.{key_in}
 use Rattle.poa_history.specs.Legal.{IsLegal}
 use Rattle.poa_history.specs.Situations.{is_crowded, key_fact, key_or_none, walk_fact, facts_met, facts_of}
 use Rattle.poa_history.specs.Sound.{IsGiven, IsSound}
-use Rattle.poa_history.specs.Stages.{is_at}
-use Rattle.poa_history.specs.Standings.{Standing}
-use Rattle.poa_history.specs.Templates.{manager_at}
+use Rattle.history_standing.specs.Stages.{is_at}
+use Rattle.history_standing.specs.Standings.{Standing}
+use Rattle.history_standing.specs.Templates.{manager_at}
 use Rattle.poa_tree.specs.declared.found.Found.{Found}
 use Rattle.poa_tree.specs.Walks.{walk, adapter_met, child_met, place_met}
-use Rattle.poa_history.proofs.IdsFew.{call_kept}
 use Rattle.poa_history.proofs.LegalSound.{legal_sound}
 use Rattle.poa_history.proofs.MannedKept.{all_manned}
 use Rattle.history_holds.specs.Blocks.{MeetsAdapter, LacksChild, TakesTurn, Blocks}
@@ -38,6 +37,7 @@ use Rattle.history_holds.proofs.Rewalked.{walk_same, trial_at}
 use Rattle.history_holds.proofs.Unchanged.{no_command, state_same, crowded_same, smaller}
 use Rattle.history_holds.proofs.Landing.{runs_on, tried_on}
 use Rattle.history_holds.proofs.Busy.{busy_stays, inactive_stays, changing_stays}
+use Rattle.history_standing.proofs.CallsKept.{call_kept}
 
 -- where a hold isn't freed, not all is freed
 few_by : (freed : Freed) (hold : Hold) → frees freed hold ≡ false → freed.all ≡ false

@@ -15,14 +15,14 @@ use Rattle.poa_base.specs.declared.Incarnation.{Incarnation}
 use Rattle.poa_base.specs.declared.Incarnation.TheVariants.{Fresh, Named, Double, Forward as ForwardTo, Raise}
 use Rattle.poa_tree.specs.declared.node.Node.{Node}
 use Rattle.poa_tree.specs.Paths.{is_root}
-use Rattle.poa_history.specs.declared.stage.Stage.{Stage}
-use Rattle.poa_history.specs.declared.stage.Stage.TheVariants.{Free, Trying, Incarnating, Serving, Ran, Removing}
-use Rattle.poa_history.specs.Arrivals.{arrivals, call_of}
-use Rattle.poa_history.specs.Stages.{stage, arrival_in}
-use Rattle.poa_history.specs.Standings.{Standing}
-use Rattle.poa_history.specs.Ends.{is_clear, is_done_with, let_out}
-use Rattle.poa_history.specs.Keys.{key_in}
-use Rattle.poa_history.specs.Logs.{is_accepted, command_in, command_done, ordered_state, order_for, manager_state}
+use Rattle.history_standing.specs.declared.stage.Stage.{Stage}
+use Rattle.history_standing.specs.declared.stage.Stage.TheVariants.{Free, Trying, Incarnating, Serving, Ran, Removing}
+use Rattle.history_standing.specs.Arrivals.{arrivals, call_of}
+use Rattle.history_standing.specs.Stages.{stage, arrival_in}
+use Rattle.history_standing.specs.Standings.{Standing}
+use Rattle.history_standing.specs.Ends.{is_clear, is_done_with, let_out}
+use Rattle.history_standing.specs.Keys.{key_in}
+use Rattle.history_standing.specs.Logs.{is_accepted, command_in, command_done, ordered_state, order_for, manager_state}
 use Rattle.poa_history.specs.Changes.{standing, changed, with_admitted, with_command, without_flight, with_incarnated, with_etherealized}
 use Rattle.poa_history.specs.Situations.{is_crowded, waiting_messages}
 use Rattle.poa_history.proofs.Untouched.{nodes_in, made_in}

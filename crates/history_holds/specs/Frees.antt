@@ -3,12 +3,12 @@ use Rattle.std.specs.Prelude.{ℕ, Bool, true, false, ◌||◌, if◌then◌else
 use Rattle.poa_base.specs.declared.Config.{Config}
 use Rattle.poa_base.specs.declared.Entry.{Entry}
 use Rattle.poa_base.specs.declared.Entry.TheVariants.{Admit, Tried, Incarnated, Done, TakeOut, Etherealized}
-use Rattle.poa_history.specs.declared.stage.Stage.{Stage}
-use Rattle.poa_history.specs.declared.stage.Stage.TheVariants.{Incarnating, Removing}
+use Rattle.history_standing.specs.declared.stage.Stage.{Stage}
+use Rattle.history_standing.specs.declared.stage.Stage.TheVariants.{Incarnating, Removing}
 use Rattle.poa_history.specs.Changes.{standing}
-use Rattle.poa_history.specs.Logs.{is_accepted}
-use Rattle.poa_history.specs.Stages.{stage, arrival_in, is_at}
-use Rattle.poa_history.specs.Standings.{Standing}
+use Rattle.history_standing.specs.Logs.{is_accepted}
+use Rattle.history_standing.specs.Stages.{stage, arrival_in, is_at}
+use Rattle.history_standing.specs.Standings.{Standing}
 use Rattle.poa_history.specs.Turns.{flight_of, activation_numbered}
 use Rattle.history_holds.specs.declared.freed.Freed.{Freed}
 use Rattle.history_holds.specs.declared.hold.Hold.{Hold}

@@ -7,7 +7,7 @@ ghost use Rattle.poa_choose.specs.declared.Facts.{Facts};
 ghost use Rattle.poa_choose.specs.declared.Choice.TheVariants.{Held as HeldBy};
 ghost use Rattle.poa_choose.specs.Table.{first_row};
 ghost use Rattle.poa_history.specs.Alone.{IsGivenAlone};
-ghost use Rattle.poa_history.specs.Arrivals.{arrivals};
+ghost use Rattle.history_standing.specs.Arrivals.{arrivals};
 ghost use Rattle.poa_history.specs.Bounds.{IsWithinLimits};
 ghost use Rattle.poa_history.specs.Legal.{IsLegal};
 ghost use Rattle.poa_history.specs.Situations.{facts_of};

@@ -26,23 +26,23 @@ use Rattle.poa_history.proofs.SettledKept.{or_first, or_second}
 use Rattle.poa_history.proofs.StepMoves.{chosen_go}
 use Rattle.poa_history.proofs.TurnTells.{IsAdmission, admission_is}
 use Rattle.poa_history.specs.Alone.{IsGivenAlone}
-use Rattle.poa_history.specs.Arrivals.{arrivals, call_of}
+use Rattle.history_standing.specs.Arrivals.{arrivals, call_of}
 use Rattle.poa_history.specs.Bounds.{IsWithinLimits}
 use Rattle.poa_history.specs.Changes.{standing}
-use Rattle.poa_history.specs.Commands.{command_verdict, live_at, waits}
+use Rattle.history_standing.specs.Commands.{command_verdict, live_at, waits}
 use Rattle.poa_history.specs.Destroyed.{destroys, was_destroyed}
 use Rattle.poa_history.specs.Endings.{ends, is_ended_by, was_ended}
-use Rattle.poa_history.specs.Ends.{is_done_with, is_gone, is_over}
+use Rattle.history_standing.specs.Ends.{is_done_with, is_gone, is_over}
 use Rattle.poa_history.specs.Legal.{IsLegal}
-use Rattle.poa_history.specs.Logs.{command_done, command_in}
-use Rattle.poa_history.specs.Opening.{number_at}
+use Rattle.history_standing.specs.Logs.{command_done, command_in}
+use Rattle.history_standing.specs.Opening.{number_at}
 use Rattle.poa_history.specs.Replies.{decided, is_decided_by, is_waiting}
 use Rattle.poa_history.specs.Settling.{are_ended, before_admit, is_managed, is_overtaken, is_quiet, order_holds, settles, settles_by}
 use Rattle.poa_history.specs.Situations.{facts_of}
 use Rattle.poa_history.specs.Sound.{IsGiven}
-use Rattle.poa_history.specs.Stages.{admitted}
-use Rattle.poa_history.specs.Standings.{Standing}
-use Rattle.poa_history.specs.Templates.{has_activator, manager_at, manager_number}
+use Rattle.history_standing.specs.Stages.{admitted}
+use Rattle.history_standing.specs.Standings.{Standing}
+use Rattle.history_standing.specs.Templates.{has_activator, manager_at, manager_number}
 use Rattle.poa_history.specs.Verdicts.{verdict_on}
 use Rattle.poa_tree.proofs.Finding.{find_in}
 use Rattle.poa_tree.proofs.Leading.{leads_self}

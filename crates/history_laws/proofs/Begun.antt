@@ -17,17 +17,17 @@ use Rattle.poa_history.proofs.TurnTells.{takeout_is}
 use Rattle.poa_history.specs.Alone.{IsGivenAlone}
 use Rattle.poa_history.specs.Bounds.{IsWithinLimits}
 use Rattle.poa_history.specs.Changes.{at_number, changed, come_to, servant_of, standing, with_etherealized, with_incarnated}
-use Rattle.poa_history.specs.Ends.{is_left, let_out}
+use Rattle.history_standing.specs.Ends.{is_left, let_out}
 use Rattle.poa_history.specs.Legal.{IsLegal, MayFollow}
 use Rattle.poa_history.specs.Lifetime.{KeepsLives}
 use Rattle.poa_history.specs.Sound.{IsGiven}
-use Rattle.poa_history.specs.Stages.{stage}
-use Rattle.poa_history.specs.Standings.{Standing, is_begun}
-use Rattle.poa_history.specs.Templates.{has_activator, servant_number}
-use Rattle.poa_history.specs.declared.activation.Activation.{Activation}
-use Rattle.poa_history.specs.declared.activation.Phase.{Phase}
-use Rattle.poa_history.specs.declared.activation.Phase.TheVariants.{Begun, Complete, Void}
-use Rattle.poa_history.specs.declared.stage.Stage.TheVariants.{Incarnating, Removing}
+use Rattle.history_standing.specs.Stages.{stage}
+use Rattle.history_standing.specs.Standings.{Standing, is_begun}
+use Rattle.history_standing.specs.Templates.{has_activator, servant_number}
+use Rattle.history_standing.specs.declared.activation.Activation.{Activation}
+use Rattle.history_standing.specs.declared.activation.Phase.{Phase}
+use Rattle.history_standing.specs.declared.activation.Phase.TheVariants.{Begun, Complete, Void}
+use Rattle.history_standing.specs.declared.stage.Stage.TheVariants.{Incarnating, Removing}
 use Rattle.poa_tree.proofs.Members.{in_image}
 use Rattle.poa_tree.specs.Trees.{In}
 use Rattle.std.proofs.Common.{◌∙◌, ap, inl, inr, subst, sym}

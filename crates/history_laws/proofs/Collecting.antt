@@ -12,25 +12,25 @@ use Rattle.poa_history.proofs.LegalSound.{legal_sound}
 use Rattle.poa_history.proofs.OutIs.{out_run_out}
 use Rattle.poa_history.proofs.SettledKept.{not_false, not_true, or_first, or_second}
 use Rattle.poa_history.specs.Alone.{IsGivenAlone}
-use Rattle.poa_history.specs.Arrivals.{arrivals, call_of, is_locate, target_of}
+use Rattle.history_standing.specs.Arrivals.{arrivals, call_of, is_locate, target_of}
 use Rattle.poa_history.specs.Bounds.{IsWithinLimits}
 use Rattle.poa_history.specs.Changes.{standing}
-use Rattle.poa_history.specs.Commands.{command_verdict}
-use Rattle.poa_history.specs.Ends.{is_done_with, is_left, let_out, settled, without_ended}
-use Rattle.poa_history.specs.Keys.{key_in}
+use Rattle.history_standing.specs.Commands.{command_verdict}
+use Rattle.history_standing.specs.Ends.{is_done_with, is_left, let_out, settled, without_ended}
+use Rattle.history_standing.specs.Keys.{key_in}
 use Rattle.poa_history.specs.Legal.{IsLegal}
 use Rattle.poa_history.specs.Out.{has_run_out}
-use Rattle.poa_history.specs.Searches.{first_given}
+use Rattle.history_standing.specs.Searches.{first_given}
 use Rattle.poa_history.specs.Situations.{facts_met, facts_of, is_crowded, key_fact, key_or_none}
 use Rattle.poa_history.specs.Sound.{IsGiven}
-use Rattle.poa_history.specs.Stages.{is_unadmitted, stage}
-use Rattle.poa_history.specs.Standings.{Standing}
-use Rattle.poa_history.specs.Templates.{has_activator}
+use Rattle.history_standing.specs.Stages.{is_unadmitted, stage}
+use Rattle.history_standing.specs.Standings.{Standing}
+use Rattle.history_standing.specs.Templates.{has_activator}
 use Rattle.poa_history.specs.Turns.{admission_of, going_on, next_of, removal, turn}
 use Rattle.poa_history.specs.Verdicts.{chosen, verdict, verdict_on}
-use Rattle.poa_history.specs.declared.activation.Activation.{Activation}
-use Rattle.poa_history.specs.declared.stage.Stage.{Stage}
-use Rattle.poa_history.specs.declared.stage.Stage.TheVariants.{Free, Incarnating, Ran, Removing, Serving, Trying}
+use Rattle.history_standing.specs.declared.activation.Activation.{Activation}
+use Rattle.history_standing.specs.declared.stage.Stage.{Stage}
+use Rattle.history_standing.specs.declared.stage.Stage.TheVariants.{Free, Incarnating, Ran, Removing, Serving, Trying}
 use Rattle.poa_tree.specs.Paths.{is_root}
 use Rattle.poa_tree.specs.Trees.{In}
 use Rattle.poa_tree.specs.Walks.{walk}

@@ -15,15 +15,15 @@ use Rattle.poa_history.proofs.SettledKept.{none_by, not_true}
 use Rattle.poa_history.specs.Alone.{IsGivenAlone}
 use Rattle.poa_history.specs.Bounds.{IsWithinLimits}
 use Rattle.poa_history.specs.Changes.{standing}
-use Rattle.poa_history.specs.Commands.{activate_id_row, activate_row, command_verdict, create_row, deactivate_row, good, good_or_wait, is_bad_id, is_implicit, is_inactive, is_taken, live_at, manager_row, preset_row, reference_row, referred, refusal, waits, with_live, with_servant}
-use Rattle.poa_history.specs.Ends.{is_over}
+use Rattle.history_standing.specs.Commands.{activate_id_row, activate_row, command_verdict, create_row, deactivate_row, good, good_or_wait, is_bad_id, is_implicit, is_inactive, is_taken, live_at, manager_row, preset_row, reference_row, referred, refusal, waits, with_live, with_servant}
+use Rattle.history_standing.specs.Ends.{is_over}
 use Rattle.poa_history.specs.Legal.{IsLegal}
-use Rattle.poa_history.specs.Logs.{endpoint_of, manager_state}
-use Rattle.poa_history.specs.Opening.{made_id}
-use Rattle.poa_history.specs.References.{reference_text}
+use Rattle.history_standing.specs.Logs.{endpoint_of, manager_state}
+use Rattle.history_standing.specs.Opening.{made_id}
+use Rattle.history_standing.specs.References.{reference_text}
 use Rattle.poa_history.specs.Sound.{IsGiven}
-use Rattle.poa_history.specs.Standings.{Standing, is_active, is_of, is_tried}
-use Rattle.poa_history.specs.Templates.{makes_ids, manager_number, policies_at, retains, servant_number, template, uses_default_servant}
+use Rattle.history_standing.specs.Standings.{Standing, is_active, is_of, is_tried}
+use Rattle.history_standing.specs.Templates.{makes_ids, manager_number, policies_at, retains, servant_number, template, uses_default_servant}
 use Rattle.poa_tree.proofs.WalkStands.{node_found}
 use Rattle.poa_tree.specs.Nodes.{node_at}
 use Rattle.poa_tree.specs.Paths.{is_root, parent_path}

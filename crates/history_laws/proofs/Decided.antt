@@ -15,13 +15,13 @@ use Rattle.poa_history.proofs.TurnIs.{mapped_by}
 use Rattle.poa_history.specs.Changes.{standing}
 use Rattle.poa_history.specs.Legal.{IsLegal}
 use Rattle.poa_history.specs.Replies.{decided, is_decided_by, is_waiting}
-use Rattle.poa_history.specs.Rules.{brought}
+use Rattle.history_standing.specs.Rules.{brought}
 use Rattle.poa_history.specs.Settling.{settles}
-use Rattle.poa_history.specs.Stages.{admitted, arrival_in, brings, incarnated, is_at, stage}
-use Rattle.poa_history.specs.Standings.{Standing}
+use Rattle.history_standing.specs.Stages.{admitted, arrival_in, brings, incarnated, is_at, stage}
+use Rattle.history_standing.specs.Standings.{Standing}
 use Rattle.poa_history.specs.Turns.{activation_numbered, attempt, turn}
-use Rattle.poa_history.specs.declared.stage.Stage.{Stage}
-use Rattle.poa_history.specs.declared.stage.Stage.TheVariants.{Free, Incarnating, Ran, Removing, Serving, Trying}
+use Rattle.history_standing.specs.declared.stage.Stage.{Stage}
+use Rattle.history_standing.specs.declared.stage.Stage.TheVariants.{Free, Incarnating, Ran, Removing, Serving, Trying}
 use Rattle.std.proofs.Common.{◌∙◌, ap, ap₂, inl, inr, subst, sym}
 use Rattle.std.proofs.lemmas.Bool.{cases_Bool, eq-eqb, eqb-true}
 use Rattle.std.specs.Prelude.{◌&&◌, ◌==◌, ◌||◌, ◌∷◌, ◌≡◌, ◌⊎◌, Bool, List, None, Some, [], false, if◌then◌else◌, not, refl, true, ℕ}

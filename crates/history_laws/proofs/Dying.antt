@@ -19,11 +19,11 @@ use Rattle.poa_history.specs.Changes.{standing}
 use Rattle.poa_history.specs.Destroyed.{destroys}
 use Rattle.poa_history.specs.Endings.{ends, is_ended_by, was_ended}
 use Rattle.poa_history.specs.Legal.{IsLegal, MayFollow}
-use Rattle.poa_history.specs.Logs.{command_done}
-use Rattle.poa_history.specs.Opening.{number_at}
+use Rattle.history_standing.specs.Logs.{command_done}
+use Rattle.history_standing.specs.Opening.{number_at}
 use Rattle.poa_history.specs.Sound.{IsGiven, IsSound}
-use Rattle.poa_history.specs.Standings.{Standing}
-use Rattle.poa_history.specs.declared.activation.Activation.{Activation}
+use Rattle.history_standing.specs.Standings.{Standing}
+use Rattle.history_standing.specs.declared.activation.Activation.{Activation}
 use Rattle.poa_tree.specs.Nodes.{stands}
 use Rattle.poa_tree.specs.Paths.{leads_to}
 use Rattle.poa_tree.specs.Trees.{In}

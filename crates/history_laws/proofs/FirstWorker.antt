@@ -22,14 +22,14 @@ use Rattle.poa_choose.specs.declared.KeyFact.{KeyFact}
 use Rattle.poa_choose.specs.declared.KeyFact.TheVariants.{Absent, Bad as BadKey, OtherRun, Persistent, Transient}
 use Rattle.poa_choose.specs.declared.WalkFact.{WalkFact}
 use Rattle.poa_choose.specs.declared.WalkFact.TheVariants.{Dying as MeetsDying, Found as MeetsAdapter, Missing as MeetsMissing}
-use Rattle.poa_history.specs.Arrivals.{arrivals, call_of}
+use Rattle.history_standing.specs.Arrivals.{arrivals, call_of}
 use Rattle.poa_history.specs.Changes.{standing}
-use Rattle.poa_history.specs.Searches.{first_given}
+use Rattle.history_standing.specs.Searches.{first_given}
 use Rattle.poa_history.specs.Situations.{facts_of}
-use Rattle.poa_history.specs.Stages.{is_unadmitted, stage}
+use Rattle.history_standing.specs.Stages.{is_unadmitted, stage}
 use Rattle.poa_history.specs.Turns.{admission, admission_of, is_due, next_of, removal, turn}
 use Rattle.poa_history.specs.Verdicts.{chosen, verdict, verdict_on}
-use Rattle.poa_history.specs.declared.stage.Stage.TheVariants.{Free}
+use Rattle.history_standing.specs.declared.stage.Stage.TheVariants.{Free}
 use Rattle.std.proofs.Common.{◌∙◌, ap, ap₂, arith, sym}
 use Rattle.std.proofs.lemmas.Bool.{cond_both, true≢false}
 use Rattle.std.specs.Option.{option_or}

@@ -16,14 +16,14 @@ use Rattle.poa_history.specs.Bounds.{IsWithinLimits}
 use Rattle.poa_history.specs.Changes.{standing}
 use Rattle.poa_history.specs.InFlight.{IsManned}
 use Rattle.poa_history.specs.Legal.{IsLegal, MayFollow}
-use Rattle.poa_history.specs.Rules.{brought}
+use Rattle.history_standing.specs.Rules.{brought}
 use Rattle.poa_history.specs.Sound.{IsGiven}
-use Rattle.poa_history.specs.Stages.{arrival_in, begun_by, brings, incarnated, ran, stage}
-use Rattle.poa_history.specs.Standings.{Standing}
+use Rattle.history_standing.specs.Stages.{arrival_in, begun_by, brings, incarnated, ran, stage}
+use Rattle.history_standing.specs.Standings.{Standing}
 use Rattle.poa_history.specs.Turns.{activation_numbered, attempt, turn}
-use Rattle.poa_history.specs.declared.flight.Flight.{Flight}
-use Rattle.poa_history.specs.declared.stage.Stage.{Stage}
-use Rattle.poa_history.specs.declared.stage.Stage.TheVariants.{Free, Incarnating, Ran, Removing, Serving, Trying}
+use Rattle.history_standing.specs.declared.flight.Flight.{Flight}
+use Rattle.history_standing.specs.declared.stage.Stage.{Stage}
+use Rattle.history_standing.specs.declared.stage.Stage.TheVariants.{Free, Incarnating, Ran, Removing, Serving, Trying}
 use Rattle.poa_tree.specs.Trees.{In}
 use Rattle.std.proofs.Common.{◌∙◌, ap, inl, inr, subst, sym}
 use Rattle.std.proofs.lemmas.Bool.{cond_both, true≢false}

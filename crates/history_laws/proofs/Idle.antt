@@ -14,25 +14,25 @@ use Rattle.poa_history.proofs.MannedKept.{all_manned}
 use Rattle.poa_history.proofs.OutIs.{out_run_out}
 use Rattle.poa_history.proofs.SettledKept.{not_false, not_true, or_first, or_second}
 use Rattle.poa_history.specs.Alone.{IsGivenAlone}
-use Rattle.poa_history.specs.Arrivals.{arrivals}
+use Rattle.history_standing.specs.Arrivals.{arrivals}
 use Rattle.poa_history.specs.Bounds.{IsWithinLimits}
 use Rattle.poa_history.specs.Changes.{standing}
-use Rattle.poa_history.specs.Ends.{is_done_with, is_finished, is_gone, is_over}
+use Rattle.history_standing.specs.Ends.{is_done_with, is_finished, is_gone, is_over}
 use Rattle.poa_history.specs.InFlight.{Holds, IsManned}
 use Rattle.poa_history.specs.Legal.{IsLegal}
-use Rattle.poa_history.specs.Rules.{brought}
-use Rattle.poa_history.specs.Searches.{first_given}
+use Rattle.history_standing.specs.Rules.{brought}
+use Rattle.history_standing.specs.Searches.{first_given}
 use Rattle.poa_history.specs.Situations.{is_changing, is_unfinished}
 use Rattle.poa_history.specs.Sound.{IsGiven, IsSound}
-use Rattle.poa_history.specs.Stages.{arrival_in, stage}
-use Rattle.poa_history.specs.Standings.{Standing, is_active, is_begun, is_complete, is_ending, is_used, is_void}
-use Rattle.poa_history.specs.Templates.{has_activator}
+use Rattle.history_standing.specs.Stages.{arrival_in, stage}
+use Rattle.history_standing.specs.Standings.{Standing, is_active, is_begun, is_complete, is_ending, is_used, is_void}
+use Rattle.history_standing.specs.Templates.{has_activator}
 use Rattle.poa_history.specs.Turns.{activation_numbered, admission, admission_of, attempt, going_on, is_due, next_of, removal, turn}
-use Rattle.poa_history.specs.declared.activation.Activation.{Activation}
-use Rattle.poa_history.specs.declared.activation.Phase.{Phase}
-use Rattle.poa_history.specs.declared.activation.Phase.TheVariants.{Begun, Complete, Void}
-use Rattle.poa_history.specs.declared.stage.Stage.{Stage}
-use Rattle.poa_history.specs.declared.stage.Stage.TheVariants.{Free, Incarnating, Ran, Removing, Serving, Trying}
+use Rattle.history_standing.specs.declared.activation.Activation.{Activation}
+use Rattle.history_standing.specs.declared.activation.Phase.{Phase}
+use Rattle.history_standing.specs.declared.activation.Phase.TheVariants.{Begun, Complete, Void}
+use Rattle.history_standing.specs.declared.stage.Stage.{Stage}
+use Rattle.history_standing.specs.declared.stage.Stage.TheVariants.{Free, Incarnating, Ran, Removing, Serving, Trying}
 use Rattle.poa_tree.proofs.Finding.{find_none}
 use Rattle.poa_tree.specs.Nodes.{stands_under}
 use Rattle.poa_tree.specs.Paths.{is_root, leads_to}

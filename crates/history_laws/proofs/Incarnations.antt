@@ -24,17 +24,17 @@ use Rattle.poa_history.proofs.TurnTells.{admission_is, incarnation_is}
 use Rattle.poa_history.specs.Alone.{IsGivenAlone}
 use Rattle.poa_history.specs.Bounds.{IsWithinLimits}
 use Rattle.poa_history.specs.Changes.{standing}
-use Rattle.poa_history.specs.Ends.{is_finished, is_over}
+use Rattle.history_standing.specs.Ends.{is_finished, is_over}
 use Rattle.poa_history.specs.Legal.{IsLegal, MayFollow}
-use Rattle.poa_history.specs.Logs.{command_done}
-use Rattle.poa_history.specs.Rules.{brought, brought_by, named_or_double, rule_for}
+use Rattle.history_standing.specs.Logs.{command_done}
+use Rattle.history_standing.specs.Rules.{brought, brought_by, named_or_double, rule_for}
 use Rattle.poa_history.specs.Sound.{IsGiven, IsSound}
-use Rattle.poa_history.specs.Standings.{Standing, is_void}
+use Rattle.history_standing.specs.Standings.{Standing, is_void}
 use Rattle.poa_history.specs.States.{kind_brought}
-use Rattle.poa_history.specs.Templates.{has_activator, rules_at}
-use Rattle.poa_history.specs.declared.activation.Activation.{Activation}
-use Rattle.poa_history.specs.declared.activation.Phase.TheVariants.{Begun, Complete, Void}
-use Rattle.poa_history.specs.declared.stage.Stage.TheVariants.{Incarnating}
+use Rattle.history_standing.specs.Templates.{has_activator, rules_at}
+use Rattle.history_standing.specs.declared.activation.Activation.{Activation}
+use Rattle.history_standing.specs.declared.activation.Phase.TheVariants.{Begun, Complete, Void}
+use Rattle.history_standing.specs.declared.stage.Stage.TheVariants.{Incarnating}
 use Rattle.poa_tree.proofs.Finding.{find_in}
 use Rattle.poa_tree.specs.Trees.{In}
 use Rattle.std.proofs.Common.{◌∙◌, ap, ap₂, arith, inl, inr, subst, sym}

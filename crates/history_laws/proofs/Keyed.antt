@@ -17,7 +17,6 @@ use Rattle.poa_choose.specs.Table.{first_row}
 use Rattle.poa_choose.specs.declared.Choice.TheVariants.{Go}
 use Rattle.poa_history.proofs.ActivationsLater.{step_later}
 use Rattle.poa_history.proofs.CommandAnswers.{begin_keyed, is_begin}
-use Rattle.poa_history.proofs.IdsFew.{arrivals_kept, call_kept}
 use Rattle.poa_history.proofs.LegalSound.{legal_sound}
 use Rattle.poa_history.proofs.MannedKept.{all_manned}
 use Rattle.poa_history.proofs.Served.{IsServed, active as active_served, incarnated as incarnated_served, located as located_served, preset as preset_served, served_by}
@@ -26,28 +25,29 @@ use Rattle.poa_history.proofs.StepMoves.{chosen_go}
 use Rattle.poa_history.proofs.TableRuns.{is_run}
 use Rattle.poa_history.proofs.TurnTells.{IsAdmission, admission_is}
 use Rattle.poa_history.specs.Alone.{IsGivenAlone}
-use Rattle.poa_history.specs.Arrivals.{arrivals, call_of}
+use Rattle.history_standing.specs.Arrivals.{arrivals, call_of}
 use Rattle.poa_history.specs.Bounds.{IsWithinLimits}
 use Rattle.poa_history.specs.Changes.{changed, standing, with_admitted}
-use Rattle.poa_history.specs.Ends.{let_out}
-use Rattle.poa_history.specs.Keys.{key_in}
+use Rattle.history_standing.specs.Ends.{let_out}
+use Rattle.history_standing.specs.Keys.{key_in}
 use Rattle.poa_history.specs.Legal.{IsLegal, MayFollow}
 use Rattle.poa_history.specs.Situations.{facts_of, key_or_none}
 use Rattle.poa_history.specs.Sound.{IsGiven, IsSound}
-use Rattle.poa_history.specs.Stages.{admitted, arrival_in, is_at, stage}
-use Rattle.poa_history.specs.Standings.{Standing, is_active, is_complete, is_void}
-use Rattle.poa_history.specs.Templates.{has_activator, policies_at, retains, uses_servant_manager}
+use Rattle.history_standing.specs.Stages.{admitted, arrival_in, is_at, stage}
+use Rattle.history_standing.specs.Standings.{Standing, is_active, is_complete, is_void}
+use Rattle.history_standing.specs.Templates.{has_activator, policies_at, retains, uses_servant_manager}
 use Rattle.poa_history.specs.Turns.{admission}
 use Rattle.poa_history.specs.Verdicts.{chosen, verdict_on}
-use Rattle.poa_history.specs.declared.activation.Activation.{Activation}
-use Rattle.poa_history.specs.declared.activation.Phase.{Phase}
-use Rattle.poa_history.specs.declared.activation.Phase.TheVariants.{Begun, Complete, Void}
+use Rattle.history_standing.specs.declared.activation.Activation.{Activation}
+use Rattle.history_standing.specs.declared.activation.Phase.{Phase}
+use Rattle.history_standing.specs.declared.activation.Phase.TheVariants.{Begun, Complete, Void}
 use Rattle.poa_tree.proofs.Members.{image_in, in_back}
 use Rattle.poa_tree.specs.Trees.{In}
 use Rattle.poa_tree.specs.Walks.{adapter_met, walk}
 use Rattle.std.proofs.Common.{◌∙◌, ap, ap₂, arith, inl, inr, subst, sym}
 use Rattle.std.proofs.lemmas.Bool.{and_parts, cond_both, eqb-true, false_from_ne_true, true≢false}
 use Rattle.std.specs.Prelude.{◌&&◌, ◌<◌, ◌==◌, ◌||◌, ◌∷◌, ◌≡◌, ◌⊎◌, Bool, List, None, Option, Some, [], false, length, not, refl, true, ℕ}
+use Rattle.history_standing.proofs.CallsKept.{arrivals_kept, call_kept}
 
 -- the activation stands, with the path and the id of the key
 pub record StandsFor (s : Standing) (n : ℕ) (key : Key) : Type 0 where

@@ -10,11 +10,11 @@ use Rattle.poa_history.proofs.ActivationsLater.{step_later}
 use Rattle.poa_history.proofs.AloneKept.{of_servant}
 use Rattle.poa_history.specs.Changes.{servant_of, standing}
 use Rattle.poa_history.specs.Sound.{IsSound}
-use Rattle.poa_history.specs.Standings.{Standing}
+use Rattle.history_standing.specs.Standings.{Standing}
 use Rattle.poa_history.specs.States.{Stored, is_of_kind, restored, state_of, stored}
-use Rattle.poa_history.specs.declared.activation.Activation.{Activation}
-use Rattle.poa_history.specs.declared.activation.Phase.{Phase}
-use Rattle.poa_history.specs.declared.activation.Phase.TheVariants.{Begun, Complete}
+use Rattle.history_standing.specs.declared.activation.Activation.{Activation}
+use Rattle.history_standing.specs.declared.activation.Phase.{Phase}
+use Rattle.history_standing.specs.declared.activation.Phase.TheVariants.{Begun, Complete}
 use Rattle.poa_tree.specs.Trees.{In}
 use Rattle.std.proofs.Common.{◌∙◌, ap, inl, inr, subst, sym}
 use Rattle.std.proofs.lemmas.Bool.{false_from_ne_true, true≢false}

@@ -22,13 +22,13 @@ use Rattle.poa_history.specs.Changes.{standing}
 use Rattle.poa_history.specs.InFlight.{Holds, IsManned}
 use Rattle.poa_history.specs.Legal.{IsLegal}
 use Rattle.poa_history.specs.Sound.{IsGiven, IsSound}
-use Rattle.poa_history.specs.Stages.{stage}
-use Rattle.poa_history.specs.Standings.{Standing}
+use Rattle.history_standing.specs.Stages.{stage}
+use Rattle.history_standing.specs.Standings.{Standing}
 use Rattle.poa_history.specs.States.{Stored, fresh_only, is_stored_by, restored, state_of, stored}
-use Rattle.poa_history.specs.declared.activation.Activation.{Activation}
-use Rattle.poa_history.specs.declared.activation.Phase.{Phase}
-use Rattle.poa_history.specs.declared.activation.Phase.TheVariants.{Begun, Complete, Void}
-use Rattle.poa_history.specs.declared.stage.Stage.TheVariants.{Removing}
+use Rattle.history_standing.specs.declared.activation.Activation.{Activation}
+use Rattle.history_standing.specs.declared.activation.Phase.{Phase}
+use Rattle.history_standing.specs.declared.activation.Phase.TheVariants.{Begun, Complete, Void}
+use Rattle.history_standing.specs.declared.stage.Stage.TheVariants.{Removing}
 use Rattle.poa_tree.proofs.Finding.{find_in, path_same, same_path_self}
 use Rattle.poa_tree.proofs.Leading.{bytes_same, same_self}
 use Rattle.poa_tree.specs.Paths.{same_bytes, same_path}

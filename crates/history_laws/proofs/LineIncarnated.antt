@@ -24,17 +24,17 @@ use Rattle.poa_history.specs.Bounds.{IsWithinLimits}
 use Rattle.poa_history.specs.Changes.{standing}
 use Rattle.poa_history.specs.InFlight.{Holds, IsManned}
 use Rattle.poa_history.specs.Legal.{IsLegal}
-use Rattle.poa_history.specs.Rules.{brought, brought_by, named_or_double, not_active, rule_for}
+use Rattle.history_standing.specs.Rules.{brought, brought_by, named_or_double, not_active, rule_for}
 use Rattle.poa_history.specs.Sound.{IsGiven, IsSound}
-use Rattle.poa_history.specs.Stages.{stage}
-use Rattle.poa_history.specs.Standings.{Standing, is_in_map}
+use Rattle.history_standing.specs.Stages.{stage}
+use Rattle.history_standing.specs.Standings.{Standing, is_in_map}
 use Rattle.poa_history.specs.States.{Stored, kind_brought, restored, state_of, stored}
-use Rattle.poa_history.specs.Templates.{is_unique, policies_at, rules_at, servant_name}
+use Rattle.history_standing.specs.Templates.{is_unique, policies_at, rules_at, servant_name}
 use Rattle.poa_history.specs.Turns.{activation_numbered}
-use Rattle.poa_history.specs.declared.activation.Activation.{Activation}
-use Rattle.poa_history.specs.declared.activation.Phase.{Phase}
-use Rattle.poa_history.specs.declared.activation.Phase.TheVariants.{Begun, Complete, Void}
-use Rattle.poa_history.specs.declared.stage.Stage.TheVariants.{Incarnating}
+use Rattle.history_standing.specs.declared.activation.Activation.{Activation}
+use Rattle.history_standing.specs.declared.activation.Phase.{Phase}
+use Rattle.history_standing.specs.declared.activation.Phase.TheVariants.{Begun, Complete, Void}
+use Rattle.history_standing.specs.declared.stage.Stage.TheVariants.{Incarnating}
 use Rattle.poa_tree.proofs.Finding.{find_in, path_same, same_path_self}
 use Rattle.poa_tree.proofs.Leading.{bytes_same, same_self}
 use Rattle.poa_tree.specs.Paths.{same_bytes, same_path}

@@ -28,14 +28,14 @@ use Rattle.poa_history.specs.InFlight.{Holds, IsManned, IsRunning, named}
 use Rattle.poa_history.specs.Legal.{IsLegal}
 use Rattle.poa_history.specs.Replies.{reply_run}
 use Rattle.poa_history.specs.Sound.{IsGiven, IsSound}
-use Rattle.poa_history.specs.Stages.{stage}
-use Rattle.poa_history.specs.Standings.{Standing, same_servant}
+use Rattle.history_standing.specs.Stages.{stage}
+use Rattle.history_standing.specs.Standings.{Standing, same_servant}
 use Rattle.poa_history.specs.States.{Stored, acted, call_run, is_servant, servant_by, servant_named, servant_of_activation, servant_run, state_of}
-use Rattle.poa_history.specs.Templates.{policies_at, retains, servant_number, uses_servant_manager}
+use Rattle.history_standing.specs.Templates.{policies_at, retains, servant_number, uses_servant_manager}
 use Rattle.poa_history.specs.Turns.{activation_numbered}
-use Rattle.poa_history.specs.declared.activation.Activation.{Activation}
-use Rattle.poa_history.specs.declared.activation.Phase.TheVariants.{Begun, Complete, Void}
-use Rattle.poa_history.specs.declared.stage.Stage.TheVariants.{Serving}
+use Rattle.history_standing.specs.declared.activation.Activation.{Activation}
+use Rattle.history_standing.specs.declared.activation.Phase.TheVariants.{Begun, Complete, Void}
+use Rattle.history_standing.specs.declared.stage.Stage.TheVariants.{Serving}
 use Rattle.poa_tree.proofs.Finding.{find_in, find_none, path_same, same_path_self}
 use Rattle.poa_tree.proofs.Leading.{bytes_same, same_self}
 use Rattle.poa_tree.specs.Paths.{same_bytes, same_path}

@@ -10,17 +10,17 @@ use Rattle.poa_base.specs.declared.Incarnation.{Incarnation}
 use Rattle.poa_base.specs.declared.Incarnation.TheVariants.{Double, Forward as ForwardTo, Fresh, Named, Raise}
 use Rattle.poa_base.specs.declared.Order.TheVariants.{Activate as ActivateAll, Deactivate as DeactivateAll, Discard, Hold}
 use Rattle.poa_history.proofs.NodesFrom.{nodes_admitted}
-use Rattle.poa_history.specs.Arrivals.{call_of}
+use Rattle.history_standing.specs.Arrivals.{call_of}
 use Rattle.poa_history.specs.Changes.{changed, child_tried, standing, with_admitted, with_child, with_command, with_etherealized, with_incarnated, with_made_activation, with_manager_off, with_reference, with_tried, without_flight}
-use Rattle.poa_history.specs.Commands.{is_implicit, live_at}
-use Rattle.poa_history.specs.Ends.{is_done_with, let_out, settled}
-use Rattle.poa_history.specs.Keys.{key_in}
-use Rattle.poa_history.specs.Logs.{command_done}
-use Rattle.poa_history.specs.Stages.{arrival_in, stage}
-use Rattle.poa_history.specs.Standings.{Standing}
-use Rattle.poa_history.specs.Templates.{manager_number, servant_number}
-use Rattle.poa_history.specs.declared.stage.Stage.{Stage}
-use Rattle.poa_history.specs.declared.stage.Stage.TheVariants.{Free, Incarnating, Ran, Removing, Serving, Trying}
+use Rattle.history_standing.specs.Commands.{is_implicit, live_at}
+use Rattle.history_standing.specs.Ends.{is_done_with, let_out, settled}
+use Rattle.history_standing.specs.Keys.{key_in}
+use Rattle.history_standing.specs.Logs.{command_done}
+use Rattle.history_standing.specs.Stages.{arrival_in, stage}
+use Rattle.history_standing.specs.Standings.{Standing}
+use Rattle.history_standing.specs.Templates.{manager_number, servant_number}
+use Rattle.history_standing.specs.declared.stage.Stage.{Stage}
+use Rattle.history_standing.specs.declared.stage.Stage.TheVariants.{Free, Incarnating, Ran, Removing, Serving, Trying}
 use Rattle.poa_tree.proofs.Members.{image_in, in_front, kept_in}
 use Rattle.poa_tree.proofs.TreeKept.{marked_number, marked_path}
 use Rattle.poa_tree.specs.Nodes.{created, marked}

@@ -21,19 +21,19 @@ use Rattle.poa_history.proofs.DyingIs.{dying_is}
 use Rattle.poa_history.proofs.LegalSound.{legal_sound}
 use Rattle.poa_history.proofs.SettledKept.{or_first}
 use Rattle.poa_history.specs.Alone.{IsGivenAlone}
-use Rattle.poa_history.specs.Arrivals.{arrivals, call_of}
+use Rattle.history_standing.specs.Arrivals.{arrivals, call_of}
 use Rattle.poa_history.specs.Bounds.{IsWithinLimits}
 use Rattle.poa_history.specs.Changes.{standing}
 use Rattle.poa_history.specs.Destroyed.{destroys, was_destroyed}
-use Rattle.poa_history.specs.Ends.{is_over}
-use Rattle.poa_history.specs.Keys.{key_in}
+use Rattle.history_standing.specs.Ends.{is_over}
+use Rattle.history_standing.specs.Keys.{key_in}
 use Rattle.poa_history.specs.Legal.{IsLegal}
-use Rattle.poa_history.specs.Logs.{command_done}
+use Rattle.history_standing.specs.Logs.{command_done}
 use Rattle.poa_history.specs.Replies.{decided}
 use Rattle.poa_history.specs.Situations.{facts_of, key_or_none, walk_fact}
 use Rattle.poa_history.specs.Sound.{IsGiven, IsSound}
-use Rattle.poa_history.specs.Standings.{Standing}
-use Rattle.poa_history.specs.declared.activation.Activation.{Activation}
+use Rattle.history_standing.specs.Standings.{Standing}
+use Rattle.history_standing.specs.declared.activation.Activation.{Activation}
 use Rattle.poa_tree.proofs.WalkStands.{node_found, node_missing}
 use Rattle.poa_tree.specs.Nodes.{node_at}
 use Rattle.poa_tree.specs.Paths.{leads_to}

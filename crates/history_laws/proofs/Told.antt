@@ -9,7 +9,6 @@ use Rattle.poa_history.proofs.AloneKept.{all_open}
 use Rattle.poa_history.proofs.EndingsAre.{more_activations}
 use Rattle.poa_history.proofs.LegalSound.{legal_sound}
 use Rattle.poa_history.proofs.MannedKept.{all_manned}
-use Rattle.poa_history.proofs.OutIs.{same_test}
 use Rattle.poa_history.proofs.SettledKept.{or_first, or_second}
 use Rattle.poa_history.specs.Alone.{IsGivenAlone}
 use Rattle.poa_history.specs.Bounds.{IsWithinLimits}
@@ -17,14 +16,15 @@ use Rattle.poa_history.specs.Changes.{standing}
 use Rattle.poa_history.specs.InFlight.{Holds}
 use Rattle.poa_history.specs.Legal.{IsLegal}
 use Rattle.poa_history.specs.Sound.{IsGiven}
-use Rattle.poa_history.specs.Stages.{stage}
-use Rattle.poa_history.specs.declared.activation.Activation.{Activation}
-use Rattle.poa_history.specs.declared.stage.Stage.{Stage}
-use Rattle.poa_history.specs.declared.stage.Stage.TheVariants.{Free, Incarnating, Ran, Removing, Serving, Trying}
+use Rattle.history_standing.specs.Stages.{stage}
+use Rattle.history_standing.specs.declared.activation.Activation.{Activation}
+use Rattle.history_standing.specs.declared.stage.Stage.{Stage}
+use Rattle.history_standing.specs.declared.stage.Stage.TheVariants.{Free, Incarnating, Ran, Removing, Serving, Trying}
 use Rattle.poa_tree.specs.Trees.{In}
 use Rattle.std.proofs.Common.{◌∙◌, ap, arith, inl, inr, subst, sym}
 use Rattle.std.proofs.lemmas.Bool.{eq-eqb, eqb-true, or_cases, true≢false}
 use Rattle.std.specs.Prelude.{◌<◌, ◌∷◌, ◌≡◌, ◌⊎◌, Bool, List, [], false, length, refl, true, ℕ}
+use Rattle.history_standing.proofs.Tests.{same_test}
 
 module _ (c : Config) (run limit : ℕ) (given : IsGiven c run) (alone : IsGivenAlone c run) (within : IsWithinLimits c limit) where
   removing_is : (n : ℕ) (b : Stage) → is_removing n b ≡ true → b ≡ Removing n

@@ -18,21 +18,21 @@ use Rattle.poa_choose.specs.declared.MapFact.TheVariants.{Active as ActiveAs, Bu
 use Rattle.poa_history.proofs.MannedKept.{all_manned}
 use Rattle.poa_history.proofs.SettledKept.{not_true}
 use Rattle.poa_history.specs.Alone.{IsGivenAlone}
-use Rattle.poa_history.specs.Arrivals.{arrivals, call_of, is_message}
+use Rattle.history_standing.specs.Arrivals.{arrivals, call_of, is_message}
 use Rattle.poa_history.specs.Bounds.{IsWithinLimits}
 use Rattle.poa_history.specs.Changes.{standing}
-use Rattle.poa_history.specs.Ends.{is_over}
+use Rattle.history_standing.specs.Ends.{is_over}
 use Rattle.poa_history.specs.InFlight.{Holds, IsFlying, IsManned}
-use Rattle.poa_history.specs.Keys.{key_in}
+use Rattle.history_standing.specs.Keys.{key_in}
 use Rattle.poa_history.specs.Legal.{IsLegal}
 use Rattle.poa_history.specs.Situations.{facts_of, key_or_none, slot_of}
 use Rattle.poa_history.specs.Sound.{IsGiven}
-use Rattle.poa_history.specs.Stages.{arrival_in, is_unadmitted, stage}
-use Rattle.poa_history.specs.Standings.{Standing, is_active, is_of, is_running, is_tried}
+use Rattle.history_standing.specs.Stages.{arrival_in, is_unadmitted, stage}
+use Rattle.history_standing.specs.Standings.{Standing, is_active, is_of, is_running, is_tried}
 use Rattle.poa_history.specs.Verdicts.{chosen, verdict, verdict_on}
-use Rattle.poa_history.specs.declared.flight.Flight.{Flight}
-use Rattle.poa_history.specs.declared.stage.Stage.{Stage}
-use Rattle.poa_history.specs.declared.stage.Stage.TheVariants.{Free, Incarnating, Ran, Removing, Serving, Trying}
+use Rattle.history_standing.specs.declared.flight.Flight.{Flight}
+use Rattle.history_standing.specs.declared.stage.Stage.{Stage}
+use Rattle.history_standing.specs.declared.stage.Stage.TheVariants.{Free, Incarnating, Ran, Removing, Serving, Trying}
 use Rattle.poa_tree.proofs.Finding.{find_in, find_none}
 use Rattle.poa_tree.specs.Trees.{In}
 use Rattle.poa_tree.specs.Walks.{adapter_met, child_met, walk}

@@ -13,14 +13,14 @@ use Rattle.poa_choose.specs.declared.Choice.{Choice}
 use Rattle.poa_choose.specs.declared.Choice.TheVariants.{Go}
 use Rattle.poa_choose.specs.declared.Facts.{Facts}
 use Rattle.poa_history.proofs.TableTells.{AsksAlone, adapter as asks_adapter, asked, servant as asks_servant}
-use Rattle.poa_history.specs.Commands.{activate_id_row, command_verdict, create_row, good, good_or_wait, is_bad_id, is_implicit, is_inactive, is_taken, live_at, manager_row, reference_row, referred, refusal, waits, with_live, with_servant}
-use Rattle.poa_history.specs.Ends.{is_over}
-use Rattle.poa_history.specs.Logs.{endpoint_of, manager_state}
-use Rattle.poa_history.specs.Opening.{made_id}
-use Rattle.poa_history.specs.References.{reference_text}
+use Rattle.history_standing.specs.Commands.{activate_id_row, command_verdict, create_row, good, good_or_wait, is_bad_id, is_implicit, is_inactive, is_taken, live_at, manager_row, reference_row, referred, refusal, waits, with_live, with_servant}
+use Rattle.history_standing.specs.Ends.{is_over}
+use Rattle.history_standing.specs.Logs.{endpoint_of, manager_state}
+use Rattle.history_standing.specs.Opening.{made_id}
+use Rattle.history_standing.specs.References.{reference_text}
 use Rattle.poa_history.specs.Replies.{asks, is_waiting}
-use Rattle.poa_history.specs.Standings.{Standing, is_active, is_of, is_tried}
-use Rattle.poa_history.specs.Templates.{makes_ids, manager_number, policies_at, retains, servant_number, template, uses_default_servant}
+use Rattle.history_standing.specs.Standings.{Standing, is_active, is_of, is_tried}
+use Rattle.history_standing.specs.Templates.{makes_ids, manager_number, policies_at, retains, servant_number, template, uses_default_servant}
 use Rattle.poa_tree.specs.Nodes.{node_at}
 use Rattle.poa_tree.specs.Paths.{parent_path}
 use Rattle.poa_tree.specs.declared.node.Node.{Node}

@@ -7,11 +7,11 @@ use Rattle.poa_history.proofs.StagesFrom.{maker, stage_other}
 use Rattle.poa_history.proofs.TurnIs.{mapped_by}
 use Rattle.poa_history.specs.Changes.{standing}
 use Rattle.poa_history.specs.Legal.{IsLegal, IsTurn, MayFollow}
-use Rattle.poa_history.specs.Rules.{brought}
-use Rattle.poa_history.specs.Stages.{stage}
+use Rattle.history_standing.specs.Rules.{brought}
+use Rattle.history_standing.specs.Stages.{stage}
 use Rattle.poa_history.specs.Turns.{activation_numbered, going_on, next_of, turn}
-use Rattle.poa_history.specs.declared.stage.Stage.{Stage}
-use Rattle.poa_history.specs.declared.stage.Stage.TheVariants.{Free, Incarnating, Ran, Removing, Serving, Trying}
+use Rattle.history_standing.specs.declared.stage.Stage.{Stage}
+use Rattle.history_standing.specs.declared.stage.Stage.TheVariants.{Free, Incarnating, Ran, Removing, Serving, Trying}
 use Rattle.std.proofs.Common.{◌∙◌, ap, arith, inl, inr, subst, sym}
 use Rattle.std.proofs.lemmas.Bool.{cases_Bool, eq-eqb, eqb-true, ltb-false, ltb-true, true≢false}
 use Rattle.std.specs.Prelude.{◌<◌, ◌==◌, ◌∷◌, ◌≡◌, ◌≤◌, ◌⊎◌, Bool, List, None, Option, Some, [], nat_lt, refl, ℕ}

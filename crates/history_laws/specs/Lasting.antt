@@ -3,7 +3,7 @@ use Rattle.std.specs.Prelude.{◌<◌, ◌≡◌, ◌⊎◌, List, true, ℕ}
 use Rattle.poa_base.specs.declared.Config.{Config}
 use Rattle.poa_base.specs.declared.Entry.{Entry}
 use Rattle.poa_base.specs.declared.Kind.{Kind}
-use Rattle.poa_history.specs.Arrivals.{arrivals}
+use Rattle.history_standing.specs.Arrivals.{arrivals}
 use Rattle.poa_history.specs.Replies.{decided}
 use Rattle.poa_history.specs.States.{Stored}
 use Rattle.history_laws.specs.OneLine.{AreIncarnated, BringsFresh, HasLineState, IsOneLine, KeepsLineState}

@@ -13,19 +13,19 @@ use Rattle.poa_base.specs.declared.RuleConf.{RuleConf}
 use Rattle.poa_names.specs.declared.Sid.TheVariants.{Fresh as FreshServant}
 use Rattle.poa_names.specs.declared.State.{State}
 use Rattle.poa_base.specs.declared.Verdict.TheVariants.{Incarnate}
-use Rattle.poa_history.specs.Arrivals.{call_of}
+use Rattle.history_standing.specs.Arrivals.{call_of}
 use Rattle.poa_history.specs.Changes.{standing}
-use Rattle.poa_history.specs.Ends.{is_over}
-use Rattle.poa_history.specs.Keys.{key_in}
+use Rattle.history_standing.specs.Ends.{is_over}
+use Rattle.history_standing.specs.Keys.{key_in}
 use Rattle.poa_history.specs.Replies.{reply_run}
-use Rattle.poa_history.specs.Rules.{rule_for}
-use Rattle.poa_history.specs.Stages.{stage}
+use Rattle.history_standing.specs.Rules.{rule_for}
+use Rattle.history_standing.specs.Stages.{stage}
 use Rattle.poa_history.specs.States.{Stored, acted, call_run, restored, servant_run, state_of, stored}
-use Rattle.poa_history.specs.Templates.{policies_at, retains, rules_at, uses_servant_manager}
-use Rattle.poa_history.specs.declared.activation.Activation.{Activation}
-use Rattle.poa_history.specs.declared.activation.Phase.TheVariants.{Complete}
-use Rattle.poa_history.specs.declared.stage.Stage.{Stage}
-use Rattle.poa_history.specs.declared.stage.Stage.TheVariants.{Serving}
+use Rattle.history_standing.specs.Templates.{policies_at, retains, rules_at, uses_servant_manager}
+use Rattle.history_standing.specs.declared.activation.Activation.{Activation}
+use Rattle.history_standing.specs.declared.activation.Phase.TheVariants.{Complete}
+use Rattle.history_standing.specs.declared.stage.Stage.{Stage}
+use Rattle.history_standing.specs.declared.stage.Stage.TheVariants.{Serving}
 use Rattle.poa_tree.specs.Paths.{same_bytes, same_path}
 use Rattle.poa_tree.specs.Trees.{In}
 use Rattle.std.specs.Prelude.{◌&&◌, ◌==◌, ◌||◌, ◌∷◌, ◌≡◌, Bool, List, None, Option, Some, [], false, if◌then◌else◌, true, ℕ}

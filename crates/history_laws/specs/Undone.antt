@@ -9,21 +9,21 @@ use Rattle.poa_base.specs.declared.Entry.TheVariants.{Etherealized}
 use Rattle.poa_names.specs.declared.ManagerState.TheVariants.{Holding}
 use Rattle.poa_choose.specs.Table.{first_row}
 use Rattle.poa_choose.specs.declared.Choice.TheVariants.{Held}
-use Rattle.poa_history.specs.Arrivals.{arrivals, call_of, is_message}
+use Rattle.history_standing.specs.Arrivals.{arrivals, call_of, is_message}
 use Rattle.poa_history.specs.Changes.{standing}
-use Rattle.poa_history.specs.Ends.{is_finished, is_gone, is_over}
-use Rattle.poa_history.specs.Logs.{command_done, manager_state}
+use Rattle.history_standing.specs.Ends.{is_finished, is_gone, is_over}
+use Rattle.history_standing.specs.Logs.{command_done, manager_state}
 use Rattle.poa_history.specs.Replies.{decided}
 use Rattle.poa_history.specs.Situations.{facts_of}
-use Rattle.poa_history.specs.Stages.{is_unadmitted, stage}
-use Rattle.poa_history.specs.Standings.{is_ending}
-use Rattle.poa_history.specs.Templates.{has_activator}
+use Rattle.history_standing.specs.Stages.{is_unadmitted, stage}
+use Rattle.history_standing.specs.Standings.{is_ending}
+use Rattle.history_standing.specs.Templates.{has_activator}
 use Rattle.poa_history.specs.Turns.{turn}
-use Rattle.poa_history.specs.declared.activation.Activation.{Activation}
-use Rattle.poa_history.specs.declared.activation.Phase.TheVariants.{Begun}
-use Rattle.poa_history.specs.declared.flight.Flight.{Flight}
-use Rattle.poa_history.specs.declared.stage.Stage.{Stage}
-use Rattle.poa_history.specs.declared.stage.Stage.TheVariants.{Free, Incarnating, Ran, Removing, Serving, Trying}
+use Rattle.history_standing.specs.declared.activation.Activation.{Activation}
+use Rattle.history_standing.specs.declared.activation.Phase.TheVariants.{Begun}
+use Rattle.history_standing.specs.declared.flight.Flight.{Flight}
+use Rattle.history_standing.specs.declared.stage.Stage.{Stage}
+use Rattle.history_standing.specs.declared.stage.Stage.TheVariants.{Free, Incarnating, Ran, Removing, Serving, Trying}
 use Rattle.poa_tree.specs.Paths.{is_root}
 use Rattle.poa_tree.specs.Trees.{In}
 use Rattle.poa_tree.specs.declared.node.Node.{Node}

@@ -7,17 +7,17 @@ ghost use Rattle.poa_tree.specs.Trees.{In};
 ghost use Rattle.poa_base.specs.declared.Kind.{Kind};
 ghost use Rattle.poa_history.specs.States.{Stored};
 ghost use Rattle.history_laws.specs.OneLine.{BringsFresh, AreIncarnated, IsOneLine, HasLineState, KeepsLineState};
-ghost use Rattle.poa_history.specs.declared.activation.Activation.{Activation};
+ghost use Rattle.history_standing.specs.declared.activation.Activation.{Activation};
 ghost use Rattle.poa_history.specs.Alone.{IsGivenAlone};
 ghost use Rattle.poa_history.specs.Bounds.{IsWithinLimits};
-ghost use Rattle.poa_history.specs.Arrivals.{arrivals};
+ghost use Rattle.history_standing.specs.Arrivals.{arrivals};
 ghost use Rattle.poa_history.specs.Changes.{standing};
 ghost use Rattle.poa_history.specs.Replies.{decided};
 ghost use Rattle.poa_history.specs.Legal.{IsLegal};
 ghost use Rattle.poa_history.specs.Sound.{IsGiven};
-ghost use Rattle.poa_history.specs.Stages.{stage};
+ghost use Rattle.history_standing.specs.Stages.{stage};
 ghost use Rattle.poa_history.specs.Turns.{turn};
-ghost use Rattle.poa_history.specs.declared.stage.Stage.TheVariants.{Free};
+ghost use Rattle.history_standing.specs.declared.stage.Stage.TheVariants.{Free};
 ghost use Rattle.history_laws.specs.Undone.{AreIdle, IsInHand, IsHeldBack, IsAllDone, IsAllOver, was_shut, was_told};
 
 /// Nothing stays undone. What was begun is in the hands of exactly one of the sixteen workers: each request in

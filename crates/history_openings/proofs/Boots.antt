@@ -13,8 +13,8 @@ use Rattle.poa_tree.specs.declared.node.Node.{Node}
 use Rattle.poa_tree.specs.Paths.{is_root}
 use Rattle.poa_tree.specs.Trees.{In, IsTree, MayCreate}
 use Rattle.poa_tree.proofs.Members.{in_front, in_back, in_either}
-use Rattle.poa_history.specs.Standings.{Standing}
-use Rattle.poa_history.specs.Opening.{with_node, root_alone, with_boots}
+use Rattle.history_standing.specs.Standings.{Standing}
+use Rattle.history_standing.specs.Opening.{with_node, root_alone, with_boots}
 use Rattle.poa_history.specs.Sound.{IsSound}
 use Rattle.poa_history.proofs.SettledKept.{not_true}
 use Rattle.poa_history.proofs.SoundKept.{with_node_sound}

@@ -16,11 +16,11 @@ use Rattle.poa_tree.specs.Nodes.{node_at}
 use Rattle.poa_tree.specs.Trees.{In}
 use Rattle.poa_tree.proofs.Members.{in_front, in_back, in_either}
 use Rattle.poa_tree.proofs.WalkStands.{node_found, node_missing}
-use Rattle.poa_history.specs.declared.activation.Activation.{Activation}
-use Rattle.poa_history.specs.declared.activation.Phase.TheVariants.{Complete}
-use Rattle.poa_history.specs.Templates.{policies_at, makes_ids, is_unique}
-use Rattle.poa_history.specs.Standings.{Standing}
-use Rattle.poa_history.specs.Opening.{number_at, with_activation, with_made, made_id, with_object, with_objects}
+use Rattle.history_standing.specs.declared.activation.Activation.{Activation}
+use Rattle.history_standing.specs.declared.activation.Phase.TheVariants.{Complete}
+use Rattle.history_standing.specs.Templates.{policies_at, makes_ids, is_unique}
+use Rattle.history_standing.specs.Standings.{Standing}
+use Rattle.history_standing.specs.Opening.{number_at, with_activation, with_made, made_id, with_object, with_objects}
 use Rattle.poa_history.specs.Alone.{IsMappedAlone}
 use Rattle.poa_history.specs.Sound.{IsHome, IsSound}
 use Rattle.poa_history.proofs.SoundKept.{MayLive, with_activation_sound}

@@ -11,8 +11,8 @@ use Rattle.conf_rules.specs.Rules.{KeepsRules, IsServant}
 use Rattle.conf_rules.proofs.Each.{each_at}
 use Rattle.poa_tree.specs.Paths.{same_bytes}
 use Rattle.poa_tree.specs.Trees.{In}
-use Rattle.poa_history.specs.Templates.{servant_number, servant_name}
-use Rattle.poa_history.specs.Opening.{root_alone, with_boots, opening}
+use Rattle.history_standing.specs.Templates.{servant_number, servant_name}
+use Rattle.history_standing.specs.Opening.{root_alone, with_boots, opening}
 use Rattle.poa_history.specs.Alone.{IsGivenAlone}
 use Rattle.poa_history.specs.Bounds.{IsWithinLimits}
 use Rattle.poa_history.specs.Sound.{IsGiven}

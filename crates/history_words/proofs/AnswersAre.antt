@@ -17,19 +17,19 @@ use Rattle.poa_base.specs.declared.Entry.TheVariants.{Run, Done, TakeOut, Ethere
 use Rattle.poa_tree.specs.declared.node.Node.{Node}
 use Rattle.poa_tree.specs.Trees.{In}
 use Rattle.poa_tree.proofs.Members.{in_back, image_in}
-use Rattle.poa_history.specs.declared.activation.Activation.{Activation}
-use Rattle.poa_history.specs.Arrivals.{call_of}
+use Rattle.history_standing.specs.declared.activation.Activation.{Activation}
+use Rattle.history_standing.specs.Arrivals.{call_of}
 use Rattle.poa_history.specs.Bounds.{IsWithinLimits}
 use Rattle.poa_history.specs.Changes.{standing, changed}
-use Rattle.poa_history.specs.Commands.{refusal, live_at, with_servant, is_taken, referred, is_implicit, activate_row, reference_row, command_verdict}
-use Rattle.poa_history.specs.Ends.{let_out}
+use Rattle.history_standing.specs.Commands.{refusal, live_at, with_servant, is_taken, referred, is_implicit, activate_row, reference_row, command_verdict}
+use Rattle.history_standing.specs.Ends.{let_out}
 use Rattle.poa_history.specs.Legal.{MayFollow, EachEntry, IsLegal}
-use Rattle.poa_history.specs.Logs.{is_accepted, command_in, command_done}
-use Rattle.poa_history.specs.Opening.{made_id}
-use Rattle.poa_history.specs.References.{reference_text}
+use Rattle.history_standing.specs.Logs.{is_accepted, command_in, command_done}
+use Rattle.history_standing.specs.Opening.{made_id}
+use Rattle.history_standing.specs.References.{reference_text}
 use Rattle.poa_history.specs.Sound.{IsGiven, IsSound}
-use Rattle.poa_history.specs.Standings.{Standing}
-use Rattle.poa_history.specs.Templates.{policies_at, retains, makes_ids, activates_implicitly, servant_number}
+use Rattle.history_standing.specs.Standings.{Standing}
+use Rattle.history_standing.specs.Templates.{policies_at, retains, makes_ids, activates_implicitly, servant_number}
 use Rattle.poa_history.specs.Verdicts.{verdict_on}
 use Rattle.poa_history.proofs.ActivationsFrom.{activation_from, begun as activation_begun, stood as activation_stood}
 use Rattle.poa_history.proofs.ActivationsFrom.{incarnating, activating, activating_id, referring}

@@ -18,26 +18,27 @@ use Rattle.poa_tree.specs.declared.node.Node.{Node}
 use Rattle.poa_tree.specs.Trees.{In}
 use Rattle.poa_tree.specs.Walks.{walk, child_met}
 use Rattle.poa_tree.proofs.Finding.{find_in}
-use Rattle.poa_history.specs.declared.flight.Flight.{Flight}
+use Rattle.history_standing.specs.declared.flight.Flight.{Flight}
 use Rattle.poa_history.specs.Alone.{IsGivenAlone}
-use Rattle.poa_history.specs.Arrivals.{arrivals}
+use Rattle.history_standing.specs.Arrivals.{arrivals}
 use Rattle.poa_history.specs.Bounds.{IsWithinLimits}
 use Rattle.poa_history.specs.Changes.{standing, child_tried}
-use Rattle.poa_history.specs.Keys.{key_in}
+use Rattle.history_standing.specs.Keys.{key_in}
 use Rattle.poa_history.specs.Legal.{MayFollow, IsLegal}
 use Rattle.poa_history.specs.Settling.{before_admit}
 use Rattle.poa_history.specs.Sound.{IsGiven}
-use Rattle.poa_history.specs.Stages.{stage, arrival_in, is_unadmitted}
-use Rattle.poa_history.specs.Standings.{Standing}
-use Rattle.poa_history.specs.Templates.{template, template_or_root}
+use Rattle.history_standing.specs.Stages.{stage, arrival_in, is_unadmitted}
+use Rattle.history_standing.specs.Standings.{Standing}
+use Rattle.history_standing.specs.Templates.{template, template_or_root}
 use Rattle.poa_history.specs.Turns.{flight_of, node_of, attempt, attempt_at, attempt_by}
 use Rattle.poa_history.proofs.FlightsFrom.{flew, begins, flight_from, flight_for}
-use Rattle.poa_history.proofs.IdsFew.{call_kept, messages}
+use Rattle.poa_history.proofs.IdsFew.{messages}
 use Rattle.poa_history.proofs.MannedKept.{all_manned}
 use Rattle.poa_history.proofs.StagesFrom.{held_admitted, flight_says}
 use Rattle.poa_history.proofs.TurnTells.{admission_is, trial_is}
 use Rattle.history_words.specs.Creations.{child_asked}
 use Rattle.history_words.proofs.Created.{KnowsChild}
+use Rattle.history_standing.proofs.CallsKept.{call_kept}
 
 -- a trial's flight tells the child that the walk misses
 child_for : (s : Standing) (r : ℕ) (key : Key) (v : Verdict) (f : Flight) (p : List (List ℕ)) → flight_for s r key v ≡ Some f → f.child ≡ Some p

@@ -17,16 +17,16 @@ use Rattle.poa_tree.specs.Paths.{is_root}
 use Rattle.poa_tree.specs.Trees.{In}
 use Rattle.poa_tree.proofs.Members.{in_either, in_image, in_kept}
 use Rattle.poa_tree.proofs.TreeKept.{marked_number, marked_path}
-use Rattle.poa_history.specs.Arrivals.{call_of}
+use Rattle.history_standing.specs.Arrivals.{call_of}
 use Rattle.poa_history.specs.Changes.{standing, changed, with_admitted, with_made_activation, with_manager_off}
 use Rattle.poa_history.specs.Changes.{with_reference, with_command, child_tried, with_child, without_flight}
-use Rattle.poa_history.specs.Commands.{is_implicit, live_at}
-use Rattle.poa_history.specs.Ends.{is_done_with, let_out}
-use Rattle.poa_history.specs.Keys.{key_in}
-use Rattle.poa_history.specs.Logs.{command_done}
-use Rattle.poa_history.specs.Stages.{stage, arrival_in}
-use Rattle.poa_history.specs.Standings.{Standing}
-use Rattle.poa_history.specs.Templates.{manager_number, servant_number}
+use Rattle.history_standing.specs.Commands.{is_implicit, live_at}
+use Rattle.history_standing.specs.Ends.{is_done_with, let_out}
+use Rattle.history_standing.specs.Keys.{key_in}
+use Rattle.history_standing.specs.Logs.{command_done}
+use Rattle.history_standing.specs.Stages.{stage, arrival_in}
+use Rattle.history_standing.specs.Standings.{Standing}
+use Rattle.history_standing.specs.Templates.{manager_number, servant_number}
 use Rattle.history_words.specs.Creations.{path_ordered, path_created}
 use Rattle.history_words.proofs.Still.{kept_in, still_admitted, still_fewer, still_incarnated, still_etherealized}
 

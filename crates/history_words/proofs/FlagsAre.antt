@@ -13,10 +13,10 @@ use Rattle.poa_base.specs.declared.Entry.TheVariants.{Entered, Arrive, Filled, L
 use Rattle.poa_base.specs.declared.Entry.TheVariants.{Run, Done, TakeOut, Etherealized, Abandon}
 use Rattle.poa_names.specs.declared.Sid.{Sid}
 use Rattle.poa_names.specs.declared.Sid.TheVariants.{Named as NamedServant, Fresh as FreshServant}
-use Rattle.poa_history.specs.declared.activation.Activation.{Activation}
-use Rattle.poa_history.specs.declared.activation.Phase.{Phase}
-use Rattle.poa_history.specs.declared.activation.Phase.TheVariants.{Begun, Complete, Void}
-use Rattle.poa_history.specs.declared.stage.Stage.TheVariants.{Free, Removing}
+use Rattle.history_standing.specs.declared.activation.Activation.{Activation}
+use Rattle.history_standing.specs.declared.activation.Phase.{Phase}
+use Rattle.history_standing.specs.declared.activation.Phase.TheVariants.{Begun, Complete, Void}
+use Rattle.history_standing.specs.declared.stage.Stage.TheVariants.{Free, Removing}
 use Rattle.poa_tree.specs.Trees.{In}
 use Rattle.poa_tree.proofs.Finding.{find_in}
 use Rattle.poa_history.specs.Alone.{IsGivenAlone}
@@ -25,13 +25,13 @@ use Rattle.poa_history.specs.Changes.{standing, is_elsewhere}
 use Rattle.poa_history.specs.Endings.{ends}
 use Rattle.poa_history.specs.InFlight.{Holds}
 use Rattle.poa_history.specs.Legal.{EachEntry, IsLegal}
-use Rattle.poa_history.specs.Logs.{command_done}
+use Rattle.history_standing.specs.Logs.{command_done}
 use Rattle.poa_history.specs.Out.{was_taken}
 use Rattle.poa_history.specs.Situations.{is_changing}
 use Rattle.poa_history.specs.Sound.{IsGiven, IsSound}
-use Rattle.poa_history.specs.Stages.{stage}
-use Rattle.poa_history.specs.Standings.{Standing, is_complete, is_ending, is_mapped, is_used, has_servant, same_servant}
-use Rattle.poa_history.specs.Templates.{has_activator}
+use Rattle.history_standing.specs.Stages.{stage}
+use Rattle.history_standing.specs.Standings.{Standing, is_complete, is_ending, is_mapped, is_used, has_servant, same_servant}
+use Rattle.history_standing.specs.Templates.{has_activator}
 use Rattle.poa_history.specs.Turns.{activation_numbered}
 use Rattle.poa_history.proofs.ActivationsFrom.{activation_from, begun as activation_begun, stood as activation_stood}
 use Rattle.poa_history.proofs.EndingsAre.{more_activations}

@@ -18,27 +18,27 @@ use Rattle.poa_base.specs.declared.Incarnation.{Incarnation}
 use Rattle.poa_base.specs.declared.Incarnation.TheVariants.{Fresh, Named, Double, Forward as ForwardTo, Raise}
 use Rattle.poa_names.specs.declared.Sid.{Sid}
 use Rattle.poa_names.specs.declared.Sid.TheVariants.{Named as NamedServant, Fresh as FreshServant}
-use Rattle.poa_history.specs.declared.activation.Activation.{Activation}
-use Rattle.poa_history.specs.declared.activation.Phase.{Phase}
-use Rattle.poa_history.specs.declared.activation.Phase.TheVariants.{Begun, Complete, Void}
-use Rattle.poa_history.specs.declared.stage.Stage.{Stage}
-use Rattle.poa_history.specs.declared.stage.Stage.TheVariants.{Free, Trying, Incarnating, Serving, Ran, Removing}
+use Rattle.history_standing.specs.declared.activation.Activation.{Activation}
+use Rattle.history_standing.specs.declared.activation.Phase.{Phase}
+use Rattle.history_standing.specs.declared.activation.Phase.TheVariants.{Begun, Complete, Void}
+use Rattle.history_standing.specs.declared.stage.Stage.{Stage}
+use Rattle.history_standing.specs.declared.stage.Stage.TheVariants.{Free, Trying, Incarnating, Serving, Ran, Removing}
 use Rattle.poa_tree.specs.Trees.{In}
 use Rattle.poa_tree.proofs.Finding.{find_in}
 use Rattle.poa_tree.proofs.Members.{in_image}
 use Rattle.poa_history.specs.Alone.{IsGivenAlone}
 use Rattle.poa_history.specs.Bounds.{IsWithinLimits}
 use Rattle.poa_history.specs.Changes.{standing, changed, servant_of, at_number, come_to, with_incarnated}
-use Rattle.poa_history.specs.Ends.{is_left, let_out}
+use Rattle.history_standing.specs.Ends.{is_left, let_out}
 use Rattle.poa_history.specs.InFlight.{Holds}
 use Rattle.poa_history.specs.Legal.{IsLegal}
-use Rattle.poa_history.specs.Logs.{command_done}
-use Rattle.poa_history.specs.Rules.{rule_for, not_active, named_or_double, brought_by, brought}
+use Rattle.history_standing.specs.Logs.{command_done}
+use Rattle.history_standing.specs.Rules.{rule_for, not_active, named_or_double, brought_by, brought}
 use Rattle.poa_history.specs.Sound.{IsGiven}
-use Rattle.poa_history.specs.Stages.{stage, brings}
-use Rattle.poa_history.specs.Standings.{Standing, is_begun, is_void, is_in_map}
+use Rattle.history_standing.specs.Stages.{stage, brings}
+use Rattle.history_standing.specs.Standings.{Standing, is_begun, is_void, is_in_map}
 use Rattle.poa_history.specs.States.{servant_named, servant_of_activation}
-use Rattle.poa_history.specs.Templates.{rules_at, policies_at, is_unique, servant_number, servant_name}
+use Rattle.history_standing.specs.Templates.{rules_at, policies_at, is_unique, servant_number, servant_name}
 use Rattle.poa_history.proofs.ActivationsFrom.{phase_by, activation_from, begun as activation_begun, stood as activation_stood}
 use Rattle.poa_history.proofs.ActivationsFrom.{BegunBy, incarnating, activating, activating_id, referring}
 use Rattle.poa_history.proofs.AloneKept.{brought_named}

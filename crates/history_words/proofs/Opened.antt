@@ -10,11 +10,11 @@ use Rattle.poa_names.specs.declared.Sid.TheVariants.{Named as NamedServant}
 use Rattle.poa_tree.specs.Paths.{is_root}
 use Rattle.poa_tree.specs.Trees.{In}
 use Rattle.poa_tree.proofs.Members.{in_either}
-use Rattle.poa_history.specs.declared.activation.Activation.{Activation}
-use Rattle.poa_history.specs.declared.activation.Phase.TheVariants.{Complete}
+use Rattle.history_standing.specs.declared.activation.Activation.{Activation}
+use Rattle.history_standing.specs.declared.activation.Phase.TheVariants.{Complete}
 use Rattle.poa_history.specs.Changes.{standing}
-use Rattle.poa_history.specs.Opening.{with_node, with_activation, with_made, made_id, number_at, with_boots, with_object, with_objects, root_alone}
-use Rattle.poa_history.specs.Standings.{Standing}
+use Rattle.history_standing.specs.Opening.{with_node, with_activation, with_made, made_id, number_at, with_boots, with_object, with_objects, root_alone}
+use Rattle.history_standing.specs.Standings.{Standing}
 use Rattle.poa_history.proofs.Untouched.{activations_in, made_in}
 use Rattle.history_words.specs.Ordinals.{unnamed}
 

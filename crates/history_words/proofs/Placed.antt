@@ -16,14 +16,14 @@ use Rattle.poa_tree.specs.declared.node.Node.{Node}
 use Rattle.poa_tree.specs.Paths.{is_root}
 use Rattle.poa_tree.specs.Trees.{In}
 use Rattle.poa_tree.proofs.Members.{in_either}
-use Rattle.poa_history.specs.declared.activation.Phase.TheVariants.{Complete}
+use Rattle.history_standing.specs.declared.activation.Phase.TheVariants.{Complete}
 use Rattle.poa_history.specs.Alone.{IsGivenAlone}
 use Rattle.poa_history.specs.Bounds.{IsWithinLimits}
 use Rattle.poa_history.specs.Changes.{standing}
 use Rattle.poa_history.specs.Legal.{EachEntry, IsLegal}
-use Rattle.poa_history.specs.Opening.{with_node, with_activation, with_made, made_id, number_at, with_boots, with_object, with_objects, root_alone}
+use Rattle.history_standing.specs.Opening.{with_node, with_activation, with_made, made_id, number_at, with_boots, with_object, with_objects, root_alone}
 use Rattle.poa_history.specs.Sound.{IsGiven}
-use Rattle.poa_history.specs.Standings.{Standing}
+use Rattle.history_standing.specs.Standings.{Standing}
 use Rattle.history_words.specs.Creations.{paths_opened, path_created, with_path, paths_created, NumbersNext}
 use Rattle.history_words.proofs.Asked.{knows, yes_number}
 use Rattle.history_words.proofs.Created.{Creates, StandsFrom, stood, new, creates}

@@ -10,12 +10,12 @@ use Rattle.poa_base.specs.declared.Entry.TheVariants.{Tried}
 use Rattle.poa_base.specs.declared.Attempt.TheVariants.{Yes}
 use Rattle.poa_tree.specs.Paths.{is_root}
 use Rattle.poa_tree.specs.Walks.{walk, child_met}
-use Rattle.poa_history.specs.Arrivals.{call_of}
+use Rattle.history_standing.specs.Arrivals.{call_of}
 use Rattle.poa_history.specs.Changes.{standing}
-use Rattle.poa_history.specs.Keys.{key_in}
-use Rattle.poa_history.specs.Logs.{command_done}
+use Rattle.history_standing.specs.Keys.{key_in}
+use Rattle.history_standing.specs.Logs.{command_done}
 use Rattle.poa_history.specs.Settling.{before_admit}
-use Rattle.poa_history.specs.Stages.{stage, arrival_in}
+use Rattle.history_standing.specs.Stages.{stage, arrival_in}
 
 -- the root, and behind it the adapters that are created at opening, in their configured order
 abbrev pub paths_opened : Config → List (List (List ℕ))

@@ -8,15 +8,15 @@ use Rattle.poa_base.specs.declared.Order.TheVariants.{Deactivate as DeactivateAl
 use Rattle.poa_base.specs.declared.Entry.{Entry}
 use Rattle.poa_base.specs.declared.Entry.TheVariants.{TakeOut, Etherealized}
 use Rattle.poa_names.specs.declared.Sid.{Sid}
-use Rattle.poa_history.specs.declared.activation.Activation.{Activation}
-use Rattle.poa_history.specs.declared.activation.Phase.TheVariants.{Complete}
-use Rattle.poa_history.specs.declared.stage.Stage.TheVariants.{Removing}
+use Rattle.history_standing.specs.declared.activation.Activation.{Activation}
+use Rattle.history_standing.specs.declared.activation.Phase.TheVariants.{Complete}
+use Rattle.history_standing.specs.declared.stage.Stage.TheVariants.{Removing}
 use Rattle.poa_history.specs.Changes.{standing}
 use Rattle.poa_history.specs.Endings.{is_ended_by}
-use Rattle.poa_history.specs.Logs.{command_done}
+use Rattle.history_standing.specs.Logs.{command_done}
 use Rattle.poa_history.specs.Out.{was_taken}
-use Rattle.poa_history.specs.Stages.{stage}
-use Rattle.poa_history.specs.Standings.{Standing}
+use Rattle.history_standing.specs.Stages.{stage}
+use Rattle.history_standing.specs.Standings.{Standing}
 use Rattle.poa_tree.specs.Trees.{In}
 
 -- the command destroys adapters, or deactivates a manager, and etherealizes

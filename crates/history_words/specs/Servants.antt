@@ -11,11 +11,11 @@ use Rattle.poa_base.specs.declared.Incarnation.{Incarnation}
 use Rattle.poa_base.specs.declared.Incarnation.TheVariants.{Fresh, Named}
 use Rattle.poa_names.specs.declared.Sid.{Sid}
 use Rattle.poa_names.specs.declared.Sid.TheVariants.{Named as NamedServant, Fresh as FreshServant}
-use Rattle.poa_history.specs.declared.stage.Stage.{Stage}
-use Rattle.poa_history.specs.declared.stage.Stage.TheVariants.{Incarnating}
+use Rattle.history_standing.specs.declared.stage.Stage.{Stage}
+use Rattle.history_standing.specs.declared.stage.Stage.TheVariants.{Incarnating}
 use Rattle.poa_history.specs.Changes.{standing}
-use Rattle.poa_history.specs.Logs.{command_done}
-use Rattle.poa_history.specs.Stages.{stage, brings}
+use Rattle.history_standing.specs.Logs.{command_done}
+use Rattle.history_standing.specs.Stages.{stage, brings}
 use Rattle.poa_history.specs.States.{servant_named}
 
 -- the name of the servant that a command activates

@@ -1,6 +1,6 @@
 //! What was done so far about connections and the limits of the run.
 ghost use Rattle.std.specs.Prelude.{◌≡◌, ◌-◌, ◌^◌, reverse, min};
-ghost use Rattle.poa_history.specs.Arrivals as calls;
+ghost use Rattle.history_standing.specs.Arrivals as calls;
 ghost use Rattle.poa_history.specs.Legal as legal;
 
 use poa_base::Entry;

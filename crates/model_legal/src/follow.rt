@@ -1,10 +1,10 @@
 //! Whether an entry may follow the ones before it, by the kind of the entry.
 ghost use Rattle.std.specs.Prelude.{◌≡◌, ◌↔◌, ◌⊎◌, ◌+◌, ◌<◌, ◌≤◌, ◌^◌, reverse, IfOk, IsTrue, Some, true, false};
 ghost use Rattle.poa_base.specs.declared.limits.TheConstants.{CONNECTIONS};
-ghost use Rattle.poa_history.specs.Arrivals as calls;
+ghost use Rattle.history_standing.specs.Arrivals as calls;
 ghost use Rattle.poa_history.specs.Legal as legal;
 ghost use Rattle.poa_history.specs.Replies as replies;
-ghost use Rattle.poa_history.specs.Stages as begun;
+ghost use Rattle.history_standing.specs.Stages as begun;
 ghost use Rattle.model_legal.specs.Workers.{is_step};
 
 use crate::arriving::{arrived_bytes, had_shutdown, has_left, is_filled};

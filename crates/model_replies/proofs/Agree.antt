@@ -9,12 +9,12 @@ use Rattle.poa_names.specs.declared.State.TheVariants.{Fault}
 use Rattle.poa_base.specs.declared.Entry.{Entry}
 use Rattle.poa_base.specs.declared.Entry.TheVariants.{Incarnated, Run, Etherealized}
 use Rattle.poa_base.specs.declared.Incarnation.TheVariants.{Fresh}
-use Rattle.poa_history.specs.declared.activation.Activation.{Activation}
-use Rattle.poa_history.specs.declared.stage.Stage.{Stage}
-use Rattle.poa_history.specs.declared.stage.Stage.TheVariants.{Free, Trying, Incarnating, Serving, Ran, Removing}
+use Rattle.history_standing.specs.declared.activation.Activation.{Activation}
+use Rattle.history_standing.specs.declared.stage.Stage.{Stage}
+use Rattle.history_standing.specs.declared.stage.Stage.TheVariants.{Free, Trying, Incarnating, Serving, Ran, Removing}
 use Rattle.poa_tree.specs.Paths.{same_bytes, same_path}
-use Rattle.poa_history.specs.Stages.{stage}
-use Rattle.poa_history.specs.Standings.{Standing, same_servant}
+use Rattle.history_standing.specs.Stages.{stage}
+use Rattle.history_standing.specs.Standings.{Standing, same_servant}
 use Rattle.poa_history.specs.Changes.{standing}
 use Rattle.poa_history.specs.Turns.{activation_numbered}
 use Rattle.poa_history.specs.States.{Stored, servant_run, call_run, acted, restored, kind_brought, is_servant, is_stored_by, state_of, stored}

@@ -3,8 +3,8 @@ use Rattle.std.proofs.Common.{◌≡◌, ℕ, ◌+◌, ◌<◌, ◌&&◌, not, z
 use Rattle.std.specs.Option.{option_or}
 use Rattle.poa_base.specs.declared.Config.{Config}
 use Rattle.poa_base.specs.declared.Entry.{Entry}
-use Rattle.poa_history.specs.Arrivals.{arrivals}
-use Rattle.poa_history.specs.Searches.{least}
+use Rattle.history_standing.specs.Arrivals.{arrivals}
+use Rattle.history_standing.specs.Searches.{least}
 use Rattle.poa_history.specs.Replies.{is_asked, is_collected, decided, next_within}
 use Rattle.core_queries.proofs.Onward.{reversed_more}
 

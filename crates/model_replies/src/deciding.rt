@@ -2,7 +2,7 @@
 ghost use Rattle.std.specs.Prelude.{◌≡◌, ◌&&◌, reverse, option_copied, IfOk};
 ghost use Rattle.poa_history.specs.Replies as replies;
 ghost use Rattle.poa_history.specs.Settling as settling;
-ghost use Rattle.poa_history.specs.Stages as begun;
+ghost use Rattle.history_standing.specs.Stages as begun;
 
 use core_queries::workers::{admitted, arrival_in, brings, is_at, stage};
 use core_replies::may_decide;

@@ -16,8 +16,8 @@ use core_queries::searches::activation_numbered;
 use core_queries::workers::stage;
 use core_servants::{kind_brought, restored};
 use core_standing::standing_of;
+use history_standing::{Activation, Phase, Stage};
 use poa_base::{Call, Config, Entry, Incarnation, Sid, State, Store, WantMemory};
-use poa_history::{Activation, Phase, Stage};
 use std::alloc::Global;
 
 /// The servant acts on the call.

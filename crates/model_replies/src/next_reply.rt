@@ -1,8 +1,8 @@
 //! Which reply a connection is given next.
 ghost use Rattle.std.specs.Prelude.{◌≡◌, ◌<◌, ◌+◌, ◌&&◌, length, not, reverse, take, IfOk};
-ghost use Rattle.poa_history.specs.Arrivals.{arrivals as arrivals_in};
+ghost use Rattle.history_standing.specs.Arrivals.{arrivals as arrivals_in};
 ghost use Rattle.poa_history.specs.Replies as replies;
-ghost use Rattle.poa_history.specs.Searches.{least};
+ghost use Rattle.history_standing.specs.Searches.{least};
 
 use crate::deciding::decided;
 use crate::owing::is_asked;

@@ -1,7 +1,7 @@
 //! The replies that a connection is owed.
 ghost use Rattle.std.specs.Prelude.{◌≡◌, ◌&&◌, not, reverse, IfOk};
 ghost use Rattle.poa_history.specs.Replies as replies;
-ghost use Rattle.poa_history.specs.Stages as begun;
+ghost use Rattle.history_standing.specs.Stages as begun;
 
 use crate::deciding::decided;
 use core_queries::calls::{arrivals, call_of, conn_of};

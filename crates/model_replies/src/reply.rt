@@ -2,7 +2,7 @@
 ghost use Rattle.std.specs.Prelude.{◌≡◌, ◌∷◌, reverse, option_copied, IfOk};
 ghost use Rattle.poa_base.specs.Store.{stored as stored_at_opening};
 ghost use Rattle.poa_history.specs.Replies as replies;
-ghost use Rattle.poa_history.specs.Stages as begun;
+ghost use Rattle.history_standing.specs.Stages as begun;
 ghost use Rattle.poa_history.specs.States as states;
 
 use crate::acting::act;

@@ -9,8 +9,8 @@ use core_queries::calls::call_of;
 use core_queries::searches::activation_numbered;
 use core_queries::workers::admitted;
 use core_standing::standing_of;
+use history_standing::{Activation, Phase, Stage};
 use poa_base::{Call, Config, Entry, Name, Sid, Verdict, WantMemory};
-use poa_history::{Activation, Phase, Stage};
 use std::alloc::Global;
 
 /// The servant of an activation, where it has one.

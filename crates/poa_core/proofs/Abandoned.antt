@@ -1,7 +1,7 @@
 -- A worker gives the run up.
 use Rattle.std.proofs.Common.{◌≡◌, ℕ, ◌<◌, false, refl, length}
 use Rattle.poa_base.specs.declared.Entry.TheVariants.{Abandon}
-use Rattle.poa_history.specs.Stages.{is_abandoned}
+use Rattle.history_standing.specs.Stages.{is_abandoned}
 use Rattle.poa_core.specs.declared.inside.Inside.{Inside}
 use Rattle.poa_core.specs.Agrees.{history}
 use Rattle.poa_core.specs.Noting.{HasRoomForEntry, IsNoted}

@@ -7,8 +7,8 @@ use Rattle.poa_base.specs.declared.Entry.{Entry}
 use Rattle.poa_base.specs.declared.Entry.TheVariants.{Entered, Arrive, Filled, Left, Collect, Admit, Tried, Incarnated, Run, Done, TakeOut, Etherealized, Abandon}
 use Rattle.poa_base.specs.declared.Attempt.TheVariants.{Yes, No, Raised, Dying}
 use Rattle.poa_base.specs.declared.Verdict.{Verdict}
-use Rattle.poa_history.specs.declared.stage.Stage.TheVariants.{Free}
-use Rattle.poa_history.specs.Stages.{admitted, arrival_in, is_at, stage}
+use Rattle.history_standing.specs.declared.stage.Stage.TheVariants.{Free}
+use Rattle.history_standing.specs.Stages.{admitted, arrival_in, is_at, stage}
 use Rattle.poa_history.proofs.StagesFrom.{arrival_before}
 use Rattle.history_openings.specs.Runs.{IsRun}
 use Rattle.core_state.proofs.Stated.{earlier}

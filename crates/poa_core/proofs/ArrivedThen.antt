@@ -4,7 +4,7 @@ use Rattle.std.proofs.lemmas.Bool.{ltb-true, leb-true, and_parts}
 use Rattle.poa_base.specs.declared.Call.{Call}
 use Rattle.poa_base.specs.declared.Entry.{Entry}
 use Rattle.poa_base.specs.declared.Entry.TheVariants.{Arrive}
-use Rattle.poa_history.specs.Arrivals.{arrivals, arrived_bytes}
+use Rattle.history_standing.specs.Arrivals.{arrivals, arrived_bytes}
 use Rattle.poa_history.specs.Legal.{IsOpen, IsSize, HasRoom, is_filled, is_shutdown, had_shutdown}
 use Rattle.poa_history.specs.Replies.{asks, number_of}
 use Rattle.run_tally.specs.Limits.{has_room, is_taken}

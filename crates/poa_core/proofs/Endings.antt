@@ -4,9 +4,9 @@ use Rattle.std.proofs.lemmas.Bool.{eq-eqb}
 use Rattle.poa_base.specs.declared.Config.{Config}
 use Rattle.poa_base.specs.declared.Entry.{Entry}
 use Rattle.poa_base.specs.declared.Entry.TheVariants.{Entered, Arrive, Filled, Left, Collect, Admit, Tried, Incarnated, Run, Done, TakeOut, Etherealized, Abandon}
-use Rattle.poa_history.specs.declared.stage.Stage.TheVariants.{Free}
-use Rattle.poa_history.specs.Searches.{count_below}
-use Rattle.poa_history.specs.Stages.{stage, is_abandoned}
+use Rattle.history_standing.specs.declared.stage.Stage.TheVariants.{Free}
+use Rattle.history_standing.specs.Searches.{count_below}
+use Rattle.history_standing.specs.Stages.{stage, is_abandoned}
 use Rattle.poa_history.specs.Legal.{MayFollow}
 use Rattle.poa_history.proofs.TurnTells.{done_is, removal_is}
 use Rattle.poa_history.proofs.StagesFrom.{maker, stage_other}

@@ -3,7 +3,7 @@ use Rattle.std.proofs.Common.{◌≡◌, ℕ, ◌+◌, ◌^◌, ◌<◌, ◌≤�
 use Rattle.std.proofs.lemmas.Bool.{ltb-false, leb-false}
 use Rattle.poa_base.specs.declared.Entry.{Entry}
 use Rattle.poa_base.specs.declared.Entry.TheVariants.{Filled}
-use Rattle.poa_history.specs.Arrivals.{arrivals, arrived_bytes}
+use Rattle.history_standing.specs.Arrivals.{arrivals, arrived_bytes}
 use Rattle.poa_history.specs.Legal.{IsOpen, IsSize, is_filled}
 use Rattle.run_tally.specs.declared.Full.{Full}
 use Rattle.run_tally.specs.declared.Tally.{Tally}

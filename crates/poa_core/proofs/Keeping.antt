@@ -3,9 +3,9 @@ use Rattle.std.proofs.Common.{◌≡◌, ℕ, ◌+◌, ◌≤◌, true, false, i
 use Rattle.std.specs.Prelude.{option_copied}
 use Rattle.poa_base.specs.declared.Entry.{Entry}
 use Rattle.poa_base.specs.declared.Entry.TheVariants.{Entered, Arrive, Filled, Left, Collect, Admit, Tried, Incarnated, Run, Done, TakeOut, Etherealized, Abandon}
-use Rattle.poa_history.specs.declared.stage.Stage.{Stage}
-use Rattle.poa_history.specs.Arrivals.{arrivals}
-use Rattle.poa_history.specs.Stages.{stage}
+use Rattle.history_standing.specs.declared.stage.Stage.{Stage}
+use Rattle.history_standing.specs.Arrivals.{arrivals}
+use Rattle.history_standing.specs.Stages.{stage}
 use Rattle.poa_history.specs.States.{servant_run}
 use Rattle.history_openings.specs.Runs.{IsRun}
 use Rattle.core_queries.specs.Answers.{AnswersAs}

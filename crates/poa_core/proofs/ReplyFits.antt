@@ -23,21 +23,20 @@ use Rattle.poa_base.specs.declared.Verdict.TheVariants.{Serve, Preset, Locator, 
 use Rattle.poa_choose.specs.Laws.{runs}
 use Rattle.poa_choose.specs.declared.facts.Choice.TheVariants.{Go}
 use Rattle.poa_choose.specs.Table.{first_row}
-use Rattle.poa_history.specs.declared.stage.Stage.{Stage}
-use Rattle.poa_history.specs.declared.stage.Stage.TheVariants.{Trying, Incarnating, Serving}
-use Rattle.poa_history.specs.Arrivals.{arrivals, call_of, is_message, is_locate}
+use Rattle.history_standing.specs.declared.stage.Stage.{Stage}
+use Rattle.history_standing.specs.declared.stage.Stage.TheVariants.{Trying, Incarnating, Serving}
+use Rattle.history_standing.specs.Arrivals.{arrivals, call_of, is_message, is_locate}
 use Rattle.poa_history.specs.Changes.{standing}
 use Rattle.poa_history.specs.InFlight.{Holds}
-use Rattle.poa_history.specs.Keys.{key_in}
+use Rattle.history_standing.specs.Keys.{key_in}
 use Rattle.poa_history.specs.Legal.{IsLegal}
-use Rattle.poa_history.specs.Logs.{forward_of}
+use Rattle.history_standing.specs.Logs.{forward_of}
 use Rattle.poa_history.specs.Replies.{is_final, is_waiting, is_decided_by, decided, raised_to, forwarded_to, number_of, reply_admitted, reply_tried, reply_incarnated, reply_run, reply_by, reply_of, not_exist_omg, activator_raised, adapter_dying, servant_double}
 use Rattle.poa_history.specs.Situations.{facts_of, key_or_none}
-use Rattle.poa_history.specs.Stages.{stage, arrival_in, is_at, admitted, brings}
+use Rattle.history_standing.specs.Stages.{stage, arrival_in, is_at, admitted, brings}
 use Rattle.poa_history.specs.States.{Stored, acted, call_run, servant_run, state_of}
 use Rattle.poa_history.specs.Settling.{settles}
 use Rattle.poa_history.specs.Verdicts.{verdict_on}
-use Rattle.poa_history.proofs.IdsFew.{call_kept, arrivals_kept}
 use Rattle.poa_history.proofs.StepMoves.{chosen_go}
 use Rattle.poa_history.proofs.TurnTells.{IsAdmission, admission_is, trial_is, incarnation_is, run_is}
 use Rattle.history_openings.specs.Runs.{IsRun}
@@ -45,6 +44,7 @@ use Rattle.poa_core.specs.Fits.{FitsCall}
 use Rattle.poa_core.proofs.CommandFits.{for_line, command_fits}
 use Rattle.poa_core.proofs.TableFits.{for_request, for_locate, is_for, row_fits}
 use Rattle.poa_core.proofs.Turned.{manned_before}
+use Rattle.history_standing.proofs.CallsKept.{arrivals_kept, call_kept}
 
 -- a verdict that a call may get
 abbrev may_get : Option Call → Verdict → Bool

@@ -4,10 +4,10 @@ use Rattle.std.proofs.lemmas.Bool.{true≢false, eqb-true, eq-eqb}
 use Rattle.poa_base.specs.declared.Config.{Config}
 use Rattle.poa_base.specs.declared.Entry.{Entry}
 use Rattle.poa_base.specs.declared.Entry.TheVariants.{Entered, Arrive, Filled, Left, Collect, Admit, Tried, Incarnated, Run, Done, TakeOut, Etherealized, Abandon}
-use Rattle.poa_history.specs.Arrivals.{arrivals, connections}
+use Rattle.history_standing.specs.Arrivals.{arrivals, connections}
 use Rattle.poa_history.specs.Legal.{MayFollow, has_left, is_filled, IsOpen}
-use Rattle.poa_history.specs.Searches.{count_below}
-use Rattle.poa_history.specs.Stages.{is_abandoned}
+use Rattle.history_standing.specs.Searches.{count_below}
+use Rattle.history_standing.specs.Stages.{is_abandoned}
 use Rattle.run_tally.specs.declared.Tally.{Tally}
 use Rattle.run_tally.specs.declared.Full.{Full}
 use Rattle.run_tally.specs.Tallies.{IsTally}

@@ -7,10 +7,10 @@ use Rattle.poa_base.specs.declared.Call.{Call}
 use Rattle.poa_base.specs.declared.Outcome.{Outcome}
 use Rattle.poa_base.specs.declared.Entry.{Entry}
 use Rattle.poa_base.specs.declared.Entry.TheVariants.{Entered, Arrive, Filled, Left, Collect, Admit, Tried, Incarnated, Run, Done, TakeOut, Etherealized, Abandon}
-use Rattle.poa_history.specs.declared.stage.Stage.{Stage}
-use Rattle.poa_history.specs.Arrivals.{call_of}
+use Rattle.history_standing.specs.declared.stage.Stage.{Stage}
+use Rattle.history_standing.specs.Arrivals.{call_of}
 use Rattle.poa_history.specs.InFlight.{IsManned}
-use Rattle.poa_history.specs.Stages.{stage}
+use Rattle.history_standing.specs.Stages.{stage}
 use Rattle.poa_history.specs.States.{Stored, acted, call_run, servant_run, state_of}
 use Rattle.poa_history.proofs.MannedKept.{all_manned}
 use Rattle.poa_history.proofs.TurnTells.{trial_is, incarnation_is, run_is, done_is, takeout_is, removal_is}
@@ -43,7 +43,7 @@ spoken_is c run limit past (Run w) is turn =
     ∙ sym (ap (call_run past) at.1))
   where
     arrival_of : Stage → Option ℕ
-    arrival_of b = Rattle.poa_history.specs.Stages.arrival_in b
+    arrival_of b = Rattle.history_standing.specs.Stages.arrival_in b
 spoken_is c run limit past (Tried w a) is turn = sym (ap (call_run past) (trial_is c run past w a is.legal.0).begun)
 spoken_is c run limit past (Incarnated w a) is turn = sym (ap (call_run past) (incarnation_is c run past w a is.legal.0).begun)
 spoken_is c run limit past (Done w) is turn = sym (ap (call_run past) (done_is c run past w is.legal.0).1)

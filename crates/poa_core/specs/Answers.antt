@@ -5,13 +5,13 @@ use Rattle.poa_base.specs.declared.Entry.{Entry}
 use Rattle.poa_base.specs.declared.Entry.TheVariants.{Entered, Arrive, Filled, Collect, Abandon}
 use Rattle.poa_base.specs.declared.Point.{Point}
 use Rattle.poa_base.specs.declared.Point.TheVariants.{Serving as ServingPoint, Incarnating as IncarnatingPoint, Trying as TryingPoint, Etherealizing, Free as FreePoint}
-use Rattle.poa_history.specs.declared.stage.Stage.{Stage}
-use Rattle.poa_history.specs.declared.stage.Stage.TheVariants.{Free, Trying, Incarnating, Serving, Ran, Removing}
-use Rattle.poa_history.specs.Arrivals.{arrivals, arrived_bytes, call_of, connections}
+use Rattle.history_standing.specs.declared.stage.Stage.{Stage}
+use Rattle.history_standing.specs.declared.stage.Stage.TheVariants.{Free, Trying, Incarnating, Serving, Ran, Removing}
+use Rattle.history_standing.specs.Arrivals.{arrivals, arrived_bytes, call_of, connections}
 use Rattle.poa_history.specs.Legal.{is_filled}
 use Rattle.poa_history.specs.Replies.{next_reply, reply_of, owed}
-use Rattle.poa_history.specs.Searches.{count_below}
-use Rattle.poa_history.specs.Stages.{stage, is_unadmitted, is_abandoned}
+use Rattle.history_standing.specs.Searches.{count_below}
+use Rattle.history_standing.specs.Stages.{stage, is_unadmitted, is_abandoned}
 use Rattle.poa_history.specs.Turns.{turn}
 use Rattle.core_arrivals.specs.Begun.{only_ends}
 use Rattle.run_tally.specs.Leaving.{is_shut, are_gone}

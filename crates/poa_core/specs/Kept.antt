@@ -2,8 +2,8 @@
 use Rattle.std.specs.Prelude.{◌≡◌, ℕ, ◌+◌, ◌<◌, ◌≤◌, Bool, true, false, not, if◌then◌else◌, List, ◌∷◌, length, is_some, slice_index_or, vec_len, vec_capacity}
 use Rattle.poa_base.specs.declared.Entry.{Entry}
 use Rattle.poa_base.specs.declared.Entry.TheVariants.{Entered, Arrive, Filled, Left, Collect}
-use Rattle.poa_history.specs.declared.stage.Stage.TheVariants.{Free}
-use Rattle.poa_history.specs.Searches.{count_below}
+use Rattle.history_standing.specs.declared.stage.Stage.TheVariants.{Free}
+use Rattle.history_standing.specs.Searches.{count_below}
 use Rattle.history_openings.specs.Runs.{IsRun}
 use Rattle.run_tally.specs.declared.Tally.{Tally}
 use Rattle.run_tally.specs.Tallies.{flag_of, HasRoomForOne as HasRoomForConnection}

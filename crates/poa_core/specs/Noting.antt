@@ -1,11 +1,11 @@
 -- How the core notes an entry behind its journal.
 use Rattle.std.specs.Prelude.{◌≡◌, ℕ, ◌+◌, ◌<◌, true, List, ◌∷◌, length, vec_len, vec_capacity}
 use Rattle.poa_base.specs.declared.Entry.{Entry}
-use Rattle.poa_history.specs.declared.stage.Stage.{Stage}
+use Rattle.history_standing.specs.declared.stage.Stage.{Stage}
 use Rattle.history_openings.specs.Runs.{IsRun}
 use Rattle.core_standing.specs.Entries.{stage_at}
 use Rattle.core_outboxes.specs.Owed.{AreOwed}
-use Rattle.poa_history.specs.Arrivals.{arrivals}
+use Rattle.history_standing.specs.Arrivals.{arrivals}
 use Rattle.core_outboxes.specs.Decided.{AreFiled}
 use Rattle.core_outboxes.specs.Desk.{AreLeft, AreOwedBefore, HasFiled, HasRoomForOne}
 use Rattle.core_arrivals.specs.Placed.{arrives}

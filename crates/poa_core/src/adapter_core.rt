@@ -5,7 +5,7 @@ ghost use Rattle.poa_base.specs.Store.{stored as stored_in};
 ghost use Rattle.conf_rules.specs.Rules.{KeepsRules};
 ghost use Rattle.history_laws.specs.Lasting.{KeepsUpdates, LeavesNothing};
 ghost use Rattle.history_openings.specs.Runs.{IsRun};
-ghost use Rattle.poa_history.specs.Arrivals.{connections};
+ghost use Rattle.history_standing.specs.Arrivals.{connections};
 ghost use Rattle.poa_history.specs.Changes.{standing};
 ghost use Rattle.poa_history.specs.Legal.{IsLegal, IsOpen, IsSize};
 ghost use Rattle.poa_history.specs.Lifetime.{HasLifetime};

@@ -2,7 +2,7 @@
 ghost use Rattle.std.specs.Prelude.{◌≡◌, List, if◌then◌else◌, nat_lt, Some, None};
 ghost use Rattle.poa_base.specs.declared.Entry.{Entry as EntryOf};
 ghost use Rattle.poa_base.specs.declared.Entry.TheVariants.{Left};
-ghost use Rattle.poa_history.specs.Arrivals.{connections};
+ghost use Rattle.history_standing.specs.Arrivals.{connections};
 ghost use Rattle.poa_history.specs.Legal.{IsOpen};
 ghost use Rattle.run_tally.specs.Tallies.{IsTally};
 ghost use Rattle.run_history.specs.Life.{with_entry};

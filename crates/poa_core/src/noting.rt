@@ -5,8 +5,8 @@ ghost use Rattle.poa_core.specs.Noting.{HasRoomForEntry, IsHalfway, IsNoted};
 use crate::inside::Inside;
 use crate::tables;
 use crate::turning::Brought;
+use history_standing::Stage;
 use poa_base::Entry;
-use poa_history::Stage;
 
 /// Notes an entry, for which there is room, once what stands is that after it. Takes no memory.
 pub fn note(inside: &mut Inside, entry: Entry, stage: Stage, brought: Brought)

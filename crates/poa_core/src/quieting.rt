@@ -7,8 +7,8 @@ use crate::inside::Inside;
 use crate::noting::note;
 use crate::turning::Brought;
 use history_holds::Freed;
+use history_standing::Stage;
 use poa_base::Entry;
-use poa_history::Stage;
 
 /// An entry of a connection, or the giving up of a worker, is noted. It changes nothing that stands. Takes no memory.
 pub fn quiet(inside: &mut Inside, entry: Entry)

@@ -1,7 +1,7 @@
 //! The servant of a request that a worker runs.
 ghost use Rattle.std.specs.Prelude.{◌≡◌, ℕ, true, reverse, option_map, IfOk, IsOk};
 ghost use Rattle.journal_entries.specs.Rows.{seen as entry_seen};
-ghost use Rattle.poa_history.specs.Stages as begun;
+ghost use Rattle.history_standing.specs.Stages as begun;
 ghost use Rattle.poa_history.specs.States as states;
 ghost use Rattle.history_openings.specs.Runs.{IsRun};
 ghost use Rattle.core_queries.specs.Answers.{AnswersAs};
@@ -11,9 +11,9 @@ ghost use Rattle.poa_core.specs.Turning as turning;
 
 use core_queries::Standing;
 use core_servants::servant_by;
+use history_standing::Stage;
 use journal_entries::{Entries, EntryView, Row};
 use poa_base::{Config, Entry, Sid, Verdict, WantMemory};
-use poa_history::Stage;
 
 /// Whether an entry admits an arrival.
 fn admits(view: EntryView<'_>, arrival: u64) -> bool

@@ -1,6 +1,6 @@
 //! A worker makes its next entry.
 ghost use Rattle.std.specs.Prelude.{◌≡◌, ◌<◌, true, IfOk, IsOk};
-ghost use Rattle.poa_history.specs.Stages as begun;
+ghost use Rattle.history_standing.specs.Stages as begun;
 ghost use Rattle.poa_history.specs.Turns.{turn};
 ghost use Rattle.core_arrivals.specs.Begun.{only_ends};
 ghost use Rattle.poa_core.specs.Answers as answers;
@@ -11,8 +11,8 @@ use crate::inside::Inside;
 use crate::step_out::StepOut;
 use crate::taking::take;
 use core_arrivals::{Known, queue, workers};
+use history_standing::Stage;
 use poa_base::{Entry, Point, WantMemory};
-use poa_history::Stage;
 
 /// What a worker is at between two of its turns.
 fn point_of(stage: Stage) -> Point

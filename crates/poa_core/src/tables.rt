@@ -15,9 +15,9 @@ ghost use Rattle.poa_core.specs.Agrees.{KnowsTables};
 use core_arrivals::{Calls, Queue, Workers, calls, queue, workers};
 use held_queue::HeldQueue;
 use history_holds::Freed;
+use history_standing::Stage;
 use journal_entries::Entries;
 use poa_base::{Entry, WantMemory};
-use poa_history::Stage;
 use run_tally::Tally;
 use std::alloc::Global;
 

@@ -14,8 +14,8 @@ use crate::room::make_room_for;
 use crate::serving::servant_in;
 use crate::turning::{bring, call_at};
 use core_state::Coming;
+use history_standing::Stage;
 use poa_base::{Entry, WantMemory};
-use poa_history::Stage;
 
 /// An entry of a worker is taken: all of it takes effect and it stands in the journal, or nothing changes. One that
 /// only ends what was begun is always taken.

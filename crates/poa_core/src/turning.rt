@@ -17,9 +17,9 @@ use core_queries::workers::arrival_in;
 use core_replies::decision_of;
 use core_state::{Coming, State};
 use history_holds::Freed;
+use history_standing::Stage;
 use journal_entries::Entries;
 use poa_base::{Call, Config, Entry, WantMemory};
-use poa_history::Stage;
 use std::alloc::Global;
 
 /// What an entry of a worker brings, beside what it changes.

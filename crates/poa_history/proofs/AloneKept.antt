@@ -21,24 +21,24 @@ use Rattle.poa_base.specs.declared.Entry.TheVariants.{Admit, Incarnated, TakeOut
 use Rattle.poa_base.specs.declared.Incarnation.{Incarnation}
 use Rattle.poa_base.specs.declared.Incarnation.TheVariants.{Fresh, Named, Double, Forward as ForwardTo, Raise}
 use Rattle.poa_tree.specs.declared.node.Node.{Node}
-use Rattle.poa_history.specs.declared.flight.Flight.{Flight}
-use Rattle.poa_history.specs.declared.activation.Activation.{Activation}
-use Rattle.poa_history.specs.declared.activation.Phase.{Phase}
-use Rattle.poa_history.specs.declared.activation.Phase.TheVariants.{Begun, Complete, Void}
-use Rattle.poa_history.specs.declared.stage.Stage.TheVariants.{Incarnating}
-use Rattle.poa_history.specs.Templates.{has_activator, policies_at, rules_at, is_unique, servant_number, servant_name}
-use Rattle.poa_history.specs.Arrivals.{call_of}
-use Rattle.poa_history.specs.Stages.{stage}
-use Rattle.poa_history.specs.Standings.{Standing, is_complete, is_begun, is_ending, is_mapped, has_servant, same_servant, is_in_map, is_used}
+use Rattle.history_standing.specs.declared.flight.Flight.{Flight}
+use Rattle.history_standing.specs.declared.activation.Activation.{Activation}
+use Rattle.history_standing.specs.declared.activation.Phase.{Phase}
+use Rattle.history_standing.specs.declared.activation.Phase.TheVariants.{Begun, Complete, Void}
+use Rattle.history_standing.specs.declared.stage.Stage.TheVariants.{Incarnating}
+use Rattle.history_standing.specs.Templates.{has_activator, policies_at, rules_at, is_unique, servant_number, servant_name}
+use Rattle.history_standing.specs.Arrivals.{call_of}
+use Rattle.history_standing.specs.Stages.{stage}
+use Rattle.history_standing.specs.Standings.{Standing, is_complete, is_begun, is_ending, is_mapped, has_servant, same_servant, is_in_map, is_used}
 use Rattle.poa_tree.specs.Walks.{walk, adapter_met}
 use Rattle.poa_tree.specs.Trees.{In}
 use Rattle.poa_tree.specs.Paths.{is_root}
-use Rattle.poa_history.specs.Ends.{is_finished}
-use Rattle.poa_history.specs.Keys.{key_in}
-use Rattle.poa_history.specs.Logs.{command_done}
-use Rattle.poa_history.specs.Opening.{number_at, with_node, with_activation, with_made, made_id, with_boots, with_object, with_objects, root_alone}
+use Rattle.history_standing.specs.Ends.{is_finished}
+use Rattle.history_standing.specs.Keys.{key_in}
+use Rattle.history_standing.specs.Logs.{command_done}
+use Rattle.history_standing.specs.Opening.{number_at, with_node, with_activation, with_made, made_id, with_boots, with_object, with_objects, root_alone}
 use Rattle.poa_history.specs.Changes.{standing, servant_of}
-use Rattle.poa_history.specs.Rules.{rule_for, named_or_double, brought_by, brought, not_active}
+use Rattle.history_standing.specs.Rules.{rule_for, named_or_double, brought_by, brought, not_active}
 use Rattle.poa_history.specs.Situations.{is_unfinished, is_changing}
 use Rattle.poa_history.specs.Legal.{MayFollow, IsLegal}
 use Rattle.poa_history.specs.Sound.{IsGiven, IsHome, IsSound}

@@ -11,23 +11,23 @@ use Rattle.poa_base.specs.declared.Order.TheVariants.{Activate as ActivateAll, H
 use Rattle.poa_base.specs.declared.Verdict.{Verdict}
 use Rattle.poa_base.specs.declared.Verdict.TheVariants.{Serve, Preset, Locator, Incarnate, Try, Refuse, Forward, Addressing, Here, Unknown, Answer, Wait}
 use Rattle.poa_tree.specs.declared.node.Node.{Node}
-use Rattle.poa_history.specs.declared.flight.Flight.{Flight}
-use Rattle.poa_history.specs.declared.activation.Activation.{Activation}
-use Rattle.poa_history.specs.declared.activation.Phase.TheVariants.{Begun, Complete, Void}
-use Rattle.poa_history.specs.Templates.{policies_at, makes_ids, has_activator, manager_at, manager_number, servant_number}
-use Rattle.poa_history.specs.Standings.{Standing, is_begun, is_of, is_void}
+use Rattle.history_standing.specs.declared.flight.Flight.{Flight}
+use Rattle.history_standing.specs.declared.activation.Activation.{Activation}
+use Rattle.history_standing.specs.declared.activation.Phase.TheVariants.{Begun, Complete, Void}
+use Rattle.history_standing.specs.Templates.{policies_at, makes_ids, has_activator, manager_at, manager_number, servant_number}
+use Rattle.history_standing.specs.Standings.{Standing, is_begun, is_of, is_void}
 use Rattle.poa_tree.specs.Nodes.{stands_under}
-use Rattle.poa_history.specs.Ends.{is_finished, is_over}
+use Rattle.history_standing.specs.Ends.{is_finished, is_over}
 use Rattle.poa_tree.specs.Walks.{walk, adapter_met, child_met}
-use Rattle.poa_history.specs.Opening.{with_made, made_id, number_at}
-use Rattle.poa_history.specs.Commands.{is_bad_id, is_implicit, live_at}
-use Rattle.poa_history.specs.declared.stage.Stage.{Stage}
-use Rattle.poa_history.specs.declared.stage.Stage.TheVariants.{Free, Trying, Incarnating, Serving, Ran, Removing}
-use Rattle.poa_history.specs.declared.activation.Phase.{Phase}
-use Rattle.poa_history.specs.Arrivals.{call_of}
-use Rattle.poa_history.specs.Stages.{stage, arrival_in}
-use Rattle.poa_history.specs.Keys.{key_in}
-use Rattle.poa_history.specs.Logs.{is_accepted, command_in, command_done}
+use Rattle.history_standing.specs.Opening.{with_made, made_id, number_at}
+use Rattle.history_standing.specs.Commands.{is_bad_id, is_implicit, live_at}
+use Rattle.history_standing.specs.declared.stage.Stage.{Stage}
+use Rattle.history_standing.specs.declared.stage.Stage.TheVariants.{Free, Trying, Incarnating, Serving, Ran, Removing}
+use Rattle.history_standing.specs.declared.activation.Phase.{Phase}
+use Rattle.history_standing.specs.Arrivals.{call_of}
+use Rattle.history_standing.specs.Stages.{stage, arrival_in}
+use Rattle.history_standing.specs.Keys.{key_in}
+use Rattle.history_standing.specs.Logs.{is_accepted, command_in, command_done}
 use Rattle.poa_history.specs.Changes.{without_flight, child_tried, with_child, with_tried, at_number, come_to, with_incarnated, is_elsewhere, with_takeout, with_etherealized, changed, with_flight, with_activations, with_request, with_incarnation, with_admitted, ended_by_destroy, with_destroyed, with_manager_off, with_deactivated, servant_of, with_made_activation, with_reference, with_command}
 use Rattle.poa_tree.specs.Trees.{MayCreate}
 use Rattle.poa_history.specs.Sound.{IsSound}

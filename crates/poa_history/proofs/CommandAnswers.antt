@@ -25,15 +25,15 @@ use Rattle.poa_choose.specs.Table.{key_rows, first_row}
 use Rattle.poa_tree.specs.declared.node.Node.{Node}
 use Rattle.poa_tree.specs.Paths.{parent_path}
 use Rattle.poa_tree.specs.Nodes.{node_at}
-use Rattle.poa_history.specs.Templates.{template, policies_at, retains, makes_ids, uses_default_servant, manager_number, servant_number}
-use Rattle.poa_history.specs.Arrivals.{call_of, target_of}
-use Rattle.poa_history.specs.Standings.{Standing, is_active, is_of, is_tried}
-use Rattle.poa_history.specs.Ends.{is_over}
-use Rattle.poa_history.specs.Logs.{manager_state, endpoint_of}
-use Rattle.poa_history.specs.Keys.{key_of, key_in}
-use Rattle.poa_history.specs.Opening.{made_id}
-use Rattle.poa_history.specs.References.{reference_text}
-use Rattle.poa_history.specs.Commands.{refusal, good, good_or_wait, live_at, with_live, with_servant, is_taken, is_bad_id, waits, is_inactive, manager_row, create_row, activate_row, activate_id_row, deactivate_row, referred, is_implicit, reference_row, preset_row, command_verdict}
+use Rattle.history_standing.specs.Templates.{template, policies_at, retains, makes_ids, uses_default_servant, manager_number, servant_number}
+use Rattle.history_standing.specs.Arrivals.{call_of, target_of}
+use Rattle.history_standing.specs.Standings.{Standing, is_active, is_of, is_tried}
+use Rattle.history_standing.specs.Ends.{is_over}
+use Rattle.history_standing.specs.Logs.{manager_state, endpoint_of}
+use Rattle.history_standing.specs.Keys.{key_of, key_in}
+use Rattle.history_standing.specs.Opening.{made_id}
+use Rattle.history_standing.specs.References.{reference_text}
+use Rattle.history_standing.specs.Commands.{refusal, good, good_or_wait, live_at, with_live, with_servant, is_taken, is_bad_id, waits, is_inactive, manager_row, create_row, activate_row, activate_id_row, deactivate_row, referred, is_implicit, reference_row, preset_row, command_verdict}
 use Rattle.poa_history.specs.Changes.{standing}
 use Rattle.poa_history.specs.Situations.{key_fact, facts_of}
 use Rattle.poa_history.specs.Verdicts.{verdict_on}

@@ -10,15 +10,15 @@ use Rattle.poa_base.specs.declared.Answer.TheVariants.{Good, GoodId, No}
 use Rattle.poa_base.specs.declared.Verdict.{Verdict}
 use Rattle.poa_base.specs.declared.Verdict.TheVariants.{Answer}
 use Rattle.poa_tree.specs.declared.node.Node.{Node}
-use Rattle.poa_history.specs.declared.activation.Activation.{Activation}
+use Rattle.history_standing.specs.declared.activation.Activation.{Activation}
 use Rattle.poa_tree.specs.Paths.{same_bytes, parent_path}
-use Rattle.poa_history.specs.Templates.{template, policies_at, retains, makes_ids, servant_number}
-use Rattle.poa_history.specs.Standings.{Standing, is_active, is_of, is_tried}
+use Rattle.history_standing.specs.Templates.{template, policies_at, retains, makes_ids, servant_number}
+use Rattle.history_standing.specs.Standings.{Standing, is_active, is_of, is_tried}
 use Rattle.poa_tree.specs.Nodes.{node_at}
-use Rattle.poa_history.specs.Ends.{is_over}
-use Rattle.poa_history.specs.Logs.{is_accepted}
-use Rattle.poa_history.specs.Opening.{with_made, made_id, number_at}
-use Rattle.poa_history.specs.Commands.{refusal, live_at, with_live, with_servant, is_taken, is_bad_id, is_implicit, create_row, activate_row, activate_id_row}
+use Rattle.history_standing.specs.Ends.{is_over}
+use Rattle.history_standing.specs.Logs.{is_accepted}
+use Rattle.history_standing.specs.Opening.{with_made, made_id, number_at}
+use Rattle.history_standing.specs.Commands.{refusal, live_at, with_live, with_servant, is_taken, is_bad_id, is_implicit, create_row, activate_row, activate_id_row}
 use Rattle.poa_tree.specs.Trees.{In, MayCreate}
 use Rattle.poa_history.specs.Sound.{IsSound}
 use Rattle.poa_tree.proofs.Leading.{same_self}

@@ -17,14 +17,14 @@ use Rattle.poa_base.specs.declared.Verdict.TheVariants.{Answer}
 use Rattle.poa_base.specs.declared.Entry.{Entry}
 use Rattle.poa_base.specs.declared.Entry.TheVariants.{Entered, Arrive, Filled, Left, Collect, Admit, Tried, Incarnated, Run, Done, TakeOut, Etherealized, Abandon}
 use Rattle.poa_tree.specs.declared.node.Node.{Node}
-use Rattle.poa_history.specs.declared.activation.Activation.{Activation}
-use Rattle.poa_history.specs.Templates.{policies_at, retains, is_unique, makes_ids, activates_implicitly, servant_number}
-use Rattle.poa_history.specs.Arrivals.{call_of}
-use Rattle.poa_history.specs.Standings.{Standing, is_active, is_mapped, has_servant, is_of, is_in_map}
-use Rattle.poa_history.specs.Ends.{is_over}
-use Rattle.poa_history.specs.Logs.{is_accepted, command_in, command_done}
-use Rattle.poa_history.specs.Opening.{made_id}
-use Rattle.poa_history.specs.Commands.{refusal, live_at, with_servant, is_taken, is_bad_id, activate_row, activate_id_row, command_verdict, referred, is_implicit}
+use Rattle.history_standing.specs.declared.activation.Activation.{Activation}
+use Rattle.history_standing.specs.Templates.{policies_at, retains, is_unique, makes_ids, activates_implicitly, servant_number}
+use Rattle.history_standing.specs.Arrivals.{call_of}
+use Rattle.history_standing.specs.Standings.{Standing, is_active, is_mapped, has_servant, is_of, is_in_map}
+use Rattle.history_standing.specs.Ends.{is_over}
+use Rattle.history_standing.specs.Logs.{is_accepted, command_in, command_done}
+use Rattle.history_standing.specs.Opening.{made_id}
+use Rattle.history_standing.specs.Commands.{refusal, live_at, with_servant, is_taken, is_bad_id, activate_row, activate_id_row, command_verdict, referred, is_implicit}
 use Rattle.poa_history.specs.Changes.{standing}
 use Rattle.poa_history.specs.Verdicts.{verdict_on}
 use Rattle.poa_history.specs.Legal.{MayFollow}

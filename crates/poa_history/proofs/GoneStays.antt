@@ -17,21 +17,21 @@ use Rattle.poa_choose.specs.declared.KeyFact.TheVariants.{Absent, Bad as BadKey,
 use Rattle.poa_choose.specs.declared.WalkFact.TheVariants.{Dying as MeetsDying}
 use Rattle.poa_choose.specs.Table.{walk_rows, key_rows, first_row}
 use Rattle.poa_tree.specs.declared.node.Node.{Node}
-use Rattle.poa_history.specs.declared.flight.Flight.{Flight}
-use Rattle.poa_history.specs.declared.activation.Activation.{Activation}
-use Rattle.poa_history.specs.declared.activation.Phase.{Phase}
-use Rattle.poa_history.specs.declared.activation.Phase.TheVariants.{Begun, Complete, Void}
-use Rattle.poa_history.specs.Arrivals.{call_of}
+use Rattle.history_standing.specs.declared.flight.Flight.{Flight}
+use Rattle.history_standing.specs.declared.activation.Activation.{Activation}
+use Rattle.history_standing.specs.declared.activation.Phase.{Phase}
+use Rattle.history_standing.specs.declared.activation.Phase.TheVariants.{Begun, Complete, Void}
+use Rattle.history_standing.specs.Arrivals.{call_of}
 use Rattle.poa_tree.specs.Paths.{leads_to, is_root}
 use Rattle.poa_tree.specs.Nodes.{node_at}
 use Rattle.poa_tree.specs.Trees.{In}
 use Rattle.poa_tree.specs.declared.found.Found.TheVariants.{Missing, Dying, Live}
 use Rattle.poa_tree.specs.Walks.{walk, walk_from}
-use Rattle.poa_history.specs.Standings.{Standing, is_void, has_flights}
-use Rattle.poa_history.specs.Ends.{is_finished, is_over, is_done_with, is_gone}
-use Rattle.poa_history.specs.Keys.{key_in}
-use Rattle.poa_history.specs.Logs.{command_done}
-use Rattle.poa_history.specs.Commands.{live_at}
+use Rattle.history_standing.specs.Standings.{Standing, is_void, has_flights}
+use Rattle.history_standing.specs.Ends.{is_finished, is_over, is_done_with, is_gone}
+use Rattle.history_standing.specs.Keys.{key_in}
+use Rattle.history_standing.specs.Logs.{command_done}
+use Rattle.history_standing.specs.Commands.{live_at}
 use Rattle.poa_history.specs.Changes.{standing}
 use Rattle.poa_history.specs.Situations.{walk_fact, key_or_none, facts_of}
 use Rattle.poa_history.specs.Verdicts.{verdict_on}

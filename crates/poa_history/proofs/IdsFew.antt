@@ -19,22 +19,22 @@ use Rattle.poa_base.specs.declared.Attempt.{Attempt}
 use Rattle.poa_base.specs.declared.Attempt.TheVariants.{Yes, No, Raised, Dying as ParentDying}
 use Rattle.poa_base.specs.declared.Incarnation.{Incarnation}
 use Rattle.poa_base.specs.declared.Incarnation.TheVariants.{Fresh, Named, Double, Forward as ForwardTo, Raise}
-use Rattle.poa_history.specs.declared.flight.Flight.{Flight}
+use Rattle.history_standing.specs.declared.flight.Flight.{Flight}
 use Rattle.poa_names.specs.declared.Sid.TheVariants.{Named as NamedServant}
-use Rattle.poa_history.specs.declared.activation.Phase.TheVariants.{Complete}
-use Rattle.poa_history.specs.declared.stage.Stage.{Stage}
-use Rattle.poa_history.specs.declared.stage.Stage.TheVariants.{Free, Trying, Incarnating, Serving, Ran, Removing}
-use Rattle.poa_history.specs.Searches.{count_below}
-use Rattle.poa_history.specs.Templates.{manager_number, servant_number}
-use Rattle.poa_history.specs.Arrivals.{arrivals, call_of}
-use Rattle.poa_history.specs.Stages.{stage, arrival_in, is_at, admitted, is_unadmitted}
-use Rattle.poa_history.specs.Standings.{Standing}
+use Rattle.history_standing.specs.declared.activation.Phase.TheVariants.{Complete}
+use Rattle.history_standing.specs.declared.stage.Stage.{Stage}
+use Rattle.history_standing.specs.declared.stage.Stage.TheVariants.{Free, Trying, Incarnating, Serving, Ran, Removing}
+use Rattle.history_standing.specs.Searches.{count_below}
+use Rattle.history_standing.specs.Templates.{manager_number, servant_number}
+use Rattle.history_standing.specs.Arrivals.{arrivals, call_of}
+use Rattle.history_standing.specs.Stages.{stage, arrival_in, is_at, admitted, is_unadmitted}
+use Rattle.history_standing.specs.Standings.{Standing}
 use Rattle.poa_tree.specs.Paths.{is_root}
 use Rattle.poa_tree.specs.Trees.{In}
-use Rattle.poa_history.specs.Keys.{key_in}
-use Rattle.poa_history.specs.Logs.{is_accepted, command_in, command_done}
-use Rattle.poa_history.specs.Opening.{with_node, with_activation, with_made, made_id, number_at, with_boots, with_object, with_objects, root_alone, opening}
-use Rattle.poa_history.specs.Commands.{is_implicit, live_at}
+use Rattle.history_standing.specs.Keys.{key_in}
+use Rattle.history_standing.specs.Logs.{is_accepted, command_in, command_done}
+use Rattle.history_standing.specs.Opening.{with_node, with_activation, with_made, made_id, number_at, with_boots, with_object, with_objects, root_alone, opening}
+use Rattle.history_standing.specs.Commands.{is_implicit, live_at}
 use Rattle.poa_history.specs.Changes.{standing, changed, with_admitted, with_made_activation, with_manager_off, with_reference, with_command, child_tried, with_child, without_flight, with_tried, with_incarnated, with_etherealized}
 use Rattle.poa_history.specs.Turns.{flight_of, node_of, attempt_at, attempt}
 use Rattle.poa_history.specs.Legal.{MayFollow, IsLegal, MayArrive, is_shutdown, had_shutdown}
@@ -44,6 +44,7 @@ use Rattle.poa_history.proofs.SettledKept.{or_first}
 use Rattle.poa_history.proofs.TurnTells.{IsAdmission, IsTrial, admission_is, trial_is}
 use Rattle.poa_history.proofs.FlightsFrom.{flight_for, flew, begins, flight_from}
 use Rattle.poa_history.proofs.Untouched.{made_in, flights_in}
+use Rattle.history_standing.proofs.CallsKept.{arrivals_kept, call_kept}
 
 -- counts
 abbrev one_if : Bool → ℕ
@@ -89,39 +90,6 @@ count_bound p (suc k) =
 -- a command that was admitted
 abbrev is_done : List Entry → ℕ → Bool
 is_done h r = is_some (command_in (call_of h r)) && is_some (admitted h r)
-
--- earlier calls stay what they are
-pub call_kept : (e : Entry) (past : List Entry) (r : ℕ) → r < arrivals past → call_of (e ∷ past) r ≡ call_of past r
-call_kept (Arrive conn size call) past r less =
-    cond_both (r == arrivals past) (Some call) (call_of past r) (λ o. o ≡ call_of past r)
-    (λ same. absurd (let e : r ≡ arrivals past = eqb-true r (arrivals past) same in omega (arith, e, less))) (λ _. refl)
-call_kept (Entered conn) past r less = refl
-call_kept (Filled conn size) past r less = refl
-call_kept (Left conn) past r less = refl
-call_kept (Collect conn a) past r less = refl
-call_kept (Admit w q v) past r less = refl
-call_kept (Tried w a) past r less = refl
-call_kept (Incarnated w a) past r less = refl
-call_kept (Run w) past r less = refl
-call_kept (Done w) past r less = refl
-call_kept (TakeOut w n x) past r less = refl
-call_kept (Etherealized w x y) past r less = refl
-call_kept (Abandon w) past r less = refl
-
-pub arrivals_kept : (e : Entry) (past : List Entry) → arrivals past ≤ arrivals (e ∷ past)
-arrivals_kept (Arrive conn size call) past = omega arith
-arrivals_kept (Entered conn) past = omega arith
-arrivals_kept (Filled conn size) past = omega arith
-arrivals_kept (Left conn) past = omega arith
-arrivals_kept (Collect conn a) past = omega arith
-arrivals_kept (Admit w q v) past = omega arith
-arrivals_kept (Tried w a) past = omega arith
-arrivals_kept (Incarnated w a) past = omega arith
-arrivals_kept (Run w) past = omega arith
-arrivals_kept (Done w) past = omega arith
-arrivals_kept (TakeOut w n x) past = omega arith
-arrivals_kept (Etherealized w x y) past = omega arith
-arrivals_kept (Abandon w) past = omega arith
 
 -- what has a key is no command
 keyed_no_command : (call : Option Call) (key : Key) → key_in call ≡ Some key → command_in call ≡ None

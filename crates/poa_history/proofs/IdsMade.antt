@@ -5,11 +5,11 @@ use Rattle.std.proofs.Common.{inl, inr, sym, ap, ap₂, ◌∙◌, arith}
 use Rattle.std.proofs.lemmas.Bool.{cases_Bool, and_parts, or_cases, false_from_ne_true, true≢false, eq-eqb, eqb-true, lt-ltb, ltb-true}
 use Rattle.std.proofs.lemmas.Nat.{from_be_bytes-to_be_bytes_4}
 use Rattle.poa_base.specs.declared.Config.{Config}
-use Rattle.poa_history.specs.Templates.{policies_at, makes_ids}
-use Rattle.poa_history.specs.Standings.{Standing}
-use Rattle.poa_history.specs.Ends.{is_over}
-use Rattle.poa_history.specs.Opening.{made_id}
-use Rattle.poa_history.specs.Commands.{is_bad_id}
+use Rattle.history_standing.specs.Templates.{policies_at, makes_ids}
+use Rattle.history_standing.specs.Standings.{Standing}
+use Rattle.history_standing.specs.Ends.{is_over}
+use Rattle.history_standing.specs.Opening.{made_id}
+use Rattle.history_standing.specs.Commands.{is_bad_id}
 use Rattle.poa_history.specs.Sound.{IsSound}
 use Rattle.poa_history.proofs.SettledKept.{or_second}
 use Rattle.poa_history.proofs.CommandMoves.{FreshIds, NextFits}

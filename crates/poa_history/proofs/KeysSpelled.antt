@@ -11,7 +11,7 @@ use Rattle.poa_names.specs.declared.Stamp.{Stamp}
 use Rattle.poa_names.specs.Limits.{IsName}
 use Rattle.object_key.specs.Spelling.{stamp_bytes, name_bytes, path_bytes, oid_bytes, key_spelling, IsStamp, IsKey}
 use Rattle.poa_tree.specs.Paths.{same_bytes}
-use Rattle.poa_history.specs.Keys.{names_in, key_behind, stamp_in, key_tried, is_within, if_spelled, key_of}
+use Rattle.history_standing.specs.Keys.{names_in, key_behind, stamp_in, key_tried, is_within, if_spelled, key_of}
 use Rattle.poa_tree.proofs.Leading.{same_self, bytes_same}
 
 -- the name in front is taken, and what is behind it is left

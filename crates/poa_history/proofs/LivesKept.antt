@@ -21,25 +21,25 @@ use Rattle.poa_base.specs.declared.Attempt.{Attempt}
 use Rattle.poa_base.specs.declared.Attempt.TheVariants.{Yes, No, Raised, Dying as ParentDying}
 use Rattle.poa_base.specs.declared.Incarnation.{Incarnation}
 use Rattle.poa_base.specs.declared.Incarnation.TheVariants.{Fresh, Named, Double, Forward as ForwardTo, Raise}
-use Rattle.poa_history.specs.declared.activation.Activation.{Activation}
-use Rattle.poa_history.specs.declared.activation.Phase.TheVariants.{Begun, Complete, Void}
-use Rattle.poa_history.specs.declared.stage.Stage.{Stage}
-use Rattle.poa_history.specs.declared.stage.Stage.TheVariants.{Free, Trying, Incarnating, Serving, Ran, Removing}
+use Rattle.history_standing.specs.declared.activation.Activation.{Activation}
+use Rattle.history_standing.specs.declared.activation.Phase.TheVariants.{Begun, Complete, Void}
+use Rattle.history_standing.specs.declared.stage.Stage.{Stage}
+use Rattle.history_standing.specs.declared.stage.Stage.TheVariants.{Free, Trying, Incarnating, Serving, Ran, Removing}
 use Rattle.poa_tree.specs.Paths.{same_bytes}
 use Rattle.poa_tree.specs.Trees.{In}
-use Rattle.poa_history.specs.Templates.{has_activator, manager_number, servant_number}
-use Rattle.poa_history.specs.Arrivals.{call_of}
-use Rattle.poa_history.specs.Stages.{stage, arrival_in, admitted}
-use Rattle.poa_history.specs.Standings.{Standing, is_complete, is_ending, is_of, is_used}
-use Rattle.poa_history.specs.Ends.{is_over, let_out}
-use Rattle.poa_history.specs.Keys.{key_in}
-use Rattle.poa_history.specs.Logs.{is_accepted, command_in, command_done}
-use Rattle.poa_history.specs.Commands.{is_implicit, live_at}
+use Rattle.history_standing.specs.Templates.{has_activator, manager_number, servant_number}
+use Rattle.history_standing.specs.Arrivals.{call_of}
+use Rattle.history_standing.specs.Stages.{stage, arrival_in, admitted}
+use Rattle.history_standing.specs.Standings.{Standing, is_complete, is_ending, is_of, is_used}
+use Rattle.history_standing.specs.Ends.{is_over, let_out}
+use Rattle.history_standing.specs.Keys.{key_in}
+use Rattle.history_standing.specs.Logs.{is_accepted, command_in, command_done}
+use Rattle.history_standing.specs.Commands.{is_implicit, live_at}
 use Rattle.poa_history.specs.Changes.{standing, changed, with_admitted, with_made_activation, with_manager_off, with_reference, with_command, without_flight, with_tried, with_incarnated, with_etherealized}
 use Rattle.poa_history.specs.Situations.{is_changing}
 use Rattle.poa_history.specs.Turns.{activation_numbered}
 use Rattle.poa_history.specs.Legal.{MayFollow, IsLegal}
-use Rattle.poa_history.specs.Opening.{opening}
+use Rattle.history_standing.specs.Opening.{opening}
 use Rattle.poa_history.specs.Sound.{IsGiven, IsSound}
 use Rattle.poa_history.specs.Bounds.{IsWithinLimits}
 use Rattle.poa_history.specs.Alone.{IsGivenAlone}

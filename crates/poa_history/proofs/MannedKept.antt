@@ -12,21 +12,21 @@ use Rattle.poa_base.specs.declared.Entry.{Entry}
 use Rattle.poa_base.specs.declared.Entry.TheVariants.{Entered, Arrive, Filled, Left, Collect, Admit, Tried, Incarnated, Run, Done, TakeOut, Etherealized, Abandon}
 use Rattle.poa_base.specs.declared.Incarnation.{Incarnation}
 use Rattle.poa_base.specs.declared.Incarnation.TheVariants.{Fresh, Named, Double, Forward as ForwardTo, Raise}
-use Rattle.poa_history.specs.declared.flight.Flight.{Flight}
-use Rattle.poa_history.specs.declared.activation.Activation.{Activation}
-use Rattle.poa_history.specs.declared.activation.Phase.{Phase}
-use Rattle.poa_history.specs.declared.activation.Phase.TheVariants.{Begun, Complete, Void}
-use Rattle.poa_history.specs.declared.stage.Stage.{Stage}
-use Rattle.poa_history.specs.declared.stage.Stage.TheVariants.{Free, Trying, Incarnating, Serving, Ran, Removing}
-use Rattle.poa_history.specs.Templates.{has_activator}
-use Rattle.poa_history.specs.Arrivals.{call_of}
-use Rattle.poa_history.specs.Stages.{brings, begun_by, incarnated, ran, stage, arrival_in, admitted}
-use Rattle.poa_history.specs.Standings.{Standing, is_complete, is_active, is_ending, is_void, is_used}
+use Rattle.history_standing.specs.declared.flight.Flight.{Flight}
+use Rattle.history_standing.specs.declared.activation.Activation.{Activation}
+use Rattle.history_standing.specs.declared.activation.Phase.{Phase}
+use Rattle.history_standing.specs.declared.activation.Phase.TheVariants.{Begun, Complete, Void}
+use Rattle.history_standing.specs.declared.stage.Stage.{Stage}
+use Rattle.history_standing.specs.declared.stage.Stage.TheVariants.{Free, Trying, Incarnating, Serving, Ran, Removing}
+use Rattle.history_standing.specs.Templates.{has_activator}
+use Rattle.history_standing.specs.Arrivals.{call_of}
+use Rattle.history_standing.specs.Stages.{brings, begun_by, incarnated, ran, stage, arrival_in, admitted}
+use Rattle.history_standing.specs.Standings.{Standing, is_complete, is_active, is_ending, is_void, is_used}
 use Rattle.poa_tree.specs.Walks.{walk, adapter_met}
 use Rattle.poa_tree.specs.Trees.{In}
-use Rattle.poa_history.specs.Ends.{is_left, let_out}
-use Rattle.poa_history.specs.Keys.{key_in}
-use Rattle.poa_history.specs.Logs.{is_accepted, command_in}
+use Rattle.history_standing.specs.Ends.{is_left, let_out}
+use Rattle.history_standing.specs.Keys.{key_in}
+use Rattle.history_standing.specs.Logs.{is_accepted, command_in}
 use Rattle.poa_history.specs.Situations.{is_changing}
 use Rattle.poa_history.specs.Changes.{standing, changed, with_command, with_admitted, at_number, come_to, with_incarnated, is_elsewhere}
 use Rattle.poa_history.specs.Legal.{MayFollow, IsLegal}

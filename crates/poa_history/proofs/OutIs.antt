@@ -6,13 +6,13 @@ use Rattle.poa_base.specs.declared.Config.{Config}
 use Rattle.poa_names.specs.declared.Sid.{Sid}
 use Rattle.poa_base.specs.declared.Entry.{Entry}
 use Rattle.poa_base.specs.declared.Entry.TheVariants.{Entered, Arrive, Filled, Left, Collect, Admit, Tried, Incarnated, Run, Done, TakeOut, Etherealized, Abandon}
-use Rattle.poa_history.specs.declared.activation.Activation.{Activation}
-use Rattle.poa_history.specs.declared.activation.Phase.{Phase}
-use Rattle.poa_history.specs.declared.activation.Phase.TheVariants.{Begun, Complete, Void}
+use Rattle.history_standing.specs.declared.activation.Activation.{Activation}
+use Rattle.history_standing.specs.declared.activation.Phase.{Phase}
+use Rattle.history_standing.specs.declared.activation.Phase.TheVariants.{Begun, Complete, Void}
 use Rattle.poa_tree.specs.Trees.{In}
-use Rattle.poa_history.specs.Templates.{has_activator}
-use Rattle.poa_history.specs.Standings.{is_complete, is_ending, is_void, is_used}
-use Rattle.poa_history.specs.Ends.{is_left, let_out}
+use Rattle.history_standing.specs.Templates.{has_activator}
+use Rattle.history_standing.specs.Standings.{is_complete, is_ending, is_void, is_used}
+use Rattle.history_standing.specs.Ends.{is_left, let_out}
 use Rattle.poa_history.specs.Changes.{standing, changed, at_number, is_elsewhere}
 use Rattle.poa_history.specs.Situations.{is_changing}
 use Rattle.poa_history.specs.Legal.{MayFollow, IsLegal}
@@ -29,12 +29,7 @@ use Rattle.poa_history.proofs.AloneKept.{all_open}
 use Rattle.poa_history.proofs.EndingsAre.{more_activations}
 use Rattle.poa_history.proofs.LegalSound.{legal_sound}
 use Rattle.poa_history.proofs.MannedKept.{out_unused, all_manned}
-
--- two tests that say the same
-pub same_test : (x y : Bool) → (x ≡ true → y ≡ true) → (y ≡ true → x ≡ true) → x ≡ y
-same_test true y one other = sym (one refl)
-same_test false true one other = other refl
-same_test false false one other = refl
+use Rattle.history_standing.proofs.Tests.{same_test}
 
 taken_later : (e : Entry) (past : List Entry) (n : ℕ) → was_taken past n ≡ true → was_taken (e ∷ past) n ≡ true
 taken_later (Entered conn) past n is = is

@@ -16,17 +16,17 @@ use Rattle.poa_choose.specs.declared.MapFact.TheVariants.{Active as ActiveAs, Bu
 use Rattle.poa_choose.specs.declared.WalkFact.TheVariants.{Dying as MeetsDying, Missing as MeetsMissing, Found as MeetsAdapter}
 use Rattle.poa_choose.specs.Table.{first_row}
 use Rattle.poa_tree.specs.declared.node.Node.{Node}
-use Rattle.poa_history.specs.declared.activation.Activation.{Activation}
-use Rattle.poa_history.specs.Templates.{policies_at, has_activator}
-use Rattle.poa_history.specs.Arrivals.{call_of, is_locate, target_of}
+use Rattle.history_standing.specs.declared.activation.Activation.{Activation}
+use Rattle.history_standing.specs.Templates.{policies_at, has_activator}
+use Rattle.history_standing.specs.Arrivals.{call_of, is_locate, target_of}
 use Rattle.poa_tree.specs.Paths.{same_bytes}
-use Rattle.poa_history.specs.Standings.{Standing, is_active, is_of, is_running}
-use Rattle.poa_history.specs.Ends.{is_over}
+use Rattle.history_standing.specs.Standings.{Standing, is_active, is_of, is_running}
+use Rattle.history_standing.specs.Ends.{is_over}
 use Rattle.poa_tree.specs.declared.found.Found.{Found}
 use Rattle.poa_tree.specs.declared.found.Found.TheVariants.{Live, Dying, Missing}
 use Rattle.poa_tree.specs.Walks.{walk, adapter_met}
 use Rattle.poa_tree.specs.Trees.{In}
-use Rattle.poa_history.specs.Keys.{key_in}
+use Rattle.history_standing.specs.Keys.{key_in}
 use Rattle.poa_history.specs.Changes.{standing}
 use Rattle.poa_history.specs.Situations.{walk_fact, slot_of, is_changing, key_fact, key_or_none, is_crowded, facts_met, facts_of}
 use Rattle.poa_history.specs.Verdicts.{verdict_on}

@@ -5,13 +5,13 @@ use Rattle.std.proofs.Common.{inl, inr, sym, ap, ap₂, ◌∙◌}
 use Rattle.std.proofs.lemmas.Bool.{cases_Bool, cond_both, and_parts, or_cases, false_from_ne_true, eq-eqb}
 use Rattle.poa_base.specs.declared.Config.{Config}
 use Rattle.poa_tree.specs.declared.node.Node.{Node}
-use Rattle.poa_history.specs.declared.flight.Flight.{Flight}
-use Rattle.poa_history.specs.declared.activation.Activation.{Activation}
+use Rattle.history_standing.specs.declared.flight.Flight.{Flight}
+use Rattle.history_standing.specs.declared.activation.Activation.{Activation}
 use Rattle.poa_tree.specs.Paths.{leads_to, is_root}
-use Rattle.poa_history.specs.Templates.{has_activator}
-use Rattle.poa_history.specs.Standings.{Standing, is_void}
+use Rattle.history_standing.specs.Templates.{has_activator}
+use Rattle.history_standing.specs.Standings.{Standing, is_void}
 use Rattle.poa_tree.specs.Nodes.{stands_under}
-use Rattle.poa_history.specs.Ends.{is_finished, is_over, is_left, let_out, is_clear, is_done_with, without_ended, settled}
+use Rattle.history_standing.specs.Ends.{is_finished, is_over, is_left, let_out, is_clear, is_done_with, without_ended, settled}
 use Rattle.poa_tree.specs.Trees.{In, IsMissingChild, MayDrop}
 use Rattle.poa_history.specs.Sound.{IsSound}
 use Rattle.poa_tree.proofs.Members.{in_kept, kept_in}

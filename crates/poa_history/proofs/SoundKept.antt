@@ -5,13 +5,13 @@ use Rattle.std.proofs.lemmas.List.{length-map}
 use Rattle.std.proofs.lemmas.Bool.{cases_Bool}
 use Rattle.poa_base.specs.declared.Config.{Config}
 use Rattle.poa_tree.specs.declared.node.Node.{Node}
-use Rattle.poa_history.specs.declared.flight.Flight.{Flight}
-use Rattle.poa_history.specs.declared.activation.Activation.{Activation}
-use Rattle.poa_history.specs.declared.activation.Phase.{Phase}
-use Rattle.poa_history.specs.Standings.{Standing}
-use Rattle.poa_history.specs.Ends.{is_over}
-use Rattle.poa_history.specs.Commands.{is_bad_id}
-use Rattle.poa_history.specs.Opening.{with_node, with_activation}
+use Rattle.history_standing.specs.declared.flight.Flight.{Flight}
+use Rattle.history_standing.specs.declared.activation.Activation.{Activation}
+use Rattle.history_standing.specs.declared.activation.Phase.{Phase}
+use Rattle.history_standing.specs.Standings.{Standing}
+use Rattle.history_standing.specs.Ends.{is_over}
+use Rattle.history_standing.specs.Commands.{is_bad_id}
+use Rattle.history_standing.specs.Opening.{with_node, with_activation}
 use Rattle.poa_history.specs.Changes.{with_flight, with_activations, with_dying}
 use Rattle.poa_tree.specs.Nodes.{marked, created}
 use Rattle.poa_tree.specs.Trees.{In, Stands, IsMissingChild, MayCreate}

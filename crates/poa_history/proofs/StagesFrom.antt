@@ -12,16 +12,16 @@ use Rattle.poa_base.specs.declared.Attempt.{Attempt}
 use Rattle.poa_base.specs.declared.Attempt.TheVariants.{Yes, No, Raised, Dying as ParentDying}
 use Rattle.poa_base.specs.declared.Incarnation.{Incarnation}
 use Rattle.poa_base.specs.declared.Incarnation.TheVariants.{Fresh, Named, Double, Forward as ForwardTo, Raise}
-use Rattle.poa_history.specs.declared.flight.Flight.{Flight}
-use Rattle.poa_history.specs.declared.stage.Stage.{Stage}
-use Rattle.poa_history.specs.declared.stage.Stage.TheVariants.{Free, Trying, Incarnating, Serving, Ran, Removing}
-use Rattle.poa_history.specs.Arrivals.{call_of}
-use Rattle.poa_history.specs.Stages.{brings, begun_by, incarnated, ran, stage, arrival_in, is_at, admitted}
-use Rattle.poa_history.specs.Standings.{Standing}
+use Rattle.history_standing.specs.declared.flight.Flight.{Flight}
+use Rattle.history_standing.specs.declared.stage.Stage.{Stage}
+use Rattle.history_standing.specs.declared.stage.Stage.TheVariants.{Free, Trying, Incarnating, Serving, Ran, Removing}
+use Rattle.history_standing.specs.Arrivals.{call_of}
+use Rattle.history_standing.specs.Stages.{brings, begun_by, incarnated, ran, stage, arrival_in, is_at, admitted}
+use Rattle.history_standing.specs.Standings.{Standing}
 use Rattle.poa_tree.specs.Walks.{walk, adapter_met, child_met}
 use Rattle.poa_tree.specs.Trees.{In}
-use Rattle.poa_history.specs.Keys.{key_in}
-use Rattle.poa_history.specs.Logs.{command_done}
+use Rattle.history_standing.specs.Keys.{key_in}
+use Rattle.history_standing.specs.Logs.{command_done}
 use Rattle.poa_history.specs.Changes.{standing, changed, with_admitted, without_flight, child_tried, with_tried, at_number, come_to, with_incarnated, with_etherealized}
 use Rattle.poa_history.specs.Legal.{MayFollow}
 use Rattle.poa_history.specs.InFlight.{Holds}

@@ -16,21 +16,21 @@ use Rattle.poa_choose.specs.declared.Choice.{Choice}
 use Rattle.poa_choose.specs.declared.Choice.TheVariants.{Go, Held}
 use Rattle.poa_choose.specs.Table.{first_row}
 use Rattle.poa_tree.specs.declared.node.Node.{Node}
-use Rattle.poa_history.specs.declared.activation.Activation.{Activation}
-use Rattle.poa_history.specs.declared.stage.Stage.{Stage}
-use Rattle.poa_history.specs.declared.stage.Stage.TheVariants.{Free, Trying, Incarnating, Serving, Ran, Removing}
-use Rattle.poa_history.specs.Templates.{policies_at, retains, activates_implicitly}
-use Rattle.poa_history.specs.Arrivals.{call_of, is_locate, target_of}
-use Rattle.poa_history.specs.Stages.{stage, arrival_in}
-use Rattle.poa_history.specs.Standings.{Standing}
+use Rattle.history_standing.specs.declared.activation.Activation.{Activation}
+use Rattle.history_standing.specs.declared.stage.Stage.{Stage}
+use Rattle.history_standing.specs.declared.stage.Stage.TheVariants.{Free, Trying, Incarnating, Serving, Ran, Removing}
+use Rattle.history_standing.specs.Templates.{policies_at, retains, activates_implicitly}
+use Rattle.history_standing.specs.Arrivals.{call_of, is_locate, target_of}
+use Rattle.history_standing.specs.Stages.{stage, arrival_in}
+use Rattle.history_standing.specs.Standings.{Standing}
 use Rattle.poa_tree.specs.Walks.{walk}
-use Rattle.poa_history.specs.Keys.{key_in}
-use Rattle.poa_history.specs.Logs.{is_accepted, command_in, command_done}
-use Rattle.poa_history.specs.Commands.{live_at, is_implicit, command_verdict, referred}
+use Rattle.history_standing.specs.Keys.{key_in}
+use Rattle.history_standing.specs.Logs.{is_accepted, command_in, command_done}
+use Rattle.history_standing.specs.Commands.{live_at, is_implicit, command_verdict, referred}
 use Rattle.poa_history.specs.Changes.{changed, standing, child_tried}
 use Rattle.poa_history.specs.Situations.{key_fact, key_or_none, is_crowded, facts_met, facts_of}
 use Rattle.poa_history.specs.Verdicts.{chosen, verdict_on, verdict}
-use Rattle.poa_history.specs.Rules.{brought}
+use Rattle.history_standing.specs.Rules.{brought}
 use Rattle.poa_history.specs.Turns.{attempt, going_on, activation_numbered}
 use Rattle.poa_history.specs.Legal.{IsTurn, MayFollow}
 use Rattle.poa_history.specs.Sound.{IsSound, ImplicitMakes}

@@ -5,10 +5,10 @@ use Rattle.std.proofs.lemmas.Bool.{eqb-true}
 use Rattle.poa_base.specs.declared.Config.{Config}
 use Rattle.poa_base.specs.declared.Attempt.TheVariants.{Yes, No, Dying}
 use Rattle.poa_tree.specs.declared.node.Node.{Node}
-use Rattle.poa_history.specs.declared.flight.Flight.{Flight}
-use Rattle.poa_history.specs.Standings.{Standing}
+use Rattle.history_standing.specs.declared.flight.Flight.{Flight}
+use Rattle.history_standing.specs.Standings.{Standing}
 use Rattle.poa_history.specs.Changes.{child_tried}
-use Rattle.poa_history.specs.Templates.{template_or_root}
+use Rattle.history_standing.specs.Templates.{template_or_root}
 use Rattle.poa_history.specs.Turns.{node_of, attempt_by, attempt_at, attempt}
 use Rattle.poa_tree.specs.Trees.{IsMissingChild, MayCreate}
 use Rattle.poa_history.specs.Sound.{IsSound}

@@ -7,14 +7,14 @@ use Rattle.poa_base.specs.declared.Incarnation.{Incarnation}
 use Rattle.poa_base.specs.declared.Verdict.{Verdict}
 use Rattle.poa_base.specs.declared.Entry.{Entry}
 use Rattle.poa_base.specs.declared.Entry.TheVariants.{Admit, Tried, Incarnated, Run, Done, TakeOut, Etherealized}
-use Rattle.poa_history.specs.declared.activation.Activation.{Activation}
-use Rattle.poa_history.specs.declared.stage.Stage.{Stage}
-use Rattle.poa_history.specs.declared.stage.Stage.TheVariants.{Free, Trying, Incarnating, Serving, Ran, Removing}
-use Rattle.poa_history.specs.Arrivals.{arrivals, call_of}
-use Rattle.poa_history.specs.Stages.{stage, is_unadmitted}
-use Rattle.poa_history.specs.Standings.{Standing}
+use Rattle.history_standing.specs.declared.activation.Activation.{Activation}
+use Rattle.history_standing.specs.declared.stage.Stage.{Stage}
+use Rattle.history_standing.specs.declared.stage.Stage.TheVariants.{Free, Trying, Incarnating, Serving, Ran, Removing}
+use Rattle.history_standing.specs.Arrivals.{arrivals, call_of}
+use Rattle.history_standing.specs.Stages.{stage, is_unadmitted}
+use Rattle.history_standing.specs.Standings.{Standing}
 use Rattle.poa_history.specs.Changes.{standing}
-use Rattle.poa_history.specs.Rules.{brought}
+use Rattle.history_standing.specs.Rules.{brought}
 use Rattle.poa_history.specs.Verdicts.{verdict, verdict_on}
 use Rattle.poa_history.specs.Turns.{attempt, going_on, activation_numbered, is_due}
 use Rattle.poa_history.specs.Legal.{IsTurn}

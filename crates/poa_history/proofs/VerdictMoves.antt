@@ -16,13 +16,13 @@ use Rattle.poa_choose.specs.declared.WalkFact.TheVariants.{Dying as MeetsDying, 
 use Rattle.poa_choose.specs.Table.{unmade, first_row}
 use Rattle.std.specs.Int.{w32, from_be_bytes}
 use Rattle.poa_names.specs.Policies.{is_retain}
-use Rattle.poa_history.specs.Templates.{policies_at, makes_ids}
-use Rattle.poa_history.specs.Commands.{is_bad_id}
-use Rattle.poa_history.specs.declared.activation.Activation.{Activation}
+use Rattle.history_standing.specs.Templates.{policies_at, makes_ids}
+use Rattle.history_standing.specs.Commands.{is_bad_id}
+use Rattle.history_standing.specs.declared.activation.Activation.{Activation}
 use Rattle.poa_tree.specs.Paths.{same_bytes, same_path}
-use Rattle.poa_history.specs.Arrivals.{target_of}
-use Rattle.poa_history.specs.Standings.{Standing, is_active, is_of, is_tried}
-use Rattle.poa_history.specs.Ends.{is_over}
+use Rattle.history_standing.specs.Arrivals.{target_of}
+use Rattle.history_standing.specs.Standings.{Standing, is_active, is_of, is_tried}
+use Rattle.history_standing.specs.Ends.{is_over}
 use Rattle.poa_tree.specs.declared.found.Found.{Found}
 use Rattle.poa_tree.specs.declared.found.Found.TheVariants.{Live, Dying, Missing}
 use Rattle.poa_tree.specs.Walks.{walk, adapter_met, child_met}

@@ -5,13 +5,13 @@ use Rattle.poa_names.specs.declared.Sid.{Sid}
 use Rattle.poa_names.specs.declared.Sid.TheVariants.{Fresh as FreshServant}
 use Rattle.poa_names.specs.Policies.{is_single_thread}
 use Rattle.poa_tree.specs.declared.node.Node.{Node}
-use Rattle.poa_history.specs.declared.flight.Flight.{Flight}
-use Rattle.poa_history.specs.declared.activation.Activation.{Activation}
-use Rattle.poa_history.specs.declared.activation.Phase.TheVariants.{Complete}
+use Rattle.history_standing.specs.declared.flight.Flight.{Flight}
+use Rattle.history_standing.specs.declared.activation.Activation.{Activation}
+use Rattle.history_standing.specs.declared.activation.Phase.TheVariants.{Complete}
 use Rattle.poa_tree.specs.Trees.{In}
-use Rattle.poa_history.specs.Templates.{policies_at, is_unique, servant_number, servant_name}
-use Rattle.poa_history.specs.Standings.{Standing, is_mapped}
-use Rattle.poa_history.specs.Opening.{opening}
+use Rattle.history_standing.specs.Templates.{policies_at, is_unique, servant_number, servant_name}
+use Rattle.history_standing.specs.Standings.{Standing, is_mapped}
+use Rattle.history_standing.specs.Opening.{opening}
 use Rattle.poa_history.specs.Situations.{is_unfinished}
 
 -- under SINGLE_THREAD_MODEL at most one request is in flight in an adapter (CORBA 3.3 Part 1, section 15.3.8: the thread policy)

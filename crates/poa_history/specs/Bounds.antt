@@ -3,7 +3,7 @@ use Rattle.std.specs.Prelude.{ℕ, ◌+◌, ◌≤◌, List, length}
 use Rattle.poa_base.specs.declared.limits.TheConstants.{CALLS, OBJECTS}
 use Rattle.poa_base.specs.declared.Config.{Config}
 use Rattle.poa_base.specs.declared.Entry.{Entry}
-use Rattle.poa_history.specs.Arrivals.{arrivals}
+use Rattle.history_standing.specs.Arrivals.{arrivals}
 use Rattle.poa_history.specs.Changes.{standing}
 
 -- the limits on objects and on arrivals that bear on how many ids are made

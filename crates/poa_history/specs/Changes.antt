@@ -15,23 +15,23 @@ use Rattle.poa_base.specs.declared.Incarnation.{Incarnation}
 use Rattle.poa_base.specs.declared.Incarnation.TheVariants.{Fresh, Named}
 use Rattle.poa_base.specs.declared.Verdict.{Verdict}
 use Rattle.poa_base.specs.declared.Verdict.TheVariants.{Serve, Preset, Locator, Incarnate, Try}
-use Rattle.poa_history.specs.declared.flight.Flight.{Flight}
-use Rattle.poa_history.specs.declared.activation.Activation.{Activation}
-use Rattle.poa_history.specs.declared.activation.Phase.{Phase}
-use Rattle.poa_history.specs.declared.activation.Phase.TheVariants.{Begun, Complete, Void}
-use Rattle.poa_history.specs.declared.stage.Stage.{Stage}
-use Rattle.poa_history.specs.declared.stage.Stage.TheVariants.{Incarnating, Removing}
-use Rattle.poa_history.specs.Templates.{has_activator, manager_at, manager_number, servant_number}
-use Rattle.poa_history.specs.Arrivals.{call_of}
-use Rattle.poa_history.specs.Stages.{stage, arrival_in}
-use Rattle.poa_history.specs.Standings.{Standing, is_of, is_begun, is_mapped, has_servant}
+use Rattle.history_standing.specs.declared.flight.Flight.{Flight}
+use Rattle.history_standing.specs.declared.activation.Activation.{Activation}
+use Rattle.history_standing.specs.declared.activation.Phase.{Phase}
+use Rattle.history_standing.specs.declared.activation.Phase.TheVariants.{Begun, Complete, Void}
+use Rattle.history_standing.specs.declared.stage.Stage.{Stage}
+use Rattle.history_standing.specs.declared.stage.Stage.TheVariants.{Incarnating, Removing}
+use Rattle.history_standing.specs.Templates.{has_activator, manager_at, manager_number, servant_number}
+use Rattle.history_standing.specs.Arrivals.{call_of}
+use Rattle.history_standing.specs.Stages.{stage, arrival_in}
+use Rattle.history_standing.specs.Standings.{Standing, is_of, is_begun, is_mapped, has_servant}
 use Rattle.poa_tree.specs.Nodes.{stands_under, marked}
 use Rattle.poa_tree.specs.Walks.{walk, adapter_met, child_met}
-use Rattle.poa_history.specs.Ends.{settled}
-use Rattle.poa_history.specs.Keys.{key_in}
-use Rattle.poa_history.specs.Logs.{command_done}
-use Rattle.poa_history.specs.Opening.{with_node, with_activation, with_made, made_id, number_at, opening}
-use Rattle.poa_history.specs.Commands.{is_implicit, live_at}
+use Rattle.history_standing.specs.Ends.{settled}
+use Rattle.history_standing.specs.Keys.{key_in}
+use Rattle.history_standing.specs.Logs.{command_done}
+use Rattle.history_standing.specs.Opening.{with_node, with_activation, with_made, made_id, number_at, opening}
+use Rattle.history_standing.specs.Commands.{is_implicit, live_at}
 
 abbrev pub with_flight : Flight → Standing → Standing
 with_flight f s = record s { flights = s.flights ++ f ∷ [] }

@@ -5,13 +5,13 @@ use Rattle.poa_base.specs.declared.Command.{Command}
 use Rattle.poa_base.specs.declared.Command.TheVariants.{Destroy, Shutdown}
 use Rattle.poa_base.specs.declared.Entry.{Entry}
 use Rattle.poa_tree.specs.declared.node.Node.{Node}
-use Rattle.poa_history.specs.declared.flight.Flight.{Flight}
-use Rattle.poa_history.specs.declared.activation.Activation.{Activation}
+use Rattle.history_standing.specs.declared.flight.Flight.{Flight}
+use Rattle.history_standing.specs.declared.activation.Activation.{Activation}
 use Rattle.poa_tree.specs.Paths.{leads_to}
 use Rattle.poa_tree.specs.Trees.{In}
-use Rattle.poa_history.specs.Standings.{Standing, has_flights}
-use Rattle.poa_history.specs.Ends.{is_over, is_gone}
-use Rattle.poa_history.specs.Logs.{command_done}
+use Rattle.history_standing.specs.Standings.{Standing, has_flights}
+use Rattle.history_standing.specs.Ends.{is_over, is_gone}
+use Rattle.history_standing.specs.Logs.{command_done}
 use Rattle.poa_history.specs.Changes.{standing}
 
 -- the command destroys the adapter of the path, or one above it

@@ -5,12 +5,12 @@ use Rattle.poa_base.specs.declared.Command.{Command}
 use Rattle.poa_base.specs.declared.Command.TheVariants.{Manager, Destroy, Deactivate, Shutdown}
 use Rattle.poa_base.specs.declared.Order.TheVariants.{Deactivate as DeactivateAll}
 use Rattle.poa_base.specs.declared.Entry.{Entry}
-use Rattle.poa_history.specs.declared.activation.Activation.{Activation}
+use Rattle.history_standing.specs.declared.activation.Activation.{Activation}
 use Rattle.poa_tree.specs.Nodes.{stands_under}
-use Rattle.poa_history.specs.Templates.{has_activator, manager_at, manager_number}
-use Rattle.poa_history.specs.Standings.{Standing, is_of}
-use Rattle.poa_history.specs.Logs.{command_done}
-use Rattle.poa_history.specs.Opening.{number_at}
+use Rattle.history_standing.specs.Templates.{has_activator, manager_at, manager_number}
+use Rattle.history_standing.specs.Standings.{Standing, is_of}
+use Rattle.history_standing.specs.Logs.{command_done}
+use Rattle.history_standing.specs.Opening.{number_at}
 use Rattle.poa_history.specs.Changes.{standing}
 
 -- the command deactivates the activation's id, destroys its adapter or one above it, or deactivates the manager of

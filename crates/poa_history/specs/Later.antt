@@ -2,10 +2,10 @@
 use Rattle.std.specs.Prelude.{◌≡◌, true}
 use Rattle.poa_base.specs.declared.Config.{Config}
 use Rattle.poa_names.specs.declared.Sid.{Sid}
-use Rattle.poa_history.specs.declared.activation.Activation.{Activation}
-use Rattle.poa_history.specs.declared.activation.Phase.TheVariants.{Complete, Void}
-use Rattle.poa_history.specs.Standings.{Standing}
-use Rattle.poa_history.specs.Ends.{is_finished}
+use Rattle.history_standing.specs.declared.activation.Activation.{Activation}
+use Rattle.history_standing.specs.declared.activation.Phase.TheVariants.{Complete, Void}
+use Rattle.history_standing.specs.Standings.{Standing}
+use Rattle.history_standing.specs.Ends.{is_finished}
 use Rattle.poa_tree.specs.Trees.{In}
 
 -- the second is what the first has become: the same activation, and it has lost nothing of how far it came

@@ -7,8 +7,8 @@ use Rattle.poa_base.specs.declared.Call.TheVariants.{Line}
 use Rattle.poa_base.specs.declared.Command.TheVariants.{Shutdown}
 use Rattle.poa_base.specs.declared.Entry.{Entry}
 use Rattle.poa_base.specs.declared.Entry.TheVariants.{Entered, Arrive, Filled, Left, Collect, Admit, Tried, Incarnated, Run, Done, TakeOut, Etherealized, Abandon}
-use Rattle.poa_history.specs.Arrivals.{arrivals, connections, arrived_bytes}
-use Rattle.poa_history.specs.Stages.{is_abandoned}
+use Rattle.history_standing.specs.Arrivals.{arrivals, connections, arrived_bytes}
+use Rattle.history_standing.specs.Stages.{is_abandoned}
 use Rattle.poa_history.specs.Turns.{turn}
 use Rattle.poa_history.specs.Replies.{next_reply}
 

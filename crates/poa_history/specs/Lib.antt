@@ -1,15 +1,3 @@
-pub mod Searches
-pub mod Templates
-pub mod Arrivals
-pub mod Stages
-pub mod Standings
-pub mod Ends
-pub mod Keys
-pub mod Logs
-pub mod Opening
-pub mod References
-pub mod Rules
-pub mod Commands
 pub mod Changes
 pub mod Situations
 pub mod Verdicts

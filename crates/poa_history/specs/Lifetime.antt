@@ -5,17 +5,17 @@ use Rattle.poa_base.specs.declared.Config.{Config}
 use Rattle.poa_base.specs.declared.Entry.{Entry}
 use Rattle.poa_base.specs.declared.Entry.TheVariants.{Admit, Run, TakeOut, Etherealized}
 use Rattle.poa_base.specs.declared.Verdict.TheVariants.{Serve, Incarnate}
-use Rattle.poa_history.specs.declared.activation.Activation.{Activation}
-use Rattle.poa_history.specs.declared.stage.Stage.{Stage}
-use Rattle.poa_history.specs.declared.stage.Stage.TheVariants.{Serving, Removing}
-use Rattle.poa_history.specs.Stages.{stage, admitted}
-use Rattle.poa_history.specs.Standings.{Standing, is_complete, is_ending, is_of, is_used}
-use Rattle.poa_history.specs.Ends.{is_over}
+use Rattle.history_standing.specs.declared.activation.Activation.{Activation}
+use Rattle.history_standing.specs.declared.stage.Stage.{Stage}
+use Rattle.history_standing.specs.declared.stage.Stage.TheVariants.{Serving, Removing}
+use Rattle.history_standing.specs.Stages.{stage, admitted}
+use Rattle.history_standing.specs.Standings.{Standing, is_complete, is_ending, is_of, is_used}
+use Rattle.history_standing.specs.Ends.{is_over}
 use Rattle.poa_history.specs.Changes.{standing}
 use Rattle.poa_history.specs.Turns.{activation_numbered}
 use Rattle.poa_history.specs.InFlight.{named}
 use Rattle.poa_history.specs.Legal.{EachEntry}
-use Rattle.poa_history.specs.Opening.{opening}
+use Rattle.history_standing.specs.Opening.{opening}
 use Rattle.poa_tree.specs.Trees.{In}
 
 -- it has a servant, and isn't out of the map

@@ -22,11 +22,11 @@ use Rattle.poa_base.specs.declared.Incarnation.TheVariants.{Double, Forward as F
 use Rattle.poa_base.specs.declared.Verdict.{Verdict}
 use Rattle.poa_base.specs.declared.Verdict.TheVariants.{Refuse, Forward, Addressing, Here, Unknown, Answer, Wait}
 use Rattle.poa_names.specs.declared.Sid.{Sid}
-use Rattle.poa_history.specs.Searches.{least, count_below}
-use Rattle.poa_history.specs.Arrivals.{arrivals, call_of, conn_of, target_of}
-use Rattle.poa_history.specs.Stages.{stage, arrival_in, is_at, admitted, brings}
-use Rattle.poa_history.specs.Keys.{key_in}
-use Rattle.poa_history.specs.Logs.{forward_of}
+use Rattle.history_standing.specs.Searches.{least, count_below}
+use Rattle.history_standing.specs.Arrivals.{arrivals, call_of, conn_of, target_of}
+use Rattle.history_standing.specs.Stages.{stage, arrival_in, is_at, admitted, brings}
+use Rattle.history_standing.specs.Keys.{key_in}
+use Rattle.history_standing.specs.Logs.{forward_of}
 use Rattle.poa_history.specs.Situations.{key_or_none}
 use Rattle.poa_history.specs.Settling.{settles}
 use Rattle.poa_history.specs.States.{Stored, state_of, servant_run, call_run, acted}

@@ -8,12 +8,12 @@ use Rattle.poa_base.specs.declared.Order.{Order}
 use Rattle.poa_base.specs.declared.Order.TheVariants.{Activate, Hold, Discard, Deactivate}
 use Rattle.poa_base.specs.declared.Entry.{Entry}
 use Rattle.poa_base.specs.declared.Entry.TheVariants.{Admit}
-use Rattle.poa_history.specs.Templates.{has_activator, manager_at, manager_number}
-use Rattle.poa_history.specs.Arrivals.{call_of}
-use Rattle.poa_history.specs.Standings.{Standing}
-use Rattle.poa_history.specs.Ends.{is_over, is_gone}
-use Rattle.poa_history.specs.Logs.{command_in, command_done, order_for}
-use Rattle.poa_history.specs.Opening.{number_at}
+use Rattle.history_standing.specs.Templates.{has_activator, manager_at, manager_number}
+use Rattle.history_standing.specs.Arrivals.{call_of}
+use Rattle.history_standing.specs.Standings.{Standing}
+use Rattle.history_standing.specs.Ends.{is_over, is_gone}
+use Rattle.history_standing.specs.Logs.{command_in, command_done, order_for}
+use Rattle.history_standing.specs.Opening.{number_at}
 use Rattle.poa_history.specs.Changes.{standing}
 
 -- what stood when the arrival was admitted

@@ -13,20 +13,20 @@ use Rattle.poa_choose.specs.declared.WalkFact.{WalkFact}
 use Rattle.poa_choose.specs.declared.WalkFact.TheVariants.{Dying as MeetsDying, Missing as MeetsMissing, Found as MeetsAdapter}
 use Rattle.poa_choose.specs.declared.MapFact.{MapFact}
 use Rattle.poa_choose.specs.declared.MapFact.TheVariants.{Active, Busy, Free}
-use Rattle.poa_history.specs.declared.activation.Activation.{Activation}
-use Rattle.poa_history.specs.Searches.{count_below}
-use Rattle.poa_history.specs.Templates.{template_or_root, policies_at, manager_at, rules_at, lasts}
-use Rattle.poa_history.specs.Arrivals.{arrivals, call_of, is_message, is_locate, target_of}
-use Rattle.poa_history.specs.Stages.{is_unadmitted}
-use Rattle.poa_history.specs.Standings.{Standing, is_begun, is_active, is_of, is_running, is_tried}
+use Rattle.history_standing.specs.declared.activation.Activation.{Activation}
+use Rattle.history_standing.specs.Searches.{count_below}
+use Rattle.history_standing.specs.Templates.{template_or_root, policies_at, manager_at, rules_at, lasts}
+use Rattle.history_standing.specs.Arrivals.{arrivals, call_of, is_message, is_locate, target_of}
+use Rattle.history_standing.specs.Stages.{is_unadmitted}
+use Rattle.history_standing.specs.Standings.{Standing, is_begun, is_active, is_of, is_running, is_tried}
 use Rattle.poa_tree.specs.declared.found.Found.{Found}
 use Rattle.poa_tree.specs.declared.found.Found.TheVariants.{Live, Dying, Missing}
 use Rattle.poa_tree.specs.Walks.{walk, adapter_met, child_met, place_met}
-use Rattle.poa_history.specs.Ends.{is_finished, is_over}
-use Rattle.poa_history.specs.Keys.{key_of, key_in}
-use Rattle.poa_history.specs.Logs.{manager_state, preset_of, forward_of}
-use Rattle.poa_history.specs.Rules.{located}
-use Rattle.poa_history.specs.Commands.{is_bad_id}
+use Rattle.history_standing.specs.Ends.{is_finished, is_over}
+use Rattle.history_standing.specs.Keys.{key_of, key_in}
+use Rattle.history_standing.specs.Logs.{manager_state, preset_of, forward_of}
+use Rattle.history_standing.specs.Rules.{located}
+use Rattle.history_standing.specs.Commands.{is_bad_id}
 use Rattle.poa_history.specs.Changes.{standing}
 
 -- how many requests and locates stand unadmitted

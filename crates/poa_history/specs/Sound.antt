@@ -2,13 +2,13 @@
 use Rattle.std.specs.Prelude.{◌≡◌, ℕ, ◌^◌, ◌<◌, true, false, List, length, Some}
 use Rattle.poa_base.specs.declared.Config.{Config}
 use Rattle.poa_tree.specs.declared.node.Node.{Node}
-use Rattle.poa_history.specs.declared.flight.Flight.{Flight}
-use Rattle.poa_history.specs.declared.activation.Activation.{Activation}
-use Rattle.poa_history.specs.Templates.{policies_at, makes_ids, activates_implicitly}
-use Rattle.poa_history.specs.Standings.{Standing}
-use Rattle.poa_history.specs.Opening.{opening}
-use Rattle.poa_history.specs.Ends.{is_over}
-use Rattle.poa_history.specs.Commands.{is_bad_id}
+use Rattle.history_standing.specs.declared.flight.Flight.{Flight}
+use Rattle.history_standing.specs.declared.activation.Activation.{Activation}
+use Rattle.history_standing.specs.Templates.{policies_at, makes_ids, activates_implicitly}
+use Rattle.history_standing.specs.Standings.{Standing}
+use Rattle.history_standing.specs.Opening.{opening}
+use Rattle.history_standing.specs.Ends.{is_over}
+use Rattle.history_standing.specs.Commands.{is_bad_id}
 use Rattle.poa_tree.specs.Trees.{In, IsTree, Stands, IsMissingChild}
 
 -- the adapter of the activation stands, at its path

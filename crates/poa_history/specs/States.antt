@@ -18,16 +18,16 @@ use Rattle.poa_base.specs.declared.Incarnation.TheVariants.{Fresh}
 use Rattle.poa_base.specs.declared.Verdict.{Verdict}
 use Rattle.poa_base.specs.declared.Verdict.TheVariants.{Serve, Preset, Locator, Incarnate}
 use Rattle.servant_kinds.specs.Act.{act_of}
-use Rattle.poa_history.specs.declared.activation.Activation.{Activation}
-use Rattle.poa_history.specs.declared.activation.Phase.TheVariants.{Begun, Complete, Void}
-use Rattle.poa_history.specs.declared.stage.Stage.{Stage}
-use Rattle.poa_history.specs.declared.stage.Stage.TheVariants.{Serving, Removing}
+use Rattle.history_standing.specs.declared.activation.Activation.{Activation}
+use Rattle.history_standing.specs.declared.activation.Phase.TheVariants.{Begun, Complete, Void}
+use Rattle.history_standing.specs.declared.stage.Stage.{Stage}
+use Rattle.history_standing.specs.declared.stage.Stage.TheVariants.{Serving, Removing}
 use Rattle.poa_tree.specs.Paths.{same_bytes, same_path}
-use Rattle.poa_history.specs.Templates.{rules_at, servant_number}
-use Rattle.poa_history.specs.Arrivals.{call_of}
-use Rattle.poa_history.specs.Stages.{stage, admitted}
-use Rattle.poa_history.specs.Standings.{Standing, same_servant}
-use Rattle.poa_history.specs.Rules.{rule_for}
+use Rattle.history_standing.specs.Templates.{rules_at, servant_number}
+use Rattle.history_standing.specs.Arrivals.{call_of}
+use Rattle.history_standing.specs.Stages.{stage, admitted}
+use Rattle.history_standing.specs.Standings.{Standing, same_servant}
+use Rattle.history_standing.specs.Rules.{rule_for}
 use Rattle.poa_history.specs.Changes.{standing}
 use Rattle.poa_history.specs.Turns.{activation_numbered}
 

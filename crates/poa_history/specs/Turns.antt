@@ -10,16 +10,16 @@ use Rattle.poa_base.specs.declared.Entry.TheVariants.{Admit, Tried, Incarnated, 
 use Rattle.poa_base.specs.declared.Attempt.{Attempt}
 use Rattle.poa_base.specs.declared.Attempt.TheVariants.{Yes, No, Raised, Dying}
 use Rattle.poa_tree.specs.declared.node.Node.{Node}
-use Rattle.poa_history.specs.declared.flight.Flight.{Flight}
-use Rattle.poa_history.specs.declared.activation.Activation.{Activation}
-use Rattle.poa_history.specs.declared.stage.Stage.{Stage}
-use Rattle.poa_history.specs.declared.stage.Stage.TheVariants.{Free, Trying, Incarnating, Serving, Ran, Removing}
-use Rattle.poa_history.specs.Searches.{first_given}
-use Rattle.poa_history.specs.Templates.{template, template_or_root, has_activator}
-use Rattle.poa_history.specs.Arrivals.{arrivals}
-use Rattle.poa_history.specs.Stages.{stage, is_unadmitted}
-use Rattle.poa_history.specs.Standings.{Standing, is_complete, is_ending, is_used}
-use Rattle.poa_history.specs.Rules.{brought}
+use Rattle.history_standing.specs.declared.flight.Flight.{Flight}
+use Rattle.history_standing.specs.declared.activation.Activation.{Activation}
+use Rattle.history_standing.specs.declared.stage.Stage.{Stage}
+use Rattle.history_standing.specs.declared.stage.Stage.TheVariants.{Free, Trying, Incarnating, Serving, Ran, Removing}
+use Rattle.history_standing.specs.Searches.{first_given}
+use Rattle.history_standing.specs.Templates.{template, template_or_root, has_activator}
+use Rattle.history_standing.specs.Arrivals.{arrivals}
+use Rattle.history_standing.specs.Stages.{stage, is_unadmitted}
+use Rattle.history_standing.specs.Standings.{Standing, is_complete, is_ending, is_used}
+use Rattle.history_standing.specs.Rules.{brought}
 use Rattle.poa_history.specs.Changes.{standing}
 use Rattle.poa_history.specs.Situations.{is_changing}
 use Rattle.poa_history.specs.Verdicts.{verdict}

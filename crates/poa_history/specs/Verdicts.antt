@@ -8,8 +8,8 @@ use Rattle.poa_base.specs.declared.Verdict.{Verdict}
 use Rattle.poa_choose.specs.declared.Choice.{Choice}
 use Rattle.poa_choose.specs.declared.Choice.TheVariants.{Go, Held}
 use Rattle.poa_choose.specs.Table.{first_row}
-use Rattle.poa_history.specs.Arrivals.{call_of}
-use Rattle.poa_history.specs.Commands.{command_verdict}
+use Rattle.history_standing.specs.Arrivals.{call_of}
+use Rattle.history_standing.specs.Commands.{command_verdict}
 use Rattle.poa_history.specs.Changes.{standing}
 use Rattle.poa_history.specs.Situations.{facts_of}
 

@@ -11,17 +11,17 @@ ghost use Rattle.poa_history.specs.Bounds.{IsWithinLimits, HasFewIds};
 ghost use Rattle.poa_history.specs.Changes.{standing};
 ghost use Rattle.poa_history.specs.Legal.{IsLegal};
 ghost use Rattle.poa_history.specs.Endings.{was_ended, was_quieted};
-ghost use Rattle.poa_history.specs.Ends.{is_gone};
-ghost use Rattle.poa_history.specs.declared.activation.Activation.{Activation};
-ghost use Rattle.poa_history.specs.Standings.{Standing};
+ghost use Rattle.history_standing.specs.Ends.{is_gone};
+ghost use Rattle.history_standing.specs.declared.activation.Activation.{Activation};
+ghost use Rattle.history_standing.specs.Standings.{Standing};
 ghost use Rattle.poa_tree.specs.Paths.{is_root};
 ghost use Rattle.poa_history.specs.Destroyed.{was_destroyed, IsEnded, IsEmptied};
 ghost use Rattle.poa_history.specs.InFlight.{IsManned};
-ghost use Rattle.poa_history.specs.Keys.{key_of};
+ghost use Rattle.history_standing.specs.Keys.{key_of};
 ghost use Rattle.poa_history.specs.Later.{AllLater};
 ghost use Rattle.poa_history.specs.Lifetime.{HasLifetime};
 ghost use Rattle.poa_history.specs.Out.{was_taken, has_run_out};
-ghost use Rattle.poa_history.specs.Templates.{has_activator};
+ghost use Rattle.history_standing.specs.Templates.{has_activator};
 ghost use Rattle.poa_history.specs.Sound.{IsGiven, IsSound};
 
 /// What stands after a legal history is sound. Of one path at most one adapter stands, its parent stands

@@ -1,7 +1,7 @@
 //! How many calls wait.
 ghost use Rattle.std.specs.Prelude.{◌≡◌, ◌&&◌, reverse};
-ghost use Rattle.poa_history.specs.Arrivals as calls;
-ghost use Rattle.poa_history.specs.Stages as begun;
+ghost use Rattle.history_standing.specs.Arrivals as calls;
+ghost use Rattle.history_standing.specs.Stages as begun;
 ghost use Rattle.poa_history.specs.Situations as situations;
 
 use core_queries::calls::{arrivals, call_of, is_message};

@@ -1,9 +1,9 @@
 //! When a command that waits is answered.
 ghost use Rattle.std.specs.Prelude.{◌≡◌, reverse, option_copied, IfOk};
-ghost use Rattle.poa_history.specs.Ends as ends;
+ghost use Rattle.history_standing.specs.Ends as ends;
 ghost use Rattle.poa_history.specs.Settling as settling;
 ghost use Rattle.poa_history.specs.Changes.{standing};
-ghost use Rattle.poa_history.specs.Opening.{number_at as number_of_path};
+ghost use Rattle.history_standing.specs.Opening.{number_at as number_of_path};
 
 use active_map::templates::manager_number;
 use core_queries::calls::call_of;

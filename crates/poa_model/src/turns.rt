@@ -2,7 +2,7 @@
 //! arrival is admitted.
 ghost use Rattle.std.specs.Option.{option_or};
 ghost use Rattle.std.specs.Prelude.{◌≡◌, reverse, IfOk};
-ghost use Rattle.poa_history.specs.declared.stage.Stage.TheVariants.{Free};
+ghost use Rattle.history_standing.specs.declared.stage.Stage.TheVariants.{Free};
 ghost use Rattle.poa_history.specs.Turns as turns;
 
 use crate::verdicts::slow_verdict;
@@ -10,8 +10,8 @@ use core_queries::calls::arrivals;
 use core_queries::workers::{admitted, stage};
 use core_standing::standing_of;
 use core_turns::{going_on, removal};
+use history_standing::Stage;
 use poa_base::{Config, Entry, Store, WantMemory};
-use poa_history::Stage;
 use std::alloc::Global;
 
 /// The Admit of an arrival that is ready for the worker.

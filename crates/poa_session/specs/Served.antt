@@ -7,7 +7,7 @@ use Rattle.poa_base.specs.declared.Entry.TheVariants.{Entered, Left}
 use Rattle.poa_base.specs.declared.Session.{Session as Ending}
 use Rattle.poa_base.specs.declared.SessionEnd.{SessionEnd}
 use Rattle.poa_base.specs.declared.SessionEnd.TheVariants.{Ended, Truncated, ReadFault, WriteFault, Limit, WantMemory}
-use Rattle.poa_history.specs.Arrivals.{arrivals, arrived_bytes, connections}
+use Rattle.history_standing.specs.Arrivals.{arrivals, arrived_bytes, connections}
 use Rattle.seat_lock.specs.Histories.{IsPrefix}
 use Rattle.seat_lock.specs.Steps.{Knows}
 use Rattle.seat_lock.specs.declared.view.View.{View}

@@ -3,7 +3,7 @@ use Rattle.std.specs.Prelude.{◌≡◌, ℕ, List, true, false, Option, Some, N
 use Rattle.poa_base.specs.declared.Entry.{Entry}
 use Rattle.poa_base.specs.declared.SessionEnd.{SessionEnd}
 use Rattle.poa_base.specs.declared.SessionEnd.TheVariants.{Shut, Abandoned}
-use Rattle.poa_history.specs.Stages.{is_abandoned}
+use Rattle.history_standing.specs.Stages.{is_abandoned}
 use Rattle.seat_lock.specs.declared.view.View.{View}
 use Rattle.run_history.specs.declared.Givens.{Givens}
 use Rattle.run_tally.specs.Leaving.{is_shut}

@@ -1,13 +1,13 @@
 -- Each call of the core makes at most one entry, which its seat may make.
 use Rattle.std.proofs.Common.{◌∷◌, length, arith, ◌≡◌, ℕ, true, false, if◌then◌else◌, reverse, refl, sym, ap, subst, ◌∙◌, inl, inr, ◌⊎◌}
-use Rattle.poa_history.specs.Arrivals.{connections}
+use Rattle.history_standing.specs.Arrivals.{connections}
 use Rattle.std.specs.Prelude.{Option, Some, Result, Ok, Err, None}
 use Rattle.std.specs.declared.alloc.AllocError.{AllocError}
 use Rattle.poa_base.specs.declared.Call.{Call}
 use Rattle.poa_base.specs.declared.Entry.{Entry}
 use Rattle.poa_base.specs.declared.Entry.TheVariants.{Entered, Arrive, Filled, Left, Collect, Admit, Tried, Incarnated, Run, Done, TakeOut, Etherealized, Abandon}
 use Rattle.poa_history.specs.Legal.{is_filled}
-use Rattle.poa_history.specs.Stages.{is_abandoned}
+use Rattle.history_standing.specs.Stages.{is_abandoned}
 use Rattle.core_state.specs.State.{is_turn}
 use Rattle.seat_lock.specs.declared.view.View.{View}
 use Rattle.seat_lock.specs.Histories.{MayMake}

@@ -1,7 +1,7 @@
 -- A call that takes the core, makes at most one entry, and puts it back is one event.
 use Rattle.std.proofs.Common.{◌≡◌, ℕ, [], ◌∷◌, ◌++◌, length, reverse, refl, sym, ap, ap₂, subst, ◌∙◌, inl, inr, ⊎_elim, arith}
 use Rattle.std.specs.Prelude.{Some, Result, Ok, Err, IfOk}
-use Rattle.poa_history.specs.Arrivals.{connections}
+use Rattle.history_standing.specs.Arrivals.{connections}
 use Rattle.poa_core.specs.Answers.{Enters}
 use Rattle.poa_core.specs.declared.enter_fault.EnterFault.{EnterFault}
 use Rattle.run_history.proofs.Owned.{owners_low}

@@ -1,6 +1,6 @@
 //! A core for std's `Mutex`: what a thread may ask of it stands in its type, as nothing else is known when it is taken.
 ghost use Rattle.std.specs.Prelude.{◌≡◌, ◌<◌, ◌≤◌, ℕ, [], false};
-ghost use Rattle.poa_history.specs.Arrivals.{connections};
+ghost use Rattle.history_standing.specs.Arrivals.{connections};
 ghost use Rattle.poa_history.specs.Legal.{has_left};
 
 use crate::asking::SIZE;

@@ -7,10 +7,10 @@ use native.Mathlib.Decide.{ℕ_discrete}
 use Rattle.poa_base.specs.declared.Entry.{Entry}
 use Rattle.poa_base.specs.declared.Entry.TheVariants.{Abandon}
 use Rattle.poa_base.specs.declared.Point.{Point}
-use Rattle.poa_history.specs.Arrivals.{arrivals, connections}
+use Rattle.history_standing.specs.Arrivals.{arrivals, connections}
 use Rattle.poa_history.specs.Legal.{has_left}
-use Rattle.poa_history.specs.Searches.{count_below}
-use Rattle.poa_history.specs.Stages.{is_abandoned, is_unadmitted, stage}
+use Rattle.history_standing.specs.Searches.{count_below}
+use Rattle.history_standing.specs.Stages.{is_abandoned, is_unadmitted, stage}
 use Rattle.poa_history.specs.Turns.{turn}
 use Rattle.run_tally.specs.Leaving.{is_shut, is_staying, are_gone, staying}
 use Rattle.run_endings.specs.Closing.{IsClosed}

@@ -3,7 +3,7 @@ use Rattle.std.specs.Prelude.{◌≡◌, ℕ, true, None, Result, Ok, Err}
 use Rattle.std.specs.declared.alloc.AllocError.{AllocError}
 use Rattle.poa_base.specs.declared.Entry.{Entry}
 use Rattle.poa_core.specs.Answers.{point_of}
-use Rattle.poa_history.specs.Stages.{is_abandoned, stage}
+use Rattle.history_standing.specs.Stages.{is_abandoned, stage}
 use Rattle.poa_history.specs.Turns.{turn}
 use Rattle.run_history.specs.declared.givens.Givens.{Givens}
 use Rattle.run_history.specs.Runs.{IsLog}

@@ -9,7 +9,7 @@ use Rattle.poa_names.specs.declared.servant.State.{State}
 use Rattle.poa_names.specs.declared.servant.State.TheVariants.{Register}
 use Rattle.poa_history.specs.Legal.{IsLegal}
 use Rattle.poa_history.specs.Lifetime.{HasLifetime}
-use Rattle.poa_history.specs.Stages.{brings}
+use Rattle.history_standing.specs.Stages.{brings}
 use Rattle.conf_print.specs.Counts.{count_line}
 use Rattle.replay_player.specs.Showing.{Stores}
 use Rattle.replay_run.specs.World.{World}

@@ -2,7 +2,7 @@
 use Rattle.std.proofs.Common.{ℕ, ◌<◌, Bool, true, false, Ok, Err, Result, refl, sym, ◌∙◌, subst, if◌then◌else◌, arith}
 use Rattle.poa_base.specs.declared.Call.{Call}
 use Rattle.poa_base.specs.declared.Entry.TheVariants.{Arrive, Filled}
-use Rattle.poa_history.specs.Arrivals.{connections}
+use Rattle.history_standing.specs.Arrivals.{connections}
 use Rattle.poa_history.specs.Legal.{is_filled, IsOpen}
 use Rattle.run_history.specs.Life.{Life, with_entry}
 use Rattle.poa_core.specs.declared.ArriveFault.{ArriveFault}

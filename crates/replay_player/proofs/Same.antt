@@ -4,9 +4,9 @@ use Rattle.poa_base.specs.declared.Entry.{Entry}
 use Rattle.poa_base.specs.declared.Entry.TheVariants.{Collect}
 use Rattle.poa_base.specs.declared.Head.{Head}
 use Rattle.poa_base.specs.declared.Reply.{Reply}
-use Rattle.poa_history.specs.Arrivals.{call_of, connections}
+use Rattle.history_standing.specs.Arrivals.{call_of, connections}
 use Rattle.poa_history.specs.Legal.{has_left}
-use Rattle.poa_history.specs.Stages.{is_abandoned}
+use Rattle.history_standing.specs.Stages.{is_abandoned}
 use Rattle.run_history.specs.Life.{Life, with_entry}
 use Rattle.poa_core.specs.Answers.{filled_at}
 use Rattle.replay_player.specs.Working.{Makes, Turns, makes, idles, Runs, runs_out, runs_on, Stays, RunsBelow, Rests, rested, settles_on, ByWorker, Either, is_worker, Then}

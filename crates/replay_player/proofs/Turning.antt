@@ -3,15 +3,15 @@ use Rattle.std.proofs.Common.{◌≡◌, ℕ, List, ◌∷◌, Some, None, refl,
 use Rattle.poa_base.specs.declared.Config.{Config}
 use Rattle.poa_base.specs.declared.Entry.{Entry}
 use Rattle.poa_base.specs.declared.Entry.TheVariants.{Tried, Incarnated, Run, Done, Etherealized}
-use Rattle.poa_history.specs.declared.activation.Activation.{Activation}
-use Rattle.poa_history.specs.declared.stage.Stage.{Stage}
-use Rattle.poa_history.specs.declared.stage.Stage.TheVariants.{Free, Trying, Incarnating, Serving, Ran, Removing}
-use Rattle.poa_history.specs.Arrivals.{call_of, connections}
+use Rattle.history_standing.specs.declared.activation.Activation.{Activation}
+use Rattle.history_standing.specs.declared.stage.Stage.{Stage}
+use Rattle.history_standing.specs.declared.stage.Stage.TheVariants.{Free, Trying, Incarnating, Serving, Ran, Removing}
+use Rattle.history_standing.specs.Arrivals.{call_of, connections}
 use Rattle.poa_history.specs.Changes.{standing}
 use Rattle.poa_history.specs.Legal.{has_left}
-use Rattle.poa_history.specs.Rules.{brought}
-use Rattle.poa_history.specs.Stages.{stage, is_abandoned}
-use Rattle.poa_history.specs.Standings.{Standing}
+use Rattle.history_standing.specs.Rules.{brought}
+use Rattle.history_standing.specs.Stages.{stage, is_abandoned}
+use Rattle.history_standing.specs.Standings.{Standing}
 use Rattle.poa_history.specs.Turns.{attempt, going_on, activation_numbered, turn}
 use Rattle.poa_history.proofs.TurnIs.{turned, mapped_by, goes_on, takes, admits}
 use Rattle.poa_core.specs.Answers.{filled_at}

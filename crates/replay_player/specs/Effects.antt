@@ -3,7 +3,7 @@ use Rattle.std.specs.Prelude.{◌≡◌, ℕ, ◌++◌, Bool, true, false, List,
 use Rattle.poa_base.specs.declared.Entry.{Entry}
 use Rattle.poa_base.specs.declared.Entry.TheVariants.{Collect}
 use Rattle.poa_base.specs.declared.Reply.{Reply}
-use Rattle.poa_history.specs.Arrivals.{call_of}
+use Rattle.history_standing.specs.Arrivals.{call_of}
 use Rattle.poa_history.specs.Replies.{next_reply, reply_of}
 use Rattle.run_history.specs.Life.{Life, with_entry, opened}
 use Rattle.poa_core.specs.Answers.{filled_at, head_of}

@@ -1,7 +1,7 @@
 -- What the turns of workers print.
 use Rattle.std.specs.Prelude.{◌≡◌, ◌⊎◌, ℕ, zero, suc, ◌<◌, nat_lt, Bool, true, false, List, [], ◌++◌, Some, None}
 use Rattle.poa_base.specs.declared.Entry.{Entry}
-use Rattle.poa_history.specs.Stages.{is_abandoned}
+use Rattle.history_standing.specs.Stages.{is_abandoned}
 use Rattle.poa_history.specs.Turns.{turn}
 use Rattle.run_history.specs.Life.{Life, with_entry}
 use Rattle.replay_lines.specs.Lines.{entry_line, idle_line}

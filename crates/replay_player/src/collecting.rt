@@ -1,7 +1,7 @@
 //! The replies that a connection is given.
 ghost use Rattle.std.specs.Prelude.{◌≡◌, ◌<◌, ◌++◌, IfOk, OnOk};
 ghost use Rattle.giop_replies.specs.Calls.{Each, IsGivenTo, IsSaid};
-ghost use Rattle.poa_history.specs.Arrivals.{connections};
+ghost use Rattle.history_standing.specs.Arrivals.{connections};
 ghost use Rattle.replay_lines.specs.Lines.{reply_line};
 ghost use Rattle.replay_player.specs.Collecting.{CollectsAll};
 ghost use Rattle.replay_player.specs.Effects.{CollectsNext, Works};

@@ -4,7 +4,7 @@ use Rattle.poa_base.specs.declared.Config.{Config}
 use Rattle.poa_base.specs.declared.Head.{Head}
 use Rattle.poa_base.specs.declared.Reply.{Reply}
 use Rattle.run_history.specs.Life.{Life, givens_of}
-use Rattle.poa_history.specs.Arrivals.{connections}
+use Rattle.history_standing.specs.Arrivals.{connections}
 use Rattle.poa_core.specs.Answers.{Collects}
 use Rattle.poa_core.specs.declared.Collected.TheVariants as collected
 use Rattle.replay_script.specs.declared.Step.{Step}

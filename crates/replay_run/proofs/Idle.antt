@@ -8,7 +8,7 @@ use Rattle.poa_base.specs.declared.Head.{Head}
 use Rattle.poa_base.specs.declared.Reply.{Reply}
 use Rattle.history_laws.specs.Undone.{AreIdle}
 use Rattle.poa_history.specs.Legal.{IsLegal}
-use Rattle.poa_history.specs.Stages.{is_abandoned}
+use Rattle.history_standing.specs.Stages.{is_abandoned}
 use Rattle.poa_history.specs.Turns.{turn}
 use Rattle.run_history.specs.Life.{Life, with_entry}
 use Rattle.replay_run.specs.declared.channel.Channel.{Channel}

@@ -6,7 +6,7 @@ use Rattle.poa_base.specs.declared.Call.TheVariants.{Line}
 use Rattle.admin_line.specs.Reading.{command_of_line}
 use Rattle.poa_base.specs.declared.Entry.{Entry}
 use Rattle.poa_base.specs.declared.Entry.TheVariants.{Arrive, Entered, Filled, Left}
-use Rattle.poa_history.specs.Arrivals.{connections}
+use Rattle.history_standing.specs.Arrivals.{connections}
 use Rattle.poa_history.specs.Legal.{has_left, is_filled, IsOpen}
 use Rattle.run_history.specs.Life.{Life, with_entry}
 use Rattle.poa_core.specs.Answers.{filled_at, filled_by, is_taken}

@@ -6,7 +6,7 @@ use Rattle.giop_frame.specs.Framer.{reach, FramerAnswers}
 use Rattle.poa_base.specs.declared.Config.{Config}
 use Rattle.poa_base.specs.declared.Entry.{Entry}
 use Rattle.poa_base.specs.declared.Entry.TheVariants.{Entered}
-use Rattle.poa_history.specs.Arrivals.{arrivals, arrived_bytes, connections}
+use Rattle.history_standing.specs.Arrivals.{arrivals, arrived_bytes, connections}
 use Rattle.poa_history.specs.Legal.{has_left}
 use Rattle.run_history.specs.Life.{with_entry}
 use Rattle.giop_replies.specs.Calls.{Each, IsSaid}

@@ -1,6 +1,6 @@
 //! The end of a script.
 ghost use Rattle.std.specs.Prelude.{◌≡◌, ◌<◌, ℕ, OnOk};
-ghost use Rattle.poa_history.specs.Arrivals.{connections};
+ghost use Rattle.history_standing.specs.Arrivals.{connections};
 ghost use Rattle.replay_player.specs.Working.{Rests, Then};
 ghost use Rattle.replay_run.specs.Playing.{CollectsEach, CollectsOf};
 ghost use Rattle.giop_replies.specs.Calls.{Each, IsSaid};

@@ -2,7 +2,7 @@
 ghost use Rattle.std.specs.Prelude.{◌≡◌, ◌<◌, ◌≤◌, ◌++◌, ℕ, Some, IfOk, OnOk};
 ghost use Rattle.conf_rules.specs.Rules.{KeepsRules};
 ghost use Rattle.giop_replies.specs.Calls.{Each, IsGivenTo, IsSaid};
-ghost use Rattle.poa_history.specs.Arrivals.{connections};
+ghost use Rattle.history_standing.specs.Arrivals.{connections};
 ghost use Rattle.replay_player.specs.Collecting.{CollectsAll};
 ghost use Rattle.replay_player.specs.Working.{Rests};
 ghost use Rattle.replay_run.specs.Keeping.{AllEntered};

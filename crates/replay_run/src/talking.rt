@@ -1,6 +1,6 @@
 //! The lines of connections.
 ghost use Rattle.std.specs.Prelude.{◌≡◌, ◌<◌, ◌+◌, false, None, IfOk, OnOk};
-ghost use Rattle.poa_history.specs.Arrivals.{connections};
+ghost use Rattle.history_standing.specs.Arrivals.{connections};
 ghost use Rattle.poa_history.specs.Legal.{IsOpen};
 ghost use Rattle.replay_run.specs.Talking.{Collects, Commands, TalkEnds, OnLine, Talks, is_sized as is_sized_line};
 ghost use Rattle.giop_replies.specs.Calls.{Each, IsSaid};

@@ -3,18 +3,18 @@ use Rattle.std.proofs.Common.{◌≡◌, ℕ, zero, suc, ◌<◌, false, if◌th
 use Rattle.std.specs.Option.{option_or}
 use Rattle.poa_base.specs.declared.Entry.{Entry}
 use Rattle.poa_base.specs.declared.Entry.TheVariants.{Admit, Tried, Incarnated, Run, Done, TakeOut, Etherealized}
-use Rattle.poa_history.specs.Arrivals.{arrivals}
+use Rattle.history_standing.specs.Arrivals.{arrivals}
 use Rattle.poa_history.specs.Changes.{standing}
 use Rattle.poa_history.specs.InFlight.{Holds, IsManned}
-use Rattle.poa_history.specs.Rules.{brought}
-use Rattle.poa_history.specs.Searches.{first_given}
-use Rattle.poa_history.specs.Stages.{is_unadmitted, stage}
-use Rattle.poa_history.specs.Standings.{Standing}
+use Rattle.history_standing.specs.Rules.{brought}
+use Rattle.history_standing.specs.Searches.{first_given}
+use Rattle.history_standing.specs.Stages.{is_unadmitted, stage}
+use Rattle.history_standing.specs.Standings.{Standing}
 use Rattle.poa_history.specs.Turns.{activation_numbered, admission, admission_of, attempt, going_on, is_due, next_of, removal, turn}
 use Rattle.poa_history.specs.Verdicts.{verdict}
-use Rattle.poa_history.specs.declared.activation.Activation.{Activation}
-use Rattle.poa_history.specs.declared.stage.Stage.{Stage}
-use Rattle.poa_history.specs.declared.stage.Stage.TheVariants.{Free, Trying, Incarnating, Serving, Ran, Removing}
+use Rattle.history_standing.specs.declared.activation.Activation.{Activation}
+use Rattle.history_standing.specs.declared.stage.Stage.{Stage}
+use Rattle.history_standing.specs.declared.stage.Stage.TheVariants.{Free, Trying, Incarnating, Serving, Ran, Removing}
 use Rattle.poa_history.proofs.MannedKept.{all_manned}
 use Rattle.poa_tree.specs.Trees.{In}
 use Rattle.poa_tree.proofs.Finding.{find_none}

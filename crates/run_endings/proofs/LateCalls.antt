@@ -6,7 +6,7 @@ use native.Mathlib.Decide.{ℕ_discrete}
 use Rattle.poa_base.specs.declared.Config.{Config}
 use Rattle.poa_base.specs.declared.Entry.{Entry}
 use Rattle.poa_base.specs.declared.Entry.TheVariants.{Entered, Arrive, Filled, Left, Collect, Admit, Tried, Incarnated, Run, Done, TakeOut, Etherealized, Abandon}
-use Rattle.poa_history.specs.Arrivals.{arrivals, conn_of, connections}
+use Rattle.history_standing.specs.Arrivals.{arrivals, conn_of, connections}
 use Rattle.poa_history.specs.Legal.{has_left, IsLegal, IsOpen}
 use Rattle.poa_history.proofs.SettledKept.{or_second}
 

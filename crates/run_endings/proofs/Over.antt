@@ -1,8 +1,8 @@
 -- Where a worker has closed and no other has begun anything, the run is over for good.
 use Rattle.std.proofs.Common.{◌≡◌, ℕ, List, ◌++◌}
 use Rattle.poa_base.specs.declared.Entry.{Entry}
-use Rattle.poa_history.specs.Stages.{stage}
-use Rattle.poa_history.specs.declared.stage.Stage.TheVariants.{Free}
+use Rattle.history_standing.specs.Stages.{stage}
+use Rattle.history_standing.specs.declared.stage.Stage.TheVariants.{Free}
 use Rattle.history_laws.specs.Undone.{IsAllOver}
 use Rattle.history_laws.proofs.Since.{legal_before}
 use Rattle.history_openings.proofs.Opened.{given, within}

@@ -11,14 +11,14 @@ use Rattle.poa_base.specs.declared.Verdict.{Verdict}
 use Rattle.poa_base.specs.declared.Verdict.TheVariants.{Answer}
 use Rattle.poa_base.specs.declared.Answer.TheVariants.{Good}
 use Rattle.poa_base.specs.declared.Reason.TheVariants.{AdapterNonExistent}
-use Rattle.poa_history.specs.Arrivals.{call_of}
+use Rattle.history_standing.specs.Arrivals.{call_of}
 use Rattle.poa_history.specs.Changes.{standing}
-use Rattle.poa_history.specs.Commands.{command_verdict, good, refusal, with_live}
+use Rattle.history_standing.specs.Commands.{command_verdict, good, refusal, with_live}
 use Rattle.poa_history.specs.Destroyed.{destroys, was_destroyed}
 use Rattle.poa_history.specs.Legal.{IsLegal}
-use Rattle.poa_history.specs.Logs.{command_done, command_in, is_accepted}
+use Rattle.history_standing.specs.Logs.{command_done, command_in, is_accepted}
 use Rattle.poa_history.specs.Sound.{IsSound}
-use Rattle.poa_history.specs.Standings.{Standing}
+use Rattle.history_standing.specs.Standings.{Standing}
 use Rattle.poa_history.specs.Verdicts.{verdict_on}
 use Rattle.poa_history.proofs.DyingIs.{dying_is}
 use Rattle.poa_history.proofs.LegalSound.{legal_sound}

@@ -1,14 +1,14 @@
 -- How a run comes to its end. Histories have their newest entry first.
 use Rattle.std.specs.Prelude.{◌≡◌, ℕ, ◌<◌, true, false, List, [], ◌∷◌, ◌++◌, None}
 use Rattle.poa_base.specs.declared.Entry.{Entry}
-use Rattle.poa_history.specs.Arrivals.{arrivals, connections}
+use Rattle.history_standing.specs.Arrivals.{arrivals, connections}
 use Rattle.poa_history.specs.Changes.{standing}
-use Rattle.poa_history.specs.Ends.{is_over}
+use Rattle.history_standing.specs.Ends.{is_over}
 use Rattle.poa_history.specs.Legal.{has_left}
 use Rattle.poa_history.specs.Replies.{decided}
-use Rattle.poa_history.specs.Stages.{is_abandoned, is_unadmitted}
+use Rattle.history_standing.specs.Stages.{is_abandoned, is_unadmitted}
 use Rattle.poa_history.specs.Turns.{turn}
-use Rattle.poa_history.specs.declared.activation.Activation.{Activation}
+use Rattle.history_standing.specs.declared.activation.Activation.{Activation}
 use Rattle.poa_tree.specs.Trees.{In}
 use Rattle.run_tally.specs.Leaving.{is_shut}
 use Rattle.run_history.specs.declared.givens.Givens.{Givens}

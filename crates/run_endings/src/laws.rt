@@ -1,10 +1,10 @@
 //! The laws of how a run ends.
 ghost use Rattle.std.specs.Prelude.{◌≡◌, ℕ, ◌≤◌, ◌<◌, ◌⊎◌, true, List, ◌++◌, None, Some};
 ghost use Rattle.poa_base.specs.declared.Entry.{Entry};
-ghost use Rattle.poa_history.specs.Arrivals.{arrivals, conn_of, connections};
-ghost use Rattle.poa_history.specs.Stages.{stage};
+ghost use Rattle.history_standing.specs.Arrivals.{arrivals, conn_of, connections};
+ghost use Rattle.history_standing.specs.Stages.{stage};
 ghost use Rattle.poa_history.specs.Turns.{turn};
-ghost use Rattle.poa_history.specs.declared.stage.Stage.TheVariants.{Free};
+ghost use Rattle.history_standing.specs.declared.stage.Stage.TheVariants.{Free};
 ghost use Rattle.history_laws.specs.Undone.{AreIdle, IsAllOver};
 ghost use Rattle.run_tally.specs.Leaving.{is_shut};
 ghost use Rattle.run_history.specs.declared.givens.Givens.{Givens};

@@ -6,11 +6,11 @@ use Rattle.poa_base.specs.declared.Config.{Config}
 use Rattle.poa_base.specs.declared.Entry.{Entry}
 use Rattle.poa_base.specs.declared.Entry.TheVariants.{Entered, Arrive, Filled, Left, Collect, Admit, Tried, Incarnated, Run, Done, TakeOut, Etherealized, Abandon}
 use Rattle.poa_tree.specs.Trees.{In}
-use Rattle.poa_history.specs.Arrivals.{arrivals, call_of, conn_of, connections}
+use Rattle.history_standing.specs.Arrivals.{arrivals, call_of, conn_of, connections}
 use Rattle.poa_history.specs.Legal.{IsLegal, MayFollow}
 use Rattle.poa_history.specs.Replies.{asks, is_asked, is_newly_decided, next_reply, next_within}
-use Rattle.poa_history.specs.Searches.{least}
-use Rattle.poa_history.specs.Stages.{is_at}
+use Rattle.history_standing.specs.Searches.{least}
+use Rattle.history_standing.specs.Stages.{is_at}
 use Rattle.run_history.specs.Owners.{owner_of}
 
 -- what a search finds passes

@@ -2,7 +2,7 @@
 ghost use Rattle.std.specs.Prelude.{◌≡◌, ◌<◌, ℕ, List, Some};
 ghost use Rattle.poa_base.specs.declared.Entry.{Entry};
 ghost use Rattle.poa_tree.specs.Trees.{In};
-ghost use Rattle.poa_history.specs.Arrivals.{connections};
+ghost use Rattle.history_standing.specs.Arrivals.{connections};
 ghost use Rattle.run_history.specs.declared.givens.Givens.{Givens};
 ghost use Rattle.run_history.specs.Runs.{IsHistory};
 ghost use Rattle.run_history.specs.Owners.{owner_of};

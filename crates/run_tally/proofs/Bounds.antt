@@ -3,7 +3,7 @@ use Rattle.std.proofs.Common.{◌≡◌, ℕ, ◌+◌, ◌^◌, ◌≤◌, Bool,
 use Rattle.poa_base.specs.declared.Config.{Config}
 use Rattle.poa_base.specs.declared.Entry.{Entry}
 use Rattle.poa_base.specs.declared.Entry.TheVariants.{Entered, Arrive, Filled, Left, Collect, Admit, Tried, Incarnated, Run, Done, TakeOut, Etherealized, Abandon}
-use Rattle.poa_history.specs.Arrivals.{arrived_bytes}
+use Rattle.history_standing.specs.Arrivals.{arrived_bytes}
 use Rattle.poa_history.specs.Legal.{IsLegal, MayArrive, had_shutdown, is_filled, is_shutdown}
 use Rattle.poa_history.proofs.IdsFew.{few_ids}
 use Rattle.run_tally.specs.Limits.{filled_at}

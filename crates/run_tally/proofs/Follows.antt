@@ -3,7 +3,7 @@ use Rattle.std.proofs.Common.{◌≡◌, ℕ, ◌+◌, ◌-◌, ◌^◌, ◌<◌
 use Rattle.std.proofs.lemmas.List.{length-append, length-set}
 use Rattle.poa_base.specs.declared.Entry.{Entry}
 use Rattle.poa_base.specs.declared.Entry.TheVariants.{Entered, Left}
-use Rattle.poa_history.specs.Arrivals.{connections}
+use Rattle.history_standing.specs.Arrivals.{connections}
 use Rattle.poa_history.specs.Legal.{IsOpen, is_filled, has_left}
 use Rattle.run_tally.specs.declared.tally.Tally.{Tally}
 use Rattle.run_tally.specs.declared.full.Full.{Full}

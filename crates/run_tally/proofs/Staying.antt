@@ -3,9 +3,9 @@ use Rattle.std.proofs.Common.{◌≡◌, ℕ, ◌+◌, ◌-◌, ◌^◌, ◌<◌
 use Rattle.std.proofs.lemmas.Bool.{eqb-true, eqb-false, cond_both, eq-eqb, ne_eqb}
 use Rattle.poa_base.specs.declared.Entry.{Entry}
 use Rattle.poa_base.specs.declared.Entry.TheVariants.{Entered, Left}
-use Rattle.poa_history.specs.Arrivals.{connections}
+use Rattle.history_standing.specs.Arrivals.{connections}
 use Rattle.poa_history.specs.Legal.{has_left}
-use Rattle.poa_history.specs.Searches.{count_below}
+use Rattle.history_standing.specs.Searches.{count_below}
 use Rattle.run_tally.specs.Leaving.{is_staying, staying}
 
 -- at most all pass

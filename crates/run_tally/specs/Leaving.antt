@@ -3,9 +3,9 @@ use Rattle.std.specs.Prelude.{ℕ, Bool, false, not, ◌&&◌, ◌||◌, ◌==�
 use Rattle.poa_base.specs.declared.Call.{Call}
 use Rattle.poa_base.specs.declared.Entry.{Entry}
 use Rattle.poa_base.specs.declared.Entry.TheVariants.{Admit}
-use Rattle.poa_history.specs.Arrivals.{call_of}
+use Rattle.history_standing.specs.Arrivals.{call_of}
 use Rattle.poa_history.specs.Legal.{has_left, is_shutdown}
-use Rattle.poa_history.specs.Searches.{count_below}
+use Rattle.history_standing.specs.Searches.{count_below}
 
 -- there is a call, and it is a `shutdown`
 abbrev pub is_shut_by : Option Call → Bool

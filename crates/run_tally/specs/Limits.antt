@@ -3,7 +3,7 @@ use Rattle.std.specs.Prelude.{ℕ, ◌^◌, ◌+◌, Bool, not, ◌&&◌, ◌||�
 use Rattle.poa_base.specs.declared.Call.{Call}
 use Rattle.poa_base.specs.declared.Entry.{Entry}
 use Rattle.poa_base.specs.declared.Entry.TheVariants.{Filled}
-use Rattle.poa_history.specs.Arrivals.{arrivals, arrived_bytes}
+use Rattle.history_standing.specs.Arrivals.{arrivals, arrived_bytes}
 use Rattle.poa_history.specs.Legal.{is_filled, is_shutdown, had_shutdown}
 
 -- the run has room for a call of this size

@@ -3,7 +3,7 @@ use Rattle.std.specs.Prelude.{◌≡◌, ℕ, ◌^◌, ◌<◌, Bool, false, Lis
 use Rattle.poa_base.specs.declared.Call.{Call}
 use Rattle.poa_base.specs.declared.Entry.{Entry}
 use Rattle.poa_base.specs.declared.Entry.TheVariants.{Entered, Admit}
-use Rattle.poa_history.specs.Arrivals.{arrivals, arrived_bytes, call_of, connections}
+use Rattle.history_standing.specs.Arrivals.{arrivals, arrived_bytes, call_of, connections}
 use Rattle.poa_history.specs.Legal.{has_left, had_shutdown}
 use Rattle.run_tally.specs.declared.tally.Tally.{Tally}
 use Rattle.run_tally.specs.Leaving.{is_shut, staying}

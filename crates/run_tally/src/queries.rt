@@ -1,7 +1,7 @@
 //! What a tally answers, without memory.
 ghost use Rattle.std.specs.Prelude.{◌≡◌, ◌↔◌, ◌+◌, ◌^◌, ◌&&◌, ◌==◌, IsTrue, List, length, nat_le, nat_lt, not, None, option_map};
 ghost use Rattle.poa_base.specs.declared.Entry.{Entry};
-ghost use Rattle.poa_history.specs.Arrivals as calls;
+ghost use Rattle.history_standing.specs.Arrivals as calls;
 ghost use Rattle.poa_history.specs.Legal as legal;
 ghost use Rattle.run_tally.specs.Limits as limits;
 ghost use Rattle.run_tally.specs.Leaving as leaving;

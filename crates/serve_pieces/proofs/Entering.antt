@@ -6,7 +6,7 @@ use lib.ListN.{get_elem?}
 use Rattle.poa_base.specs.declared.Config.{Config}
 use Rattle.poa_base.specs.declared.Entry.{Entry}
 use Rattle.poa_base.specs.declared.Entry.TheVariants.{Entered, Arrive, Filled, Left, Collect, Admit, Tried, Incarnated, Run, Done, TakeOut, Etherealized, Abandon}
-use Rattle.poa_history.specs.Arrivals.{connections}
+use Rattle.history_standing.specs.Arrivals.{connections}
 use Rattle.poa_history.specs.Legal.{IsLegal, MayFollow}
 use Rattle.run_history.specs.declared.givens.Givens.{Givens}
 use Rattle.run_history.specs.Runs.{IsLog}

@@ -6,7 +6,7 @@ use mathlib.Core.List.{reverse-cons}
 use mathlib.Core.Option.{some, some-ne-none}
 use lib.ListN.{get_elem?}
 use Rattle.poa_base.specs.declared.Entry.{Entry}
-use Rattle.poa_history.specs.Stages.{is_at}
+use Rattle.history_standing.specs.Stages.{is_at}
 use Rattle.run_history.specs.Owners.{owner_of}
 use Rattle.session_laws.specs.Records.{places_by}
 use Rattle.seat_lock.specs.Histories.{Belongs, In, IsPrefix}

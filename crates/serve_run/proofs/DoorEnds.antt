@@ -8,9 +8,9 @@ use Rattle.outside.specs.Link.{Shown}
 use Rattle.poa_base.specs.declared.Call.{Call}
 use Rattle.poa_base.specs.declared.Entry.{Entry}
 use Rattle.poa_base.specs.declared.Entry.TheVariants.{Entered, Arrive, Filled, Left, Collect, Admit, Tried, Incarnated, Run, Done, TakeOut, Etherealized, Abandon}
-use Rattle.poa_history.specs.Arrivals.{call_of, conn_of}
+use Rattle.history_standing.specs.Arrivals.{call_of, conn_of}
 use Rattle.poa_history.specs.Legal.{is_filled}
-use Rattle.poa_history.specs.Stages.{is_abandoned, is_at}
+use Rattle.history_standing.specs.Stages.{is_abandoned, is_at}
 use Rattle.poa_history.proofs.SettledKept.{or_first, or_second}
 use Rattle.run_history.specs.declared.givens.Givens.{Givens}
 use Rattle.run_tally.specs.Leaving.{is_shut, is_shut_by}

@@ -12,11 +12,11 @@ use Rattle.outside.specs.Link.{Shown}
 use Rattle.poa_base.specs.declared.Call.{Call}
 use Rattle.poa_base.specs.declared.Entry.{Entry}
 use Rattle.poa_base.specs.declared.Entry.TheVariants.{Entered, Arrive}
-use Rattle.poa_history.specs.Arrivals.{arrivals, conn_of, connections}
+use Rattle.history_standing.specs.Arrivals.{arrivals, conn_of, connections}
 use Rattle.poa_history.specs.Changes.{standing}
 use Rattle.poa_history.specs.Replies.{decided}
-use Rattle.poa_history.specs.Stages.{stage}
-use Rattle.poa_history.specs.declared.stage.Stage.TheVariants.{Free}
+use Rattle.history_standing.specs.Stages.{stage}
+use Rattle.history_standing.specs.declared.stage.Stage.TheVariants.{Free}
 use Rattle.poa_session.specs.Served.{RefusedAs, ServedAs}
 use Rattle.poa_tree.specs.Trees.{In as IsAmong}
 use Rattle.run_endings.specs.Closing.{HasNoTurn, IsOver}

@@ -10,8 +10,8 @@ use lib.ListN.{get_elem?}
 use Rattle.poa_base.specs.declared.Call.{Call}
 use Rattle.poa_base.specs.declared.Entry.{Entry}
 use Rattle.poa_base.specs.declared.Entry.TheVariants.{Entered, Arrive, Filled, Left, Collect, Admit, Tried, Incarnated, Run, Done, TakeOut, Etherealized, Abandon}
-use Rattle.poa_history.specs.Arrivals.{arrivals, call_of, conn_of}
-use Rattle.poa_history.specs.Stages.{stage}
+use Rattle.history_standing.specs.Arrivals.{arrivals, call_of, conn_of}
+use Rattle.history_standing.specs.Stages.{stage}
 use Rattle.poa_history.proofs.SettledKept.{or_second}
 use Rattle.poa_history.proofs.StagesFrom.{maker, stage_other}
 use Rattle.run_endings.specs.Closing.{HasNoTurn}

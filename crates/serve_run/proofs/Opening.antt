@@ -15,7 +15,7 @@ use Rattle.poa_core.specs.Answers.{Arrives}
 use Rattle.run_history.specs.Life.{life_at, with_entry}
 use Rattle.poa_core.specs.declared.arrive_fault.ArriveFault.{ArriveFault}
 use Rattle.poa_core.specs.declared.arrive_fault.ArriveFault.TheVariants as arrive_fault
-use Rattle.poa_history.specs.Arrivals.{connections}
+use Rattle.history_standing.specs.Arrivals.{connections}
 use Rattle.poa_history.specs.Legal.{is_filled}
 use Rattle.poa_shared.specs.Events.{Event}
 use Rattle.poa_shared.specs.Seen.{past, Turns, HoldsConnection}

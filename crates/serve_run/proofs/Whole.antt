@@ -8,8 +8,8 @@ use native.Mathlib.Decide.{ℕ_discrete}
 use lib.ListN.{get_elem?}
 use Rattle.poa_base.specs.declared.Entry.{Entry}
 use Rattle.poa_base.specs.declared.Entry.TheVariants.{Entered, Arrive, Filled, Left, Collect, Admit, Tried, Incarnated, Run, Done, TakeOut, Etherealized, Abandon}
-use Rattle.poa_history.specs.Arrivals.{connections}
-use Rattle.poa_history.specs.Stages.{is_abandoned}
+use Rattle.history_standing.specs.Arrivals.{connections}
+use Rattle.history_standing.specs.Stages.{is_abandoned}
 use Rattle.poa_history.specs.Legal.{IsLegal}
 use Rattle.poa_history.proofs.SettledKept.{or_first, or_second}
 use Rattle.run_history.specs.declared.givens.Givens.{Givens}

@@ -10,13 +10,13 @@ use Rattle.poa_base.specs.declared.Entry.{Entry}
 use Rattle.poa_base.specs.declared.Entry.TheVariants.{Admit, Left}
 use Rattle.poa_base.specs.declared.SessionEnd.{SessionEnd}
 use Rattle.poa_base.specs.declared.SessionEnd.TheVariants.{ReadFault, WriteFault}
-use Rattle.poa_history.specs.Arrivals.{arrivals, call_of, conn_of, connections}
+use Rattle.history_standing.specs.Arrivals.{arrivals, call_of, conn_of, connections}
 use Rattle.poa_history.specs.Legal.{is_filled}
 use Rattle.poa_history.specs.Changes.{standing}
-use Rattle.poa_history.specs.Ends.{is_over}
+use Rattle.history_standing.specs.Ends.{is_over}
 use Rattle.poa_history.specs.Replies.{decided}
-use Rattle.poa_history.specs.Stages.{is_abandoned, is_at}
-use Rattle.poa_history.specs.declared.activation.Activation.{Activation}
+use Rattle.history_standing.specs.Stages.{is_abandoned, is_at}
+use Rattle.history_standing.specs.declared.activation.Activation.{Activation}
 use Rattle.poa_session.specs.Served.{DriesUp, TurnedAway}
 use Rattle.poa_tree.specs.Trees.{In as IsAmong}
 use Rattle.run_history.specs.declared.givens.Givens.{Givens}

@@ -5,9 +5,9 @@ use Rattle.poa_base.specs.declared.Entry.{Entry}
 use Rattle.poa_base.specs.declared.Entry.TheVariants.{Filled, Admit, Abandon}
 use Rattle.poa_base.specs.declared.SessionEnd.{SessionEnd}
 use Rattle.poa_base.specs.declared.SessionEnd.TheVariants.{Shut, Limit, Abandoned}
-use Rattle.poa_history.specs.Arrivals.{call_of}
+use Rattle.history_standing.specs.Arrivals.{call_of}
 use Rattle.poa_history.specs.Legal.{IsLegal, MayFollow, is_filled}
-use Rattle.poa_history.specs.Stages.{is_abandoned}
+use Rattle.history_standing.specs.Stages.{is_abandoned}
 use Rattle.run_tally.specs.Leaving.{is_shut, is_shut_by}
 use Rattle.run_tally.specs.Limits.{filled_at}
 use Rattle.session_laws.specs.declared.peer.Peer.{Peer}

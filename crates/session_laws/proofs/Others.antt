@@ -3,9 +3,9 @@ use Rattle.std.proofs.Common.{◌≡◌, ℕ, Bool, true, false, ◌&&◌, ◌||
 use Rattle.std.proofs.lemmas.List.{reverse-append}
 use Rattle.poa_base.specs.declared.Entry.{Entry}
 use Rattle.poa_base.specs.declared.Entry.TheVariants.{Entered, Arrive, Filled, Collect}
-use Rattle.poa_history.specs.Arrivals.{arrivals, call_of, conn_of}
+use Rattle.history_standing.specs.Arrivals.{arrivals, call_of, conn_of}
 use Rattle.poa_history.specs.Replies.{asks, is_asked, is_collected}
-use Rattle.poa_history.specs.Stages.{is_at}
+use Rattle.history_standing.specs.Stages.{is_at}
 use Rattle.run_history.specs.declared.Givens.{Givens}
 use Rattle.run_history.specs.Owners.{owner_of, HasNone}
 use Rattle.session_laws.specs.Records.{arrived_by, joined_by, places_by, filling_by, is_late_by, IsPaidBy}

@@ -6,12 +6,12 @@ use Rattle.poa_base.specs.declared.Config.{Config}
 use Rattle.poa_base.specs.declared.Entry.{Entry}
 use Rattle.poa_base.specs.declared.Entry.TheVariants.{Arrive}
 use Rattle.poa_base.specs.declared.Verdict.{Verdict}
-use Rattle.poa_history.specs.Arrivals.{arrivals, call_of, conn_of}
+use Rattle.history_standing.specs.Arrivals.{arrivals, call_of, conn_of}
 use Rattle.poa_history.specs.Legal.{IsLegal}
 use Rattle.poa_history.specs.Replies.{asks, decided, is_asked, is_collected, is_newly_decided, is_waiting, next_reply, next_within, owed}
-use Rattle.poa_history.specs.Searches.{least, count_below}
+use Rattle.history_standing.specs.Searches.{least, count_below}
 use Rattle.poa_history.specs.Settling.{settles}
-use Rattle.poa_history.specs.Stages.{admitted, is_at}
+use Rattle.history_standing.specs.Stages.{admitted, is_at}
 use Rattle.core_outboxes.proofs.Arrived.{admitted_arrived, decided_arrived}
 use Rattle.session_laws.specs.Records.{IsPaidBy}
 

@@ -6,9 +6,9 @@ use Rattle.poa_base.specs.declared.Entry.TheVariants.{Entered, Arrive, Filled, C
 use Rattle.poa_base.specs.declared.Head.{Head}
 use Rattle.poa_base.specs.declared.Reply.{Reply}
 use Rattle.poa_base.specs.declared.Reply.TheVariants as reply
-use Rattle.poa_history.specs.Arrivals.{call_of}
+use Rattle.history_standing.specs.Arrivals.{call_of}
 use Rattle.poa_history.specs.Replies.{is_asked, is_collected, reply_of}
-use Rattle.poa_history.specs.Stages.{is_at}
+use Rattle.history_standing.specs.Stages.{is_at}
 use Rattle.run_history.specs.declared.Givens.{Givens}
 use Rattle.run_history.specs.Runs.{opened}
 use Rattle.run_history.specs.Owners.{owner_of}

@@ -1,6 +1,6 @@
 use Rattle.std.specs.Prelude.{◌==◌, ◌&&◌, true, if◌then◌else◌}
 use Rattle.poa_history.specs.Changes.{ended_by_destroy}
-use Rattle.poa_history.specs.Templates.{has_activator, manager_at}
+use Rattle.history_standing.specs.Templates.{has_activator, manager_at}
 use Rattle.std.proofs.Common.{rules}
 use Rattle.std.proofs.lemmas.Map.Made.{map_same_pairs}
 use Rattle.active_map.proofs.rows.end_all_activators.Goals as goal

@@ -1,5 +1,5 @@
 use Rattle.std.specs.Prelude.{true, if◌then◌else◌}
-use Rattle.poa_history.specs.Standings.{is_of}
+use Rattle.history_standing.specs.Standings.{is_of}
 use Rattle.std.proofs.Common.{rules}
 use Rattle.std.proofs.lemmas.Map.Made.{map_same_pairs}
 use Rattle.active_map.proofs.rows.end_all_of_id.Goals as goal

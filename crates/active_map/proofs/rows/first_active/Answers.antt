@@ -6,7 +6,7 @@ use Rattle.std.specs.Option.{option_copied}
 use Rattle.std.specs.Ordering.{nat_cmp}
 use Rattle.std.proofs.lemmas.Grind.{common_steps}
 use Rattle.std.proofs.lemmas.List.{at_drop_more}
-use Rattle.poa_history.specs.Standings.{is_active}
+use Rattle.history_standing.specs.Standings.{is_active}
 use Rattle.active_map.proofs.Ided.{first_hit, first_miss}
 use Rattle.active_map.proofs.rows.first_active.Goals as goal
 

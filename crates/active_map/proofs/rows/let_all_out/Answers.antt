@@ -1,4 +1,4 @@
-use Rattle.poa_history.specs.Ends.{let_out}
+use Rattle.history_standing.specs.Ends.{let_out}
 use Rattle.std.proofs.Common.{rules}
 use Rattle.std.proofs.lemmas.Map.Made.{map_same_pairs}
 use Rattle.active_map.proofs.rows.let_all_out.Goals as goal

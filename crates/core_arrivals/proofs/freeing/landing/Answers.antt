@@ -3,7 +3,7 @@ use Rattle.std.specs.List.{find}
 use Rattle.std.specs.Option.{option_copied}
 use Rattle.history_holds.specs.declared.freed.Freed.{Freed}
 use Rattle.history_holds.specs.Frees.{landing}
-use Rattle.poa_history.specs.declared.flight.Flight.{Flight}
+use Rattle.history_standing.specs.declared.flight.Flight.{Flight}
 use Rattle.poa_history.specs.Turns.{flight_of}
 use Rattle.core_queries.specs.Seen.{seen}
 use Rattle.core_arrivals.proofs.freeing.landing.Goals as goal

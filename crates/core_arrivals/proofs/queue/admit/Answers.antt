@@ -1,7 +1,7 @@
 use Rattle.std.specs.Prelude.{refl}
 use Rattle.std.proofs.Common.{sym, subst}
-use Rattle.poa_history.specs.Arrivals.{arrivals}
-use Rattle.poa_history.specs.Stages.{is_unadmitted}
+use Rattle.history_standing.specs.Arrivals.{arrivals}
+use Rattle.history_standing.specs.Stages.{is_unadmitted}
 use Rattle.core_queries.specs.Numbers.{Ascends}
 use Rattle.core_arrivals.specs.Queued.{is_waiting_line}
 use Rattle.held_queue.specs.Waiting.{is_waiting}

@@ -1,8 +1,8 @@
 use Rattle.std.proofs.Common.{◌≡◌, Some, None, sym, ap, ◌∙◌}
 use Rattle.poa_base.specs.declared.Attempt.TheVariants.{Yes}
-use Rattle.poa_history.specs.declared.stage.Stage.TheVariants.{Trying}
-use Rattle.poa_history.specs.Arrivals.{call_of}
-use Rattle.poa_history.specs.Stages.{arrival_in}
+use Rattle.history_standing.specs.declared.stage.Stage.TheVariants.{Trying}
+use Rattle.history_standing.specs.Arrivals.{call_of}
+use Rattle.history_standing.specs.Stages.{arrival_in}
 use Rattle.poa_history.proofs.TurnTells.{trial_is}
 use Rattle.core_arrivals.proofs.queue.child_made.Goals as goal
 

@@ -1,6 +1,6 @@
 use Rattle.std.proofs.Common.{length, sym, ap, ◌∙◌}
-use Rattle.poa_history.specs.Arrivals.{arrivals}
-use Rattle.poa_history.specs.Stages.{is_unadmitted}
+use Rattle.history_standing.specs.Arrivals.{arrivals}
+use Rattle.history_standing.specs.Stages.{is_unadmitted}
 use Rattle.core_queries.proofs.Numbers.{counted}
 use Rattle.core_arrivals.proofs.queue.count.Goals as goal
 

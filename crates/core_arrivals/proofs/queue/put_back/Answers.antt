@@ -1,6 +1,6 @@
 use Rattle.std.proofs.Common.{ap, ◌∙◌, not}
 use Rattle.std.specs.Prelude.{if◌then◌else◌, refl}
-use Rattle.poa_history.specs.Arrivals.{is_message}
+use Rattle.history_standing.specs.Arrivals.{is_message}
 use Rattle.core_arrivals.specs.Numbers.{inserted}
 use Rattle.core_arrivals.proofs.Queueing.{put_back}
 use Rattle.core_arrivals.proofs.queue.put_back.Goals as goal

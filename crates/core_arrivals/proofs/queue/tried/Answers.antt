@@ -3,7 +3,7 @@ use Rattle.std.specs.Prelude.{◌∷◌, option_copied}
 use Rattle.poa_base.specs.declared.Entry.TheVariants.{Tried}
 use Rattle.poa_history.specs.InFlight.{IsManned}
 use Rattle.poa_history.specs.Legal.{MayFollow}
-use Rattle.poa_history.specs.Stages.{stage, arrival_in}
+use Rattle.history_standing.specs.Stages.{stage, arrival_in}
 use Rattle.core_arrivals.specs.Queued.{IsQueue, call_tried}
 use Rattle.core_arrivals.proofs.Queueing.{kept, changes_queue}
 use Rattle.core_arrivals.proofs.queue.tried.Goals as goal

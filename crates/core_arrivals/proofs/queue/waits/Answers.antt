@@ -1,6 +1,6 @@
 use Rattle.std.proofs.Common.{◌==◌, sym, subst, ap, ◌∙◌}
 use Rattle.std.specs.List.{list_any}
-use Rattle.poa_history.specs.Arrivals.{arrivals}
+use Rattle.history_standing.specs.Arrivals.{arrivals}
 use Rattle.held_queue.specs.Waiting.{is_waiting}
 use Rattle.core_queries.specs.Numbers.{Ascends}
 use Rattle.core_queries.proofs.Numbers.{ascending}

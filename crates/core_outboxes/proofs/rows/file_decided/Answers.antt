@@ -1,6 +1,6 @@
 use Rattle.std.proofs.Common.{◌≡◌, ◌<◌, ◌∙◌, ◌++◌, ◌∷◌, ◌==◌, [], ap, arith, filter, get_or, length, map, not, rules, take}
 use Rattle.std.specs.List.{list_any}
-use Rattle.poa_history.specs.Stages as begun
+use Rattle.history_standing.specs.Stages as begun
 use Rattle.core_queries.specs.Seen.{seen}
 use Rattle.core_outboxes.specs.Desk as desks
 use Rattle.core_outboxes.specs.Outboxes.{replies_at}

@@ -1,7 +1,7 @@
 use Rattle.std.proofs.Common.{◌≡◌, ◌==◌, ◌≤◌, ◌++◌, ℕ, false, not, drop, filter, length, map, take}
 use Rattle.std.specs.VecDeque.{deque_len, deque_capacity}
 use Rattle.std.specs.List.{list_any}
-use Rattle.poa_history.specs.Stages as begun
+use Rattle.history_standing.specs.Stages as begun
 use Rattle.core_queries.specs.Seen.{seen}
 use Rattle.core_outboxes.specs.Desk as desks
 use Rattle.core_outboxes.specs.Outboxes.{HasRoomAt, awaited_at, replies_at}

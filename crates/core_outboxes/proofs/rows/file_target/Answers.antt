@@ -1,5 +1,5 @@
 use Rattle.std.proofs.Common.{◌≡◌, ◌∙◌, ◌++◌, ◌+◌, ◌==◌, Some, ap, ap₂, arith, filter, inl, not, length, refl, subst, sym}
-use Rattle.poa_history.specs.Stages as begun
+use Rattle.history_standing.specs.Stages as begun
 use Rattle.poa_tree.specs.Trees.{In}
 use Rattle.poa_tree.proofs.Members.{in_kept}
 use Rattle.core_outboxes.specs.Outboxes.{replies_at}

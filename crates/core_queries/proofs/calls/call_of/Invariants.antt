@@ -1,5 +1,5 @@
 use Rattle.std.proofs.Common.{◌≡◌, ◌≤◌, take, reverse, option_copied}
-use Rattle.poa_history.specs.Arrivals as calls
+use Rattle.history_standing.specs.Arrivals as calls
 use Rattle.core_queries.proofs.calls.call_of.Given as goal
 
 abbrev pub invariant-loop-entry : goal.invariant-loop-entry

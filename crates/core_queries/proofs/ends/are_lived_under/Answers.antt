@@ -1,5 +1,5 @@
 use Rattle.std.proofs.Common.{not, ◌∙◌}
-use Rattle.poa_history.specs.Ends.{is_over}
+use Rattle.history_standing.specs.Ends.{is_over}
 use Rattle.core_queries.proofs.Exchange.{exchanged}
 use Rattle.core_queries.proofs.ends.are_lived_under.Goals as goal
 

@@ -1,7 +1,7 @@
 use Rattle.std.proofs.Common.{◌∙◌, not, ◌&&◌, ap, sym, refl}
 use Rattle.std.specs.List.{list_any}
 use Rattle.poa_tree.specs.Nodes.{stands_under}
-use Rattle.poa_history.specs.Ends as ends
+use Rattle.history_standing.specs.Ends as ends
 use Rattle.core_queries.proofs.Behind.{any_behind}
 use Rattle.core_queries.proofs.ends.is_lived_under.Goals as goal
 

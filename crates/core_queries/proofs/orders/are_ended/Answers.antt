@@ -1,7 +1,7 @@
 use Rattle.std.proofs.Common.{◌∙◌, not, ◌&&◌, ◌||◌, ◌==◌, sym, refl}
 use Rattle.std.specs.Prelude.{nat_lt}
-use Rattle.poa_history.specs.Ends as ends
-use Rattle.poa_history.specs.Templates as configured
+use Rattle.history_standing.specs.Ends as ends
+use Rattle.history_standing.specs.Templates as configured
 use Rattle.core_queries.proofs.Behind.{all_behind}
 use Rattle.core_queries.proofs.orders.are_ended.Goals as goal
 

@@ -1,5 +1,5 @@
 use Rattle.std.proofs.Common.{◌∙◌, ◌==◌, ◌&&◌, sym, refl}
-use Rattle.poa_history.specs.Standings as stands
+use Rattle.history_standing.specs.Standings as stands
 use Rattle.core_queries.specs.Seen.{forgotten}
 use Rattle.core_queries.proofs.Behind.{find_behind, second_fails}
 use Rattle.core_queries.proofs.searches.mapped.Goals as goal

@@ -1,5 +1,5 @@
 use Rattle.std.proofs.Common.{◌≡◌, take, reverse}
-use Rattle.poa_history.specs.Stages as begun
+use Rattle.history_standing.specs.Stages as begun
 use Rattle.core_queries.proofs.workers.stage.Given as goal
 
 abbrev pub invariant-loop-entry : goal.invariant-loop-entry

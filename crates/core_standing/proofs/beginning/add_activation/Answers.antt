@@ -1,5 +1,5 @@
 use Rattle.std.proofs.Common.{ℕ, List, false, ◌∙◌, ◌<◌, ap, ap₂, sym, subst}
-use Rattle.poa_history.specs.declared.activation.Activation.{Activation}
+use Rattle.history_standing.specs.declared.activation.Activation.{Activation}
 use Rattle.core_queries.specs.Seen.{seen, behind}
 use Rattle.active_map.specs.Tables.{Table}
 use Rattle.core_queries.proofs.Behind.{length_behind, pushed_behind}

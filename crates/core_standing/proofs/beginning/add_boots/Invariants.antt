@@ -1,5 +1,5 @@
 use Rattle.std.proofs.Common.{◌≡◌, drop}
-use Rattle.poa_history.specs.Opening as opens
+use Rattle.history_standing.specs.Opening as opens
 use Rattle.core_queries.specs.Seen.{seen}
 use Rattle.core_standing.proofs.beginning.add_boots.Given as goal
 

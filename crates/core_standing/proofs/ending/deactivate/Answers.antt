@@ -1,5 +1,5 @@
 use Rattle.std.proofs.Common.{true, if◌then◌else◌}
-use Rattle.poa_history.specs.Standings.{is_of}
+use Rattle.history_standing.specs.Standings.{is_of}
 use Rattle.core_standing.proofs.Still.{changed_each, still_ending}
 use Rattle.core_standing.proofs.ending.deactivate.Goals as goal
 

@@ -1,9 +1,9 @@
 use Rattle.std.proofs.Common.{ℕ, false, ◌≡◌, ◌++◌, ◌∷◌, [], Some, None, ◌∙◌, ◌<◌, ap, ap₂, sym, subst, length, List}
 use Rattle.poa_names.specs.declared.Key.{Key}
 use Rattle.poa_tree.specs.Walks.{walk, adapter_met}
-use Rattle.poa_history.specs.declared.activation.Activation.{Activation}
-use Rattle.poa_history.specs.declared.activation.Phase.TheVariants.{Begun}
-use Rattle.poa_history.specs.declared.flight.Flight.{Flight}
+use Rattle.history_standing.specs.declared.activation.Activation.{Activation}
+use Rattle.history_standing.specs.declared.activation.Phase.TheVariants.{Begun}
+use Rattle.history_standing.specs.declared.flight.Flight.{Flight}
 use Rattle.poa_history.specs.Changes.{with_request}
 use Rattle.core_queries.specs.Seen.{seen, behind}
 use Rattle.active_map.specs.Tables.{Table}

@@ -1,6 +1,6 @@
 use Rattle.std.proofs.Common.{◌==◌, ◌&&◌, inl, inr, refl, sym, ap, ◌∙◌}
 use Rattle.std.proofs.lemmas.Bool.{and_cases, and_parts, true≢false}
-use Rattle.poa_history.specs.Ends.{is_over}
+use Rattle.history_standing.specs.Ends.{is_over}
 use Rattle.core_queries.specs.Seen.{seen}
 use Rattle.core_queries.proofs.Itself.{stands_itself}
 use Rattle.core_standing.specs.Touched.{is_touched}

@@ -1,6 +1,6 @@
 use Rattle.std.proofs.Common.{◌∙◌, ap, subst}
-use Rattle.poa_history.specs.Ends.{without_ended}
-use Rattle.poa_history.specs.Standings.{Standing}
+use Rattle.history_standing.specs.Ends.{without_ended}
+use Rattle.history_standing.specs.Standings.{Standing}
 use Rattle.poa_tree.specs.Trees.{In}
 use Rattle.core_queries.specs.Seen.{seen}
 use Rattle.core_standing.proofs.Lasting.{lasts_all}

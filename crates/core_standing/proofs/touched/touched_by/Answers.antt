@@ -1,7 +1,7 @@
 use Rattle.std.proofs.Common.{◌∙◌, true, inl, inr, refl, subst, sym, ap}
 use Rattle.std.proofs.lemmas.Bool.{eq-eqb}
 use Rattle.poa_history.specs.Changes as changes
-use Rattle.poa_history.specs.Stages.{arrival_in, stage}
+use Rattle.history_standing.specs.Stages.{arrival_in, stage}
 use Rattle.poa_history.proofs.Untouched.{activations_fewer, activations_tried}
 use Rattle.poa_tree.specs.Trees.{In}
 use Rattle.core_standing.specs.Entries.{stage_at}

@@ -1,5 +1,5 @@
 use Rattle.std.proofs.Common.{◌≡◌, ◌==◌, ℕ, true, false, take}
-use Rattle.poa_history.specs.declared.flight.Flight.{Flight}
+use Rattle.history_standing.specs.declared.flight.Flight.{Flight}
 use Rattle.poa_tree.specs.Trees.{In}
 use Rattle.core_standing.specs.Flying.{uses}
 use Rattle.core_standing.specs.Touched.{is_touched}

@@ -1,6 +1,6 @@
 use Rattle.std.proofs.Common.{◌≡◌, sym, subst}
 use Rattle.std.specs.Prelude.{IfOk}
-use Rattle.poa_history.specs.Commands.{command_verdict}
+use Rattle.history_standing.specs.Commands.{command_verdict}
 use Rattle.core_queries.specs.Seen.{seen}
 use Rattle.core_turns.proofs.commands.command_verdict.Goals as goal
 

@@ -1,5 +1,5 @@
 use Rattle.std.proofs.Common.{◌∙◌, ◌&&◌}
-use Rattle.poa_history.specs.Standings.{is_active, is_of}
+use Rattle.history_standing.specs.Standings.{is_active, is_of}
 use Rattle.core_turns.proofs.Looking.{lent_any}
 use Rattle.core_turns.proofs.commands.is_any_active.Goals as goal
 

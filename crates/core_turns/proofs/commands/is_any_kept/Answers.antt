@@ -1,6 +1,6 @@
 use Rattle.std.proofs.Common.{◌∙◌, ◌&&◌, not}
-use Rattle.poa_history.specs.Ends.{is_over}
-use Rattle.poa_history.specs.Standings.{is_of}
+use Rattle.history_standing.specs.Ends.{is_over}
+use Rattle.history_standing.specs.Standings.{is_of}
 use Rattle.core_turns.proofs.Looking.{lent_any}
 use Rattle.core_turns.proofs.commands.is_any_kept.Goals as goal
 

@@ -2,8 +2,8 @@ use Rattle.std.proofs.Common.{◌≡◌, subst, ◌∙◌, ap, Some}
 use Rattle.std.specs.Prelude.{IfOk}
 use Rattle.poa_base.specs.declared.Answer.TheVariants.{GoodIor}
 use Rattle.poa_base.specs.declared.Verdict.TheVariants.{Answer}
-use Rattle.poa_history.specs.Opening.{made_id}
-use Rattle.poa_history.specs.References.{reference_text}
+use Rattle.history_standing.specs.Opening.{made_id}
+use Rattle.history_standing.specs.References.{reference_text}
 use Rattle.core_turns.proofs.commands.made_ior_row.Goals as goal
 
 pub returns : goal.returns

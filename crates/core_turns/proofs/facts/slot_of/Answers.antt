@@ -1,7 +1,7 @@
 use Rattle.std.proofs.Common.{◌∙◌, not, ◌&&◌, Some, None, ap₂, sym, refl}
 use Rattle.poa_choose.specs.declared.MapFact.TheVariants.{Active, Busy, Free}
-use Rattle.poa_history.specs.Ends.{is_over}
-use Rattle.poa_history.specs.Standings.{is_active, is_of}
+use Rattle.history_standing.specs.Ends.{is_over}
+use Rattle.history_standing.specs.Standings.{is_active, is_of}
 use Rattle.core_queries.specs.Seen.{forgotten}
 use Rattle.core_queries.proofs.Behind.{find_behind, second_fails}
 use Rattle.core_turns.proofs.facts.slot_of.Goals as goal

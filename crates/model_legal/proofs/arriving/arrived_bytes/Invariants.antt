@@ -1,5 +1,5 @@
 use Rattle.std.proofs.Common.{◌≡◌, ◌-◌, ◌^◌, min, take, reverse}
-use Rattle.poa_history.specs.Arrivals as calls
+use Rattle.history_standing.specs.Arrivals as calls
 use Rattle.model_legal.proofs.arriving.arrived_bytes.Given as goal
 
 abbrev pub invariant-loop-entry : goal.invariant-loop-entry

@@ -1,5 +1,5 @@
 use Rattle.std.proofs.Common.{◌≡◌, ◌+◌, ◌&&◌, not, take, reverse}
-use Rattle.poa_history.specs.Searches.{least}
+use Rattle.history_standing.specs.Searches.{least}
 use Rattle.poa_history.specs.Replies as replies
 use Rattle.model_replies.proofs.next_reply.first_decided.Given as goal
 

@@ -1,8 +1,8 @@
 use Rattle.std.proofs.Common.{◌≡◌, ◌+◌, ◌&&◌, not, sym, subst, ◌∙◌, ap, reverse, take}
 use Rattle.std.specs.Prelude.{IfOk}
 use Rattle.std.specs.Option.{option_or}
-use Rattle.poa_history.specs.Arrivals.{arrivals}
-use Rattle.poa_history.specs.Searches.{least}
+use Rattle.history_standing.specs.Arrivals.{arrivals}
+use Rattle.history_standing.specs.Searches.{least}
 use Rattle.poa_history.specs.Replies as replies
 use Rattle.model_replies.proofs.Next.{next_at}
 use Rattle.model_replies.proofs.next_reply.or_decided.Goals as goal

@@ -1,5 +1,5 @@
 use Rattle.std.proofs.Common.{◌≡◌, ◌≤◌, ◌&&◌, not, reverse}
-use Rattle.poa_history.specs.Searches.{count_below}
+use Rattle.history_standing.specs.Searches.{count_below}
 use Rattle.poa_history.specs.Replies as replies
 use Rattle.model_replies.proofs.owing.slow_owed.Given as goal
 

@@ -1,6 +1,6 @@
 use Rattle.std.proofs.Common.{None, sym, subst}
 use Rattle.history_holds.specs.declared.freed.Freed.{Freed}
-use Rattle.poa_history.specs.declared.stage.Stage.TheVariants.{Free}
+use Rattle.history_standing.specs.declared.stage.Stage.TheVariants.{Free}
 use Rattle.poa_core.specs.Agrees.{history}
 use Rattle.poa_core.specs.Noting.{IsHalfway}
 use Rattle.poa_core.proofs.Quieted.{quiet_halfway}

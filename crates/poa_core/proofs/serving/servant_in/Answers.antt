@@ -1,6 +1,6 @@
 use Rattle.std.proofs.Common.{◌≡◌, reverse, IfOk, sym, ap, subst, ◌∙◌}
-use Rattle.poa_history.specs.declared.stage.Stage.TheVariants.{Serving}
-use Rattle.poa_history.specs.Stages.{arrival_in, stage}
+use Rattle.history_standing.specs.declared.stage.Stage.TheVariants.{Serving}
+use Rattle.history_standing.specs.Stages.{arrival_in, stage}
 use Rattle.poa_history.specs.States.{servant_by, servant_run}
 use Rattle.core_queries.specs.Seen.{seen}
 use Rattle.poa_core.proofs.Admitted.{still_admitted}

@@ -1,6 +1,6 @@
 use Rattle.std.proofs.Common.{◌≡◌, ℕ, true, false, sym, ap, ◌∙◌}
 use Rattle.std.proofs.lemmas.Bool.{false_from_ne_true}
-use Rattle.poa_history.specs.Stages.{is_abandoned, stage}
+use Rattle.history_standing.specs.Stages.{is_abandoned, stage}
 use Rattle.core_arrivals.specs.Begun.{only_ends}
 use Rattle.poa_core.specs.Agrees.{history}
 use Rattle.run_history.specs.Life.{Life}

@@ -1,7 +1,7 @@
 use Rattle.std.proofs.Common.{◌≡◌, ◌≤◌, ◌&&◌, reverse}
-use Rattle.poa_history.specs.Searches.{count_below}
-use Rattle.poa_history.specs.Arrivals as calls
-use Rattle.poa_history.specs.Stages as begun
+use Rattle.history_standing.specs.Searches.{count_below}
+use Rattle.history_standing.specs.Arrivals as calls
+use Rattle.history_standing.specs.Stages as begun
 use Rattle.poa_model.proofs.crowded.waiting_messages.Given as goal
 
 abbrev pub invariant-loop-arrival : goal.invariant-loop-arrival

@@ -1,5 +1,5 @@
 use Rattle.std.proofs.Common.{◌≡◌, reverse}
-use Rattle.poa_history.specs.Searches.{first_given}
+use Rattle.history_standing.specs.Searches.{first_given}
 use Rattle.poa_history.specs.Turns as turns
 use Rattle.poa_model.proofs.turns.admission.Given as goal
 

@@ -1,5 +1,5 @@
 use Rattle.std.proofs.Common.{◌<◌}
-use Rattle.poa_history.specs.Arrivals.{connections}
+use Rattle.history_standing.specs.Arrivals.{connections}
 use Rattle.giop_replies.specs.Calls.{Each, IsSaid}
 use Rattle.replay_player.specs.Collecting.{CollectsAll}
 use Rattle.replay_player.proofs.Onward.{Onward}

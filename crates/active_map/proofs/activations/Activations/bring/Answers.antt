@@ -2,7 +2,7 @@ use Rattle.std.proofs.Common.{◌+◌, ◌-◌, ◌≤◌, ◌==◌, map, refl, 
 use Rattle.std.specs.Map.{values_of}
 use Rattle.std.specs.Option.{option_copied_mut}
 use Rattle.poa_history.specs.Changes.{at_number, come_to}
-use Rattle.poa_history.specs.Standings.{is_begun}
+use Rattle.history_standing.specs.Standings.{is_begun}
 use Rattle.active_map.specs.Tables.{Table, IsIndexed}
 use Rattle.active_map.proofs.IdsKept.{indexed_each}
 use Rattle.active_map.proofs.RowsKept.{keeps_where, row_set, row_absent, weight_within, table_set, tabled}

@@ -1,8 +1,8 @@
 use Rattle.std.proofs.Common.{true, map, refl, sym, ap, subst, ◌∙◌}
 use Rattle.std.specs.Prelude.{if◌then◌else◌}
 use Rattle.std.specs.Map.{values_of}
-use Rattle.poa_history.specs.declared.activation.Activation.{Activation}
-use Rattle.poa_history.specs.Standings.{is_of}
+use Rattle.history_standing.specs.declared.activation.Activation.{Activation}
+use Rattle.history_standing.specs.Standings.{is_of}
 use Rattle.active_map.specs.Tables.{Table, IsIndexed}
 use Rattle.active_map.proofs.IdsKept.{indexed_each}
 use Rattle.active_map.proofs.RowsKept.{keeps_where, table_each, values_each, tabled}

@@ -2,7 +2,7 @@ use Rattle.std.proofs.Common.{◌≡◌, ◌+◌, not, filter, length, refl, sym
 use Rattle.std.specs.Map.{values_of}
 use Rattle.std.proofs.lemmas.List.Filters.{length-filter_both}
 use Rattle.std.proofs.lemmas.Map.Entries.{length-values_of}
-use Rattle.poa_history.specs.Ends.{is_over}
+use Rattle.history_standing.specs.Ends.{is_over}
 use Rattle.active_map.specs.Live.{is_live, live}
 use Rattle.active_map.specs.Tables.{Table, IsIndexed}
 use Rattle.active_map.proofs.Moving.{kept_still, none_still, still_lives}

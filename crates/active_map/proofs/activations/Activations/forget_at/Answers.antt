@@ -3,8 +3,8 @@ use Rattle.std.specs.Map.{values_of}
 use Rattle.std.proofs.lemmas.List.{length-append}
 use Rattle.std.proofs.lemmas.List.Filters.{length-filter_both}
 use Rattle.std.proofs.lemmas.Map.Entries.{length-values_of}
-use Rattle.poa_history.specs.declared.activation.Activation.{Activation}
-use Rattle.poa_history.specs.Ends.{is_over}
+use Rattle.history_standing.specs.declared.activation.Activation.{Activation}
+use Rattle.history_standing.specs.Ends.{is_over}
 use Rattle.active_map.specs.ById.{IsAt, numbers_of}
 use Rattle.active_map.specs.Tables.{Table, IsIndexed, is_moving, weight}
 use Rattle.active_map.proofs.IdsKept.{indexed_less, values_apart}

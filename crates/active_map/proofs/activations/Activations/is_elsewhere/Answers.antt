@@ -2,7 +2,7 @@ use Rattle.std.proofs.Common.{◌==◌, ◌∙◌, Bool, not, ap, sym}
 use Rattle.std.specs.List.{list_any}
 use Rattle.std.specs.Option.{option_copied}
 use Rattle.std.proofs.lemmas.Bool.{and_parts, eqb-true}
-use Rattle.poa_history.specs.declared.activation.Activation.{Activation}
+use Rattle.history_standing.specs.declared.activation.Activation.{Activation}
 use Rattle.active_map.specs.Asked.{is_other}
 use Rattle.active_map.specs.Tables.{Table}
 use Rattle.active_map.proofs.Asking.{asked_by_ids, asked_of_none}

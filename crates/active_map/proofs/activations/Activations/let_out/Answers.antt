@@ -1,8 +1,8 @@
 use Rattle.std.proofs.Common.{true, map, refl, sym, ap, subst, ◌∙◌}
 use Rattle.std.specs.Map.{values_of}
 use Rattle.std.proofs.Common.{[]}
-use Rattle.poa_history.specs.Ends.{is_left, let_out}
-use Rattle.poa_history.specs.Standings.{Standing}
+use Rattle.history_standing.specs.Ends.{is_left, let_out}
+use Rattle.history_standing.specs.Standings.{Standing}
 use Rattle.active_map.specs.Tables.{Table, IsIndexed}
 use Rattle.active_map.proofs.IdsKept.{indexed_each}
 use Rattle.active_map.proofs.Moving.{map_still, still_stays}

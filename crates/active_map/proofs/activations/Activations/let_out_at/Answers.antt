@@ -2,8 +2,8 @@ use Rattle.std.proofs.Common.{◌+◌, ◌-◌, ◌≤◌, ◌==◌, true, [], m
 use Rattle.std.specs.Map.{values_of}
 use Rattle.std.specs.Option.{option_copied_mut}
 use Rattle.poa_history.specs.Changes.{at_number}
-use Rattle.poa_history.specs.Ends.{is_left, let_out}
-use Rattle.poa_history.specs.Standings.{Standing}
+use Rattle.history_standing.specs.Ends.{is_left, let_out}
+use Rattle.history_standing.specs.Standings.{Standing}
 use Rattle.active_map.specs.Tables.{Table, IsIndexed}
 use Rattle.active_map.proofs.IdsKept.{indexed_each}
 use Rattle.active_map.proofs.RowsKept.{keeps_where, row_set, row_absent, weight_within, weight_few, moving_few, table_set, tabled}

@@ -2,7 +2,7 @@ use Rattle.std.proofs.Common.{◌&&◌, find, ap, ◌∙◌}
 use Rattle.std.specs.BTreeMap.{get}
 use Rattle.std.specs.List.{filter_map}
 use Rattle.std.specs.Ordering.{nat_cmp}
-use Rattle.poa_history.specs.Standings.{is_of}
+use Rattle.history_standing.specs.Standings.{is_of}
 use Rattle.active_map.specs.Live.{is_live}
 use Rattle.active_map.specs.Tables.{Table}
 use Rattle.active_map.proofs.IdsKept.{first_of}

@@ -1,7 +1,7 @@
 use Rattle.std.proofs.Common.{◌≡◌, ℕ, ◌+◌, ◌++◌, ◌∷◌, ◌==◌, [], filter, not, length, ap, sym, subst, refl, ◌∙◌, arith}
 use Rattle.std.proofs.lemmas.Map.Entries.{length-values_of}
 use Rattle.std.specs.Map.{values_of}
-use Rattle.poa_history.specs.declared.activation.Activation.{Activation}
+use Rattle.history_standing.specs.declared.activation.Activation.{Activation}
 use Rattle.active_map.specs.ById.{IsAt, numbers_of}
 use Rattle.active_map.specs.Tables.{Table, IsIndexed, IsTable, IsWhole}
 use Rattle.active_map.proofs.IdsKept.{earlier_others, indexed_back, indexed_more, indexed_same}

@@ -1,6 +1,6 @@
 use Rattle.std.proofs.Common.{◌<◌}
 use Rattle.giop_replies.specs.Calls.{Each, IsSaid}
-use Rattle.poa_history.specs.Arrivals.{connections}
+use Rattle.history_standing.specs.Arrivals.{connections}
 use Rattle.replay_lines.specs.Lines.{reply_line}
 use Rattle.replay_player.specs.Collecting.{CollectsAll}
 use Rattle.replay_player.specs.Effects.{Works}

@@ -7,7 +7,7 @@ use Rattle.poa_names.specs.declared.Stamp.{Stamp}
 use Rattle.poa_base.specs.declared.Call.{Call}
 use Rattle.object_key.specs.Spelling.{key_spelling}
 use Rattle.poa_tree.specs.Paths.{same_bytes}
-use Rattle.poa_history.specs.Arrivals.{target_of}
+use Rattle.history_standing.specs.Arrivals.{target_of}
 
 -- so many names from the front, and what is behind them
 abbrev pub names_in : ℕ → List ℕ → Option (List (List ℕ) × List ℕ)

@@ -16,8 +16,8 @@ use Rattle.poa_base.specs.declared.Verdict.{Verdict}
 use Rattle.poa_base.specs.declared.Verdict.TheVariants.{Answer, Wait}
 use Rattle.poa_base.specs.declared.Answer.TheVariants.{No}
 use Rattle.poa_tree.specs.Paths.{same_path}
-use Rattle.poa_history.specs.Templates.{template_or_root, manager_number}
-use Rattle.poa_history.specs.Arrivals.{call_of}
+use Rattle.history_standing.specs.Templates.{template_or_root, manager_number}
+use Rattle.history_standing.specs.Arrivals.{call_of}
 
 -- the command was done: answered ok, or with an answer that waits
 abbrev pub is_accepted : Verdict → Bool

@@ -4,9 +4,9 @@ use Rattle.std.specs.List.{list_any}
 use Rattle.poa_names.specs.declared.Sid.{Sid}
 use Rattle.poa_names.specs.declared.Sid.TheVariants.{Named, Fresh}
 use Rattle.poa_tree.specs.declared.node.Node.{Node}
-use Rattle.poa_history.specs.declared.flight.Flight.{Flight}
-use Rattle.poa_history.specs.declared.activation.Activation.{Activation}
-use Rattle.poa_history.specs.declared.activation.Phase.TheVariants.{Begun, Complete, Void}
+use Rattle.history_standing.specs.declared.flight.Flight.{Flight}
+use Rattle.history_standing.specs.declared.activation.Activation.{Activation}
+use Rattle.history_standing.specs.declared.activation.Phase.TheVariants.{Begun, Complete, Void}
 use Rattle.poa_tree.specs.Paths.{same_bytes, same_path}
 
 pub record Standing : Type 0 where

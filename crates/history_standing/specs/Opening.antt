@@ -5,9 +5,9 @@ use Rattle.poa_base.specs.declared.Config.{Config}
 use Rattle.poa_base.specs.declared.AdapterConf.{AdapterConf}
 use Rattle.poa_base.specs.declared.ObjectConf.{ObjectConf}
 use Rattle.poa_names.specs.declared.Sid.TheVariants.{Named}
-use Rattle.poa_history.specs.declared.activation.Phase.{Phase}
-use Rattle.poa_history.specs.declared.activation.Phase.TheVariants.{Complete}
-use Rattle.poa_history.specs.Standings.{Standing}
+use Rattle.history_standing.specs.declared.activation.Phase.{Phase}
+use Rattle.history_standing.specs.declared.activation.Phase.TheVariants.{Complete}
+use Rattle.history_standing.specs.Standings.{Standing}
 use Rattle.poa_tree.specs.Nodes.{node_at, created}
 use Rattle.poa_tree.specs.Paths.{is_root}
 

@@ -3,9 +3,9 @@ use Rattle.std.specs.Prelude.{ℕ, Bool, true, not, ◌&&◌, ◌||◌, ◌==◌
 use Rattle.std.specs.List.{list_any}
 use Rattle.poa_base.specs.declared.Config.{Config}
 use Rattle.poa_tree.specs.declared.node.Node.{Node}
-use Rattle.poa_history.specs.declared.activation.Activation.{Activation}
-use Rattle.poa_history.specs.Templates.{has_activator}
-use Rattle.poa_history.specs.Standings.{Standing, is_complete, is_void, is_ending, is_used}
+use Rattle.history_standing.specs.declared.activation.Activation.{Activation}
+use Rattle.history_standing.specs.Templates.{has_activator}
+use Rattle.history_standing.specs.Standings.{Standing, is_complete, is_void, is_ending, is_used}
 use Rattle.poa_tree.specs.Nodes.{stands_under}
 use Rattle.poa_tree.specs.Paths.{is_root}
 

@@ -4,7 +4,7 @@ use Rattle.poa_base.specs.declared.Config.{Config}
 use Rattle.poa_names.specs.declared.Key.{Key}
 use Rattle.ior_object.specs.Reference.{reference_text as reference_at}
 use Rattle.servant_kinds.specs.Object.{type_id_of}
-use Rattle.poa_history.specs.Templates.{policies_at, lasts}
+use Rattle.history_standing.specs.Templates.{policies_at, lasts}
 
 -- a persistent key has no stamp; a transient one has the run and the adapter's number (CORBA 3.3 Part 1, section 15.3.8)
 abbrev pub key_for : Config → ℕ → ℕ → List (List ℕ) → List ℕ → Key

@@ -12,10 +12,10 @@ use Rattle.poa_base.specs.declared.Incarnation.{Incarnation}
 use Rattle.poa_base.specs.declared.Incarnation.TheVariants.{Fresh, Named, Double, Forward, Raise}
 use Rattle.poa_choose.specs.declared.Located.{Located}
 use Rattle.poa_choose.specs.declared.Located.TheVariants.{Servant as ByServant, Forward as ByForward, Raise as ByRaise, NoRule}
-use Rattle.poa_history.specs.declared.activation.Activation.{Activation}
+use Rattle.history_standing.specs.declared.activation.Activation.{Activation}
 use Rattle.poa_tree.specs.Paths.{same_bytes}
-use Rattle.poa_history.specs.Templates.{rules_at, policies_at, is_unique, servant_name}
-use Rattle.poa_history.specs.Standings.{Standing, is_in_map}
+use Rattle.history_standing.specs.Templates.{rules_at, policies_at, is_unique, servant_name}
+use Rattle.history_standing.specs.Standings.{Standing, is_in_map}
 
 -- a rule without an id matches every id
 abbrev pub matches : List ℕ → RuleConf → Bool

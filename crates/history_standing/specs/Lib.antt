@@ -1,0 +1,12 @@
+pub mod Searches
+pub mod Templates
+pub mod Arrivals
+pub mod Stages
+pub mod Standings
+pub mod Ends
+pub mod Keys
+pub mod Logs
+pub mod Opening
+pub mod References
+pub mod Rules
+pub mod Commands
