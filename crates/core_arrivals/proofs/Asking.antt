@@ -19,7 +19,7 @@ use Rattle.poa_history.specs.Situations.{facts_of}
 use Rattle.history_standing.specs.Stages.{is_unadmitted}
 use Rattle.poa_history.specs.Turns.{admission_of, admission}
 use Rattle.poa_history.specs.Verdicts.{chosen, verdict_on, verdict}
-use Rattle.poa_history.proofs.GoneIs.{any_in}
+use Rattle.poa_history.proofs.GoneIs.{some_in}
 use Rattle.poa_tree.specs.Trees.{In}
 use Rattle.poa_tree.proofs.Members.{kept_in}
 use Rattle.core_queries.specs.Numbers.{below, Ascends}
@@ -93,7 +93,7 @@ module _ (c : Config) (run : ℕ) (h : List Entry) (w : ℕ) where
     held_none r less waits none =
         elim (or_cases (has q.ready.heap r) (in_rows q.rows.items r) (held.covered r less waits)) [
           | inl is ↦ absurd (none r is (omega arith))
-          | inr is ↦ (let (row, there, in_row) = any_in (λ x. has x.calls.heap r) q.rows.items is in
+          | inr is ↦ (let (row, there, in_row) = some_in (λ x. has x.calls.heap r) q.rows.items is in
               elim (settled row there) [
                 | inl unasked ↦ by_grip row.grip unasked (held.held row there r in_row).1
                 | inr ahead ↦ (let (p, ready, low) = ahead r in_row in absurd (none p ready low))

@@ -7,9 +7,9 @@ use Rattle.poa_tree.specs.declared.node.Node.{Node}
 use Rattle.poa_tree.specs.Nodes.{stands_under}
 use Rattle.poa_tree.specs.Paths.{leads_to}
 use Rattle.history_standing.specs.declared.activation.Activation.{Activation}
-use Rattle.poa_history.proofs.GoneIs.{any_in}
-use Rattle.poa_history.proofs.SettledKept.{any_by}
+use Rattle.poa_history.proofs.GoneIs.{some_in}
 use Rattle.history_standing.proofs.Tests.{same_test}
+use Rattle.poa_tree.proofs.Members.{any_in}
 
 module _ (lives : Activation → Bool) (ns : List Node) (p : List (List ℕ)) (as' : List Activation) where
   -- one of the adapter lives
@@ -24,25 +24,25 @@ module _ (lives : Activation → Bool) (ns : List Node) (p : List (List ℕ)) (a
 
   found_again : list_any by_adapter ns ≡ true → list_any by_activation as' ≡ true
   found_again some_ =
-      (let n = any_in by_adapter ns some_ in
+      (let n = some_in by_adapter ns some_ in
       let under = and_parts (leads_to p n.0.path) (list_any (has_one n.0) as') n.2 in
-      let a = any_in (has_one n.0) as' under.1 in
+      let a = some_in (has_one n.0) as' under.1 in
       let its = and_parts (a.0.adapter == n.0.number) (lives a.0) a.2 in
       let number = eq-eqb n.0.number a.0.adapter (sym (eqb-true a.0.adapter n.0.number its.0)) in
-      any_by by_activation a.0 as' a.1
+      any_in by_activation a.0 as' a.1
       (and_from (lives a.0) (stands_under ns p a.0.adapter) its.1
-      (any_by (λ m. (m.number == a.0.adapter) && leads_to p m.path) n.0 ns n.1 (and_from (n.0.number == a.0.adapter) (leads_to p n.0.path) number under.0))))
+      (any_in (λ m. (m.number == a.0.adapter) && leads_to p m.path) n.0 ns n.1 (and_from (n.0.number == a.0.adapter) (leads_to p n.0.path) number under.0))))
 
   found_before : list_any by_activation as' ≡ true → list_any by_adapter ns ≡ true
   found_before some_ =
-      (let a = any_in by_activation as' some_ in
+      (let a = some_in by_activation as' some_ in
       let under = and_parts (lives a.0) (stands_under ns p a.0.adapter) a.2 in
-      let n = any_in (λ m. (m.number == a.0.adapter) && leads_to p m.path) ns under.1 in
+      let n = some_in (λ m. (m.number == a.0.adapter) && leads_to p m.path) ns under.1 in
       let its = and_parts (n.0.number == a.0.adapter) (leads_to p n.0.path) n.2 in
       let number = eq-eqb a.0.adapter n.0.number (sym (eqb-true n.0.number a.0.adapter its.0)) in
-      any_by by_adapter n.0 ns n.1
+      any_in by_adapter n.0 ns n.1
       (and_from (leads_to p n.0.path) (list_any (has_one n.0) as') its.1
-      (any_by (has_one n.0) a.0 as' a.1 (and_from (a.0.adapter == n.0.number) (lives a.0) number under.0))))
+      (any_in (has_one n.0) a.0 as' a.1 (and_from (a.0.adapter == n.0.number) (lives a.0) number under.0))))
 
   pub exchanged : list_any by_adapter ns ≡ list_any by_activation as'
   exchanged = same_test (list_any by_adapter ns) (list_any by_activation as') found_again found_before

@@ -21,10 +21,10 @@ use Rattle.poa_history.specs.Later.{IsLater}
 use Rattle.poa_history.specs.Sound.{IsSound}
 use Rattle.poa_history.specs.Turns.{activation_numbered}
 use Rattle.poa_tree.proofs.Finding.{find_in, find_none}
-use Rattle.poa_history.proofs.SettledKept.{not_true, not_false}
 use Rattle.poa_history.proofs.ActivationsLater.{step_later}
 use Rattle.poa_history.proofs.ActivationsFrom.{phase_by, IsBegun, incarnating, activating, activating_id, referring, stood, begun, activation_from}
 use Rattle.core_servants.specs.Holds.{is_fresh, keeps_fresh, is_kept_by, is_kept}
+use Rattle.history_standing.proofs.Tests.{not_true, not_false}
 
 -- the activation of a number is the one that stands by it
 pub activation_found : (c : Config) (run : ℕ) (s : Standing) → IsSound c run s → (n : ℕ) (a : Activation) → In a s.activations → a.number ≡ n

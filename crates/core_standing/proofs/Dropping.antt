@@ -13,8 +13,9 @@ use Rattle.history_standing.specs.declared.activation.Activation.{Activation}
 use Rattle.history_standing.specs.declared.flight.Flight.{Flight}
 use Rattle.history_standing.specs.Ends.{is_over, is_clear, is_done_with}
 use Rattle.history_standing.specs.Standings.{Standing}
-use Rattle.poa_history.proofs.SettledKept.{none_by, not_true}
 use Rattle.core_queries.proofs.Kept.{any_kept}
+use Rattle.history_standing.proofs.Tests.{none_by, not_true}
+use Rattle.history_standing.proofs.Clear.{clear_parts}
 
 -- the elements up to a place, and of the others those that are kept
 abbrev pub kept_from : {A : Type 0} → (A → Bool) → ℕ → List A → List A
@@ -81,14 +82,6 @@ module _ (c : Config) (s : Standing) where
   goes_clear : (n : Node) → stays c s n ≡ false → is_clear c s n.path ≡ true
   goes_clear n goes = last_true (is_root n.path) n.dying (is_clear c s n.path) goes
 
-  clear_parts : (n : Node) → stays c s n ≡ false → (list_any (λ f. stands_under s.nodes n.path f.adapter) s.flights ≡ false)
-      × (list_any (λ a. not (is_over c a) && stands_under s.nodes n.path a.adapter) s.activations ≡ false)
-  clear_parts n goes =
-      let parts =
-      and_parts (not (list_any (λ f. stands_under s.nodes n.path f.adapter) s.flights))
-      (not (list_any (λ a. not (is_over c a) && stands_under s.nodes n.path a.adapter) s.activations)) (goes_clear n goes) in
-      (not_true _ parts.0, not_true _ parts.1)
-
   -- where no adapter of the number stands at an adapter's path or below it, the adapter has another number
   is_other : (n : Node) (k : ℕ) (p : List (List ℕ)) → In n s.nodes → stands_under s.nodes n.path k ≡ false → ((n.number == k) && leads_to p n.path) ≡ false
   is_other n k p is none =
@@ -101,7 +94,7 @@ module _ (c : Config) (s : Standing) where
   flight_under : (k : ℕ) (p : List (List ℕ)) (f : Flight) → In f s.flights → stands_under (left k) p f.adapter ≡ stands_under s.nodes p f.adapter
   flight_under k p f flies =
       any_from (stays c s) (λ m. (m.number == f.adapter) && leads_to p m.path) k s.nodes
-      (λ m is goes. is_other m f.adapter p is (none_by (λ g. stands_under s.nodes m.path g.adapter) f s.flights flies (clear_parts m goes).0))
+      (λ m is goes. is_other m f.adapter p is (none_by (λ g. stands_under s.nodes m.path g.adapter) f s.flights flies (clear_parts c s m.path (goes_clear m goes)).0))
 
   activation_under : (k : ℕ) (p : List (List ℕ)) (a : Activation) → In a s.activations → not (is_over c a) ≡ true
       → stands_under (left k) p a.adapter ≡ stands_under s.nodes p a.adapter
@@ -109,7 +102,7 @@ module _ (c : Config) (s : Standing) where
       any_from (stays c s) (λ m. (m.number == a.adapter) && leads_to p m.path) k s.nodes
       (λ m is goes. is_other m a.adapter p is
       (second_false (not (is_over c a)) (stands_under s.nodes m.path a.adapter)
-      (none_by (λ b. not (is_over c b) && stands_under s.nodes m.path b.adapter) a s.activations lives (clear_parts m goes).1) more))
+      (none_by (λ b. not (is_over c b) && stands_under s.nodes m.path b.adapter) a s.activations lives (clear_parts c s m.path (goes_clear m goes)).1) more))
 
   clear_left : (k : ℕ) (p : List (List ℕ)) → is_clear c (record s { nodes = left k }) p ≡ is_clear c s p
   clear_left k p =

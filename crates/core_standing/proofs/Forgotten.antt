@@ -11,7 +11,6 @@ use Rattle.history_standing.specs.Ends.{is_over, settled}
 use Rattle.history_standing.specs.Standings.{Standing}
 use Rattle.poa_tree.specs.Trees.{In}
 use Rattle.poa_tree.proofs.Members.{in_kept}
-use Rattle.poa_history.proofs.SettledKept.{not_true}
 use Rattle.core_queries.specs.Seen.{forgotten, behind}
 use Rattle.active_map.specs.Live.{is_live, live}
 use Rattle.core_queries.specs.Kept.{Forgets, KeepsNoneOver, StandsFor, StandsAfter}
@@ -20,6 +19,7 @@ use Rattle.core_standing.specs.Entries.{may_begin, may_end}
 use Rattle.core_standing.proofs.ChangesAlike.{stands_changed, stands_settled, stands_through}
 use Rattle.core_standing.proofs.Few.{few_changed, few_settled}
 use Rattle.core_standing.proofs.Settled.{still_after}
+use Rattle.history_standing.proofs.Tests.{not_true}
 
 live_behind : (c : Config) (n : ℕ) (kept : List Activation) → live c (behind n kept) ≡ live c kept
 live_behind c zero kept = refl

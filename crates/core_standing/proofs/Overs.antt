@@ -22,20 +22,20 @@ use Rattle.history_standing.specs.declared.activation.Phase.TheVariants.{Begun, 
 use Rattle.poa_history.proofs.AloneKept.{all_open}
 use Rattle.history_standing.specs.Logs.{command_in}
 use Rattle.history_standing.specs.Standings.{Standing}
-use Rattle.poa_history.proofs.GoneIs.{any_in}
-use Rattle.poa_history.proofs.SettledKept.{none_by}
+use Rattle.poa_history.proofs.GoneIs.{some_in}
 use Rattle.core_queries.specs.declared.standing.Standing.{Standing as Held}
 use Rattle.core_queries.specs.Kept.{KeepsNoneOver}
 use Rattle.core_queries.specs.Seen.{seen}
 use Rattle.core_standing.specs.Entries.{may_end}
 use Rattle.core_standing.specs.Touched.{Others, OverTouched, SameOthers}
 use Rattle.core_standing.proofs.Forgotten.{from_behind, in_behind}
+use Rattle.history_standing.proofs.Tests.{none_by}
 
 -- none that is kept is over where all that are over are forgotten, since no number that is kept is that of what is forgotten
 pub none_kept : (c : Config) (s : Held) → ((a : Activation) → In a s.activations.kept → a.number < 4294967296) → KeepsNoneOver c (seen s)
     → list_any (is_over c) s.activations.kept ≡ false
 none_kept c s fit none =
-    false_from_ne_true (list_any (is_over c) s.activations.kept) (λ some_. (let found = any_in (is_over c) s.activations.kept some_ in
+    false_from_ne_true (list_any (is_over c) s.activations.kept) (λ some_. (let found = some_in (is_over c) s.activations.kept some_ in
     let same : found.0.number ≡ 4294967296 =
     ap (λ (a : Activation). a.number) (none found.0 (in_behind s.activations.forgotten s.activations.kept found.0 found.1) found.2) in
     let low = fit found.0 found.1 in omega (arith, same, low)))

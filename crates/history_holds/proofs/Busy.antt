@@ -30,15 +30,15 @@ use Rattle.poa_tree.proofs.Finding.{find_in, find_none}
 use Rattle.poa_tree.proofs.Leading.{bytes_same}
 use Rattle.poa_history.proofs.ActivationsFrom.{IsStep, Leaves, TakesOut, Tells, IsBegun, incarnating, activating, activating_id, referring, stood, begun, activation_from}
 use Rattle.poa_history.proofs.ActivationsLater.{step_later}
-use Rattle.poa_history.proofs.GoneIs.{any_in}
+use Rattle.poa_history.proofs.GoneIs.{some_in}
 use Rattle.poa_history.proofs.LegalSound.{legal_sound}
 use Rattle.poa_history.proofs.MannedKept.{all_manned}
 use Rattle.poa_history.proofs.OutIs.{out_run_out}
-use Rattle.poa_history.proofs.SettledKept.{any_by}
 use Rattle.poa_history.proofs.TurnTells.{takeout_is}
 use Rattle.history_holds.specs.Frees.{freed_by}
 use Rattle.history_holds.proofs.Unchanged.{no_command}
 use Rattle.history_holds.proofs.Landing.{freed_never, flies_on, brings_moves, brings_changes, tells_moves, tells_changes}
+use Rattle.poa_tree.proofs.Members.{any_in}
 
 -- tests on how far an activation came
 abbrev void_phase : Phase → Bool
@@ -192,11 +192,11 @@ module _ (c : Config) (run limit : ℕ) (past : List Entry) (e : Entry) (given :
 
         by_flight : is_used s.flights a.number ≡ true → is_used (changed c run past e s).flights b.number ≡ false → ⊥
         by_flight used unused =
-            let f = any_in (λ g. elim g.activation as (λ _. Bool) [ Some m ↦ m == a.number | None ↦ false ]) s.flights used in
+            let f = some_in (λ g. elim g.activation as (λ _. Bool) [ Some m ↦ m == a.number | None ↦ false ]) s.flights used in
             elim (flies_on c run past manned sound limit e legal.0 few f.0 f.1) [
               | inl flies ↦
                   true≢false
-                  (sym (any_by (λ g. elim g.activation as (λ _. Bool) [ Some m ↦ m == a.number | None ↦ false ]) f.0 (changed c run past e s).flights flies f.2)
+                  (sym (any_in (λ g. elim g.activation as (λ _. Bool) [ Some m ↦ m == a.number | None ↦ false ]) f.0 (changed c run past e s).flights flies f.2)
                   ∙ (ap (λ n. is_used (changed c run past e s).flights n) (sym step.later.number) ∙ unused))
               | inr lands ↦ freed_never a.number moved still (lands.1 ∙ activation_is f.0.activation f.2)
             ]
@@ -384,10 +384,10 @@ module _ (c : Config) (run limit : ℕ) (past : List Entry) (e : Entry) (given :
   -- what is unfinished stays so, unless an incarnation or etherealization in the adapter ends
   pub changing_stays : (k : ℕ) → is_at k changed_in ≡ false → is_changing c s.activations k ≡ true → is_changing c t.activations k ≡ true
   changing_stays k still changing =
-      let found = any_in (λ a. (a.adapter == k) && is_unfinished c a) s.activations changing in
+      let found = some_in (λ a. (a.adapter == k) && is_unfinished c a) s.activations changing in
       let two = and_parts (found.0.adapter == k) (is_unfinished c found.0) found.2 in
       let (b, there, step) = act_after found.0 found.1 in
-      any_by (λ a. (a.adapter == k) && is_unfinished c a) b t.activations there
+      any_in (λ a. (a.adapter == k) && is_unfinished c a) b t.activations there
       (and_from (b.adapter == k) (is_unfinished c b) (ap (λ x. x == k) step.later.adapter ∙ two.0)
       (unfinished found.0 b found.1 step (eqb-true found.0.adapter k two.0) two.1))
     where

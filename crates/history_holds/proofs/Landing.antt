@@ -26,13 +26,13 @@ use Rattle.poa_tree.specs.Trees.{In}
 use Rattle.poa_tree.proofs.Finding.{find_in, find_none}
 use Rattle.poa_history.proofs.ActivationsFrom.{Brings, Tells}
 use Rattle.poa_history.proofs.FlightsFrom.{flights_command}
-use Rattle.poa_history.proofs.GoneIs.{any_in}
+use Rattle.poa_history.proofs.GoneIs.{some_in}
 use Rattle.poa_history.proofs.LegalSound.{legal_sound}
 use Rattle.poa_history.proofs.MannedKept.{all_manned}
-use Rattle.poa_history.proofs.SettledKept.{any_by}
 use Rattle.poa_history.proofs.StagesFrom.{stays_admitted, stays_incarnated, stays_etherealized, stays_fewer}
 use Rattle.poa_history.proofs.TurnTells.{done_is, incarnation_is}
 use Rattle.history_holds.specs.Frees.{landing, incarnating, etherealizing, freed_by}
+use Rattle.poa_tree.proofs.Members.{any_in}
 
 -- a number isn't freed that is given
 pub freed_never : {A : Type 0} (n : ℕ) (o : Option ℕ) → is_at n o ≡ false → o ≡ Some n → A
@@ -114,12 +114,12 @@ module _ (c : Config) (run : ℕ) (past : List Entry) (manned : IsManned c run p
       pub runs_on : (k : ℕ) → is_at k (freed_by c run past e).landed ≡ false → is_running s.flights k ≡ true
           → is_running (changed c run past e s).flights k ≡ true
       runs_on k other running =
-          let found = any_in (λ f. (f.adapter == k) && (elim f.child as (λ _. Bool) [ None ↦ true | Some p ↦ false ])) s.flights running in
+          let found = some_in (λ f. (f.adapter == k) && (elim f.child as (λ _. Bool) [ None ↦ true | Some p ↦ false ])) s.flights running in
           let at : found.0.adapter ≡ k =
           eqb-true found.0.adapter k (and_parts (found.0.adapter == k) (elim found.0.child as (λ _. Bool) [ None ↦ true | Some p ↦ false ]) found.2).0 in
           elim (flies_on e may few found.0 found.1) [
             | inl flies ↦
-                any_by (λ f. (f.adapter == k) && (elim f.child as (λ _. Bool) [ None ↦ true | Some p ↦ false ])) found.0
+                any_in (λ f. (f.adapter == k) && (elim f.child as (λ _. Bool) [ None ↦ true | Some p ↦ false ])) found.0
                 (changed c run past e s).flights flies found.2
             | inr lands ↦ freed_never k (freed_by c run past e).landed other (lands.0 ∙ ap (λ x. Some x) at)
           ]
@@ -129,11 +129,11 @@ module _ (c : Config) (run : ℕ) (past : List Entry) (manned : IsManned c run p
           → ((f : Flight) → In f s.flights → (q : List (List ℕ)) → f.child ≡ Some q → same_path q p ≡ true → f.adapter ≡ k)
           → is_at k (freed_by c run past e).landed ≡ false → is_tried s.flights p ≡ true → is_tried (changed c run past e s).flights p ≡ true
       tried_on p k placed other tried =
-          let found = any_in (λ f. elim f.child as (λ _. Bool) [ Some q ↦ same_path q p | None ↦ false ]) s.flights tried in
+          let found = some_in (λ f. elim f.child as (λ _. Bool) [ Some q ↦ same_path q p | None ↦ false ]) s.flights tried in
           let at : found.0.adapter ≡ k = by_child found.0 found.1 found.0.child refl found.2 in
           elim (flies_on e may few found.0 found.1) [
             | inl flies ↦
-                any_by (λ f. elim f.child as (λ _. Bool) [ Some q ↦ same_path q p | None ↦ false ]) found.0 (changed c run past e s).flights flies found.2
+                any_in (λ f. elim f.child as (λ _. Bool) [ Some q ↦ same_path q p | None ↦ false ]) found.0 (changed c run past e s).flights flies found.2
             | inr lands ↦ freed_never k (freed_by c run past e).landed other (lands.0 ∙ ap (λ x. Some x) at)
           ]
         where

@@ -10,7 +10,7 @@ use Rattle.poa_choose.specs.Table.{first_row}
 use Rattle.poa_history.proofs.GoneIs.{gone_done, stands_ungone}
 use Rattle.poa_history.proofs.LegalSound.{legal_sound}
 use Rattle.poa_history.proofs.OutIs.{out_run_out}
-use Rattle.poa_history.proofs.SettledKept.{not_false, not_true, or_first, or_second}
+use Rattle.poa_history.proofs.SettledKept.{or_first, or_second}
 use Rattle.poa_history.specs.Alone.{IsGivenAlone}
 use Rattle.history_standing.specs.Arrivals.{arrivals, call_of, is_locate, target_of}
 use Rattle.poa_history.specs.Bounds.{IsWithinLimits}
@@ -38,6 +38,7 @@ use Rattle.std.proofs.Common.{◌∙◌, ap, ap₂, inl, inr, sym}
 use Rattle.std.proofs.lemmas.Bool.{and_parts, cases_Bool, cond_both}
 use Rattle.std.specs.Option.{option_or}
 use Rattle.std.specs.Prelude.{◌||◌, ◌∷◌, ◌≡◌, Bool, List, None, Option, Some, [], filter, if◌then◌else◌, map, not, option_map, refl, suc, true, zero, ℕ}
+use Rattle.history_standing.proofs.Tests.{not_false, not_true}
 
 kept_all : {A : Type 0} (test : A → Bool) (xs : List A) → ((x : A) → In x xs → test x ≡ true) → filter test xs ≡ xs
 kept_all test [] each = refl

@@ -10,8 +10,7 @@ use Rattle.poa_base.specs.declared.Order.{Order}
 use Rattle.poa_base.specs.declared.Reason.TheVariants.{AdapterAlreadyExists, AdapterInactive, AdapterNonExistent, BadId, NoForward, NoManager, NoServant, NoTemplate, ObjectAlreadyActive, ObjectNotActive, ServantAlreadyActive, ServantNotActive, TooMany, WrongPolicy}
 use Rattle.poa_base.specs.declared.Verdict.{Verdict}
 use Rattle.poa_base.specs.declared.Verdict.TheVariants.{Answer as AnswerNow}
-use Rattle.poa_history.proofs.GoneIs.{any_in}
-use Rattle.poa_history.proofs.SettledKept.{none_by, not_true}
+use Rattle.poa_history.proofs.GoneIs.{some_in}
 use Rattle.poa_history.specs.Alone.{IsGivenAlone}
 use Rattle.poa_history.specs.Bounds.{IsWithinLimits}
 use Rattle.poa_history.specs.Changes.{standing}
@@ -32,6 +31,7 @@ use Rattle.std.proofs.Common.{◌∙◌, ap, ap₂, sym}
 use Rattle.std.proofs.lemmas.Bool.{and_parts, cond_both, true≢false}
 use Rattle.std.specs.List.{list_any}
 use Rattle.std.specs.Prelude.{◌&&◌, ◌∷◌, ◌≡◌, Bool, List, None, Option, Some, [], false, if◌then◌else◌, is_none, is_some, nat_le, not, refl, suc, true, ℕ}
+use Rattle.history_standing.proofs.Tests.{none_by, not_true}
 
 -- the command gets an answer
 abbrev Goes : Option Verdict → Type 0
@@ -91,7 +91,7 @@ module _ (c : Config) (run limit : ℕ) (given : IsGiven c run) (alone : IsGiven
       (λ _. goes_known c servant _ (λ k. goes_if (is_bad_id c run s.made p oid) (refusal BadId) _ (λ _. refl)
       (λ _. goes_if (list_any (λ a. is_of n.number oid a && is_active a) s.activations) (refusal ObjectAlreadyActive) _ (λ _. refl)
       (λ none. goes_if (list_any (λ a. is_of n.number oid a && not (is_over c a)) s.activations) None _
-      (λ some_. (let a = any_in (λ x. is_of n.number oid x && not (is_over c x)) s.activations some_ in
+      (λ some_. (let a = some_in (λ x. is_of n.number oid x && not (is_over c x)) s.activations some_ in
       let parts = and_parts (is_of n.number oid a.0) (not (is_over c a.0)) a.2 in
       absurd (true≢false
       (sym (ap₂ (λ x y. x && y) parts.0 (living_active c run limit given alone within h legal idle a.0 a.1 (not_true (is_over c a.0) parts.1)))

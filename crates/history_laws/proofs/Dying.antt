@@ -12,7 +12,7 @@ use Rattle.poa_history.proofs.EndingsAre.{endings_are}
 use Rattle.poa_history.proofs.LegalSound.{legal_sound}
 use Rattle.poa_history.proofs.NodesFrom.{new as node_new, node_before, stood as node_stood}
 use Rattle.poa_history.proofs.Served.{served_by}
-use Rattle.poa_history.proofs.SettledKept.{any_by, or_first}
+use Rattle.poa_history.proofs.SettledKept.{or_first}
 use Rattle.poa_history.proofs.TurnTells.{admission_is}
 use Rattle.poa_history.specs.Bounds.{IsWithinLimits}
 use Rattle.poa_history.specs.Changes.{standing}
@@ -31,15 +31,16 @@ use Rattle.poa_tree.specs.declared.node.Node.{Node}
 use Rattle.std.proofs.Common.{◌∙◌, ap, ap₂, arith, inl, inr, subst, sym}
 use Rattle.std.proofs.lemmas.Bool.{eq-eqb, lt-ltb, or_cases, true≢false}
 use Rattle.std.specs.Prelude.{◌&&◌, ◌==◌, ◌∷◌, ◌≡◌, List, None, Option, Some, [], false, length, refl, true, ℕ}
+use Rattle.poa_tree.proofs.Members.{any_in}
 
 -- a command that destroys an adapter ends what is in it
 destroy_ends : (c : Config) (s : Standing) (a : Activation) (m : Node) → In m s.nodes → m.number ≡ a.adapter → (d : Option Command) → destroys m.path d ≡ true
     → ends c s a d ≡ true
 destroy_ends c s a m there at None is = absurd (let f : false ≡ true = is in cc)
 destroy_ends c s a m there at (Some (Destroy p etherealize wait)) is =
-    any_by (λ n. (n.number == a.adapter) && leads_to p n.path) m s.nodes there (ap₂ (λ x y. x && y) (eq-eqb m.number a.adapter at) is)
+    any_in (λ n. (n.number == a.adapter) && leads_to p n.path) m s.nodes there (ap₂ (λ x y. x && y) (eq-eqb m.number a.adapter at) is)
 destroy_ends c s a m there at (Some Shutdown) is =
-    any_by (λ n. (n.number == a.adapter) && leads_to [] n.path) m s.nodes there (ap₂ (λ x y. x && y) (eq-eqb m.number a.adapter at) refl)
+    any_in (λ n. (n.number == a.adapter) && leads_to [] n.path) m s.nodes there (ap₂ (λ x y. x && y) (eq-eqb m.number a.adapter at) refl)
 destroy_ends c s a m there at (Some (Manager name order)) is = absurd (let f : false ≡ true = is in cc)
 destroy_ends c s a m there at (Some (Create p)) is = absurd (let f : false ≡ true = is in cc)
 destroy_ends c s a m there at (Some (Activate p servant)) is = absurd (let f : false ≡ true = is in cc)

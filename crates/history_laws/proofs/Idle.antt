@@ -8,11 +8,11 @@ use Rattle.poa_base.specs.declared.Entry.{Entry}
 use Rattle.poa_base.specs.declared.Entry.TheVariants.{Done, Etherealized, Incarnated, Run, TakeOut, Tried}
 use Rattle.poa_names.specs.declared.Sid.{Sid}
 use Rattle.poa_history.proofs.ActivationsLater.{begun_phase}
-use Rattle.poa_history.proofs.GoneIs.{any_in, gone_done, stands_ungone}
+use Rattle.poa_history.proofs.GoneIs.{some_in, gone_done, stands_ungone}
 use Rattle.poa_history.proofs.LegalSound.{legal_sound}
 use Rattle.poa_history.proofs.MannedKept.{all_manned}
 use Rattle.poa_history.proofs.OutIs.{out_run_out}
-use Rattle.poa_history.proofs.SettledKept.{not_false, not_true, or_first, or_second}
+use Rattle.poa_history.proofs.SettledKept.{or_first, or_second}
 use Rattle.poa_history.specs.Alone.{IsGivenAlone}
 use Rattle.history_standing.specs.Arrivals.{arrivals}
 use Rattle.poa_history.specs.Bounds.{IsWithinLimits}
@@ -43,6 +43,7 @@ use Rattle.std.proofs.lemmas.Bool.{and_parts, cases_Bool, eq-eqb, eqb-true, fals
 use Rattle.std.specs.List.{list_any}
 use Rattle.std.specs.Option.{option_or}
 use Rattle.std.specs.Prelude.{◌&&◌, ◌<◌, ◌==◌, ◌||◌, ◌∷◌, ◌≡◌, Bool, List, None, Option, Some, [], false, find, nat_lt, not, option_map, refl, suc, true, zero, ℕ}
+use Rattle.history_standing.proofs.Tests.{not_false, not_true}
 
 -- where the numbers below a bound give nothing, none of them does
 pub given_none : {A : Type 0} (give : ℕ → Option A) (k : ℕ) → first_given give k ≡ None → (r : ℕ) → r < k → give r ≡ None
@@ -177,7 +178,7 @@ module _ (c : Config) (run limit : ℕ) (given : IsGiven c run) (alone : IsGiven
   pub none_changing : (k : ℕ) → is_changing c s.activations k ≡ false
   none_changing k =
       false_from_ne_true (is_changing c s.activations k) (λ is.
-      let a = any_in (λ x. (x.adapter == k) && is_unfinished c x) s.activations is in
+      let a = some_in (λ x. (x.adapter == k) && is_unfinished c x) s.activations is in
       true≢false (sym (and_parts (a.0.adapter == k) (is_unfinished c a.0) a.2).1 ∙ none_unfinished a.0 a.1))
 
   none_used : (n : ℕ) → is_used s.flights n ≡ false
@@ -232,9 +233,9 @@ module _ (c : Config) (run limit : ℕ) (given : IsGiven c run) (alone : IsGiven
       (ap (λ fs. not (list_any (λ f. stands_under s.nodes n.path f.adapter) fs)) all_landed)
       (not_false (list_any (λ a. not (is_over c a) && stands_under s.nodes n.path a.adapter) s.activations)
       (false_from_ne_true (list_any (λ a. not (is_over c a) && stands_under s.nodes n.path a.adapter) s.activations) (λ some_.
-      let a = any_in (λ x. not (is_over c x) && stands_under s.nodes n.path x.adapter) s.activations some_ in
+      let a = some_in (λ x. not (is_over c x) && stands_under s.nodes n.path x.adapter) s.activations some_ in
       let parts = and_parts (not (is_over c a.0)) (stands_under s.nodes n.path a.0.adapter) a.2 in
-      let m = any_in (λ x. (x.number == a.0.adapter) && leads_to n.path x.path) s.nodes parts.1 in
+      let m = some_in (λ x. (x.number == a.0.adapter) && leads_to n.path x.path) s.nodes parts.1 in
       let at = and_parts (m.0.number == a.0.adapter) (leads_to n.path m.0.path) m.2 in
       let ending =
       dying_ends c run limit given within h legal a.0 m.0 a.1 m.1 (eqb-true m.0.number a.0.adapter at.0) (sound.tree.below n m.0 there m.1 at.1 dying) in

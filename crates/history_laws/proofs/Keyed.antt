@@ -20,7 +20,6 @@ use Rattle.poa_history.proofs.CommandAnswers.{begin_keyed, is_begin}
 use Rattle.poa_history.proofs.LegalSound.{legal_sound}
 use Rattle.poa_history.proofs.MannedKept.{all_manned}
 use Rattle.poa_history.proofs.Served.{IsServed, active as active_served, incarnated as incarnated_served, located as located_served, preset as preset_served, served_by}
-use Rattle.poa_history.proofs.SettledKept.{not_true}
 use Rattle.poa_history.proofs.StepMoves.{chosen_go}
 use Rattle.poa_history.proofs.TableRuns.{is_run}
 use Rattle.poa_history.proofs.TurnTells.{IsAdmission, admission_is}
@@ -48,6 +47,7 @@ use Rattle.std.proofs.Common.{◌∙◌, ap, ap₂, arith, inl, inr, subst, sym}
 use Rattle.std.proofs.lemmas.Bool.{and_parts, cond_both, eqb-true, false_from_ne_true, true≢false}
 use Rattle.std.specs.Prelude.{◌&&◌, ◌<◌, ◌==◌, ◌||◌, ◌∷◌, ◌≡◌, ◌⊎◌, Bool, List, None, Option, Some, [], false, length, not, refl, true, ℕ}
 use Rattle.history_standing.proofs.CallsKept.{arrivals_kept, call_kept}
+use Rattle.history_standing.proofs.Tests.{not_true}
 
 -- the activation stands, with the path and the id of the key
 pub record StandsFor (s : Standing) (n : ℕ) (key : Key) : Type 0 where

@@ -16,7 +16,6 @@ use Rattle.poa_choose.specs.declared.Choice.{Choice}
 use Rattle.poa_choose.specs.declared.Choice.TheVariants.{Go, Held}
 use Rattle.poa_choose.specs.declared.MapFact.TheVariants.{Active as ActiveAs, Busy, Free as FreeSlot}
 use Rattle.poa_history.proofs.MannedKept.{all_manned}
-use Rattle.poa_history.proofs.SettledKept.{not_true}
 use Rattle.poa_history.specs.Alone.{IsGivenAlone}
 use Rattle.history_standing.specs.Arrivals.{arrivals, call_of, is_message}
 use Rattle.poa_history.specs.Bounds.{IsWithinLimits}
@@ -39,6 +38,7 @@ use Rattle.poa_tree.specs.Walks.{adapter_met, child_met, walk}
 use Rattle.std.proofs.Common.{◌∙◌, ap, ap₂, arith, inl, inr, subst, sym}
 use Rattle.std.proofs.lemmas.Bool.{and_parts, cases_Bool, eq-eqb, ltb-false, ltb-true, true≢false}
 use Rattle.std.specs.Prelude.{◌&&◌, ◌<◌, ◌==◌, ◌∷◌, ◌≡◌, List, None, Option, Some, [], false, find, if◌then◌else◌, is_some, nat_lt, not, option_map, refl, true, ℕ}
+use Rattle.history_standing.proofs.Tests.{not_true}
 
 -- each arrival has a call
 arrived_call : (h : List Entry) (r : ℕ) → r < arrivals h → (call : Call) × (call_of h r ≡ Some call)

@@ -16,9 +16,9 @@ use Rattle.poa_tree.proofs.Members.{in_front, in_back, in_either}
 use Rattle.history_standing.specs.Standings.{Standing}
 use Rattle.history_standing.specs.Opening.{with_node, root_alone, with_boots}
 use Rattle.poa_history.specs.Sound.{IsSound}
-use Rattle.poa_history.proofs.SettledKept.{not_true}
 use Rattle.poa_history.proofs.SoundKept.{with_node_sound}
 use Rattle.history_openings.proofs.Entries.{all_in, entry_in}
+use Rattle.history_standing.proofs.Tests.{not_true}
 
 -- the root alone is a tree
 abbrev root : Node

@@ -5,6 +5,7 @@
 
 mod activation;
 mod flight;
+pub mod laws;
 mod stage;
 
 pub use activation::{Activation, Phase};

@@ -35,16 +35,18 @@ use Rattle.history_standing.specs.Templates.{has_activator}
 use Rattle.poa_history.specs.Turns.{activation_numbered}
 use Rattle.poa_history.proofs.ActivationsFrom.{activation_from, begun as activation_begun, stood as activation_stood}
 use Rattle.poa_history.proofs.EndingsAre.{more_activations}
-use Rattle.poa_history.proofs.GoneIs.{any_in}
+use Rattle.poa_history.proofs.GoneIs.{some_in}
 use Rattle.poa_history.proofs.LegalSound.{legal_sound}
 use Rattle.poa_history.proofs.MannedKept.{all_manned}
 use Rattle.poa_history.proofs.OutIs.{out_taken}
-use Rattle.poa_history.proofs.SettledKept.{any_by, or_second, not_true, not_false}
+use Rattle.poa_history.proofs.SettledKept.{or_second}
 use Rattle.poa_history.proofs.StagesFrom.{removal_before}
 use Rattle.poa_history.proofs.TurnTells.{takeout_is, removal_is}
 use Rattle.history_words.specs.Flags.{etherealizes, was_cleaned, IsShared, WasShared, TellsShared, TellsTruly}
 use Rattle.history_words.proofs.FlagsFrom.{bare, flags_from, was, fresh, remains_by}
 use Rattle.history_words.proofs.Opened.{opened_is}
+use Rattle.poa_tree.proofs.Members.{any_in}
+use Rattle.history_standing.proofs.Tests.{not_true, not_false}
 
 -- what of an activation a command asks
 abbrev named : Activation → Activation
@@ -207,7 +209,7 @@ module _ (c : Config) (run : ℕ) (s : Standing) (sound : IsSound c run s) (a : 
       by_its t Void has = absurd (let e : false ≡ true = has in cc)
 
   elsewhere_shared : is_elsewhere s.activations a ≡ true → IsShared s a.number
-  elsewhere_shared is = (let found = any_in is_other s.activations is in shared_by found.0 found.1 found.2)
+  elsewhere_shared is = (let found = some_in is_other s.activations is in shared_by found.0 found.1 found.2)
 
   shared_elsewhere : IsShared s a.number → is_elsewhere s.activations a ≡ true
   shared_elsewhere shared =
@@ -215,7 +217,7 @@ module _ (c : Config) (run : ℕ) (s : Standing) (sound : IsSound c run s) (a : 
       ap (λ x. x.phase) (sound.activation_alone a shared.it there shared.there (sym shared.numbered)) ∙ shared.has in
       let home : shared.other.adapter ≡ a.adapter =
       shared.placed ∙ ap (λ x. x.adapter) (sound.activation_alone shared.it a shared.there there shared.numbered) in
-      any_by is_other shared.other s.activations shared.beside
+      any_in is_other shared.other s.activations shared.beside
       (ap₂ (λ x y. x && y)
       (not_false (shared.other.number == a.number) (false_from_ne_true _ (λ same. shared.another (eqb-true shared.other.number a.number same))))
       (ap₂ (λ x y. x && y) (eq-eqb shared.other.adapter a.adapter home)

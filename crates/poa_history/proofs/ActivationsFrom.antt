@@ -38,8 +38,8 @@ use Rattle.poa_history.specs.Changes.{standing, changed, with_admitted, ended_by
 use Rattle.poa_history.specs.Later.{IsLater}
 use Rattle.poa_tree.proofs.Members.{in_either, in_image}
 use Rattle.poa_history.proofs.ActivationsLater.{begun_phase, later_self, later_through, later_ended, later_ending, later_out, later_told, later_come, later_let_out}
-use Rattle.poa_history.proofs.SettledKept.{not_true}
 use Rattle.poa_history.proofs.Untouched.{activations_in, activations_fewer, activations_tried}
+use Rattle.history_standing.proofs.Tests.{not_true}
 
 -- what an activation comes to by the answer of its incarnation
 abbrev pub phase_by : Config → ℕ → Incarnation → Phase

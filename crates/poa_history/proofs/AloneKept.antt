@@ -44,9 +44,9 @@ use Rattle.poa_history.specs.Legal.{MayFollow, IsLegal}
 use Rattle.poa_history.specs.Sound.{IsGiven, IsHome, IsSound}
 use Rattle.poa_history.specs.Bounds.{IsWithinLimits}
 use Rattle.poa_history.specs.Alone.{RunsAlone, ChangesAlone, IsMappedAlone, OwnsFresh, StandsAlone, IsGivenAlone}
-use Rattle.poa_tree.proofs.Members.{in_either}
+use Rattle.poa_tree.proofs.Members.{in_either, any_in}
 use Rattle.poa_tree.proofs.Finding.{find_in}
-use Rattle.poa_history.proofs.SettledKept.{any_by, not_true, or_first, or_second}
+use Rattle.poa_history.proofs.SettledKept.{or_first, or_second}
 use Rattle.poa_history.proofs.CommandMoves.{live_tells, number_live}
 use Rattle.poa_history.proofs.TurnTells.{IsAdmission, admission_is, takeout_is, incarnation_is}
 use Rattle.poa_history.proofs.TableRuns.{is_run}
@@ -57,6 +57,7 @@ use Rattle.poa_history.proofs.ActivationsFrom.{phase_by, TakesOut, IsStep, Bring
 use Rattle.poa_history.proofs.CommandTells.{IsUntaken, untaken_activate, untaken_activate_id, in_map_by, untaken_reference}
 use Rattle.poa_history.proofs.IdsFew.{messages}
 use Rattle.poa_history.proofs.LegalSound.{legal_sound}
+use Rattle.history_standing.proofs.Tests.{not_true}
 
 -- a flight without a child is that of a request, in the adapter that the walk met
 child_runs : (s : Standing) (r : ℕ) (key : Key) (v : Verdict) (f : Flight) → flight_for s r key v ≡ Some f → f.child ≡ None → (is_run v ≡ true)
@@ -156,7 +157,7 @@ module _ (c : Config) (run limit : ℕ) (past : List Entry) (e : Entry) (may : M
             let node : m ≡ told.node = sound.tree.number_alone m told.node was told.stands at in
             let placed : n.path ≡ key.path = path ∙ (ap (λ x. x.path) node ∙ told.placed) in
             true≢false
-            (sym (any_by (λ x. (x.adapter == adapter_met (walk s.nodes key.path)) && (elim x.child [ None ↦ true | Some p ↦ false ])) g s.flights there
+            (sym (any_in (λ x. (x.adapter == adapter_met (walk s.nodes key.path)) && (elim x.child [ None ↦ true | Some p ↦ false ])) g s.flights there
             (ap₂ (λ x y. x && y) (eq-eqb g.adapter (adapter_met (walk s.nodes key.path)) (ga ∙ (sym fa ∙ run_.1)))
             (ap (λ o. elim o [ None ↦ true | Some p ↦ false ]) gc)))
             ∙ told.alone (subst (λ p. is_single_thread (policies_at c p).thread ≡ true) placed single)))
@@ -234,7 +235,7 @@ module _ (c : Config) (run limit : ℕ) (past : List Entry) (e : Entry) (may : M
     where
       changing_by : (x : Activation) (k : ℕ) → In x s.activations → x.adapter ≡ k → is_unfinished c x ≡ true → is_changing c s.activations k ≡ true
       changing_by x k there same changing' =
-          any_by (λ y. (y.adapter == k) && is_unfinished c y) x s.activations there (ap₂ (λ y z. y && z) (eq-eqb x.adapter k same) changing')
+          any_in (λ y. (y.adapter == k) && is_unfinished c y) x s.activations there (ap₂ (λ y z. y && z) (eq-eqb x.adapter k same) changing')
 
   -- what is begun and changing is being incarnated, and nothing else was changing in the adapter
   begun_alone : (b d : Activation) → IsBegun c run past s e b → is_unfinished c b ≡ true → In d s.activations → d.adapter ≡ b.adapter
@@ -250,7 +251,7 @@ module _ (c : Config) (run limit : ℕ) (past : List Entry) (e : Entry) (may : M
               | incarnated activator idle names ↦ elim other [
                 | inl changing' ↦
                     true≢false
-                    (sym (any_by (λ y. (y.adapter == adapter_met (walk s.nodes key.path)) && is_unfinished c y) d s.activations there
+                    (sym (any_in (λ y. (y.adapter == adapter_met (walk s.nodes key.path)) && is_unfinished c y) d s.activations there
                     (ap₂ (λ y z. y && z) (eq-eqb d.adapter (adapter_met (walk s.nodes key.path)) (at ∙ adapter)) changing')) ∙ idle)
                 | inr takes ↦
                     (let (w', etherealize, same') = takes in let f : Admit w r (Incarnate n) ≡ TakeOut w' d.number etherealize = sym same ∙ same' in cc)

@@ -22,11 +22,11 @@ use Rattle.history_standing.specs.Commands.{refusal, live_at, with_live, with_se
 use Rattle.poa_tree.specs.Trees.{In, MayCreate}
 use Rattle.poa_history.specs.Sound.{IsSound}
 use Rattle.poa_tree.proofs.Leading.{same_self}
-use Rattle.poa_history.proofs.SettledKept.{none_by}
 use Rattle.poa_history.proofs.SoundKept.{IsUntried, MayLive}
 use Rattle.poa_tree.proofs.WalkStands.{node_found, node_missing}
 use Rattle.poa_history.proofs.VerdictMoves.{untried_by}
 use Rattle.poa_history.proofs.ChangeSound.{with_made_sound}
+use Rattle.history_standing.proofs.Tests.{none_by}
 
 -- a refusal isn't accepted
 pub refused : {A : Type 0} (reason : Reason) (v : Verdict) → refusal reason ≡ Some v → is_accepted v ≡ true → A

@@ -31,9 +31,9 @@ use Rattle.poa_history.specs.Legal.{MayFollow}
 use Rattle.poa_tree.specs.Trees.{In}
 use Rattle.poa_tree.proofs.Finding.{find_none}
 use Rattle.poa_history.proofs.CommandMoves.{refused, held, lived, known}
-use Rattle.poa_history.proofs.SettledKept.{any_by}
-use Rattle.poa_history.proofs.GoneIs.{any_in}
+use Rattle.poa_history.proofs.GoneIs.{some_in}
 use Rattle.poa_history.proofs.StepMoves.{admitted_for}
+use Rattle.poa_tree.proofs.Members.{any_in}
 
 -- the servant isn't in the map of the adapter at the path, where a servant is to be there once
 pub record IsUntaken (c : Config) (s : Standing) (p : List (List ℕ)) (servant : List ℕ) : Type 0 where
@@ -133,7 +133,7 @@ module _ (c : Config) (run : ℕ) (past : List Entry) where
 pub in_map_by : (s : Standing) (a : Activation) (k : ℕ) (t : Sid) → In a s.activations → a.adapter ≡ k → is_mapped a ≡ true → has_servant t a ≡ true
     → is_in_map s.activations k t ≡ true
 in_map_by s a k t there at mapped has =
-    any_by (λ b. (b.adapter == k) && (is_mapped b && has_servant t b)) a s.activations there
+    any_in (λ b. (b.adapter == k) && (is_mapped b && has_servant t b)) a s.activations there
     (ap₂ (λ x y. x && y) (eq-eqb a.adapter k at) (ap₂ (λ x y. x && y) mapped has))
 
 -- where it is referred to implicitly it isn't in the map
@@ -143,7 +143,7 @@ untaken_reference c s n k implicit =
     let outer = and_parts (is_none (referred c s n k)) (retains (policies_at c n.path) && activates_implicitly (policies_at c n.path)) implicit in
     let policies = and_parts (retains (policies_at c n.path)) (activates_implicitly (policies_at c n.path)) outer.1 in
     let both = and_parts (is_unique (policies_at c n.path)) (is_in_map s.activations n.number (NamedServant k)) taken in
-    let found = any_in (λ a. (a.adapter == n.number) && (is_mapped a && has_servant (NamedServant k) a)) s.activations both.1 in
+    let found = some_in (λ a. (a.adapter == n.number) && (is_mapped a && has_servant (NamedServant k) a)) s.activations both.1 in
     none_here found.0 found.1 found.2
     (ap (λ b. is_none (if b then find (λ a. (a.adapter == n.number) && (is_mapped a && has_servant (NamedServant k) a)) s.activations else None))
     (sym (ap₂ (λ x y. x && y) policies.0 both.0)) ∙ outer.0))

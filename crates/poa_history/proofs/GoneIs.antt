@@ -19,29 +19,31 @@ use Rattle.poa_history.specs.Legal.{IsLegal}
 use Rattle.poa_history.specs.Sound.{IsGiven, IsSound}
 use Rattle.poa_history.specs.Bounds.{IsWithinLimits}
 use Rattle.poa_history.specs.Destroyed.{IsChildOf, IsEnded, IsEmptied}
-use Rattle.poa_tree.proofs.Members.{in_kept, kept_in}
+use Rattle.poa_tree.proofs.Members.{in_kept, kept_in, any_in}
 use Rattle.poa_tree.proofs.Finding.{find_in, find_none}
 use Rattle.poa_tree.proofs.Leading.{bytes_same, leads_on}
-use Rattle.poa_history.proofs.SettledKept.{any_by, none_by, not_true, not_false, is_under_itself, clear_longer, stays, flight_stays, activation_stays, let_out_sound}
+use Rattle.poa_history.proofs.SettledKept.{is_under_itself, clear_longer, stays, flight_stays, activation_stays, let_out_sound}
 use Rattle.poa_history.proofs.StepMoves.{may_move}
 use Rattle.poa_history.proofs.ChangeSound.{changed_sound}
 use Rattle.poa_history.proofs.IdsFew.{has_ordinal}
 use Rattle.poa_history.proofs.LegalSound.{legal_sound}
 use Rattle.poa_history.proofs.DyingIs.{opening_live}
+use Rattle.history_standing.proofs.Tests.{not_true, not_false}
+use Rattle.history_standing.proofs.Clear.{clear_idle, clear_over, clear_parts}
 
 -- some element passes
-pub any_in : {A : Type 0} (test : A → Bool) (xs : List A) → list_any test xs ≡ true → (x : A) × In x xs × (test x ≡ true)
-any_in test [] some_ = absurd (let e : false ≡ true = some_ in cc)
-any_in test (x ∷ xs) some_ =
+pub some_in : {A : Type 0} (test : A → Bool) (xs : List A) → list_any test xs ≡ true → (x : A) × In x xs × (test x ≡ true)
+some_in test [] some_ = absurd (let e : false ≡ true = some_ in cc)
+some_in test (x ∷ xs) some_ =
     elim (or_cases (test x) (list_any test xs) some_)
-    [ inl here ↦ (x, inl refl, here) | inr more ↦ (let found = any_in test xs more in (found.0, inr found.1, found.2)) ]
+    [ inl here ↦ (x, inl refl, here) | inr more ↦ (let found = some_in test xs more in (found.0, inr found.1, found.2)) ]
 
 -- where each element that passes one test passes another, and none passes that
 pub none_in : {A : Type 0} (test other : A → Bool) (xs : List A) → ((x : A) → In x xs → other x ≡ true → test x ≡ true) → list_any test xs ≡ false
     → list_any other xs ≡ false
 none_in test other xs fewer none =
     false_from_ne_true (list_any other xs)
-    (λ some_. let found = any_in other xs some_ in true≢false (sym (any_by test found.0 xs found.1 (fewer found.0 found.1 found.2)) ∙ none))
+    (λ some_. let found = some_in other xs some_ in true≢false (sym (any_in test found.0 xs found.1 (fewer found.0 found.1 found.2)) ∙ none))
 
 -- a path that leads to another is its front
 leads_split : (p q : List (List ℕ)) → leads_to p q ≡ true → (more : List (List ℕ)) × (q ≡ p ++ more)
@@ -91,29 +93,15 @@ module _ (c : Config) (run : ℕ) (s : Standing) (sound : IsSound c run s) where
   gone_done n is =
       ap₂ (λ a o. a && (elim o [ Some m ↦ is_done_with c s m | None ↦ true ])) (lt-ltb _ _ (sound.tree.numbered n is)) (number_found n is)
 
-  clear_parts : (p : List (List ℕ)) → is_clear c s p ≡ true → (list_any (λ f. stands_under s.nodes p f.adapter) s.flights ≡ false)
-      × (list_any (λ a. not (is_over c a) && stands_under s.nodes p a.adapter) s.activations ≡ false)
-  clear_parts p clear =
-      let parts =
-      and_parts (not (list_any (λ f. stands_under s.nodes p f.adapter) s.flights))
-      (not (list_any (λ a. not (is_over c a) && stands_under s.nodes p a.adapter) s.activations)) clear in (not_true _ parts.0, not_true _ parts.1)
-
-  over_by : (a : Activation) (under : Bool) → (not (is_over c a) && under) ≡ false → under ≡ true → is_over c a ≡ true
-  over_by a under none is =
-      elim (cases_Bool (is_over c a))
-      [ inl over ↦ over | inr lives ↦ absurd (true≢false (sym (ap₂ (λ x y. x && y) (not_false (is_over c a) lives) is) ∙ none)) ]
-
   pub ended_by : (n : Node) → In n s.nodes → is_done_with c s n ≡ true → IsEnded c s n
   ended_by n is done =
       let parts = and_parts n.dying (is_clear c s n.path) done in
-      let clear = clear_parts n.path parts.1 in
+      let clear = clear_parts c s n.path parts.1 in
       record {
         dying = parts.0;
         idle = none_in (λ f. stands_under s.nodes n.path f.adapter) (λ f. f.adapter == n.number) s.flights
             (λ f _ at. is_under_itself c run s sound n f.adapter is (sym (eqb-true f.adapter n.number at))) clear.0;
-        over = λ a there at. over_by a (stands_under s.nodes n.path a.adapter)
-            (none_by (λ b. not (is_over c b) && stands_under s.nodes n.path b.adapter) a s.activations there clear.1)
-            (is_under_itself c run s sound n a.adapter is (sym at));
+        over = λ a there at. clear_over c s n.path a parts.1 there (is_under_itself c run s sound n a.adapter is (sym at));
         children = λ m there child.
             (let leads : leads_to n.path m.path ≡ true = subst (λ q. leads_to n.path q ≡ true) (sym child.1) (leads_on n.path (child.0 ∷ [])) in
             gone_done m there ∙ ap₂ (λ x y. x && y) (sound.tree.below n m is there leads parts.0) (clear_longer c run s sound n.path m.path leads parts.1));
@@ -122,12 +110,12 @@ module _ (c : Config) (run : ℕ) (s : Standing) (sound : IsSound c run s) where
   -- an adapter of the number stands at the path or below it
   under_in : (p : List (List ℕ)) (k : ℕ) → stands_under s.nodes p k ≡ true → (m : Node) × In m s.nodes × (m.number ≡ k) × (leads_to p m.path ≡ true)
   under_in p k under =
-      let found = any_in (λ m. (m.number == k) && leads_to p m.path) s.nodes under in
+      let found = some_in (λ m. (m.number == k) && leads_to p m.path) s.nodes under in
       let parts = and_parts (found.0.number == k) (leads_to p found.0.path) found.2 in
       (found.0, found.1, eqb-true found.0.number k parts.0, parts.1)
 
   under_by : (p : List (List ℕ)) (m : Node) → In m s.nodes → leads_to p m.path ≡ true → stands_under s.nodes p m.number ≡ true
-  under_by p m is leads = any_by (λ x. (x.number == m.number) && leads_to p x.path) m s.nodes is (ap₂ (λ x y. x && y) (eq-eqb m.number m.number refl) leads)
+  under_by p m is leads = any_in (λ x. (x.number == m.number) && leads_to p x.path) m s.nodes is (ap₂ (λ x y. x && y) (eq-eqb m.number m.number refl) leads)
 
   -- what is at or below an ended adapter is its own, or below a child that is done with
   own_or_below : {A : Type 0} (n : Node) → In n s.nodes → IsEnded c s n → (k : ℕ) → stands_under s.nodes n.path k ≡ true → (k ≡ n.number → A)
@@ -145,19 +133,18 @@ module _ (c : Config) (run : ℕ) (s : Standing) (sound : IsSound c run s) where
       ap₂ (λ x y. x && y) ended.dying
       (ap₂ (λ x y. x && y)
       (not_false _ (false_from_ne_true (list_any (λ f. stands_under s.nodes n.path f.adapter) s.flights)
-      (λ some_. let f = any_in (λ g. stands_under s.nodes n.path g.adapter) s.flights some_ in
+      (λ some_. let f = some_in (λ g. stands_under s.nodes n.path g.adapter) s.flights some_ in
       own_or_below n is ended f.0.adapter f.2
-      (λ at. true≢false (sym (any_by (λ g. g.adapter == n.number) f.0 s.flights f.1 (eq-eqb f.0.adapter n.number at)) ∙ ended.idle))
-      (λ d there clear under. true≢false (sym (any_by (λ g. stands_under s.nodes d.path g.adapter) f.0 s.flights f.1 under) ∙ (clear_parts d.path clear).0)))))
+      (λ at. true≢false (sym (any_in (λ g. g.adapter == n.number) f.0 s.flights f.1 (eq-eqb f.0.adapter n.number at)) ∙ ended.idle))
+      (λ d there clear under. true≢false (sym under ∙ clear_idle c s d.path f.0 clear f.1)))))
       (not_false _ (false_from_ne_true (list_any (λ a. not (is_over c a) && stands_under s.nodes n.path a.adapter) s.activations)
-      (λ some_. let a = any_in (λ b. not (is_over c b) && stands_under s.nodes n.path b.adapter) s.activations some_ in
+      (λ some_. let a = some_in (λ b. not (is_over c b) && stands_under s.nodes n.path b.adapter) s.activations some_ in
       let both = and_parts (not (is_over c a.0)) (stands_under s.nodes n.path a.0.adapter) a.2 in
       let lives : is_over c a.0 ≡ false = not_true (is_over c a.0) both.0 in
       own_or_below n is ended a.0.adapter both.1
       (λ at. true≢false (sym (ended.over a.0 a.1 at) ∙ lives))
       (λ d there clear under. true≢false
-      (sym (over_by a.0 (stands_under s.nodes d.path a.0.adapter)
-      (none_by (λ b. not (is_over c b) && stands_under s.nodes d.path b.adapter) a.0 s.activations a.1 (clear_parts d.path clear).1) under) ∙ lives))))))
+      (sym (clear_over c s d.path a.0 clear a.1 under) ∙ lives))))))
 
   -- nothing is left of an adapter that is gone
   pub emptied : (k : ℕ) → is_gone c s k ≡ true → IsEmptied c s k
@@ -180,7 +167,7 @@ module _ (c : Config) (run : ℕ) (s : Standing) (sound : IsSound c run s) where
             let ended = ended_by n there.0 done in
             record {
               idle = λ f is same. true≢false
-                  (sym (any_by (λ g. g.adapter == n.number) f s.flights is (eq-eqb f.adapter n.number (same ∙ sym at))) ∙ ended.idle);
+                  (sym (any_in (λ g. g.adapter == n.number) f s.flights is (eq-eqb f.adapter n.number (same ∙ sym at))) ∙ ended.idle);
               over = λ a is same. ended.over a is (same ∙ sym at);
             })
       ] refl (and_parts (nat_lt k s.count) (elim (find (λ n. n.number == k) s.nodes) [ Some n ↦ is_done_with c s n | None ↦ true ]) gone).1
@@ -224,9 +211,9 @@ module _ (c : Config) (run : ℕ) (s : Standing) (sound : IsSound c run s) where
       still_under : (p : List (List ℕ)) (k : ℕ) → stands_under s.nodes p k ≡ true
           → ((m : Node) → In m s.nodes → m.number ≡ k → stays c run let_ let_sound m ≡ true) → stands_under (settled c s).nodes p k ≡ true
       still_under p k under keeps =
-          let m = any_in (λ x. (x.number == k) && leads_to p x.path) s.nodes under in
+          let m = some_in (λ x. (x.number == k) && leads_to p x.path) s.nodes under in
           let at : m.0.number ≡ k = eqb-true m.0.number k (and_parts (m.0.number == k) (leads_to p m.0.path) m.2).0 in
-          any_by (λ x. (x.number == k) && leads_to p x.path) m.0 (settled c s).nodes
+          any_in (λ x. (x.number == k) && leads_to p x.path) m.0 (settled c s).nodes
           (kept_in (stays c run let_ let_sound) m.0 s.nodes m.1 (keeps m.0 m.1 at)) m.2
 
 module _ (c : Config) (run : ℕ) where

@@ -52,7 +52,7 @@ use Rattle.poa_history.proofs.ActivationsFrom.{incarnating, activating, activati
 use Rattle.poa_history.proofs.CommandTells.{untaken_activate, untaken_activate_id}
 use Rattle.poa_history.proofs.CommandAnswers.{is_begin, by_choice, refused_none}
 use Rattle.poa_history.proofs.StagesFrom.{flight_says}
-use Rattle.poa_history.proofs.GoneIs.{ends_where, stands_ungone, emptied_where, any_in}
+use Rattle.poa_history.proofs.GoneIs.{ends_where, stands_ungone, emptied_where, some_in}
 use Rattle.poa_history.proofs.LegalSound.{legal_sound}
 
 -- what is over stays so
@@ -140,7 +140,7 @@ module _ (c : Config) (run limit : ℕ) (past : List Entry) (e : Entry) (may : M
     root_ended childless idle over n there at = record {
       dying = dying_now;
       idle = false_from_ne_true (has_flights t.flights n.number)
-          (λ busy. let f = any_in (λ g. g.adapter == n.number) t.flights busy in no_flight f.0 f.1 (eqb-true f.0.adapter n.number f.2 ∙ at));
+          (λ busy. let f = some_in (λ g. g.adapter == n.number) t.flights busy in no_flight f.0 f.1 (eqb-true f.0.adapter n.number f.2 ∙ at));
       over = λ b is same. no_life b is (same ∙ at);
       children = λ m is child. absurd (no_child m is child);
     }

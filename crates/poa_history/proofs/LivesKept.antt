@@ -47,7 +47,6 @@ use Rattle.poa_history.specs.InFlight.{named, IsRunning, Holds, IsManned}
 use Rattle.poa_history.specs.Lifetime.{IsServable, IsRemovable, IsEtherealizable, KeepsLives, BeginsFreely, OpensFreely, HasLifetime}
 use Rattle.poa_tree.proofs.Finding.{find_in, find_none}
 use Rattle.poa_tree.proofs.Leading.{bytes_same}
-use Rattle.poa_history.proofs.SettledKept.{not_true}
 use Rattle.poa_history.proofs.ActivationsLater.{later_let_out}
 use Rattle.poa_history.proofs.ChangeSound.{MayMove}
 use Rattle.poa_history.proofs.StepMoves.{may_move}
@@ -60,6 +59,7 @@ use Rattle.poa_history.proofs.LegalSound.{legal_sound}
 use Rattle.poa_history.proofs.AloneKept.{all_open}
 use Rattle.poa_history.proofs.MannedKept.{out_unused, all_manned}
 use Rattle.poa_history.proofs.Untouched.{activations_in, activations_tried}
+use Rattle.history_standing.proofs.Tests.{not_true}
 
 -- an element that a list gives is one of it
 got_in : {A : Type 0} (xs : List A) (i : ℕ) (x : A) → slice_get xs i ≡ Some x → In x xs

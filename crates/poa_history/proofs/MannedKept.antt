@@ -35,19 +35,19 @@ use Rattle.poa_history.specs.Bounds.{IsWithinLimits}
 use Rattle.poa_history.specs.Alone.{IsGivenAlone}
 use Rattle.poa_history.specs.Later.{IsLater}
 use Rattle.poa_history.specs.InFlight.{named, IsFlying, IsRunning, Holds, IsManned}
-use Rattle.poa_tree.proofs.Members.{in_back, image_in}
-use Rattle.poa_history.proofs.SettledKept.{any_by, not_true}
+use Rattle.poa_tree.proofs.Members.{in_back, image_in, any_in}
 use Rattle.poa_history.proofs.ActivationsLater.{step_later, later_let_out}
 use Rattle.poa_history.proofs.TurnTells.{IsIncarnation, admission_is, incarnation_is, run_is, takeout_is}
 use Rattle.poa_history.proofs.Served.{served_by, active, preset, located, incarnated as begun_served}
 use Rattle.poa_history.proofs.FlightsFrom.{flight_for, flew, begins, flight_from}
 use Rattle.poa_history.proofs.ActivationsFrom.{phase_by, TakesOut, stood as activation_stood, begun as activation_begun, activation_from}
-use Rattle.poa_history.proofs.GoneIs.{any_in}
+use Rattle.poa_history.proofs.GoneIs.{some_in}
 use Rattle.poa_history.proofs.IdsFew.{messages}
 use Rattle.poa_history.proofs.AloneKept.{brought_named, all_open}
 use Rattle.poa_history.proofs.CommandAnswers.{is_begin, begin_keyed}
 use Rattle.poa_history.proofs.LegalSound.{legal_sound}
 use Rattle.poa_history.proofs.StagesFrom.{maker, stage_other, own, held_admitted, begun_flight, flight_says, brings_flights, brings_activations, arrival_before, removal_before, begun_before, flight_kept, arrival_after, admitted_other}
+use Rattle.history_standing.proofs.Tests.{not_true}
 
 -- what runs goes on, where its arrival stays admitted and in flight, and activations go on
 running_kept : (c : Config) (h g : List Entry) (s t : Standing) (r : ℕ) → admitted g r ≡ admitted h r
@@ -537,7 +537,7 @@ module _ (c : Config) (run limit : ℕ) (past : List Entry) (e : Entry) (may : M
 
   used_by : (fs : List Flight) (f : Flight) (n : ℕ) → In f fs → f.activation ≡ Some n → is_used fs n ≡ true
   used_by fs f n there at =
-      any_by (λ g. elim g.activation [ Some m ↦ m == n | None ↦ false ]) f fs there (ap (λ o. elim o [ Some m ↦ m == n | None ↦ false ]) at ∙ eq-eqb n n refl)
+      any_in (λ g. elim g.activation [ Some m ↦ m == n | None ↦ false ]) f fs there (ap (λ o. elim o [ Some m ↦ m == n | None ↦ false ]) at ∙ eq-eqb n n refl)
 
   -- an activation in which something is in flight stays in the map
   still_mapped : (f : Flight) (n : ℕ) (a : Activation) → In f t.flights → f.activation ≡ Some n → In a s.activations → a.number ≡ n → a.out ≡ false
@@ -677,7 +677,7 @@ pub out_unused : (c : Config) (run : ℕ) (h : List Entry) → IsManned c run h 
     → In a (standing c run h).activations → a.out ≡ true → is_used (standing c run h).flights a.number ≡ false
 out_unused c run h held_ sound a there out =
     false_from_ne_true (is_used (standing c run h).flights a.number) (λ used.
-    let f = any_in (λ g. elim g.activation [ Some m ↦ m == a.number | None ↦ false ]) (standing c run h).flights used in
+    let f = some_in (λ g. elim g.activation [ Some m ↦ m == a.number | None ↦ false ]) (standing c run h).flights used in
     let b = held_.activations f.0 a.number f.1 (activation_is f.0.activation f.2) in
     true≢false (sym out ∙ (ap (λ x. x.out) (sound.activation_alone a b.0 there b.1 (sym b.2)) ∙ b.4)))
   where

@@ -21,7 +21,6 @@ use Rattle.poa_history.specs.Bounds.{IsWithinLimits}
 use Rattle.poa_history.specs.Alone.{IsGivenAlone}
 use Rattle.poa_history.specs.Out.{was_taken, has_run_out}
 use Rattle.poa_tree.proofs.Members.{in_image, image_in}
-use Rattle.poa_history.proofs.SettledKept.{not_false}
 use Rattle.poa_history.proofs.ActivationsLater.{later_let_out}
 use Rattle.poa_history.proofs.TurnTells.{takeout_is}
 use Rattle.poa_history.proofs.ActivationsFrom.{stood, begun, activation_from}
@@ -29,7 +28,7 @@ use Rattle.poa_history.proofs.AloneKept.{all_open}
 use Rattle.poa_history.proofs.EndingsAre.{more_activations}
 use Rattle.poa_history.proofs.LegalSound.{legal_sound}
 use Rattle.poa_history.proofs.MannedKept.{out_unused, all_manned}
-use Rattle.history_standing.proofs.Tests.{same_test}
+use Rattle.history_standing.proofs.Tests.{same_test, not_false}
 
 taken_later : (e : Entry) (past : List Entry) (n : ℕ) → was_taken past n ≡ true → was_taken (e ∷ past) n ≡ true
 taken_later (Entered conn) past n is = is

@@ -14,20 +14,11 @@ use Rattle.poa_tree.specs.Nodes.{stands_under}
 use Rattle.history_standing.specs.Ends.{is_finished, is_over, is_left, let_out, is_clear, is_done_with, without_ended, settled}
 use Rattle.poa_tree.specs.Trees.{In, IsMissingChild, MayDrop}
 use Rattle.poa_history.specs.Sound.{IsSound}
-use Rattle.poa_tree.proofs.Members.{in_kept, kept_in}
+use Rattle.poa_tree.proofs.Members.{in_kept, kept_in, any_in}
 use Rattle.poa_tree.proofs.Leading.{leads_through, leads_self}
 use Rattle.poa_tree.proofs.TreeKept.{dropped_kept}
 use Rattle.poa_history.proofs.SoundKept.{Follows, with_activations_sound}
-
--- some element passes
-pub any_by : {A : Type 0} (test : A → Bool) (x : A) (xs : List A) → In x xs → test x ≡ true → list_any test xs ≡ true
-any_by test x [] is passes = absurd is
-any_by test x (y ∷ xs) (inl same) passes = ap₂ (λ a b. a || b) (ap test (sym same) ∙ passes) refl
-any_by test x (y ∷ xs) (inr more) passes =
-    elim (test y) as (λ b. (b || list_any test xs) ≡ true) [ true ↦ refl | false ↦ any_by test x xs more passes ]
-
-pub none_by : {A : Type 0} (test : A → Bool) (x : A) (xs : List A) → In x xs → list_any test xs ≡ false → test x ≡ false
-none_by test x xs is none = false_from_ne_true (test x) (λ passes. let e : false ≡ true = sym none ∙ any_by test x xs is passes in cc)
+use Rattle.history_standing.proofs.Tests.{none_by, not_true, not_false}
 
 -- where one test passes all that another does, and the first passes none, neither does the other
 pub none_of_fewer : {A : Type 0} (test other : A → Bool) → ((x : A) → other x ≡ true → test x ≡ true) → (xs : List A) → list_any test xs ≡ false
@@ -48,13 +39,6 @@ or_first false y e = absurd (let f : false ≡ true = e in cc)
 pub or_second : (x y : Bool) → y ≡ true → (x || y) ≡ true
 or_second true y e = refl
 or_second false y e = e
-
-pub not_true : (b : Bool) → not b ≡ true → b ≡ false
-not_true true e = absurd (let f : false ≡ true = e in cc)
-not_true false e = refl
-
-pub not_false : (b : Bool) → b ≡ false → not b ≡ true
-not_false b e = ap not e
 
 -- letting activations out keeps what they are, and what is over stays so
 module _ (c : Config) (run : ℕ) (s : Standing) (sound : IsSound c run s) where
@@ -143,7 +127,7 @@ module _ (c : Config) (run : ℕ) (s : Standing) (sound : IsSound c run s) where
 
   -- the adapter in which something is in flight, or an activation isn't over, stays
   pub is_under_itself : (n : Node) (k : ℕ) → In n s.nodes → n.number ≡ k → stands_under s.nodes n.path k ≡ true
-  is_under_itself n k is same = any_by (λ m. (m.number == k) && leads_to n.path m.path) n s.nodes is (ap₂ (λ a b. a && b) (eq-eqb _ _ same) (leads_self n.path))
+  is_under_itself n k is same = any_in (λ m. (m.number == k) && leads_to n.path m.path) n s.nodes is (ap₂ (λ a b. a && b) (eq-eqb _ _ same) (leads_self n.path))
 
   pub flight_stays : (f : Flight) (n : Node) → In f s.flights → In n s.nodes → n.number ≡ f.adapter → stays n ≡ true
   flight_stays f n is is' same =
@@ -155,7 +139,7 @@ module _ (c : Config) (run : ℕ) (s : Standing) (sound : IsSound c run s) where
             (and_parts (not (list_any (λ g. stands_under s.nodes n.path g.adapter) s.flights))
             (not (list_any (λ a. not (is_over c a) && stands_under s.nodes n.path a.adapter) s.activations)) parts.2).0 in
             absurd (let e : false ≡ true =
-            sym none ∙ any_by (λ g. stands_under s.nodes n.path g.adapter) f s.flights is (is_under_itself n f.adapter is' same) in cc))
+            sym none ∙ any_in (λ g. stands_under s.nodes n.path g.adapter) f s.flights is (is_under_itself n f.adapter is' same) in cc))
       ]
 
   pub activation_stays : (a : Activation) (n : Node) → In a s.activations → is_over c a ≡ false → In n s.nodes → n.number ≡ a.adapter → stays n ≡ true
@@ -168,7 +152,7 @@ module _ (c : Config) (run : ℕ) (s : Standing) (sound : IsSound c run s) where
             (and_parts (not (list_any (λ g. stands_under s.nodes n.path g.adapter) s.flights))
             (not (list_any (λ b. not (is_over c b) && stands_under s.nodes n.path b.adapter) s.activations)) parts.2).1 in
             absurd (let e : false ≡ true =
-            sym none ∙ any_by (λ b. not (is_over c b) && stands_under s.nodes n.path b.adapter) a s.activations is
+            sym none ∙ any_in (λ b. not (is_over c b) && stands_under s.nodes n.path b.adapter) a s.activations is
             (ap₂ (λ x y. x && y) (not_false (is_over c a) lives) (is_under_itself n a.adapter is' same)) in cc))
       ]
 

@@ -31,11 +31,11 @@ use Rattle.poa_tree.specs.Trees.{In, IsFreePath}
 use Rattle.poa_history.specs.Sound.{IsSound}
 use Rattle.poa_tree.proofs.Finding.{find_none, same_path_self}
 use Rattle.poa_tree.proofs.Leading.{same_self}
-use Rattle.poa_history.proofs.SettledKept.{none_by}
 use Rattle.poa_history.proofs.SoundKept.{IsUntried, MayFly, MayLive}
 use Rattle.poa_tree.proofs.WalkStands.{Tells, walk_tells}
 use Rattle.poa_history.proofs.ChangeSound.{MayAdmit}
 use Rattle.poa_history.proofs.TableTells.{AsksAlone, servant, adapter, asked}
+use Rattle.history_standing.proofs.Tests.{none_by}
 
 abbrev tries_test : Choice → Bool
 tries_test (Go Try) = true

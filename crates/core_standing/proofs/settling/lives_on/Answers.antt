@@ -4,9 +4,9 @@ use Rattle.std.proofs.lemmas.Bool.{and_parts, eqb-true}
 use Rattle.poa_tree.proofs.Finding.{find_in}
 use Rattle.history_standing.specs.Ends.{is_over}
 use Rattle.poa_history.proofs.GoneIs.{any_in as one_of}
-use Rattle.poa_history.proofs.SettledKept.{not_true}
 use Rattle.core_standing.proofs.Forgotten.{in_behind}
 use Rattle.core_standing.proofs.settling.lives_on.Goals as goal
+use Rattle.history_standing.proofs.Tests.{not_true}
 
 pub returns-in-Some : goal.returns-in-Some
 returns-in-Some c = λ lives.
