@@ -1,8 +1,8 @@
 -- What is left in an adapter that goes, and below it: nothing.
-use Rattle.std.specs.Prelude.{◌≡◌, ℕ, Bool, true, false, not, ◌&&◌, List}
+use Rattle.std.specs.Prelude.{◌≡◌, ℕ, Bool, true, false, not, ◌&&◌, List, refl}
 use Rattle.std.specs.List.{list_any}
-use Rattle.std.proofs.Common.{inl, inr, sym, ap₂, ◌∙◌}
-use Rattle.std.proofs.lemmas.Bool.{cases_Bool, and_parts, true≢false}
+use Rattle.std.proofs.Common.{sym, ◌∙◌}
+use Rattle.std.proofs.lemmas.Bool.{and_parts, true≢false}
 use Rattle.poa_base.specs.declared.Config.{Config}
 use Rattle.poa_tree.specs.Nodes.{stands_under}
 use Rattle.poa_tree.specs.Trees.{In}
@@ -10,7 +10,7 @@ use Rattle.history_standing.specs.declared.activation.Activation.{Activation}
 use Rattle.history_standing.specs.declared.flight.Flight.{Flight}
 use Rattle.history_standing.specs.Ends.{is_clear, is_over}
 use Rattle.history_standing.specs.Standings.{Standing}
-use Rattle.history_standing.proofs.Tests.{none_by, not_true, not_false}
+use Rattle.history_standing.proofs.Tests.{none_by, not_true}
 
 pub clear_parts : (c : Config) (s : Standing) (p : List (List ℕ)) → is_clear c s p ≡ true
     → (list_any (λ f. stands_under s.nodes p f.adapter) s.flights ≡ false)
@@ -21,8 +21,8 @@ clear_parts c s p clear =
     (not (list_any (λ a. not (is_over c a) && stands_under s.nodes p a.adapter) s.activations)) clear in (not_true _ parts.0, not_true _ parts.1)
 
 over_by : (over under : Bool) → (not over && under) ≡ false → under ≡ true → over ≡ true
-over_by over under none is =
-    elim (cases_Bool over) [ inl yes ↦ yes | inr lives ↦ absurd (true≢false (sym (ap₂ (λ x y. x && y) (not_false over lives) is) ∙ none)) ]
+over_by true under none is = refl
+over_by false under none is = absurd (true≢false (sym is ∙ none))
 
 pub clear_idle : (c : Config) (s : Standing) (p : List (List ℕ)) (f : Flight) → is_clear c s p ≡ true → In f s.flights
     → stands_under s.nodes p f.adapter ≡ false
