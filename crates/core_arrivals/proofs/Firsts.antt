@@ -27,10 +27,24 @@ module _ {A : Type 0} (one other both : ℕ → Bool) (give : ℕ → Option A) 
     (left : (r : ℕ) → one r ≡ true → both r ≡ true) (right : (r : ℕ) → other r ≡ true → both r ≡ true) where
   pub earlier_first : (a b : Option (ℕ × A)) → IsFirst one give n a → IsFirst other give n b → IsFirst both give n (earlier a b)
   earlier_first None None first second = λ r low is. elim (parts r is) [ inl x ↦ first r low x | inr x ↦ second r low x ]
-  earlier_first None (Some b) first second =
-      (second.0, right b.0 second.1, second.2, λ r low is. elim (parts r is) [ inl x ↦ first r (let less = second.0 in omega (arith, low, less)) x | inr x ↦ second.3 r low x ])
-  earlier_first (Some a) None first second =
-      (first.0, left a.0 first.1, first.2, λ r low is. elim (parts r is) [ inl x ↦ first.3 r low x | inr x ↦ second r (let less = first.0 in omega (arith, low, less)) x ])
+  earlier_first None (Some b) first second = (
+    second.0,
+    right b.0 second.1,
+    second.2,
+    λ r low is. elim (parts r is) [
+      | inl x ↦ first r (let less = second.0 in omega (arith, low, less)) x
+      | inr x ↦ second.3 r low x
+    ],
+  )
+  earlier_first (Some a) None first second = (
+    first.0,
+    left a.0 first.1,
+    first.2,
+    λ r low is. elim (parts r is) [
+      | inl x ↦ first.3 r low x
+      | inr x ↦ second r (let less = first.0 in omega (arith, low, less)) x
+    ],
+  )
   earlier_first (Some a) (Some b) first second =
       cond_both (nat_lt a.0 b.0) (Some a) (Some b) (λ o. IsFirst both give n o)
       (λ less. (let lower = ltb-true a.0 b.0 less in

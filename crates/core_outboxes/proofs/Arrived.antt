@@ -147,8 +147,10 @@ pub collected_decided : (c : Config) (run limit : ℕ) (h : List Entry) (r : ℕ
 collected_decided c run limit [] r legal is = absurd (let e : false ≡ true = is in cc)
 collected_decided c run limit (Collect conn a ∷ past) r legal is =
     stays_decided c run past (Collect conn a) r
-    (elim (a == r) as (λ b. (a == r) ≡ b → (b || is_collected past r) ≡ true → decided c run past r ≡ true)
-    [ true ↦ (λ same _. next_decided c run past conn r (legal.0 ∙ ap (λ x. Some x) (eqb-true a r same))) | false ↦ (λ _ is. collected_decided c run limit past r legal.1 is) ] refl is)
+    (elim (a == r) as (λ b. (a == r) ≡ b → (b || is_collected past r) ≡ true → decided c run past r ≡ true) [
+      | true ↦ (λ same _. next_decided c run past conn r (legal.0 ∙ ap (λ x. Some x) (eqb-true a r same)))
+      | false ↦ (λ _ is. collected_decided c run limit past r legal.1 is)
+    ] refl is)
 collected_decided c run limit (Entered conn ∷ past) r legal is = stays_decided c run past (Entered conn) r (collected_decided c run limit past r legal.1 is)
 collected_decided c run limit (Arrive conn size call ∷ past) r legal is =
     stays_decided c run past (Arrive conn size call) r (collected_decided c run limit past r legal.1 is)

@@ -85,8 +85,10 @@ tries_none c run limit past (Abandon w) manned legal = tt
 pub collected_before : (c : Config) (run limit : ℕ) (e : Entry) (past : List Entry) (r : ℕ) → IsLegal c run limit (e ∷ past) → is_collected (e ∷ past) r ≡ true
     → decided c run past r ≡ true
 collected_before c run limit (Collect conn a) past r legal is =
-    elim (a == r) as (λ b. (a == r) ≡ b → (b || is_collected past r) ≡ true → decided c run past r ≡ true)
-    [ true ↦ (λ same _. next_decided c run past conn r (legal.0 ∙ ap (λ x. Some x) (eqb-true a r same))) | false ↦ (λ _ is. collected_decided c run limit past r legal.1 is) ] refl is
+    elim (a == r) as (λ b. (a == r) ≡ b → (b || is_collected past r) ≡ true → decided c run past r ≡ true) [
+      | true ↦ (λ same _. next_decided c run past conn r (legal.0 ∙ ap (λ x. Some x) (eqb-true a r same)))
+      | false ↦ (λ _ is. collected_decided c run limit past r legal.1 is)
+    ] refl is
 collected_before c run limit (Entered conn) past r legal is = collected_decided c run limit past r legal.1 is
 collected_before c run limit (Arrive conn size call) past r legal is = collected_decided c run limit past r legal.1 is
 collected_before c run limit (Filled conn size) past r legal is = collected_decided c run limit past r legal.1 is

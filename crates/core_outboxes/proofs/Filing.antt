@@ -65,7 +65,8 @@ none_before p xs i x below is none =
     parts false false no_ = (refl, refl)
 
 -- a row is filed, after those before it
-pub file_step : (now : Owing → Bool) (target : Option ℕ) (first : Reply) (os : List Owing) (i : ℕ) (d : Owing) (reply left : Reply) (old mid new : ℕ → List Filed)
+pub file_step : (now : Owing → Bool) (target : Option ℕ) (first : Reply) (os : List Owing) (i : ℕ) (d : Owing) (reply left : Reply) (old mid new : ℕ
+    → List Filed)
     → i < length os → IsAlone target os
     → ((n : ℕ) → new n ≡ mid n ++ filter (λ f. f.conn == n) (map (file target reply) (filter now (get_or os i d ∷ []))))
     → (list_any (λ o. is_at o.arrival target) (get_or os i d ∷ []) ≡ false → left ≡ reply)

@@ -37,8 +37,10 @@ in_either_part x (z ∷ xs) ys (inr further) = elim (in_either_part x xs ys furt
 
 distinct_both : (xs ys : List ℕ) → Distinct xs → Distinct ys → ((x : ℕ) → In x xs → In x ys → ⊥) → Distinct (xs ++ ys)
 distinct_both [] ys one two apart = two
-distinct_both (x ∷ xs) ys one two apart =
-    ((λ there. elim (in_either_part x xs ys there) [ inl a ↦ one.0 a | inr b ↦ apart x (inl refl) b ]), distinct_both xs ys one.1 two (λ y a b. apart y (inr a) b))
+distinct_both (x ∷ xs) ys one two apart = (
+  (λ there. elim (in_either_part x xs ys there) [ inl a ↦ one.0 a | inr b ↦ apart x (inl refl) b ]),
+  distinct_both xs ys one.1 two (λ y a b. apart y (inr a) b),
+)
 
 pub distinct_below : (n : ℕ) → Distinct (below n)
 distinct_below zero = tt

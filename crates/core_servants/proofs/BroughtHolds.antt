@@ -62,8 +62,12 @@ module _ (c : Config) (s : Standing) (a : Activation) (m : ℕ) where
       ]
 
   by_gives : (g : Gives)
-      → (elim g
-      [ FreshKind kind ↦ Fresh a.number | Servant k ↦ named_or_double c s a k | ForwardTo endpoint ↦ Forward endpoint | RaiseThis exception ↦ Raise exception ]) ≡ Fresh m → m ≡ a.number
+      → (elim g [
+        | FreshKind kind ↦ Fresh a.number
+        | Servant k ↦ named_or_double c s a k
+        | ForwardTo endpoint ↦ Forward endpoint
+        | RaiseThis exception ↦ Raise exception
+      ]) ≡ Fresh m → m ≡ a.number
   by_gives (FreshKind kind) is = (let e : Fresh a.number ≡ Fresh m = is in cc)
   by_gives (Servant k) is = absurd (no_fresh k is)
   by_gives (ForwardTo endpoint) is = absurd (let e : Forward endpoint ≡ Fresh m = is in cc)

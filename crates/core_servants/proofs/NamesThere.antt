@@ -167,8 +167,12 @@ module _ (c : Config) (run limit : ℕ) (alone : IsGivenAlone c run) where
       by_rule None = no_rule
       by_rule (Some rule) =
           elim rule.gives as (λ g.
-          (elim g as (λ _. Located)
-          [ FreshKind kind ↦ NoRule | ServantGiven k ↦ elim (servant_name c k) [ Some x ↦ Servant x | None ↦ NoRule ] | ForwardTo endpoint ↦ ByForward endpoint | RaiseThis exception ↦ ByRaise exception ]) ≡ Servant name → IsThere c name) [
+          (elim g as (λ _. Located) [
+            | FreshKind kind ↦ NoRule
+            | ServantGiven k ↦ elim (servant_name c k) [ Some x ↦ Servant x | None ↦ NoRule ]
+            | ForwardTo endpoint ↦ ByForward endpoint
+            | RaiseThis exception ↦ ByRaise exception
+          ]) ≡ Servant name → IsThere c name) [
             | FreshKind kind ↦ no_rule
             | ServantGiven k ↦ by_number k (servant_name c k) refl
             | ForwardTo endpoint ↦ λ is. absurd (let e : ByForward endpoint ≡ Servant name = is in cc)

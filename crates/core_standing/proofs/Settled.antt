@@ -146,8 +146,19 @@ module _ (c : Config) (s : Standing) (is : IsSettled c s) where
   }
     where
       fresh : Activation
-      fresh = record
-          { number = length s.activations; adapter = k; path = p; oid = oid; phase = phase; ending = false; quiet = false; out = false; cleanup = false; remaining = false; etherealized = false }
+      fresh = record {
+        number = length s.activations;
+        adapter = k;
+        path = p;
+        oid = oid;
+        phase = phase;
+        ending = false;
+        quiet = false;
+        out = false;
+        cleanup = false;
+        remaining = false;
+        etherealized = false;
+      }
 
 -- so what the Admit of a request begins lets nothing end
 admitted_settled : (c : Config) (s : Standing) → IsSettled c s → (r : ℕ) (key : Option Key) (v : Verdict) → IsSettled c (with_admitted r key v s)

@@ -165,7 +165,8 @@ same_all touched before after is =
     record { stood = λ a there _. subst (In a) is there; stays = λ a there _. subst (In a) (sym is) there }
 
 -- a child that is created
-pub child_others : (c : Config) (touched : ℕ → Bool) (s : Standing) (child : Option (List (List ℕ))) → Others c touched s → Others c touched (with_child child s)
+pub child_others : (c : Config) (touched : ℕ → Bool) (s : Standing) (child : Option (List (List ℕ))) → Others c touched s
+    → Others c touched (with_child child s)
 child_others c touched s None others = others
 child_others c touched s (Some p) others = others
 

@@ -80,10 +80,14 @@ module _ (c : Config) (run : ℕ) (past : List Entry) (t : Standing) (answers : 
   refers p servant =
       found_same _ _ (refusal AdapterNonExistent) (live_at s p)
       (λ n. found_same _ _ (refusal NoServant) (servant_number c servant) (λ k.
-      ap (λ b. elim (referred c on n k)
-      [ Some a ↦ Some (Answer (GoodIor (reference_text c run n.number p a.oid k))) | None ↦ (if b then Some (Answer (GoodIor (reference_text c run n.number p (made_id run (suc s.made)) k))) else refusal ServantNotActive) ]) (implicit_same n k)
-      ∙ ap (λ o. elim o
-      [ Some a ↦ Some (Answer (GoodIor (reference_text c run n.number p a.oid k))) | None ↦ (if is_implicit c s n k then Some (Answer (GoodIor (reference_text c run n.number p (made_id run (suc s.made)) k))) else refusal ServantNotActive) ]) (referred_same n k)))
+      ap (λ b. elim (referred c on n k) [
+        | Some a ↦ Some (Answer (GoodIor (reference_text c run n.number p a.oid k)))
+        | None ↦ (if b then Some (Answer (GoodIor (reference_text c run n.number p (made_id run (suc s.made)) k))) else refusal ServantNotActive)
+      ]) (implicit_same n k)
+      ∙ ap (λ o. elim o [
+        | Some a ↦ Some (Answer (GoodIor (reference_text c run n.number p a.oid k)))
+        | None ↦ (if is_implicit c s n k then Some (Answer (GoodIor (reference_text c run n.number p (made_id run (suc s.made)) k))) else refusal ServantNotActive)
+      ]) (referred_same n k)))
 
   kept_same : (command : Command) → command_verdict c run past on command ≡ command_verdict c run past s command
   unfolding command_verdict

@@ -93,8 +93,11 @@ module _ (c : Config) (run : ℕ) (h : List Entry) where
       → KnowsCalls c run h ready rows → KnowsCalls c run h ready' (slice_set rows i y)
   known_settled flights same ready ready' rows i d y low grip goes known =
       known_set ready ready' rows i d y low (λ r is. inl (goes.more r is)) (λ r is. elim (goes.all r is) [ inl stays ↦ inr stays | inr went ↦ inl went ])
-      (λ r is. (let was = known.held (slice_index_or rows i d) (got_in rows i d low) r (goes.fewer r is) in
-      (was.0, subst (λ g. IsGripped c run h r g) (sym (grip ∙ ap (λ fs. settled_grip fs (slice_index_or rows i d).grip) same)) (settled_gripped r (slice_index_or rows i d).grip was.1)))) known
+      (λ r is. (let was = known.held (slice_index_or rows i d) (got_in rows i d low) r (goes.fewer r is) in (
+        was.0,
+        subst (λ g. IsGripped c run h r g) (sym (grip
+            ∙ ap (λ fs. settled_grip fs (slice_index_or rows i d).grip) same)) (settled_gripped r (slice_index_or rows i d).grip was.1),
+      ))) known
 
   -- the least that is ready is put into the row of what holds it
   pub known_put : (ready ready' : Heap) (rows : List Row) (i : ℕ) (d y : Row) (arrival : ℕ) (hold : Hold) → i < length rows
@@ -138,8 +141,10 @@ module _ (c : Config) (run : ℕ) (h : List Entry) where
   rows_added : (rows : List Row) (row : Row) (r : ℕ) → in_rows rows r ≡ true → in_rows (rows ++ row ∷ []) r ≡ true
   rows_added [] row r is = absurd (let e : false ≡ true = is in cc)
   rows_added (x ∷ rows) row r is =
-      elim (or_cases (has x.calls.heap r) (in_rows rows r) is)
-      [ inl here ↦ or_left (has x.calls.heap r) (in_rows (rows ++ row ∷ []) r) here | inr more ↦ or_right (has x.calls.heap r) (in_rows (rows ++ row ∷ []) r) (rows_added rows row r more) ]
+      elim (or_cases (has x.calls.heap r) (in_rows rows r) is) [
+        | inl here ↦ or_left (has x.calls.heap r) (in_rows (rows ++ row ∷ []) r) here
+        | inr more ↦ or_right (has x.calls.heap r) (in_rows (rows ++ row ∷ []) r) (rows_added rows row r more)
+      ]
 
   pub known_added : (ready : Heap) (rows : List Row) (row : Row) → is_empty_row row → KnowsCalls c run h ready rows
       → KnowsCalls c run h ready (rows ++ row ∷ [])

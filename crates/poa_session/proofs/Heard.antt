@@ -41,8 +41,10 @@ module _ (g : Givens) (peer : Peer) (c : ℕ) (v : View Givens Entry) (i j : Int
   hears_call w call size (progress.Ends end) tells arrived = record {
     calls = [];
     adds = arrived.0;
-    heard = λ text unfilled expected.
-        (arrived.1 peer text unfilled (expects_next peer (OfIntake i) (OfIntake j) text (arrived_by (past v) c) expected call size tells.0 (intake_goes_on j [])), λ shown. arrived.2 peer text shown);
+    heard = λ text unfilled expected. (
+      arrived.1 peer text unfilled (expects_next peer (OfIntake i) (OfIntake j) text (arrived_by (past v) c) expected call size tells.0 (intake_goes_on j [])),
+      λ shown. arrived.2 peer text shown,
+    );
     taken = taken;
   }
 
@@ -73,8 +75,10 @@ module _ (g : Givens) (peer : Peer) (c : ℕ) (v : View Givens Entry) (i j : Int
     calls = [];
     adds = adds_same g c v;
     heard = λ text unfilled expected.
-        (let heard = expects_stop peer (OfIntake i) text (arrived_by (past v) c) expected closed tells in
-        (record { input = inl heard; cause = inl (arrived_by (past v) c, heard); filled = none_filled text unfilled }, λ shown. inl (arrived_by (past v) c, heard)));
+        (let heard = expects_stop peer (OfIntake i) text (arrived_by (past v) c) expected closed tells in (
+          record { input = inl heard; cause = inl (arrived_by (past v) c, heard); filled = none_filled text unfilled },
+          λ shown. inl (arrived_by (past v) c, heard),
+        ));
     taken = taken;
   }
 
@@ -83,8 +87,10 @@ module _ (g : Givens) (peer : Peer) (c : ℕ) (v : View Givens Entry) (i j : Int
   hears_bad at tells = record {
     calls = [];
     adds = adds_same g c v;
-    heard = λ text unfilled expected.
-        (record { input = expects_stop peer (OfIntake i) text (arrived_by (past v) c) expected (bad at) tells; cause = tt; filled = none_filled text unfilled }, λ shown. tt);
+    heard = λ text unfilled expected. (
+      record { input = expects_stop peer (OfIntake i) text (arrived_by (past v) c) expected (bad at) tells; cause = tt; filled = none_filled text unfilled },
+      λ shown. tt,
+    );
     taken = taken;
   }
 
@@ -93,7 +99,9 @@ module _ (g : Givens) (peer : Peer) (c : ℕ) (v : View Givens Entry) (i j : Int
   hears_lost = record {
     calls = [];
     adds = adds_same g c v;
-    heard = λ text unfilled expected.
-        (record { input = expects_begins peer (OfIntake i) text (arrived_by (past v) c) expected (intake_goes_on i []); cause = tt; filled = none_filled text unfilled }, λ shown. tt);
+    heard = λ text unfilled expected. (
+      record { input = expects_begins peer (OfIntake i) text (arrived_by (past v) c) expected (intake_goes_on i []); cause = tt; filled = none_filled text unfilled },
+      λ shown. tt,
+    );
     taken = taken;
   }

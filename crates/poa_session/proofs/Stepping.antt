@@ -205,8 +205,11 @@ module _ (g : Givens) (peer : Peer) (c : ℕ) (v : View Givens Entry) (a : Shown
             × DriesUp peer (text ++ piece) end z
         takes_may text piece Ended counted took expected =
             subst (λ p. Input peer (text ++ p) (arrived_by (past w) c) Ended × CauseBy peer (past w) (arrived_by (past w) c) (text ++ p) Ended
-            × DriesUp peer (text ++ p) Ended z) (sym took.0)
-            (inr (nothing_behind (λ t. HearsAll peer t (arrived_by (past w) c) (over 0)) text (stops_over text 0 expected took.2)), inr (read_fewer text [] counted refl took.1), inr took.3)
+            × DriesUp peer (text ++ p) Ended z) (sym took.0) (
+              inr (nothing_behind (λ t. HearsAll peer t (arrived_by (past w) c) (over 0)) text (stops_over text 0 expected took.2)),
+              inr (read_fewer text [] counted refl took.1),
+              inr took.3,
+            )
         takes_may text piece (Truncated bytes) counted took expected =
             subst (λ p. Input peer (text ++ p) (arrived_by (past w) c) (Truncated bytes) × (length (text ++ p) < 2 ^ 40)
             × DriesUp peer (text ++ p) (Truncated bytes) z) (sym took.0) (
@@ -218,8 +221,11 @@ module _ (g : Givens) (peer : Peer) (c : ℕ) (v : View Givens Entry) (a : Shown
               read_fewer text [] counted refl took.1,
               took.4,
             )
-        takes_may text piece ReadFault counted took expected =
-            (expects_front peer (OfIntake j) text (arrived_by (past w) c) expected piece (intake_goes_on j piece), read_fewer text piece counted took.0 took.1, tt)
+        takes_may text piece ReadFault counted took expected = (
+          expects_front peer (OfIntake j) text (arrived_by (past w) c) expected piece (intake_goes_on j piece),
+          read_fewer text piece counted took.0 took.1,
+          tt,
+        )
         takes_may text piece (InputLimit taken) counted took expected = (
           expects_front peer (OfIntake j) text (arrived_by (past w) c) expected piece (intake_goes_on j piece),
           (took.2, length_read text piece counted took.0 ∙ sym took.1),
@@ -268,6 +274,8 @@ module _ (g : Givens) (peer : Peer) (c : ℕ) (v : View Givens Entry) (a : Shown
           few = counted_few took.piece took.few;
           silent = hears_not listened.calls;
           goes_on = (paid.paid.0, took.taken.0 ∙ ap (λ n. n + length took.piece) listened.taken);
-          flows = λ text counted unfilled expected.
-              (unfilled_now unfilled, expects_fed peer (OfIntake j) (OfIntake k) text (arrived_by (past w) c) (expected_now text expected) took.piece took.taken.1);
+          flows = λ text counted unfilled expected. (
+            unfilled_now unfilled,
+            expects_fed peer (OfIntake j) (OfIntake k) text (arrived_by (past w) c) (expected_now text expected) took.piece took.taken.1,
+          );
         }

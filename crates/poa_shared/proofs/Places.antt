@@ -26,8 +26,11 @@ module _ {A : Type 0} where
 
   pub reversed_at : (h : List A) (e : A) → InList e h → (x : ℕ) × (get_elem? (reverse h) x ≡ some e)
   reversed_at [] e there = absurd there
-  reversed_at (d ∷ h) e (inl same) =
-      (length (reverse h), subst (λ (l : List A). get_elem? l (length (reverse h)) ≡ some e) (sym (reverse_more d h)) (at_last (reverse h) d (length (reverse h)) refl ∙ ap some (sym same)))
+  reversed_at (d ∷ h) e (inl same) = (
+    length (reverse h),
+    subst (λ (l : List A). get_elem? l (length (reverse h)) ≡ some e) (sym (reverse_more d h)) (at_last (reverse h) d (length (reverse h)) refl
+        ∙ ap some (sym same)),
+  )
   reversed_at (d ∷ h) e (inr there) =
       (let at = reversed_at h e there in
       (at.0, subst (λ (l : List A). get_elem? l at.0 ≡ some e) (sym (reverse_more d h)) (at_longer (reverse h) (d ∷ []) at.0 e at.1)))

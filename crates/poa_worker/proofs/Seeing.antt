@@ -18,8 +18,10 @@ seen_is w h is = sym (reverse-reverse w.seen) ∙ ap reverse is
 module _ (g : Givens) (v w : View Givens Entry) (h : List Entry) (t : Turns g v h w) where
   -- the history found goes on from what was seen
   pub found_after : IsPrefix v.seen (reverse h)
-  found_after =
-      (reverse t.goes_on.more, ap reverse t.goes_on.is ∙ (reverse-append t.goes_on.more (past v) ∙ ap (λ l. l ++ reverse t.goes_on.more) (reverse-reverse v.seen)))
+  found_after = (
+    reverse t.goes_on.more,
+    ap reverse t.goes_on.is ∙ (reverse-append t.goes_on.more (past v) ∙ ap (λ l. l ++ reverse t.goes_on.more) (reverse-reverse v.seen)),
+  )
 
   pub found_longer : length v.seen ≤ length h
   found_longer =

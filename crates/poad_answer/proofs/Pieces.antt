@@ -30,8 +30,11 @@ pub hands_then : (a b : Option (List ℕ)) (c : Option (List ℕ)) (first last :
 hands_then a b c first last true p q = told_then a b c _ _ _ (λ x y z e f. f ∙ (ap (λ (front : List ℕ). front ++ last) e ∙ append_assoc x first last)) p q
 hands_then a b c first last false p q =
     told_then a b c _ _ _
-    (λ x y z e f.
-    (length first + f.0, f.1 ∙ (ap (λ (front : List ℕ). front ++ take f.0 last) e ∙ (append_assoc x first (take f.0 last) ∙ ap (λ (bytes : List ℕ). x ++ bytes) (sym (take-append-add first last f.0)))))) p q
+    (λ x y z e f. (
+      length first + f.0,
+      f.1 ∙ (ap (λ (front : List ℕ). front ++ take f.0 last) e
+          ∙ (append_assoc x first (take f.0 last) ∙ ap (λ (bytes : List ℕ). x ++ bytes) (sym (take-append-add first last f.0)))),
+    )) p q
 
 -- a delivery that failed, of bytes that others were to follow
 pub hands_part : (a b : Option (List ℕ)) (first last : List ℕ) → IfTold a b (Hands false first) → IfTold a b (Hands false (first ++ last))

@@ -112,10 +112,16 @@ gains_on Ok why held x y z first last ends p q = q ∙ (ap (λ (before : List �
 gains_on (Held count) why held x y z first last ends p q = q ∙ (ap (λ (before : List ℕ). before ++ last) p ∙ append_assoc x first last)
 gains_on (Malformed at) why held x y z first last ends p q = q ∙ (ap (λ (before : List ℕ). before ++ last) p ∙ append_assoc x first last)
 gains_on (Limit calls bytes) why held x y z first last ends p q = q ∙ (ap (λ (before : List ℕ). before ++ last) p ∙ append_assoc x first last)
-gains_on WriteFault why held x y z first last ends p q =
-    (length first + q.0, q.1 ∙ (ap (λ (before : List ℕ). before ++ take q.0 last) p ∙ (append_assoc x first (take q.0 last) ∙ ap (λ (bytes : List ℕ). x ++ bytes) (sym (take-append-add first last q.0)))))
-gains_on WantMemory why held x y z first last ends p q =
-    (length first + q.0, q.1 ∙ (ap (λ (before : List ℕ). before ++ take q.0 last) p ∙ (append_assoc x first (take q.0 last) ∙ ap (λ (bytes : List ℕ). x ++ bytes) (sym (take-append-add first last q.0)))))
+gains_on WriteFault why held x y z first last ends p q = (
+  length first + q.0,
+  q.1 ∙ (ap (λ (before : List ℕ). before ++ take q.0 last) p
+      ∙ (append_assoc x first (take q.0 last) ∙ ap (λ (bytes : List ℕ). x ++ bytes) (sym (take-append-add first last q.0)))),
+)
+gains_on WantMemory why held x y z first last ends p q = (
+  length first + q.0,
+  q.1 ∙ (ap (λ (before : List ℕ). before ++ take q.0 last) p
+      ∙ (append_assoc x first (take q.0 last) ∙ ap (λ (bytes : List ℕ). x ++ bytes) (sym (take-append-add first last q.0)))),
+)
 gains_on _ why held x y z first last ends p q = absurd ends
 
 ends_on : (status : Status) (why : Stop) (held : ℕ) (got : List ℕ) (left : Option (List ℕ)) → EndsPiece status why held → RunEnds status why held got left
@@ -138,8 +144,12 @@ serves_givens (m ∷ ms) a replies b s = givens_then a s.1.0 b (gives_givens a m
 kept_so : (c : Config) (life : Life) → Givens (life_at_answer c) life → IsLegalRun life → IsLegal c c.run 4000000 life.history
     × HasLifetime c c.run life.history × LeavesNothing c c.run life.history × KeepsUpdates c c.run (opened (life_at_first c 4000000)) life.history
 kept_so c life g legal =
-    let first : Givens (life_at_first c 4000000) life = record { config = g.config; run = g.run; limit = g.limit; opening = g.opening; going = g.going } in
-    (legal_for c 4000000 life first legal.legal, lifetime_for c 4000000 life first legal.lifetime, undone_for c 4000000 life first legal.undone, updates_for c 4000000 life first legal.updates)
+    let first : Givens (life_at_first c 4000000) life = record { config = g.config; run = g.run; limit = g.limit; opening = g.opening; going = g.going } in (
+      legal_for c 4000000 life first legal.legal,
+      lifetime_for c 4000000 life first legal.lifetime,
+      undone_for c 4000000 life first legal.undone,
+      updates_for c 4000000 life first legal.updates,
+    )
 
 kept_by : (status : Status) (c : Config) (life : Life) (messages : List Framed) (replies : List ℕ)
     → Serves MessageGives (life_at_answer c) messages replies life → IsLegalRun life → IsKeptBy status c life

@@ -109,8 +109,21 @@ pub serves_then : {S M : Type 0} (Each : S → M → List ℕ → S → Type 0) 
 serves_then {S} Each a b c [] ns xs ys p q =
     let here : Serves Each a ns ys c = subst (λ (s : S). Serves Each s ns ys c) p.1 q in
     subst (λ (zs : List ℕ). Serves Each a ns (zs ++ ys) c) (sym p.0) here
-serves_then {S} Each a b c (m ∷ ms) ns xs ys p q =
-    (p.0, (p.1.0, (p.1.1.0 ++ ys, (p.1.1.1.0, serves_then Each p.1.0 b c ms ns p.1.1.0 ys p.1.1.1.1 q, ap (λ (zs : List ℕ). zs ++ ys) p.1.1.1.2 ∙ append_assoc p.0 p.1.1.0 ys))))
+serves_then {S} Each a b c (m ∷ ms) ns xs ys p q = (
+  p.0,
+  (
+    p.1.0,
+    (
+      p.1.1.0 ++ ys,
+      (
+        p.1.1.1.0,
+        serves_then Each p.1.0 b c ms ns p.1.1.0 ys p.1.1.1.1 q,
+        ap (λ (zs : List ℕ). zs ++ ys) p.1.1.1.2
+            ∙ append_assoc p.0 p.1.1.0 ys,
+      ),
+    ),
+  ),
+)
 
 -- some messages were served so far
 pub record ServesSome (old new : Service) : Type 0 where
@@ -149,8 +162,10 @@ serves_more a b c p q = record {
 }
 
 keeps_on : (why : Stop) (a b c : Service) (messages : List Framed) → ServedMore a messages b → Keeps why [] b.core b c → Keeps why messages b.core a c
-keeps_on (Waits have) a b c messages given kept =
-    (kept.0, λ fed before h. subst (λ (ms : List Framed). HasServed fed ms c) (append-nil (before ++ messages)) (kept.1 fed (before ++ messages) (given fed before h)))
+keeps_on (Waits have) a b c messages given kept = (
+  kept.0,
+  λ fed before h. subst (λ (ms : List Framed). HasServed fed ms c) (append-nil (before ++ messages)) (kept.1 fed (before ++ messages) (given fed before h)),
+)
 keeps_on Closed a b c messages given kept = kept
 keeps_on _ a b c messages given kept = tt
 

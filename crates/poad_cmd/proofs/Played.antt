@@ -61,12 +61,18 @@ plays_no_config file script _ a b h t = absurd t
 pub plays_no_script : (file script : List ℕ) (config : Config) (s : Status) (a b c : Option Contents) (h : Option (List ℕ)) → TakesConfig file (Ok config) a b
     → IfTold a b HoldsStill → IfTold b c HoldsStill
     → TakesScript script (Err s) b c → PlaysFiles file script s a c h h
-plays_no_script file script config (status.ScriptRefused line) a b c h t still more u =
-    (no_script (record { config = config; takes_config = config_on file config a b c t more; refused = no_script_before script (status.ScriptRefused line) a b c still u }), same_held h)
-plays_no_script file script config status.NoFile a b c h t still more u =
-    (no_script (record { config = config; takes_config = config_on file config a b c t more; refused = no_script_before script status.NoFile a b c still u }), same_held h)
-plays_no_script file script config status.FileTooLong a b c h t still more u =
-    (no_script (record { config = config; takes_config = config_on file config a b c t more; refused = no_script_before script status.FileTooLong a b c still u }), same_held h)
+plays_no_script file script config (status.ScriptRefused line) a b c h t still more u = (
+  no_script (record { config = config; takes_config = config_on file config a b c t more; refused = no_script_before script (status.ScriptRefused line) a b c still u }),
+  same_held h,
+)
+plays_no_script file script config status.NoFile a b c h t still more u = (
+  no_script (record { config = config; takes_config = config_on file config a b c t more; refused = no_script_before script status.NoFile a b c still u }),
+  same_held h,
+)
+plays_no_script file script config status.FileTooLong a b c h t still more u = (
+  no_script (record { config = config; takes_config = config_on file config a b c t more; refused = no_script_before script status.FileTooLong a b c still u }),
+  same_held h,
+)
 plays_no_script file script config status.FileFault a b c h t still more u = same_held h
 plays_no_script file script config status.WantMemory a b c h t still more u = same_held h
 plays_no_script file script config _ a b c h t still more u = absurd u

@@ -74,8 +74,15 @@ pub still_made : (life : Life) (w : ℕ) (e : Entry) → Makes life w e → Stil
 still_made life w e m =
     let apart : IsApart e = turn_apart life.config life.run life.history w e m.next in
     record {
-      same = record
-          { config = refl; run = refl; limit = refl; opening = refl; entered = apart.entered life.history; left = λ n. apart.left life.history n; going = λ v. apart.going life.history v };
+      same = record {
+        config = refl;
+        run = refl;
+        limit = refl;
+        opening = refl;
+        entered = apart.entered life.history;
+        left = λ n. apart.left life.history n;
+        going = λ v. apart.going life.history v;
+      };
       filled = apart.filled life.history;
       calls = λ r. apart.calls life.history r;
     }

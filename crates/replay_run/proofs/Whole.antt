@@ -44,8 +44,11 @@ pub life_shows : (P : Life → List ℕ → Life → Type 0) (old new : Player) 
 life_shows P old new xs p = record {
   text = p.text;
   printed = p.printed;
-  does = record
-      { life = new.core; does = p.does; became = ap (λ (o : Option Full). let w : World = record { life = new.core; channels = xs; turned_away = o } in w) p.turned_away };
+  does = record {
+    life = new.core;
+    does = p.does;
+    became = ap (λ (o : Option Full). let w : World = record { life = new.core; channels = xs; turned_away = o } in w) p.turned_away;
+  };
 }
 
 -- the step of a line

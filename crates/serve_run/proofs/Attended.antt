@@ -104,8 +104,13 @@ module _ {A L : Type 0} (g : Givens) (shown : L → Shown) (standing : A → Opt
         after = inner.after;
         all = inner.all;
         clients = inner.clients;
-        admin = inl
-            (tour_of g shown standing faults Administrator task old.admin inner.tours v v' w j outcome kept room inner.served first first_room door refused end joined keeps, refl, refl, refl, sym (back_is keeps.0 new.admin door joined.ran.door joined.door_is keeps.1 back));
+        admin = inl (
+          tour_of g shown standing faults Administrator task old.admin inner.tours v v' w j outcome kept room inner.served first first_room door refused end joined keeps,
+          refl,
+          refl,
+          refl,
+          sym (back_is keeps.0 new.admin door joined.ran.door joined.door_is keeps.1 back),
+        );
       };
       served =
           more_served g shown standing faults Administrator task old.admin inner.tours v v' w j outcome kept room inner.served first first_room door refused end

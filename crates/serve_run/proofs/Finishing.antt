@@ -56,8 +56,10 @@ module _ {A L : Type 0} (g : Givens) (shown : L → Shown) (standing : A → Opt
         → (x < length t.stood) × IsOwn own x (Arrive 0 size call)
     said_at t p x size call at =
         let there : get_elem? t.stood x ≡ some (Arrive 0 size call) = subst (λ l. get_elem? l x ≡ some (Arrive 0 size call)) (reverse-reverse t.stood) at in
-        let seen = at_prefix t.stood w.seen x (Arrive 0 size call) p there in
-        (at_below t.stood x (Arrive 0 size call) there, holds.own_is x (Arrive 0 size call) (is_whole.all x (at_below w.seen x (Arrive 0 size call) seen)) seen refl)
+        let seen = at_prefix t.stood w.seen x (Arrive 0 size call) p there in (
+          at_below t.stood x (Arrive 0 size call) there,
+          holds.own_is x (Arrive 0 size call) (is_whole.all x (at_below w.seen x (Arrive 0 size call) seen)) seen refl,
+        )
 
     ends_by : (o : Option (ℕ × Entry)) → own ≡ o → IsLast {A = A} {L = L} own tours w → EachEnded {A = A} {L = L} standing faults log tours
     ends_by None is last =

@@ -113,8 +113,10 @@ module _ {A L : Type 0} (g : Givens) (shown : L → Shown) (standing : A → Opt
             own = None;
             word = tt;
             holds_it = holds_looked g shown standing faults tours shifts v w h t None is holds;
-            last = record
-                { ended = λ place e same. absurd (let f : None ≡ Some (place, e) = same in cc); left = λ place e same. absurd (let f : None ≡ Some (place, e) = same in cc) };
+            last = record {
+              ended = λ place e same. absurd (let f : None ≡ Some (place, e) = same in cc);
+              left = λ place e same. absurd (let f : None ≡ Some (place, e) = same in cc);
+            };
           }
 
       pub said : (r : Result ℕ ArriveFault) → Event (λ old new. Arrives 0 (Line 1 Shutdown) 8 old r new) v w → IsSaid w

@@ -69,8 +69,10 @@ module _ {A L : Type 0} (g : Givens) (shown : L → Shown) (standing : A → Opt
 
   module _ (v w : View Givens Entry) (h : List Entry) (t : Turns g v h w) where
     found_after : IsPrefix v.seen (reverse h)
-    found_after =
-        (reverse t.goes_on.more, ap reverse t.goes_on.is ∙ (reverse-append t.goes_on.more (past v) ∙ ap (λ l. l ++ reverse t.goes_on.more) (reverse-reverse v.seen)))
+    found_after = (
+      reverse t.goes_on.more,
+      ap reverse t.goes_on.is ∙ (reverse-append t.goes_on.more (past v) ∙ ap (λ l. l ++ reverse t.goes_on.more) (reverse-reverse v.seen)),
+    )
 
     pub same_seen : past w ≡ h → IsPrefix v.seen w.seen
     same_seen is = subst (IsPrefix v.seen) (sym (sym (reverse-reverse w.seen) ∙ ap reverse is)) found_after
@@ -123,8 +125,11 @@ module _ {A L : Type 0} (g : Givens) (shown : L → Shown) (standing : A → Opt
           explained = λ place there. ⊎_elim
               (λ (i : In place v.mine). explained_more (0 ∷ conns_in tours) (0 ∷ workers_in shifts) (0 ∷ conns_in tours)
               (0 ∷ workers_in shifts) v.seen w.seen place (λ c k. k) (λ k x. x) grows (holds.ledger.explained place i))
-              (λ (at : place ≡ length h). record
-              { entry = e; stands = subst (λ k. get_elem? w.seen k ≡ some e) (sym at) one_stands; of = inl (0, in_first 0 (0 ∷ []) (conns_in tours) (here_in 0), of) })
+              (λ (at : place ≡ length h). record {
+                entry = e;
+                stands = subst (λ k. get_elem? w.seen k ≡ some e) (sym at) one_stands;
+                of = inl (0, in_first 0 (0 ∷ []) (conns_in tours) (here_in 0), of);
+              })
               (in_added place (length h) v.mine (subst (In place) mine there));
           closed = t.knows.closed;
           within = t.knows.within;
