@@ -11,7 +11,7 @@ use Rattle.std.proofs.Common.{inl, inr, sym, ap, subst, ◌∙◌}
 use Rattle.std.proofs.lemmas.Bool.{and_from, eq-eqb, false_from_ne_true}
 use Rattle.history_standing.specs.declared.activation.Activation.{Activation}
 use Rattle.history_standing.specs.Standings.{is_of}
-use Rattle.poa_history.proofs.GoneIs.{any_in as one_of}
+use Rattle.poa_history.proofs.GoneIs.{some_in}
 use Rattle.poa_tree.specs.Paths.{same_bytes}
 use Rattle.poa_tree.specs.Trees.{In}
 use Rattle.poa_tree.proofs.Leading.{same_self}
@@ -48,8 +48,8 @@ module _ (rows : List (ℕ × Activation)) (test : Activation → Bool) where
 
   by_numbers : (all : List (Vec ℕ)) → list_any asked_of all ≡ true → list_any test (values_of rows) ≡ true
   by_numbers all passes =
-      (let some = one_of asked_of all passes in
-      let one = one_of asked some.0.items some.2 in
+      (let some = some_in asked_of all passes in
+      let one = some_in asked some.0.items some.2 in
       by_number one.0 one.2)
 
   module _ (index : BTreeMap ℕ Ids) (keyed : IsKeyed rows) (ordered : IsStrictlySortedBy nat_cmp (keys_of rows)) (indexed : IsIndexed index (values_of rows))
@@ -77,13 +77,13 @@ module _ (rows : List (ℕ × Activation)) (test : Activation → Bool) where
     pub asked_by_ids : (ids : Ids) → get nat_cmp index k ≡ Some ids → list_any asked_of (values_of ids.entries) ≡ list_any test (values_of rows)
     asked_by_ids ids had =
         same_test (list_any asked_of (values_of ids.entries)) (list_any test (values_of rows)) (by_numbers (values_of ids.entries))
-        (λ some. (let one = one_of test (values_of rows) some in
+        (λ some. (let one = some_in test (values_of rows) some in
         of_ids ids one.0 one.1 one.2
         (subst (λ o. In one.0.number (elim o [ None ↦ [] | Some found ↦ numbers_in found one.0.oid ])) had (is_there one.0 one.1 one.2))))
 
     pub asked_of_none : get nat_cmp index k ≡ None → false ≡ list_any test (values_of rows)
     asked_of_none none =
         sym (false_from_ne_true (list_any test (values_of rows))
-        (λ some. (let one = one_of test (values_of rows) some in
+        (λ some. (let one = some_in test (values_of rows) some in
         let among : In one.0.number [] = subst (λ o. In one.0.number (elim o [ None ↦ [] | Some ids ↦ numbers_in ids one.0.oid ])) none
         (is_there one.0 one.1 one.2) in absurd among)))

@@ -18,7 +18,7 @@ use Rattle.poa_history.specs.Changes.{at_number, changed, is_elsewhere, standing
 use Rattle.history_standing.specs.Ends.{is_left, is_over, let_out, settled}
 use Rattle.history_standing.specs.Stages.{stage}
 use Rattle.history_standing.specs.Standings.{Standing}
-use Rattle.poa_history.proofs.GoneIs.{any_in as one_of}
+use Rattle.poa_history.proofs.GoneIs.{some_in as one_of}
 use Rattle.core_queries.specs.declared.standing.Standing.{Standing as Held}
 use Rattle.core_queries.specs.Kept.{StandsAfter}
 use Rattle.core_queries.specs.Seen.{seen}
