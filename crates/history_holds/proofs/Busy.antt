@@ -69,7 +69,10 @@ module _ (c : Config) (acts : List Activation) (k : ℕ) (oid : List ℕ) where
       → (elim o [ Some a ↦ Active a.number | None ↦ elim (find live_one acts) [ Some a ↦ Busy a.number | None ↦ Free ] ]) ≡ Busy n
       → (find active_one acts ≡ None) × ((a : Activation) × (find live_one acts ≡ Some a) × (a.number ≡ n))) [
         | Some a ↦ λ _ same. absurd (let e : Active a.number ≡ Busy n = same in cc)
-        | None ↦ λ none. (elim (find live_one acts) as (λ o. find live_one acts ≡ o → (elim o [ Some a ↦ Busy a.number | None ↦ Free ]) ≡ Busy n → (find active_one acts ≡ None) × ((a : Activation) × (find live_one acts ≡ Some a) × (a.number ≡ n))) [
+        | None ↦ λ none. (elim (find live_one acts) as (λ o. find live_one acts ≡ o → (elim o [
+          | Some a ↦ Busy a.number
+          | None ↦ Free
+        ]) ≡ Busy n → (find active_one acts ≡ None) × ((a : Activation) × (find live_one acts ≡ Some a) × (a.number ≡ n))) [
           | Some a ↦ λ found same. (none, (a, found, (let e : Busy a.number ≡ Busy n = same in cc)))
           | None ↦ λ _ same. absurd (let e : Free ≡ Busy n = same in cc)
         ] refl)
@@ -86,7 +89,10 @@ module _ (c : Config) (acts : List Activation) (k : ℕ) (oid : List ℕ) where
       → (elim o [ Some a ↦ Active a.number | None ↦ elim (find live_one acts) [ Some a ↦ Busy a.number | None ↦ Free ] ]) ≡ Active n → (a : Activation)
       × (find active_one acts ≡ Some a)) [
         | Some a ↦ λ found _. (a, found)
-        | None ↦ λ none. (elim (find live_one acts) as (λ o. (elim o [ Some a ↦ Busy a.number | None ↦ Free ]) ≡ Active n → (a : Activation) × (find active_one acts ≡ Some a)) [
+        | None ↦ λ none. (elim (find live_one acts) as (λ o. (elim o [
+          | Some a ↦ Busy a.number
+          | None ↦ Free
+        ]) ≡ Active n → (a : Activation) × (find active_one acts ≡ Some a)) [
           | Some a ↦ λ same. absurd (let e : Busy a.number ≡ Active n = same in cc)
           | None ↦ λ same. absurd (let e : Free ≡ Active n = same in cc)
         ])
@@ -166,8 +172,10 @@ module _ (c : Config) (run limit : ℕ) (past : List Entry) (e : Entry) (given :
       (still : is_at a.number moved ≡ false) where
     complete_before : is_complete b ≡ true → is_complete a ≡ true
     complete_before complete =
-        elim step.came
-        [ inl kept ↦ ap complete_phase (sym kept) ∙ complete | inr came ↦ freed_never a.number moved still (brings_moves c run past manned sound limit e legal.0 few a.number b.phase came.1) ]
+        elim step.came [
+          | inl kept ↦ ap complete_phase (sym kept) ∙ complete
+          | inr came ↦ freed_never a.number moved still (brings_moves c run past manned sound limit e legal.0 few a.number b.phase came.1)
+        ]
 
     -- without an activator it goes once nothing is in flight in it, which the entry then frees
     by_leaves : Leaves c run past s e b → ⊥

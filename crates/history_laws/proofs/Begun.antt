@@ -121,8 +121,12 @@ module _ (c : Config) (run limit : ℕ) (given : IsGiven c run) (alone : IsGiven
   begun_worked (e ∷ past) legal b there phase =
       elim (activation_from c run past e b there) [
         | activation_begun fresh ↦ elim fresh.how [
-          | incarnating w r n key is has adapter path oid at ↦
-              (w, r, ap (λ z. stage (z ∷ past) w) is ∙ (own w (Incarnating r n) (stage past w) ∙ ap (λ m. Incarnating r m) (next_number past e legal w r n is ∙ sym fresh.number)))
+          | incarnating w r n key is has adapter path oid at ↦ (
+            w,
+            r,
+            ap (λ z. stage (z ∷ past) w) is
+                ∙ (own w (Incarnating r n) (stage past w) ∙ ap (λ m. Incarnating r m) (next_number past e legal w r n is ∙ sym fresh.number)),
+          )
           | activating p servant done adapter path oid at ↦ absurd (servant_phase c servant (sym at ∙ phase))
           | activating_id p oid servant done adapter path of_id at ↦ absurd (servant_phase c servant (sym at ∙ phase))
           | referring p servant n k done lives known implicit adapter path oid at ↦ absurd (servant_phase c servant (sym at ∙ phase))
@@ -159,8 +163,11 @@ module _ (c : Config) (run limit : ℕ) (given : IsGiven c run) (alone : IsGiven
                 | inl leaves ↦ absurd (true≢false (sym activator ∙ leaves.0))
                 | inr takes ↦ (let it = takeout_is c run past takes.0 a.number takes.1 (subst (λ x. MayFollow c run limit past x) takes.2 legal.0) in
                     let same : it.it ≡ a = (legal_sound c run limit past given within legal.1).activation_alone it.it a it.there was it.numbered in
-                    let tells : takes.1 ≡ true = sym it.told ∙ ap not (ap (λ x. x.quiet) same ∙ loud') in
-                    (takes.0, ap (λ z. stage (z ∷ past) takes.0) (takes.2 ∙ ap (λ x. TakeOut takes.0 a.number x) tells) ∙ (own takes.0 (Removing a.number) (stage past takes.0) ∙ ap (λ m. Removing m) (sym step.later.number))))
+                    let tells : takes.1 ≡ true = sym it.told ∙ ap not (ap (λ x. x.quiet) same ∙ loud') in (
+                      takes.0,
+                      ap (λ z. stage (z ∷ past) takes.0) (takes.2 ∙ ap (λ x. TakeOut takes.0 a.number x) tells)
+                          ∙ (own takes.0 (Removing a.number) (stage past takes.0) ∙ ap (λ m. Removing m) (sym step.later.number)),
+                    ))
               ]
             ])
       ]

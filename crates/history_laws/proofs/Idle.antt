@@ -243,5 +243,10 @@ module _ (c : Config) (run limit : ℕ) (given : IsGiven c run) (alone : IsGiven
 
   pub dying_gone : (n : Node) → In n s.nodes → n.dying ≡ true → (is_root n.path ≡ true) × (is_gone c s n.number ≡ true)
   dying_gone n there dying =
-      let gone = gone_done c run s sound n there ∙ dying_done n there dying in
-      (elim (cases_Bool (is_root n.path)) [ inl root ↦ root | inr below ↦ absurd (true≢false (sym gone ∙ stands_ungone c run limit h given within legal n there below)) ], gone)
+      let gone = gone_done c run s sound n there ∙ dying_done n there dying in (
+        elim (cases_Bool (is_root n.path)) [
+          | inl root ↦ root
+          | inr below ↦ absurd (true≢false (sym gone ∙ stands_ungone c run limit h given within legal n there below))
+        ],
+        gone,
+      )

@@ -78,8 +78,12 @@ module _ (c : Config) (p : List (List ℕ)) (oid : List ℕ) (kind : Kind) (brin
   pub brought_fresh : (s : Standing) (a : Activation) → a.path ≡ p → a.oid ≡ oid → brought c s a ≡ Fresh a.number
   brought_fresh s a on_path on_oid =
       ap (brought_by c s a) (rule_of a on_path on_oid)
-      ∙ ap (λ g. elim g as (λ _. Incarnation)
-      [ FreshKind k ↦ Fresh a.number | Servant k ↦ named_or_double c s a k | GivesForward endpoint ↦ ForwardTo endpoint | GivesRaise exception ↦ Raise exception ]) brings_.fresh
+      ∙ ap (λ g. elim g as (λ _. Incarnation) [
+        | FreshKind k ↦ Fresh a.number
+        | Servant k ↦ named_or_double c s a k
+        | GivesForward endpoint ↦ ForwardTo endpoint
+        | GivesRaise exception ↦ Raise exception
+      ]) brings_.fresh
 
   pub kind_is : (a : Activation) → a.path ≡ p → a.oid ≡ oid → kind_brought c a ≡ kind
   kind_is a on_path on_oid =

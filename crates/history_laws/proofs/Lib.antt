@@ -2,7 +2,6 @@ pub mod Workers
 mod Begun
 mod Dying
 mod Told
-mod Flown
 mod HeldRows
 mod Idle
 mod CommandsGo

@@ -109,8 +109,12 @@ module _ (c : Config) (run limit : ℕ) (given : IsGiven c run) (alone : IsGiven
           ]
 
       by_gives : (g : Gives)
-          → (elim g as (λ _. Incarnation)
-          [ FreshKind k ↦ Fresh a.number | Servant k ↦ named_or_double c s a k | GivesForward endpoint ↦ ForwardTo endpoint | GivesRaise exception ↦ Raise exception ]) ≡ Fresh m → m ≡ a.number
+          → (elim g as (λ _. Incarnation) [
+            | FreshKind k ↦ Fresh a.number
+            | Servant k ↦ named_or_double c s a k
+            | GivesForward endpoint ↦ ForwardTo endpoint
+            | GivesRaise exception ↦ Raise exception
+          ]) ≡ Fresh m → m ≡ a.number
       by_gives (FreshKind k) same = (let f : Fresh a.number ≡ Fresh m = same in cc)
       by_gives (Servant k) same = by_named k same
       by_gives (GivesForward endpoint) same = (let f : ForwardTo endpoint ≡ Fresh m = same in cc)

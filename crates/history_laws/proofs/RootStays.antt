@@ -46,8 +46,13 @@ module _ (c : Config) (run : ℕ) where
   reference_nodes : (s : Standing) (p : List (List ℕ)) (servant : List ℕ) → NodesThen s (with_reference c run p servant s)
   reference_nodes s p servant =
       elim (live_at s p) as (λ o. NodesThen s
-      (elim o as (λ _. Standing)
-      [ Some n ↦ (elim (servant_number c servant) as (λ _. Standing) [ Some k ↦ (if is_implicit c s n k then with_made_activation c run p servant s else s) | None ↦ s ]) | None ↦ s ])) [
+      (elim o as (λ _. Standing) [
+        | Some n ↦ (elim (servant_number c servant) as (λ _. Standing) [
+          | Some k ↦ (if is_implicit c s n k then with_made_activation c run p servant s else s)
+          | None ↦ s
+        ])
+        | None ↦ s
+      ])) [
         | Some n ↦ elim (servant_number c servant) as (λ o. NodesThen s (elim o as (λ _. Standing) [
           | Some k ↦
               (if is_implicit c s n k then with_made_activation c run p servant s else s)

@@ -1,7 +1,6 @@
 -- Nothing stays undone.
 use Rattle.history_laws.proofs.Begun.{begun_worked, removal_worked}
 use Rattle.history_laws.proofs.CommandsGo.{commands_go}
-use Rattle.history_laws.proofs.Flown.{is_trying, trial_is_tried}
 use Rattle.history_laws.proofs.HeldRows.{IsFreed, held_rows, is_busy_slot, is_held}
 use Rattle.history_laws.proofs.Idle.{all_landed, dying_gone, ending_finished, living_active, mapped_none, none_admitted, none_changing}
 use Rattle.history_laws.proofs.Workers.{below_sixteen}
@@ -21,7 +20,7 @@ use Rattle.history_standing.specs.Arrivals.{arrivals, call_of, is_message}
 use Rattle.poa_history.specs.Bounds.{IsWithinLimits}
 use Rattle.poa_history.specs.Changes.{standing}
 use Rattle.history_standing.specs.Ends.{is_over}
-use Rattle.poa_history.specs.InFlight.{Holds, IsFlying, IsManned}
+use Rattle.poa_history.specs.InFlight.{Holds, IsFlying, IsManned, IsRunning, named}
 use Rattle.history_standing.specs.Keys.{key_in}
 use Rattle.poa_history.specs.Legal.{IsLegal}
 use Rattle.poa_history.specs.Situations.{facts_of, key_or_none, slot_of}
@@ -37,7 +36,7 @@ use Rattle.poa_tree.specs.Trees.{In}
 use Rattle.poa_tree.specs.Walks.{adapter_met, child_met, walk}
 use Rattle.std.proofs.Common.{◌∙◌, ap, ap₂, arith, inl, inr, subst, sym}
 use Rattle.std.proofs.lemmas.Bool.{and_parts, cases_Bool, eq-eqb, ltb-false, ltb-true, true≢false}
-use Rattle.std.specs.Prelude.{◌&&◌, ◌<◌, ◌==◌, ◌∷◌, ◌≡◌, List, None, Option, Some, [], false, find, if◌then◌else◌, is_some, nat_lt, not, option_map, refl, true, ℕ}
+use Rattle.std.specs.Prelude.{◌&&◌, ◌<◌, ◌==◌, ◌∷◌, ◌≡◌, Bool, List, None, Option, Some, [], false, find, if◌then◌else◌, is_some, nat_lt, not, option_map, refl, true, ℕ}
 use Rattle.history_standing.proofs.Tests.{not_true}
 
 -- each arrival has a call
@@ -77,15 +76,20 @@ module _ (c : Config) (run limit : ℕ) (given : IsGiven c run) (alone : IsGiven
   at_flight : (f : Flight) → In f s.flights → (w : ℕ) → arrival_in (stage h w) ≡ Some f.arrival → IsAtFlight f (stage h w)
   at_flight f there w at = by_stage (stage h w) refl
     where
-      flight_is : (r : ℕ) (activation : Option ℕ) → r ≡ f.arrival → IsFlying s r activation → f.activation ≡ activation
-      flight_is r activation same (g, g_in, g_at, g_of) = ap (λ x. x.activation) (manned_.flight_alone f g there g_in (sym same ∙ sym g_at)) ∙ g_of
+      -- what a worker has in hand is what is in flight
+      flight_is : (r : ℕ) (activation : Option ℕ) (trial : Bool) → r ≡ f.arrival → IsFlying s r activation trial
+          → (f.activation ≡ activation) × (is_some f.child ≡ trial)
+      flight_is r activation trial same (g, g_in, g_at, g_of, g_tried) =
+          (let alone_ = manned_.flight_alone f g there g_in (sym same ∙ sym g_at) in
+          (ap (λ x. x.activation) alone_ ∙ g_of, ap (λ x. is_some x.child) alone_ ∙ g_tried))
 
-      childless : (b : Stage) → stage h w ≡ b → is_trying b ≡ false → f.child ≡ None
-      childless b was none = none_is f.child (sym (trial_is_tried c run limit given alone within h legal f w there at) ∙ (ap is_trying was ∙ none))
-        where
-          none_is : (o : Option (List (List ℕ))) → is_some o ≡ false → o ≡ None
-          none_is None is = refl
-          none_is (Some p) is = absurd (let e : true ≡ false = is in cc)
+      none_is : (o : Option (List (List ℕ))) → is_some o ≡ false → o ≡ None
+      none_is None is = refl
+      none_is (Some p) is = absurd (let e : true ≡ false = is in cc)
+
+      -- no trial where a request runs
+      childless : (r : ℕ) → r ≡ f.arrival → IsRunning h s r → f.child ≡ None
+      childless r same running = none_is f.child (flight_is r (named (Some running.verdict)) false same running.flying).1
 
       arrival_is : (b : Stage) (r : ℕ) → stage h w ≡ b → arrival_in b ≡ Some r → r ≡ f.arrival
       arrival_is b r was has = (let e : Some r ≡ Some f.arrival = sym has ∙ (sym (ap arrival_in was) ∙ at) in cc)
@@ -93,14 +97,18 @@ module _ (c : Config) (run limit : ℕ) (given : IsGiven c run) (alone : IsGiven
       by_stage : (b : Stage) → stage h w ≡ b → IsAtFlight f (stage h w)
       by_stage Free was = absurd (let e : None ≡ Some f.arrival = sym (ap arrival_in was) ∙ at in cc)
       by_stage (Trying r) was =
-          subst (IsAtFlight f) (sym was)
-          (arrival_is (Trying r) r was refl, sym (trial_is_tried c run limit given alone within h legal f w there at) ∙ ap is_trying was)
+          (let holds : Holds h s (Trying r) = subst (Holds h s) was (manned_.stages w) in
+          let same = arrival_is (Trying r) r was refl in subst (IsAtFlight f) (sym was) (same, (flight_is r None true same holds.1).1))
       by_stage (Incarnating r n) was =
           (let holds : Holds h s (Incarnating r n) = subst (Holds h s) was (manned_.stages w) in
           let same = arrival_is (Incarnating r n) r was refl in
-          subst (IsAtFlight f) (sym was) (same, flight_is r (Some n) same holds.1, childless (Incarnating r n) was refl))
-      by_stage (Serving r) was = subst (IsAtFlight f) (sym was) (arrival_is (Serving r) r was refl, childless (Serving r) was refl)
-      by_stage (Ran r) was = subst (IsAtFlight f) (sym was) (arrival_is (Ran r) r was refl, childless (Ran r) was refl)
+          let flight = flight_is r (Some n) false same holds.1 in subst (IsAtFlight f) (sym was) (same, flight.0, none_is f.child flight.1))
+      by_stage (Serving r) was =
+          (let holds : IsRunning h s r = subst (Holds h s) was (manned_.stages w) in
+          let same = arrival_is (Serving r) r was refl in subst (IsAtFlight f) (sym was) (same, childless r same holds))
+      by_stage (Ran r) was =
+          (let holds : IsRunning h s r = subst (Holds h s) was (manned_.stages w) in
+          let same = arrival_is (Ran r) r was refl in subst (IsAtFlight f) (sym was) (same, childless r same holds))
       by_stage (Removing n) was = absurd (let e : None ≡ Some f.arrival = sym (ap arrival_in was) ∙ at in cc)
 
   at_arrival : (f : Flight) (b : Stage) → IsAtFlight f b → arrival_in b ≡ Some f.arrival
@@ -147,7 +155,10 @@ module _ (c : Config) (run limit : ℕ) (given : IsGiven c run) (alone : IsGiven
               elim (find (λ a. is_of k oid a && not (is_over c a)) s.activations) [ Some a ↦ Busy a.number | None ↦ FreeSlot ]
         ]) ≡ false) [
           | Some a ↦ λ _. refl
-          | None ↦ λ none. elim (find (λ a. is_of k oid a && not (is_over c a)) s.activations) as (λ o. find (λ a. is_of k oid a && not (is_over c a)) s.activations ≡ o → is_busy_slot (elim o [ Some a ↦ Busy a.number | None ↦ FreeSlot ]) ≡ false) [
+          | None ↦ λ none. elim (find (λ a. is_of k oid a && not (is_over c a)) s.activations) as (λ o. find (λ a. is_of k oid a && not (is_over c a)) s.activations ≡ o → is_busy_slot (elim o [
+            | Some a ↦ Busy a.number
+            | None ↦ FreeSlot
+          ]) ≡ false) [
             | None ↦ λ _. refl
             | Some a ↦ λ found. (let there = find_in (λ x. is_of k oid x && not (is_over c x)) a s.activations found in
                 let parts = and_parts (is_of k oid a) (not (is_over c a)) there.1 in

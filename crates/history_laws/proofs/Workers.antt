@@ -22,8 +22,10 @@ own_or_other e w =
     elim (maker e) as (λ o. (o ≡ Some w) ⊎ (o ≡ Some w → ⊥)) [
       | None ↦ inr (λ none. cc)
       | Some v ↦
-          elim (cases_Bool (v == w))
-          [ inl same ↦ inl (ap (λ x. Some x) (eqb-true v w same)) | inr differ ↦ inr (λ is. (let is' : Some v ≡ Some w = is in let f : v ≡ w = cc in true≢false (sym (eq-eqb v w f) ∙ differ))) ]
+          elim (cases_Bool (v == w)) [
+            | inl same ↦ inl (ap (λ x. Some x) (eqb-true v w same))
+            | inr differ ↦ inr (λ is. (let is' : Some v ≡ Some w = is in let f : v ≡ w = cc in true≢false (sym (eq-eqb v w f) ∙ differ)))
+          ]
     ]
 
 module _ (c : Config) (run limit : ℕ) where

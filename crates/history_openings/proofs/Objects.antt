@@ -83,8 +83,19 @@ module _ (c : Config) (run : ℕ) (rules : KeepsRules c) where
 
     module _ (oid : List ℕ) (named : (o.oid ≡ Some oid) ⊎ (makes_ids (policies_at c o.adapter) ≡ true)) where
       abbrev begun : Activation
-      begun = record
-          { number = length s.activations; adapter = number_at s o.adapter; path = o.adapter; oid = oid; phase = Complete (Named o.servant); ending = false; quiet = false; out = false; cleanup = false; remaining = false; etherealized = false }
+      begun = record {
+        number = length s.activations;
+        adapter = number_at s o.adapter;
+        path = o.adapter;
+        oid = oid;
+        phase = Complete (Named o.servant);
+        ending = false;
+        quiet = false;
+        out = false;
+        cleanup = false;
+        remaining = false;
+        etherealized = false;
+      }
 
       begun_home : IsHome s.nodes begun
       begun_home = record { node = home.0; stands = home.1; numbered = home_number; placed = home.2 }
@@ -168,8 +179,10 @@ module _ (c : Config) (run : ℕ) (rules : KeepsRules c) where
       → IsObject c.adapters (length c.servants) done o → IsOpen (done ++ o ∷ []) more (with_object run o s)
   object_opens small_run done o more s (sound, active, room) rule =
       elim o.oid as (λ oid. o.oid ≡ oid → IsOpen (done ++ o ∷ []) more
-      (elim oid
-      [ Some i ↦ with_activation (number_at s o.adapter) o.adapter i (Complete (Named o.servant)) s | None ↦ with_activation (number_at s o.adapter) o.adapter (made_id run (suc s.made)) (Complete (Named o.servant)) (with_made s) ])) [
+      (elim oid [
+        | Some i ↦ with_activation (number_at s o.adapter) o.adapter i (Complete (Named o.servant)) s
+        | None ↦ with_activation (number_at s o.adapter) o.adapter (made_id run (suc s.made)) (Complete (Named o.servant)) (with_made s)
+      ])) [
         | Some i ↦ λ has. (
           with_activation_sound c run s sound (number_at s o.adapter) o.adapter i (Complete (Named o.servant)) (may_live done o s sound active rule i has),
           begun_active done o s sound active rule i (inl has),

@@ -128,8 +128,12 @@ module _ (c : Config) (run : ℕ) (past : List Entry) (s : Standing) (e : Entry)
           let parts =
           and_parts (not (has_activator c b.path)) (is_complete b && (is_ending b && not (is_used (changed c run past e s).flights b.number))) left in
           let ends = and_parts (is_complete b) (is_ending b && not (is_used (changed c run past e s).flights b.number)) parts.1 in
-          let unused = and_parts (is_ending b) (not (is_used (changed c run past e s).flights b.number)) ends.1 in
-          (not_true (has_activator c b.path) parts.0, (and_parts b.ending (not (is_void b)) unused.0).0, not_true (is_used (changed c run past e s).flights b.number) unused.1, ends.0)
+          let unused = and_parts (is_ending b) (not (is_used (changed c run past e s).flights b.number)) ends.1 in (
+            not_true (has_activator c b.path) parts.0,
+            (and_parts b.ending (not (is_void b)) unused.0).0,
+            not_true (is_used (changed c run past e s).flights b.number) unused.1,
+            ends.0,
+          )
 
   -- how the entry begins an activation
   pub data BegunBy (b : Activation) : Type 0 where
@@ -220,7 +224,10 @@ module _ (c : Config) (run : ℕ) (past : List Entry) (s : Standing) (e : Entry)
             (elim (servant_number c servant) [ Some k ↦ (if is_implicit c s n k then with_made_activation c run p servant s else s) | None ↦ s ])
         | None ↦ s
       ])) → ActivationFrom b) [
-        | Some n ↦ λ lives. elim (servant_number c servant) as (λ o. servant_number c servant ≡ o → In b (activations_in (elim o [ Some k ↦ (if is_implicit c s n k then with_made_activation c run p servant s else s) | None ↦ s ])) → ActivationFrom b) [
+        | Some n ↦ λ lives. elim (servant_number c servant) as (λ o. servant_number c servant ≡ o → In b (activations_in (elim o [
+          | Some k ↦ (if is_implicit c s n k then with_made_activation c run p servant s else s)
+          | None ↦ s
+        ])) → ActivationFrom b) [
           | Some k ↦ λ known. cond_both (is_implicit c s n k) (with_made_activation c run p servant s) s (λ t. In b t.activations → ActivationFrom b)
               (λ implicit. made_from p servant (λ x at placed of_id phase. referring p servant n k done lives known implicit at placed of_id phase) b)
               (λ _. as_before b)

@@ -189,8 +189,23 @@ module _ (c : Config) where
   mapped_later s f kept a is = (f a, image_in f a s.activations is, kept a)
 
   begun_later : (s : Standing) (k : ℕ) (p : List (List ℕ)) (oid : List ℕ) (phase : Phase) → AllLater c s (with_activation k p oid phase s)
-  begun_later s k p oid phase a is =
-      (a, in_front a (record { number = length s.activations; adapter = k; path = p; oid = oid; phase = phase; ending = false; quiet = false; out = false; cleanup = false; remaining = false; etherealized = false }) s.activations is, later_self a)
+  begun_later s k p oid phase a is = (
+    a,
+    in_front a (record {
+      number = length s.activations;
+      adapter = k;
+      path = p;
+      oid = oid;
+      phase = phase;
+      ending = false;
+      quiet = false;
+      out = false;
+      cleanup = false;
+      remaining = false;
+      etherealized = false;
+    }) s.activations is,
+    later_self a,
+  )
 
   destroyed_later : (s : Standing) (p : List (List ℕ)) (etherealize : Bool) → AllLater c s (with_destroyed p etherealize s)
   destroyed_later s p etherealize =

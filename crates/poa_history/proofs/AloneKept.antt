@@ -119,8 +119,12 @@ brought_named c s a name is = by_rule (rule_for (rules_at c a.path) a.oid) is
     by_double k false at same = by_name k at (servant_name c k) refl same
 
     by_gives : (g : Gives)
-        → (elim g
-        [ FreshKind kind ↦ Fresh a.number | Servant k ↦ named_or_double c s a k | ForwardRule endpoint ↦ ForwardTo endpoint | RaiseRule exception ↦ Raise exception ]) ≡ Named name → (j : ℕ) × ((is_unique (policies_at c a.path) && is_in_map s.activations a.adapter (NamedServant j)) ≡ false) × (servant_name c j ≡ Some name)
+        → (elim g [
+          | FreshKind kind ↦ Fresh a.number
+          | Servant k ↦ named_or_double c s a k
+          | ForwardRule endpoint ↦ ForwardTo endpoint
+          | RaiseRule exception ↦ Raise exception
+        ]) ≡ Named name → (j : ℕ) × ((is_unique (policies_at c a.path) && is_in_map s.activations a.adapter (NamedServant j)) ≡ false) × (servant_name c j ≡ Some name)
     by_gives (FreshKind kind) same = absurd (let e : Fresh a.number ≡ Named name = same in cc)
     by_gives (Servant k) same = by_double k (is_unique (policies_at c a.path) && is_in_map s.activations a.adapter (NamedServant k)) refl same
     by_gives (ForwardRule endpoint) same = absurd (let e : ForwardTo endpoint ≡ Named name = same in cc)
@@ -486,14 +490,18 @@ module _ (c : Config) (run : ℕ) where
         cleanup = false;
         remaining = false;
         etherealized = false;
-      }) s.activations there)
-      [ inl was ↦ all a was | inr made ↦ (ap (λ x. x.out) made, (j, ap (λ x. x.phase) made), ap (λ x. x.etherealized) made, ap (λ x. x.ending) made, ap (λ x. x.quiet) made) ]
+      }) s.activations there) [
+        | inl was ↦ all a was
+        | inr made ↦ (ap (λ x. x.out) made, (j, ap (λ x. x.phase) made), ap (λ x. x.etherealized) made, ap (λ x. x.ending) made, ap (λ x. x.quiet) made)
+      ]
 
   object_opens : (o : ObjectConf) (s : Standing) → AllOpen s → AllOpen (with_object run o s)
   object_opens o s all =
       elim o.oid as (λ oid. AllOpen
-      (elim oid
-      [ Some i ↦ with_activation (number_at s o.adapter) o.adapter i (Complete (NamedServant o.servant)) s | None ↦ with_activation (number_at s o.adapter) o.adapter (made_id run (suc s.made)) (Complete (NamedServant o.servant)) (with_made s) ])) [
+      (elim oid [
+        | Some i ↦ with_activation (number_at s o.adapter) o.adapter i (Complete (NamedServant o.servant)) s
+        | None ↦ with_activation (number_at s o.adapter) o.adapter (made_id run (suc s.made)) (Complete (NamedServant o.servant)) (with_made s)
+      ])) [
         | Some i ↦ activation_opens (number_at s o.adapter) o.adapter i o.servant s all
         | None ↦ activation_opens (number_at s o.adapter) o.adapter (made_id run (suc s.made)) o.servant (with_made s) all
       ]

@@ -215,9 +215,14 @@ module _ (c : Config) (run : ℕ) (s : Standing) (sound : IsSound c run s) where
   with_reference_sound p servant may =
       elim (live_at s p) as (λ found. live_at s p ≡ found
       → IsSound c run
-      (elim found
-      [ Some n ↦ (elim (servant_number c servant) [ Some k ↦ (if is_implicit c s n k then with_made_activation c run p servant s else s) | None ↦ s ]) | None ↦ s ])) [
-        | Some n ↦ λ lives. elim (servant_number c servant) as (λ number. servant_number c servant ≡ number → IsSound c run (elim number [ Some k ↦ (if is_implicit c s n k then with_made_activation c run p servant s else s) | None ↦ s ])) [
+      (elim found [
+        | Some n ↦ (elim (servant_number c servant) [ Some k ↦ (if is_implicit c s n k then with_made_activation c run p servant s else s) | None ↦ s ])
+        | None ↦ s
+      ])) [
+        | Some n ↦ λ lives. elim (servant_number c servant) as (λ number. servant_number c servant ≡ number → IsSound c run (elim number [
+          | Some k ↦ (if is_implicit c s n k then with_made_activation c run p servant s else s)
+          | None ↦ s
+        ])) [
           | Some k ↦
               λ known. cond_both (is_implicit c s n k) (with_made_activation c run p servant s) s (λ t. IsSound c run t)
               (λ implicit. with_made_activation_sound p servant (may n k lives known implicit)) (λ _. sound)

@@ -93,8 +93,10 @@ module _ (c : Config) (run : ℕ) (s : Standing) (sound : IsSound c run s) where
   may_create (x ∷ p) v is accepted =
       let (n, lives, done) =
       lived s (parent_path (x ∷ p))
-      (λ n. if is_none (template c (x ∷ p)) then refusal NoTemplate else if is_tried s.flights (x ∷ p) then None else elim (node_at s.nodes (x ∷ p))
-      [ Some old ↦ (if old.dying then None else refusal AdapterAlreadyExists) | None ↦ (if nat_le 65536 s.count then refusal (TooMany s.count) else Some (Answer Good)) ]) v is accepted in
+      (λ n. if is_none (template c (x ∷ p)) then refusal NoTemplate else if is_tried s.flights (x ∷ p) then None else elim (node_at s.nodes (x ∷ p)) [
+        | Some old ↦ (if old.dying then None else refusal AdapterAlreadyExists)
+        | None ↦ (if nat_le 65536 s.count then refusal (TooMany s.count) else Some (Answer Good))
+      ]) v is accepted in
       let (stands, placed, living, found) = live_tells s (parent_path (x ∷ p)) n lives in
       cond_both (is_none (template c (x ∷ p))) _ _ (λ o. o ≡ Some v → MayCreate s.nodes (x ∷ p) × IsUntried c run s sound (x ∷ p))
       (λ _ no_. refused NoTemplate v no_ accepted)

@@ -60,8 +60,12 @@ module _ (c : Config) (run : ℕ) (past : List Entry) where
       × (command_verdict c run past s d ≡ Some v) × (is_accepted v ≡ true)
   done_verdict limit (Admit w r v) d may done =
       elim (cases_Bool (is_accepted v)) [
-        | inl accepted ↦
-            (v, by_line w r v (call_of past r) d (admitted_for c run past w r v may) (ap (λ b. if b then command_in (call_of past r) else None) (sym accepted) ∙ done), accepted)
+        | inl accepted ↦ (
+          v,
+          by_line w r v (call_of past r) d (admitted_for c run past w r v may) (ap (λ b. if b then command_in (call_of past r) else None) (sym accepted)
+              ∙ done),
+          accepted,
+        )
         | inr no_ ↦ absurd (let e : None ≡ Some d = ap (λ b. if b then command_in (call_of past r) else None) (sym no_) ∙ done in cc)
       ]
   done_verdict limit (Entered conn) d may done = absurd (let e : None ≡ Some d = done in cc)

@@ -40,8 +40,10 @@ module _ (c : Config) (run : ℕ) where
   object_nodes : (o : ObjectConf) (s : Standing) → (with_object run o s).nodes ≡ s.nodes
   object_nodes o s =
       elim o.oid as (λ oid. nodes_in
-      (elim oid
-      [ Some i ↦ with_activation (number_at s o.adapter) o.adapter i (Complete (NamedServant o.servant)) s | None ↦ with_activation (number_at s o.adapter) o.adapter (made_id run (suc s.made)) (Complete (NamedServant o.servant)) (with_made s) ]) ≡ s.nodes)
+      (elim oid [
+        | Some i ↦ with_activation (number_at s o.adapter) o.adapter i (Complete (NamedServant o.servant)) s
+        | None ↦ with_activation (number_at s o.adapter) o.adapter (made_id run (suc s.made)) (Complete (NamedServant o.servant)) (with_made s)
+      ]) ≡ s.nodes)
       [ Some i ↦ refl | None ↦ refl ]
 
   objects_nodes : (os : List ObjectConf) (s : Standing) → (with_objects run os s).nodes ≡ s.nodes

@@ -376,8 +376,11 @@ not_yet c run (e ∷ past) a above =
     let early : nat_lt a.number (length (standing c run past).activations) ≡ false =
     false_from_ne_true _ (λ is. let less = ltb-true a.number (length (standing c run past).activations) is in omega (arith, less, before)) in
     let unended : is_ended_by c run past e a ≡ false = ap (λ x. x && ends c (standing c run past) a (command_done past e)) early in
-    let rest = not_yet c run past a before in
-    (ap₂ (λ x y. x || y) unended rest.0, ap₂ (λ x y. if x then y else is_ended_by c run past e a && keeps_servants (command_done past e)) rest.0 rest.1 ∙ ap (λ x. x && keeps_servants (command_done past e)) unended)
+    let rest = not_yet c run past a before in (
+      ap₂ (λ x y. x || y) unended rest.0,
+      ap₂ (λ x y. if x then y else is_ended_by c run past e a && keeps_servants (command_done past e)) rest.0 rest.1
+          ∙ ap (λ x. x && keeps_servants (command_done past e)) unended,
+    )
 
 -- the flag and the sentence, one entry on
 quiet_step : (q n x w k : Bool) → w ≡ n → (n ≡ false → q ≡ false) → (q || (not n && (x && k))) ≡ (if w then q else x && k)
@@ -423,6 +426,9 @@ module _ (c : Config) (run limit : ℕ) (given : IsGiven c run) (within : IsWith
             (let early : nat_lt b.number (length (standing c run past).activations) ≡ false =
             false_from_ne_true _ (λ is. let less = ltb-true b.number (length (standing c run past).activations) is in omega (arith, less, number)) in
             let unended : is_ended_by c run past e b ≡ false = ap (λ x. x && ends c (standing c run past) b (command_done past e)) early in
-            let rest = not_yet c run past b (omega (arith, number)) in
-            (ending ∙ sym (ap₂ (λ x y. x || y) unended rest.0), quiet ∙ sym (ap₂ (λ x y. if x then y else is_ended_by c run past e b && keeps_servants (command_done past e)) rest.0 rest.1 ∙ ap (λ x. x && keeps_servants (command_done past e)) unended)))
+            let rest = not_yet c run past b (omega (arith, number)) in (
+              ending ∙ sym (ap₂ (λ x y. x || y) unended rest.0),
+              quiet ∙ sym (ap₂ (λ x y. if x then y else is_ended_by c run past e b && keeps_servants (command_done past e)) rest.0 rest.1
+                  ∙ ap (λ x. x && keeps_servants (command_done past e)) unended),
+            ))
       ]

@@ -8,7 +8,6 @@ use Rattle.std.proofs.Math.Seq.{append_snoc}
 use Rattle.poa_base.specs.declared.Config.{Config}
 use Rattle.poa_base.specs.declared.Entry.{Entry}
 use Rattle.poa_tree.specs.declared.node.Node.{Node}
-use Rattle.history_standing.specs.declared.activation.Activation.{Activation}
 use Rattle.poa_tree.specs.Paths.{same_bytes, leads_to, is_root}
 use Rattle.poa_tree.specs.Nodes.{stands_under}
 use Rattle.poa_tree.specs.Trees.{In}
@@ -219,8 +218,10 @@ module _ (c : Config) (run : ℕ) (s : Standing) (sound : IsSound c run s) where
 module _ (c : Config) (run : ℕ) where
   pub ends_where : (s : Standing) → IsSound c run s → (n : Node) → In n s.nodes → (is_gone c s n.number ≡ true → IsEnded c s n)
       × (IsEnded c s n → is_gone c s n.number ≡ true)
-  ends_where s sound n is =
-      (λ gone. ended_by c run s sound n is (sym (gone_done c run s sound n is) ∙ gone), λ ended. gone_done c run s sound n is ∙ gone_by c run s sound n is ended)
+  ends_where s sound n is = (
+    λ gone. ended_by c run s sound n is (sym (gone_done c run s sound n is) ∙ gone),
+    λ ended. gone_done c run s sound n is ∙ gone_by c run s sound n is ended,
+  )
 
 module _ (c : Config) (run limit : ℕ) where
   pub stands_ungone : (h : List Entry) → IsGiven c run → IsWithinLimits c limit → IsLegal c run limit h → (n : Node) → In n (standing c run h).nodes

@@ -370,8 +370,10 @@ module _ (c : Config) (run : ℕ) where
   made_object : (o : ObjectConf) (s : Standing) → (with_object run o s).made ≤ s.made + 1
   made_object o s =
       elim o.oid as (λ oid. made_in
-      (elim oid
-      [ Some i ↦ with_activation (number_at s o.adapter) o.adapter i (Complete (NamedServant o.servant)) s | None ↦ with_activation (number_at s o.adapter) o.adapter (made_id run (suc s.made)) (Complete (NamedServant o.servant)) (with_made s) ]) ≤ s.made + 1)
+      (elim oid [
+        | Some i ↦ with_activation (number_at s o.adapter) o.adapter i (Complete (NamedServant o.servant)) s
+        | None ↦ with_activation (number_at s o.adapter) o.adapter (made_id run (suc s.made)) (Complete (NamedServant o.servant)) (with_made s)
+      ]) ≤ s.made + 1)
       [ Some i ↦ no_more s.made | None ↦ omega arith ]
 
   made_objects : (os : List ObjectConf) (s : Standing) → (with_objects run os s).made ≤ s.made + length os
@@ -395,8 +397,10 @@ module _ (c : Config) (run limit : ℕ) where
       flights_object : (o : ObjectConf) (s : Standing) → (with_object run o s).flights ≡ s.flights
       flights_object o s =
           elim o.oid as (λ oid. flights_in
-          (elim oid
-          [ Some i ↦ with_activation (number_at s o.adapter) o.adapter i (Complete (NamedServant o.servant)) s | None ↦ with_activation (number_at s o.adapter) o.adapter (made_id run (suc s.made)) (Complete (NamedServant o.servant)) (with_made s) ]) ≡ s.flights)
+          (elim oid [
+            | Some i ↦ with_activation (number_at s o.adapter) o.adapter i (Complete (NamedServant o.servant)) s
+            | None ↦ with_activation (number_at s o.adapter) o.adapter (made_id run (suc s.made)) (Complete (NamedServant o.servant)) (with_made s)
+          ]) ≡ s.flights)
           [ Some i ↦ refl | None ↦ refl ]
 
       flights_objects : (os : List ObjectConf) (s : Standing) → (with_objects run os s).flights ≡ s.flights

@@ -51,13 +51,13 @@ use Rattle.history_standing.proofs.Tests.{not_true}
 
 -- what runs goes on, where its arrival stays admitted and in flight, and activations go on
 running_kept : (c : Config) (h g : List Entry) (s t : Standing) (r : ℕ) → admitted g r ≡ admitted h r
-    → ((activation : Option ℕ) → IsFlying s r activation → IsFlying t r activation)
+    → ((activation : Option ℕ) (trial : Bool) → IsFlying s r activation trial → IsFlying t r activation trial)
     → ((a : Activation) → In a s.activations → (b : Activation) × In b t.activations × IsLater c a b) → IsRunning h s r → IsRunning g t r
 running_kept c h g s t r same flies later it = record {
   verdict = it.verdict;
   by = same ∙ it.by;
   run = it.run;
-  flying = flies (named (Some it.verdict)) it.flying;
+  flying = flies (named (Some it.verdict)) false it.flying;
   served = λ n names. (let a = it.served n names in let b = later a.0 a.1 in (b.0, b.1, b.2.number ∙ a.2, (a.3.0, b.2.served a.3.0 a.3.1)));
 }
 
@@ -84,8 +84,16 @@ module _ (c : Config) (run limit : ℕ) (past : List Entry) (e : Entry) (may : M
   -- what an activation is when what has ended went
   settle_in : (a : Activation) → In a s1.activations → (b : Activation) × In b t.activations × (b.number ≡ a.number) × (b.adapter ≡ a.adapter)
       × (b.phase ≡ a.phase) × (b.quiet ≡ a.quiet) × (b.etherealized ≡ a.etherealized) × (a.out ≡ true → b.out ≡ true)
-  settle_in a there =
-      (let_out c s1 a, image_in (let_out c s1) a s1.activations there, kept (λ x. x.number) refl, kept (λ x. x.adapter) refl, kept (λ x. x.phase) refl, kept (λ x. x.quiet) refl, kept (λ x. x.etherealized) refl, (later_let_out c s1 a).out)
+  settle_in a there = (
+    let_out c s1 a,
+    image_in (let_out c s1) a s1.activations there,
+    kept (λ x. x.number) refl,
+    kept (λ x. x.adapter) refl,
+    kept (λ x. x.phase) refl,
+    kept (λ x. x.quiet) refl,
+    kept (λ x. x.etherealized) refl,
+    (later_let_out c s1 a).out,
+  )
     where
       kept : {B : Type 0} (f : Activation → B) → f (record a { out = true }) ≡ f a → f (let_out c s1 a) ≡ f a
       kept f same = cond_both (is_left c s1 a) (record a { out = true }) a (λ b. f b ≡ f a) (λ _. same) (λ _. refl)
@@ -101,19 +109,26 @@ module _ (c : Config) (run limit : ℕ) (past : List Entry) (e : Entry) (may : M
     same_admitted : (r : ℕ) → arrival_in (stage past w) ≡ Some r → admitted (e ∷ past) r ≡ admitted past r
     same_admitted r at = (let u = admitted_at w r at in admitted_other c run limit past e may w r other u.0 u.1 (λ v at'. at_alone w v r at at'))
 
-    still_flying : (r : ℕ) → arrival_in (stage past w) ≡ Some r → (activation : Option ℕ) → IsFlying s r activation → IsFlying t r activation
-    still_flying r at activation flying =
-        let (f, there, at_r, of_it) = flying in
-        (f, flight_kept c run past s e f there (λ v q makes at' is. other (makes ∙ ap (λ x. Some x) (at_alone w v r at (at' ∙ ap (λ x. Some x) (sym is ∙ at_r))))), at_r, of_it)
+    still_flying : (r : ℕ) → arrival_in (stage past w) ≡ Some r → (activation : Option ℕ) (trial : Bool) → IsFlying s r activation trial
+        → IsFlying t r activation trial
+    still_flying r at activation trial flying =
+        let (f, there, at_r, of_it, tried) = flying in (
+          f,
+          flight_kept c run past s e f there (λ v q makes at' is. other (makes
+              ∙ ap (λ x. Some x) (at_alone w v r at (at' ∙ ap (λ x. Some x) (sym is ∙ at_r))))),
+          at_r,
+          of_it,
+          tried,
+        )
 
     still_running : (r : ℕ) → arrival_in (stage past w) ≡ Some r → IsRunning past s r → IsRunning (e ∷ past) t r
     still_running r at it = running_kept c past (e ∷ past) s t r (same_admitted r at) (still_flying r at) later it
 
     other_holds : (b : Stage) → stage past w ≡ b → Holds past s b → Holds (e ∷ past) t b
     other_holds Free is holds = tt
-    other_holds (Trying r) is holds = (same_admitted r (ap arrival_in is) ∙ holds.0, still_flying r (ap arrival_in is) None holds.1)
+    other_holds (Trying r) is holds = (same_admitted r (ap arrival_in is) ∙ holds.0, still_flying r (ap arrival_in is) None true holds.1)
     other_holds (Incarnating r n) is holds =
-        (same_admitted r (ap arrival_in is) ∙ holds.0, still_flying r (ap arrival_in is) (Some n) holds.1, still_begun holds.2)
+        (same_admitted r (ap arrival_in is) ∙ holds.0, still_flying r (ap arrival_in is) (Some n) false holds.1, still_begun holds.2)
       where
         still_begun : ((a : Activation) × In a s.activations × (a.number ≡ n) × (a.phase ≡ Begun)) → (b : Activation) × In b t.activations × (b.number ≡ n)
             × (b.phase ≡ Begun)
@@ -200,8 +215,13 @@ module _ (c : Config) (run limit : ℕ) (past : List Entry) (e : Entry) (may : M
           verdict = Serve n;
           by = admitted_now r (Serve n) is;
           run = refl;
-          flying =
-              (record { arrival = r; adapter = adapter_met (walk s.nodes key.0.path); activation = Some n; child = None }, begun_flying r (Serve n) key.0 _ is refl key.1 refl, refl, refl);
+          flying = (
+            record { arrival = r; adapter = adapter_met (walk s.nodes key.0.path); activation = Some n; child = None },
+            begun_flying r (Serve n) key.0 _ is refl key.1 refl,
+            refl,
+            refl,
+            refl,
+          );
           served = λ m names. elim told.how [
             | active a there at of_id is_active' same ↦ (let f : Serve a.number ≡ Serve n = same in let g : a.number ≡ n = cc in
                 let nm : Some n ≡ Some m = names in let nm' : n ≡ m = cc in
@@ -221,8 +241,13 @@ module _ (c : Config) (run limit : ℕ) (past : List Entry) (e : Entry) (may : M
           verdict = Preset name;
           by = admitted_now r (Preset name) is';
           run = refl;
-          flying =
-              (record { arrival = r; adapter = adapter_met (walk s.nodes key.0.path); activation = None; child = None }, begun_flying r (Preset name) key.0 _ is' refl key.1 refl, refl, refl);
+          flying = (
+            record { arrival = r; adapter = adapter_met (walk s.nodes key.0.path); activation = None; child = None },
+            begun_flying r (Preset name) key.0 _ is' refl key.1 refl,
+            refl,
+            refl,
+            refl,
+          );
           served = λ m names. absurd (let f : None ≡ Some m = names in cc);
         }
     holds_other r u name (inr which) is =
@@ -232,8 +257,13 @@ module _ (c : Config) (run limit : ℕ) (past : List Entry) (e : Entry) (may : M
           verdict = Locator name;
           by = admitted_now r (Locator name) is';
           run = refl;
-          flying =
-              (record { arrival = r; adapter = adapter_met (walk s.nodes key.0.path); activation = None; child = None }, begun_flying r (Locator name) key.0 _ is' refl key.1 refl, refl, refl);
+          flying = (
+            record { arrival = r; adapter = adapter_met (walk s.nodes key.0.path); activation = None; child = None },
+            begun_flying r (Locator name) key.0 _ is' refl key.1 refl,
+            refl,
+            refl,
+            refl,
+          );
           served = λ m names. absurd (let f : None ≡ Some m = names in cc);
         }
 
@@ -285,6 +315,7 @@ module _ (c : Config) (run limit : ℕ) (past : List Entry) (e : Entry) (may : M
                 (Incarnate n) key.0 _ is refl key.1 refl,
             refl,
             ap (λ x. Some x) (sym next),
+            refl,
           ),
           (b.0, b.1, b.2 ∙ sym next, b.3),
         )
@@ -292,7 +323,7 @@ module _ (c : Config) (run limit : ℕ) (past : List Entry) (e : Entry) (may : M
     holds_try : (r : ℕ) → e ≡ Admit w r Try → Holds (e ∷ past) t (Trying r)
     holds_try r is =
         let key = keyed r Try is refl in
-        (admitted_now r Try is, (_, begun_flying r Try key.0 _ is refl key.1 refl, refl, refl))
+        (admitted_now r Try is, (_, begun_flying r Try key.0 _ is refl key.1 refl, refl, refl, refl))
 
     holds_admit : (r : ℕ) (u : Verdict) → e ≡ Admit w r u → Holds (e ∷ past) t (begun_by r u)
     holds_admit r (Serve n) is = holds_serve r n is
@@ -325,7 +356,7 @@ module _ (c : Config) (run limit : ℕ) (past : List Entry) (e : Entry) (may : M
         (cond_both (brings a) (Serving it.arrival) Free (λ b. Holds (e ∷ past) t b) (λ yes_. running it holds yes_) (λ _. tt))
       where
         running : (it : IsIncarnation c run past w a) → Holds past s (Incarnating it.arrival it.number) → brings a ≡ true → IsRunning (e ∷ past) t it.arrival
-        running it (by, (f, flying, at, of_it), (x, there, numbered, begins_)) yes_ =
+        running it (by, (f, flying, at, of_it, tried), (x, there, numbered, begins_)) yes_ =
             let phase = comes_complete a it yes_ in
             let y : Activation = at_number it.number (come_to (phase_by c it.number a)) x in
             let activations : s1.activations ≡ map (at_number it.number (come_to (phase_by c it.number a))) s.activations =
@@ -343,7 +374,7 @@ module _ (c : Config) (run limit : ℕ) (past : List Entry) (e : Entry) (may : M
               by = ap (λ z. admitted (z ∷ past) it.arrival) is ∙ by;
               run = refl;
               flying =
-                  (f, subst (λ fs. In f fs) (sym (ap (λ z. (changed c run past z s).flights) is ∙ brings_flights c s (stage past w) a yes_)) flying, at, of_it);
+                  (f, subst (λ fs. In f fs) (sym (ap (λ z. (changed c run past z s).flights) is ∙ brings_flights c s (stage past w) a yes_)) flying, at, of_it, tried);
               served = λ m names. (let f : Some it.number ≡ Some m = names in let g : it.number ≡ m = cc in
                   (b.0, b.1, b.2 ∙ (ap (λ z. z.number) y_is ∙ (numbered ∙ g)), (phase.0, b.4 ∙ (ap (λ z. z.phase) y_is ∙ phase.1))));
             }
@@ -353,7 +384,7 @@ module _ (c : Config) (run limit : ℕ) (past : List Entry) (e : Entry) (may : M
         let it = run_is c run past w (as_this (Run w) is) in
         subst (λ b. Holds (e ∷ past) t (ran b)) (sym it.1)
         (running_kept c past (e ∷ past) s t it.0 (ap (λ z. admitted (z ∷ past) it.0) is)
-        (λ activation flying. (flying.0, subst (λ fs. In flying.0 fs) (sym (ap (λ z. (changed c run past z s).flights) is)) flying.1, flying.2, flying.3)) later
+        (λ activation trial flying. (flying.0, subst (λ fs. In flying.0 fs) (sym (ap (λ z. (changed c run past z s).flights) is)) flying.1, flying.2, flying.3, flying.4)) later
         (subst (λ b. Holds past s b) it.1 (held_.stages w)))
 
     holds_takeout : (n : ℕ) → e ≡ TakeOut w n true → Holds (e ∷ past) t (Removing n)
@@ -513,8 +544,10 @@ module _ (c : Config) (run limit : ℕ) (past : List Entry) (e : Entry) (may : M
       elim (flight_from past s c run e f there) [
         | flew was ↦ (let w = held_.manned f was in
             elim (arrival_after c run limit past e may w.0 f.arrival w.1) [ inl still ↦ (w.0, still) | inr ended ↦ absurd (ended f there refl) ])
-        | begins w r v key is has for_ ↦ (let says = flight_says s r key v f for_ in
-            (w, ap (λ z. arrival_in (stage (z ∷ past) w)) is ∙ (ap arrival_in (own w (begun_by r v) (stage past w)) ∙ (says.2 ∙ ap (λ x. Some x) (sym says.0)))))
+        | begins w r v key is has for_ ↦ (let says = flight_says s r key v f for_ in (
+          w,
+          ap (λ z. arrival_in (stage (z ∷ past) w)) is ∙ (ap arrival_in (own w (begun_by r v) (stage past w)) ∙ (says.2 ∙ ap (λ x. Some x) (sym says.0))),
+        ))
       ]
 
   flights_alone : (f g : Flight) → In f t.flights → In g t.flights → f.arrival ≡ g.arrival → f ≡ g

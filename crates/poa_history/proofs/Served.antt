@@ -70,8 +70,10 @@ module _ (c : Config) (run : ℕ) (past : List Entry) (sound : IsSound c run (st
         × (is_active a ≡ true) × (a.number ≡ n)
     active_by n slot =
         elim (find (λ a. is_of met key.oid a && is_active a) s.activations) as (λ o. find (λ a. is_of met key.oid a && is_active a) s.activations ≡ o
-        → (elim o
-        [ Some a ↦ ActiveAs a.number | None ↦ elim (find (λ a. is_of met key.oid a && not (is_over c a)) s.activations) [ Some a ↦ Busy a.number | None ↦ Free ] ]) ≡ ActiveAs n → (a : Activation) × In a s.activations × (is_of met key.oid a ≡ true) × (is_active a ≡ true) × (a.number ≡ n)) [
+        → (elim o [
+          | Some a ↦ ActiveAs a.number
+          | None ↦ elim (find (λ a. is_of met key.oid a && not (is_over c a)) s.activations) [ Some a ↦ Busy a.number | None ↦ Free ]
+        ]) ≡ ActiveAs n → (a : Activation) × In a s.activations × (is_of met key.oid a ≡ true) × (is_active a ≡ true) × (a.number ≡ n)) [
           | Some a ↦ λ found same.
               (let there = find_in (λ b. is_of met key.oid b && is_active b) a s.activations found in
               let parts = and_parts (is_of met key.oid a) (is_active a) there.1 in

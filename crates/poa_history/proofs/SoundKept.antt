@@ -161,8 +161,19 @@ module _ (c : Config) (run : ℕ) (s : Standing) (sound : IsSound c run s) where
 
   module _ (k : ℕ) (p : List (List ℕ)) (oid : List ℕ) (phase : Phase) (may : MayLive k p oid) where
     abbrev begun : Activation
-    begun = record
-        { number = length s.activations; adapter = k; path = p; oid = oid; phase = phase; ending = false; quiet = false; out = false; cleanup = false; remaining = false; etherealized = false }
+    begun = record {
+      number = length s.activations;
+      adapter = k;
+      path = p;
+      oid = oid;
+      phase = phase;
+      ending = false;
+      quiet = false;
+      out = false;
+      cleanup = false;
+      remaining = false;
+      etherealized = false;
+    }
 
     one_longer : length (s.activations ++ begun ∷ []) ≡ suc (length s.activations)
     one_longer = (let e = length-append s.activations (begun ∷ []) in omega arith)

@@ -165,10 +165,14 @@ module _ (c : Config) (run : ℕ) (past : List Entry) (sound : IsSound c run (st
         → MayDo c run (standing c run past) sound command
     done_by limit (Admit w r v) command may done =
         by_line w r v (call_of past r) command (admitted_for c run past w r v may)
-        (elim (cases_Bool (is_accepted v))
-        [ inl accepted ↦ accepted | inr no_ ↦ absurd (let e : None ≡ Some command = ap (λ b. if b then command_in (call_of past r) else None) (sym no_) ∙ done in cc) ])
-        (elim (cases_Bool (is_accepted v))
-        [ inl accepted ↦ ap (λ b. if b then command_in (call_of past r) else None) (sym accepted) ∙ done | inr no_ ↦ absurd (let e : None ≡ Some command = ap (λ b. if b then command_in (call_of past r) else None) (sym no_) ∙ done in cc) ])
+        (elim (cases_Bool (is_accepted v)) [
+          | inl accepted ↦ accepted
+          | inr no_ ↦ absurd (let e : None ≡ Some command = ap (λ b. if b then command_in (call_of past r) else None) (sym no_) ∙ done in cc)
+        ])
+        (elim (cases_Bool (is_accepted v)) [
+          | inl accepted ↦ ap (λ b. if b then command_in (call_of past r) else None) (sym accepted) ∙ done
+          | inr no_ ↦ absurd (let e : None ≡ Some command = ap (λ b. if b then command_in (call_of past r) else None) (sym no_) ∙ done in cc)
+        ])
     done_by limit (Entered conn) command may done = absurd (let e : None ≡ Some command = done in cc)
     done_by limit (Arrive conn size call) command may done = absurd (let e : None ≡ Some command = done in cc)
     done_by limit (Filled conn size) command may done = absurd (let e : None ≡ Some command = done in cc)

@@ -101,8 +101,16 @@ module _ (f : Facts) (v : Verdict) where
         (λ ruled. cond_both (is_retain f.policies.retention) _ _ (λ c. c ≡ Go v → Runs)
         (λ retains. cond_both f.locate _ _ (λ c. c ≡ Go v → Runs) (λ _. never Here refl)
         (λ request. cond_both f.busy _ _ (λ c. c ≡ Go v → Runs) (λ _. never_held _)
-        (λ idle same.
-        (request, incarnates (free_by free retains) (record { retains = retains; manages = manages; ruled = ruled_by f.rules ruled; made = made; idle = idle }) (let e : Go (Incarnate f.next) ≡ Go v = same in cc)))))
+        (λ idle same. (
+          request,
+          incarnates (free_by free retains) (record {
+            retains = retains;
+            manages = manages;
+            ruled = ruled_by f.rules ruled;
+            made = made;
+            idle = idle;
+          }) (let e : Go (Incarnate f.next) ≡ Go v = same in cc),
+        ))))
         (λ _. by_locator))
       where
         free_by : f.slot ≡ Free ⊎ (is_retain f.policies.retention ≡ false) → is_retain f.policies.retention ≡ true → f.slot ≡ Free

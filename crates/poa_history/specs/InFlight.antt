@@ -1,5 +1,5 @@
 -- What is in flight is what a worker has begun and not ended.
-use Rattle.std.specs.Prelude.{◌≡◌, ℕ, true, false, List, Option, Some, None}
+use Rattle.std.specs.Prelude.{◌≡◌, ℕ, Bool, true, false, List, Option, Some, None, is_some}
 use Rattle.poa_base.specs.declared.Config.{Config}
 use Rattle.poa_base.specs.declared.Entry.{Entry}
 use Rattle.poa_names.specs.declared.Sid.{Sid}
@@ -23,24 +23,24 @@ named (Some (Serve n)) = Some n
 named (Some (Incarnate n)) = Some n
 named verdict = None
 
--- the arrival is in flight, in that activation if in one
-abbrev pub IsFlying : Standing → ℕ → Option ℕ → Type 0
-IsFlying s r activation = (f : Flight) × In f s.flights × (f.arrival ≡ r) × (f.activation ≡ activation)
+-- the arrival is in flight, as a trial or as a request, in that activation if in one
+abbrev pub IsFlying : Standing → ℕ → Option ℕ → Bool → Type 0
+IsFlying s r activation trial = (f : Flight) × In f s.flights × (f.arrival ≡ r) × (f.activation ≡ activation) × (is_some f.child ≡ trial)
 
 -- a request that was admitted to a servant, or brought one, is in flight; the activation that it named has its servant
 pub record IsRunning (h : List Entry) (s : Standing) (r : ℕ) : Type 0 where
   pub verdict : Verdict
   pub by : admitted h r ≡ Some verdict
   pub run : runs (Go verdict) ≡ true
-  pub flying : IsFlying s r (named (Some verdict))
+  pub flying : IsFlying s r (named (Some verdict)) false
   pub served : (n : ℕ) → named (Some verdict) ≡ Some n → (a : Activation) × In a s.activations × (a.number ≡ n)
       × ((t : Sid) × (a.phase ≡ Complete t))
 
 -- what holds of what a worker has begun
 abbrev pub Holds : List Entry → Standing → Stage → Type 0
 Holds h s Free = Unit {0}
-Holds h s (Trying r) = (admitted h r ≡ Some Try) × IsFlying s r None
-Holds h s (Incarnating r n) = (admitted h r ≡ Some (Incarnate n)) × IsFlying s r (Some n)
+Holds h s (Trying r) = (admitted h r ≡ Some Try) × IsFlying s r None true
+Holds h s (Incarnating r n) = (admitted h r ≡ Some (Incarnate n)) × IsFlying s r (Some n) false
     × ((a : Activation) × In a s.activations × (a.number ≡ n) × (a.phase ≡ Begun))
 Holds h s (Serving r) = IsRunning h s r
 Holds h s (Ran r) = IsRunning h s r
