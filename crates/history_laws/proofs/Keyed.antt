@@ -1,6 +1,7 @@
 -- A request that was admitted to a servant runs in an activation of its key's path and id, where the adapter keeps its objects
 -- and has a servant manager.
 use Rattle.history_laws.proofs.Begun.{let_same, next_number}
+use Rattle.history_laws.specs.Keyed.{StandsFor, Fits, IsKeyed}
 use Rattle.history_laws.proofs.RunRows.{is_loose, ties}
 use Rattle.poa_names.specs.Policies.{is_retain, is_servant_manager}
 use Rattle.poa_base.specs.declared.Attempt.TheVariants.{Dying as ParentDying, No as NoChild, Raised, Yes}
@@ -13,6 +14,7 @@ use Rattle.poa_names.specs.declared.Key.{Key}
 use Rattle.poa_names.specs.declared.Sid.{Sid}
 use Rattle.poa_base.specs.declared.Verdict.{Verdict}
 use Rattle.poa_base.specs.declared.Verdict.TheVariants.{Addressing, Answer as AnswerNow, Forward, Here, Incarnate, Locator, Preset, Refuse, Serve, Try, Unknown, Wait}
+use Rattle.poa_choose.specs.Laws.{runs}
 use Rattle.poa_choose.specs.Table.{first_row}
 use Rattle.poa_choose.specs.declared.Choice.TheVariants.{Go}
 use Rattle.poa_history.proofs.ActivationsLater.{step_later}
@@ -48,25 +50,6 @@ use Rattle.std.proofs.lemmas.Bool.{and_parts, cond_both, eqb-true, false_from_ne
 use Rattle.std.specs.Prelude.{◌&&◌, ◌<◌, ◌==◌, ◌||◌, ◌∷◌, ◌≡◌, ◌⊎◌, Bool, List, None, Option, Some, [], false, length, not, refl, true, ℕ}
 use Rattle.history_standing.proofs.CallsKept.{arrivals_kept, call_kept}
 use Rattle.history_standing.proofs.Tests.{not_true}
-
--- the activation stands, with the path and the id of the key
-pub record StandsFor (s : Standing) (n : ℕ) (key : Key) : Type 0 where
-  pub it : Activation
-  pub there : In it s.activations
-  pub number : it.number ≡ n
-  pub path : it.path ≡ key.path
-  pub oid : it.oid ≡ key.oid
-
-abbrev pub Fits : Config → Standing → Key → Verdict → Type 0
-Fits c s key (Serve n) = StandsFor s n key
-Fits c s key (Incarnate n) = StandsFor s n key
-Fits c s key v = retains (policies_at c key.path) ≡ true → uses_servant_manager (policies_at c key.path) ≡ true → ⊥
-
-pub record IsKeyed (c : Config) (run : ℕ) (h : List Entry) (r : ℕ) (v : Verdict) : Type 0 where
-  pub arrived : r < arrivals h
-  pub key : Key
-  pub has : key_in (call_of h r) ≡ Some key
-  pub fits : Fits c (standing c run h) key v
 
 -- an arrival that is admitted was so before the entry, or the entry admits it
 pub admitted_before : (e : Entry) (past : List Entry) (r : ℕ) (v : Verdict) → admitted (e ∷ past) r ≡ Some v → (admitted past r ≡ Some v)
@@ -232,3 +215,15 @@ module _ (c : Config) (run limit : ℕ) (given : IsGiven c run) (alone : IsGiven
               fits = fits_now past e legal now.0 r v runs_ now.1 key.0 key.1 admission;
             })
       ]
+
+-- what goes to a servant runs
+goes_run : (v : Verdict) → runs (Go v) ≡ true → is_run v ≡ true
+goes_run (Serve n) goes = refl
+goes_run (Preset name) goes = refl
+goes_run (Locator name) goes = refl
+goes_run (Incarnate n) goes = refl
+goes_run v goes = absurd (let f : false ≡ true = goes in cc)
+
+pub keyed_all : (c : Config) (run limit : ℕ) (h : List Entry) → IsGiven c run → IsGivenAlone c run → IsWithinLimits c limit → IsLegal c run limit h
+    → (r : ℕ) (v : Verdict) → admitted h r ≡ Some v → runs (Go v) ≡ true → IsKeyed c run h r v
+keyed_all c run limit h given alone within legal r v is goes = keyed c run limit given alone within h legal r v is (goes_run v goes)

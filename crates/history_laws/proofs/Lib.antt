@@ -7,7 +7,7 @@ mod Idle
 mod CommandsGo
 pub mod Undone
 mod RunRows
-mod Keyed
+pub mod Keyed
 mod KindKept
 mod Incarnations
 mod Line

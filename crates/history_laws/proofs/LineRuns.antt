@@ -1,6 +1,7 @@
 -- A run acts on the one line.
 use Rattle.history_laws.proofs.Incarnations.{all_fresh, one_alone}
-use Rattle.history_laws.proofs.Keyed.{Fits, IsKeyed, StandsFor, keyed}
+use Rattle.history_laws.specs.Keyed.{Fits, IsKeyed, StandsFor}
+use Rattle.history_laws.proofs.Keyed.{keyed}
 use Rattle.history_laws.proofs.Line.{Carries, IsLine, carried_after, carried_before, still, told_then}
 use Rattle.history_laws.specs.OneLine.{AreIncarnated, BringsFresh, calls_on, is_call_on, line_opening, line_state, replies_by, replies_on, runs_on, state_after}
 use Rattle.poa_base.specs.declared.Call.{Call}

@@ -1,3 +1,4 @@
 pub mod Undone
 pub mod OneLine
 pub mod Lasting
+pub mod Keyed

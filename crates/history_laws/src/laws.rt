@@ -1,11 +1,15 @@
 //! What holds of every legal history in the long run.
-ghost use Rattle.std.specs.Prelude.{◌≡◌, ◌<◌, ◌⊎◌, ◌∷◌, ℕ, true, List, None};
+ghost use Rattle.std.specs.Prelude.{◌≡◌, ◌<◌, ◌⊎◌, ◌∷◌, ℕ, true, List, None, Some};
 ghost use Rattle.poa_base.specs.declared.Config.{Config};
 ghost use Rattle.poa_base.specs.declared.Entry.{Entry};
 ghost use Rattle.poa_base.specs.declared.Entry.TheVariants.{Collect};
 ghost use Rattle.poa_tree.specs.Trees.{In};
 ghost use Rattle.poa_base.specs.declared.Kind.{Kind};
+ghost use Rattle.poa_base.specs.declared.Verdict.{Verdict};
+ghost use Rattle.poa_choose.specs.Laws.{runs};
+ghost use Rattle.poa_choose.specs.declared.Choice.TheVariants.{Go};
 ghost use Rattle.poa_history.specs.States.{Stored};
+ghost use Rattle.history_laws.specs.Keyed.{IsKeyed};
 ghost use Rattle.history_laws.specs.OneLine.{BringsFresh, AreIncarnated, IsOneLine, HasLineState, KeepsLineState};
 ghost use Rattle.history_standing.specs.declared.activation.Activation.{Activation};
 ghost use Rattle.poa_history.specs.Alone.{IsGivenAlone};
@@ -15,7 +19,7 @@ ghost use Rattle.poa_history.specs.Changes.{standing};
 ghost use Rattle.poa_history.specs.Replies.{decided};
 ghost use Rattle.poa_history.specs.Legal.{IsLegal};
 ghost use Rattle.poa_history.specs.Sound.{IsGiven};
-ghost use Rattle.history_standing.specs.Stages.{stage};
+ghost use Rattle.history_standing.specs.Stages.{admitted, stage};
 ghost use Rattle.poa_history.specs.Turns.{turn};
 ghost use Rattle.history_standing.specs.declared.stage.Stage.TheVariants.{Free};
 ghost use Rattle.history_laws.specs.Undone.{AreIdle, IsInHand, IsHeldBack, IsAllDone, IsAllOver, was_shut, was_told};
@@ -58,6 +62,14 @@ pub fn collecting_changes_no_turn()
 pub fn etherealized_are_told()
     ensures { (c : Config) (run limit : ℕ) (h : List Entry) → IsGiven c run → IsGivenAlone c run → IsWithinLimits c limit
         → IsLegal c run limit h → (a : Activation) → In a (standing c run h).activations → a.etherealized ≡ was_told h a.number }
+{}
+
+/// A request that goes to a servant reaches the object of its key: the activation that its verdict names stands, with the
+/// path and the id of the key; and to another servant it goes only where the adapter has no servant activator. CORBA 3.3
+/// Part 1, section 15.2.6.
+pub fn requests_reach_their_key()
+    ensures { (c : Config) (run limit : ℕ) (h : List Entry) → IsGiven c run → IsGivenAlone c run → IsWithinLimits c limit
+        → IsLegal c run limit h → (r : ℕ) (v : Verdict) → admitted h r ≡ Some v → runs (Go v) ≡ true → IsKeyed c run h r v }
 {}
 
 /// The updates of an object are one line. Let a path have a servant activator whose first matching rule brings an id

@@ -1,9 +1,12 @@
 //! What holds of every run of an accepted configuration.
-ghost use Rattle.std.specs.Prelude.{◌≡◌, ℕ, suc, true, false, ◌<◌, ◌^◌, ◌⊎◌, ◌∷◌, List};
+ghost use Rattle.std.specs.Prelude.{◌≡◌, ℕ, suc, true, false, ◌<◌, ◌^◌, ◌⊎◌, ◌∷◌, List, Some};
 ghost use Rattle.poa_base.specs.declared.Config.{Config};
 ghost use Rattle.poa_base.specs.declared.Entry.{Entry};
 ghost use Rattle.poa_base.specs.declared.Entry.TheVariants.{Collect};
 ghost use Rattle.poa_base.specs.declared.Kind.{Kind};
+ghost use Rattle.poa_base.specs.declared.Verdict.{Verdict};
+ghost use Rattle.poa_choose.specs.Laws.{runs};
+ghost use Rattle.poa_choose.specs.declared.Choice.TheVariants.{Go};
 ghost use Rattle.conf_rules.specs.Rules.{KeepsRules};
 ghost use Rattle.poa_tree.specs.declared.node.Node.{Node};
 ghost use Rattle.poa_tree.specs.Paths.{is_root};
@@ -14,11 +17,13 @@ ghost use Rattle.poa_history.specs.Changes.{standing};
 ghost use Rattle.poa_history.specs.Replies.{decided};
 ghost use Rattle.poa_history.specs.Destroyed.{was_destroyed, IsEnded, IsEmptied};
 ghost use Rattle.history_standing.specs.Ends.{is_gone};
+ghost use Rattle.history_standing.specs.Stages.{admitted};
 ghost use Rattle.poa_history.specs.InFlight.{IsManned};
 ghost use Rattle.poa_history.specs.Lifetime.{HasLifetime};
 ghost use Rattle.poa_history.specs.Sound.{IsGiven, IsSound};
 ghost use Rattle.poa_history.specs.States.{Stored};
 ghost use Rattle.poa_history.specs.Turns.{turn};
+ghost use Rattle.history_laws.specs.Keyed.{IsKeyed};
 ghost use Rattle.history_laws.specs.Lasting.{KeepsUpdates, LeavesNothing};
 ghost use Rattle.history_laws.specs.Undone.{AreIdle, IsInHand, IsHeldBack, IsAllDone, IsAllOver, was_shut};
 ghost use Rattle.history_laws.specs.OneLine.{BringsFresh, AreIncarnated, IsOneLine, HasLineState, KeepsLineState};
@@ -91,6 +96,14 @@ pub fn in_flight_has_its_worker()
 /// 15.2.4 and 15.3.6.
 pub fn lifetimes_are_kept()
     ensures { (c : Config) (run limit : ℕ) (h : List Entry) → IsRun c run limit h → HasLifetime c run h }
+{}
+
+/// A request that goes to a servant reaches the object of its key: the activation that its verdict names stands, with the
+/// path and the id of the key; and to another servant it goes only where the adapter has no servant activator. CORBA 3.3
+/// Part 1, section 15.2.6.
+pub fn requests_reach_their_key()
+    ensures { (c : Config) (run limit : ℕ) (h : List Entry) → IsRun c run limit h → (r : ℕ) (v : Verdict) → admitted h r ≡ Some v
+        → runs (Go v) ≡ true → IsKeyed c run h r v }
 {}
 
 /// Nothing stays undone. What was begun is in the hands of exactly one of the sixteen workers: each request in
