@@ -23,7 +23,7 @@ use Rattle.active_map.proofs.IdsKept.{row_of}
 use Rattle.history_standing.proofs.Tests.{same_test}
 
 -- what a look-up finds is among the values
-value_in : {K X : Type 0} (test : K → Bool) (es : List (K × X)) (v : X) → lookup test es ≡ Some v → In v (values_of es)
+pub value_in : {K X : Type 0} (test : K → Bool) (es : List (K × X)) (v : X) → lookup test es ≡ Some v → In v (values_of es)
 value_in test [] v is = absurd (let e : None ≡ Some v = is in cc)
 value_in {K} {X} test (e ∷ es) v is =
     elim (test e.0) as (λ t. cond t (Some e.1) (lookup test es) ≡ Some v → In v (values_of (e ∷ es))) [

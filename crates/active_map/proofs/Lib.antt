@@ -4,3 +4,4 @@ pub mod Ided
 pub mod IdsKept
 pub mod Removal
 pub mod Asking
+pub mod Covering

@@ -1,5 +1,5 @@
 -- What is asked of activations that are on their way in or out, where none is.
-use Rattle.std.specs.Prelude.{◌≡◌, Bool, true, false, not, List, [], ◌∷◌, map, filter, find, Some, None, refl}
+use Rattle.std.specs.Prelude.{◌≡◌, Bool, true, false, not, List, [], ◌∷◌, map, filter, refl}
 use Rattle.std.specs.List.{list_any}
 use Rattle.std.proofs.Common.{sym, ap, ap₂, ◌∙◌}
 use Rattle.std.proofs.lemmas.Bool.{or_parts, or_from, and_parts, and_left, and_right, not-true, not-false, cond-true, cond-false}
@@ -61,14 +61,6 @@ any_still test fails [] none = refl
 any_still test fails (a ∷ as') none =
     (let parts = or_parts (is_moving a) (list_any is_moving as') none in or_from (test a) (list_any test as') (fails a parts.0)
     (any_still test fails as' parts.1))
-
-pub find_still : (test : Activation → Bool) → ((a : Activation) → is_moving a ≡ false → test a ≡ false) → (as' : List Activation)
-    → list_any is_moving as' ≡ false
-    → find test as' ≡ None
-find_still test fails [] none = refl
-find_still test fails (a ∷ as') none =
-    (let parts = or_parts (is_moving a) (list_any is_moving as') none in
-    cond-false (test a) (Some a) (find test as') (fails a parts.0) ∙ find_still test fails as' parts.1)
 
 pub map_still : (f : Activation → Activation) → ((a : Activation) → is_moving a ≡ false → f a ≡ a) → (as' : List Activation) → list_any is_moving as' ≡ false
     → map f as' ≡ as'

@@ -2,3 +2,4 @@ pub mod ById
 pub mod Tables
 pub mod Live
 pub mod Asked
+pub mod Endings

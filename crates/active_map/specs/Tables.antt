@@ -1,5 +1,5 @@
 -- The activations that were begun, as a table keeps them.
-use Rattle.std.specs.Prelude.{◌≡◌, ℕ, ◌+◌, ◌<◌, ◌≤◌, Bool, not, ◌||◌, cond, List, [], ◌∷◌, map, filter, length}
+use Rattle.std.specs.Prelude.{◌≡◌, ℕ, ◌+◌, ◌<◌, ◌≤◌, Bool, true, not, ◌&&◌, ◌||◌, cond, List, [], ◌∷◌, map, filter, length}
 use Rattle.std.specs.List.Sorted.{IsStrictlySortedBy}
 use Rattle.std.specs.BTreeMap.{BTreeMap}
 use Rattle.std.specs.Map.{keys_of, values_of}
@@ -18,6 +18,10 @@ pub record Table : Type 0 where
 -- it is on its way in or out: still being incarnated, ending, out of the map, or void
 abbrev pub is_moving : Activation → Bool
 is_moving a = not (is_active a) || a.out
+
+-- it is ending, and in the map
+abbrev pub is_leaving : Activation → Bool
+is_leaving a = a.ending && not a.out
 
 -- as one that moves counts
 abbrev pub weight : Activation → ℕ
@@ -44,10 +48,15 @@ pub record IsTable (forgotten moving : ℕ) (rows : List (ℕ × Activation)) : 
 abbrev pub IsIndexed : BTreeMap ℕ Ids → List Activation → Type 0
 IsIndexed ids activations = (k : ℕ) (oid : List ℕ) → numbers_of ids k oid ≡ map (λ a. a.number) (filter (is_of k oid) activations)
 
--- the rows, and the index of their activations by id
-pub record IsWhole (forgotten moving : ℕ) (ids : BTreeMap ℕ Ids) (rows : List (ℕ × Activation)) : Type 0 where
+-- the number of each that is leaving is here; there may be others
+abbrev pub Covers : List ℕ → List Activation → Type 0
+Covers numbers activations = (a : Activation) → In a activations → is_leaving a ≡ true → In a.number numbers
+
+-- the rows, the index of their activations by id, and the numbers of those that are leaving
+pub record IsWhole (forgotten moving : ℕ) (ids : BTreeMap ℕ Ids) (leaving : List ℕ) (rows : List (ℕ × Activation)) : Type 0 where
   pub table : IsTable forgotten moving rows
   pub indexed : IsIndexed ids (values_of rows)
+  pub covered : Covers leaving (values_of rows)
 
 -- a change leaves what an activation is found by
 pub record Keeps (f : Activation → Activation) : Type 0 where

@@ -1,6 +1,6 @@
 //! The activations that were begun, in a table: found by their numbers, and changed in place.
-ghost use Rattle.std.specs.Prelude.{◌≡◌, ◌+◌, ◌<◌, ◌++◌, ◌∷◌, [], ◌==◌, ◌&&◌, Some, None, true, false, not, map, filter, find, length, option_copied, if◌then◌else◌, IfOk, OnOk, OnErr};
-ghost use Rattle.std.specs.List.{list_any};
+ghost use Rattle.std.specs.Prelude.{◌≡◌, ◌+◌, ◌<◌, ◌++◌, ◌∷◌, ℕ, [], ◌==◌, ◌&&◌, Bool, Some, None, true, false, not, map, filter, find, length, option_copied, if◌then◌else◌, IfOk, OnOk, OnErr};
+ghost use Rattle.std.specs.List.{filter_map, list_any};
 ghost use Rattle.std.specs.Map.Iter.{deref, ShowsInOrder};
 ghost use Rattle.poa_tree.specs.Nodes as tree;
 ghost use Rattle.poa_tree.specs.Trees.{In};
@@ -11,23 +11,27 @@ ghost use Rattle.poa_history.specs.Situations as situations;
 ghost use Rattle.history_standing.specs.Standings as stands;
 ghost use Rattle.history_standing.specs.Standings.{Standing as Stood};
 ghost use Rattle.history_standing.specs.Templates as configured;
+ghost use Rattle.active_map.specs.Endings.{ended};
 ghost use Rattle.active_map.specs.Live.{live};
-ghost use Rattle.active_map.specs.Tables.{is_moving};
+ghost use Rattle.active_map.specs.Tables.{is_leaving, is_moving};
 
 use crate::adapters::{has_changing, has_live, has_other};
 use crate::by_id::{Index, add, numbers_of, remove};
 use crate::changing::{come_to, etherealize, let_go, let_out};
+use crate::ending::Ending;
+use crate::leaving::{Leaving, enter_ended, strike, strike_forgotten};
 use crate::over::is_over;
 use crate::rows::{
-    Rows, count_moving, end_all_activators, end_all_of_id, end_all_under, first_active, first_live,
-    forget_ids, keep_live, let_all_out, moves,
+    Rows, count_moving, end_all, first_active, first_live, forget_ids, keep_live, let_all_out,
+    moves,
 };
 use history_standing::{Activation, Flight, Phase};
 use poa_base::{Config, Name, Oid, WantMemory};
 use poa_tree::Node;
 use std::alloc::Global;
-use std::collections::BTreeMap;
 use std::collections::btree_map::Values;
+use std::collections::btree_set::Iter;
+use std::collections::{BTreeMap, BTreeSet};
 use std::marker::Model;
 
 /// The activations that were begun, but for those that are over and are forgotten.
@@ -42,6 +46,8 @@ pub struct Activations {
     ids: Index,
     /// How many of these are on their way in or out.
     moving: usize,
+    /// The numbers of those that are ending and in the map, and maybe of others.
+    leaving: Leaving,
 }
 
 impl Model for Activations {
@@ -52,7 +58,7 @@ impl Model for Activations {
 
     ghost view = { λ t. record { forgotten = t.forgotten; kept = values_of t.rows.entries } };
 
-    ghost invariant = { λ t. IsWhole t.forgotten t.moving t.ids t.rows.entries };
+    ghost invariant = { λ t. IsWhole t.forgotten t.moving t.ids t.leaving.keys t.rows.entries };
 }
 
 impl Activations {
@@ -66,6 +72,7 @@ impl Activations {
             rows: BTreeMap::new(alloc),
             ids: BTreeMap::new(alloc),
             moving: 0,
+            leaving: BTreeSet::new(alloc),
         }
     }
 
@@ -90,6 +97,16 @@ impl Activations {
         ensures { result ≡ not (list_any is_moving self.now.kept) }
     {
         self.moving == 0
+    }
+
+    /// The numbers of those that are ending and in the map, ascending; maybe of others, too. A search by these numbers finds
+    /// what a search of all would, where only one that is ending and in the map can pass.
+    pub fn leaving(&self) -> Iter<'_, u32>
+        ensures finds { (p : Kept → Bool) → ((a : Kept) → p a ≡ true → is_leaving a ≡ true)
+            → find p (filter_map (λ n. find (λ a. a.number == n) self.now.kept) result) ≡ find p self.now.kept }
+        ensures runs { ShowsInOrder (deref {X = ℕ}) }
+    {
+        self.leaving.iter()
     }
 
     /// What is known of the numbers of those that are kept: each has 32 bits, and is that of no other.
@@ -145,6 +162,7 @@ impl Activations {
     pub fn push(&mut self, activation: Activation) -> Result<(), WantMemory>
         requires next { activation.number ≡ self.old.forgotten + length self.old.kept }
         requires few { activation.number < 4294967296 }
+        requires lasts { activation.ending ≡ false }
         ensures ok { OnOk result (self.new ≡ record self.old { kept = self.old.kept ++ activation ∷ [] }) }
         ensures err { OnErr result (self.new ≡ self.old) }
     {
@@ -210,6 +228,7 @@ impl Activations {
             self.moving -= moves(activation);
             let_go(remaining, activation);
             self.moving += moves(activation);
+            strike(&mut self.leaving, number);
         }
     }
 
@@ -225,36 +244,52 @@ impl Activations {
         }
     }
 
-    /// Those of the adapters that stand at the path or below it are ending.
-    pub fn end_below(&mut self, nodes: &[Node], path: &[Name], etherealize: bool)
-        ensures { self.new ≡ record self.old {
-          kept = map
-              (λ a. if tree.stands_under nodes.now path.now a.adapter then changes.ended_by_destroy etherealize a else a) self.old.kept;
-        } }
+    /// Those that a command ends are ending. Their numbers are entered first, since that may fail.
+    fn end(&mut self, ending: Ending<'_>) -> Result<(), WantMemory>
+        ensures ok { OnOk result (self.new ≡ record self.old { kept = map (ended ending.entry) self.old.kept }) }
+        ensures err { OnErr result (self.new ≡ self.old) }
     {
-        end_all_under(&mut self.rows, nodes, path, etherealize);
+        enter_ended(&mut self.leaving, &self.rows, ending)?;
+        end_all(&mut self.rows, ending);
         self.moving = count_moving(&self.rows);
+        Ok(())
     }
 
-    /// Those of the manager that have a servant activator are ending.
-    pub fn end_managed(&mut self, config: &Config, manager: usize)
-        ensures { self.new ≡ record self.old {
+    /// Those of the adapters that stand at the path or below it are ending. Fails for want of memory; then nothing is changed.
+    pub fn end_below(
+        &mut self,
+        nodes: &[Node],
+        path: &[Name],
+        etherealize: bool,
+    ) -> Result<(), WantMemory>
+        ensures ok { OnOk result (self.new ≡ record self.old {
+          kept = map
+              (λ a. if tree.stands_under nodes.now path.now a.adapter then changes.ended_by_destroy etherealize a else a) self.old.kept;
+        }) }
+        ensures err { OnErr result (self.new ≡ self.old) }
+    {
+        self.end(Ending::Below(nodes, path, etherealize))
+    }
+
+    /// Those of the manager that have a servant activator are ending. Fails for want of memory; then nothing is changed.
+    pub fn end_managed(&mut self, config: &Config, manager: usize) -> Result<(), WantMemory>
+        ensures ok { OnOk result (self.new ≡ record self.old {
           kept = map
               (λ a. if configured.has_activator config.now a.path &&
               (configured.manager_at config.now a.path == manager) then changes.ended_by_destroy true a else a) self.old.kept;
-        } }
+        }) }
+        ensures err { OnErr result (self.new ≡ self.old) }
     {
-        end_all_activators(&mut self.rows, config, manager);
-        self.moving = count_moving(&self.rows);
+        self.end(Ending::Managed(config, manager))
     }
 
-    /// Those of an id are ending.
-    pub fn end_id(&mut self, adapter: u32, oid: &Oid)
-        ensures { self.new ≡ record self.old
-            { kept = map (λ a. if stands.is_of adapter oid.now a then record a { ending = true } else a) self.old.kept } }
+    /// Those of an id are ending. Fails for want of memory; then nothing is changed.
+    pub fn end_id(&mut self, adapter: u32, oid: &Oid) -> Result<(), WantMemory>
+        ensures ok { OnOk result (self.new ≡ record self.old
+            { kept = map (λ a. if stands.is_of adapter oid.now a then record a { ending = true } else a) self.old.kept }) }
+        ensures err { OnErr result (self.new ≡ self.old) }
     {
-        end_all_of_id(&mut self.rows, adapter, oid);
-        self.moving = count_moving(&self.rows);
+        self.end(Ending::Id(adapter, oid))
     }
 
     /// Those that are to leave the map do.
@@ -296,6 +331,7 @@ impl Activations {
         let oid = activation.oid.as_slice();
         remove(&mut self.ids, activation.adapter, oid, number);
         let _gone = self.rows.remove(&number);
+        strike(&mut self.leaving, number);
         self.forgotten += 1;
     }
 
@@ -307,6 +343,7 @@ impl Activations {
         if self.moving > 0 {
             forget_ids(&mut self.ids, &self.rows, config);
             self.forgotten += keep_live(&mut self.rows, config);
+            strike_forgotten(&mut self.leaving, &self.rows);
             self.moving = count_moving(&self.rows);
         }
     }

@@ -1,71 +1,16 @@
 //! How one activation changes. Each change is made in place and takes no memory.
 ghost use Rattle.std.specs.Prelude.{◌≡◌, ◌==◌, ◌&&◌, false, true, not, if◌then◌else◌};
-ghost use Rattle.poa_tree.specs.Nodes as tree;
 ghost use Rattle.history_standing.specs.declared.activation.Phase.TheVariants.{Begun, Complete, Void};
 ghost use Rattle.poa_history.specs.Changes as changes;
 ghost use Rattle.history_standing.specs.Ends as ends;
 ghost use Rattle.history_standing.specs.Standings as stands;
 ghost use Rattle.history_standing.specs.Standings.{Standing as Stood};
-ghost use Rattle.history_standing.specs.Templates as configured;
 
-use crate::activation::{has_servant, is_begun, is_complete, is_mapped, is_of};
+use crate::activation::{has_servant, is_begun, is_complete, is_mapped};
 use crate::flights::is_used;
-use crate::templates::{has_activator, manager_at};
+use crate::templates::has_activator;
 use history_standing::{Activation, Flight, Phase};
-use poa_base::{Config, Name, Oid};
-use poa_tree::Node;
-use poa_tree::nodes::stands_under;
-
-/// The activation is ending, by a destroy or so that its servant is etherealized.
-fn end_by_destroy(activation: &mut Activation, etherealize: bool)
-    ensures { activation.new ≡ changes.ended_by_destroy etherealize activation.old }
-{
-    activation.quiet = activation.quiet || (!activation.ending && !etherealize);
-    activation.cleanup = activation.cleanup || (etherealize && !activation.out);
-    activation.ending = true;
-}
-
-/// An activation is ending where its adapter stands at the path or below it.
-pub fn end_under(nodes: &[Node], path: &[Name], etherealize: bool, activation: &mut Activation)
-    ensures { activation.new ≡
-        (if tree.stands_under nodes.now path.now activation.old.adapter then changes.ended_by_destroy etherealize
-        activation.old else activation.old) }
-{
-    if stands_under(nodes, path, activation.adapter) {
-        end_by_destroy(activation, etherealize);
-    }
-}
-
-/// Whether the activation is one of the manager's, with a servant activator.
-fn is_activators(config: &Config, manager: usize, activation: &Activation) -> bool
-    ensures { result ≡ configured.has_activator config.now activation.now.path &&
-        (configured.manager_at config.now activation.now.path == manager) }
-{
-    let path = activation.path.as_slice();
-    has_activator(config, path) && manager_at(config, path) as usize == manager
-}
-
-/// An activation is ending where it is one of the manager's, with a servant activator.
-pub fn end_activators(config: &Config, manager: usize, activation: &mut Activation)
-    ensures { activation.new ≡
-        (if configured.has_activator config.now activation.old.path &&
-        (configured.manager_at config.now activation.old.path == manager) then changes.ended_by_destroy true
-        activation.old else activation.old) }
-{
-    if is_activators(config, manager, activation) {
-        end_by_destroy(activation, true);
-    }
-}
-
-/// An activation is ending where it is of the id.
-pub fn end_of_id(adapter: u32, oid: &Oid, activation: &mut Activation)
-    ensures { activation.new ≡
-        (if stands.is_of adapter oid.now activation.old then record activation.old { ending = true } else activation.old) }
-{
-    if is_of(adapter, oid.as_slice(), activation) {
-        activation.ending = true;
-    }
-}
+use poa_base::Config;
 
 /// An activation that is being incarnated has come so far.
 pub fn come_to(phase: Phase, activation: &mut Activation)

@@ -1,27 +1,25 @@
 //! The rows of a table of activations, changed in place. Takes no memory.
-ghost use Rattle.std.specs.Prelude.{◌≡◌, ◌+◌, ◌==◌, ◌&&◌, Some, None, true, filter, find, length, if◌then◌else◌};
+ghost use Rattle.std.specs.Prelude.{◌≡◌, ◌+◌, Some, None, filter, find, length, if◌then◌else◌};
 ghost use Rattle.std.specs.BTreeMap.{IsOrdered, get, values};
 ghost use Rattle.std.specs.List.{filter_map};
 ghost use Rattle.std.specs.List.Sorted.{IsStrictlySortedBy};
 ghost use Rattle.std.specs.Map.{keys_of};
 ghost use Rattle.std.specs.Option.{option_and_then, option_copied};
 ghost use Rattle.std.specs.Ordering.{nat_cmp};
-ghost use Rattle.poa_tree.specs.Nodes as tree;
-ghost use Rattle.poa_history.specs.Changes as changes;
 ghost use Rattle.history_standing.specs.Ends as ends;
 ghost use Rattle.history_standing.specs.Standings as stands;
 ghost use Rattle.history_standing.specs.Standings.{Standing as Stood};
-ghost use Rattle.history_standing.specs.Templates as configured;
+ghost use Rattle.active_map.specs.Endings.{ended};
 ghost use Rattle.active_map.specs.Live.{is_live, live};
 ghost use Rattle.active_map.specs.Tables as tables;
 
 use crate::activation::is_active;
 use crate::by_id::{Index, remove};
-use crate::changing::{end_activators, end_of_id, end_under, let_out};
+use crate::changing::let_out;
+use crate::ending::Ending;
 use crate::over::is_over;
 use history_standing::{Activation, Flight};
-use poa_base::{Config, Name, Oid};
-use poa_tree::Node;
+use poa_base::Config;
 use std::collections::BTreeMap;
 
 /// Activations by their numbers.
@@ -106,36 +104,12 @@ pub fn first_live<'a>(rows: &'a Rows, config: &Config, numbers: &[u32]) -> Optio
     None
 }
 
-/// The activations of the adapters that stand at the path or below it are ending.
-pub fn end_all_under(rows: &mut Rows, nodes: &[Node], path: &[Name], etherealize: bool)
-    ensures { rows.new.entries ≡ tables.with_each
-        (λ a. if tree.stands_under nodes.now path.now a.adapter then changes.ended_by_destroy etherealize a else a) rows.old.entries }
+/// Those of the activations that a command ends are ending.
+pub fn end_all(rows: &mut Rows, ending: Ending<'_>)
+    ensures { rows.new.entries ≡ tables.with_each (ended ending.entry) rows.old.entries }
 {
     rows.retain(|_, activation| {
-        end_under(nodes, path, etherealize, activation);
-        true
-    });
-}
-
-/// Those of the activations that are the manager's, with a servant activator, are ending.
-pub fn end_all_activators(rows: &mut Rows, config: &Config, manager: usize)
-    ensures { rows.new.entries ≡ tables.with_each
-        (λ a. if configured.has_activator config.now a.path &&
-        (configured.manager_at config.now a.path == manager) then changes.ended_by_destroy true a else a) rows.old.entries }
-{
-    rows.retain(|_, activation| {
-        end_activators(config, manager, activation);
-        true
-    });
-}
-
-/// Those of the activations that are of the id are ending.
-pub fn end_all_of_id(rows: &mut Rows, adapter: u32, oid: &Oid)
-    ensures { rows.new.entries ≡ tables.with_each
-        (λ a. if stands.is_of adapter oid.now a then record a { ending = true } else a) rows.old.entries }
-{
-    rows.retain(|_, activation| {
-        end_of_id(adapter, oid, activation);
+        ending.end(activation);
         true
     });
 }

@@ -84,12 +84,14 @@ fn add_reference(
 }
 
 /// The manager of this name is turned off.
-fn off(config: &Config, manager: &Name, standing: &mut Standing)
-    ensures { seen standing.new ≡ elim (number_of_manager config.now manager.now)
-        [ Some m ↦ changes.with_manager_off config.now m (seen standing.old) | None ↦ seen standing.old ] }
+fn off(config: &Config, manager: &Name, standing: &mut Standing) -> Result<(), WantMemory>
+    ensures ok { OnOk result (seen standing.new ≡ elim (number_of_manager config.now manager.now)
+        [ Some m ↦ changes.with_manager_off config.now m (seen standing.old) | None ↦ seen standing.old ]) }
+    ensures err { OnErr result (seen standing.new ≡ seen standing.old) }
 {
-    if let Some(number) = manager_number(config, manager) {
-        turn_off(config, standing, number);
+    match manager_number(config, manager) {
+        Some(number) => turn_off(config, standing, number),
+        None => Ok(()),
     }
 }
 
@@ -114,13 +116,13 @@ pub fn command(
                 etherealize: true,
                 ..
             },
-        } => off(config, manager, standing),
+        } => off(config, manager, standing)?,
         Command::Create { path } => add_node(standing, path)?,
         Command::Destroy {
             path,
             etherealize,
             ..
-        } => destroy(standing, path.as_slice(), *etherealize),
+        } => destroy(standing, path.as_slice(), *etherealize)?,
         Command::Activate { path, servant } => {
             add_made_activation(alloc, config, run, path, servant, standing)?
         }
@@ -131,12 +133,12 @@ pub fn command(
         }
         Command::Deactivate { path, oid } => {
             let adapter = number_at(standing, path.as_slice());
-            deactivate(standing, adapter, oid);
+            deactivate(standing, adapter, oid)?;
         }
         Command::Reference { path, servant } => {
             add_reference(alloc, config, run, path, servant, standing)?
         }
-        Command::Shutdown => destroy(standing, &[], true),
+        Command::Shutdown => destroy(standing, &[], true)?,
         _ => {}
     }
     Ok(())

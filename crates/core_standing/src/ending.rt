@@ -1,43 +1,48 @@
 //! What makes activations end: a destroy, a deactivation of an id, a manager that is turned off. Each change
-//! is made in place and takes no memory.
-ghost use Rattle.std.specs.Prelude.{◌≡◌, if◌then◌else◌};
+//! is made in place; where there is no memory for it, nothing is changed.
+ghost use Rattle.std.specs.Prelude.{◌≡◌, if◌then◌else◌, OnOk, OnErr};
 ghost use Rattle.poa_tree.specs.Nodes as tree;
 ghost use Rattle.poa_history.specs.Changes as changes;
 ghost use Rattle.core_queries.specs.Seen.{seen};
 
 use core_queries::Standing;
-use poa_base::{Config, Name, Oid};
+use poa_base::{Config, Name, Oid, WantMemory};
 use poa_tree::nodes::mark;
 
 /// What is active in the adapters that stand at the path or below it is ending.
-fn end_below(standing: &mut Standing, path: &[Name], etherealize: bool)
-    ensures { seen standing.new ≡ changes.with_activations
+fn end_below(standing: &mut Standing, path: &[Name], etherealize: bool) -> Result<(), WantMemory>
+    ensures ok { OnOk result (seen standing.new ≡ changes.with_activations
         (λ a. if tree.stands_under standing.old.nodes.items path.now a.adapter then changes.ended_by_destroy etherealize a else a)
-        (seen standing.old) }
+        (seen standing.old)) }
+    ensures err { OnErr result (seen standing.new ≡ seen standing.old) }
 {
     standing
         .activations
-        .end_below(&standing.nodes, path, etherealize);
+        .end_below(&standing.nodes, path, etherealize)
 }
 
 /// The adapter of the path and those below it are destroyed.
-pub fn destroy(standing: &mut Standing, path: &[Name], etherealize: bool)
-    ensures { seen standing.new ≡ changes.with_destroyed path.now etherealize (seen standing.old) }
+pub fn destroy(standing: &mut Standing, path: &[Name], etherealize: bool) -> Result<(), WantMemory>
+    ensures ok { OnOk result (seen standing.new ≡ changes.with_destroyed path.now etherealize (seen standing.old)) }
+    ensures err { OnErr result (seen standing.new ≡ seen standing.old) }
 {
-    end_below(standing, path, etherealize);
+    end_below(standing, path, etherealize)?;
     mark(&mut standing.nodes, path);
+    Ok(())
 }
 
 /// The manager's activations that have a servant activator are ending.
-pub fn turn_off(config: &Config, standing: &mut Standing, manager: usize)
-    ensures { seen standing.new ≡ changes.with_manager_off config.now manager (seen standing.old) }
+pub fn turn_off(config: &Config, standing: &mut Standing, manager: usize) -> Result<(), WantMemory>
+    ensures ok { OnOk result (seen standing.new ≡ changes.with_manager_off config.now manager (seen standing.old)) }
+    ensures err { OnErr result (seen standing.new ≡ seen standing.old) }
 {
-    standing.activations.end_managed(config, manager);
+    standing.activations.end_managed(config, manager)
 }
 
 /// The activations of the id are ending.
-pub fn deactivate(standing: &mut Standing, adapter: u32, oid: &Oid)
-    ensures { seen standing.new ≡ changes.with_deactivated adapter oid.now (seen standing.old) }
+pub fn deactivate(standing: &mut Standing, adapter: u32, oid: &Oid) -> Result<(), WantMemory>
+    ensures ok { OnOk result (seen standing.new ≡ changes.with_deactivated adapter oid.now (seen standing.old)) }
+    ensures err { OnErr result (seen standing.new ≡ seen standing.old) }
 {
-    standing.activations.end_id(adapter, oid);
+    standing.activations.end_id(adapter, oid)
 }

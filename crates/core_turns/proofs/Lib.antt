@@ -3,3 +3,4 @@ mod CommandsAre
 pub mod GoingOn
 pub mod StillFacts
 pub mod Looking
+pub mod Due

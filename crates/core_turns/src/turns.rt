@@ -1,5 +1,5 @@
 //! What a worker has begun goes on, and a removal that is due begins.
-ghost use Rattle.std.specs.Prelude.{◌≡◌, ◌&&◌, None, Some, false, find, not, option_copied, IfOk, IsOk};
+ghost use Rattle.std.specs.Prelude.{◌≡◌, ◌==◌, ◌&&◌, None, Some, false, find, not, option_and_then, option_copied, if◌then◌else◌, IfOk, IsOk};
 ghost use Rattle.poa_base.specs.declared.Attempt.{Attempt};
 ghost use Rattle.history_standing.specs.Standings as stands;
 ghost use Rattle.history_standing.specs.Templates as configured;
@@ -178,31 +178,40 @@ fn is_due(config: &Config, standing: &Standing, activation: &Activation) -> bool
             && !is_changing(config, standing, activation.adapter))
 }
 
+/// The activation of a number, where it is to be taken out.
+fn due_at<'a>(config: &Config, standing: &'a Standing, number: u32) -> Option<&'a Activation>
+    ensures { option_copied result ≡ option_and_then (λ a. if turns.is_due config.now (seen standing.now) a then Some a else None)
+        (find (λ a. a.number == number) standing.now.activations.kept) }
+{
+    match standing.activations.numbered(number) {
+        Some(activation) => {
+            if is_due(config, standing, activation) {
+                Some(activation)
+            } else {
+                None
+            }
+        }
+        None => None,
+    }
+}
+
 /// The first that is due of those that are kept.
 fn first_due<'a>(config: &Config, standing: &'a Standing) -> Option<&'a Activation>
     ensures { option_copied result ≡ find (turns.is_due config.now (seen standing.now)) standing.now.activations.kept }
 {
-    if standing.activations.is_still() {
-        return None;
+    for number in standing.activations.leaving() {
+        if let Some(activation) = due_at(config, standing, *number) {
+            return Some(activation);
+        }
     }
-    standing
-        .activations
-        .iter()
-        .find(|activation| is_due(config, standing, activation))
-}
-
-/// The least activation that is due.
-fn least_due<'a>(config: &Config, standing: &'a Standing) -> Option<&'a Activation>
-    ensures { option_copied result ≡ find (turns.is_due config.now (seen standing.now)) (seen standing.now).activations }
-{
-    first_due(config, standing)
+    None
 }
 
 /// The least activation that is due is taken out. Takes no memory.
 pub fn removal(config: &Config, standing: &Standing, worker: u32) -> Option<Entry>
     ensures { result ≡ turns.removal config.now (seen standing.now) worker }
 {
-    match least_due(config, standing) {
+    match first_due(config, standing) {
         Some(activation) => Some(Entry::TakeOut {
             worker,
             activation: activation.number,

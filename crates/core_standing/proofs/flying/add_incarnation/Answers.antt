@@ -18,6 +18,9 @@ push-requires-clause-next c =
 pub push-requires-clause-few : goal.push-requires-clause-few
 push-requires-clause-few c = subst (λ n. n < 4294967296) (sym (ap (λ (a : Activation). a.number) c.begun-activation.ensures)) c.in_ok-number.ensures.few
 
+pub push-requires-clause-lasts : goal.push-requires-clause-lasts
+push-requires-clause-lasts c = ap (λ (a : Activation). a.ending) c.begun-activation.ensures
+
 pub returns-clause-ok : goal.returns-clause-ok
 returns-clause-ok c =
     (let s = c.args.standing.now in

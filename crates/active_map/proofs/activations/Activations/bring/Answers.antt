@@ -3,8 +3,9 @@ use Rattle.std.specs.Map.{values_of}
 use Rattle.std.specs.Option.{option_copied_mut}
 use Rattle.poa_history.specs.Changes.{at_number, come_to}
 use Rattle.history_standing.specs.Standings.{is_begun}
-use Rattle.active_map.specs.Tables.{Table, IsIndexed}
+use Rattle.active_map.specs.Tables.{Table, IsIndexed, Covers}
 use Rattle.active_map.proofs.IdsKept.{indexed_each}
+use Rattle.active_map.proofs.Covering.{covers_at, stays_come}
 use Rattle.active_map.proofs.RowsKept.{keeps_where, row_set, row_absent, weight_within, table_set, tabled}
 use Rattle.active_map.proofs.activations.Activations.bring.Goals as goal
 
@@ -25,6 +26,9 @@ invariant_of-self c =
     let within = weight_within t.forgotten t.moving c.args.number t.rows.entries c.self.invariant.table a had in
     let before = c.moves.ensures in
     let after = c.moves-in-Some.ensures in
+    let values = ap values_of written.0
+    ∙ row_set c.args.number (come_to c.args.phase) t.rows.entries c.self.invariant.table.keyed c.self.invariant.table.ordered a b had
+    (c.come_to.ensures) in
     record {
       table =
           table_set t.forgotten t.moving c.args.number t.rows.entries (c.get_mut.follows.lender b).entries (come_to c.args.phase) a b
@@ -33,13 +37,15 @@ invariant_of-self c =
           (keeps_where is_begun (λ x. record x { phase = c.args.phase }) (record { number = λ x. refl; adapter = λ x. refl; oid = λ x. refl }))
           (t.moving - c.moves.result + c.moves-in-Some.result) (omega (arith, within, before, after));
       indexed =
-          subst (IsIndexed t.ids)
-          (sym (ap values_of written.0
-          ∙ row_set c.args.number (come_to c.args.phase) t.rows.entries c.self.invariant.table.keyed c.self.invariant.table.ordered a b had
-          (c.come_to.ensures)))
+          subst (IsIndexed t.ids) (sym values)
           (indexed_each t.ids (at_number c.args.number (come_to c.args.phase))
           (keeps_where (λ x. x.number == c.args.number) (come_to c.args.phase) (keeps_where is_begun (λ x. record x { phase = c.args.phase }) (record { number = λ x. refl; adapter = λ x. refl; oid = λ x. refl })))
           (values_of t.rows.entries) c.self.invariant.indexed);
+      covered =
+          subst (Covers t.leaving.keys) (sym values)
+          (covers_at t.leaving.keys c.args.number (come_to c.args.phase) (values_of t.rows.entries)
+          (keeps_where is_begun (λ x. record x { phase = c.args.phase }) (record { number = λ x. refl; adapter = λ x. refl; oid = λ x. refl }))
+          (stays_come c.args.phase) c.self.invariant.covered);
     })
 
 pub returns-in-Some : goal.returns-in-Some

@@ -2,8 +2,9 @@ use Rattle.std.proofs.Common.{◌+◌, ◌-◌, ◌≤◌, ◌==◌, true, map, 
 use Rattle.std.specs.Map.{values_of}
 use Rattle.std.specs.Option.{option_copied_mut}
 use Rattle.poa_history.specs.Changes.{at_number}
-use Rattle.active_map.specs.Tables.{Table, IsIndexed}
+use Rattle.active_map.specs.Tables.{Table, IsIndexed, Covers}
 use Rattle.active_map.proofs.IdsKept.{indexed_each}
+use Rattle.active_map.proofs.Covering.{covers_at}
 use Rattle.active_map.proofs.RowsKept.{keeps_where, row_set, row_absent, weight_within, weight_few, moving_few, table_set, tabled}
 use Rattle.active_map.proofs.activations.Activations.etherealize.Goals as goal
 
@@ -29,6 +30,9 @@ invariant_of-self c =
     let within = weight_within t.forgotten t.moving c.args.number t.rows.entries c.self.invariant.table a had in
     let before = c.moves.ensures in
     let after = c.moves-in-Some.ensures in
+    let values = ap values_of written.0
+    ∙ row_set c.args.number (λ x. record x { etherealized = true }) t.rows.entries c.self.invariant.table.keyed c.self.invariant.table.ordered a b had
+    (c.etherealize.ensures) in
     record {
       table =
           table_set t.forgotten t.moving c.args.number t.rows.entries (c.get_mut.follows.lender b).entries (λ x. record x { etherealized = true }) a b
@@ -37,13 +41,14 @@ invariant_of-self c =
           (record { number = λ x. refl; adapter = λ x. refl; oid = λ x. refl })
           (t.moving - c.moves.result + c.moves-in-Some.result) (omega (arith, within, before, after));
       indexed =
-          subst (IsIndexed t.ids)
-          (sym (ap values_of written.0
-          ∙ row_set c.args.number (λ x. record x { etherealized = true }) t.rows.entries c.self.invariant.table.keyed c.self.invariant.table.ordered a b had
-          (c.etherealize.ensures)))
+          subst (IsIndexed t.ids) (sym values)
           (indexed_each t.ids (at_number c.args.number (λ x. record x { etherealized = true }))
           (keeps_where (λ x. x.number == c.args.number) (λ x. record x { etherealized = true }) (record { number = λ x. refl; adapter = λ x. refl; oid = λ x. refl }))
           (values_of t.rows.entries) c.self.invariant.indexed);
+      covered =
+          subst (Covers t.leaving.keys) (sym values)
+          (covers_at t.leaving.keys c.args.number (λ x. record x { etherealized = true }) (values_of t.rows.entries)
+          (record { number = λ x. refl; adapter = λ x. refl; oid = λ x. refl }) (λ x leaves. leaves) c.self.invariant.covered);
     })
 
 pub returns-in-Some : goal.returns-in-Some

@@ -1,10 +1,16 @@
 use Rattle.std.proofs.Common.{◌≡◌, ◌+◌, not, filter, length, refl, sym, ap, subst, ◌∙◌, arith}
+use Rattle.std.specs.BTreeMap.{get}
 use Rattle.std.specs.Map.{values_of}
+use Rattle.std.specs.Option.{is_some}
+use Rattle.std.specs.Ordering.{nat_cmp}
 use Rattle.std.proofs.lemmas.List.Filters.{length-filter_both}
 use Rattle.std.proofs.lemmas.Map.Entries.{length-values_of}
 use Rattle.history_standing.specs.Ends.{is_over}
+use Rattle.poa_tree.specs.Trees.{In}
+use Rattle.poa_tree.proofs.Members.{kept_in}
 use Rattle.active_map.specs.Live.{is_live, live}
 use Rattle.active_map.specs.Tables.{Table, IsIndexed}
+use Rattle.active_map.proofs.Covering.{covers_rest}
 use Rattle.active_map.proofs.Moving.{kept_still, none_still, still_lives}
 use Rattle.active_map.proofs.RowsKept.{table_kept, values_kept, still_rows}
 use Rattle.active_map.proofs.activations.Activations.forget.Goals as goal
@@ -16,14 +22,19 @@ pub invariant_of-self : goal.invariant_of-self
 invariant_of-self c =
     (let t = c.self.inside in
     let over = c.keep_live.ensures.over in
+    let table = table_kept t.forgotten t.moving (t.forgotten + c.keep_live.result) c.count_moving-self-inside.result t.rows.entries
+    c.keep_live.new.rows.entries (λ e. is_live c.args.config.now e.1) c.self.invariant.table c.keep_live.ensures.live c.keep_live.ensures.ordered
+    (omega (arith, over)) c.count_moving-self-inside.ensures in
     record {
-      table =
-          table_kept t.forgotten t.moving (t.forgotten + c.keep_live.result) c.count_moving-self-inside.result t.rows.entries c.keep_live.new.rows.entries
-          (λ e. is_live c.args.config.now e.1) c.self.invariant.table c.keep_live.ensures.live c.keep_live.ensures.ordered (omega (arith, over))
-          c.count_moving-self-inside.ensures;
+      table = table;
       indexed =
           subst (IsIndexed c.forget_ids.new.index)
           (sym (ap values_of c.keep_live.ensures.live ∙ values_kept (is_live c.args.config.now) t.rows.entries)) c.forget_ids.ensures;
+      covered =
+          covers_rest (is_live c.args.config.now) t.rows.entries c.keep_live.new.rows.entries c.keep_live.ensures.live table.keyed table.ordered t.leaving.keys
+          c.strike_forgotten.new.leaving.keys
+          (λ n was has. subst (In n) (sym c.strike_forgotten.ensures) (kept_in (λ m. is_some (get nat_cmp c.keep_live.new.rows m)) n t.leaving.keys was has))
+          c.self.invariant.covered;
     })
 
 pub returns-then-self-gt0-clause-forgotten : goal.returns-then-self-gt0-clause-forgotten

@@ -8,6 +8,7 @@ use Rattle.history_standing.specs.Ends.{is_over}
 use Rattle.active_map.specs.ById.{IsAt, numbers_of}
 use Rattle.active_map.specs.Tables.{Table, IsIndexed, is_moving, weight}
 use Rattle.active_map.proofs.IdsKept.{indexed_less, values_apart}
+use Rattle.active_map.proofs.Covering.{covers_rest, struck_stays}
 use Rattle.active_map.proofs.Removal.{absent_is, counted_without, is_spent, living_is, none_left, removed_is, split_at}
 use Rattle.active_map.proofs.RowsKept.{number_found, table_kept, values_kept, weight_within}
 use Rattle.active_map.proofs.activations.Activations.forget_at.Goals as goal
@@ -109,15 +110,20 @@ invariant_of-self c =
     let weighs = c.moves.ensures in
     let its = number_found c.args.number t.rows.entries c.self.invariant.table.keyed a had in
     let apart = values_apart t.rows.entries c.self.invariant.table.keyed c.self.invariant.table.ordered parts.before parts.after a parts.whole in
+    let table = table_kept t.forgotten t.moving (t.forgotten + 1) (t.moving - c.moves.result) t.rows.entries c.remove-gone.new.self.entries
+    (λ row. not (p row.1)) c.self.invariant.table kept c.remove-gone.ensures.ordered (omega (arith, whole, less, one, two, long, short))
+    (omega (arith, moved, still, weighs)) in
     record {
-      table =
-          table_kept t.forgotten t.moving (t.forgotten + 1) (t.moving - c.moves.result) t.rows.entries c.remove-gone.new.self.entries
-          (λ row. not (p row.1)) c.self.invariant.table kept c.remove-gone.ensures.ordered (omega (arith, whole, less, one, two, long, short))
-          (omega (arith, moved, still, weighs));
+      table = table;
       indexed =
           subst (IsIndexed c.remove.new.index) (sym left)
           (indexed_less t.ids c.remove.new.index a parts.before parts.after apart.0 apart.1 (subst (IsIndexed t.ids) parts.whole c.self.invariant.indexed)
           (subst (λ k. IsAt a.adapter a.oid (filter (λ m. not (m == k)) (numbers_of t.ids a.adapter a.oid)) t.ids c.remove.new.index) (sym its)
           (subst (λ oid. IsAt a.adapter oid (filter (λ m. not (m == c.args.number)) (numbers_of t.ids a.adapter oid)) t.ids c.remove.new.index)
           c.as_slice-oid.ensures.value c.remove.ensures)));
+      covered =
+          covers_rest (λ x. not (p x)) t.rows.entries c.remove-gone.new.self.entries kept table.keyed table.ordered t.leaving.keys c.strike.new.leaving.keys
+          (struck_stays c.args.number c.remove-gone.new.self.entries c.remove-gone.ensures.updates.1 t.leaving.keys c.strike.new.leaving.keys
+          c.strike.ensures)
+          c.self.invariant.covered;
     })

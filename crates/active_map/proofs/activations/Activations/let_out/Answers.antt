@@ -3,8 +3,9 @@ use Rattle.std.specs.Map.{values_of}
 use Rattle.std.proofs.Common.{[]}
 use Rattle.history_standing.specs.Ends.{is_left, let_out}
 use Rattle.history_standing.specs.Standings.{Standing}
-use Rattle.active_map.specs.Tables.{Table, IsIndexed}
+use Rattle.active_map.specs.Tables.{Table, IsIndexed, Covers}
 use Rattle.active_map.proofs.IdsKept.{indexed_each}
+use Rattle.active_map.proofs.Covering.{covers_each, stays_in}
 use Rattle.active_map.proofs.Moving.{map_still, still_stays}
 use Rattle.active_map.proofs.RowsKept.{keeps_where, table_each, values_each, still_rows, tabled}
 use Rattle.active_map.proofs.activations.Activations.let_out.Goals as goal
@@ -22,6 +23,9 @@ invariant_of-self c =
       indexed =
           subst (IsIndexed t.ids) (sym (ap values_of (c.let_all_out.ensures s refl) ∙ values_each f t.rows.entries))
           (indexed_each t.ids f keeps (values_of t.rows.entries) c.self.invariant.indexed);
+      covered =
+          subst (Covers t.leaving.keys) (sym (ap values_of (c.let_all_out.ensures s refl) ∙ values_each f t.rows.entries))
+          (covers_each t.leaving.keys f (values_of t.rows.entries) keeps (stays_in c.args.config.now s) c.self.invariant.covered);
     })
 
 pub returns-then-self-gt0 : goal.returns-then-self-gt0

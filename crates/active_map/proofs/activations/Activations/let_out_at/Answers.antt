@@ -4,8 +4,9 @@ use Rattle.std.specs.Option.{option_copied_mut}
 use Rattle.poa_history.specs.Changes.{at_number}
 use Rattle.history_standing.specs.Ends.{is_left, let_out}
 use Rattle.history_standing.specs.Standings.{Standing}
-use Rattle.active_map.specs.Tables.{Table, IsIndexed}
+use Rattle.active_map.specs.Tables.{Table, IsIndexed, Covers}
 use Rattle.active_map.proofs.IdsKept.{indexed_each}
+use Rattle.active_map.proofs.Covering.{covers_at, stays_in}
 use Rattle.active_map.proofs.RowsKept.{keeps_where, row_set, row_absent, weight_within, weight_few, moving_few, table_set, tabled}
 use Rattle.active_map.proofs.activations.Activations.let_out_at.Goals as goal
 
@@ -34,6 +35,9 @@ invariant_of-self c =
     let within = weight_within t.forgotten t.moving c.args.number t.rows.entries c.self.invariant.table a had in
     let before = c.moves.ensures in
     let after = c.moves-in-Some.ensures in
+    let values = ap values_of written.0
+    ∙ row_set c.args.number f t.rows.entries c.self.invariant.table.keyed c.self.invariant.table.ordered a b had
+    (c.let_out.ensures s refl) in
     record {
       table =
           table_set t.forgotten t.moving c.args.number t.rows.entries (c.get_mut.follows.lender b).entries f a b
@@ -42,13 +46,13 @@ invariant_of-self c =
           keeps
           (t.moving - c.moves.result + c.moves-in-Some.result) (omega (arith, within, before, after));
       indexed =
-          subst (IsIndexed t.ids)
-          (sym (ap values_of written.0
-          ∙ row_set c.args.number f t.rows.entries c.self.invariant.table.keyed c.self.invariant.table.ordered a b had
-          (c.let_out.ensures s refl)))
+          subst (IsIndexed t.ids) (sym values)
           (indexed_each t.ids (at_number c.args.number f)
           (keeps_where (λ x. x.number == c.args.number) f keeps)
           (values_of t.rows.entries) c.self.invariant.indexed);
+      covered =
+          subst (Covers t.leaving.keys) (sym values)
+          (covers_at t.leaving.keys c.args.number f (values_of t.rows.entries) keeps (stays_in c.args.config.now s) c.self.invariant.covered);
     })
 
 pub returns-in-Some : goal.returns-in-Some

@@ -3,8 +3,9 @@ use Rattle.std.proofs.lemmas.Map.Entries.{length-values_of}
 use Rattle.std.specs.Map.{values_of}
 use Rattle.history_standing.specs.declared.activation.Activation.{Activation}
 use Rattle.active_map.specs.ById.{IsAt, numbers_of}
-use Rattle.active_map.specs.Tables.{Table, IsIndexed, IsTable, IsWhole}
+use Rattle.active_map.specs.Tables.{Table, Covers, IsIndexed, IsTable, IsWhole}
 use Rattle.active_map.proofs.IdsKept.{earlier_others, indexed_back, indexed_more, indexed_same}
+use Rattle.active_map.proofs.Covering.{covers_more}
 use Rattle.active_map.proofs.RowsKept.{moving_few, weight_few, tabled, table_pushed, values_pushed}
 use Rattle.active_map.proofs.activations.Activations.push.Goals as goal
 
@@ -19,6 +20,7 @@ invariant_of-self c =
       table = c.self.invariant.table;
       indexed = indexed_same t.ids c.add.new.index (values_of t.rows.entries) c.self.invariant.indexed c.args.activation.adapter c.as_slice-oid.result.now
           c.in_err-add.ensures.err;
+      covered = c.self.invariant.covered;
     })
 
 pub invariant_of-self-in-Ok : goal.invariant_of-self-in-Ok
@@ -36,6 +38,9 @@ invariant_of-self-in-Ok c =
           (indexed_more t.ids c.add.new.index (values_of t.rows.entries) c.self.invariant.indexed a a.number refl
           (subst (λ oid. IsAt a.adapter oid (numbers_of t.ids a.adapter oid ++ a.number ∷ []) t.ids c.add.new.index) c.as_slice-oid.ensures.value
           c.in_ok-add.ensures.ok));
+      covered = subst (Covers t.leaving.keys)
+          (sym (values_pushed t.forgotten t.moving a.number a t.rows.entries c.insert.new.self.entries c.self.invariant.table next c.in-Ok.ensures.entries))
+          (covers_more t.leaving.keys a (values_of t.rows.entries) c.requires.lasts c.self.invariant.covered);
     })
 
 pub returns-in-Ok-clause-ok : goal.returns-in-Ok-clause-ok
@@ -56,7 +61,7 @@ invariant_of-self-in-Err c =
     ∙ ap (λ m. t.forgotten + m) (length-values_of t.rows.entries) in
     let back = c.in-Err.ensures.value_returned in
     let same : c.insert.new.self.entries ≡ t.rows.entries = c.in-Err.ensures.err in
-    subst (IsWhole t.forgotten t.moving c.remove.new.index) (sym same)
+    subst (IsWhole t.forgotten t.moving c.remove.new.index t.leaving.keys) (sym same)
     (record {
       table = c.self.invariant.table;
       indexed = indexed_back t.ids c.add.new.index c.remove.new.index (values_of t.rows.entries) a
@@ -69,4 +74,5 @@ invariant_of-self-in-Err c =
           (subst (λ oid. IsAt c.in-Err.failed.value.1.adapter oid
           (filter (λ n. not (n == a.number)) (numbers_of c.add.new.index c.in-Err.failed.value.1.adapter oid)) c.add.new.index c.remove.new.index)
           c.as_slice-oid-in-Err.ensures.value c.remove.ensures));
+      covered = c.self.invariant.covered;
     }))

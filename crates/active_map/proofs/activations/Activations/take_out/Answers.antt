@@ -2,8 +2,9 @@ use Rattle.std.proofs.Common.{◌+◌, ◌-◌, ◌≤◌, ◌==◌, true, false
 use Rattle.std.specs.Map.{values_of}
 use Rattle.std.specs.Option.{option_copied_mut}
 use Rattle.poa_history.specs.Changes.{at_number, is_elsewhere}
-use Rattle.active_map.specs.Tables.{Table, IsIndexed}
+use Rattle.active_map.specs.Tables.{Table, IsIndexed, Covers}
 use Rattle.active_map.proofs.IdsKept.{indexed_each}
+use Rattle.active_map.proofs.Covering.{covers_struck, gone_out}
 use Rattle.active_map.proofs.RowsKept.{keeps_where, row_set, row_absent, row_found, weight_within, weight_few, moving_few, table_set, tabled}
 use Rattle.active_map.proofs.activations.Activations.take_out.Goals as goal
 
@@ -29,6 +30,12 @@ invariant_of-self c =
     let within = weight_within t.forgotten t.moving c.args.number t.rows.entries c.self.invariant.table a had in
     let before = c.moves.ensures in
     let after = c.moves-in-Some.ensures in
+    let values = ap values_of written.0
+    ∙ row_set c.args.number (λ x. record x { out = true; remaining = is_elsewhere c.args.self.now.kept x }) t.rows.entries c.self.invariant.table.keyed c.self.invariant.table.ordered a b had
+    (c.let_go.ensures ∙ ap (λ r. record a { out = true; remaining = r })
+    (c.remains-remaining.ensures ∙ ap (λ o. elim o [ Some x ↦ is_elsewhere c.args.self.now.kept x | None ↦ false ])
+    (sym (ap (λ (u : Table). find (λ x. x.number == c.args.number) u.kept) c.self.view_is)
+    ∙ sym (row_found c.args.number t.rows.entries c.self.invariant.table.keyed) ∙ had))) in
     record {
       table =
           table_set t.forgotten t.moving c.args.number t.rows.entries (c.get_mut.follows.lender b).entries (λ x. record x { out = true; remaining = is_elsewhere c.args.self.now.kept x }) a b
@@ -40,16 +47,14 @@ invariant_of-self c =
           (record { number = λ x. refl; adapter = λ x. refl; oid = λ x. refl })
           (t.moving - c.moves.result + c.moves-in-Some.result) (omega (arith, within, before, after));
       indexed =
-          subst (IsIndexed t.ids)
-          (sym (ap values_of written.0
-          ∙ row_set c.args.number (λ x. record x { out = true; remaining = is_elsewhere c.args.self.now.kept x }) t.rows.entries c.self.invariant.table.keyed c.self.invariant.table.ordered a b had
-          (c.let_go.ensures ∙ ap (λ r. record a { out = true; remaining = r })
-          (c.remains-remaining.ensures ∙ ap (λ o. elim o [ Some x ↦ is_elsewhere c.args.self.now.kept x | None ↦ false ])
-          (sym (ap (λ (u : Table). find (λ x. x.number == c.args.number) u.kept) c.self.view_is)
-          ∙ sym (row_found c.args.number t.rows.entries c.self.invariant.table.keyed) ∙ had)))))
+          subst (IsIndexed t.ids) (sym values)
           (indexed_each t.ids (at_number c.args.number (λ x. record x { out = true; remaining = is_elsewhere c.args.self.now.kept x }))
           (keeps_where (λ x. x.number == c.args.number) (λ x. record x { out = true; remaining = is_elsewhere c.args.self.now.kept x }) (record { number = λ x. refl; adapter = λ x. refl; oid = λ x. refl }))
           (values_of t.rows.entries) c.self.invariant.indexed);
+      covered =
+          subst (Covers c.strike.new.leaving.keys) (sym values)
+          (covers_struck t.leaving.keys c.strike.new.leaving.keys c.args.number (λ x. record x { out = true; remaining = is_elsewhere c.args.self.now.kept x }) (values_of t.rows.entries)
+          (record { number = λ x. refl; adapter = λ x. refl; oid = λ x. refl }) gone_out c.strike.ensures c.self.invariant.covered);
     })
 
 pub returns-in-Some : goal.returns-in-Some

@@ -1,0 +1,7 @@
+use Rattle.std.proofs.Common.{sym, subst}
+use Rattle.poa_tree.specs.Trees.{In}
+use Rattle.active_map.proofs.Covering.{stays_without}
+use Rattle.active_map.proofs.leaving.strike.Goals as goal
+
+pub returns : goal.returns
+returns c = λ n there other. subst (In n) (sym c.remove-was.ensures.keys) (stays_without n c.args.number c.args.leaving.now.keys there other)

@@ -1,0 +1,51 @@
+//! The numbers of the activations that are ending and in the map. There may be numbers of others, too.
+ghost use Rattle.std.specs.Prelude.{◌≡◌, ◌==◌, ℕ, true, false, filter, is_some, OnOk};
+ghost use Rattle.std.specs.BTreeMap.{get, values};
+ghost use Rattle.std.specs.Ordering.{nat_cmp};
+ghost use Rattle.history_standing.specs.declared.activation.Activation.{Activation as Kept};
+ghost use Rattle.poa_tree.specs.Trees.{In};
+ghost use Rattle.active_map.specs.Endings.{takes};
+
+use crate::ending::Ending;
+use crate::rows::Rows;
+use poa_base::WantMemory;
+use std::collections::BTreeSet;
+
+/// Numbers, ascending.
+pub type Leaving = BTreeSet<u32>;
+
+/// A number is among them from now on.
+fn enter(leaving: &mut Leaving, number: u32) -> Result<(), WantMemory>
+    ensures wider { (n : ℕ) → In n leaving.old.keys → In n leaving.new.keys }
+    ensures ok { OnOk result (In number leaving.new.keys) }
+{
+    leaving.insert(number)?;
+    Ok(())
+}
+
+/// The numbers of those that a command ends are among them from now on. Some of them may be where it fails.
+pub fn enter_ended(leaving: &mut Leaving, rows: &Rows, ending: Ending<'_>) -> Result<(), WantMemory>
+    ensures wider { (n : ℕ) → In n leaving.old.keys → In n leaving.new.keys }
+    ensures ok { OnOk result ((a : Kept) → In a (values rows.now) → takes ending.entry a ≡ true → In a.number leaving.new.keys) }
+{
+    for activation in rows.values() {
+        if ending.takes(activation) {
+            enter(leaving, activation.number)?;
+        }
+    }
+    Ok(())
+}
+
+/// A number is among them no longer. Takes no memory.
+pub fn strike(leaving: &mut Leaving, number: u32)
+    ensures { (n : ℕ) → In n leaving.old.keys → (n == number) ≡ false → In n leaving.new.keys }
+{
+    let _was = leaving.remove(&number);
+}
+
+/// The numbers that no row has are among them no longer. Takes no memory.
+pub fn strike_forgotten(leaving: &mut Leaving, rows: &Rows)
+    ensures { leaving.new.keys ≡ filter (λ n. is_some (get nat_cmp rows.now n)) leaving.old.keys }
+{
+    leaving.retain(|number| rows.contains_key(number));
+}
