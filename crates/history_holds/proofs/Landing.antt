@@ -146,7 +146,7 @@ module _ (c : Config) (run : ℕ) (past : List Entry) (manned : IsManned c run p
       pub brings_moves : (n : ℕ) (phase : Phase) → Brings c run past s e n phase → (freed_by c run past e).moved ≡ Some n
       brings_moves n phase brings =
           let holds = subst (Holds past s) brings.begun (manned.stages brings.worker) in
-          let (f, there, at, of_it) = holds.1 in
+          let (f, there, at, of_it, request) = holds.1 in
           ap (λ x. (freed_by c run past x).moved) brings.same
           ∙ (ap (λ b. (incarnating s b).moved) brings.begun ∙ ((landed_in f brings.arrival there at).1 ∙ of_it))
 
@@ -154,7 +154,7 @@ module _ (c : Config) (run : ℕ) (past : List Entry) (manned : IsManned c run p
           → (freed_by c run past e).changed ≡ Some a.adapter
       brings_changes a phase there_a brings =
           let holds = subst (Holds past s) brings.begun (manned.stages brings.worker) in
-          let (f, there, at, of_it) = holds.1 in
+          let (f, there, at, of_it, request) = holds.1 in
           let home = manned.activations f a.number there of_it in
           let same : home.0 ≡ a = sound.activation_alone home.0 a home.1 there_a home.2 in
           ap (λ x. (freed_by c run past x).changed) brings.same
