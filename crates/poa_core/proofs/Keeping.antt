@@ -20,12 +20,14 @@ use Rattle.core_state.specs.declared.coming.Coming.{Coming}
 use Rattle.core_state.specs.State.{is_turn}
 use Rattle.poa_core.specs.declared.inside.Inside.{Inside}
 use Rattle.run_history.specs.Life.{Life}
-use Rattle.poa_core.specs.Agrees.{Agrees, KnowsTables, history, opened_in}
-use Rattle.poa_core.specs.Turning.{IsAsked, is_ending}
+use Rattle.core_tables.specs.Known.{KnowsTables}
+use Rattle.poa_core.specs.Agrees.{Agrees, history, opened_in}
+use Rattle.core_tables.specs.ToCome.{is_ending, stay}
+use Rattle.core_effects.specs.Turning.{IsAsked}
 use Rattle.poa_core.specs.Noting.{IsNoted}
-use Rattle.poa_core.specs.Kept.{IsKept, HasSpace, life, needed, stay}
+use Rattle.poa_core.specs.Kept.{IsKept, HasSpace, life, needed}
 use Rattle.core_state.proofs.Stated.{answers_state}
-use Rattle.poa_core.proofs.Space.{stay_turned, stay_ended, turns_arrive_none}
+use Rattle.core_tables.proofs.Space.{stay_turned, stay_ended, turns_arrive_none}
 
 -- the history goes on by the entry
 pub longer : (e : Entry) (old new : Inside) → IsNoted e old new → history new ≡ e ∷ history old

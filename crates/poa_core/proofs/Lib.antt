@@ -1,9 +1,5 @@
-pub mod Turned
-pub mod Tabled
 pub mod Noted
 pub mod Quieted
-pub mod Endings
-pub mod Space
 pub mod Connected
 pub mod Abandoned
 pub mod Ready
@@ -14,7 +10,7 @@ pub mod NextTurn
 pub mod Filling
 pub mod ArrivedThen
 pub mod Begun
+pub mod Agreed
 pub mod TableFits
 pub mod CommandFits
 pub mod ReplyFits
-pub mod Admitted

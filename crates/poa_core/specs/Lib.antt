@@ -1,6 +1,6 @@
 pub mod Answers
+pub mod Agreeing
 pub mod Agrees
-pub mod Turning
 pub mod Noting
 pub mod Kept
 pub mod Arriving

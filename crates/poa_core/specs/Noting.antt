@@ -16,11 +16,12 @@ use Rattle.run_tally.specs.Tallies.{HasRoomFor as HasRoomForTally}
 use Rattle.journal_entries.specs.Rows.{HasRoomFor}
 use Rattle.core_state.specs.State.{IsState}
 use Rattle.poa_core.specs.declared.inside.Inside.{Inside}
-use Rattle.poa_core.specs.declared.turning.Brought.{Brought}
+use Rattle.core_effects.specs.declared.brought.Brought.{Brought}
 use Rattle.run_history.specs.Life.{with_entry}
-use Rattle.poa_core.specs.Agrees.{KnowsTables, opened_in, history}
+use Rattle.core_tables.specs.Known.{KnowsTables}
+use Rattle.poa_core.specs.Agrees.{opened_in, history}
 use Rattle.poa_core.specs.Kept.{life}
-use Rattle.poa_core.specs.Turning.{IsBrought}
+use Rattle.core_effects.specs.Turning.{IsBrought}
 
 -- there is room for the entry
 pub record HasRoomForEntry (e : Entry) (i : Inside) : Type 0 where

@@ -13,6 +13,10 @@ ghost use Rattle.poa_history.specs.States.{stored};
 ghost use Rattle.poa_tree.specs.Nodes.{node_at};
 ghost use Rattle.poa_base.specs.declared.Entry.TheVariants.{Left};
 ghost use Rattle.run_history.specs.Life.{begun, opened, with_entry};
+ghost use Rattle.core_outboxes.specs.Owed.{AreOwed};
+ghost use Rattle.core_state.specs.State.{IsState};
+ghost use Rattle.core_tables.specs.Known.{KnowsTables};
+ghost use Rattle.poa_core.specs.Agreeing.{CountsAgree, QueuesAgree, RemovalsAgree};
 ghost use Rattle.poa_core.specs.Answers as answers;
 ghost use Rattle.poa_core.specs.Fits.{FitsItsCall};
 
@@ -23,7 +27,9 @@ use crate::inside::Inside;
 use crate::step_out::StepOut;
 use crate::{abandoning, arriving, beginning, collecting, connecting, stepping};
 use core_arrivals::queue;
-use core_outboxes::Fresh;
+use core_outboxes::{Desk, Fresh};
+use core_state::State;
+use core_tables::Tables;
 use history_openings::laws::{lifetimes_are_kept, runs_last};
 use journal_entries::Entries;
 use poa_base::{Call, Config, Entry, Path, Store, WantMemory};
@@ -148,19 +154,19 @@ impl Core {
     pub fn phase(&self) -> Phase
         ensures { result ≡ phase_of self.now.history }
     {
-        run_tally::phase_of(&self.inside.tables.tally)
+        run_tally::phase_of(&self.tables().tally)
     }
 
     /// How many calls, and bytes of calls, stood when the run took no more, if it came to that.
     pub fn filled(&self) -> Option<Full>
         ensures { option_map (λ f. (f.arrivals, f.bytes)) result ≡ answers.filled_at self.now.history }
     {
-        run_tally::filled(&self.inside.tables.tally)
+        run_tally::filled(&self.tables().tally)
     }
 
     /// To whom the last entry gave replies: whom to wake.
     pub fn fresh(&self) -> Fresh {
-        self.inside.desk.outboxes.fresh
+        self.desk().outboxes.fresh
     }
 
     /// For proofs: the history is that of a run of an accepted configuration, and legal.
@@ -199,6 +205,35 @@ impl Core {
         &self.inside.entries
     }
 
+    /// What stands, what is set and the servants, as they are kept beside the journal. The requests and trials in
+    /// flight, and so each count of them, are those that stand after the history; so are the activations that aren't
+    /// over, which of them are ending, and the removal that each worker finds due.
+    pub fn state(&self) -> &State
+        ensures counts { CountsAgree self.now result.now }
+        ensures removals { RemovalsAgree self.now result.now }
+        ensures state { IsState self.now.config self.now.run (opened self.now) self.now.history result.now }
+    {
+        &self.inside.state
+    }
+
+    /// The tables that are kept beside the journal: where each call arrived, which wait, what each worker has begun,
+    /// and what was counted. The calls that wait are those of the history, in its order, each ready to be asked or with
+    /// those that the same holds.
+    pub fn tables(&self) -> &Tables
+        ensures queues { QueuesAgree self.now result.now }
+        ensures tables { KnowsTables self.now.config self.now.run self.now.history result.now }
+    {
+        &self.inside.tables
+    }
+
+    /// The desk of replies, as it is kept beside the journal. It has a row for each call that is owed a reply: one that
+    /// asks it, and that no entry has decided.
+    pub fn desk(&self) -> &Desk
+        ensures { AreOwed self.now.config self.now.run self.now.history result.now.owing.items }
+    {
+        &self.inside.desk
+    }
+
     /// The number of the run.
     pub fn run(&self) -> u32
         ensures { result ≡ self.now.run }
@@ -225,14 +260,14 @@ impl Core {
         ensures { (path : List (List ℕ)) (oid : List ℕ)
             → stored_in result.now path oid ≡ stored self.now.config self.now.run (opened self.now) self.now.history path oid }
     {
-        &self.inside.state.servants.store
+        &self.state().servants.store
     }
 
     /// The number of the adapter at a path, also while it is being destroyed; none where there is none.
     pub fn adapter_number(&self, path: &Path) -> Option<u32>
         ensures { result ≡ option_map (λ n. n.number) (node_at (standing self.now.config self.now.run self.now.history).nodes path.now) }
     {
-        let node = nodes::node_at(&self.inside.state.standing.nodes, path.as_slice())?;
+        let node = nodes::node_at(&self.state().standing.nodes, path.as_slice())?;
         Some(node.number)
     }
 
@@ -240,6 +275,6 @@ impl Core {
     pub fn unadmitted(&self) -> u64
         ensures { result ≡ answers.unadmitted self.now.history }
     {
-        queue::count(&self.inside.tables.queue)
+        queue::count(&self.tables().queue)
     }
 }

@@ -5,8 +5,8 @@ ghost use Rattle.run_history.specs.Life as lives;
 ghost use Rattle.poa_core.specs.Kept.{IsKept, life};
 
 use crate::inside::Inside;
-use crate::tables;
 use core_outboxes::Desk;
+use core_tables::Tables;
 use journal_entries::Entries;
 use poa_base::{Config, Store, WantMemory};
 use std::alloc::Global;
@@ -25,7 +25,7 @@ pub fn begin(
     ensures kept { IfOk result (λ inside. IsKept inside) }
     ensures begun { IfOk result (λ inside. life inside ≡ lives.begun config run limit opening) }
 {
-    let tables = tables::none(alloc)?;
+    let tables = Tables::new(alloc)?;
     let state = core_state::opening(alloc, &config, run, &opening)?;
     let mut entries = Entries::new(alloc)?;
     entries.reserve(18)?;

@@ -1,7 +1,7 @@
 //! What the core keeps of its run.
-use crate::tables::Tables;
 use core_outboxes::Desk;
 use core_state::State;
+use core_tables::Tables;
 use journal_entries::Entries;
 use poa_base::{Config, Store};
 use std::alloc::Global;
@@ -17,6 +17,7 @@ pub struct Inside {
     pub opening: Store,
     /// The journal, the oldest entry first.
     pub entries: Entries,
+    /// Where each call arrived, which wait, what each worker has begun, and what was counted.
     pub tables: Tables,
     /// Who is owed a reply, and which are decided.
     pub desk: Desk,

@@ -16,12 +16,9 @@ mod inside;
 mod noting;
 mod quieting;
 mod room;
-mod serving;
 mod step_out;
 mod stepping;
-mod tables;
 mod taking;
-mod turning;
 
 pub use adapter_core::Core;
 pub use arrive_fault::ArriveFault;

@@ -3,8 +3,7 @@ ghost use Rattle.poa_core.specs.Agrees.{history};
 ghost use Rattle.poa_core.specs.Noting.{HasRoomForEntry, IsHalfway, IsNoted};
 
 use crate::inside::Inside;
-use crate::tables;
-use crate::turning::Brought;
+use core_effects::Brought;
 use history_standing::Stage;
 use poa_base::Entry;
 
@@ -29,6 +28,6 @@ pub fn note(inside: &mut Inside, entry: Entry, stage: Stage, brought: Brought)
         ordered,
         &mut inside.desk,
     );
-    tables::advance(&entry, &inside.entries, stage, freed, &mut inside.tables);
+    inside.tables.advance(&entry, &inside.entries, stage, freed);
     inside.entries.push(entry);
 }

@@ -5,7 +5,7 @@ ghost use Rattle.poa_core.specs.Kept.{IsQuiet};
 
 use crate::inside::Inside;
 use crate::noting::note;
-use crate::turning::Brought;
+use core_effects::Brought;
 use history_holds::Freed;
 use history_standing::Stage;
 use poa_base::Entry;

@@ -6,10 +6,9 @@ ghost use Rattle.core_outboxes.specs.Desk.{HasRoomForOne};
 ghost use Rattle.poa_core.specs.Agrees.{history};
 ghost use Rattle.poa_core.specs.Kept.{HasSpace, IsKept, IsReady, life, needed, to_come};
 ghost use Rattle.poa_core.specs.Noting.{HasRoomForEntry};
-ghost use Rattle.poa_core.specs.Turning as turning;
+ghost use Rattle.core_tables.specs.ToCome as coming;
 
 use crate::inside::Inside;
-use crate::tables;
 use poa_base::{Entry, WantMemory};
 
 /// How many entries of workers may still come that take no memory, at most: each of 16 may have to end what it
@@ -17,7 +16,7 @@ use poa_base::{Entry, WantMemory};
 const WORKERS: usize = 32;
 
 /// How many entries may still come that take no memory, and some more; none where that is too many to count.
-#[tactic(auto, using(crate::proofs::Endings::workers_few))]
+#[tactic(auto, using(core_tables::proofs::Endings::workers_few))]
 fn most(inside: &Inside) -> Option<usize>
     ensures { IsSomeAnd result (λ n. to_come inside.now + 2 ≤ n) ⊎ (result ≡ None) }
 {
@@ -38,7 +37,7 @@ pub fn make_room(inside: &mut Inside) -> Result<(), WantMemory>
     ensures desk { inside.new.desk ≡ inside.old.desk }
     ensures life { life inside.new ≡ life inside.old }
 {
-    tables::reserve(&mut inside.tables)?;
+    inside.tables.reserve()?;
     let most = most(inside).ok_or(WantMemory)?;
     inside.entries.reserve(most)
 }
@@ -57,7 +56,7 @@ pub fn make_room_for_call(inside: &mut Inside, conn: u32) -> Result<(), WantMemo
 
 /// Whether an entry only ends what was begun.
 fn is_ending(entry: &Entry) -> bool
-    ensures { result ≡ turning.is_ending entry.now }
+    ensures { result ≡ coming.is_ending entry.now }
 {
     matches!(entry, Entry::Done { .. } | Entry::Etherealized { .. })
 }
@@ -72,7 +71,7 @@ pub fn make_room_for(inside: &mut Inside, entry: &Entry) -> Result<(), WantMemor
     ensures space { OnOk result (HasSpace (needed entry.now) inside.new) }
     ensures kept { IsKept inside.new }
     ensures life { life inside.new ≡ life inside.old }
-    ensures ends { turning.is_ending entry.now ≡ true → IsOk result }
+    ensures ends { coming.is_ending entry.now ≡ true → IsOk result }
 {
     if is_ending(entry) {
         return Ok(());

@@ -7,8 +7,10 @@ use Rattle.run_history.specs.Life.{Life}
 use Rattle.poa_core.proofs.arriving.refuse.Goals as goal
 
 pub returns-in-Some-clause-refused : goal.returns-in-Some-clause-refused
-returns-in-Some-clause-refused c = (let i = c.args.inside.now in let tally = c.requires.kept.agrees.tables.tally in
-    (filled_same c.args.conn c.args.size (life i) (was_filled (history i) i.tables.tally c.in-Some.full tally c.in-Some.is), filled_then (history i) i.tables.tally c.in-Some.full tally c.in-Some.is))
+returns-in-Some-clause-refused c = (let i = c.args.inside.now in let tally = c.requires.kept.agrees.tables.tally in (
+  filled_same c.args.conn c.args.size (life i) (was_filled (history i) i.tables.tally c.in-Some.full tally c.in-Some.is),
+  filled_then (history i) i.tables.tally c.in-Some.full tally c.in-Some.is,
+))
 
 pub quiet-requires-clause-room : goal.quiet-requires-clause-room
 quiet-requires-clause-room c = (let i = c.args.inside.now in let tally = c.requires.kept.agrees.tables.tally in

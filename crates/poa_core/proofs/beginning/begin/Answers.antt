@@ -10,8 +10,8 @@ returns-clause-kept c =
       limited = c.requires.limit;
       state = c.in_ok-state.ensures;
       tables = c.in_ok-tables.ensures c.args.config c.args.run;
-      owing = c.new-2.ensures.owing;
-      files = c.new-2.ensures.files;
+      owing = c.new-3.ensures.owing;
+      files = c.new-3.ensures.files;
       entries = c.reserve.ensures.items ∙ c.in_ok-entries.ensures;
       len = ap length (c.reserve.ensures.items ∙ c.in_ok-entries.ensures);
       space = (let fits = c.in_ok-reserve.ensures.room in omega (arith, fits));

@@ -1,7 +1,7 @@
 use Rattle.std.proofs.Common.{◌≡◌, true, false, ap, ◌∙◌}
 use Rattle.core_arrivals.specs.Begun.{only_ends}
 use Rattle.poa_core.specs.Agrees.{history, opened_in}
-use Rattle.poa_core.proofs.Endings.{ending_stage}
+use Rattle.core_tables.proofs.Endings.{ending_stage, ends_only}
 use Rattle.poa_core.proofs.Keeping.{asked_then, runs_still, begun_still, left_still, turn_kept}
 use Rattle.poa_core.proofs.Filed.{filed_as}
 use Rattle.poa_core.proofs.taking.take.Goals as goal
@@ -54,3 +54,7 @@ returns-in_err-runs-clause-ends c = λ ends.
     let never : false ≡ true =
     c.in_err-runs.ensures.ends (ap only_ends c.requires.begun ∙ ending_stage i.config i.run i.limit (history i) c.args.entry c.requires.follows.legal.0 ends) in
     absurd (let e : false ≡ true = never in cc))
+
+pub returns-in_err-brought-clause-ends : goal.returns-in_err-brought-clause-ends
+returns-in_err-brought-clause-ends c = λ ends.
+    (let never : false ≡ true = c.in_err-brought.ensures.ends (ends_only c.args.entry ends) in absurd (let e : false ≡ true = never in cc))

@@ -1,0 +1,16 @@
+//! What an entry brings.
+use core_outboxes::{Decision, Ordered, Wait};
+use history_holds::Freed;
+
+/// What an entry of a worker brings, beside what it changes.
+#[derive(Drop)]
+pub struct Brought {
+    /// What it decides of the arrival that it speaks of.
+    pub decision: Option<Decision>,
+    /// What the command that it admits waits for.
+    pub wait: Option<Wait>,
+    /// What the command that it admits orders.
+    pub ordered: Option<Ordered>,
+    /// What it frees of what holds calls.
+    pub freed: Freed,
+}
