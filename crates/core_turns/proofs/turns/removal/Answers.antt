@@ -1,4 +1,4 @@
-use Rattle.std.proofs.Common.{not, ap, sym, refl, ◌∙◌}
+use Rattle.std.proofs.Common.{Some, not, ap, sym, refl, ◌∙◌}
 use Rattle.std.specs.Option.{option_copied, option_map}
 use Rattle.poa_base.specs.declared.Entry.TheVariants.{TakeOut}
 use Rattle.history_standing.specs.declared.activation.Activation.{Activation}
