@@ -1,7 +1,7 @@
 -- A request that was admitted to a servant runs in an activation of its key's path and id, where the adapter keeps its objects
 -- and has a servant manager.
 use Rattle.history_laws.proofs.Begun.{let_same, next_number}
-use Rattle.history_laws.specs.Keyed.{StandsFor, Fits, IsKeyed}
+use Rattle.history_laws.specs.Keyed.{Reaches, Fits, IsKeyed}
 use Rattle.history_laws.proofs.RunRows.{is_loose, ties}
 use Rattle.poa_names.specs.Policies.{is_retain, is_servant_manager}
 use Rattle.poa_base.specs.declared.Attempt.TheVariants.{Dying as ParentDying, No as NoChild, Raised, Yes}
@@ -92,7 +92,7 @@ begins_run (AnswerNow x) is = is
 begins_run Wait is = is
 
 module _ (c : Config) (run limit : ℕ) (given : IsGiven c run) (alone : IsGivenAlone c run) (within : IsWithinLimits c limit) where
-  stands_later : (past : List Entry) (e : Entry) (n : ℕ) (key : Key) → StandsFor (standing c run past) n key → StandsFor (standing c run (e ∷ past)) n key
+  stands_later : (past : List Entry) (e : Entry) (n : ℕ) (key : Key) → Reaches (standing c run past) n key → Reaches (standing c run (e ∷ past)) n key
   stands_later past e n key it =
       let (b, there, later) = step_later c run past e it.it it.there in
       record { it = b; there = there; number = later.number ∙ it.number; path = later.path ∙ it.path; oid = later.oid ∙ it.oid }
@@ -135,7 +135,7 @@ module _ (c : Config) (run limit : ℕ) (given : IsGiven c run) (alone : IsGiven
             by_phase Void at' no_ = absurd (let f : false ≡ true = no_ in cc)
 
     -- the activation that an incarnation begins
-    pub begun_for : (n : ℕ) (key : Key) → e ≡ Admit w r (Incarnate n) → key_in (call_of past r) ≡ Some key → StandsFor (standing c run (e ∷ past)) n key
+    pub begun_for : (n : ℕ) (key : Key) → e ≡ Admit w r (Incarnate n) → key_in (call_of past r) ≡ Some key → Reaches (standing c run (e ∷ past)) n key
     begun_for n key is has =
         let s1 = changed c run past e s in
         let a : Activation =

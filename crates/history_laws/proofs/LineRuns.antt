@@ -1,6 +1,6 @@
 -- A run acts on the one line.
 use Rattle.history_laws.proofs.Incarnations.{all_fresh, one_alone}
-use Rattle.history_laws.specs.Keyed.{Fits, IsKeyed, StandsFor}
+use Rattle.history_laws.specs.Keyed.{Fits, IsKeyed, Reaches}
 use Rattle.history_laws.proofs.Keyed.{keyed}
 use Rattle.history_laws.proofs.Line.{Carries, IsLine, carried_after, carried_before, still, told_then}
 use Rattle.history_laws.specs.OneLine.{AreIncarnated, BringsFresh, calls_on, is_call_on, line_opening, line_state, replies_by, replies_on, runs_on, state_after}
@@ -122,7 +122,7 @@ module _ (c : Config) (run limit : ℕ) (given : IsGiven c run) (alone : IsGiven
       at_oid : key.key.oid ≡ oid
       at_oid = bytes_same key.key.oid oid parts.1
 
-      by_number : (n : ℕ) → StandsFor s n key.key → named (Some running.verdict) ≡ Some n
+      by_number : (n : ℕ) → Reaches s n key.key → named (Some running.verdict) ≡ Some n
           → servant_by c s (Some running.verdict) ≡ servant_of_activation (activation_numbered s n) → (a : Activation) × Carries s p oid a
           × (the_servant ≡ Some (FreshServant a.number))
       by_number n it names gives_ =
@@ -180,7 +180,7 @@ module _ (c : Config) (run limit : ℕ) (given : IsGiven c run) (alone : IsGiven
       gives_it : servant_by c s (Some running.verdict) ≡ Some (FreshServant a.number)
       gives_it = sym servant_is ∙ servant_same (FreshServant a.number) the_servant runs_it
 
-      by_number : (n : ℕ) → StandsFor s n key.key → named (Some running.verdict) ≡ Some n
+      by_number : (n : ℕ) → Reaches s n key.key → named (Some running.verdict) ≡ Some n
           → servant_by c s (Some running.verdict) ≡ servant_of_activation (activation_numbered s n) → on_pair ≡ true
       by_number n it names gives_ =
           let served = running.served n names in

@@ -14,7 +14,7 @@ use Rattle.history_standing.specs.Templates.{policies_at, retains, uses_servant_
 use Rattle.poa_history.specs.Changes.{standing}
 
 -- the activation stands, with the path and the id of the key
-pub record StandsFor (s : Standing) (n : ℕ) (key : Key) : Type 0 where
+pub record Reaches (s : Standing) (n : ℕ) (key : Key) : Type 0 where
   pub it : Activation
   pub there : In it s.activations
   pub number : it.number ≡ n
@@ -23,8 +23,8 @@ pub record StandsFor (s : Standing) (n : ℕ) (key : Key) : Type 0 where
 
 -- it goes to the activation of its key, and to another servant only where the adapter has no servant activator
 abbrev pub Fits : Config → Standing → Key → Verdict → Type 0
-Fits c s key (Serve n) = StandsFor s n key
-Fits c s key (Incarnate n) = StandsFor s n key
+Fits c s key (Serve n) = Reaches s n key
+Fits c s key (Incarnate n) = Reaches s n key
 Fits c s key v = retains (policies_at c key.path) ≡ true → uses_servant_manager (policies_at c key.path) ≡ true → ⊥
 
 -- a request that arrived has a key, and reaches its object

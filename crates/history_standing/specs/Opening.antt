@@ -18,8 +18,21 @@ with_node p s = record s { nodes = created s.count p s.nodes; count = suc s.coun
 -- an activation is begun, and gets the next number
 abbrev pub with_activation : ℕ → List (List ℕ) → List ℕ → Phase → Standing → Standing
 with_activation k p oid phase s =
-    record s
-    { activations = s.activations ++ record { number = length s.activations; adapter = k; path = p; oid = oid; phase = phase; ending = false; quiet = false; out = false; cleanup = false; remaining = false; etherealized = false } ∷ [] }
+    record s {
+      activations = s.activations ++ record {
+        number = length s.activations;
+        adapter = k;
+        path = p;
+        oid = oid;
+        phase = phase;
+        ending = false;
+        quiet = false;
+        out = false;
+        cleanup = false;
+        remaining = false;
+        etherealized = false;
+      } ∷ [];
+    }
 
 -- a system-made object id: the run and the next ordinal, from 1 on (CORBA 3.3 Part 1, section 15.2.1)
 abbrev pub made_id : ℕ → ℕ → List ℕ

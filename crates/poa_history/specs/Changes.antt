@@ -101,8 +101,11 @@ with_made_activation c run p servant s = with_activation (number_at s p) p (made
 
 abbrev pub with_reference : Config → ℕ → List (List ℕ) → List ℕ → Standing → Standing
 with_reference c run p servant s =
-    elim (live_at s p)
-    [ Some n ↦ (elim (servant_number c servant) [ Some k ↦ (if is_implicit c s n k then with_made_activation c run p servant s else s) | None ↦ s ]) | None ↦ s ]
+    elim (live_at s p) [
+      | Some n ↦ (elim (servant_number c servant)
+          [ Some k ↦ (if is_implicit c s n k then with_made_activation c run p servant s else s) | None ↦ s ])
+      | None ↦ s
+    ]
 
 -- what a command that is done changes
 abbrev pub with_command : Config → ℕ → Option Command → Standing → Standing
