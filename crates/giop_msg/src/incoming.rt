@@ -2,7 +2,7 @@
 use poa_base::Call;
 
 /// What a message asks.
-#[derive(Debug, PartialEq, Eq, Drop)]
+#[derive(Debug, Drop)]
 pub enum Incoming {
     /// A Request or a LocateRequest.
     Call(Call),

@@ -14,7 +14,7 @@ pub enum Phase {
 
 /// An activation that was begun: the binding of an object id of one adapter to a servant. CORBA 3.3 Part 1,
 /// section 15.2.1.
-#[derive(Clone, Debug, PartialEq, Eq, Drop)]
+#[derive(Debug, Drop)]
 pub struct Activation {
     /// Activations are numbered in the order in which they were begun.
     pub number: u32,

@@ -1,12 +1,9 @@
 //! A configuration, with its names turned into numbers.
-use poa_names::{
-    Bytes, Endpoint, Items, ManagerState, Name, Oid, Path, PolicySet, State, SysExc, TryClone,
-};
-use std::alloc::AllocError;
+use poa_names::{Bytes, Endpoint, Items, ManagerState, Name, Oid, Path, PolicySet, State, SysExc};
 
 /// What a server is configured with. Manager 0 is `root`, and the configured managers follow from 1
 /// on; a servant's number is its place in `servants`, from 0 on.
-#[derive(Clone, Debug, PartialEq, Eq, Drop)]
+#[derive(Debug, Drop)]
 pub struct Config {
     /// The number of the run.
     pub run: u32,
@@ -25,21 +22,21 @@ pub struct Config {
 }
 
 /// A manager and the state in which it starts.
-#[derive(Clone, Debug, PartialEq, Eq, Drop)]
+#[derive(Debug, Drop)]
 pub struct ManagerConf {
     pub name: Name,
     pub start: ManagerState,
 }
 
 /// A servant, with its kind and the state in which it starts.
-#[derive(Clone, Debug, PartialEq, Eq, Drop)]
+#[derive(Debug, Drop)]
 pub struct ServantConf {
     pub name: Name,
     pub state: State,
 }
 
 /// The template of an adapter.
-#[derive(Clone, Debug, PartialEq, Eq, Drop)]
+#[derive(Debug, Drop)]
 pub struct AdapterConf {
     pub path: Path,
     pub policies: PolicySet,
@@ -73,14 +70,14 @@ pub enum Kind {
 }
 
 /// A rule of a servant manager. Without an id it matches every id.
-#[derive(Clone, Debug, PartialEq, Eq, Drop)]
+#[derive(Debug, Drop)]
 pub struct RuleConf {
     pub oid: Option<Oid>,
     pub gives: Gives,
 }
 
 /// What a rule gives.
-#[derive(Clone, Debug, PartialEq, Eq, Drop)]
+#[derive(Debug, Drop)]
 pub enum Gives {
     /// A new servant of this kind.
     Fresh(Kind),
@@ -91,7 +88,7 @@ pub enum Gives {
 }
 
 /// An object that is active from the start. Without an id it gets a system-made one.
-#[derive(Clone, Debug, PartialEq, Eq, Drop)]
+#[derive(Debug, Drop)]
 pub struct ObjectConf {
     pub adapter: Path,
     pub oid: Option<Oid>,
@@ -99,56 +96,8 @@ pub struct ObjectConf {
 }
 
 /// An entry of the endpoint table.
-#[derive(Clone, Debug, PartialEq, Eq, Drop)]
+#[derive(Debug, Drop)]
 pub struct ForwardConf {
     pub path: Path,
     pub endpoint: Endpoint,
-}
-
-impl TryClone for ManagerConf {
-    fn try_clone(&self) -> Result<Self, AllocError> {
-        self.clone()
-    }
-}
-
-impl TryClone for ServantConf {
-    fn try_clone(&self) -> Result<Self, AllocError> {
-        self.clone()
-    }
-}
-
-impl TryClone for AdapterConf {
-    fn try_clone(&self) -> Result<Self, AllocError> {
-        self.clone()
-    }
-}
-
-impl TryClone for RuleConf {
-    fn try_clone(&self) -> Result<Self, AllocError> {
-        self.clone()
-    }
-}
-
-impl TryClone for Gives {
-    fn try_clone(&self) -> Result<Self, AllocError> {
-        self.clone()
-    }
-}
-
-impl TryClone for ObjectConf {
-    fn try_clone(&self) -> Result<Self, AllocError> {
-        self.clone()
-    }
-}
-
-impl TryClone for ForwardConf {
-    fn try_clone(&self) -> Result<Self, AllocError> {
-        self.clone()
-    }
-}
-
-impl TryClone for Config {
-    fn try_clone(&self) -> Result<Self, AllocError> {
-        self.clone()
-    }
 }

@@ -29,7 +29,7 @@ pub enum Datum {
 }
 
 /// How an operation ended.
-#[derive(Clone, Debug, PartialEq, Eq, Drop)]
+#[derive(Debug, Drop)]
 pub enum Outcome {
     /// A result, or none.
     Value(Option<Datum>),
@@ -40,7 +40,7 @@ pub enum Outcome {
 }
 
 /// The answer to a call.
-#[derive(Clone, Debug, PartialEq, Eq, Drop)]
+#[derive(Debug, Drop)]
 pub enum Reply {
     /// How the operation ended.
     Outcome(Outcome),
@@ -63,18 +63,6 @@ impl TryClone for Ask {
 }
 
 impl TryClone for Datum {
-    fn try_clone(&self) -> Result<Self, AllocError> {
-        self.clone()
-    }
-}
-
-impl TryClone for Outcome {
-    fn try_clone(&self) -> Result<Self, AllocError> {
-        self.clone()
-    }
-}
-
-impl TryClone for Reply {
     fn try_clone(&self) -> Result<Self, AllocError> {
         self.clone()
     }

@@ -1,10 +1,9 @@
 //! The lines of a script that is replayed.
 use crate::invocation::Datum;
-use poa_names::{Bytes, Name, Oid, Path, TryClone};
-use std::alloc::AllocError;
+use poa_names::{Bytes, Name, Oid, Path};
 
 /// A line of a script.
-#[derive(Clone, Debug, PartialEq, Eq, Drop)]
+#[derive(Debug, Drop)]
 pub enum ScriptLine {
     /// An empty line or a comment.
     Skipped,
@@ -47,10 +46,4 @@ pub enum ScriptLine {
     Store,
     /// The journal is printed.
     Journal,
-}
-
-impl TryClone for ScriptLine {
-    fn try_clone(&self) -> Result<Self, AllocError> {
-        self.clone()
-    }
 }

@@ -1,9 +1,8 @@
 //! What the verdict on a request or a locate asks, and what it gives.
-use poa_base::{Cause, Endpoint, Items, ManagerState, Name, PolicySet, SysExc, TryClone, Verdict};
-use std::alloc::AllocError;
+use poa_base::{Cause, Endpoint, Items, ManagerState, Name, PolicySet, SysExc, Verdict};
 
 /// What stands about a request or a locate, in the order in which the table of verdicts asks it.
-#[derive(Clone, Debug, PartialEq, Eq, Drop)]
+#[derive(Debug, Drop)]
 pub struct Facts {
     /// A locate, and not a request.
     pub locate: bool,
@@ -78,7 +77,7 @@ pub enum MapFact {
 }
 
 /// What the first matching rule of a servant locator gives.
-#[derive(Clone, Debug, PartialEq, Eq, Drop)]
+#[derive(Debug, Drop)]
 pub enum Located {
     Servant(Name),
     Forward(Endpoint),
@@ -87,7 +86,7 @@ pub enum Located {
 }
 
 /// What the table of verdicts gives.
-#[derive(Clone, Debug, PartialEq, Eq, Drop)]
+#[derive(Debug, Drop)]
 pub enum Choice {
     Go(Verdict),
     /// The call is held, until its cause changes.
@@ -95,7 +94,7 @@ pub enum Choice {
 }
 
 /// What the waiting commands ask.
-#[derive(Clone, Debug, PartialEq, Eq, Drop)]
+#[derive(Debug, Drop)]
 pub struct WaitFacts {
     /// The managers in whose adapters nothing is in flight.
     pub quiet: Items<u32>,
@@ -103,28 +102,4 @@ pub struct WaitFacts {
     pub ended: Items<u32>,
     /// The adapters that are gone.
     pub gone: Items<u32>,
-}
-
-impl TryClone for Located {
-    fn try_clone(&self) -> Result<Self, AllocError> {
-        self.clone()
-    }
-}
-
-impl TryClone for Facts {
-    fn try_clone(&self) -> Result<Self, AllocError> {
-        self.clone()
-    }
-}
-
-impl TryClone for Choice {
-    fn try_clone(&self) -> Result<Self, AllocError> {
-        self.clone()
-    }
-}
-
-impl TryClone for WaitFacts {
-    fn try_clone(&self) -> Result<Self, AllocError> {
-        self.clone()
-    }
 }
