@@ -94,7 +94,8 @@ within_out old new oid out at =
     }
 
 pub within_same : (old new : Ids) (oid : List ℕ) → new.entries ≡ old.entries → IsWithin oid (numbers_in old oid) old new
-within_same old new oid same = record { at = ap (λ es. items_of (lookup (hits oid) es)) same; others = λ other _. ap (λ es. items_of (lookup (hits other) es)) same }
+within_same old new oid same =
+    record { at = ap (λ es. items_of (lookup (hits oid) es)) same; others = λ other _. ap (λ es. items_of (lookup (hits other) es)) same }
 
 pub within_through : (old mid new : Ids) (oid some numbers : List ℕ) → IsWithin oid some old mid → IsWithin oid numbers mid new → IsWithin oid numbers old new
 within_through old mid new oid some numbers first second =

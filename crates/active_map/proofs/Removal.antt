@@ -55,7 +55,8 @@ absent_is n over (row ∷ rows) keyed none =
     elim (is_at (nat_cmp n) row.0) as (λ t. is_at (nat_cmp n) row.0 ≡ t → cond t (Some row.1) (lookup (is_at (nat_cmp n)) rows) ≡ None
     → filter (is_spent n over) (row.1 ∷ values_of rows) ≡ []) [
       | true ↦ (λ hit here. absurd (let e : Some row.1 ≡ None = here in cc))
-      | false ↦ (λ miss there. cond-false (is_spent n over row.1) (row.1 ∷ filter (is_spent n over) (values_of rows)) (filter (is_spent n over) (values_of rows))
+      | false ↦ (λ miss there. cond-false (is_spent n over row.1) (row.1 ∷ filter (is_spent n over) (values_of rows))
+          (filter (is_spent n over) (values_of rows))
           (ap (λ b. b && over row.1) (ap (λ k. k == n) keyed.0 ∙ sym (at_is n row.0) ∙ miss)) ∙ absent_is n over rows keyed.1 there)
     ] refl none
 
@@ -96,7 +97,8 @@ living_is n over (row ∷ rows) keyed ordered a is living =
           (ap (λ b. (row.1.number == n) && b) (ap over whose ∙ living) ∙ never (row.1.number == n))
           ∙ others_live (values_of rows) (λ b there. subst (λ k. (b.number == k) ≡ false) same
           (behind_differs row.0 rows keyed.1 (sorted_head nat_cmp row.0 (keys_of rows) ordered) b there))))
-      | false ↦ (λ miss there. cond-false (is_spent n over row.1) (row.1 ∷ filter (is_spent n over) (values_of rows)) (filter (is_spent n over) (values_of rows))
+      | false ↦ (λ miss there. cond-false (is_spent n over row.1) (row.1 ∷ filter (is_spent n over) (values_of rows))
+          (filter (is_spent n over) (values_of rows))
           (ap (λ b. b && over row.1) (ap (λ k. k == n) keyed.0 ∙ sym (at_is n row.0) ∙ miss))
           ∙ living_is n over rows keyed.1 (sorted_tail nat_cmp row.0 (keys_of rows) ordered) a there living)
     ] refl is
@@ -115,7 +117,8 @@ living_is n over (row ∷ rows) keyed ordered a is living =
 pub none_left : (p : Activation → Bool) (as' : List Activation) → filter p as' ≡ [] → as' ≡ filter (λ a. not (p a)) as'
 none_left p [] none = refl
 none_left p (a ∷ as') none =
-    elim (p a) as (λ t. cond t (a ∷ filter p as') (filter p as') ≡ [] → a ∷ as' ≡ cond (not t) (a ∷ filter (λ b. not (p b)) as') (filter (λ b. not (p b)) as')) [
+    elim (p a) as (λ t. cond t (a ∷ filter p as') (filter p as') ≡ [] → a ∷ as' ≡ cond (not t) (a ∷ filter (λ b. not (p b)) as')
+    (filter (λ b. not (p b)) as')) [
       | true ↦ (λ some. absurd (let e : a ∷ filter p as' ≡ [] = some in cc))
       | false ↦ (λ rest. ap (λ bs. a ∷ bs) (none_left p as' rest))
     ] none

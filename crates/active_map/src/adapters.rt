@@ -27,7 +27,8 @@ fn is_live_at(rows: &Rows, config: &Config, adapter: u32, number: u32) -> bool
 
 /// Whether one of the numbers is that of such an activation.
 fn is_any_live(rows: &Rows, config: &Config, adapter: u32, numbers: &[u32]) -> bool
-    ensures { result ≡ list_any (λ n. at_one (λ a. (a.adapter == adapter) && not (ends.is_over config.now a)) (get nat_cmp rows.now n)) numbers.now }
+    ensures { result ≡ list_any (λ n. at_one (λ a. (a.adapter == adapter) && not (ends.is_over config.now a)) (get nat_cmp rows.now n))
+        numbers.now }
 {
     numbers
         .iter()
@@ -37,7 +38,8 @@ fn is_any_live(rows: &Rows, config: &Config, adapter: u32, numbers: &[u32]) -> b
 /// Whether one of the ids has such an activation.
 pub fn has_live(rows: &Rows, ids: &Ids, config: &Config, adapter: u32) -> bool
     ensures { result ≡ list_any (λ numbers. list_any
-        (λ n. at_one (λ a. (a.adapter == adapter) && not (ends.is_over config.now a)) (get nat_cmp rows.now n)) numbers.items) (values ids.now) }
+        (λ n. at_one (λ a. (a.adapter == adapter) && not (ends.is_over config.now a)) (get nat_cmp rows.now n)) numbers.items)
+        (values ids.now) }
 {
     ids.values().any(|numbers| is_any_live(rows, config, adapter, numbers.as_slice()))
 }
@@ -54,7 +56,8 @@ fn is_changing_at(rows: &Rows, config: &Config, adapter: u32, number: u32) -> bo
 
 /// Whether one of the numbers is that of such an activation.
 fn is_any_changing(rows: &Rows, config: &Config, adapter: u32, numbers: &[u32]) -> bool
-    ensures { result ≡ list_any (λ n. at_one (λ a. (a.adapter == adapter) && situations.is_unfinished config.now a) (get nat_cmp rows.now n)) numbers.now }
+    ensures { result ≡ list_any (λ n. at_one (λ a. (a.adapter == adapter) && situations.is_unfinished config.now a)
+        (get nat_cmp rows.now n)) numbers.now }
 {
     numbers
         .iter()
@@ -64,7 +67,8 @@ fn is_any_changing(rows: &Rows, config: &Config, adapter: u32, numbers: &[u32]) 
 /// Whether one of the ids has such an activation.
 pub fn has_changing(rows: &Rows, ids: &Ids, config: &Config, adapter: u32) -> bool
     ensures { result ≡ list_any (λ numbers. list_any
-        (λ n. at_one (λ a. (a.adapter == adapter) && situations.is_unfinished config.now a) (get nat_cmp rows.now n)) numbers.items) (values ids.now) }
+        (λ n. at_one (λ a. (a.adapter == adapter) && situations.is_unfinished config.now a) (get nat_cmp rows.now n)) numbers.items)
+        (values ids.now) }
 {
     ids.values().any(|numbers| is_any_changing(rows, config, adapter, numbers.as_slice()))
 }
@@ -90,7 +94,8 @@ fn is_any_other(rows: &Rows, activation: &Activation, numbers: &[u32]) -> bool
 
 /// Whether one of the ids has such an activation.
 pub fn has_other(rows: &Rows, ids: &Ids, activation: &Activation) -> bool
-    ensures { result ≡ list_any (λ numbers. list_any (λ n. at_one (is_other activation.now) (get nat_cmp rows.now n)) numbers.items) (values ids.now) }
+    ensures { result ≡ list_any (λ numbers. list_any (λ n. at_one (is_other activation.now) (get nat_cmp rows.now n)) numbers.items)
+        (values ids.now) }
 {
     ids.values().any(|numbers| is_any_other(rows, activation, numbers.as_slice()))
 }

@@ -29,8 +29,14 @@ passed bytes front rest place split =
 
 pub stands_behind : StandsBehind
 stands_behind bytes field c after stands read = record {
-  place = omega
-      (arith, read.passed.moved, ap (λ (l : List ℕ). length l) (sym stands.rest ∙ read.passed.split), length-drop c.place bytes, length-append read.bytes after.rest, stands.place);
+  place = omega (
+    arith,
+    read.passed.moved,
+    ap (λ (l : List ℕ). length l) (sym stands.rest ∙ read.passed.split),
+    length-drop c.place bytes,
+    length-append read.bytes after.rest,
+    stands.place,
+  );
   rest = subst (λ (n : ℕ). after.rest ≡ drop n bytes) (sym read.passed.moved)
       (passed bytes read.bytes after.rest c.place (sym stands.rest ∙ read.passed.split));
 }

@@ -46,8 +46,11 @@ module _ (ms : List ManagerConf) (ss : List ServantConf) (managers servants : Fi
   keep_after : (done xs : List AdapterConf) → AllByRecursion (λ (d : AdapterConf). IsWritten d.path) done → EachAfter (IsReadAfter managers servants) done xs
       → EachAfter (IsAdapter (length ms) (length ss)) done xs
   keep_after done [] written each = tt
-  keep_after done (x ∷ xs) written each =
-      (adapter_keeps done x written each.0, keep_after (done ++ x ∷ []) xs (all_push (λ (d : AdapterConf). IsWritten d.path) done x written (record { few = each.0.few; named = each.0.named })) each.1)
+  keep_after done (x ∷ xs) written each = (
+    adapter_keeps done x written each.0,
+    keep_after (done ++ x ∷ []) xs
+        (all_push (λ (d : AdapterConf). IsWritten d.path) done x written (record { few = each.0.few; named = each.0.named })) each.1,
+  )
 
   pub adapters_keep : (xs : List AdapterConf) → EachAfter (IsReadAfter managers servants) [] xs → EachAfter (IsAdapter (length ms) (length ss)) [] xs
   adapters_keep xs each = keep_after [] xs tt each

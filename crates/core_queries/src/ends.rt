@@ -30,7 +30,8 @@ fn is_lived_in(config: &Config, node: &Node, path: &[Name], activations: &Activa
 /// Whether one of the adapters is at the path or below it, and one of its activations isn't over.
 fn are_lived_in(config: &Config, nodes: &[Node], path: &[Name], activations: &Activations) -> bool
     ensures { result ≡ list_any
-        (λ n. leads_to path.now n.path && list_any (λ a. (a.adapter == n.number) && not (ends.is_over config.now a)) activations.now.kept) nodes.now }
+        (λ n. leads_to path.now n.path && list_any (λ a. (a.adapter == n.number) && not (ends.is_over config.now a))
+        activations.now.kept) nodes.now }
 {
     nodes
         .iter()

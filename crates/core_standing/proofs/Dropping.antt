@@ -94,7 +94,8 @@ module _ (c : Config) (s : Standing) where
   flight_under : (k : ℕ) (p : List (List ℕ)) (f : Flight) → In f s.flights → stands_under (left k) p f.adapter ≡ stands_under s.nodes p f.adapter
   flight_under k p f flies =
       any_from (stays c s) (λ m. (m.number == f.adapter) && leads_to p m.path) k s.nodes
-      (λ m is goes. is_other m f.adapter p is (none_by (λ g. stands_under s.nodes m.path g.adapter) f s.flights flies (clear_parts c s m.path (goes_clear m goes)).0))
+      (λ m is goes. is_other m f.adapter p is (none_by (λ g. stands_under s.nodes m.path g.adapter) f s.flights flies
+      (clear_parts c s m.path (goes_clear m goes)).0))
 
   activation_under : (k : ℕ) (p : List (List ℕ)) (a : Activation) → In a s.activations → not (is_over c a) ≡ true
       → stands_under (left k) p a.adapter ≡ stands_under s.nodes p a.adapter

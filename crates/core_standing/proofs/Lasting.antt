@@ -132,7 +132,8 @@ module _ (c : Config) (run : ℕ) (past : List Entry) (n : ℕ) (touched : ℕ �
   pub removed_lasts : (e : Entry) → is_removal e ≡ true → SameOthers touched t.activations (changed c run past e t).activations
       → Others c touched (changed c run past e t) → Lasts c n (left c (changed c run past e t))
   removed_lasts (TakeOut w m etherealize) is same others =
-      lasting c n touched t (map (at_number m (λ a. record a { out = true; remaining = is_elsewhere t.activations a })) t.activations) one stay alone same others
+      lasting c n touched t (map (at_number m (λ a. record a { out = true; remaining = is_elsewhere t.activations a })) t.activations) one stay alone same
+      others
       (from_one m (λ a. record a { out = true; remaining = is_elsewhere t.activations a }) (λ a. (refl, refl)) t.activations)
   removed_lasts (Etherealized w cleanup remaining) is same others = told (stage past w) same others
   removed_lasts (Entered conn) is same others = absurd (let e : false ≡ true = is in cc)

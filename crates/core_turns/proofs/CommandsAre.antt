@@ -86,7 +86,8 @@ module _ (c : Config) (run : ℕ) (past : List Entry) (t : Standing) (answers : 
       ]) (implicit_same n k)
       ∙ ap (λ o. elim o [
         | Some a ↦ Some (Answer (GoodIor (reference_text c run n.number p a.oid k)))
-        | None ↦ (if is_implicit c s n k then Some (Answer (GoodIor (reference_text c run n.number p (made_id run (suc s.made)) k))) else refusal ServantNotActive)
+        | None ↦ (if is_implicit c s n k then Some (Answer (GoodIor (reference_text c run n.number p (made_id run (suc s.made)) k))) else refusal
+            ServantNotActive)
       ]) (referred_same n k)))
 
   kept_same : (command : Command) → command_verdict c run past on command ≡ command_verdict c run past s command

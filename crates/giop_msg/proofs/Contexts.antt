@@ -70,8 +70,11 @@ one_closing o p a b c here there =
     let operation = one_text_read o p a here.read.0 there.read.0 here.read.1.0 there.read.1.0 in
     let count_read : Reads (ulong (length there.contexts)) here.read.0 there.read.1.1.0 =
     subst (λ (z : Cursor). Reads (ulong (length there.contexts)) z there.read.1.1.0) (sym operation.1) there.read.1.1.1.0 in
-    let count = one_ulong_read (length here.contexts) (length there.contexts) here.read.0 here.read.1.1.0 there.read.1.1.0 here.read.1.1.1.0 count_read in
-    (operation.0, ends_once here.contexts there.contexts here.read.1.1.0 b c count.0 here.read.1.1.1.1 (subst (λ (z : Cursor). ReadsAll (context_fields there.contexts) z c) (sym count.1) there.read.1.1.1.1))
+    let count = one_ulong_read (length here.contexts) (length there.contexts) here.read.0 here.read.1.1.0 there.read.1.1.0 here.read.1.1.1.0 count_read in (
+      operation.0,
+      ends_once here.contexts there.contexts here.read.1.1.0 b c count.0 here.read.1.1.1.1
+          (subst (λ (z : Cursor). ReadsAll (context_fields there.contexts) z c) (sym count.1) there.read.1.1.1.1),
+    )
 
 -- the operation, the count and the contexts were read
 pub closing_read : (operation : List ℕ) (count : ℕ) (a b c d : Cursor) → Reads (text operation) a b → Reads (ulong count) b c → HasContexts count c d

@@ -136,12 +136,13 @@ module _ (c : Config) (run limit : ℕ) (given : IsGiven c run) (alone : IsGiven
       begun = (worked.1, worked.2);
       alone = λ w at. manned_.begun_alone w worked.0 at.0 worked.1 a.number at.1 worked.2;
     });
-    removing = λ a there activator out loud untold. (let worked = removal_worked c run limit given alone within h legal a there activator out loud untold in record {
-      worker = worked.0;
-      below = busy_by worked.0 (Removing a.number) worked.1 (λ f. cc);
-      begun = worked.1;
-      alone = λ w at. manned_.removal_alone w worked.0 a.number at worked.1;
-    });
+    removing =
+        λ a there activator out loud untold. (let worked = removal_worked c run limit given alone within h legal a there activator out loud untold in record {
+          worker = worked.0;
+          below = busy_by worked.0 (Removing a.number) worked.1 (λ f. cc);
+          begun = worked.1;
+          alone = λ w at. manned_.removal_alone w worked.0 a.number at worked.1;
+        });
   }
 
   module _ (idle : AreIdle c run h) where
@@ -155,16 +156,17 @@ module _ (c : Config) (run limit : ℕ) (given : IsGiven c run) (alone : IsGiven
               elim (find (λ a. is_of k oid a && not (is_over c a)) s.activations) [ Some a ↦ Busy a.number | None ↦ FreeSlot ]
         ]) ≡ false) [
           | Some a ↦ λ _. refl
-          | None ↦ λ none. elim (find (λ a. is_of k oid a && not (is_over c a)) s.activations) as (λ o. find (λ a. is_of k oid a && not (is_over c a)) s.activations ≡ o → is_busy_slot (elim o [
-            | Some a ↦ Busy a.number
-            | None ↦ FreeSlot
-          ]) ≡ false) [
-            | None ↦ λ _. refl
-            | Some a ↦ λ found. (let there = find_in (λ x. is_of k oid x && not (is_over c x)) a s.activations found in
-                let parts = and_parts (is_of k oid a) (not (is_over c a)) there.1 in
-                absurd (find_none (λ x. is_of k oid x && is_active x) a s.activations none there.0
-                (ap₂ (λ x y. x && y) parts.0 (living_active c run limit given alone within h legal idle a there.0 (not_true (is_over c a) parts.1)))))
-          ] refl
+          | None ↦ λ none. elim (find (λ a. is_of k oid a && not (is_over c a)) s.activations) as (λ o. find (λ a. is_of k oid a && not (is_over c a))
+              s.activations ≡ o → is_busy_slot (elim o [
+                | Some a ↦ Busy a.number
+                | None ↦ FreeSlot
+              ]) ≡ false) [
+                | None ↦ λ _. refl
+                | Some a ↦ λ found. (let there = find_in (λ x. is_of k oid x && not (is_over c x)) a s.activations found in
+                    let parts = and_parts (is_of k oid a) (not (is_over c a)) there.1 in
+                    absurd (find_none (λ x. is_of k oid x && is_active x) a s.activations none there.0
+                    (ap₂ (λ x y. x && y) parts.0 (living_active c run limit given alone within h legal idle a there.0 (not_true (is_over c a) parts.1)))))
+              ] refl
         ] refl
 
     freed : (r : ℕ) → IsFreed (facts_of c run h r)

@@ -54,8 +54,11 @@ module _ (f : Facts) where
   by_walk : (worker : ℕ) (walk : WalkFact) → runs (walk_rows f worker walk) ≡ true → (f.state ≡ Active) × (walk ≡ Found)
   by_walk worker Dying h = impossible (refused Transiently ADAPTER_DYING) h
   by_walk worker Missing h = impossible no_missing h
-  by_walk worker Found h =
-      (cond_both f.differs _ _ (λ c. runs c ≡ true → f.state ≡ Active) (λ _. impossible (refused ObjectNotExist OTHER_LIFESPAN)) (λ _. active_by f.state (thread_rows f worker)) h, refl)
+  by_walk worker Found h = (
+    cond_both f.differs _ _ (λ c. runs c ≡ true → f.state ≡ Active) (λ _. impossible (refused ObjectNotExist OTHER_LIFESPAN))
+        (λ _. active_by f.state (thread_rows f worker)) h,
+    refl,
+  )
 
   by_key : (worker : ℕ) (key : KeyFact) → runs (key_rows f worker key) ≡ true → (f.state ≡ Active) × (f.walk ≡ Found)
   by_key worker Absent h = impossible refl h

@@ -124,7 +124,8 @@ brought_named c s a name is = by_rule (rule_for (rules_at c a.path) a.oid) is
           | Servant k ↦ named_or_double c s a k
           | ForwardRule endpoint ↦ ForwardTo endpoint
           | RaiseRule exception ↦ Raise exception
-        ]) ≡ Named name → (j : ℕ) × ((is_unique (policies_at c a.path) && is_in_map s.activations a.adapter (NamedServant j)) ≡ false) × (servant_name c j ≡ Some name)
+        ]) ≡ Named name → (j : ℕ) × ((is_unique (policies_at c a.path) && is_in_map s.activations a.adapter (NamedServant j)) ≡ false) × (servant_name c
+        j ≡ Some name)
     by_gives (FreshKind kind) same = absurd (let e : Fresh a.number ≡ Named name = same in cc)
     by_gives (Servant k) same = by_double k (is_unique (policies_at c a.path) && is_in_map s.activations a.adapter (NamedServant k)) refl same
     by_gives (ForwardRule endpoint) same = absurd (let e : ForwardTo endpoint ≡ Named name = same in cc)

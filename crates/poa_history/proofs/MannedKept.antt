@@ -373,8 +373,13 @@ module _ (c : Config) (run limit : ℕ) (past : List Entry) (e : Entry) (may : M
               verdict = Incarnate it.number;
               by = ap (λ z. admitted (z ∷ past) it.arrival) is ∙ by;
               run = refl;
-              flying =
-                  (f, subst (λ fs. In f fs) (sym (ap (λ z. (changed c run past z s).flights) is ∙ brings_flights c s (stage past w) a yes_)) flying, at, of_it, tried);
+              flying = (
+                f,
+                subst (λ fs. In f fs) (sym (ap (λ z. (changed c run past z s).flights) is ∙ brings_flights c s (stage past w) a yes_)) flying,
+                at,
+                of_it,
+                tried,
+              );
               served = λ m names. (let f : Some it.number ≡ Some m = names in let g : it.number ≡ m = cc in
                   (b.0, b.1, b.2 ∙ (ap (λ z. z.number) y_is ∙ (numbered ∙ g)), (phase.0, b.4 ∙ (ap (λ z. z.phase) y_is ∙ phase.1))));
             }
@@ -384,7 +389,13 @@ module _ (c : Config) (run limit : ℕ) (past : List Entry) (e : Entry) (may : M
         let it = run_is c run past w (as_this (Run w) is) in
         subst (λ b. Holds (e ∷ past) t (ran b)) (sym it.1)
         (running_kept c past (e ∷ past) s t it.0 (ap (λ z. admitted (z ∷ past) it.0) is)
-        (λ activation trial flying. (flying.0, subst (λ fs. In flying.0 fs) (sym (ap (λ z. (changed c run past z s).flights) is)) flying.1, flying.2, flying.3, flying.4)) later
+        (λ activation trial flying. (
+          flying.0,
+          subst (λ fs. In flying.0 fs) (sym (ap (λ z. (changed c run past z s).flights) is)) flying.1,
+          flying.2,
+          flying.3,
+          flying.4,
+        )) later
         (subst (λ b. Holds past s b) it.1 (held_.stages w)))
 
     holds_takeout : (n : ℕ) → e ≡ TakeOut w n true → Holds (e ∷ past) t (Removing n)

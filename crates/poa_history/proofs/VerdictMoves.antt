@@ -121,14 +121,15 @@ module _ (c : Config) (run : ℕ) (s : Standing) (sound : IsSound c run s) (r : 
           | None ↦ elim (find (λ b. is_of k key.oid b && not (is_over c b)) s.activations) [ Some b ↦ Busy b.number | None ↦ Free ]
         ]) ≡ Free → ⊥) [
           | Some b ↦ λ not_free. (let e : Active b.number ≡ Free = not_free in cc)
-          | None ↦ λ not_busy. (elim (find (λ b. is_of k key.oid b && not (is_over c b)) s.activations) as (λ o. find (λ b. is_of k key.oid b && not (is_over c b)) s.activations ≡ o → (elim o [
-            | Some b ↦ Busy b.number
-            | None ↦ Free
-          ]) ≡ Free → ⊥) [
-            | Some b ↦ λ _ not_free. (let e : Busy b.number ≡ Free = not_free in cc)
-            | None ↦ λ none _. find_none (λ b. is_of k key.oid b && not (is_over c b)) a s.activations none is
-                (ap₂ (λ x y. x && y) (ap₂ (λ x y. x && y) (eq-eqb _ _ at_k) (ap (λ i. same_bytes i key.oid) of_id ∙ same_self key.oid)) (ap not lives))
-          ] refl not_busy)
+          | None ↦ λ not_busy. (elim (find (λ b. is_of k key.oid b && not (is_over c b)) s.activations) as (λ o. find
+              (λ b. is_of k key.oid b && not (is_over c b)) s.activations ≡ o → (elim o [
+                | Some b ↦ Busy b.number
+                | None ↦ Free
+              ]) ≡ Free → ⊥) [
+                | Some b ↦ λ _ not_free. (let e : Busy b.number ≡ Free = not_free in cc)
+                | None ↦ λ none _. find_none (λ b. is_of k key.oid b && not (is_over c b)) a s.activations none is
+                    (ap₂ (λ x y. x && y) (ap₂ (λ x y. x && y) (eq-eqb _ _ at_k) (ap (λ i. same_bytes i key.oid) of_id ∙ same_self key.oid)) (ap not lives))
+              ] refl not_busy)
         ] free)
       ]
 

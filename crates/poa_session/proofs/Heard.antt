@@ -100,7 +100,11 @@ module _ (g : Givens) (peer : Peer) (c : ℕ) (v : View Givens Entry) (i j : Int
     calls = [];
     adds = adds_same g c v;
     heard = λ text unfilled expected. (
-      record { input = expects_begins peer (OfIntake i) text (arrived_by (past v) c) expected (intake_goes_on i []); cause = tt; filled = none_filled text unfilled },
+      record {
+        input = expects_begins peer (OfIntake i) text (arrived_by (past v) c) expected (intake_goes_on i []);
+        cause = tt;
+        filled = none_filled text unfilled;
+      },
       λ shown. tt,
     );
     taken = taken;

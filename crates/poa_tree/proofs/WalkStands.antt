@@ -37,11 +37,12 @@ walk_from_tells ns here (x ∷ p) whole is at =
     (if b then Dying here.number else
     (elim (node_at ns (here.path ++ x ∷ [])) [ Some n ↦ walk_from ns n p | None ↦ Missing here.number (length here.path) ]))) [
       | true ↦ λ dying. (here, is, refl, dying)
-      | false ↦ λ lives. elim (node_at ns (here.path ++ x ∷ [])) as (λ found. node_at ns (here.path ++ x ∷ []) ≡ found → Tells ns whole (elim found [ Some n ↦ walk_from ns n p | None ↦ Missing here.number (length here.path) ])) [
-        | Some n ↦ λ found. (let there = node_found ns (here.path ++ x ∷ []) n found in
-            walk_from_tells ns n p whole there.0 (at ∙ (sym (append_snoc here.path x p) ∙ ap (λ q. q ++ p) (sym there.1))))
-        | None ↦ λ none. (here, is, refl, lives, refl, (x, p, at, node_missing ns (here.path ++ x ∷ []) none))
-      ] refl
+      | false ↦ λ lives. elim (node_at ns (here.path ++ x ∷ [])) as (λ found. node_at ns (here.path ++ x ∷ []) ≡ found → Tells ns whole
+          (elim found [ Some n ↦ walk_from ns n p | None ↦ Missing here.number (length here.path) ])) [
+            | Some n ↦ λ found. (let there = node_found ns (here.path ++ x ∷ []) n found in
+                walk_from_tells ns n p whole there.0 (at ∙ (sym (append_snoc here.path x p) ∙ ap (λ q. q ++ p) (sym there.1))))
+            | None ↦ λ none. (here, is, refl, lives, refl, (x, p, at, node_missing ns (here.path ++ x ∷ []) none))
+          ] refl
     ] refl
 
 pub walk_tells : (ns : List Node) (count : ℕ) (p : List (List ℕ)) → IsTree ns count → Tells ns p (walk ns p)

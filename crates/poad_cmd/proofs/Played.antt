@@ -62,7 +62,11 @@ pub plays_no_script : (file script : List ℕ) (config : Config) (s : Status) (a
     → IfTold a b HoldsStill → IfTold b c HoldsStill
     → TakesScript script (Err s) b c → PlaysFiles file script s a c h h
 plays_no_script file script config (status.ScriptRefused line) a b c h t still more u = (
-  no_script (record { config = config; takes_config = config_on file config a b c t more; refused = no_script_before script (status.ScriptRefused line) a b c still u }),
+  no_script (record {
+    config = config;
+    takes_config = config_on file config a b c t more;
+    refused = no_script_before script (status.ScriptRefused line) a b c still u;
+  }),
   same_held h,
 )
 plays_no_script file script config status.NoFile a b c h t still more u = (

@@ -48,8 +48,12 @@ module _ {T G E : Type 0} (givens : T → G) (history : T → List E) (owner : E
               (λ (o : get_elem? r.line k ≡ some j).
               let h = r.in_line k j o in
               (h.0, set_else s.views id j w (not_in_line givens history owner all base s r id me.0 at no_ticket k j o) ∙ h.1, h.2, h.3))
-              (λ (o : (k ≡ length r.line) × (id ≡ j)).
-              (w, subst (λ (i : ℕ). get_elem? (set s.views id w) i ≡ some w) o.1 (set_here s.views id w (at_below s.views id me.0 at)), refl, r.next_is ∙ ap (λ (z : ℕ). (served + z) % 2 ^ 64) (sym o.0)))
+              (λ (o : (k ≡ length r.line) × (id ≡ j)). (
+                w,
+                subst (λ (i : ℕ). get_elem? (set s.views id w) i ≡ some w) o.1 (set_here s.views id w (at_below s.views id me.0 at)),
+                refl,
+                r.next_is ∙ ap (λ (z : ℕ). (served + z) % 2 ^ 64) (sym o.0),
+              ))
               (at_push r.line id j k q));
           counted = let t = total_set (tickets {G = G} {E = E}) s.views id me.0 w at in let c = r.counted in omega arith;
           whole = same_total (weight {G = G} {E = E}) s.views id me.0 w at (omega arith) ∙ r.whole;

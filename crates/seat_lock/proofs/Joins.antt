@@ -42,10 +42,12 @@ module _ {E : Type 0} where
   -- where the shorter history begins the longer, both begin the longer
   pub both_begin : (a b : List E) → (length (shorter a b) ≤ length (longer a b) → IsPrefix (shorter a b) (longer a b)) → IsPrefix a (longer a b)
       × IsPrefix b (longer a b)
-  both_begin a b = (elim (ltb (length a) (length b)) as (λ t. ltb (length a) (length b) ≡ t → (length (cond t a b) ≤ length (cond t b a) → IsPrefix (cond t a b) (cond t b a)) → IsPrefix a (cond t b a) × IsPrefix b (cond t b a)) [
-    | true ↦ λ h p. (let l = ltb-true (length a) (length b) h in (p (omega arith), prefix_self b))
-    | false ↦ λ h p. (let l = ltb-false (length a) (length b) h in (prefix_self a, p (omega arith)))
-  ]) refl
+  both_begin a b =
+      (elim (ltb (length a) (length b)) as (λ t. ltb (length a)
+      (length b) ≡ t → (length (cond t a b) ≤ length (cond t b a) → IsPrefix (cond t a b) (cond t b a)) → IsPrefix a (cond t b a) × IsPrefix b (cond t b a)) [
+        | true ↦ λ h p. (let l = ltb-true (length a) (length b) h in (p (omega arith), prefix_self b))
+        | false ↦ λ h p. (let l = ltb-false (length a) (length b) h in (prefix_self a, p (omega arith)))
+      ]) refl
 
 module _ {T G E : Type 0} (givens : T → G) (history : T → List E) (owner : E → Option ℕ) (all : G) (base : ℕ) where
   abbrev L : State (Option T) (View G E) → Type 0

@@ -45,8 +45,12 @@ module _ {T G E : Type 0} (givens : T → G) (history : T → List E) (all : G) 
   pub holds_still : (id : ℕ) (v w : View G E) → get_elem? views id ≡ some v → v.stage ≢ Turn → (place : Place T) → Holds givens history all log views place
       → Holds givens history all log (set views id w) place
   holds_still id v w at not (home x) h = h
-  holds_still id v w at not (out j) h =
-      (h.0, set_else views id j w (λ e. not (subst (λ (u : View G E). u.stage ≡ Turn) (one_at views id h.0 v (subst (λ (z : ℕ). get_elem? views z ≡ some h.0) e h.1) at) h.2)) ∙ h.1, h.2)
+  holds_still id v w at not (out j) h = (
+    h.0,
+    set_else views id j w (λ e. not (subst (λ (u : View G E). u.stage ≡ Turn)
+        (one_at views id h.0 v (subst (λ (z : ℕ). get_elem? views z ≡ some h.0) e h.1) at) h.2)) ∙ h.1,
+    h.2,
+  )
 
   pub holds_longer : (w : View G E) (place : Place T) → Holds givens history all log views place → Holds givens history all log (views ++ w ∷ []) place
   holds_longer w (home x) h = h

@@ -52,8 +52,12 @@ module _ {G : Type 0} where
   pub still_writer : (v t w : View G Note) (n : ℕ) (h new : List Note) (c : ℕ) → t ≡ turned_to v n h → w ≡ passed_on t new → Knows writer_of v h
       → MayPut writer_of h v.mine new → IsWriter v c → IsWriter w c
   still_writer v t w n h new c took put k may is =
-      subst (λ (z : View G Note). IsWriter z c) (sym (put ∙ ap (λ (z : View G Note). passed_on z new) took))
-      (is.0, in_made is.0 v.mine h new is.1, belongs_prefix writer_of h new is.0 c (put_begins writer_of v.mine h new may) (belongs_prefix writer_of v.seen h is.0 c k.saw is.2))
+      subst (λ (z : View G Note). IsWriter z c) (sym (put ∙ ap (λ (z : View G Note). passed_on z new) took)) (
+        is.0,
+        in_made is.0 v.mine h new is.1,
+        belongs_prefix writer_of h new is.0 c (put_begins writer_of v.mine h new may)
+            (belongs_prefix writer_of v.seen h is.0 c k.saw is.2),
+      )
 
   -- who entered is the writer
   pub new_writer : (v t w : View G Note) (n : ℕ) (h new : List Note) (c : ℕ) → t ≡ turned_to v n h → new ≡ h ++ note c 0 ∷ []

@@ -105,7 +105,8 @@ module _ {A L : Type 0} (g : Givens) (shown : L → Shown) (standing : A → Opt
         all = inner.all;
         clients = inner.clients;
         admin = inl (
-          tour_of g shown standing faults Administrator task old.admin inner.tours v v' w j outcome kept room inner.served first first_room door refused end joined keeps,
+          tour_of g shown standing faults Administrator task old.admin inner.tours v v' w j outcome kept room inner.served first first_room door refused end
+              joined keeps,
           refl,
           refl,
           refl,

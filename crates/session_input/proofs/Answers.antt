@@ -22,7 +22,8 @@ given_on f text = (let given = some_given f text in (given.messages, given.end, 
 -- a message that a framer gives
 pub told_message : (f g : Framing) (m : Framed) (t : Told) → FramerAnswers f (next.Message m) g → Asks m t → AsTold t (OfFramer f) (OfFramer g)
 told_message f g m (told.Call call size) answers asks = (
-  (λ text more stop w. subst (λ (n : ℕ). OfFramer f text (record { call = call; size = n } ∷ more) stop) (sym asks.1) (framer_call f g text more stop w m call answers asks.0)),
+  (λ text more stop w. subst (λ (n : ℕ). OfFramer f text (record { call = call; size = n } ∷ more) stop) (sym asks.1)
+      (framer_call f g text more stop w m call answers asks.0)),
   asks.2,
 )
 told_message f g m told.Nothing answers asks = λ text more stop w. framer_cancel f g text more stop w m asks.0 answers asks.1

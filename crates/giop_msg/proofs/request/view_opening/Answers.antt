@@ -21,8 +21,16 @@ returns-in_err-octet-2-clause-bad c =
 pub returns-in_err-octet-3-clause-bad : goal.returns-in_err-octet-3-clause-bad
 returns-in_err-octet-3-clause-bad c =
     let here : ReadsAll (ulong c.in_ok-id.id ∷ octet c.in_ok-flags.flags ∷ octet c.in_ok-octet.field-0 ∷ octet c.in_ok-octet-2.field-0 ∷ []) c.args.view.now
-    c.octet-3.new.self =
-    (c.ulong.new.self, (c.in_ok-id.ensures.ok, (c.octet.new.self, (c.in_ok-flags.ensures.ok, (c.octet-2.new.self, (c.in_ok-octet.ensures.ok, (c.octet-3.new.self, (c.in_ok-octet-2.ensures.ok, refl)))))))) in
+    c.octet-3.new.self = (
+      c.ulong.new.self,
+      (
+        c.in_ok-id.ensures.ok,
+        (
+          c.octet.new.self,
+          (c.in_ok-flags.ensures.ok, (c.octet-2.new.self, (c.in_ok-octet.ensures.ok, (c.octet-3.new.self, (c.in_ok-octet-2.ensures.ok, refl))))),
+        ),
+      ),
+    ) in
     let none : (id flags : ℕ) (after : Cursor) → IsOpening id flags c.args.view.now after
     → ⊥ = λ id flags after is. stuck (ulong c.in_ok-id.id ∷ octet c.in_ok-flags.flags ∷ octet c.in_ok-octet.field-0 ∷ octet c.in_ok-octet-2.field-0 ∷ [])
     (opening_fields id flags is.a is.b is.c) Octet [] c.args.view.now c.octet-3.new.self after _ refl here c.in_err-octet-3.ensures.refused is.read in

@@ -39,7 +39,8 @@ invariant_of-self c =
       indexed =
           subst (IsIndexed t.ids) (sym values)
           (indexed_each t.ids (at_number c.args.number (come_to c.args.phase))
-          (keeps_where (λ x. x.number == c.args.number) (come_to c.args.phase) (keeps_where is_begun (λ x. record x { phase = c.args.phase }) (record { number = λ x. refl; adapter = λ x. refl; oid = λ x. refl })))
+          (keeps_where (λ x. x.number == c.args.number) (come_to c.args.phase)
+          (keeps_where is_begun (λ x. record x { phase = c.args.phase }) (record { number = λ x. refl; adapter = λ x. refl; oid = λ x. refl })))
           (values_of t.rows.entries) c.self.invariant.indexed);
       covered =
           subst (Covers t.leaving.keys) (sym values)

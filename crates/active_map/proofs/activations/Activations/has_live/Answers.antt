@@ -14,7 +14,8 @@ returns-in-Some c =
     let test : Activation → Bool = (λ a. (a.adapter == c.args.adapter) && not (is_over c.args.config.now a)) in
     c.has_live.ensures
     ∙ asked_by_ids t.rows.entries test t.ids c.self.invariant.table.keyed c.self.invariant.table.ordered c.self.invariant.indexed c.args.adapter
-    (λ a is. eqb-true a.adapter c.args.adapter (and_parts (a.adapter == c.args.adapter) (not (is_over c.args.config.now a)) is).0) c.in-Some.ids.now (sym c.get.ensures.value ∙ ap option_copied c.in-Some.is)
+    (λ a is. eqb-true a.adapter c.args.adapter (and_parts (a.adapter == c.args.adapter) (not (is_over c.args.config.now a)) is).0) c.in-Some.ids.now
+    (sym c.get.ensures.value ∙ ap option_copied c.in-Some.is)
     ∙ ap (λ (u : Table). list_any test u.kept) c.self.view_is)
 
 pub returns-in-None : goal.returns-in-None
@@ -22,5 +23,6 @@ returns-in-None c =
     (let t = c.self.inside in
     let test : Activation → Bool = (λ a. (a.adapter == c.args.adapter) && not (is_over c.args.config.now a)) in
     asked_of_none t.rows.entries test t.ids c.self.invariant.table.keyed c.self.invariant.table.ordered c.self.invariant.indexed c.args.adapter
-    (λ a is. eqb-true a.adapter c.args.adapter (and_parts (a.adapter == c.args.adapter) (not (is_over c.args.config.now a)) is).0) (sym c.get.ensures.value ∙ ap option_copied c.in-None.is)
+    (λ a is. eqb-true a.adapter c.args.adapter (and_parts (a.adapter == c.args.adapter) (not (is_over c.args.config.now a)) is).0)
+    (sym c.get.ensures.value ∙ ap option_copied c.in-None.is)
     ∙ ap (λ (u : Table). list_any test u.kept) c.self.view_is)

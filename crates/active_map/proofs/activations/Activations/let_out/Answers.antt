@@ -15,7 +15,8 @@ invariant_of-self c =
     (let t = c.self.inside in
     let s : Standing = record { nodes = []; count = 0; made = 0; flights = c.args.flights.now; activations = [] } in
     let f = let_out c.args.config.now s in
-    let keeps = keeps_where (is_left c.args.config.now s) (λ a. record a { out = true }) (record { number = λ x. refl; adapter = λ x. refl; oid = λ x. refl }) in
+    let keeps = keeps_where (is_left c.args.config.now s) (λ a. record a { out = true })
+    (record { number = λ x. refl; adapter = λ x. refl; oid = λ x. refl }) in
     record {
       table =
           table_each t.forgotten t.moving c.count_moving-self-inside.result t.rows.entries c.let_all_out.new.rows.entries f c.self.invariant.table

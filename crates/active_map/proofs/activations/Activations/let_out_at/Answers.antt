@@ -27,7 +27,8 @@ invariant_of-self c =
     (let t = c.self.inside in
     let s : Standing = record { nodes = []; count = 0; made = 0; flights = c.args.flights.now; activations = [] } in
     let f = let_out c.args.config.now s in
-    let keeps = keeps_where (is_left c.args.config.now s) (λ x. record x { out = true }) (record { number = λ x. refl; adapter = λ x. refl; oid = λ x. refl }) in
+    let keeps = keeps_where (is_left c.args.config.now s) (λ x. record x { out = true })
+    (record { number = λ x. refl; adapter = λ x. refl; oid = λ x. refl }) in
     let a = c.in-Some.activation.now in
     let b = c.let_out.new.activation in
     let had = sym c.get_mut.ensures.value ∙ ap option_copied_mut c.in-Some.is in

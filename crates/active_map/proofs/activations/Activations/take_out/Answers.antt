@@ -31,14 +31,16 @@ invariant_of-self c =
     let before = c.moves.ensures in
     let after = c.moves-in-Some.ensures in
     let values = ap values_of written.0
-    ∙ row_set c.args.number (λ x. record x { out = true; remaining = is_elsewhere c.args.self.now.kept x }) t.rows.entries c.self.invariant.table.keyed c.self.invariant.table.ordered a b had
+    ∙ row_set c.args.number (λ x. record x { out = true; remaining = is_elsewhere c.args.self.now.kept x }) t.rows.entries c.self.invariant.table.keyed
+    c.self.invariant.table.ordered a b had
     (c.let_go.ensures ∙ ap (λ r. record a { out = true; remaining = r })
     (c.remains-remaining.ensures ∙ ap (λ o. elim o [ Some x ↦ is_elsewhere c.args.self.now.kept x | None ↦ false ])
     (sym (ap (λ (u : Table). find (λ x. x.number == c.args.number) u.kept) c.self.view_is)
     ∙ sym (row_found c.args.number t.rows.entries c.self.invariant.table.keyed) ∙ had))) in
     record {
       table =
-          table_set t.forgotten t.moving c.args.number t.rows.entries (c.get_mut.follows.lender b).entries (λ x. record x { out = true; remaining = is_elsewhere c.args.self.now.kept x }) a b
+          table_set t.forgotten t.moving c.args.number t.rows.entries (c.get_mut.follows.lender b).entries
+          (λ x. record x { out = true; remaining = is_elsewhere c.args.self.now.kept x }) a b
           c.self.invariant.table had written.0 written.1
           (c.let_go.ensures ∙ ap (λ r. record a { out = true; remaining = r })
           (c.remains-remaining.ensures ∙ ap (λ o. elim o [ Some x ↦ is_elsewhere c.args.self.now.kept x | None ↦ false ])
@@ -49,11 +51,13 @@ invariant_of-self c =
       indexed =
           subst (IsIndexed t.ids) (sym values)
           (indexed_each t.ids (at_number c.args.number (λ x. record x { out = true; remaining = is_elsewhere c.args.self.now.kept x }))
-          (keeps_where (λ x. x.number == c.args.number) (λ x. record x { out = true; remaining = is_elsewhere c.args.self.now.kept x }) (record { number = λ x. refl; adapter = λ x. refl; oid = λ x. refl }))
+          (keeps_where (λ x. x.number == c.args.number) (λ x. record x { out = true; remaining = is_elsewhere c.args.self.now.kept x })
+          (record { number = λ x. refl; adapter = λ x. refl; oid = λ x. refl }))
           (values_of t.rows.entries) c.self.invariant.indexed);
       covered =
           subst (Covers c.strike.new.leaving.keys) (sym values)
-          (covers_struck t.leaving.keys c.strike.new.leaving.keys c.args.number (λ x. record x { out = true; remaining = is_elsewhere c.args.self.now.kept x }) (values_of t.rows.entries)
+          (covers_struck t.leaving.keys c.strike.new.leaving.keys c.args.number
+          (λ x. record x { out = true; remaining = is_elsewhere c.args.self.now.kept x }) (values_of t.rows.entries)
           (record { number = λ x. refl; adapter = λ x. refl; oid = λ x. refl }) gone_out c.strike.ensures c.self.invariant.covered);
     })
 
@@ -66,12 +70,14 @@ returns-in-Some c =
     let written = c.get_mut.follows.holds b in
     ap (tabled t.forgotten)
     (ap values_of written.0
-    ∙ row_set c.args.number (λ x. record x { out = true; remaining = is_elsewhere c.args.self.now.kept x }) t.rows.entries c.self.invariant.table.keyed c.self.invariant.table.ordered a b had
+    ∙ row_set c.args.number (λ x. record x { out = true; remaining = is_elsewhere c.args.self.now.kept x }) t.rows.entries c.self.invariant.table.keyed
+    c.self.invariant.table.ordered a b had
     (c.let_go.ensures ∙ ap (λ r. record a { out = true; remaining = r })
     (c.remains-remaining.ensures ∙ ap (λ o. elim o [ Some x ↦ is_elsewhere c.args.self.now.kept x | None ↦ false ])
     (sym (ap (λ (u : Table). find (λ x. x.number == c.args.number) u.kept) c.self.view_is)
     ∙ sym (row_found c.args.number t.rows.entries c.self.invariant.table.keyed) ∙ had))))
-    ∙ ap (λ (u : Table). tabled u.forgotten (map (at_number c.args.number (λ x. record x { out = true; remaining = is_elsewhere c.args.self.now.kept x })) u.kept)) c.self.view_is)
+    ∙ ap (λ (u : Table). tabled u.forgotten (map (at_number c.args.number (λ x. record x { out = true; remaining = is_elsewhere c.args.self.now.kept x }))
+    u.kept)) c.self.view_is)
 
 pub returns-in_default : goal.returns-in_default
 returns-in_default c =
@@ -79,5 +85,7 @@ returns-in_default c =
     let same = ap (λ m. m.entries) c.get_mut.follows.holds-at-none in
     let none = sym c.get_mut.ensures.value ∙ ap option_copied_mut c.in_default.is in
     ap (λ es. tabled t.forgotten (values_of es)) same
-    ∙ ap (tabled t.forgotten) (sym (row_absent c.args.number (λ x. record x { out = true; remaining = is_elsewhere c.args.self.now.kept x }) t.rows.entries c.self.invariant.table.keyed none))
-    ∙ ap (λ (u : Table). tabled u.forgotten (map (at_number c.args.number (λ x. record x { out = true; remaining = is_elsewhere c.args.self.now.kept x })) u.kept)) c.self.view_is)
+    ∙ ap (tabled t.forgotten) (sym (row_absent c.args.number (λ x. record x { out = true; remaining = is_elsewhere c.args.self.now.kept x }) t.rows.entries
+    c.self.invariant.table.keyed none))
+    ∙ ap (λ (u : Table). tabled u.forgotten (map (at_number c.args.number (λ x. record x { out = true; remaining = is_elsewhere c.args.self.now.kept x }))
+    u.kept)) c.self.view_is)

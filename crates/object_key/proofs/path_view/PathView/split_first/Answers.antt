@@ -13,8 +13,11 @@ all_behind bytes = ap (λ n. take n (drop 1 bytes)) (sym (length-drop 1 bytes)) 
 pub invariant_of-rest : goal.invariant_of-rest
 invariant_of-rest c =
     let names : List ℕ = c.self.inside.names.now in
-    let first = first_name c.self.inside.count names c.in-len1-up.len_at_least c.self.invariant.1 in
-    (omega (arith, c.self.invariant.0), subst (λ b. SpellsNames (c.self.inside.count - 1) b) (ap (λ b. drop (get_or names 0 0) b) (sym (all_behind names)) ∙ sym c.split_at.ensures.back) first.others)
+    let first = first_name c.self.inside.count names c.in-len1-up.len_at_least c.self.invariant.1 in (
+      omega (arith, c.self.invariant.0),
+      subst (λ b. SpellsNames (c.self.inside.count - 1) b)
+          (ap (λ b. drop (get_or names 0 0) b) (sym (all_behind names)) ∙ sym c.split_at.ensures.back) first.others,
+    )
 
 pub returns-clause-some : goal.returns-clause-some
 returns-clause-some c =

@@ -21,13 +21,25 @@ no_memory : (limit : ℕ) (held : Option (List ℕ)) (answer : Taken) → answer
 no_memory limit held answer is = subst (λ (taken : Taken). Shows taken limit held) (sym is) tt
 
 pub returns-in_default-clause-content : goal.returns-in_default-clause-content
-returns-in_default-clause-content c =
-    (sym (c.in_default.ensures ∙ ap (λ (shelf : Shelf). content_of shelf.files c.args.name.now) c.self.view_is), λ other. ap (λ (shelf : Shelf). content_of shelf.files other) c.self.view_is)
+returns-in_default-clause-content c = (
+  sym (c.in_default.ensures ∙ ap (λ (shelf : Shelf). content_of shelf.files c.args.name.now) c.self.view_is),
+  λ other. ap (λ (shelf : Shelf). content_of shelf.files other) c.self.view_is,
+)
 
 pub returns-then-content-limit-clause-content : goal.returns-then-content-limit-clause-content
-returns-then-content-limit-clause-content c =
-    (too_long c.args.limit _ c.in-Some.content.now (c.in-Some.ensures ∙ ap (λ (shelf : Shelf). content_of shelf.files c.args.name.now) c.self.view_is) c.if-content-limit.true, λ other. ap (λ (shelf : Shelf). content_of shelf.files other) c.self.view_is)
+returns-then-content-limit-clause-content c = (
+  too_long c.args.limit _ c.in-Some.content.now (c.in-Some.ensures ∙ ap (λ (shelf : Shelf). content_of shelf.files c.args.name.now) c.self.view_is)
+      c.if-content-limit.true,
+  λ other. ap (λ (shelf : Shelf). content_of shelf.files other) c.self.view_is,
+)
 
 pub returns-clause-content : goal.returns-clause-content
-returns-clause-content c =
-    (elim c.match-from_slice.branch [ in-Ok w ↦ copied c.args.limit _ _ w.from_vec.result c.in-Some.content.now w.result-is (w.from_vec.ensures ∙ w.in-Ok.ensures.items) (c.in-Some.ensures ∙ ap (λ (shelf : Shelf). content_of shelf.files c.args.name.now) c.self.view_is) | in-Err w ↦ no_memory c.args.limit _ _ w.result-is ], λ other. ap (λ (shelf : Shelf). content_of shelf.files other) c.self.view_is)
+returns-clause-content c = (
+  elim c.match-from_slice.branch [
+    | in-Ok w ↦ copied c.args.limit _ _ w.from_vec.result c.in-Some.content.now w.result-is
+        (w.from_vec.ensures ∙ w.in-Ok.ensures.items) (c.in-Some.ensures ∙ ap (λ (shelf : Shelf). content_of shelf.files c.args.name.now)
+        c.self.view_is)
+    | in-Err w ↦ no_memory c.args.limit _ _ w.result-is
+  ],
+  λ other. ap (λ (shelf : Shelf). content_of shelf.files other) c.self.view_is,
+)
