@@ -1,6 +1,7 @@
 //! The numbers of the activations that are ending and in the map. There may be numbers of others, too.
 ghost use Rattle.std.specs.Prelude.{◌≡◌, ◌==◌, ℕ, true, false, filter, is_some, OnOk};
 ghost use Rattle.std.specs.BTreeMap.{get, values};
+ghost use Rattle.std.specs.BTreeSet.{contains};
 ghost use Rattle.std.specs.Ordering.{nat_cmp};
 ghost use Rattle.history_standing.specs.declared.activation.Activation.{Activation as Kept};
 ghost use Rattle.poa_tree.specs.Trees.{In};
@@ -38,7 +39,8 @@ pub fn enter_ended(leaving: &mut Leaving, rows: &Rows, ending: Ending<'_>) -> Re
 
 /// A number is among them no longer. Takes no memory.
 pub fn strike(leaving: &mut Leaving, number: u32)
-    ensures { (n : ℕ) → In n leaving.old.keys → (n == number) ≡ false → In n leaving.new.keys }
+    ensures gone { contains nat_cmp leaving.new number ≡ false }
+    ensures others { (n : ℕ) → In n leaving.old.keys → (n == number) ≡ false → In n leaving.new.keys }
 {
     let _was = leaving.remove(&number);
 }

@@ -124,6 +124,6 @@ invariant_of-self c =
       covered =
           covers_rest (λ x. not (p x)) t.rows.entries c.remove-gone.new.self.entries kept table.keyed table.ordered t.leaving.keys c.strike.new.leaving.keys
           (struck_stays c.args.number c.remove-gone.new.self.entries c.remove-gone.ensures.updates.1 t.leaving.keys c.strike.new.leaving.keys
-          c.strike.ensures)
+          c.strike.ensures.others)
           c.self.invariant.covered;
     })

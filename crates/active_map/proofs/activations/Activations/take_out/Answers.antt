@@ -58,7 +58,7 @@ invariant_of-self c =
           subst (Covers c.strike.new.leaving.keys) (sym values)
           (covers_struck t.leaving.keys c.strike.new.leaving.keys c.args.number
           (λ x. record x { out = true; remaining = is_elsewhere c.args.self.now.kept x }) (values_of t.rows.entries)
-          (record { number = λ x. refl; adapter = λ x. refl; oid = λ x. refl }) gone_out c.strike.ensures c.self.invariant.covered);
+          (record { number = λ x. refl; adapter = λ x. refl; oid = λ x. refl }) gone_out c.strike.ensures.others c.self.invariant.covered);
     })
 
 pub returns-in-Some : goal.returns-in-Some
