@@ -9,14 +9,14 @@ use Rattle.std.specs.Ordering.{nat_cmp, is_eq, match_ordering}
 use Rattle.std.specs.Set.{remove_key}
 use Rattle.std.specs.declared.cmp.Ordering.TheVariants.{Less, Equal, Greater}
 use Rattle.std.proofs.Common.{inl, inr, sym, ap, subst, ◌∙◌, arith}
-use Rattle.std.proofs.lemmas.Bool.{cond_both, cond-false, eqb-true, true≢false, false_from_ne_true, and_left, and_right}
+use Rattle.std.proofs.lemmas.Bool.{cases_Bool, cond_both, cond-true, cond-false, eqb-true, true≢false, false_from_ne_true, and_left, and_right}
 use Rattle.std.proofs.lemmas.Grind.{common_steps}
 use Rattle.std.proofs.lemmas.Map.Keys.{sorted_head, sorted_tail}
 use Rattle.history_standing.specs.declared.activation.Activation.{Activation}
 use Rattle.history_standing.specs.declared.activation.Phase.{Phase}
 use Rattle.history_standing.specs.Ends.{is_left, let_out}
 use Rattle.history_standing.specs.Standings.{Standing, is_begun}
-use Rattle.poa_history.specs.Changes.{come_to}
+use Rattle.poa_history.specs.Changes.{at_number, come_to}
 use Rattle.poa_base.specs.declared.Config.{Config}
 use Rattle.poa_tree.specs.Trees.{In}
 use Rattle.poa_tree.proofs.Members.{in_either, in_image, in_kept}
@@ -103,13 +103,17 @@ pub covers_at : (ns : List ℕ) (n : ℕ) (f : Activation → Activation) (as' :
 covers_at ns n f as' keeps stays covers =
     covers_where ns (λ a. a.number == n) f as' keeps (λ a there _ leaves. covers a there (stays a leaves)) (λ a there _ leaves. covers a there leaves)
 
--- that of a number isn't leaving any more, and its number is struck
-pub covers_struck : (ns ns' : List ℕ) (n : ℕ) (f : Activation → Activation) (as' : List Activation) → Keeps f
-    → ((a : Activation) → is_leaving (f a) ≡ false) → ((k : ℕ) → In k ns → (k == n) ≡ false → In k ns') → Covers ns as'
-    → Covers ns' (map (λ a. if a.number == n then f a else a) as')
-covers_struck ns ns' n f as' keeps gone struck covers =
-    covers_where ns' (λ a. a.number == n) f as' keeps (λ a _ _ leaves. absurd (true≢false (sym leaves ∙ gone a)))
-    (λ a there other leaves. struck a.number (covers a there leaves) other)
+-- that of a number was changed and isn't leaving, and its number is struck
+pub covers_struck : (ns ns' : List ℕ) (n : ℕ) (f : Activation → Activation) (as' : List Activation) → ((a : Activation) → is_leaving (f a) ≡ false)
+    → ((k : ℕ) → In k ns → (k == n) ≡ false → In k ns') → Covers ns (map (at_number n f) as')
+    → Covers ns' (map (at_number n f) as')
+covers_struck ns ns' n f as' gone struck covers a there leaves =
+    struck a.number (covers a there leaves) (false_from_ne_true (a.number == n) (λ hit. (let found = in_image (at_number n f) a as' there in
+    let b = found.0 in
+    elim (cases_Bool (b.number == n)) [
+      | inl its ↦ true≢false (sym leaves ∙ ap is_leaving (found.2 ∙ cond-true (b.number == n) (f b) b its) ∙ gone b)
+      | inr other ↦ true≢false (sym hit ∙ ap (λ (x : Activation). x.number == n) (found.2 ∙ cond-false (b.number == n) (f b) b other) ∙ other)
+    ])))
 
 pub gone_out : (a : Activation) → is_leaving (record a { out = true }) ≡ false
 gone_out a = and_right a.ending false refl

@@ -5,3 +5,4 @@ pub mod IdsKept
 pub mod Removal
 pub mod Asking
 pub mod Covering
+pub mod MadeKeeps

@@ -3,3 +3,4 @@ pub mod Tables
 pub mod Live
 pub mod Asked
 pub mod Endings
+pub mod Made

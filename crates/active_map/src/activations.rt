@@ -12,12 +12,13 @@ ghost use Rattle.history_standing.specs.Standings as stands;
 ghost use Rattle.history_standing.specs.Standings.{Standing as Stood};
 ghost use Rattle.history_standing.specs.Templates as configured;
 ghost use Rattle.active_map.specs.Endings.{ended};
+ghost use Rattle.active_map.specs.Made as changed;
 ghost use Rattle.active_map.specs.Live.{live};
 ghost use Rattle.active_map.specs.Tables.{is_leaving, is_moving};
 
 use crate::adapters::{has_changing, has_live, has_other};
 use crate::by_id::{Index, add, numbers_of, remove};
-use crate::changing::{come_to, etherealize, let_go, let_out};
+use crate::change::Change;
 use crate::ending::Ending;
 use crate::leaving::{Leaving, enter_ended, strike, strike_forgotten};
 use crate::over::is_over;
@@ -184,15 +185,22 @@ impl Activations {
         }
     }
 
+    /// That of a number is changed. Takes no memory.
+    fn change(&mut self, number: u32, change: Change<'_>)
+        ensures { self.new ≡ record self.old { kept = map (changes.at_number number (changed.made change.entry)) self.old.kept } }
+    {
+        if let Some(activation) = self.rows.get_mut(&number) {
+            self.moving -= moves(activation);
+            change.make(activation);
+            self.moving += moves(activation);
+        }
+    }
+
     /// That of a number, which is being incarnated, has come so far.
     pub fn bring(&mut self, number: u32, phase: Phase)
         ensures { self.new ≡ record self.old { kept = map (changes.at_number number (changes.come_to phase)) self.old.kept } }
     {
-        if let Some(activation) = self.rows.get_mut(&number) {
-            self.moving -= moves(activation);
-            come_to(phase, activation);
-            self.moving += moves(activation);
-        }
+        self.change(number, Change::Come(phase));
     }
 
     /// Whether the servant of an activation is in the map of its adapter by another one.
@@ -207,9 +215,9 @@ impl Activations {
 
     /// Whether the servant of that of a number stays in the map by another one.
     fn remains(&self, number: u32) -> bool
-        ensures { result ≡ elim (find (λ a. a.number == number) self.now.kept)
-            [ Some a ↦ changes.is_elsewhere self.now.kept a | None ↦ false ] }
+        ensures { (a : Kept) → In a self.now.kept → (a.number == number) ≡ true → result ≡ changes.is_elsewhere self.now.kept a }
     {
+        self.numbers();
         match self.numbered(number) {
             Some(activation) => self.is_elsewhere(activation),
             None => false,
@@ -224,12 +232,8 @@ impl Activations {
         } }
     {
         let remaining = self.remains(number);
-        if let Some(activation) = self.rows.get_mut(&number) {
-            self.moving -= moves(activation);
-            let_go(remaining, activation);
-            self.moving += moves(activation);
-            strike(&mut self.leaving, number);
-        }
+        self.change(number, Change::TakeOut { remaining });
+        strike(&mut self.leaving, number);
     }
 
     /// The servant of that of a number is etherealized.
@@ -237,11 +241,7 @@ impl Activations {
         ensures { self.new ≡ record self.old
             { kept = map (changes.at_number number (λ a. record a { etherealized = true })) self.old.kept } }
     {
-        if let Some(activation) = self.rows.get_mut(&number) {
-            self.moving -= moves(activation);
-            etherealize(activation);
-            self.moving += moves(activation);
-        }
+        self.change(number, Change::Etherealize);
     }
 
     /// Those that a command ends are ending. Their numbers are entered first, since that may fail.
@@ -308,11 +308,7 @@ impl Activations {
         ensures { (s : Stood) → s.flights ≡ flights.now
             → self.new ≡ record self.old { kept = map (changes.at_number number (ends.let_out config.now s)) self.old.kept } }
     {
-        if let Some(activation) = self.rows.get_mut(&number) {
-            self.moving -= moves(activation);
-            let_out(config, flights, activation);
-            self.moving += moves(activation);
-        }
+        self.change(number, Change::LetOut(config, flights));
     }
 
     /// That of a number is forgotten where it is over, but for its number.

@@ -7,6 +7,7 @@ pub mod activation;
 mod activations;
 mod adapters;
 mod by_id;
+mod change;
 mod changing;
 mod ending;
 pub mod flights;
