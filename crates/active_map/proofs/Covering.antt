@@ -1,5 +1,5 @@
 -- The numbers of those that are leaving are kept, whatever is changed; and a search by them finds what a search of all does.
-use Rattle.std.specs.Prelude.{◌≡◌, ℕ, ◌<◌, ◌≤◌, Bool, true, false, not, ◌&&◌, ◌==◌, if◌then◌else◌, cond, is_some, List, [], ◌∷◌, ◌++◌, map, filter, find, Option, Some, None, ◌⊎◌, refl}
+use Rattle.std.specs.Prelude.{◌≡◌, ℕ, ◌<◌, ◌≤◌, Bool, true, false, not, ◌==◌, if◌then◌else◌, cond, is_some, List, [], ◌∷◌, ◌++◌, map, filter, find, Option, Some, None, ◌⊎◌, refl}
 use Rattle.std.specs.List.{AllByRecursion, filter_map, cons_option}
 use Rattle.std.specs.List.Sorted.{IsStrictlySortedBy}
 use Rattle.std.specs.BTreeMap.{is_at}

@@ -1,4 +1,4 @@
-use Rattle.std.proofs.Common.{◌≡◌, ◌==◌, Some, sym, ap, ◌∙◌, option_copied}
+use Rattle.std.proofs.Common.{◌==◌, sym, ap, ◌∙◌, option_copied}
 use Rattle.std.proofs.lemmas.Bool.{eqb-true}
 use Rattle.poa_history.specs.Changes.{is_elsewhere}
 use Rattle.poa_tree.proofs.Finding.{find_in, find_none}

@@ -1,5 +1,4 @@
 use Rattle.std.proofs.Common.{true, ap, subst, sym, ◌∙◌}
-use Rattle.std.specs.Map.{values_of}
 use Rattle.poa_history.specs.Changes.{is_elsewhere}
 use Rattle.active_map.specs.Tables.{Table, Covers}
 use Rattle.active_map.proofs.Covering.{covers_struck, gone_out}

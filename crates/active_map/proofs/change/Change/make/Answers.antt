@@ -1,4 +1,4 @@
-use Rattle.std.proofs.Common.{◌≡◌, refl, sym, ap, ◌∙◌}
+use Rattle.std.proofs.Common.{refl, sym, ap, ◌∙◌}
 use Rattle.active_map.specs.Made.{flown, made}
 use Rattle.active_map.proofs.change.Change.make.Goals as goal
 
