@@ -244,8 +244,8 @@ pub fn advance_kept(
     ensures ok { (past : List Entry) → StandsAfter config.now run past (seen standing.old) → stage ≡ entries.stage_at past entry.now
         → option_copied call.entry ≡ entries.call_admitted past entry.now
         → OnOk result (StandsAfter config.now run (entry.now ∷ past) (seen standing.new)) }
-    ensures forgets { (past : List Entry) → StandsAfter config.now run past (seen standing.old) → KeepsNoneOver config.now
-        (seen standing.old)
+    ensures forgets { (past : List Entry) → StandsAfter config.now run past (seen standing.old)
+        → KeepsNoneOver config.now (seen standing.old)
         → stage ≡ entries.stage_at past entry.now → option_copied call.entry ≡ entries.call_admitted past entry.now
         → OnOk result (list_any (is_over config.now) standing.new.activations.kept ≡ false) }
     ensures err { OnErr result (seen standing.new ≡ seen standing.old) }

@@ -106,8 +106,8 @@ fn by_removal(stage: Stage) -> Touched
 /// What an entry touches: of the others none leaves the map, behind a standing in which nothing is left to go, and
 /// none comes or changes.
 pub fn touched_by(entry: &Entry, stage: Stage, flights: &[Flight]) -> Touched
-    ensures leaves { (c : Conf) (run : ℕ) (past : List EntryOf) (s : Stood) → s.flights ≡ flights.now → stage ≡ entries.stage_at past
-        entry.now
+    ensures leaves { (c : Conf) (run : ℕ) (past : List EntryOf) (s : Stood) → s.flights ≡ flights.now
+        → stage ≡ entries.stage_at past entry.now
         → Still c s → Others c (is_touched result) (changes.changed c run past entry.now s) }
     ensures same { (c : Conf) (run : ℕ) (past : List EntryOf) (s : Stood) → stage ≡ entries.stage_at past entry.now
         → SameOthers (is_touched result) s.activations (changes.changed c run past entry.now s).activations }
