@@ -8,7 +8,7 @@ use Rattle.poa_base.specs.declared.ObjectConf.{ObjectConf}
 use Rattle.poa_base.specs.declared.ServantConf.{ServantConf}
 use Rattle.servant_kinds.specs.Object.{type_id_of}
 use Rattle.text_words.specs.Path.{path_text}
-use Rattle.ior_object.specs.Reference.{reference_text}
+use Rattle.ior_text.specs.Reference.{reference_text}
 use Rattle.conf_print.specs.Numbers.{Numbers, numbers_of}
 
 -- a system-made id: the run and the ordinal (CORBA 3.3 Part 1, chapter 15, "SYSTEM_ID")

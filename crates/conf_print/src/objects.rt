@@ -3,7 +3,7 @@ ghost use Rattle.std.specs.Prelude.{◌≡◌, ◌++◌, ◌+◌, ◌≤◌, ◌
 ghost use Rattle.std.specs.List.{slice_get};
 ghost use Rattle.std.specs.Int.{w32, to_be_bytes};
 ghost use Rattle.std.specs.Option.{option_copied};
-ghost use Rattle.ior_object.specs.Reference.{reference_text};
+ghost use Rattle.ior_text.specs.Reference.{reference_text};
 ghost use Rattle.std.specs.BTreeMap as tree;
 ghost use Rattle.poa_base.specs.Store.{path_cmp};
 ghost use Rattle.conf_rules.specs.Rules.{KeepsRules};
@@ -11,7 +11,7 @@ ghost use Rattle.conf_print.specs.Objects as spec;
 ghost use Rattle.conf_print.specs.Objects.{references_text};
 
 use crate::numbering::{Numbers, adapter_numbers};
-use ior_object::write_reference;
+use ior_text::write_reference;
 use poa_base::{
     Bytes, Config, Endpoint, Key, ObjectConf, Oid, Path, ServantConf, Stamp, TryClone, WantMemory,
 };

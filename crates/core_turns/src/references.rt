@@ -3,7 +3,7 @@ ghost use Rattle.std.specs.Prelude.{◌≡◌, IfOk};
 ghost use Rattle.history_standing.specs.References as references;
 
 use active_map::templates::policies_at;
-use ior_object::write_reference;
+use ior_text::write_reference;
 use poa_base::{Bytes, Config, Endpoint, Key, Oid, Path, Stamp, WantMemory};
 use servant_kinds::type_id;
 use std::alloc::Global;

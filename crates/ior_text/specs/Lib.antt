@@ -1,3 +1,4 @@
 pub mod Encapsulation
+pub mod Reference
 pub mod Text
 pub mod Written

@@ -9,4 +9,5 @@ mod run;
 mod served;
 
 pub use run::run_serve;
+pub use serve_run::Doors;
 pub use served::Served;

@@ -5,7 +5,7 @@ use crate::door_case::DoorCase;
 use crate::link_case::LinkCase;
 use anyhow::{Context, Result};
 use outside_memory::{MemDoor, Signal};
-use serve_run::Doors;
+use poad_serve::Doors;
 use std::alloc::Global;
 
 /// The words of a command line, the doors, what fails, and what is printed beside the doors.

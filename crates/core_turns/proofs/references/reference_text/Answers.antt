@@ -1,6 +1,6 @@
 use Rattle.std.proofs.Common.{◌≡◌, subst}
 use Rattle.std.specs.Prelude.{IfOk}
-use Rattle.ior_object.specs.Reference.{reference_text as reference_at}
+use Rattle.ior_text.specs.Reference.{reference_text as reference_at}
 use Rattle.history_standing.specs.References as references
 use Rattle.core_turns.proofs.references.reference_text.Goals as goal
 

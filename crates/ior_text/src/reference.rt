@@ -1,9 +1,9 @@
 //! The reference of an object.
 ghost use Rattle.std.specs.Prelude.{◌≡◌, IfOk};
-ghost use Rattle.ior_object.specs.Reference.{reference_of, reference_text};
+ghost use Rattle.ior_text.specs.Reference.{reference_of, reference_text};
 
+use crate::writing::write_ior;
 use ior_profile::write_profile;
-use ior_text::write_ior;
 use object_key::write_key;
 use poa_base::{Bytes, Endpoint, Ior, Items, Key, WantMemory};
 use std::alloc::Global;
