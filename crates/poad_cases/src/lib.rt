@@ -1,0 +1,80 @@
+//! A table of cases, played, and what came of each printed: of the commands of poad, as `run_words` does them over a source, a sink
+//! and files in memory, what each wrote and how it ended; and of `serve`, over doors, links and files in memory and with
+//! threads, how each link's session ended, what was written to it, what the journal of the run says, and how the run ended.
+//!
+//! Its lines are:
+//! - `file NAME`, and below it the lines of that file, each behind two spaces; it is there in every later case;
+//! - `message NAME HEX ..`, bytes with a name, for all later cases;
+//! - `case WORD ..`, which begins a case; `words WORD ..`, the words of its command line, `''` being the empty one; `journal` is
+//!   the file of the journal, if there is one;
+//! - `lane`, which begins the next lane; `administrators`, which turns to their door; `link`, which begins a link there;
+//! - `send WORD ..`, what the link's peer sends, or what standard input gives where no door was begun: a message's name, or
+//!   hexadecimal behind `h:`; `times COUNT WORD ..`, the same so many times; `line TEXT`, a line with its LF;
+//! - `fill BYTE COUNT`, so many bytes of this value, which are sent too; between cases, of the last file;
+//! - `piece SIZE ..`, how many bytes the reads give at most, in turn;
+//! - `fails KIND N ..`: these calls fail, counted from 0. `read` and `write` are of the link or of standard input and output,
+//!   `next` of the door, `take` and `put` of the files, `start` of the threads; `quiet` are reads of the link that find nothing
+//!   for now;
+//! - `takes COUNT`, how many calls the run of a script takes: `replay` then plays it on such a run;
+//! - `holds LENGTH`: the first worker that serves is held until so many bytes were written to a link;
+//! - `due WORD ..`, where it isn't determined what is written to the link: one of the lines `due`, or a beginning of it where
+//!   a fault ended the session. It is printed then that what was written is due;
+//! - `loose`: it isn't determined how the session ends, and not printed;
+//! - `together`: what was written to all lanes is printed together, in the order of the bytes;
+//! - `entries KIND ..`: how many entries of these kinds the journal has, or of each kind where none is named;
+//!   `order KIND ..`: its entries of these kinds, in their order; `store`: what is stored at the end;
+//! - `run`, which does the command; `serve`, which runs the server by its words;
+//! - empty lines, and lines that begin with `#`.
+//!
+//! What `answer` writes is printed in hexadecimal, a message a line; what was written to a client too, and of equal ones in
+//! succession how many.
+#![tactic(auto)]
+
+mod asking;
+mod case;
+mod command;
+mod door_case;
+mod doors;
+mod files;
+mod journal;
+mod kinds;
+mod link_case;
+mod report;
+mod serving;
+mod streams;
+mod table;
+mod words;
+mod written;
+
+use anyhow::{Context, Result};
+use command::command;
+pub use report::Report;
+use serving::serve;
+use std::alloc::Global;
+use std::sync::Wait;
+use std::thread::Threads;
+use std::time::Clock;
+use table::{Ready, Table};
+use text_words::parts;
+
+/// Does the lines of a table one behind the other, and prints each case that is run.
+pub fn play<R>(rt: &R, alloc: Global, text: &[u8], report: &mut Report) -> Result<()>
+where
+    R: Threads + Wait + Clock + Copy + Send + Sync + Drop + 'static,
+{
+    let mut table = Table::new(alloc);
+    for (place, line) in parts(alloc, text, b'\n')?.iter().enumerate() {
+        let number = place.saturating_add(1);
+        let ready = table.line(line).context(format_args!("line {number}"))?;
+        match ready {
+            Some(Ready::Command(case)) => {
+                report.put_command(&case, &command(alloc, &case, table.files())?)?
+            }
+            Some(Ready::Server(case)) => {
+                report.put_server(&case, &serve(rt, alloc, &case, table.files())?)?
+            }
+            None => (),
+        }
+    }
+    Ok(())
+}

@@ -1,0 +1,60 @@
+//! The server is run.
+use crate::case::Case;
+use crate::files::{File, in_memory};
+use anyhow::{Result, ensure};
+use command_words::plan_of;
+use outside::{Gate, MemFiles, OpenGate, ThreadCrew};
+use outside_memory::{HoldGate, MemDoor, Signal};
+use poad_files::Host;
+use poad_serve::{Served, run_serve};
+use std::alloc::Global;
+use std::sync::{Arc, Wait};
+use std::thread::Threads;
+use std::time::Clock;
+
+/// What came of a run, and the files then.
+pub type Ran = (Served<MemDoor>, MemFiles);
+
+/// Runs the server by the words of a case, over its doors and these files.
+pub fn serve<R>(rt: &R, alloc: Global, case: &Case, files: &[File]) -> Result<Ran>
+where
+    R: Threads + Wait + Clock + Copy + Send + Sync + Drop + 'static,
+{
+    if case.held_for.is_none() {
+        let gate = Arc::new(alloc, OpenGate)?;
+        return serve_past(rt, alloc, case, files, None, &gate);
+    }
+    let signal = Signal::new(alloc)?;
+    let gate = Arc::new(alloc, HoldGate::new(*rt, signal.try_clone()?))?;
+    let served = serve_past(rt, alloc, case, files, Some(&signal), &gate)?;
+    ensure!(!gate.has_timed_out(), "a worker was held in vain");
+    Ok(served)
+}
+
+/// The same past this gate, which the signal opens.
+fn serve_past<R, G>(
+    rt: &R,
+    alloc: Global,
+    case: &Case,
+    files: &[File],
+    signal: Option<&Signal>,
+    gate: &Arc<G, Global>,
+) -> Result<Ran>
+where
+    R: Threads + Wait + Copy + Send + Drop + 'static,
+    G: Gate + Send + Sync + Drop + 'static,
+{
+    let lanes = match plan_of(alloc, &case.words)? {
+        Some(plan) => plan.lanes,
+        None => 0,
+    };
+    let doors = case.doors(lanes, signal)?;
+    let mut host = Host {
+        source: case.streams.source()?,
+        sink: case.streams.sink()?,
+        files: in_memory(alloc, &case.failing_takes, &case.failing_puts, files)?,
+    };
+    let mut crew = ThreadCrew::new(alloc, *rt, case.failing_starts.clone()?);
+    let served = run_serve(rt, alloc, &case.words, &mut host, doors, &mut crew, gate);
+    Ok((served, host.files))
+}
