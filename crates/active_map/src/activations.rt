@@ -36,7 +36,7 @@ use std::collections::{BTreeMap, BTreeSet};
 use std::marker::Model;
 
 /// The activations that were begun, but for those that are over and are forgotten.
-#[derive(Debug, Drop)]
+#[derive(Drop)]
 pub struct Activations {
     alloc: Global,
     /// How many are forgotten.

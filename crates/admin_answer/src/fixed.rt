@@ -2,7 +2,7 @@
 use text_words::Worded;
 
 /// Whether a command was done.
-#[derive(Clone, Copy, Debug, Drop)]
+#[derive(Clone, Copy, Drop)]
 pub(crate) enum Success {
     Ok,
     No,
@@ -23,7 +23,7 @@ impl Worded for Success {
 }
 
 /// The kinds of reasons against a command.
-#[derive(Clone, Copy, Debug, Drop)]
+#[derive(Clone, Copy, Drop)]
 pub(crate) enum Objection {
     NoManager,
     AdapterInactive,

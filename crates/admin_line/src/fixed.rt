@@ -5,7 +5,7 @@ ghost use Rattle.admin_line.specs.Fixed.{ending, etherealizes_of, pace, waits_of
 use text_words::Worded;
 
 /// The first word of a command.
-#[derive(Clone, Copy, Debug, Drop)]
+#[derive(Clone, Copy, Drop)]
 pub(crate) enum Verb {
     Manager,
     Create,
@@ -46,7 +46,7 @@ impl Worded for Verb {
 }
 
 /// What a manager is told to do.
-#[derive(Clone, Copy, Debug, Drop)]
+#[derive(Clone, Copy, Drop)]
 pub(crate) enum Shift {
     Activate,
     Hold,
@@ -71,7 +71,7 @@ impl Worded for Shift {
 }
 
 /// Whether the answer waits until nothing is under way any more.
-#[derive(Clone, Copy, Debug, Drop)]
+#[derive(Clone, Copy, Drop)]
 pub(crate) enum Pace {
     Now,
     Wait,
@@ -109,7 +109,7 @@ impl Pace {
 }
 
 /// Whether the servants that go are etherealized.
-#[derive(Clone, Copy, Debug, Drop)]
+#[derive(Clone, Copy, Drop)]
 pub(crate) enum End {
     Keep,
     Etherealize,

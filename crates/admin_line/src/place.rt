@@ -15,7 +15,7 @@ use std::alloc::{AllocError, Global};
 use text_words::{WordFault, Worded, any_identity, find_word, identity};
 
 /// Why words gave nothing.
-#[derive(Clone, Copy, Debug, Drop)]
+#[derive(Clone, Copy, Drop)]
 pub enum Wrong {
     /// The first word that is wrong, missing or too much, from 1 on.
     Word(u32),

@@ -1,7 +1,7 @@
 //! Why words give no command.
 
 /// Why the words of a command line give no command.
-#[derive(Clone, Copy, Debug)]
+#[derive(Clone, Copy)]
 pub enum WordsFault {
     /// The words are no command.
     BadWords,

@@ -4,7 +4,7 @@ use std::alloc::AllocError;
 use text_words::WordFault;
 
 /// Why a text is no configuration. A path names a key, as `adapter[0].rule[1].id`.
-#[derive(Debug, PartialEq, Eq, Drop)]
+#[derive(PartialEq, Eq, Drop)]
 pub enum ConfFault {
     /// The text isn't a TOML document.
     NotToml,

@@ -16,7 +16,7 @@ use poa_base::{Attempt, Call, Entry, WantMemory};
 use std::alloc::Global;
 
 /// Where in the journal each call arrived, in the order of the calls.
-#[derive(Debug, Drop)]
+#[derive(Drop)]
 pub struct Calls {
     pub places: Vec<usize>,
 }

@@ -15,7 +15,7 @@ use poa_base::{Entry, WantMemory};
 use std::alloc::Global;
 
 /// What each of the workers below 16 has begun and not ended, and which of them gave up.
-#[derive(Debug, Drop)]
+#[derive(Drop)]
 pub struct Workers {
     pub stages: Vec<Stage>,
     pub abandoned: Vec<bool>,

@@ -2,7 +2,7 @@
 use poa_base::Reply;
 
 /// The arrival that an entry decides, and its reply.
-#[derive(Debug, Drop)]
+#[derive(Drop)]
 pub struct Decision {
     pub arrival: u64,
     pub reply: Reply,

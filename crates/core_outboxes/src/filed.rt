@@ -2,7 +2,7 @@
 use poa_base::{Head, Reply};
 
 /// A decided reply that its connection hasn't collected.
-#[derive(Debug, Drop)]
+#[derive(Drop)]
 pub struct Filed {
     pub arrival: u64,
     pub conn: u32,

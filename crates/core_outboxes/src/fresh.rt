@@ -3,7 +3,7 @@ use crate::filed::Filed;
 use poa_base::Reply;
 
 /// To which connections the last entry gave replies. It says whom to wake, and no contract rests on it.
-#[derive(Clone, Copy, Debug, Drop)]
+#[derive(Clone, Copy, Drop)]
 pub struct Fresh {
     /// The connection of the first of them.
     pub first: Option<u32>,

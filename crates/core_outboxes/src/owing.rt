@@ -3,7 +3,7 @@ use crate::wait::Wait;
 use poa_base::Head;
 
 /// A call that asks a reply, and that no entry has decided.
-#[derive(Clone, Copy, Debug, Drop)]
+#[derive(Clone, Copy, Drop)]
 pub struct Owing {
     pub arrival: u64,
     pub conn: u32,

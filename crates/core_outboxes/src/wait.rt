@@ -17,7 +17,7 @@ use core_queries::orders::{are_ended, is_quiet};
 use poa_base::{Call, Command, Config, Entry, Name, Order, Verdict, WantMemory};
 
 /// What a command waits for, from its Admit on.
-#[derive(Clone, Copy, Debug, Drop)]
+#[derive(Clone, Copy, Drop)]
 pub enum Wait {
     /// Nothing: it has come at once.
     Nothing,
@@ -39,7 +39,7 @@ pub enum Wait {
 }
 
 /// A command that an arrival gave a manager.
-#[derive(Clone, Copy, Debug, Drop)]
+#[derive(Clone, Copy, Drop)]
 pub struct Ordered {
     pub arrival: u64,
     pub manager: u32,

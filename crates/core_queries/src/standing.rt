@@ -8,7 +8,7 @@ use poa_base::WantMemory;
 use poa_tree::Node;
 
 /// What stands after a history.
-#[derive(Debug, Drop)]
+#[derive(Drop)]
 pub struct Standing {
     /// The adapters that were created and aren't gone, in the order of their creation.
     pub nodes: Vec<Node>,

@@ -11,14 +11,14 @@ use std::alloc::Global;
 use std::marker::Model;
 
 /// The endpoint that was set for a path; none where it was taken away.
-#[derive(Debug, Drop)]
+#[derive(Drop)]
 pub struct EndpointRow {
     pub path: Path,
     pub endpoint: Option<Endpoint>,
 }
 
 /// The endpoints that were set or taken away. Each path has one row at most.
-#[derive(Debug, Drop)]
+#[derive(Drop)]
 pub struct Endpoints {
     rows: Vec<EndpointRow>,
 }

@@ -7,7 +7,7 @@ use std::alloc::Global;
 use std::marker::Model;
 
 /// The state of each manager, by its number: 0 is `root`, and the configured ones follow.
-#[derive(Debug, Drop)]
+#[derive(Drop)]
 pub struct Managers {
     states: Vec<ManagerState>,
 }

@@ -11,14 +11,14 @@ use std::alloc::Global;
 use std::marker::Model;
 
 /// The default servant that was set for a path.
-#[derive(Debug, Drop)]
+#[derive(Drop)]
 pub struct PresetRow {
     pub path: Path,
     pub servant: Name,
 }
 
 /// The default servants that were set. Each path has one row at most.
-#[derive(Debug, Drop)]
+#[derive(Drop)]
 pub struct Presets {
     rows: Vec<PresetRow>,
 }

@@ -14,7 +14,7 @@ use poa_base::{Command, Config, Entry, WantMemory};
 use std::alloc::Global;
 
 /// What the administrator's commands have set. Of each path the last command counts, and has one row.
-#[derive(Debug, Drop)]
+#[derive(Drop)]
 pub struct Settings {
     /// The states of the managers.
     pub managers: Managers,

@@ -16,7 +16,7 @@ use history_standing::{Flight, Stage};
 use poa_base::Entry;
 
 /// Which activations an entry touches: each other one stays where it is. It may say more than it has to.
-#[derive(Clone, Copy, Debug, Drop)]
+#[derive(Clone, Copy, Drop)]
 pub enum Touched {
     Nothing,
     /// That of this number.

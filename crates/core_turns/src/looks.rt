@@ -20,7 +20,7 @@ use poa_choose::{Choice, Facts, choose};
 use std::alloc::Global;
 
 /// What a look at a request or a locate gives.
-#[derive(Debug, Drop)]
+#[derive(Drop)]
 pub enum Look {
     /// Its verdict.
     Go(Verdict),

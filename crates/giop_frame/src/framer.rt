@@ -20,7 +20,7 @@ use std::marker::Model;
 ///
 /// Whichever way the bytes are cut, the messages that `next` gives, and then its `NeedMore` or `Bad`,
 /// are the stream of all bytes fed.
-#[derive(Debug, Drop)]
+#[derive(Drop)]
 pub struct Framer {
     alloc: Global,
     limit: u32,

@@ -10,7 +10,7 @@ use poa_base::WantMemory;
 use std::alloc::Global;
 
 /// The stream of a text that is at hand: its messages, and what is said after the last one.
-#[derive(Debug, Drop)]
+#[derive(Drop)]
 pub struct Frames {
     pub messages: Vec<Message>,
     pub last: Next,

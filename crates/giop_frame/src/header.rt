@@ -14,7 +14,7 @@ pub(crate) const HEADER: usize = 12;
 pub(crate) const HEADER_AND_ID: usize = 16;
 
 /// What a header says behind its magic and version: CORBA 3.3 Part 2, 9.4.1.
-#[derive(Clone, Copy, Debug)]
+#[derive(Clone, Copy)]
 pub(crate) struct Header {
     /// Whether numbers are little-endian: bit 0 of the flags.
     pub(crate) little: bool,

@@ -9,7 +9,7 @@ use std::marker::Model;
 ///
 /// It begins with a header and is no Fragment. A joined message keeps the header of its first part,
 /// whose size and fragment bit say nothing of the joined one.
-#[derive(Debug, Drop)]
+#[derive(Drop)]
 pub struct Message {
     at: u64,
     bytes: Bytes,

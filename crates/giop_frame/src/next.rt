@@ -3,7 +3,7 @@ use crate::message::Message;
 use crate::why::Why;
 
 /// What comes next in a stream.
-#[derive(Debug, Drop)]
+#[derive(Drop)]
 pub enum Next {
     /// The next message, in the order of last parts.
     Message(Message),

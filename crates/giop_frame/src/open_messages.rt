@@ -18,7 +18,7 @@ use std::marker::Model;
 /// The messages whose last parts haven't come yet, by their request ids.
 ///
 /// The two sums are kept beside the map, since each new part is held against them.
-#[derive(Debug, Drop)]
+#[derive(Drop)]
 pub(crate) struct OpenMessages {
     alloc: Global,
     by_id: BTreeMap<u32, Opened>,

@@ -11,7 +11,7 @@ use std::alloc::Global;
 use std::marker::Model;
 
 /// A message whose last part hasn't come yet.
-#[derive(Debug, Drop)]
+#[derive(Drop)]
 pub(crate) struct Opened {
     at: u64,
     bytes: Vec<u8>,

@@ -9,7 +9,7 @@ use std::marker::Model;
 ///
 /// What was read stays in front until it is as long as what wasn't. So a byte is moved at most once on
 /// average, and the buffer holds at most twice what is unread.
-#[derive(Debug, Drop)]
+#[derive(Drop)]
 pub(crate) struct Unread {
     bytes: Vec<u8>,
     start: usize,

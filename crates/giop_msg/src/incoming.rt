@@ -2,7 +2,7 @@
 use poa_base::Call;
 
 /// What a message asks.
-#[derive(Debug, Drop)]
+#[derive(Drop)]
 pub enum Incoming {
     /// A Request or a LocateRequest.
     Call(Call),

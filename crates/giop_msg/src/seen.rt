@@ -2,7 +2,7 @@
 use poa_base::Head;
 
 /// What a message asks. Its parts are lent: each is a slice of the message.
-#[derive(Clone, Copy, Debug)]
+#[derive(Clone, Copy)]
 pub enum Seen<'a> {
     /// A Request: the key of its target, where one can be read; the operation, without its NUL; and the body,
     /// which begins at the place `base` of the message.

@@ -13,7 +13,7 @@ pub enum ViewFault {
 }
 
 /// A part of a message that can't be read.
-#[derive(Clone, Copy, Debug)]
+#[derive(Clone, Copy)]
 pub(crate) struct Unreadable;
 
 impl From<PartFault> for Unreadable {

@@ -2,7 +2,7 @@
 use history_holds::Hold;
 
 /// How the calls of a row are held.
-#[derive(Clone, Copy, Debug, PartialEq, Eq, Drop)]
+#[derive(Clone, Copy, PartialEq, Eq, Drop)]
 pub enum Grip {
     /// Each is held by this.
     Held(Hold),

@@ -1,7 +1,7 @@
 //! Why a call is held.
 
 /// Why a request or a locate is held: CORBA 3.3 Part 1, sections 15.2.3 and 15.3.
-#[derive(Clone, Copy, Debug, PartialEq, Eq, Drop)]
+#[derive(Clone, Copy, PartialEq, Eq, Drop)]
 pub enum Hold {
     /// This manager is in the state HOLDING.
     Manager(u32),

@@ -2,7 +2,7 @@
 use poa_base::{Oid, Path, Sid};
 
 /// How far an activation has come.
-#[derive(Clone, Copy, Debug, PartialEq, Eq, Drop)]
+#[derive(Clone, Copy, PartialEq, Eq, Drop)]
 pub enum Phase {
     /// Its servant is being incarnated.
     Begun,
@@ -14,7 +14,7 @@ pub enum Phase {
 
 /// An activation that was begun: the binding of an object id of one adapter to a servant. CORBA 3.3 Part 1,
 /// section 15.2.1.
-#[derive(Debug, Drop)]
+#[derive(Drop)]
 pub struct Activation {
     /// Activations are numbered in the order in which they were begun.
     pub number: u32,

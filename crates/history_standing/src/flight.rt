@@ -2,7 +2,7 @@
 use poa_base::Path;
 
 /// A request that was admitted and hasn't ended, or a trial of a missing child that wasn't answered yet.
-#[derive(Debug, Drop)]
+#[derive(Drop)]
 pub struct Flight {
     pub arrival: u64,
     /// The number of the adapter that it is in flight in; of the parent for a trial.

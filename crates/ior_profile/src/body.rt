@@ -12,7 +12,7 @@ use std::alloc::Global;
 
 /// What an IIOP profile says: the version, where the server listens, and the object's key (CORBA 3.3
 /// Part 2, 9.7.2). Components are passed over.
-#[derive(Debug, Drop)]
+#[derive(Drop)]
 pub struct ProfileBody {
     pub major: u8,
     pub minor: u8,

@@ -7,7 +7,7 @@ use crate::chunks::Chunks;
 use poa_base::{Call, Entry, Verdict, WantMemory};
 
 /// A frequent entry, in 16 bytes; any other one stands beside its row, which has the way to it.
-#[derive(Clone, Copy, Debug, Drop)]
+#[derive(Clone, Copy, Drop)]
 pub enum Row<W> {
     Entered {
         conn: u32,

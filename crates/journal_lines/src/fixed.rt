@@ -5,7 +5,7 @@ ghost use Rattle.journal_lines.specs.Fixed.{flag_for, holds, is_etherealizing, r
 use text_words::Worded;
 
 /// The kinds of entries.
-#[derive(Clone, Copy, Debug, Drop)]
+#[derive(Clone, Copy, Drop)]
 pub(crate) enum Kind {
     Entered,
     Arrive,
@@ -48,7 +48,7 @@ impl Worded for Kind {
 }
 
 /// How an activation is taken out.
-#[derive(Clone, Copy, Debug, Drop)]
+#[derive(Clone, Copy, Drop)]
 pub(crate) enum Removal {
     Etherealize,
     Quiet,
@@ -90,7 +90,7 @@ impl Removal {
 }
 
 /// A truth value.
-#[derive(Clone, Copy, Debug, Drop)]
+#[derive(Clone, Copy, Drop)]
 pub(crate) enum Flag {
     Yes,
     No,
@@ -128,7 +128,7 @@ impl Flag {
 }
 
 /// The kinds of states.
-#[derive(Clone, Copy, Debug, Drop)]
+#[derive(Clone, Copy, Drop)]
 pub(crate) enum Holding {
     Register,
     Log,

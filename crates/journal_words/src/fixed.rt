@@ -8,7 +8,7 @@ use poa_base::ExcName;
 use text_words::{WordFault, Worded};
 
 /// The kinds of calls.
-#[derive(Clone, Copy, Debug, Drop)]
+#[derive(Clone, Copy, Drop)]
 pub(crate) enum CallKind {
     Request,
     Locate,
@@ -31,7 +31,7 @@ impl Worded for CallKind {
 }
 
 /// The byte order of a message.
-#[derive(Clone, Copy, Debug, Drop)]
+#[derive(Clone, Copy, Drop)]
 pub(crate) enum ByteOrder {
     Big,
     Little,
@@ -73,7 +73,7 @@ impl ByteOrder {
 }
 
 /// The kinds of verdicts.
-#[derive(Clone, Copy, Debug, Drop)]
+#[derive(Clone, Copy, Drop)]
 pub(crate) enum Ruling {
     Serve,
     Preset,
@@ -114,7 +114,7 @@ impl Worded for Ruling {
 }
 
 /// What an adapter activator answered.
-#[derive(Clone, Copy, Debug, Drop)]
+#[derive(Clone, Copy, Drop)]
 pub(crate) enum Trial {
     Yes,
     No,
@@ -139,7 +139,7 @@ impl Worded for Trial {
 }
 
 /// What a servant activator brought.
-#[derive(Clone, Copy, Debug, Drop)]
+#[derive(Clone, Copy, Drop)]
 pub(crate) enum Bringing {
     Fresh,
     Named,
@@ -166,7 +166,7 @@ impl Worded for Bringing {
 }
 
 /// A system exception by its standard name.
-#[derive(Clone, Copy, Debug, Drop)]
+#[derive(Clone, Copy, Drop)]
 pub(crate) struct Raised {
     pub(crate) name: ExcName,
 }
@@ -189,7 +189,7 @@ impl Worded for Raised {
     }
 }
 /// A word that stands alone at its place.
-#[derive(Clone, Copy, Debug, Drop)]
+#[derive(Clone, Copy, Drop)]
 pub enum Mark {
     /// The first word of a journal.
     Journal,

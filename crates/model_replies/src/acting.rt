@@ -8,7 +8,7 @@ use servant_kinds::Servant;
 use std::alloc::Global;
 
 /// The state after a call, and how the call ended.
-#[derive(Debug, Drop)]
+#[derive(Drop)]
 pub struct Acted {
     pub state: State,
     pub outcome: Outcome,

@@ -11,7 +11,7 @@ use active_map::activation::same_servant;
 use poa_base::{Config, Oid, Path, Sid, State, Store, WantMemory};
 
 /// Each state that an entry left, after the ones before it.
-#[derive(Debug, Drop)]
+#[derive(Drop)]
 pub struct Kept {
     pub servants: Vec<ServantState>,
     pub places: Vec<StoredState>,

@@ -2,7 +2,7 @@
 use poa_base::{Sid, State};
 
 /// The state of a servant, as an entry left it.
-#[derive(Debug, Drop)]
+#[derive(Drop)]
 pub struct ServantState {
     pub servant: Sid,
     pub state: State,

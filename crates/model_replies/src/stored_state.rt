@@ -2,7 +2,7 @@
 use poa_base::{Oid, Path, State};
 
 /// The state that a fresh servant left for its id, as an entry stored it.
-#[derive(Debug, Drop)]
+#[derive(Drop)]
 pub struct StoredState {
     pub path: Path,
     pub oid: Oid,

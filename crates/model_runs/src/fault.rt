@@ -5,7 +5,7 @@ use std::alloc::AllocFailed;
 use text_words::WordFault;
 
 /// Why a script or a load isn't played to its end.
-#[derive(Clone, Copy, Debug, Drop)]
+#[derive(Clone, Copy, Drop)]
 pub enum Fault {
     /// A line or a configuration that is none.
     Script,

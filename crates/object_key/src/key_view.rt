@@ -8,7 +8,7 @@ use std::alloc::Global;
 use std::marker::Model;
 
 /// An object key whose path and object id are lent from the bytes that spell it. Contracts see it as the key.
-#[derive(Debug, Drop)]
+#[derive(Drop)]
 pub struct KeyView<'a> {
     stamp: Option<Stamp>,
     path: PathView<'a>,

@@ -10,7 +10,7 @@ use std::marker::Model;
 
 /// A path whose names are lent from the bytes that spell it: from the root down, each behind an octet of its
 /// length. Contracts see it as the list of its names.
-#[derive(Debug, Drop)]
+#[derive(Drop)]
 pub struct PathView<'a> {
     count: u8,
     names: &'a [u8],

@@ -13,7 +13,7 @@ pub trait Gate {
 }
 
 /// The gate that never keeps anybody.
-#[derive(Clone, Copy, Debug, Drop)]
+#[derive(Clone, Copy, Drop)]
 pub struct OpenGate;
 
 impl Gate for OpenGate {

@@ -3,7 +3,7 @@ use poa_names::{Bytes, Oid, TryClone};
 use std::alloc::AllocError;
 
 /// The answer to a command.
-#[derive(Clone, Debug, PartialEq, Eq, Drop)]
+#[derive(Clone, PartialEq, Eq, Drop)]
 pub enum Answer {
     Good,
     /// Good, with the id that was made.
@@ -14,7 +14,7 @@ pub enum Answer {
 }
 
 /// Why a command was refused.
-#[derive(Clone, Copy, Debug, PartialEq, Eq, Drop)]
+#[derive(Clone, Copy, PartialEq, Eq, Drop)]
 pub enum Reason {
     NoManager,
     AdapterInactive,

@@ -3,7 +3,7 @@ use poa_names::{Endpoint, Name, Oid, Path, TryClone};
 use std::alloc::AllocError;
 
 /// What a manager is told to do.
-#[derive(Clone, Copy, Debug, PartialEq, Eq, Drop)]
+#[derive(Clone, Copy, PartialEq, Eq, Drop)]
 pub enum Order {
     Activate,
     Hold { wait: bool },
@@ -12,7 +12,7 @@ pub enum Order {
 }
 
 /// An administrator's command.
-#[derive(Clone, Debug, PartialEq, Eq, Drop)]
+#[derive(Clone, PartialEq, Eq, Drop)]
 pub enum Command {
     Manager {
         manager: Name,

@@ -3,7 +3,7 @@ use poa_names::{Bytes, Endpoint, Items, ManagerState, Name, Oid, Path, PolicySet
 
 /// What a server is configured with. Manager 0 is `root`, and the configured managers follow from 1
 /// on; a servant's number is its place in `servants`, from 0 on.
-#[derive(Debug, Drop)]
+#[derive(Drop)]
 pub struct Config {
     /// The number of the run.
     pub run: u32,
@@ -22,21 +22,21 @@ pub struct Config {
 }
 
 /// A manager and the state in which it starts.
-#[derive(Debug, Drop)]
+#[derive(Drop)]
 pub struct ManagerConf {
     pub name: Name,
     pub start: ManagerState,
 }
 
 /// A servant, with its kind and the state in which it starts.
-#[derive(Debug, Drop)]
+#[derive(Drop)]
 pub struct ServantConf {
     pub name: Name,
     pub state: State,
 }
 
 /// The template of an adapter.
-#[derive(Debug, Drop)]
+#[derive(Drop)]
 pub struct AdapterConf {
     pub path: Path,
     pub policies: PolicySet,
@@ -53,7 +53,7 @@ pub struct AdapterConf {
 }
 
 /// What an adapter activator does about a missing child.
-#[derive(Clone, Copy, Debug, PartialEq, Eq, Drop)]
+#[derive(Clone, Copy, PartialEq, Eq, Drop)]
 pub enum Children {
     Create,
     Refuse,
@@ -61,7 +61,7 @@ pub enum Children {
 }
 
 /// The kinds of servants.
-#[derive(Clone, Copy, Debug, PartialEq, Eq, Drop)]
+#[derive(Clone, Copy, PartialEq, Eq, Drop)]
 pub enum Kind {
     Register,
     Log,
@@ -70,14 +70,14 @@ pub enum Kind {
 }
 
 /// A rule of a servant manager. Without an id it matches every id.
-#[derive(Debug, Drop)]
+#[derive(Drop)]
 pub struct RuleConf {
     pub oid: Option<Oid>,
     pub gives: Gives,
 }
 
 /// What a rule gives.
-#[derive(Debug, Drop)]
+#[derive(Drop)]
 pub enum Gives {
     /// A new servant of this kind.
     Fresh(Kind),
@@ -88,7 +88,7 @@ pub enum Gives {
 }
 
 /// An object that is active from the start. Without an id it gets a system-made one.
-#[derive(Debug, Drop)]
+#[derive(Drop)]
 pub struct ObjectConf {
     pub adapter: Path,
     pub oid: Option<Oid>,
@@ -96,7 +96,7 @@ pub struct ObjectConf {
 }
 
 /// An entry of the endpoint table.
-#[derive(Debug, Drop)]
+#[derive(Drop)]
 pub struct ForwardConf {
     pub path: Path,
     pub endpoint: Endpoint,

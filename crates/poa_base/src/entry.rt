@@ -5,7 +5,7 @@ use poa_names::{Endpoint, Name, SysExc, TryClone};
 use std::alloc::AllocError;
 
 /// What the adapter activator answered: CORBA 3.3 Part 1, chapter 15, AdapterActivator.
-#[derive(Clone, Copy, Debug, PartialEq, Eq, Drop)]
+#[derive(Clone, Copy, PartialEq, Eq, Drop)]
 pub enum Attempt {
     /// The child is created, under this number.
     Yes { number: u32 },
@@ -16,7 +16,7 @@ pub enum Attempt {
 }
 
 /// What the servant activator brought: CORBA 3.3 Part 1, chapter 15, ServantActivator.
-#[derive(Clone, Debug, PartialEq, Eq, Drop)]
+#[derive(Clone, PartialEq, Eq, Drop)]
 pub enum Incarnation {
     /// A new servant, under this number.
     Fresh(u32),
@@ -29,7 +29,7 @@ pub enum Incarnation {
 }
 
 /// One step of the server. The journal is the list of them.
-#[derive(Clone, Debug, PartialEq, Eq, Drop)]
+#[derive(Clone, PartialEq, Eq, Drop)]
 pub enum Entry {
     /// A connection came.
     Entered {

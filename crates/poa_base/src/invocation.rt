@@ -5,7 +5,7 @@ use poa_names::{Bytes, Endpoint, SysExc, TryClone};
 use std::alloc::AllocError;
 
 /// A request to be written by a client.
-#[derive(Clone, Debug, PartialEq, Eq, Drop)]
+#[derive(Clone, PartialEq, Eq, Drop)]
 pub struct Ask {
     pub head: Head,
     pub key: Bytes,
@@ -14,7 +14,7 @@ pub struct Ask {
 }
 
 /// An argument or a result.
-#[derive(Clone, Debug, PartialEq, Eq, Drop)]
+#[derive(Clone, PartialEq, Eq, Drop)]
 pub enum Datum {
     /// `long long`.
     Long(i64),
@@ -29,7 +29,7 @@ pub enum Datum {
 }
 
 /// How an operation ended.
-#[derive(Debug, Drop)]
+#[derive(Drop)]
 pub enum Outcome {
     /// A result, or none.
     Value(Option<Datum>),
@@ -40,7 +40,7 @@ pub enum Outcome {
 }
 
 /// The answer to a call.
-#[derive(Debug, Drop)]
+#[derive(Drop)]
 pub enum Reply {
     /// How the operation ended.
     Outcome(Outcome),

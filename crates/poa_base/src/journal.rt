@@ -4,7 +4,7 @@ use crate::store::Store;
 use poa_names::Items;
 
 /// A history from its opening on.
-#[derive(Debug, Drop)]
+#[derive(Drop)]
 pub struct Journal {
     /// The number of the run.
     pub run: u32,

@@ -6,7 +6,7 @@ use std::alloc::AllocError;
 /// What a reply needs of the message that it answers: CORBA 3.3 Part 2, chapter 9.
 ///
 /// A LocateRequest has flags 0. An administrator's line has 0 and false in every field.
-#[derive(Clone, Copy, Debug, PartialEq, Eq, Drop)]
+#[derive(Clone, Copy, PartialEq, Eq, Drop)]
 pub struct Head {
     /// The request id.
     pub id: u32,
@@ -21,7 +21,7 @@ pub struct Head {
 }
 
 /// The body of a request, whose arguments are not read yet.
-#[derive(Clone, Debug, PartialEq, Eq, Drop)]
+#[derive(Clone, PartialEq, Eq, Drop)]
 pub struct Body {
     pub bytes: Bytes,
     /// Whether numbers are little-endian.
@@ -31,7 +31,7 @@ pub struct Body {
 }
 
 /// One call. A target that gives no key is none.
-#[derive(Clone, Debug, PartialEq, Eq, Drop)]
+#[derive(Clone, PartialEq, Eq, Drop)]
 pub enum Call {
     Request {
         head: Head,

@@ -3,7 +3,7 @@ use crate::invocation::Datum;
 use poa_names::{Bytes, Name, Oid, Path};
 
 /// A line of a script.
-#[derive(Debug, Drop)]
+#[derive(Drop)]
 pub enum ScriptLine {
     /// An empty line or a comment.
     Skipped,

@@ -1,7 +1,7 @@
 //! How the serving of one connection ended.
 
 /// The connection, and how it ended. No connection where none was entered.
-#[derive(Clone, Copy, Debug, PartialEq, Eq, Drop)]
+#[derive(Clone, Copy, PartialEq, Eq, Drop)]
 pub struct Session {
     pub conn: Option<u32>,
     pub end: SessionEnd,

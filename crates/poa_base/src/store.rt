@@ -17,7 +17,7 @@ use std::collections::BTreeMap;
 use std::marker::Model;
 
 /// A state with its place, as a store lends it.
-#[derive(Clone, Copy, Debug, Drop)]
+#[derive(Clone, Copy, Drop)]
 pub struct Row<'a> {
     pub path: &'a Path,
     pub oid: &'a Oid,
@@ -25,7 +25,7 @@ pub struct Row<'a> {
 }
 
 /// A finite map from an adapter's path and an object id to a state.
-#[derive(Debug, Drop)]
+#[derive(Drop)]
 pub struct Store {
     shelves: BTreeMap<Path, BTreeMap<Oid, Option<State>>>,
     alloc: Global,

@@ -4,7 +4,7 @@ use poa_names::{Endpoint, Name, SysExc, TryClone};
 use std::alloc::AllocError;
 
 /// What is done with a call when it is admitted.
-#[derive(Clone, Debug, PartialEq, Eq, Drop)]
+#[derive(Clone, PartialEq, Eq, Drop)]
 pub enum Verdict {
     /// The servant of this activation runs.
     Serve(u32),

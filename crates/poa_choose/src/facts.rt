@@ -2,7 +2,7 @@
 use poa_base::{Cause, Endpoint, Items, ManagerState, Name, PolicySet, SysExc, Verdict};
 
 /// What stands about a request or a locate, in the order in which the table of verdicts asks it.
-#[derive(Debug, Drop)]
+#[derive(Drop)]
 pub struct Facts {
     /// A locate, and not a request.
     pub locate: bool,
@@ -42,7 +42,7 @@ pub struct Facts {
 }
 
 /// What the target of a call is as a key.
-#[derive(Clone, Copy, Debug, PartialEq, Eq, Drop)]
+#[derive(Clone, Copy, PartialEq, Eq, Drop)]
 pub enum KeyFact {
     /// The target gives no key.
     Absent,
@@ -56,7 +56,7 @@ pub enum KeyFact {
 }
 
 /// What the walk from the root along the key's path meets.
-#[derive(Clone, Copy, Debug, PartialEq, Eq, Drop)]
+#[derive(Clone, Copy, PartialEq, Eq, Drop)]
 pub enum WalkFact {
     /// An adapter that is being destroyed.
     Dying,
@@ -67,7 +67,7 @@ pub enum WalkFact {
 }
 
 /// What the active object map has for the id.
-#[derive(Clone, Copy, Debug, PartialEq, Eq, Drop)]
+#[derive(Clone, Copy, PartialEq, Eq, Drop)]
 pub enum MapFact {
     /// This activation, complete and not ending.
     Active(u32),
@@ -77,7 +77,7 @@ pub enum MapFact {
 }
 
 /// What the first matching rule of a servant locator gives.
-#[derive(Debug, Drop)]
+#[derive(Drop)]
 pub enum Located {
     Servant(Name),
     Forward(Endpoint),
@@ -86,7 +86,7 @@ pub enum Located {
 }
 
 /// What the table of verdicts gives.
-#[derive(Debug, Drop)]
+#[derive(Drop)]
 pub enum Choice {
     Go(Verdict),
     /// The call is held, until its cause changes.
@@ -94,7 +94,7 @@ pub enum Choice {
 }
 
 /// What the waiting commands ask.
-#[derive(Debug, Drop)]
+#[derive(Drop)]
 pub struct WaitFacts {
     /// The managers in whose adapters nothing is in flight.
     pub quiet: Items<u32>,

@@ -2,7 +2,7 @@
 use poa_base::{Head, Reply};
 
 /// The outcome of a `collect`.
-#[derive(Debug, Drop)]
+#[derive(Drop)]
 pub enum Collected {
     /// The reply to this arrival, with what it needs of the message that it answers.
     Reply {

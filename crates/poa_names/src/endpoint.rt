@@ -4,7 +4,7 @@ use crate::copy::TryClone;
 use std::alloc::AllocError;
 
 /// The host and port of an IIOP profile: CORBA 3.3 Part 2, chapter 9.
-#[derive(Clone, Debug, PartialEq, Eq, Drop)]
+#[derive(Clone, PartialEq, Eq, Drop)]
 pub struct Endpoint {
     pub host: Bytes,
     pub port: u16,

@@ -1,7 +1,7 @@
 //! System exceptions, as CORBA 3.3 Part 1 names them.
 
 /// The system exceptions that this server raises.
-#[derive(Clone, Copy, Debug, PartialEq, Eq, Drop)]
+#[derive(Clone, Copy, PartialEq, Eq, Drop)]
 pub enum ExcName {
     /// OBJECT_NOT_EXIST.
     ObjectNotExist,
@@ -18,7 +18,7 @@ pub enum ExcName {
 }
 
 /// Whether the operation had ended when the exception was raised.
-#[derive(Clone, Copy, Debug, PartialEq, Eq, Drop)]
+#[derive(Clone, Copy, PartialEq, Eq, Drop)]
 pub enum Completion {
     Yes,
     No,
@@ -26,7 +26,7 @@ pub enum Completion {
 }
 
 /// A system exception with its minor code and completion.
-#[derive(Clone, Copy, Debug, PartialEq, Eq, Drop)]
+#[derive(Clone, Copy, PartialEq, Eq, Drop)]
 pub struct SysExc {
     pub name: ExcName,
     pub minor: u32,

@@ -8,7 +8,7 @@ use std::cmp::Ordering;
 use std::marker::Model;
 
 /// 1 to 64 bytes.
-#[derive(Debug, Drop)]
+#[derive(Drop)]
 pub struct Name {
     items: Vec<u8>,
 }

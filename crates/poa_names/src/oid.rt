@@ -8,7 +8,7 @@ use std::cmp::Ordering;
 use std::marker::Model;
 
 /// At most 256 bytes, which name an object within its adapter.
-#[derive(Debug, Drop)]
+#[derive(Drop)]
 pub struct Oid {
     items: Vec<u8>,
 }

@@ -9,7 +9,7 @@ use std::cmp::Ordering;
 use std::marker::Model;
 
 /// At most 16 names. The root's path has none.
-#[derive(Debug, Drop)]
+#[derive(Drop)]
 pub struct Path {
     names: Vec<Name>,
 }

@@ -5,7 +5,7 @@ use crate::items::Items;
 use std::alloc::AllocError;
 
 /// Which servant: a configured one by its place, or a fresh one by its activation.
-#[derive(Clone, Copy, Debug, PartialEq, Eq, Drop)]
+#[derive(Clone, Copy, PartialEq, Eq, Drop)]
 pub enum Sid {
     Named(u32),
     Fresh(u32),

@@ -2,7 +2,7 @@
 use poa_base::SessionEnd;
 
 /// How a session goes on behind a round.
-#[derive(Clone, Copy, Debug, Drop)]
+#[derive(Clone, Copy, Drop)]
 pub(crate) enum Flow {
     /// With the next round.
     On,

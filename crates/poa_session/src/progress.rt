@@ -2,7 +2,7 @@
 use poa_base::SessionEnd;
 
 /// How the reading of an input goes on.
-#[derive(Clone, Copy, Debug, Drop)]
+#[derive(Clone, Copy, Drop)]
 pub(crate) enum Progress {
     /// More may stand whole.
     On,

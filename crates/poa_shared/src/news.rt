@@ -7,7 +7,7 @@ use poa_core::Phase;
 const _: () = prove!(SLOTS == 64);
 
 /// Whom to wake after arrivals and turns, once the place before the lock is let go.
-#[derive(Clone, Copy, Debug, Drop)]
+#[derive(Clone, Copy, Drop)]
 pub struct News {
     /// The connection of the one who tells: he looks for its replies himself.
     own: Option<u32>,

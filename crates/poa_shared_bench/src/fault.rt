@@ -3,7 +3,7 @@ use std::alloc::{AllocError, AllocFailed};
 use std::io;
 
 /// Why a run fails: no memory, no clock, no configuration, or a call that the core refused.
-#[derive(Clone, Copy, Debug, Drop)]
+#[derive(Clone, Copy, Drop)]
 pub struct Fault;
 
 impl From<AllocError> for Fault {

@@ -6,7 +6,7 @@ use ior_text::IorFault;
 use std::fmt;
 
 /// How a command ended: each status has a number, with which the program ends, and a line.
-#[derive(Debug, PartialEq, Eq, Drop)]
+#[derive(PartialEq, Eq, Drop)]
 pub enum Status {
     /// The input was read to its end, and every owed reply was written.
     Ok,

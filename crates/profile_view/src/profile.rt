@@ -6,7 +6,7 @@ ghost use Rattle.profile_view.specs.Seen.{seen_profile};
 use cdr_core::{PartFault, View};
 
 /// A tagged profile, whose data lie in a message.
-#[derive(Clone, Copy, Debug)]
+#[derive(Clone, Copy)]
 pub struct ProfileView<'a> {
     pub tag: u32,
     pub data: &'a [u8],

@@ -3,7 +3,7 @@
 use text_words::Worded;
 
 /// What a line tells that is no entry.
-#[derive(Clone, Copy, Debug, Drop)]
+#[derive(Clone, Copy, Drop)]
 pub(crate) enum Mark {
     /// A call or a connection was refused for the limits of the run.
     Limit,

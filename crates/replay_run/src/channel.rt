@@ -11,7 +11,7 @@ use std::alloc::Global;
 const MESSAGE_LIMIT: u32 = 1_048_576;
 
 /// A connection of a script.
-#[derive(Debug, Drop)]
+#[derive(Drop)]
 pub(crate) struct Channel {
     pub(crate) name: Name,
     /// Its number, once it entered.

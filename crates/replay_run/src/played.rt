@@ -3,7 +3,7 @@ use poa_base::Bytes;
 use replay_player::Full;
 
 /// What a script printed, how many calls were unadmitted at its end, and where the run was full.
-#[derive(Debug, Drop)]
+#[derive(Drop)]
 pub struct Played {
     pub printed: Bytes,
     pub held: u64,

@@ -9,14 +9,14 @@ use poa_base::{Items, Name, ScriptLine, WantMemory};
 use std::alloc::Global;
 
 /// A connection and the lines that it has had.
-#[derive(Debug, Drop)]
+#[derive(Drop)]
 pub(crate) struct Connection {
     pub(crate) name: Name,
     pub(crate) traffic: Traffic,
 }
 
 /// The connections, in the order of their first lines.
-#[derive(Debug, Drop)]
+#[derive(Drop)]
 pub(crate) struct Connections {
     pub(crate) rows: Vec<Connection>,
 }

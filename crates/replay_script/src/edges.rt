@@ -3,7 +3,7 @@ ghost use Rattle.std.specs.Prelude.{◌≡◌};
 ghost use Rattle.replay_script.specs.Edges.{behind_word as behind_word_of, belongs, end_trimmed as end_trimmed_of, is_skipped as is_skipped_of, passed as passed_of, trimmed as trimmed_of};
 
 /// A class of bytes.
-#[derive(Clone, Copy, Debug, Drop)]
+#[derive(Clone, Copy, Drop)]
 pub(crate) enum Class {
     /// A space or a tab, which may stand at the ends of a line.
     Blank,

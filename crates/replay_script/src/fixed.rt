@@ -2,7 +2,7 @@
 use text_words::Worded;
 
 /// The first word of a line.
-#[derive(Clone, Copy, Debug, Drop)]
+#[derive(Clone, Copy, Drop)]
 pub(crate) enum Verb {
     Ask,
     Feed,
@@ -37,7 +37,7 @@ impl Worded for Verb {
 }
 
 /// The letter before the colon of an argument, which says its type.
-#[derive(Clone, Copy, Debug, Drop)]
+#[derive(Clone, Copy, Drop)]
 pub(crate) enum Form {
     Long,
     Ulong,

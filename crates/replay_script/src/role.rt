@@ -6,7 +6,7 @@ ghost use Rattle.replay_script.specs.Connections.{role_of as the_role_of};
 use poa_base::{Name, ScriptLine};
 
 /// What a line is to its connection.
-#[derive(Clone, Copy, Debug, Drop)]
+#[derive(Clone, Copy, Drop)]
 pub(crate) enum Role {
     /// It brings calls.
     Call,

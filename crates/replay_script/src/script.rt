@@ -13,7 +13,7 @@ use std::alloc::Global;
 use text_words::{WordFault, next_line};
 
 /// A script: its steps in their order, and the connections that they speak of, in the order of their first lines.
-#[derive(Debug, Drop)]
+#[derive(Drop)]
 pub struct Script {
     pub connections: Items<Name>,
     pub steps: Items<ScriptStep>,

@@ -2,7 +2,7 @@
 use poa_base::{Bytes, Datum, Name, Oid, Path};
 
 /// What a line has done. A connection is the place of its name among the connections of the script.
-#[derive(Debug, Drop)]
+#[derive(Drop)]
 pub enum Step {
     /// A request comes over this connection.
     Ask {
@@ -47,7 +47,7 @@ pub enum Step {
 }
 
 /// A step and the number of its line, from 1 on.
-#[derive(Debug, Drop)]
+#[derive(Drop)]
 pub struct ScriptStep {
     pub line: u64,
     pub step: Step,

@@ -5,7 +5,7 @@ ghost use Rattle.replay_script.specs.Traffic.{allowed, no_traffic, with_role};
 use crate::role::Role;
 
 /// Which lines a connection has had.
-#[derive(Clone, Copy, Debug, Drop)]
+#[derive(Clone, Copy, Drop)]
 pub(crate) struct Traffic {
     pub(crate) calls: bool,
     pub(crate) commands: bool,

@@ -1,7 +1,7 @@
 //! How far a run has come.
 
 /// How far a run has come: the last of these that holds.
-#[derive(Clone, Copy, Debug, PartialEq, Eq, Drop)]
+#[derive(Clone, Copy, PartialEq, Eq, Drop)]
 pub enum Phase {
     /// It takes calls.
     Running,

@@ -8,7 +8,7 @@ use poa_base::WantMemory;
 use std::alloc::Global;
 
 /// What is counted of a run.
-#[derive(Debug, Drop)]
+#[derive(Drop)]
 pub struct Tally {
     /// Of each connection that entered, whether it has left.
     pub left: Vec<bool>,

@@ -6,7 +6,7 @@ use seat_lock::{Chronicle, WantMemory};
 use std::alloc::Global;
 
 /// One entry: who wrote it, and which of its entries it is, from 0 on.
-#[derive(Clone, Copy, Debug, PartialEq, Eq)]
+#[derive(Clone, Copy, PartialEq, Eq)]
 pub struct Note {
     pub writer: u64,
     pub number: u64,

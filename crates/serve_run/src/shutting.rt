@@ -14,7 +14,7 @@ use run_tally::Phase;
 use std::sync::Wait;
 
 /// The workers that were started: from this one to before that one.
-#[derive(Clone, Copy, Debug, Drop)]
+#[derive(Clone, Copy, Drop)]
 pub struct Staff {
     pub first: u32,
     pub end: u32,

@@ -17,7 +17,7 @@ use std::alloc::Global;
 const MESSAGE_LIMIT: u32 = 1_048_576;
 
 /// What hears a peer.
-#[derive(Debug, Drop)]
+#[derive(Drop)]
 pub(crate) enum Ear {
     /// The messages of a client.
     Messages(Framer),

@@ -12,7 +12,7 @@ use std::alloc::Global;
 use std::marker::Model;
 
 /// The bytes of a peer, as they come, and what stands whole in them. At most 2^40 bytes are taken.
-#[derive(Debug, Drop)]
+#[derive(Drop)]
 pub struct Input {
     ear: Ear,
     taken: u64,

@@ -19,7 +19,7 @@ const LONGEST: usize = 4096;
 ///
 /// What was read stays in front until it is as long as what wasn't. So a byte is moved at most once on average, and the
 /// buffer holds at most twice what is unread.
-#[derive(Debug, Drop)]
+#[derive(Drop)]
 pub(crate) struct LineCutter {
     bytes: Vec<u8>,
     start: usize,

@@ -2,7 +2,7 @@
 use poa_base::Call;
 
 /// What the bytes of a peer say next.
-#[derive(Debug, Drop)]
+#[derive(Drop)]
 pub enum Told {
     /// A call, in a message or a line of so many bytes.
     Call { call: Call, size: u64 },

@@ -1,7 +1,7 @@
 use std::alloc::AllocError;
 
 /// Why a word was not read.
-#[derive(Debug, Clone, Copy, Drop)]
+#[derive(Clone, Copy, Drop)]
 pub enum WordFault {
     /// The word is outside the form that was asked for.
     OutOfForm,
