@@ -14,7 +14,7 @@ use poa_base::{Command, Endpoint, Name, Order, Path};
 use std::alloc::Global;
 
 /// Where the words of a command stand.
-#[derive(Clone, Copy, PartialEq, Eq, Drop)]
+#[derive(Clone, Copy, Drop)]
 pub enum Source {
     /// On an administrator's link: object ids are `t:` and a name, or `h:` and hexadecimal in either case.
     Link,

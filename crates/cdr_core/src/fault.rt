@@ -8,7 +8,7 @@ use std::error::Error;
 use std::fmt;
 
 /// Why a read was refused. A refused read leaves its reader as it was.
-#[derive(Clone, Copy, Debug, PartialEq, Eq)]
+#[derive(Clone, Copy, Debug)]
 pub enum CdrFault {
     /// Fewer bytes are left behind the padding than the field has: `need` is the size of the number, or the
     /// length that was read for the bytes of a string or a sequence; `have` is what is left behind the

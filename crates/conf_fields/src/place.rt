@@ -6,7 +6,7 @@ use poa_base::Bytes;
 use std::alloc::{AllocError, Global};
 
 /// A table of a configuration, by the index of its entry.
-#[derive(Clone, Copy, PartialEq, Eq, Drop)]
+#[derive(Clone, Copy, Drop)]
 pub enum Place {
     /// The document itself.
     Top,

@@ -11,7 +11,7 @@ use poa_base::{Bytes, Config, WantMemory};
 use std::alloc::Global;
 
 /// What is asked of a configuration.
-#[derive(Clone, Copy, PartialEq, Eq, Drop)]
+#[derive(Clone, Copy, Drop)]
 pub enum Asked {
     /// How many there are of each kind.
     Counts,

@@ -22,7 +22,7 @@ use std::alloc::Global;
 use toml::{Table, Value};
 
 /// The way that the keys of a rule choose.
-#[derive(Clone, Copy, PartialEq, Eq, Drop)]
+#[derive(Clone, Copy, Drop)]
 pub enum Way {
     Fresh,
     Servant,

@@ -13,7 +13,7 @@ use crate::why::Why;
 pub(crate) const OPEN_LIMIT: u64 = 16_777_216;
 
 /// What a text shows of its first part.
-#[derive(Clone, Copy, PartialEq, Eq)]
+#[derive(Clone, Copy)]
 pub(crate) enum Look {
     /// Not enough to say anything.
     Unfinished,

@@ -1,7 +1,7 @@
 //! Why a place of a stream is bad.
 
 /// Why a place of a stream is bad: the first of these that its message breaks.
-#[derive(Clone, Copy, PartialEq, Eq)]
+#[derive(Clone, Copy)]
 pub enum Why {
     /// The first four bytes aren't `GIOP`.
     BadMagic,

@@ -5,7 +5,7 @@ use std::error::Error;
 use std::fmt;
 
 /// Why a message asks nothing of a server.
-#[derive(Clone, Copy, Debug, PartialEq, Eq)]
+#[derive(Clone, Copy, Debug)]
 pub enum MsgFault {
     /// The fields of a Request, CancelRequest or LocateRequest can't be read.
     Malformed,

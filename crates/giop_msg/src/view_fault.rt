@@ -4,7 +4,7 @@ use std::error::Error;
 use std::fmt;
 
 /// Why a message asks nothing of a server. No view lacks memory.
-#[derive(Clone, Copy, Debug, PartialEq, Eq)]
+#[derive(Clone, Copy, Debug)]
 pub enum ViewFault {
     /// The fields of a Request, CancelRequest or LocateRequest can't be read.
     Malformed,

@@ -5,7 +5,7 @@ ghost use Rattle.history_holds.specs.Frees.{everything, frees, nothing};
 use crate::hold::Hold;
 
 /// What an entry may free of what holds calls.
-#[derive(Clone, Copy, PartialEq, Eq, Drop)]
+#[derive(Clone, Copy, Drop)]
 pub struct Freed {
     /// Whatever is held: a command was done, or a trial ended.
     pub all: bool,

@@ -1,7 +1,7 @@
 //! What a worker has begun.
 
 /// What a worker has begun and not ended.
-#[derive(Clone, Copy, PartialEq, Eq, Drop)]
+#[derive(Clone, Copy, Drop)]
 pub enum Stage {
     /// Nothing.
     Free,

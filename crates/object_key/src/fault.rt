@@ -5,7 +5,7 @@ ghost use Rattle.object_key.specs.declared.fault.KeyFault.TheVariants.{WantMemor
 use std::alloc::{AllocError, AllocFailed};
 
 /// Why `read_key` gives no key.
-#[derive(Clone, Copy, PartialEq, Eq)]
+#[derive(Clone, Copy)]
 pub enum KeyFault {
     /// No key is spelled so.
     BadKey,

@@ -21,7 +21,7 @@ pub enum Taken {
 }
 
 /// What a put did.
-#[derive(Clone, Copy, Debug, PartialEq, Eq, Drop)]
+#[derive(Clone, Copy, Debug, Drop)]
 pub enum Put {
     Done,
     /// The files failed, and counted it.

@@ -53,7 +53,7 @@ pub struct AdapterConf {
 }
 
 /// What an adapter activator does about a missing child.
-#[derive(Clone, Copy, PartialEq, Eq, Drop)]
+#[derive(Clone, Copy, Drop)]
 pub enum Children {
     Create,
     Refuse,
@@ -61,7 +61,7 @@ pub enum Children {
 }
 
 /// The kinds of servants.
-#[derive(Clone, Copy, PartialEq, Eq, Drop)]
+#[derive(Clone, Copy, Drop)]
 pub enum Kind {
     Register,
     Log,

@@ -5,7 +5,7 @@ use poa_names::{Bytes, Endpoint, SysExc, TryClone};
 use std::alloc::AllocError;
 
 /// A request to be written by a client.
-#[derive(Clone, PartialEq, Eq, Drop)]
+#[derive(Clone, Drop)]
 pub struct Ask {
     pub head: Head,
     pub key: Bytes,
@@ -14,7 +14,7 @@ pub struct Ask {
 }
 
 /// An argument or a result.
-#[derive(Clone, PartialEq, Eq, Drop)]
+#[derive(Clone, Drop)]
 pub enum Datum {
     /// `long long`.
     Long(i64),

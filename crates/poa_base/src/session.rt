@@ -1,14 +1,14 @@
 //! How the serving of one connection ended.
 
 /// The connection, and how it ended. No connection where none was entered.
-#[derive(Clone, Copy, PartialEq, Eq, Drop)]
+#[derive(Clone, Copy, Drop)]
 pub struct Session {
     pub conn: Option<u32>,
     pub end: SessionEnd,
 }
 
 /// How a session ended.
-#[derive(Clone, Copy, Debug, PartialEq, Eq, Drop)]
+#[derive(Clone, Copy, Debug, Drop)]
 pub enum SessionEnd {
     /// The input was read to its end, and every owed reply was written.
     Ended,

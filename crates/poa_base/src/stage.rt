@@ -1,7 +1,7 @@
 //! What a worker is at, what an administrator waits for, and what a call is held by.
 
 /// What a worker is at between two of its turns.
-#[derive(Clone, Copy, PartialEq, Eq, Drop)]
+#[derive(Clone, Copy, Drop)]
 pub enum Point {
     /// A servant runs for this arrival.
     Serving { arrival: u64 },
@@ -15,7 +15,7 @@ pub enum Point {
 }
 
 /// What a command with `wait` waits for.
-#[derive(Clone, Copy, PartialEq, Eq, Drop)]
+#[derive(Clone, Copy, Drop)]
 pub enum Waiting {
     /// Nothing is in flight in the adapters of this manager.
     Quiet { manager: u32 },
@@ -26,7 +26,7 @@ pub enum Waiting {
 }
 
 /// What holds a call, so that it is looked at again when that changes.
-#[derive(Clone, Copy, PartialEq, Eq, Drop)]
+#[derive(Clone, Copy, Drop)]
 pub enum Cause {
     /// The state of this manager.
     Manager(u32),

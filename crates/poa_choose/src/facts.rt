@@ -42,7 +42,7 @@ pub struct Facts {
 }
 
 /// What the target of a call is as a key.
-#[derive(Clone, Copy, PartialEq, Eq, Drop)]
+#[derive(Clone, Copy, Drop)]
 pub enum KeyFact {
     /// The target gives no key.
     Absent,
@@ -56,7 +56,7 @@ pub enum KeyFact {
 }
 
 /// What the walk from the root along the key's path meets.
-#[derive(Clone, Copy, PartialEq, Eq, Drop)]
+#[derive(Clone, Copy, Drop)]
 pub enum WalkFact {
     /// An adapter that is being destroyed.
     Dying,
@@ -67,7 +67,7 @@ pub enum WalkFact {
 }
 
 /// What the active object map has for the id.
-#[derive(Clone, Copy, PartialEq, Eq, Drop)]
+#[derive(Clone, Copy, Drop)]
 pub enum MapFact {
     /// This activation, complete and not ending.
     Active(u32),

@@ -2,7 +2,7 @@
 use poa_base::Point;
 
 /// The outcome of a step.
-#[derive(Clone, Copy, PartialEq, Eq, Drop)]
+#[derive(Clone, Copy, Drop)]
 pub enum StepOut {
     /// An entry was made, after which the worker is at this point.
     Did(Point),

@@ -1,7 +1,7 @@
 use std::alloc::AllocError;
 
 /// Why a text was not read.
-#[derive(Clone, Copy, Debug, PartialEq, Eq, Drop)]
+#[derive(Clone, Copy, Debug, Drop)]
 pub enum JournalFault {
     /// The first line, from 1 on, that is outside the grammar; in an empty journal the head line that is missing.
     BadLine { line: u64 },

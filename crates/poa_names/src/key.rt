@@ -5,21 +5,21 @@ use crate::path::Path;
 use std::alloc::AllocError;
 
 /// How long a reference is good: the lifespan policy of CORBA 3.3 Part 1, chapter 15.
-#[derive(Clone, Copy, PartialEq, Eq, Drop)]
+#[derive(Clone, Copy, Drop)]
 pub enum Lifespan {
     Transient,
     Persistent,
 }
 
 /// Which adapter of which run a transient key means.
-#[derive(Clone, Copy, PartialEq, Eq, Drop)]
+#[derive(Clone, Copy, Drop)]
 pub struct Stamp {
     pub run: u32,
     pub number: u32,
 }
 
 /// An object key: the path of its adapter and the object id, and for a transient one its stamp.
-#[derive(Clone, PartialEq, Eq, Drop)]
+#[derive(Clone, Drop)]
 pub struct Key {
     pub stamp: Option<Stamp>,
     pub path: Path,

@@ -3,7 +3,7 @@ ghost use Rattle.std.specs.Prelude.{◌≡◌};
 ghost use Rattle.poa_names.specs.Policies.{is_single_thread, is_main_thread, is_persistent, is_unique_id, is_multiple_id, is_system_id, is_implicit, is_retain, is_map_only, is_default_servant, is_servant_manager};
 
 /// The values of the seven kinds of policy.
-#[derive(Clone, Copy, PartialEq, Eq, Drop)]
+#[derive(Clone, Copy, Drop)]
 pub enum Policy {
     /// Thread: ORB_CTRL_MODEL.
     OrbCtrl,
@@ -40,7 +40,7 @@ pub enum Policy {
 }
 
 /// One policy of each kind.
-#[derive(Clone, Copy, PartialEq, Eq, Drop)]
+#[derive(Clone, Copy, Drop)]
 pub struct PolicySet {
     pub thread: Policy,
     pub lifespan: Policy,

@@ -5,14 +5,14 @@ use crate::items::Items;
 use std::alloc::AllocError;
 
 /// A tagged profile: its tag and its data, an encapsulation.
-#[derive(Clone, PartialEq, Eq, Drop)]
+#[derive(Clone, Drop)]
 pub struct Profile {
     pub tag: u32,
     pub bytes: Bytes,
 }
 
 /// A reference: the type id and the profiles.
-#[derive(Clone, PartialEq, Eq, Drop)]
+#[derive(Clone, Drop)]
 pub struct Ior {
     pub type_id: Bytes,
     pub profiles: Items<Profile>,

@@ -5,7 +5,7 @@ ghost use Rattle.poa_policy.specs.Kinds.{kind_of as the_kind_of, put as the_put}
 use poa_base::{Policy, PolicySet};
 
 /// The seven kinds of policy.
-#[derive(Clone, Copy, PartialEq, Eq, Drop)]
+#[derive(Clone, Copy, Drop)]
 pub enum PolicyKind {
     Thread,
     Lifespan,

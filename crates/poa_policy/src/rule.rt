@@ -6,7 +6,7 @@ use crate::kind::PolicyKind;
 use poa_base::PolicySet;
 
 /// A rule on the policies of one adapter, named by its numbers' order in the POA chapter.
-#[derive(Clone, Copy, PartialEq, Eq, Drop)]
+#[derive(Clone, Copy, Drop)]
 pub enum Rule {
     /// USE_ACTIVE_OBJECT_MAP_ONLY needs RETAIN.
     MapOnlyRetains,

@@ -10,7 +10,7 @@ use crate::rule::{Rule, first_broken};
 use poa_base::{Policy, PolicySet};
 
 /// The policy of a list that can't be taken, as in the exception InvalidPolicy of create_POA.
-#[derive(Clone, Copy, PartialEq, Eq, Drop)]
+#[derive(Clone, Copy, Drop)]
 pub struct InvalidPolicy {
     /// Its index in the list, from 0.
     pub index: u32,

@@ -5,7 +5,7 @@ use journal_entries::{Entries, Row};
 use poa_base::{Call, Entry, SessionEnd};
 
 /// What a session is, by how it ended.
-#[derive(Clone, Copy, Debug, PartialEq, Eq, Drop)]
+#[derive(Clone, Copy, Debug, Drop)]
 pub enum Judgement {
     /// Its calls arrived, and their replies were written.
     Whole,

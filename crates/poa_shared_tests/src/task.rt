@@ -1,7 +1,7 @@
 //! What a thread does.
 
 /// What a thread does.
-#[derive(Clone, Copy, PartialEq, Eq, Drop)]
+#[derive(Clone, Copy, Drop)]
 pub enum Task {
     /// Enters, asks so many calls one after the other, awaits each reply, and leaves.
     Caller { number: u32, calls: u32 },

@@ -1,7 +1,7 @@
 //! What the walk along a path finds.
 
 /// What the walk from the root along a path finds: CORBA 3.3 Part 1, section 15.2.3.
-#[derive(Clone, Copy, PartialEq, Eq, Drop)]
+#[derive(Clone, Copy, Drop)]
 pub enum Found {
     /// The adapter of the path, by its number.
     Live(u32),

@@ -2,7 +2,7 @@
 use poa_base::Point;
 
 /// Why a worker makes no further turn in this hold of the front.
-#[derive(Clone, Copy, PartialEq, Eq, Drop)]
+#[derive(Clone, Copy, Drop)]
 pub enum Pause {
     /// The gate is to be passed.
     At(Point),

@@ -1,7 +1,7 @@
 //! How a worker ended.
 
 /// How a worker ended.
-#[derive(Clone, Copy, PartialEq, Eq, Drop)]
+#[derive(Clone, Copy, Drop)]
 pub enum WorkEnd {
     /// The run is over: a `shutdown` was admitted, every connection but the first has left, every call is admitted, and
     /// the worker has no next entry.

@@ -1,7 +1,7 @@
 //! Why serving stops.
 
 /// Why serving stops.
-#[derive(Clone, Copy, PartialEq, Eq)]
+#[derive(Clone, Copy)]
 pub(crate) enum Stop {
     /// No whole message is left, and no bad one; so many bytes belong to none.
     Waits { have: u64 },

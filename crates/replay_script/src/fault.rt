@@ -1,7 +1,7 @@
 use std::alloc::AllocError;
 
 /// Why a text was not read.
-#[derive(Clone, Copy, PartialEq, Eq, Drop)]
+#[derive(Clone, Copy, Drop)]
 pub enum ScriptFault {
     /// The first line, from 1 on, that is outside the grammar, also by what the lines before it say.
     BadLine { line: u64 },

@@ -4,7 +4,7 @@ use poa_worker::{Aid, WorkEnd};
 use run_tally::{Full, Phase};
 
 /// How a piece ended.
-#[derive(Clone, Copy, PartialEq, Eq, Drop)]
+#[derive(Clone, Copy, Drop)]
 pub enum PieceEnd {
     /// Its door said `End`.
     DoorEnd,

@@ -6,7 +6,7 @@ use run_tally::Full;
 use serve_pieces::{PieceEnd, earlier};
 
 /// For want of what a piece wasn't started.
-#[derive(Clone, Copy, PartialEq, Eq, Drop)]
+#[derive(Clone, Copy, Drop)]
 pub enum Want {
     Memory,
     /// The crew counted it.

@@ -1,7 +1,7 @@
 //! Who is served over a connection.
 
 /// Who is served over a connection.
-#[derive(Clone, Copy, PartialEq, Eq, Drop)]
+#[derive(Clone, Copy, Drop)]
 pub enum Peer {
     /// It sends messages of GIOP.
     Client,
