@@ -95,7 +95,10 @@ impl Entries {
         ensures spare { is_brief entry ≡ true → self.new.spare ≡ self.old.spare }
     {
         match Row::of(&entry) {
-            Some(row) => self.rows.push(row),
+            Some(row) => {
+                drop(entry);
+                self.rows.push(row);
+            }
             None => {
                 let at = self.wholes.len();
                 self.wholes.push(entry);

@@ -83,9 +83,11 @@ pub fn arrive(inside: &mut Inside, conn: u32, call: Call, size: u64) -> Result<u
     ensures arrived { answers.Arrives conn call size (life inside.old) result (life inside.new) }
 {
     if !run_tally::is_taken(inside.limit, &call, size, &inside.tables.tally) {
+        drop(call);
         return Err(refuse(inside, conn, size));
     }
     if make_room_for_call(inside, conn).is_err() {
+        drop(call);
         return Err(ArriveFault::WantMemory);
     }
     let arrival = inside.tables.tally.arrivals;

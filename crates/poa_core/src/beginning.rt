@@ -1,11 +1,15 @@
 //! A run begins.
-ghost use Rattle.std.specs.Prelude.{◌≡◌, ◌≤◌, IfOk};
+ghost use Rattle.std.specs.Prelude.{◌≡◌, ◌≤◌, [], IfOk};
+ghost use Rattle.poa_base.specs.Store.{stored as stored_in};
 ghost use Rattle.conf_rules.specs.Rules.{KeepsRules};
+ghost use Rattle.core_state.specs.State.{IsState};
+ghost use Rattle.core_tables.specs.Known.{KnowsTables};
 ghost use Rattle.run_history.specs.Life as lives;
 ghost use Rattle.poa_core.specs.Kept.{IsKept, life};
 
 use crate::inside::Inside;
 use core_outboxes::Desk;
+use core_state::State;
 use core_tables::Tables;
 use journal_entries::Entries;
 use poa_base::{Config, Store, WantMemory};
@@ -25,10 +29,7 @@ pub fn begin(
     ensures kept { IfOk result (λ inside. IsKept inside) }
     ensures begun { IfOk result (λ inside. life inside ≡ lives.begun config run limit opening) }
 {
-    let tables = Tables::new(alloc)?;
-    let state = core_state::opening(alloc, &config, run, &opening)?;
-    let mut entries = Entries::new(alloc)?;
-    entries.reserve(18)?;
+    let (entries, tables, state) = parts(alloc, &config, run, &opening)?;
     Ok(Inside {
         alloc,
         config,
@@ -40,4 +41,31 @@ pub fn begin(
         desk: Desk::new(alloc),
         state,
     })
+}
+
+/// What is kept of a run before its first entry: its entries, for which there is room, its tables and its state.
+fn parts(
+    alloc: Global,
+    config: &Config,
+    run: u32,
+    opening: &Store,
+) -> Result<(Entries, Tables, State), WantMemory>
+    ensures entries { IfOk result (λ made. made.0.items ≡ []) }
+    ensures room { IfOk result (λ made. 18 ≤ made.0.capacity) }
+    ensures tables { IfOk result (λ made. KnowsTables config.now run [] made.1) }
+    ensures state { IfOk result (λ made. IsState config.now run (stored_in opening.now) [] made.2) }
+{
+    let entries = first_entries(alloc)?;
+    let tables = Tables::new(alloc)?;
+    let state = core_state::opening(alloc, config, run, opening)?;
+    Ok((entries, tables, state))
+}
+
+fn first_entries(alloc: Global) -> Result<Entries, WantMemory>
+    ensures items { IfOk result (λ entries. entries.items ≡ []) }
+    ensures room { IfOk result (λ entries. 18 ≤ entries.capacity) }
+{
+    let mut entries = Entries::new(alloc)?;
+    entries.reserve(18)?;
+    Ok(entries)
 }

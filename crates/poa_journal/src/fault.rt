@@ -1,4 +1,4 @@
-use std::alloc::AllocError;
+use std::alloc::{AllocError, AllocFailed};
 
 /// Why a text was not read.
 #[derive(Clone, Copy, Debug, Drop)]
@@ -16,6 +16,17 @@ impl From<AllocError> for JournalFault {
     ghost from_gives = { λ e fault. fault ≡ WantMemory };
 
     fn from(_: AllocError) -> JournalFault {
+        JournalFault::WantMemory
+    }
+}
+
+impl<T: Drop> From<AllocFailed<T>> for JournalFault {
+    ghost use Rattle.std.specs.Prelude.{◌≡◌};
+    ghost use Rattle.poa_journal.specs.declared.fault.JournalFault.TheVariants.{WantMemory};
+
+    ghost from_gives = { λ e fault. fault ≡ WantMemory };
+
+    fn from(_: AllocFailed<T>) -> JournalFault {
         JournalFault::WantMemory
     }
 }

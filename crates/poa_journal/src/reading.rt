@@ -82,9 +82,7 @@ fn read_entries(alloc: Global, text: &[u8], first: u64) -> Result<Items<Entry>, 
     let mut rest = text;
     while let Some((front, after)) = next_line(rest) {
         let entry = entry_at(alloc, line, front)?;
-        let Ok(()) = entries.push(entry) else {
-            return Err(JournalFault::WantMemory);
-        };
+        entries.push(entry)?;
         line += 1;
         rest = after;
     }

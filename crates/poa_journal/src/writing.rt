@@ -105,8 +105,14 @@ fn put_line(out: &mut Vec<u8>, view: EntryView<'_>) -> Result<(), WantMemory>
 {
     match view {
         KeptRow::Whole(entry) => put_entry(out, entry)?,
-        _ => put_entry(out, &view.to_entry()?)?,
+        _ => put_copy(out, view.to_entry()?)?,
     }
     out.push(b'\n')?;
     Ok(())
+}
+
+fn put_copy(out: &mut Vec<u8>, entry: Entry) -> Result<(), WantMemory>
+    ensures { OnOk result (out.new.items ≡ out.old.items ++ spelled (entry_tokens entry)) }
+{
+    put_entry(out, &entry)
 }

@@ -8,11 +8,11 @@ returns-clause-kept c =
       rules = c.requires.rules;
       numbered = c.ranges.run.fits;
       limited = c.requires.limit;
-      state = c.in_ok-state.ensures;
-      tables = c.in_ok-tables.ensures c.args.config c.args.run;
-      owing = c.new-3.ensures.owing;
-      files = c.new-3.ensures.files;
-      entries = c.reserve.ensures.items ∙ c.in_ok-entries.ensures;
-      len = ap length (c.reserve.ensures.items ∙ c.in_ok-entries.ensures);
-      space = (let fits = c.in_ok-reserve.ensures.room in omega (arith, fits));
+      state = c.in_ok-entries.ensures.state;
+      tables = c.in_ok-entries.ensures.tables;
+      owing = c.new.ensures.owing;
+      files = c.new.ensures.files;
+      entries = c.in_ok-entries.ensures.entries;
+      len = ap length (c.in_ok-entries.ensures.entries);
+      space = (let fits = c.in_ok-entries.ensures.room in omega (arith, fits));
     })

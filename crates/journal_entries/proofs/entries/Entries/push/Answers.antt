@@ -15,8 +15,5 @@ returns-in-None-clause-items c =
     c.len-at.ensures c.self.invariant
     ∙ ap (λ l. l.items ++ c.args.entry ∷ []) c.self.view_is
 
-pub invariant_of-self-in-Some-21 : goal.invariant_of-self-in-Some-21
-invariant_of-self-in-Some-21 c = within_brief _ _ _ _ c.push.ensures.items c.self.invariant (c.in-Some.ensures.within (length c.self.inside.wholes.0))
-
-pub invariant_of-self-in-Some-25 : goal.invariant_of-self-in-Some-25
-invariant_of-self-in-Some-25 c = within_brief _ _ _ _ c.push.ensures.items c.self.invariant (c.in-Some.ensures.within (length c.self.inside.wholes.0))
+pub invariant_of-self : goal.invariant_of-self
+invariant_of-self c = within_brief _ _ _ _ c.push.ensures.items c.self.invariant (c.in-Some.ensures.within (length c.self.inside.wholes.0))
