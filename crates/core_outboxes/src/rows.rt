@@ -176,6 +176,7 @@ pub(crate) fn file_target(
     ensures room { (n : ℕ) → HasRoomAt outboxes.old.boxes.items n → HasRoomAt outboxes.new.boxes.items n }
 {
     let Some(arrival) = target else {
+        drop(reply);
         return;
     };
     if let Some(row) = take_row(owing, arrival) {
@@ -185,5 +186,7 @@ pub(crate) fn file_target(
             head: row.head,
             reply,
         });
+    } else {
+        drop(reply);
     }
 }

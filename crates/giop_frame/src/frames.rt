@@ -1,5 +1,5 @@
 //! The stream of a text that is at hand.
-ghost use Rattle.std.specs.Prelude.{◌≡◌, ◌<◌, ◌^◌, ℕ, List, length, IfOk};
+ghost use Rattle.std.specs.Prelude.{◌≡◌, ◌+◌, ◌<◌, ◌^◌, ℕ, List, [], length, IfOk, OnOk};
 ghost use Rattle.giop_frame.specs.Framer.{HasGiven, reach};
 ghost use Rattle.giop_frame.specs.Frames.{Closes, joined_pieces};
 
@@ -26,12 +26,26 @@ pub fn frame(alloc: Global, limit: u32, pieces: &[&[u8]]) -> Result<Frames, Want
 {
     let mut framer = Framer::new(alloc, limit);
     let mut messages = Vec::new(alloc);
-    for piece in pieces {
-        let _ = drain(&mut framer, &mut messages)?;
-        framer.feed(piece)?;
-    }
+    feed_pieces(&mut framer, &mut messages, pieces)?;
     let last = drain(&mut framer, &mut messages)?;
     Ok(Frames { messages, last })
+}
+
+/// Feeds the pieces one after another, and takes the messages that are whole before each.
+fn feed_pieces(
+    framer: &mut Framer,
+    messages: &mut Vec<Message>,
+    pieces: &[&[u8]],
+) -> Result<(), WantMemory>
+    requires { reach framer.old + length (joined_pieces pieces.now) < 2 ^ 62 }
+    ensures { OnOk result ((limit : ℕ) → HasGiven limit [] messages.old.items framer.old
+        → HasGiven limit (joined_pieces pieces.now) messages.new.items framer.new) }
+{
+    for piece in pieces {
+        let _ = drain(framer, messages)?;
+        framer.feed(piece)?;
+    }
+    Ok(())
 }
 
 /// Takes the messages that are whole, and gives what is said after them: that more bytes are

@@ -2,11 +2,12 @@
 ghost use Rattle.std.specs.Prelude.{◌≡◌, ◌++◌, OnOk};
 ghost use Rattle.std.specs.List.{list_all};
 ghost use Rattle.object_key.specs.Spelling.{key_spelling};
+ghost use Rattle.text_words.specs.Path.{path_text as path_spelling};
 ghost use Rattle.ior_show.specs.Printed as spec;
 ghost use Rattle.ior_show.specs.KeyLine.{KeyShown, stamp_words, hexed_key, key_line};
 ghost use Rattle.ior_show.specs.Shown.{Adds};
 
-use crate::printed::{is_plain, put_hexed};
+use crate::printed::{is_plain, put_hexed, put_text};
 use object_key::{KeyFault, read_key};
 use poa_base::{Key, Path, Stamp, WantMemory};
 use text_words::path_text;
@@ -31,11 +32,18 @@ fn put_read_key(out: &mut Vec<u8>, key: &Key, octets: &[u8]) -> Result<(), WantM
         return put_octets(out, octets);
     }
     put_stamp(out, key.stamp)?;
-    let path = path_text(*out.allocator(), &key.path)?;
-    out.extend_from_slice(path.as_slice())?;
+    put_path(out, &key.path)?;
     out.extend_from_slice(b" ")?;
     put_hexed(out, key.oid.as_slice())?;
     out.extend_from_slice(b"\n")
+}
+
+/// Adds the spelling of a path.
+fn put_path(out: &mut Vec<u8>, path: &Path) -> Result<(), WantMemory>
+    ensures { OnOk result (out.new.items ≡ out.old.items ++ path_spelling path.now) }
+{
+    let text = path_text(*out.allocator(), path)?;
+    out.extend_from_slice(text.as_slice())
 }
 
 /// Whether each name of a path shows.
@@ -53,7 +61,7 @@ fn put_stamp(out: &mut Vec<u8>, stamp: Option<Stamp>) -> Result<(), WantMemory>
         None => out.extend_from_slice(b"key persistent "),
         Some(Stamp { run, number }) => {
             let words = format!(in *out.allocator(); "key transient {run} {number} ")?;
-            out.extend_from_slice(words.as_bytes())
+            put_text(out, words)
         }
     }
 }

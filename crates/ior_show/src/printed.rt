@@ -1,5 +1,5 @@
 //! Octets that a stranger chose, so that they show.
-ghost use Rattle.std.specs.Prelude.{◌≡◌, ◌++◌, OnOk};
+ghost use Rattle.std.specs.Prelude.{◌≡◌, ◌++◌, string_bytes, OnOk};
 ghost use Rattle.ior_show.specs.Printed.{is_visible, hexed, printed};
 ghost use Rattle.std.specs.List.{list_all};
 ghost use Rattle.ior_show.specs.Printed as spec;
@@ -38,4 +38,11 @@ pub(crate) fn put_hexed(out: &mut Vec<u8>, bytes: &[u8]) -> Result<(), WantMemor
     let digits = hex::encode(*out.allocator(), bytes)?;
     out.extend_from_slice(b"h:")?;
     out.extend_from_slice(digits.as_bytes())
+}
+
+/// Adds a text.
+pub(crate) fn put_text(out: &mut Vec<u8>, text: String) -> Result<(), WantMemory>
+    ensures { OnOk result (out.new.items ≡ out.old.items ++ string_bytes text) }
+{
+    out.extend_from_slice(text.as_bytes())
 }

@@ -3,7 +3,7 @@ ghost use Rattle.std.specs.Prelude.{◌≡◌, ◌++◌, OnOk};
 ghost use Rattle.ior_show.specs.Shown.{Adds, ProfileShown, body_line, tag_line};
 
 use crate::key::put_key;
-use crate::printed::{put_hexed, put_printed};
+use crate::printed::{put_hexed, put_printed, put_text};
 use ior_profile::{ProfileBody, read_body};
 use poa_base::{Profile, WantMemory};
 
@@ -36,10 +36,10 @@ fn put_body(out: &mut Vec<u8>, index: usize, body: &ProfileBody) -> Result<(), W
         key: _,
     } = body;
     let version = format!(in *out.allocator(); "profile {index} iiop {major}.{minor} ")?;
-    out.extend_from_slice(version.as_bytes())?;
+    put_text(out, version)?;
     put_printed(out, host.as_slice())?;
     let port = format!(in *out.allocator(); " {port}\n")?;
-    out.extend_from_slice(port.as_bytes())
+    put_text(out, port)
 }
 
 /// Adds the tag and the octets of a profile.
@@ -48,7 +48,7 @@ fn put_tag(out: &mut Vec<u8>, index: usize, profile: &Profile) -> Result<(), Wan
 {
     let tag = profile.tag;
     let words = format!(in *out.allocator(); "profile {index} tag {tag} ")?;
-    out.extend_from_slice(words.as_bytes())?;
+    put_text(out, words)?;
     put_hexed(out, profile.bytes.as_slice())?;
     out.extend_from_slice(b"\n")
 }
