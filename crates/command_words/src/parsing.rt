@@ -64,8 +64,8 @@ pub(crate) fn two_arguments<'a>(
 fn app_of_two(alloc: Global, name: &str) -> Result<clap::Command<'_>, AllocError>
     ensures { IfOk result (λ app. app_of app ≡ apps.of_two name.now) }
 {
-    let second = Arg::new(alloc, "second").required(true);
-    app_of_one(alloc, name, true)?.arg(second)
+    let app = app_of_one(alloc, name, true)?;
+    app.arg(Arg::new(alloc, "second").required(true))
 }
 
 fn app_of_one(alloc: Global, name: &str, is_required: bool) -> Result<clap::Command<'_>, AllocError>

@@ -95,7 +95,7 @@ rule_at at servants policies ms = do
   known ← only_known rule_keys at ms
   Ok (record { oid = oid; gives = given })
 
-abbrev pub rule_in : Place → Find → PolicySet → Data → Result RuleConf ConfFault
+unfoldable pub rule_in : Place → Find → PolicySet → Data → Result RuleConf ConfFault
 rule_in at servants policies d = table_in at d >>= rule_at at servants policies
 
 abbrev pub rule_after : ℕ → Find → PolicySet → List RuleConf → Data → Result RuleConf ConfFault

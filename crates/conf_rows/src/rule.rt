@@ -191,6 +191,7 @@ fn rule_at(
     Ok(RuleConf { oid, gives })
 }
 
+#[tactic(auto, unfolding(crate::specs::Rules::rule_in))]
 fn next_rule(
     alloc: Global,
     at: Place,

@@ -1,5 +1,5 @@
 //! One line.
-ghost use Rattle.std.specs.Prelude.{◌≡◌, map};
+ghost use Rattle.std.specs.Prelude.{◌≡◌, ◌∷◌, map};
 ghost use Rattle.text_words.specs.WordGives.{WordGives};
 ghost use Rattle.replay_script.specs.Reading.{admin_of, ask_of, behind_verb, command_of, feed_of, line_of, verb_of, worker_of, written_of};
 
@@ -93,12 +93,27 @@ fn ask(alloc: Global, words: &[&[u8]]) -> Result<ScriptLine, WordFault>
     let [conn, id, adapter, oid, operation, rest @ ..] = words else {
         return Err(WordFault::OutOfForm);
     };
+    request(alloc, conn, id, adapter, oid, operation, rest)
+}
+
+fn request(
+    alloc: Global,
+    conn: &[u8],
+    id: &[u8],
+    adapter: &[u8],
+    oid: &[u8],
+    operation: &[u8],
+    words: &[&[u8]],
+) -> Result<ScriptLine, WordFault>
+    ensures { WordGives result
+        (ask_of (conn.now ∷ id.now ∷ adapter.now ∷ oid.now ∷ operation.now ∷ map (λ w. w.now) words.now)) }
+{
     let conn = name(alloc, conn)?;
     let id = number32(id)?;
     let path = path(alloc, adapter)?;
     let oid = any_identity(alloc, oid)?;
     let operation = name(alloc, operation)?;
-    let argument = argument(alloc, rest)?;
+    let argument = argument(alloc, words)?;
     Ok(ScriptLine::Ask {
         conn,
         id,

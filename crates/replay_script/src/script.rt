@@ -1,7 +1,8 @@
 //! Whole scripts.
 ghost use Rattle.std.specs.Prelude.{◌≡◌, ◌++◌, ◌<◌, ◌+◌, ◌^◌, IfOk, OnOk, length};
+ghost use Rattle.replay_script.specs.Connections.{role_of as the_role_of};
 ghost use Rattle.replay_script.specs.Reading.{line_of};
-ghost use Rattle.replay_script.specs.Traffic.{names as names_of};
+ghost use Rattle.replay_script.specs.Traffic.{names as names_of, noted_by};
 ghost use Rattle.replay_script.specs.Whole.{ScriptReads, line_at as the_line_at, numbered, script_of, step_of as the_step_of};
 
 use crate::connections::Connections;
@@ -42,8 +43,7 @@ fn read_lines(alloc: Global, text: &[u8]) -> Result<Script, ScriptFault>
         if !connections.allow(&line) {
             return Err(ScriptFault::BadLine { line: number });
         }
-        connections.enter(&line)?;
-        put_step(&mut steps, number, step_of(&connections, line))?;
+        enter_line(&mut connections, &mut steps, number, line)?;
         number += 1;
         rest = after;
     }
@@ -62,6 +62,21 @@ fn line_at(alloc: Global, number: u64, bytes: &[u8]) -> Result<ScriptLine, Scrip
         Err(WordFault::OutOfForm) => Err(ScriptFault::BadLine { line: number }),
         Err(WordFault::WantMemory) => Err(ScriptFault::WantMemory),
     }
+}
+
+// Takes in a line that may stand behind those so far.
+fn enter_line(
+    connections: &mut Connections,
+    steps: &mut Vec<ScriptStep>,
+    number: u64,
+    line: ScriptLine,
+) -> Result<(), WantMemory>
+    ensures rows { OnOk result (connections.new.rows.items ≡ noted_by (the_role_of line) connections.old.rows.items) }
+    ensures steps { OnOk result (steps.new.items ≡ steps.old.items
+        ++ numbered number (the_step_of (names_of connections.new.rows.items) line)) }
+{
+    connections.enter(&line)?;
+    put_step(steps, number, step_of(connections, line))
 }
 
 fn step_of(connections: &Connections, line: ScriptLine) -> Option<Step>
