@@ -1,8 +1,8 @@
 //! The states of the managers.
-ghost use Rattle.std.specs.Prelude.{◌≡◌, ◌<◌, IfOk, length, slice_set};
+ghost use Rattle.std.specs.Prelude.{◌≡◌, ◌<◌, ◌++◌, map, IfOk, OnOk, length, slice_set};
 ghost use Rattle.core_settings.specs.States.{start_states, state_at};
 
-use poa_base::{Config, ManagerState, WantMemory};
+use poa_base::{Config, ManagerConf, ManagerState, WantMemory};
 use std::alloc::Global;
 use std::marker::Model;
 
@@ -10,6 +10,16 @@ use std::marker::Model;
 #[derive(Drop)]
 pub struct Managers {
     states: Vec<ManagerState>,
+}
+
+/// Adds each manager's configured state.
+fn add_starts(managers: &[ManagerConf], states: &mut Vec<ManagerState>) -> Result<(), WantMemory>
+    ensures { OnOk result (states.new.items ≡ states.old.items ++ map (λ m. m.start) managers.now) }
+{
+    for manager in managers {
+        states.push(manager.start)?;
+    }
+    Ok(())
 }
 
 impl Model for Managers {
@@ -28,9 +38,7 @@ impl Managers {
     {
         let mut states = Vec::new(alloc);
         states.push(config.root)?;
-        for manager in config.managers.as_slice() {
-            states.push(manager.start)?;
-        }
+        add_starts(config.managers.as_slice(), &mut states)?;
         Ok(Managers { states })
     }
 

@@ -76,6 +76,16 @@ pub fn apply(
     change(config, command, settings)
 }
 
+/// Takes in the entries of a history that stands oldest first.
+fn follow(config: &Config, history: &[Entry], settings: &mut Settings) -> Result<(), WantMemory>
+    ensures { Tells config.now [] settings.old → OnOk result (Tells config.now (reverse history.now) settings.new) }
+{
+    for (i, entry) in history.iter().enumerate() {
+        apply(config, command_done(&history[..i], entry), settings)?;
+    }
+    Ok(())
+}
+
 /// What is set after a history that stands oldest first.
 pub fn settings_of(
     alloc: Global,
@@ -85,8 +95,6 @@ pub fn settings_of(
     ensures { IfOk result (λ settings. Tells config.now (reverse history.now) settings) }
 {
     let mut settings = opening(alloc, config)?;
-    for (i, entry) in history.iter().enumerate() {
-        apply(config, command_done(&history[..i], entry), &mut settings)?;
-    }
+    follow(config, history, &mut settings)?;
     Ok(settings)
 }

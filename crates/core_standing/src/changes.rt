@@ -5,6 +5,7 @@ ghost use Rattle.poa_base.specs.declared.Entry.{Entry};
 ghost use Rattle.poa_base.specs.declared.Entry.TheVariants.{Incarnated, Tried};
 ghost use Rattle.poa_history.specs.Changes as changes;
 ghost use Rattle.history_standing.specs.Ends.{is_over};
+ghost use Rattle.history_standing.specs.Opening as opens;
 ghost use Rattle.history_standing.specs.Keys as keys;
 ghost use Rattle.history_standing.specs.Logs.{command_in as command_of, is_accepted as accepts};
 ghost use Rattle.core_standing.specs.Entries as entries;
@@ -292,6 +293,26 @@ fn call_admitted<'a>(past: &'a [Entry], entry: &Entry) -> Option<&'a Call>
     }
 }
 
+/// The entries of a history are made, from what stands before the first.
+fn follow(
+    alloc: Global,
+    config: &Config,
+    run: u32,
+    history: &[Entry],
+    standing: &mut Standing,
+) -> Result<(), WantMemory>
+    ensures { seen standing.old ≡ opens.opening config.now run
+        → OnOk result (seen standing.new ≡ changes.standing config.now run (reverse history.now)) }
+{
+    for (i, entry) in history.iter().enumerate() {
+        let past = &history[..i];
+        let stage = stage_before(past, entry);
+        let call = call_admitted(past, entry);
+        advance(alloc, config, run, entry, stage, call, standing)?;
+    }
+    Ok(())
+}
+
 /// What stands after a history. Fails for want of memory, or of a number of 32 bits.
 pub fn standing_of(
     alloc: Global,
@@ -302,11 +323,6 @@ pub fn standing_of(
     ensures { IfOk result (λ standing. seen standing ≡ changes.standing config.now run (reverse history.now)) }
 {
     let mut standing = opening(alloc, config, run)?;
-    for (i, entry) in history.iter().enumerate() {
-        let past = &history[..i];
-        let stage = stage_before(past, entry);
-        let call = call_admitted(past, entry);
-        advance(alloc, config, run, entry, stage, call, &mut standing)?;
-    }
+    follow(alloc, config, run, history, &mut standing)?;
     Ok(standing)
 }
