@@ -29,13 +29,14 @@ fn trial(facts: Facts) -> Choice
     ensures { result ≡ trial_rows facts }
 {
     if facts.trial {
+        let parent = facts.adapter;
+        drop(facts);
         return Choice::Held {
-            cause: Some(Cause::Trial {
-                parent: facts.adapter,
-            }),
+            cause: Some(Cause::Trial { parent }),
         };
     }
     if facts.tries {
+        drop(facts);
         return Choice::Go(Verdict::Try);
     }
     let refusal = refuse(&facts, ExcName::ObjectNotExist, NO_ADAPTER);

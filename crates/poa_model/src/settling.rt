@@ -1,13 +1,11 @@
 //! When a command that waits is answered.
-ghost use Rattle.std.specs.Prelude.{◌≡◌, length, reverse, option_copied, IfOk};
-ghost use Rattle.core_queries.specs.Seen.{seen};
+ghost use Rattle.std.specs.Prelude.{◌≡◌, reverse, option_copied, IfOk};
 ghost use Rattle.history_standing.specs.Ends as ends;
 ghost use Rattle.poa_history.specs.Settling as settling;
 ghost use Rattle.poa_history.specs.Changes.{standing};
 ghost use Rattle.history_standing.specs.Opening.{number_at as number_of_path};
 
 use active_map::templates::manager_number;
-use core_queries::Standing;
 use core_queries::calls::call_of;
 use core_queries::commands::{command_in, done_by, number_at};
 use core_queries::ends::is_gone;
@@ -54,49 +52,6 @@ fn is_overtaken(config: &Config, manager: u32, history: &[Entry], arrival: u64) 
     overtaken
 }
 
-/// The count of the activations that were begun when the arrival was admitted.
-fn begun_before(
-    alloc: Global,
-    config: &Config,
-    run: u32,
-    history: &[Entry],
-    arrival: u64,
-) -> Result<u32, WantMemory>
-    ensures { IfOk result (λ begun. begun ≡
-        length (standing config.now run (settling.before_admit (reverse history.now) arrival)).activations) }
-{
-    standing_of(alloc, config, run, before_admit(history, arrival))?.begun()
-}
-
-/// Whether what an order to a manager waits for holds, by what stands after the history.
-fn order_holds_by(
-    alloc: Global,
-    config: &Config,
-    run: u32,
-    after: &Standing,
-    history: &[Entry],
-    arrival: u64,
-    manager: u32,
-    order: Order,
-) -> Result<bool, WantMemory>
-    requires { seen after.now ≡ standing config.now run (reverse history.now) }
-    ensures { IfOk result (λ holds. holds ≡ settling.order_holds config.now run (reverse history.now) arrival manager order) }
-{
-    match order {
-        Order::Activate => Ok(true),
-        Order::Hold { .. } | Order::Discard { .. } => Ok(
-            is_quiet(config, after, manager) || is_overtaken(config, manager, history, arrival),
-        ),
-        Order::Deactivate { etherealize, .. } => {
-            let begun = begun_before(alloc, config, run, history, arrival)? as usize;
-            Ok(
-                is_quiet(config, after, manager)
-                    && (!etherealize || are_ended(config, after, manager, begun)),
-            )
-        }
-    }
-}
-
 /// Whether what an order to a manager waits for holds.
 fn order_holds(
     alloc: Global,
@@ -110,9 +65,20 @@ fn order_holds(
     ensures { IfOk result (λ holds. holds ≡ settling.order_holds config.now run (reverse history.now) arrival manager order) }
 {
     let standing = standing_of(alloc, config, run, history)?;
-    order_holds_by(
-        alloc, config, run, &standing, history, arrival, manager, order,
-    )
+    match order {
+        Order::Activate => Ok(true),
+        Order::Hold { .. } | Order::Discard { .. } => Ok(
+            is_quiet(config, &standing, manager) || is_overtaken(config, manager, history, arrival),
+        ),
+        Order::Deactivate { etherealize, .. } => {
+            let before = standing_of(alloc, config, run, before_admit(history, arrival))?;
+            let begun = before.begun()? as usize;
+            Ok(
+                is_quiet(config, &standing, manager)
+                    && (!etherealize || are_ended(config, &standing, manager, begun)),
+            )
+        }
+    }
 }
 
 /// Whether the adapter that a destroy named is gone.
