@@ -15,7 +15,7 @@ use std::time::{Clock, CpuClock, Duration, Instant};
 const TIMES: u32 = 5;
 
 /// The time of one round, in hundredths of a nanosecond.
-#[derive(Clone, Copy)]
+#[derive(Clone, Copy, PartialEq, Eq, PartialOrd, Ord)]
 struct Reading {
     wall: u64,
     cpu: u64,
