@@ -176,7 +176,6 @@ pub(crate) fn file_target(
     ensures room { (n : ℕ) → HasRoomAt outboxes.old.boxes.items n → HasRoomAt outboxes.new.boxes.items n }
 {
     let Some(arrival) = target else {
-        drop(reply);
         return;
     };
     if let Some(row) = take_row(owing, arrival) {
@@ -186,7 +185,5 @@ pub(crate) fn file_target(
             head: row.head,
             reply,
         });
-    } else {
-        drop(reply);
     }
 }

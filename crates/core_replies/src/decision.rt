@@ -74,23 +74,13 @@ fn reply_in(
     ensures ends { fixed.may_decide entry.now ≡ true → fixed.may_want entry.now ≡ false → IsOk result }
 {
     match entry {
-        Entry::Admit { verdict, .. } => {
-            drop(outcome);
-            reply_admitted(alloc, call, verdict)
-        }
+        Entry::Admit { verdict, .. } => reply_admitted(alloc, call, verdict),
         Entry::Tried { answer, .. } => {
-            drop(outcome);
             Ok(Some(reply_tried(alloc, config, settings, call, answer)?))
         }
-        Entry::Incarnated { answer, .. } => {
-            drop(outcome);
-            reply_incarnated(alloc, call, answer)
-        }
+        Entry::Incarnated { answer, .. } => reply_incarnated(alloc, call, answer),
         Entry::Run { .. } => Ok(outcome.map(Reply::Outcome)),
-        _ => {
-            drop(outcome);
-            Ok(None)
-        }
+        _ => Ok(None),
     }
 }
 

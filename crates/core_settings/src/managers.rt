@@ -12,16 +12,6 @@ pub struct Managers {
     states: Vec<ManagerState>,
 }
 
-/// Adds each manager's configured state.
-fn add_starts(managers: &[ManagerConf], states: &mut Vec<ManagerState>) -> Result<(), WantMemory>
-    ensures { OnOk result (states.new.items ≡ states.old.items ++ map (λ m. m.start) managers.now) }
-{
-    for manager in managers {
-        states.push(manager.start)?;
-    }
-    Ok(())
-}
-
 impl Model for Managers {
     ghost use Rattle.std.specs.Prelude.{List};
     ghost use Rattle.poa_names.specs.declared.ManagerState.{ManagerState};
@@ -65,4 +55,14 @@ impl Managers {
     {
         self.states[manager] = state;
     }
+}
+
+/// Adds each manager's configured state.
+fn add_starts(managers: &[ManagerConf], states: &mut Vec<ManagerState>) -> Result<(), WantMemory>
+    ensures { OnOk result (states.new.items ≡ states.old.items ++ map (λ m. m.start) managers.now) }
+{
+    for manager in managers {
+        states.push(manager.start)?;
+    }
+    Ok(())
 }

@@ -1,27 +1,27 @@
 //! The rows of an adapter that was found.
-ghost use Rattle.std.specs.Prelude.{◌≡◌, false};
-ghost use Rattle.poa_choose.specs.Table.{found_rows, thread_rows, object_rows, processing_rows, default_rows, manager_rows, activator_rows, located_rows, locator_rows, awaits_turn as the_awaits_turn, awaits_main as the_awaits_main, unmade as the_unmade};
+ghost use Rattle.std.specs.Prelude.{◌≡◌};
+ghost use Rattle.poa_choose.specs.Table.{found_rows, thread_rows, object_rows, processing_rows, default_rows, manager_rows, activator_rows, locator_rows, awaits_turn as the_awaits_turn, awaits_main as the_awaits_main, unmade as the_unmade};
 
-use crate::refusals::{inactive, refuse_to, refused, serve, serve_to};
+use crate::refusals::{inactive, refuse, serve};
 use crate::{Choice, Facts, Located, MapFact};
 use poa_base::minors::{
     DISCARDED, NO_DEFAULT_SERVANT, NO_SERVANT_MANAGER, NOT_ACTIVE, OTHER_LIFESPAN,
 };
-use poa_base::{Cause, ExcName, ManagerState, Name, Policy, Verdict};
+use poa_base::{Cause, ExcName, ManagerState, Policy, Verdict};
 
 /// The adapter is there.
 pub fn found(facts: Facts, worker: u32) -> Choice
     ensures { result ≡ found_rows facts worker }
 {
     if facts.differs {
-        return refused(facts, ExcName::ObjectNotExist, OTHER_LIFESPAN);
+        return refuse(&facts, ExcName::ObjectNotExist, OTHER_LIFESPAN);
     }
     match facts.state {
         ManagerState::Holding => Choice::Held {
             cause: Some(Cause::Manager(facts.manager)),
         },
         ManagerState::Active => threads(facts, worker),
-        ManagerState::Discarding => refused(facts, ExcName::Transient, DISCARDED),
+        ManagerState::Discarding => refuse(&facts, ExcName::Transient, DISCARDED),
         ManagerState::Inactive => inactive(facts),
     }
 }
@@ -89,30 +89,30 @@ fn processing(facts: Facts) -> Choice
         Policy::DefaultServant => preset(facts),
         Policy::ServantManager => {
             if unmade(&facts) {
-                refused(facts, ExcName::ObjectNotExist, NOT_ACTIVE)
+                refuse(&facts, ExcName::ObjectNotExist, NOT_ACTIVE)
             } else {
                 managed(facts)
             }
         }
-        _ => refused(facts, ExcName::ObjectNotExist, NOT_ACTIVE),
+        _ => refuse(&facts, ExcName::ObjectNotExist, NOT_ACTIVE),
     }
-}
-
-/// The default servant.
-fn preset_in(facts: Facts) -> Option<Name>
-    ensures { result ≡ facts.preset }
-{
-    facts.preset
 }
 
 /// USE_DEFAULT_SERVANT.
 fn preset(facts: Facts) -> Choice
     ensures { result ≡ default_rows facts facts.preset }
 {
-    let locate = facts.locate;
-    match preset_in(facts) {
-        None => refuse_to(locate, ExcName::ObjAdapter, NO_DEFAULT_SERVANT),
-        Some(servant) => serve_to(locate, Verdict::Preset(servant)),
+    let refusal = refuse(&facts, ExcName::ObjAdapter, NO_DEFAULT_SERVANT);
+    let Facts { locate, preset, .. } = facts;
+    match preset {
+        None => refusal,
+        Some(servant) => {
+            if locate {
+                Choice::Go(Verdict::Here)
+            } else {
+                Choice::Go(Verdict::Preset(servant))
+            }
+        }
     }
 }
 
@@ -121,7 +121,7 @@ fn managed(facts: Facts) -> Choice
     ensures { result ≡ manager_rows facts }
 {
     if !facts.rules {
-        return refused(facts, ExcName::ObjAdapter, NO_SERVANT_MANAGER);
+        return refuse(&facts, ExcName::ObjAdapter, NO_SERVANT_MANAGER);
     }
     if facts.policies.retains() {
         return activator(&facts);
@@ -144,31 +144,19 @@ fn activator(facts: &Facts) -> Choice
     Choice::Go(Verdict::Incarnate(facts.next))
 }
 
-/// What the servant locator's first rule that matches gives.
-fn located_in(facts: Facts) -> Located
-    ensures { result ≡ facts.located }
-{
-    facts.located
-}
-
-/// NON_RETAIN: a request goes by the servant locator's first rule that matches.
-fn by_rule(located: Located) -> Choice
-    ensures { (f : Facts) → f.locate ≡ false → result ≡ located_rows f located }
-{
-    match located {
-        Located::Servant(servant) => Choice::Go(Verdict::Locator(servant)),
-        Located::Forward(endpoint) => Choice::Go(Verdict::Forward(endpoint)),
-        Located::Raise(exception) => Choice::Go(Verdict::Refuse(exception)),
-        Located::NoRule => refuse_to(false, ExcName::ObjectNotExist, NOT_ACTIVE),
-    }
-}
-
-/// NON_RETAIN: the servant locator.
+/// NON_RETAIN: the servant locator's first rule that matches.
 fn locator(facts: Facts) -> Choice
     ensures { result ≡ locator_rows facts }
 {
     if facts.locate {
         return Choice::Go(Verdict::Here);
     }
-    by_rule(located_in(facts))
+    let refusal = refuse(&facts, ExcName::ObjectNotExist, NOT_ACTIVE);
+    let Facts { located, .. } = facts;
+    match located {
+        Located::Servant(servant) => Choice::Go(Verdict::Locator(servant)),
+        Located::Forward(endpoint) => Choice::Go(Verdict::Forward(endpoint)),
+        Located::Raise(exception) => Choice::Go(Verdict::Refuse(exception)),
+        Located::NoRule => refusal,
+    }
 }

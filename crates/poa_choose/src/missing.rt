@@ -2,7 +2,7 @@
 ghost use Rattle.std.specs.Prelude.{◌≡◌};
 ghost use Rattle.poa_choose.specs.Table.{missing_rows, trial_rows};
 
-use crate::refusals::{forward_or, inactive, refuse, refused};
+use crate::refusals::{forward_or, inactive, refuse};
 use crate::{Choice, Facts, KeyFact};
 use poa_base::minors::{DISCARDED, NO_ADAPTER, OTHER_LIFESPAN};
 use poa_base::{Cause, ExcName, ManagerState, Verdict};
@@ -12,14 +12,14 @@ pub fn missing(facts: Facts) -> Choice
     ensures { result ≡ missing_rows facts }
 {
     if let KeyFact::Transient = facts.key {
-        return refused(facts, ExcName::ObjectNotExist, OTHER_LIFESPAN);
+        return refuse(&facts, ExcName::ObjectNotExist, OTHER_LIFESPAN);
     }
     match facts.state {
         ManagerState::Holding => Choice::Held {
             cause: Some(Cause::Manager(facts.manager)),
         },
         ManagerState::Active => trial(facts),
-        ManagerState::Discarding => refused(facts, ExcName::Transient, DISCARDED),
+        ManagerState::Discarding => refuse(&facts, ExcName::Transient, DISCARDED),
         ManagerState::Inactive => inactive(facts),
     }
 }
@@ -29,14 +29,13 @@ fn trial(facts: Facts) -> Choice
     ensures { result ≡ trial_rows facts }
 {
     if facts.trial {
-        let parent = facts.adapter;
-        drop(facts);
         return Choice::Held {
-            cause: Some(Cause::Trial { parent }),
+            cause: Some(Cause::Trial {
+                parent: facts.adapter,
+            }),
         };
     }
     if facts.tries {
-        drop(facts);
         return Choice::Go(Verdict::Try);
     }
     let refusal = refuse(&facts, ExcName::ObjectNotExist, NO_ADAPTER);

@@ -1,8 +1,5 @@
 //! What ends a row: a refusal, a servant, the endpoint table.
-ghost use Rattle.std.specs.Prelude.{◌≡◌, if◌then◌else◌};
-ghost use Rattle.poa_base.specs.declared.Verdict.TheVariants.{Refuse, Here, Unknown};
-ghost use Rattle.poa_choose.specs.declared.facts.Choice.TheVariants.{Go};
-ghost use Rattle.poa_names.specs.declared.Completion.TheVariants.{No};
+ghost use Rattle.std.specs.Prelude.{◌≡◌};
 ghost use Rattle.poa_choose.specs.Table.{refuse as the_refuse, serve as the_serve, forward_or as the_forward_or, inactive_rule};
 
 use crate::{Choice, Facts, KeyFact};
@@ -13,21 +10,7 @@ use poa_base::{Completion, Endpoint, ExcName, SysExc, Verdict};
 pub fn refuse(facts: &Facts, name: ExcName, minor: u32) -> Choice
     ensures { result ≡ the_refuse facts.now name minor }
 {
-    refuse_to(facts.locate, name, minor)
-}
-
-/// The same, where nothing else is asked of the facts.
-pub fn refused(facts: Facts, name: ExcName, minor: u32) -> Choice
-    ensures { result ≡ the_refuse facts name minor }
-{
-    refuse(&facts, name, minor)
-}
-
-/// An exception, or to a locate that the object is unknown.
-pub fn refuse_to(locate: bool, name: ExcName, minor: u32) -> Choice
-    ensures { result ≡ Go (if locate then Unknown else Refuse (record { name = name; minor = minor; done = No })) }
-{
-    if locate {
+    if facts.locate {
         return Choice::Go(Verdict::Unknown);
     }
     let exception = SysExc {
@@ -42,14 +25,7 @@ pub fn refuse_to(locate: bool, name: ExcName, minor: u32) -> Choice
 pub fn serve(facts: &Facts, verdict: Verdict) -> Choice
     ensures { result ≡ the_serve facts.now verdict }
 {
-    serve_to(facts.locate, verdict)
-}
-
-/// A servant, or to a locate that the object is here.
-pub fn serve_to(locate: bool, verdict: Verdict) -> Choice
-    ensures { result ≡ Go (if locate then Here else verdict) }
-{
-    if locate {
+    if facts.locate {
         return Choice::Go(Verdict::Here);
     }
     Choice::Go(verdict)

@@ -4,7 +4,7 @@ ghost use Rattle.poa_choose.specs.Table.{first_row, walk_rows};
 
 use crate::found::found;
 use crate::missing::missing;
-use crate::refusals::refused;
+use crate::refusals::refuse;
 use crate::{Choice, Facts, KeyFact, WalkFact};
 use poa_base::minors::{ADAPTER_DYING, BAD_KEY, DISCARDED, OTHER_LIFESPAN};
 use poa_base::{ExcName, Verdict};
@@ -16,12 +16,12 @@ pub fn choose(facts: Facts, worker: u32) -> Choice
     ensures { result ≡ first_row facts worker }
 {
     if facts.crowded {
-        return refused(facts, ExcName::Transient, DISCARDED);
+        return refuse(&facts, ExcName::Transient, DISCARDED);
     }
     match facts.key {
         KeyFact::Absent => Choice::Go(Verdict::Addressing),
-        KeyFact::Bad => refused(facts, ExcName::ObjectNotExist, BAD_KEY),
-        KeyFact::OtherRun => refused(facts, ExcName::ObjectNotExist, OTHER_LIFESPAN),
+        KeyFact::Bad => refuse(&facts, ExcName::ObjectNotExist, BAD_KEY),
+        KeyFact::OtherRun => refuse(&facts, ExcName::ObjectNotExist, OTHER_LIFESPAN),
         KeyFact::Transient | KeyFact::Persistent => walked(facts, worker),
     }
 }
@@ -31,7 +31,7 @@ fn walked(facts: Facts, worker: u32) -> Choice
     ensures { result ≡ walk_rows facts worker facts.walk }
 {
     match facts.walk {
-        WalkFact::Dying => refused(facts, ExcName::Transient, ADAPTER_DYING),
+        WalkFact::Dying => refuse(&facts, ExcName::Transient, ADAPTER_DYING),
         WalkFact::Missing => missing(facts),
         WalkFact::Found => found(facts, worker),
     }
