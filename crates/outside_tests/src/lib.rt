@@ -6,4 +6,6 @@ mod alarms;
 #[cfg(test)]
 mod sockets;
 #[cfg(test)]
+mod waiting;
+#[cfg(test)]
 mod worlds;

@@ -1,15 +1,17 @@
 ghost use Rattle.std.specs.Prelude.{◌<◌, length};
 
-use mio::{Events, Poll};
+use crate::waiting::Waiting;
 use outside::{Acceptor, Door, Gate, Link, Took, Wrote};
-use outside_sockets::{Ears, MioDoor, WaitingGate, listen};
+use outside_alarm::Alarm;
+use outside_sockets::{Ears, MioDoor, MioLink, WaitingGate, listen};
 use poa_base::{Point, Session, SessionEnd};
 use std::io::{Read, Write};
-use std::net::{Shutdown, TcpStream};
-use std::sync::Arc;
+use std::net::{Shutdown, SocketAddr, TcpStream};
+use std::sync::{Arc, Wait};
 use std::test::Fail;
-use std::thread;
+use std::thread::Threads;
 use std::time::Duration;
+use std::{io, thread};
 
 const ENDED: Session = Session {
     conn: None,
@@ -21,35 +23,64 @@ fn is_sent<T: Send>(value: T) -> T {
     value
 }
 
-#[test]
-fn a_door_gives_links_over_sockets(rt: HostRuntime) -> Result<(), Fail> {
-    let listener = Arc::new(rt.alloc(), listen(&rt, "127.0.0.1", 0)?)?;
+/// A door at an address of this machine.
+fn open_door(rt: HostRuntime) -> Result<(MioDoor, SocketAddr), Fail> {
+    let listener = listen(&rt, "127.0.0.1", 0)?;
     let address = listener.local_addr()?;
-    let mut door = is_sent(MioDoor::new(Some(listener), Ears::new(rt.alloc(), &rt)?));
-    assert!(rt; matches!(door.next(), Door::Quiet));
-    let mut peer = TcpStream::connect(&rt, address)?;
-    let Door::Link(link) = door.next() else {
-        return Err(Fail::from("no link"));
-    };
-    let mut link = is_sent(link);
-    let alarm = link.alarm()?;
+    let listener = Arc::new(rt.alloc(), listener)?;
+    let door = MioDoor::new(Some(listener), Ears::new(rt.alloc(), &rt)?);
+    Ok((door, address))
+}
+
+/// The link that comes in at a door.
+fn next_link(door: &mut MioDoor) -> Result<MioLink, Fail> {
+    match door.next() {
+        Door::Link(link) => Ok(link),
+        _ => Err(Fail::from("no link")),
+    }
+}
+
+/// Whether a link's alarm ends a read, and what one side writes the other reads, up to the end.
+fn passes_all(link: &mut MioLink, peer: &mut TcpStream) -> io::Result<bool> {
+    link.alarm()?.ring();
     let mut buf = [0; 8];
-    alarm.ring();
-    assert_eq!(rt; link.read(&mut buf), Took::Quiet);
+    let was_quiet = link.read(&mut buf) == Took::Quiet;
     peer.write_all(b"abc")?;
-    assert_eq!(rt; link.read(&mut buf), Took::Got(3));
-    assert_eq!(rt; link.write(b"xyz"), Wrote::Wrote(3));
+    let is_written = link.read(&mut buf) == Took::Got(3) && link.write(b"xyz") == Wrote::Wrote(3);
     let mut answer = [0; 3];
     peer.read_exact(&mut answer)?;
-    assert_eq!(rt; answer, *b"xyz");
     peer.write_all(b"de")?;
     peer.shutdown(Shutdown::Write)?;
-    assert_eq!(rt; link.read(&mut buf), Took::Got(2));
-    assert_eq!(rt; link.read(&mut buf), Took::End);
+    let is_ended = link.read(&mut buf) == Took::Got(2) && link.read(&mut buf) == Took::End;
+    Ok(was_quiet && is_written && answer == *b"xyz" && is_ended)
+}
+
+/// Whether a peer finds the end.
+fn is_closed(peer: &mut TcpStream) -> io::Result<bool> {
+    Ok(peer.read(&mut [0; 8])? == 0)
+}
+
+/// Whether a link passes bytes both ways, to the end. It is given back then, and its peer finds the end.
+fn serves(door: &mut MioDoor, peer: &mut TcpStream) -> Result<bool, Fail> {
+    let mut link = is_sent(next_link(door)?);
+    let is_served = passes_all(&mut link, peer);
     door.give_back(link, ENDED);
-    assert_eq!(rt; peer.read(&mut buf)?, 0);
+    Ok(is_served? && is_closed(peer)?)
+}
+
+/// Whether a door gives a link for each peer that comes in.
+fn gives_links(rt: HostRuntime, door: &mut MioDoor, address: SocketAddr) -> Result<bool, Fail> {
+    let is_quiet = matches!(door.next(), Door::Quiet);
+    let mut peer = TcpStream::connect(&rt, address)?;
+    let is_served = serves(door, &mut peer)?;
     let _second = TcpStream::connect(&rt, address)?;
-    assert!(rt; matches!(door.next(), Door::Link(_)));
+    Ok(is_quiet && is_served && matches!(door.next(), Door::Link(_)))
+}
+
+#[test]
+fn a_door_gives_links_over_sockets(rt: HostRuntime) -> Result<(), Fail> {
+    let (door, address) = open_door(rt)?;
+    assert!(rt; gives_links(rt, &mut is_sent(door), address)?);
     Ok(())
 }
 
@@ -73,26 +104,8 @@ fn read_out(mut peer: &TcpStream, buf: &mut [u8]) -> usize
     count
 }
 
-#[test]
-fn a_write_waits_for_room_and_keeps_the_alarm(rt: HostRuntime) -> Result<(), Fail> {
-    let listener = Arc::new(rt.alloc(), listen(&rt, "127.0.0.1", 0)?)?;
-    let address = listener.local_addr()?;
-    let mut door = MioDoor::new(Some(listener), Ears::new(rt.alloc(), &rt)?);
-    let peer = TcpStream::connect(&rt, address)?;
-    let Door::Link(mut link) = door.next() else {
-        return Err(Fail::from("no link"));
-    };
-    let alarm = link.alarm()?;
-    let mut poll = Poll::new(&rt)?;
-    let mut events = Events::with_capacity(rt.alloc(), 4)?;
-    let reader = thread::spawn(&rt, move || {
-        // Time for the writer to find no room, and to hear the alarm.
-        let _ = poll.poll(&mut events, Some(Duration::from_millis(300)));
-        alarm.ring();
-        let _ = poll.poll(&mut events, Some(Duration::from_millis(100)));
-        let mut buf = [0; 4096];
-        (read_out(&peer, &mut buf), peer)
-    })?;
+/// Writes so much to a link, or all that it takes.
+fn fill(link: &mut MioLink) -> usize {
     let piece = [7; 4096];
     let mut count = 0;
     for _ in 0..MUCH {
@@ -100,15 +113,42 @@ fn a_write_waits_for_room_and_keeps_the_alarm(rt: HostRuntime) -> Result<(), Fai
             break;
         }
         let Wrote::Wrote(more) = link.write(&piece[..(MUCH - count).min(4096)]) else {
-            return Err(Fail::from("a write failed"));
+            break;
         };
         count = more.saturating_add(count);
     }
-    assert_eq!(rt; count, MUCH);
-    let (taken, _peer) = reader.join(&rt);
-    assert_eq!(rt; taken, MUCH);
-    let mut buf = [0; 8];
-    assert_eq!(rt; link.read(&mut buf), Took::Quiet);
+    count
+}
+
+/// Rings an alarm once the writer found no room, and reads all then. Gives how much, and the peer.
+fn read_late(mut waiting: Waiting, alarm: Alarm, peer: TcpStream) -> (usize, TcpStream) {
+    let _ = waiting.wait(Duration::from_millis(300));
+    alarm.ring();
+    let _ = waiting.wait(Duration::from_millis(100));
+    let mut buf = [0; 4096];
+    (read_out(&peer, &mut buf), peer)
+}
+
+/// Whether a link writes much to a peer that reads late, and hears its alarm behind it.
+fn writes_all(
+    rt: &(impl Threads + Wait),
+    link: &mut MioLink,
+    waiting: Waiting,
+    peer: TcpStream,
+) -> Result<bool, Fail> {
+    let alarm = link.alarm()?;
+    let reader = thread::spawn(rt, move || read_late(waiting, alarm, peer))?;
+    let count = fill(link);
+    let (taken, _peer) = reader.join(rt);
+    Ok(count == MUCH && taken == MUCH && link.read(&mut [0; 8]) == Took::Quiet)
+}
+
+#[test]
+fn a_write_waits_for_room_and_keeps_the_alarm(rt: HostRuntime) -> Result<(), Fail> {
+    let (mut door, address) = open_door(rt)?;
+    let (peer, waiting) = (TcpStream::connect(&rt, address)?, Waiting::new(rt)?);
+    let mut link = next_link(&mut door)?;
+    assert!(rt; writes_all(&rt, &mut link, waiting, peer)?);
     Ok(())
 }
 

@@ -52,24 +52,35 @@ fn readers_and_writers_are_sources_and_sinks(rt: HostRuntime) -> Result<(), Fail
 // The folder in which the test of the system's files writes, beside where it runs.
 const FOLDER: &str = "outside_test_of_system_files";
 
+/// Whether a file that isn't there yet is put, put anew and taken within its limit.
+fn keeps(files: &mut impl Files, name: &str) -> bool {
+    matches!(files.take(name, 9), Taken::Absent)
+        && files.put(name, b"a longer one") == Put::Done
+        && files.put(name, b"abc") == Put::Done
+        && matches!(files.take(name, 2), Taken::TooLong)
+        && matches!(files.take(name, 3), Taken::Bytes(bytes) if bytes.as_slice() == b"abc".as_slice())
+}
+
+/// Whether there is no file of a folder that isn't there, and none of a folder's own name.
+fn has_none(files: &mut impl Files, nowhere: &str, folder: &str) -> bool {
+    files.put(nowhere, b"abc") == Put::Failed
+        && matches!(files.take(nowhere, 9), Taken::Absent)
+        && matches!(files.take(folder, 9), Taken::Failed)
+}
+
 #[test]
 fn system_files_are_put_and_taken_within_their_limit(rt: HostRuntime) -> Result<(), Fail> {
     let _ = fs::remove_dir_all(&rt, FOLDER);
     fs::create_dir(&rt, FOLDER)?;
-    let name = "outside_test_of_system_files/state";
     let mut files = SystemFiles::new(rt.alloc(), &rt);
-    assert!(rt; matches!(files.take(name, 9), Taken::Absent));
-    assert_eq!(rt; files.put(name, b"a longer one"), Put::Done);
-    assert_eq!(rt; files.put(name, b"abc"), Put::Done);
-    assert!(rt; matches!(files.take(name, 2), Taken::TooLong));
-    let Taken::Bytes(bytes) = files.take(name, 3) else {
-        return Err(Fail::from("not taken"));
-    };
-    assert_eq!(rt; bytes.as_slice(), b"abc".as_slice());
-    let nowhere = "outside_test_of_system_files/none/state";
-    assert_eq!(rt; files.put(nowhere, b"abc"), Put::Failed);
-    assert!(rt; matches!(files.take(nowhere, 9), Taken::Absent));
-    assert!(rt; matches!(files.take(FOLDER, 9), Taken::Failed));
+    assert!(rt; keeps(&mut files, "outside_test_of_system_files/state"));
+    assert!(rt;
+        has_none(
+            &mut files,
+            "outside_test_of_system_files/none/state",
+            FOLDER
+        )
+    );
     fs::remove_dir_all(&rt, FOLDER)?;
     Ok(())
 }
