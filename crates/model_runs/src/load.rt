@@ -30,10 +30,7 @@ const START: u64 = 7;
 
 /// Prints the six lines of the slow programs, whether their history is legal, and whether the core's lines are the same.
 pub fn compare(alloc: Global, out: &mut Vec<u8>) -> Result<(), Fault> {
-    let play = played(alloc)?;
-    let slow = Counts::of(&play)?.lines(alloc, CALLS)?;
-    out.extend_from_slice(slow.as_bytes())?;
-    put_legal(&play, out)?;
+    let slow = computed(alloc, out)?;
     let fast = loaded(alloc)?;
     if fast.as_slice() == slow.as_bytes() {
         out.extend_from_slice(b"the same\n")?;
@@ -43,15 +40,23 @@ pub fn compare(alloc: Global, out: &mut Vec<u8>) -> Result<(), Fault> {
     Ok(())
 }
 
-/// The draws played by the slow programs, up to the end of the run.
-fn played(alloc: Global) -> Result<Play, Fault> {
+/// The six lines of the slow programs, printed, and behind them whether their history is legal.
+fn computed(alloc: Global, out: &mut Vec<u8>) -> Result<String, Fault> {
     let mut play = Play::new(alloc)?;
+    print_played(&mut play, out)
+}
+
+/// The same of a run before its first draw.
+fn print_played(play: &mut Play, out: &mut Vec<u8>) -> Result<String, Fault> {
     let mut generator = Generator::new(START);
     for _ in 0..CALLS {
         play.draw(generator.draw())?;
     }
     play.end()?;
-    Ok(play)
+    let lines = Counts::of(play)?.lines(play.alloc, CALLS)?;
+    out.extend_from_slice(lines.as_bytes())?;
+    put_legal(play, out)?;
+    Ok(lines)
 }
 
 /// What `load` writes.

@@ -23,22 +23,28 @@ pub fn head(id: u32) -> Head
 
 /// The request with this id that adds 1 to an object.
 pub fn request(alloc: Global, id: u32, object: u64) -> Result<Call, Fault> {
+    let one: i64 = 1;
+    let (operation, argument) = (bytes(alloc, b"add")?, bytes(alloc, &one.to_le_bytes())?);
+    Ok(Call::Request {
+        head: head(id),
+        target: Some(target(alloc, object)?),
+        operation,
+        body: Body {
+            bytes: argument,
+            little: true,
+            base: 0,
+        },
+    })
+}
+
+/// The key of an object.
+fn target(alloc: Global, object: u64) -> Result<Bytes, Fault> {
     let key = Key {
         stamp: None,
         path: path(alloc)?,
         oid: object_id(alloc, object)?,
     };
-    let one: i64 = 1;
-    Ok(Call::Request {
-        head: head(id),
-        target: Some(write_key(alloc, &key)?),
-        operation: bytes(alloc, b"add")?,
-        body: Body {
-            bytes: bytes(alloc, &one.to_le_bytes())?,
-            little: true,
-            base: 0,
-        },
-    })
+    Ok(write_key(alloc, &key)?)
 }
 
 /// The administrator's line with this number that deactivates an object.

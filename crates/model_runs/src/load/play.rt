@@ -55,10 +55,16 @@ impl Play {
             requests: 0,
             lines: 0,
         };
-        for conn in 0..CONNECTIONS {
-            play.history.push(Entry::Entered { conn })?;
-        }
+        play.enter_all()?;
         Ok(play)
+    }
+
+    /// All connections enter.
+    fn enter_all(&mut self) -> Result<(), Fault> {
+        for conn in 0..CONNECTIONS {
+            self.history.push(Entry::Entered { conn })?;
+        }
+        Ok(())
     }
 
     /// A call arrives, and a worker takes turns.
@@ -104,8 +110,9 @@ impl Play {
 
     fn arrive(&mut self, conn: u32, call: Call) -> Result<(), Fault> {
         let size = SIZE;
-        self.undecided.push(arrivals(&self.history))?;
+        let arrival = arrivals(&self.history);
         self.history.push(Entry::Arrive { conn, size, call })?;
+        self.undecided.push(arrival)?;
         Ok(())
     }
 

@@ -49,7 +49,7 @@ fn bytes_of(play: &Play, place: usize, entry: &Entry, left: &ServantState) -> Re
     let past = play.history.get(..place).ok_or(Fault::Load)?;
     let arrival = arrival_in(stage(past, *worker)).ok_or(Fault::Load)?;
     let id = request_id(past, arrival)?;
-    let message = message(play.alloc, id, &told_by(left)?)?;
+    let message = told_message(play.alloc, id, left)?;
     if id % SAMPLE == 0 {
         let whole = play.history.get(..=place).ok_or(Fault::Load)?;
         compare(play, whole, arrival, id, &message)?;
@@ -63,6 +63,12 @@ fn request_id(past: &[Entry], arrival: u64) -> Result<u32, Fault> {
         Some(Call::Request { head, .. }) => Ok(head.id),
         _ => Err(Fault::Load),
     }
+}
+
+/// The message of the reply to the request with this id that leaves a register in this state.
+fn told_message(alloc: Global, id: u32, left: &ServantState) -> Result<Bytes, Fault> {
+    let told = told_by(left)?;
+    message(alloc, id, &told)
 }
 
 /// What a register answers `add` that it leaves in this state.
@@ -83,12 +89,18 @@ fn message(alloc: Global, id: u32, reply: &Reply) -> Result<Bytes, Fault> {
 
 /// Refuses a message that isn't that of the reply which `slow_reply` gives after these entries.
 fn compare(play: &Play, whole: &[Entry], arrival: u64, id: u32, said: &Bytes) -> Result<(), Fault> {
-    let config = &play.config;
-    let reply = slow_reply(play.alloc, config, config.run, &play.store, whole, arrival)?;
-    let slow = message(play.alloc, id, &reply.ok_or(Fault::Load)?)?;
+    let slow = slow_message(play, whole, arrival, id)?;
     if slow.as_slice() == said.as_slice() {
         Ok(())
     } else {
         Err(Fault::Load)
     }
+}
+
+/// The message of the reply which `slow_reply` gives after these entries.
+fn slow_message(play: &Play, whole: &[Entry], arrival: u64, id: u32) -> Result<Bytes, Fault> {
+    let config = &play.config;
+    let reply = slow_reply(play.alloc, config, config.run, &play.store, whole, arrival)?;
+    let reply = reply.ok_or(Fault::Load)?;
+    message(play.alloc, id, &reply)
 }

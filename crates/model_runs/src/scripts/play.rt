@@ -125,23 +125,22 @@ impl Play {
 
     /// Adds an entry, and prints it.
     fn add(&mut self, entry: Entry, out: &mut Vec<u8>) -> Result<(), Fault> {
-        out.extend_from_slice(print_entry(self.alloc, &entry)?.as_slice())?;
-        out.extend_from_slice(b"\n")?;
         self.history.push(entry)?;
+        self.print_last(out)
+    }
+
+    /// Prints the newest entry.
+    fn print_last(&self, out: &mut Vec<u8>) -> Result<(), Fault> {
+        let entry = self.history.last().ok_or(Fault::Script)?;
+        out.extend_from_slice(print_entry(self.alloc, entry)?.as_slice())?;
+        out.extend_from_slice(b"\n")?;
         Ok(())
     }
 
     /// A request arrives: `ask CONN ID PATH OID OP` and perhaps an argument.
     fn ask(&mut self, words: &[&[u8]], out: &mut Vec<u8>) -> Result<(), Fault> {
-        let alloc = self.alloc;
-        let [_, _, id, path_word, oid, operation, argument @ ..] = words else {
+        let [_, _, id, path, oid, operation, argument @ ..] = words else {
             return Err(Fault::Script);
-        };
-        let path = path(alloc, path_word)?;
-        let key = Key {
-            stamp: self.stamp(&path)?,
-            path,
-            oid: any_identity(alloc, oid)?,
         };
         let head = Head {
             id: number32(id)?,
@@ -150,13 +149,20 @@ impl Play {
             flags: 3,
             locate: false,
         };
-        let call = Call::Request {
-            head,
-            target: Some(write_key(alloc, &key)?),
-            operation: Bytes::from_vec(Vec::from_slice(alloc, operation)?),
-            body: body(alloc, argument)?,
-        };
+        let target = self.target(path, oid)?;
+        let call = request(self.alloc, head, target, operation, argument)?;
         self.arrive(CLIENT, call, out)
+    }
+
+    /// The key of the object of a path and an id.
+    fn target(&self, path_word: &[u8], oid: &[u8]) -> Result<Bytes, Fault> {
+        let path = path(self.alloc, path_word)?;
+        let key = Key {
+            stamp: self.stamp(&path)?,
+            path,
+            oid: any_identity(self.alloc, oid)?,
+        };
+        Ok(write_key(self.alloc, &key)?)
     }
 
     /// What a key of the path says of its adapter.
@@ -181,9 +187,9 @@ impl Play {
         let Some(text) = line.strip_prefix(b"admin m ".as_slice()) else {
             return Err(Fault::Script);
         };
-        let command = admin_line::read_line(self.alloc, text)?;
         let number = self.lines.checked_add(1).ok_or(Fault::Script)?;
         self.lines = number;
+        let command = admin_line::read_line(self.alloc, text)?;
         self.arrive(ADMINISTRATOR, Call::Line { number, command }, out)
     }
 
@@ -271,6 +277,23 @@ fn worker_of(words: &[&[u8]]) -> Result<u32, Fault> {
         return Err(Fault::Script);
     };
     Ok(number32(worker)?)
+}
+
+/// The request with this head, key, operation and perhaps an argument.
+fn request(
+    alloc: Global,
+    head: Head,
+    target: Bytes,
+    operation: &[u8],
+    argument: &[&[u8]],
+) -> Result<Call, Fault> {
+    let body = body(alloc, argument)?;
+    Ok(Call::Request {
+        head,
+        target: Some(target),
+        operation: Bytes::from_vec(Vec::from_slice(alloc, operation)?),
+        body,
+    })
 }
 
 /// The body with its argument, a long long or none.
