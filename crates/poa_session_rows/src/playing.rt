@@ -65,17 +65,28 @@ fn input(alloc: Global) -> Result<Vec<u8>, WantMemory> {
     Ok(input)
 }
 
-/// Plays the session.
-pub fn play<R: Wait + Copy + Drop>(rt: &R, alloc: Global) -> Result<Played, WantMemory> {
+/// The client's link.
+fn client_link(alloc: Global) -> Result<MemLink, WantMemory> {
+    let pieces = Vec::from_slice(alloc, &PIECES)?;
+    Ok(MemLink::new(alloc, input(alloc)?, pieces))
+}
+
+/// A core with the object.
+fn core_of_object(alloc: Global) -> Result<Core, WantMemory> {
     let Ok(config) = read_config(alloc, OBJECT) else {
         return Err(WantMemory);
     };
-    let core = Core::new(alloc, config, 1, Store::new(alloc), 4_000_000)?;
-    let (shared, mut seat) = Shared::new(alloc, core)?;
+    Core::new(alloc, config, 1, Store::new(alloc), 4_000_000)
+}
+
+/// Plays the session.
+pub fn play<R: Wait + Copy + Drop>(rt: &R, alloc: Global) -> Result<Played, WantMemory> {
+    let client = client_link(alloc)?;
+    let (shared, mut seat) = Shared::new(alloc, core_of_object(alloc)?)?;
     let shared = Arc::new(alloc, shared)?;
     let mut link = WorkedLink {
         rt: *rt,
-        link: MemLink::new(alloc, input(alloc)?, Vec::from_slice(alloc, &PIECES)?),
+        link: client,
         shared: Arc::try_clone(&shared)?,
         seat: shared.split(&mut seat),
     };

@@ -25,11 +25,10 @@ where
     let Ok(plan) = plan_of(alloc, words) else {
         return Status::WantMemory;
     };
-    let config = match planned_config(rt, plan, &mut host.files) {
-        Ok(config) => config,
+    let (ports, gate_ms) = match opened(rt, plan, &mut host.files) {
+        Ok(opened) => opened,
         Err(status) => return status,
     };
-    let ports = open(rt, plan, &config);
     let lanes = match plan {
         Some(plan) => plan.lanes,
         None => 0,
@@ -38,15 +37,23 @@ where
         Ok(doors) => doors,
         Err(status) => return status,
     };
-    let gate_ms = match config {
-        Some(config) => config.gate_ms,
-        None => 0,
-    };
     let Ok(gate) = Arc::new(alloc, WaitingGate::new(*rt, gate_ms)) else {
         return Status::WantMemory;
     };
     let mut crew = ThreadCrew::new(alloc, *threads, Vec::new(alloc));
     run_serve(threads, alloc, words, host, doors, &mut crew, &gate).status
+}
+
+// The ports of the plan, and how long its gate takes, in milliseconds.
+fn opened<F: Files>(
+    rt: &HostRuntime,
+    plan: Option<Plan<'_>>,
+    files: &mut F,
+) -> Result<(Ports, u32), Status> {
+    let config = planned_config(rt, plan, files)?;
+    let ports = open(rt, plan, &config);
+    let gate_ms = config.as_ref().map_or(0, |config| config.gate_ms);
+    Ok((ports, gate_ms))
 }
 
 // The configuration of the plan. None where there is no plan, or its file holds no configuration: `run_serve` tells
@@ -61,8 +68,15 @@ fn planned_config<F: Files>(
     };
     match take_config(rt.alloc(), plan.file, files) {
         Ok(config) => Ok(Some(config)),
-        Err(Status::WantMemory) => Err(Status::WantMemory),
-        Err(_) => Ok(None),
+        Err(status) => none_with_memory(status),
+    }
+}
+
+// No configuration, unless memory was wanting.
+fn none_with_memory(status: Status) -> Result<Option<Config>, Status> {
+    match status {
+        Status::WantMemory => Err(status),
+        _ => Ok(None),
     }
 }
 
