@@ -1,24 +1,28 @@
 //! The texts of the faults of the Common Data Representation, and its laws, which are called.
 use cdr_core::*;
+use std::alloc::Global;
 use std::test::Fail;
+
+/// Whether a fault has this text.
+fn tells(alloc: Global, fault: CdrFault, text: &str) -> Result<bool, Fail> {
+    Ok(fault.to_string(alloc)?.as_str() == text)
+}
+
+/// Whether each fault has its text.
+fn each_tells(alloc: Global) -> Result<bool, Fail> {
+    let short = CdrFault::Short { need: 4, have: 1 };
+    let value = CdrFault::BadBool { value: 2 };
+    Ok(
+        tells(alloc, short, "4 bytes are needed and 1 are left")?
+            && tells(alloc, value, "2 is no boolean")?
+            && tells(alloc, CdrFault::NoNul, "a string doesn't end in NUL")?
+            && tells(alloc, CdrFault::from(WantMemory), "out of memory")?,
+    )
+}
 
 #[test]
 fn faults_have_texts(rt: HostRuntime) -> Result<(), Fail> {
-    let short = CdrFault::Short { need: 4, have: 1 };
-    assert_eq!(rt;
-        short.to_string(rt.alloc())?.as_str(),
-        "4 bytes are needed and 1 are left"
-    );
-    let value = CdrFault::BadBool { value: 2 };
-    assert_eq!(rt; value.to_string(rt.alloc())?.as_str(), "2 is no boolean");
-    assert_eq!(rt;
-        CdrFault::NoNul.to_string(rt.alloc())?.as_str(),
-        "a string doesn't end in NUL"
-    );
-    assert_eq!(rt;
-        CdrFault::from(WantMemory).to_string(rt.alloc())?.as_str(),
-        "out of memory"
-    );
+    assert!(rt; each_tells(rt.alloc())?);
     laws::one_reading();
     laws::none_where_refused();
     laws::one_refusal();

@@ -1,6 +1,7 @@
 //! Known journals and stores, read and printed.
-use poa_base::{Entry, Items, Journal, Store};
+use poa_base::{Bytes, Entry, Items, Journal, Store, WantMemory};
 use poa_journal::*;
+use std::alloc::Global;
 use std::test::Fail;
 
 // A line or more of each kind of entry, of call, of verdict and of answer.
@@ -54,14 +55,47 @@ left 0
 abandon 3
 ";
 
+/// Whether a journal is of this run, has so many entries and prints as this text.
+fn is_whole(
+    alloc: Global,
+    journal: &Journal,
+    run: u32,
+    entries: usize,
+    printed: &[u8],
+) -> Result<bool, WantMemory> {
+    Ok(
+        journal.run == run
+            && journal.entries.len() == entries
+            && print(alloc, journal)?.as_slice() == printed,
+    )
+}
+
+/// Whether a text reads as a journal of this run with so many entries, which prints as that text.
+fn reads_as(
+    alloc: Global,
+    text: &[u8],
+    run: u32,
+    entries: usize,
+    printed: &[u8],
+) -> Result<bool, Fail> {
+    let journal = read(alloc, text)?;
+    let same = is_whole(alloc, &journal, run, entries, printed);
+    drop(journal);
+    Ok(same?)
+}
+
 #[test]
 fn each_line_reads_and_prints_as_it_stands(rt: HostRuntime) -> Result<(), Fail> {
-    let alloc = rt.alloc();
-    let journal = read(alloc, WHOLE)?;
-    assert_eq!(rt; journal.run, 7);
-    assert_eq!(rt; journal.entries.len(), 46);
-    assert_eq!(rt; print(alloc, &journal)?.as_slice(), WHOLE);
+    assert!(rt; reads_as(rt.alloc(), WHOLE, 7, 46, WHOLE)?);
     Ok(())
+}
+
+/// Whether the first line of a text outside the grammar of journals is told as this one.
+fn tells_line(alloc: Global, text: &[u8], bad: u64) -> bool {
+    match read(alloc, text).err() {
+        Some(JournalFault::BadLine { line }) => line == bad,
+        _ => false,
+    }
 }
 
 #[test]
@@ -87,43 +121,42 @@ fn the_first_line_outside_the_grammar_is_told(rt: HostRuntime) -> Result<(), Fai
         (b"journal 1 run 1\nadmit 1 12 answer no NoServant 1\n", 2),
     ];
     for (text, want) in &cases {
-        match read(alloc, text) {
-            Err(JournalFault::BadLine { line }) => assert_eq!(rt; line, *want),
-            _ => assert!(rt; false, "line {want} was read"),
-        }
+        assert!(rt; tells_line(alloc, text, *want), "line {want} isn't told");
     }
     Ok(())
 }
 
 #[test]
 fn a_missing_last_end_of_line_is_forgiven(rt: HostRuntime) -> Result<(), Fail> {
-    let alloc = rt.alloc();
-    let journal = read(alloc, b"journal 1 run 1\nrun 0")?;
-    assert_eq!(rt; journal.entries.len(), 1);
+    let printed = b"journal 1 run 1\nrun 0\n";
+    assert!(rt; reads_as(rt.alloc(), b"journal 1 run 1\nrun 0", 1, 1, printed)?);
     Ok(())
 }
 
-#[test]
-fn an_entry_prints_as_its_line(rt: HostRuntime) -> Result<(), Fail> {
-    let alloc = rt.alloc();
+/// The line of an entry.
+fn entry_line(alloc: Global) -> Result<Bytes, WantMemory> {
     let entry = Entry::Etherealized {
         worker: 2,
         cleanup: true,
         remaining: false,
     };
-    assert_eq!(rt;
-        print_entry(alloc, &entry)?.as_slice(),
-        b"etherealized 2 yes no".as_slice()
-    );
+    print_entry(alloc, &entry)
+}
+
+/// The text of a journal without entries.
+fn empty_text(alloc: Global) -> Result<Bytes, WantMemory> {
     let empty = Journal {
         run: 1,
         opening: Store::new(alloc),
         entries: Items::new(alloc),
     };
-    assert_eq!(rt;
-        print(alloc, &empty)?.as_slice(),
-        b"journal 1 run 1\n".as_slice()
-    );
+    print(alloc, &empty)
+}
+
+#[test]
+fn an_entry_prints_as_its_line(rt: HostRuntime) -> Result<(), Fail> {
+    assert!(rt; entry_line(rt.alloc())?.as_slice() == b"etherealized 2 yes no".as_slice());
+    assert!(rt; empty_text(rt.alloc())?.as_slice() == b"journal 1 run 1\n".as_slice());
     Ok(())
 }
 
@@ -135,14 +168,27 @@ store /a/b h:00 fault
 store /a-b h:00 log
 ";
 
+/// The text as which a store prints that was read from this one.
+fn reprinted(alloc: Global, rows: &[u8]) -> Result<Bytes, Fail> {
+    let store = read_store(alloc, rows)?;
+    let printed = print_store(alloc, &store);
+    drop(store);
+    Ok(printed?)
+}
+
 #[test]
 fn each_row_reads_and_prints_as_it_stands(rt: HostRuntime) -> Result<(), Fail> {
-    let alloc = rt.alloc();
-    let store = read_store(alloc, ROWS)?;
-    assert_eq!(rt; print_store(alloc, &store)?.as_slice(), ROWS);
-    let empty = read_store(alloc, b"")?;
-    assert_eq!(rt; print_store(alloc, &empty)?.as_slice(), b"".as_slice());
+    assert!(rt; reprinted(rt.alloc(), ROWS)?.as_slice() == ROWS);
+    assert!(rt; reprinted(rt.alloc(), b"")?.as_slice().is_empty());
     Ok(())
+}
+
+/// Whether the first line of a text that is no row is told as this one.
+fn tells_row(alloc: Global, text: &[u8], bad: u64) -> bool {
+    match read_store(alloc, text).err() {
+        Some(JournalFault::BadLine { line }) => line == bad,
+        _ => false,
+    }
 }
 
 #[test]
@@ -157,10 +203,7 @@ fn the_first_line_that_is_no_row_is_told(rt: HostRuntime) -> Result<(), Fail> {
         (b"store /a h: echo\nrun 0\nfly\n", 2),
     ];
     for (text, want) in &cases {
-        match read_store(alloc, text) {
-            Err(JournalFault::BadLine { line }) => assert_eq!(rt; line, *want),
-            _ => assert!(rt; false, "line {want} was read"),
-        }
+        assert!(rt; tells_row(alloc, text, *want), "line {want} isn't told");
     }
     Ok(())
 }

@@ -1,6 +1,8 @@
 //! What no clause says: that each call succeeds with ample memory, on a run with one `shutdown`.
 use model_legal::{first_illegal, may_follow};
-use poa_base::{Answer, Bytes, Call, Command, Config, Entry, Items, ManagerState, Store, Verdict};
+use poa_base::{
+    Answer, Bytes, Call, Command, Config, Entry, Items, ManagerState, Store, Verdict, WantMemory,
+};
 use std::alloc::Global;
 use std::test::Fail;
 
@@ -50,29 +52,49 @@ fn whole(alloc: Global) -> Result<Vec<Entry>, Fail> {
     Ok(history)
 }
 
+/// The place of the first illegal entry of a history.
+fn illegal_place(alloc: Global, history: &[Entry]) -> Result<Option<usize>, WantMemory> {
+    let config = config(alloc);
+    let store = Store::new(alloc);
+    first_illegal(alloc, &config, 1, 0, &store, history)
+}
+
+/// Whether an entry may come behind these.
+fn may_come(alloc: Global, past: &[Entry], entry: &Entry) -> Result<bool, WantMemory> {
+    let config = config(alloc);
+    let store = Store::new(alloc);
+    may_follow(alloc, &config, 1, 0, &store, past, entry)
+}
+
 #[test]
 fn finds_a_whole_run_legal(rt: HostRuntime) -> Result<(), Fail> {
-    let alloc = rt.alloc();
-    let store = Store::new(alloc);
-    let history = whole(alloc)?;
-    assert_eq!(rt;
-        first_illegal(alloc, &config(alloc), 1, 0, &store, &history)?,
-        None
-    );
+    let history = whole(rt.alloc())?;
+    let place = illegal_place(rt.alloc(), &history);
+    drop(history);
+    assert!(rt; place?.is_none());
     Ok(())
+}
+
+/// A whole run, behind which the connection leaves once more.
+fn whole_and_more(alloc: Global) -> Result<Vec<Entry>, Fail> {
+    let mut history = whole(alloc)?;
+    history.push(Entry::Left { conn: 0 })?;
+    Ok(history)
+}
+
+/// Whether the last entry of a history may not come, and is the first illegal one, at this place.
+fn ends_too_late(alloc: Global, history: &[Entry], at: usize) -> Result<bool, WantMemory> {
+    let Some((last, past)) = history.split_last() else {
+        return Ok(false);
+    };
+    Ok(!may_come(alloc, past, last)? && illegal_place(alloc, history)? == Some(at))
 }
 
 #[test]
 fn finds_the_entry_that_comes_too_late(rt: HostRuntime) -> Result<(), Fail> {
-    let alloc = rt.alloc();
-    let store = Store::new(alloc);
-    let mut history = whole(alloc)?;
-    let after = Entry::Left { conn: 0 };
-    assert!(rt; !may_follow(alloc, &config(alloc), 1, 0, &store, &history, &after)?);
-    history.push(after)?;
-    assert_eq!(rt;
-        first_illegal(alloc, &config(alloc), 1, 0, &store, &history)?,
-        Some(5)
-    );
+    let history = whole_and_more(rt.alloc())?;
+    let late = ends_too_late(rt.alloc(), &history, 5);
+    drop(history);
+    assert!(rt; late?);
     Ok(())
 }

@@ -1,6 +1,6 @@
 //! Where the parts lie that a view of a message lends.
 
-use giop_frame::frame;
+use giop_frame::{Message, frame};
 use giop_msg::{Seen, view_call};
 use std::alloc::Global;
 use std::test::Fail;
@@ -64,9 +64,14 @@ fn lends(alloc: Global, stream: &str, places: [(usize, usize); 3]) -> Result<boo
     let stream = hex::decode(alloc, stream)?;
     let stream = &stream.as_slice()[..stream.len().min(LONGEST)];
     let frames = frame(alloc, 1_048_576, &[stream])?;
-    let Some(message) = frames.messages.first() else {
-        return Ok(false);
-    };
+    match frames.messages.first() {
+        Some(message) => Ok(lends_from(message, places)),
+        None => Ok(false),
+    }
+}
+
+/// Whether a message lends the key of its target, its operation and its body from these places.
+fn lends_from(message: &Message, places: [(usize, usize); 3]) -> bool {
     let bytes = message.bytes();
     let [key_at, operation_at, body_at] = places;
     match view_call(message) {
@@ -77,13 +82,13 @@ fn lends(alloc: Global, stream: &str, places: [(usize, usize); 3]) -> Result<boo
                 body,
                 ..
             },
-        ) => Ok(
+        ) => {
             lies(bytes, target.unwrap_or(&[]), key_at)
                 && lies(bytes, operation, operation_at)
-                && lies(bytes, body, body_at),
-        ),
-        Ok(Seen::Locate { target, .. }) => Ok(lies(bytes, target.unwrap_or(&[]), key_at)),
-        _ => Ok(false),
+                && lies(bytes, body, body_at)
+        }
+        Ok(Seen::Locate { target, .. }) => lies(bytes, target.unwrap_or(&[]), key_at),
+        _ => false,
     }
 }
 

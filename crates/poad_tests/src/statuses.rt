@@ -2,6 +2,7 @@
 use conf_toml::ConfFault;
 use ior_text::IorFault;
 use poad_files::Status;
+use std::alloc::Global;
 use std::test::Fail;
 
 // Each status but those of a configuration, with its number and its line.
@@ -31,26 +32,48 @@ const STATUSES: [(Status, u8, &str); 15] = [
     (Status::FileTooLong, 17, "file too long"),
 ];
 
-#[test]
-fn each_status_has_a_number_and_a_line(rt: HostRuntime) -> Result<(), Fail> {
-    assert_eq!(rt; Status::Ok.number(), 0);
-    for (status, number, line) in &STATUSES {
-        assert_eq!(rt; status.number(), *number);
-        assert_eq!(rt; status.to_string(rt.alloc())?.as_str(), *line);
+/// Whether a status has this number and this line.
+fn has(alloc: Global, status: &Status, number: u8, line: &str) -> Result<bool, Fail> {
+    Ok(status.number() == number && status.to_string(alloc)?.as_str() == line)
+}
+
+/// Whether each status of these rows has its number and its line.
+fn each_has(alloc: Global, rows: &[(Status, u8, &str)]) -> Result<bool, Fail> {
+    for (status, number, line) in rows {
+        if !has(alloc, status, *number, line)? {
+            return Ok(false);
+        }
     }
+    Ok(true)
+}
+
+/// Whether the rows of the table hold.
+fn table_holds(alloc: Global) -> Result<bool, Fail> {
+    each_has(alloc, &STATUSES)
+}
+
+/// Whether the ending for a full run has this number and this line.
+fn limit_has(alloc: Global, number: u8, line: &str) -> Result<bool, Fail> {
     let limit = Status::Limit {
         arrivals: 1,
         bytes: 64,
     };
-    assert_eq!(rt; limit.number(), 12);
-    assert_eq!(rt; limit.to_string(rt.alloc())?.as_str(), "limit 1 64");
-    let taken = Status::InputLimit {
+    has(alloc, &limit, number, line)
+}
+
+/// Whether the ending for much input has this number and this line.
+fn input_limit_has(alloc: Global, number: u8, line: &str) -> Result<bool, Fail> {
+    let limit = Status::InputLimit {
         taken: 4_294_967_296,
     };
-    assert_eq!(rt; taken.number(), 19);
-    assert_eq!(rt;
-        taken.to_string(rt.alloc())?.as_str(),
-        "input limit 4294967296"
-    );
+    has(alloc, &limit, number, line)
+}
+
+#[test]
+fn each_status_has_a_number_and_a_line(rt: HostRuntime) -> Result<(), Fail> {
+    assert_eq!(rt; Status::Ok.number(), 0);
+    assert!(rt; table_holds(rt.alloc())?);
+    assert!(rt; limit_has(rt.alloc(), 12, "limit 1 64")?);
+    assert!(rt; input_limit_has(rt.alloc(), 19, "input limit 4294967296")?);
     Ok(())
 }

@@ -62,18 +62,30 @@ fn opens_a_million_messages_and_refuses_one_more(rt: HostRuntime) -> Result<(), 
     Ok(())
 }
 
+/// Puts a message of id 9 with so many empty fragments and a last one behind a text.
+fn put_fragments(text: &mut Vec<u8>, empty: u32) -> Result<(), WantMemory> {
+    put_part(text, 3, 0, 9, &[])?;
+    for _ in 0..empty {
+        put_part(text, 3, 7, 9, &[])?;
+    }
+    put_part(text, 1, 7, 9, b"end")
+}
+
+/// Whether the stream of a text is this message alone.
+fn is_one(alloc: Global, text: &[u8], message: &[u8]) -> Result<bool, WantMemory>
+    requires { length text.now < 2 ^ 31 }
+{
+    let frames = frame(alloc, LIMIT, &[text])?;
+    Ok(gives(&frames, &[(0, message)]))
+}
+
 #[test]
 fn joins_a_hundred_thousand_empty_fragments(rt: HostRuntime) -> Result<(), Fail> {
     let mut text = Vec::new(rt.alloc());
-    put_part(&mut text, 3, 0, 9, &[])?;
-    for _ in 0..100_000u32 {
-        put_part(&mut text, 3, 7, 9, &[])?;
-    }
-    put_part(&mut text, 1, 7, 9, b"end")?;
-    assert_eq!(rt; text.len(), 1_600_035);
-    let frames = frame(rt.alloc(), LIMIT, &[text.as_slice()])?;
+    put_fragments(&mut text, 100_000)?;
+    assert!(rt; text.len() == 1_600_035);
     let joined = b"GIOP\x01\x02\x03\x00\x04\x00\x00\x00\x09\x00\x00\x00end";
-    assert!(rt; gives(&frames, &[(0, joined)]));
+    assert!(rt; is_one(rt.alloc(), text.as_slice(), joined)?);
     Ok(())
 }
 
@@ -94,13 +106,17 @@ fn tells_why_a_header_is_bad(rt: HostRuntime) -> Result<(), Fail> {
     Ok(())
 }
 
+/// Whether the message that is made of another one's bytes has its place, and the bytes of `GET`.
+fn is_made_again(message: Message) -> bool {
+    let again = Message::new(7, message.into_bytes());
+    again.at() == 7 && again.into_bytes().as_slice() == GET
+}
+
 #[test]
 fn makes_a_message_and_gives_its_bytes(rt: HostRuntime) -> Result<(), Fail> {
     each_text_has_one_stream();
     for message in frame(rt.alloc(), LIMIT, &[GET])?.messages {
-        let again = Message::new(7, message.into_bytes());
-        assert_eq!(rt; again.at(), 7);
-        assert_eq!(rt; again.into_bytes().as_slice(), GET);
+        assert!(rt; is_made_again(message));
     }
     Ok(())
 }
