@@ -70,6 +70,25 @@ fn ask_all<R: Wait>(
     Ok(replies)
 }
 
+/// Has the requests of all held, and asks one. Whether it is taken.
+fn hold_and_ask<R: Wait>(
+    rt: &R,
+    alloc: Global,
+    shared: &Shared,
+    seat: &mut Seat,
+    conn: u32,
+    number: u32,
+) -> Result<bool, WantMemory>
+    requires seat { IsIdle shared.now seat.old }
+    requires conn { HoldsConnection (view seat.old) conn }
+    ensures seat { IsIdle shared.now seat.new }
+    ensures conn { HoldsConnection (view seat.new) conn }
+{
+    drop(ask(rt, shared, seat, conn, asking::hold(alloc, number)?));
+    let request = asking::add_one(alloc, number, number)?;
+    Ok(shared.arrive(rt, seat, conn, request, SIZE).is_ok())
+}
+
 /// Has the requests of all held, asks one, and has them served again. Gives the reply to the one, which comes last; none
 /// where a call isn't taken.
 fn ask_held<R: Wait>(
@@ -85,12 +104,11 @@ fn ask_held<R: Wait>(
     ensures seat { IsIdle shared.now seat.new }
     ensures conn { HoldsConnection (view seat.new) conn }
 {
-    ask(rt, shared, seat, conn, asking::hold(alloc, number)?);
-    let request = asking::add_one(alloc, number, number)?;
-    if shared.arrive(rt, seat, conn, request, SIZE).is_err() {
+    if !hold_and_ask(rt, alloc, shared, seat, conn, number)? {
         return Ok(None);
     }
-    if ask(rt, shared, seat, conn, asking::serve(alloc, number)?).is_none() {
+    let call = asking::serve(alloc, number)?;
+    if ask(rt, shared, seat, conn, call).is_none() {
         return Ok(None);
     }
     Ok(Some(await_reply(rt, shared, seat, conn)))
@@ -119,27 +137,6 @@ fn hold_all<R: Wait>(
     Ok(replies)
 }
 
-/// Asks the calls of a task. Gives the replies.
-fn ask_task<R: Wait>(
-    rt: &R,
-    alloc: Global,
-    shared: &Shared,
-    seat: &mut Seat,
-    conn: u32,
-    task: Task,
-) -> Result<Vec<Reply>, WantMemory>
-    requires seat { IsIdle shared.now seat.old }
-    requires conn { HoldsConnection (view seat.old) conn }
-    ensures seat { IsIdle shared.now seat.new }
-    ensures conn { HoldsConnection (view seat.new) conn }
-{
-    match task {
-        Task::Caller { number, calls } => ask_all(rt, alloc, shared, seat, conn, number, calls),
-        Task::Holder { rounds } => hold_all(rt, alloc, shared, seat, conn, rounds),
-        Task::Worker { .. } | Task::Quitter { .. } => Ok(Vec::new(alloc)),
-    }
-}
-
 /// Enters, asks the calls of a task, and leaves. Gives the replies.
 pub(crate) fn call_all<R: Wait>(
     rt: &R,
@@ -154,7 +151,11 @@ pub(crate) fn call_all<R: Wait>(
     let Ok(conn) = shared.enter(rt, seat) else {
         return Err(WantMemory);
     };
-    let replies = ask_task(rt, alloc, shared, seat, conn, task);
+    let replies = match task {
+        Task::Caller { number, calls } => ask_all(rt, alloc, shared, seat, conn, number, calls),
+        Task::Holder { rounds } => hold_all(rt, alloc, shared, seat, conn, rounds),
+        Task::Worker { .. } | Task::Quitter { .. } => Ok(Vec::new(alloc)),
+    };
     shared.leave(rt, seat, conn);
     replies
 }

@@ -3,7 +3,7 @@ use crate::playing::{Played, play};
 use crate::task::Task;
 use conf_toml::read_config;
 use model_legal::first_illegal;
-use poa_base::{Datum, Entry, Outcome, Reply, Store};
+use poa_base::{Datum, Entry, Outcome, Reply, Store, WantMemory};
 use poa_core::{Core, Phase};
 use std::alloc::Global;
 use std::sync::Wait;
@@ -25,13 +25,17 @@ id = \"*\"
 fresh = \"register\"
 ";
 
-/// Does the tasks over a core with these objects.
-fn played<R: Threads + Wait + Sync>(rt: &R, alloc: Global, tasks: &[Task]) -> Result<Played, Fail> {
+/// A core with these objects.
+fn core_of_objects(alloc: Global) -> Result<Core, Fail> {
     let Ok(config) = read_config(alloc, OBJECTS) else {
         return Err(Fail::new("no configuration"));
     };
-    let core = Core::new(alloc, config, 1, Store::new(alloc), 4_000_000)?;
-    Ok(play(rt, alloc, core, tasks)?)
+    Ok(Core::new(alloc, config, 1, Store::new(alloc), 4_000_000)?)
+}
+
+/// Does the tasks over a core with these objects.
+fn played<R: Threads + Wait + Sync>(rt: &R, alloc: Global, tasks: &[Task]) -> Result<Played, Fail> {
+    Ok(play(rt, alloc, core_of_objects(alloc)?, tasks)?)
 }
 
 /// How many entries are judged at most: the slow program asks the whole history at each entry, so the time grows with the
@@ -39,8 +43,7 @@ fn played<R: Threads + Wait + Sync>(rt: &R, alloc: Global, tasks: &[Task]) -> Re
 const JUDGED: usize = 300;
 
 /// Whether the journal is legal so far, as a slow program computes it from the definitions.
-fn is_legal(alloc: Global, core: &Core) -> Result<bool, Fail> {
-    let entries = core.entries().to_vec(alloc)?;
+fn is_legal(alloc: Global, core: &Core, entries: &[Entry]) -> Result<bool, Fail> {
     let place = first_illegal(
         alloc,
         core.config(),
@@ -85,10 +88,26 @@ fn has_removal(entries: &[Entry]) -> bool {
         .any(|entry| matches!(entry, Entry::TakeOut { .. }))
 }
 
+/// How often a servant ran.
+fn runs(entries: &[Entry]) -> usize {
+    entries
+        .iter()
+        .filter(|entry| matches!(entry, Entry::Run { .. }))
+        .count()
+}
+
+/// How many replies were collected.
+fn collected(entries: &[Entry]) -> usize {
+    entries
+        .iter()
+        .filter(|entry| matches!(entry, Entry::Collect { .. }))
+        .count()
+}
+
 /// What the callers added up to, in the order of the threads.
-fn sums(alloc: Global, played: &Played) -> Result<Vec<i64>, Fail> {
+fn sums(alloc: Global, all: &[Result<Vec<Reply>, WantMemory>]) -> Result<Vec<i64>, Fail> {
     let mut sums = Vec::new(alloc);
-    for replies in &played.replies {
+    for replies in all {
         let Ok(replies) = replies else {
             return Err(Fail::new("want of memory"));
         };
@@ -102,14 +121,30 @@ fn sums(alloc: Global, played: &Played) -> Result<Vec<i64>, Fail> {
 }
 
 /// How many replies the callers were given.
-fn given(played: &Played) -> usize {
+fn given(all: &[Result<Vec<Reply>, WantMemory>]) -> usize {
     let mut given: usize = 0;
-    for replies in &played.replies {
+    for replies in all {
         if let Ok(replies) = replies {
             given = given.saturating_add(replies.len());
         }
     }
     given
+}
+
+/// Whether the callers added up to 1 and 2, in either order.
+fn added_both(alloc: Global, all: &[Result<Vec<Reply>, WantMemory>]) -> Result<bool, Fail> {
+    let sums = sums(alloc, all)?;
+    Ok(sums.as_slice() == [1, 2].as_slice() || sums.as_slice() == [2, 1].as_slice())
+}
+
+/// Whether they did so by two runs, and the journal is legal.
+fn added_by_two_runs(alloc: Global, played: &Played) -> Result<bool, Fail> {
+    let entries = played.core.entries().to_vec(alloc)?;
+    Ok(
+        runs(&entries) == 2
+            && added_both(alloc, &played.replies)?
+            && is_legal(alloc, &played.core, &entries)?,
+    )
 }
 
 #[test]
@@ -128,20 +163,12 @@ fn two_callers_add_to_one_object(rt: HostRuntime) -> Result<(), Fail> {
         Task::Worker { worker: 1 },
     ];
     let played = played(&rt, alloc, &tasks)?;
-    let sums = sums(alloc, &played)?;
-    assert!(rt; sums.as_slice() == [1, 2].as_slice() || sums.as_slice() == [2, 1].as_slice());
-    let entries = played.core.entries().to_vec(alloc)?;
-    let runs = entries
-        .iter()
-        .filter(|entry| matches!(entry, Entry::Run { .. }))
-        .count();
-    assert_eq!(rt; runs, 2);
-    assert!(rt; is_legal(alloc, &played.core)?);
+    assert!(rt; added_by_two_runs(alloc, &played)?);
     Ok(())
 }
 
-/// Lets 16 callers ask so many calls each, which 4 workers serve. Each call gets its reply.
-fn sixteen<R: Threads + Wait + Sync>(rt: &R, alloc: Global, calls: u32) -> Result<Played, Fail> {
+/// The tasks of 16 callers, which ask so many calls each, and of 4 workers.
+fn sixteen_callers(alloc: Global, calls: u32) -> Result<Vec<Task>, Fail> {
     let mut tasks = Vec::new(alloc);
     for number in 0..16 {
         tasks.push(Task::Caller { number, calls })?;
@@ -149,43 +176,41 @@ fn sixteen<R: Threads + Wait + Sync>(rt: &R, alloc: Global, calls: u32) -> Resul
     for worker in 0..4 {
         tasks.push(Task::Worker { worker })?;
     }
-    let played = played(rt, alloc, &tasks)?;
-    let collected = played
-        .core
-        .entries()
-        .to_vec(alloc)?
-        .iter()
-        .filter(|entry| matches!(entry, Entry::Collect { .. }))
-        .count();
-    if collected != 16 * calls as usize || played.core.unadmitted() != 0 {
-        return Err(Fail::new("a call without its reply"));
-    }
-    Ok(played)
+    Ok(tasks)
+}
+
+/// Whether each of so many calls got its reply, and the journal is legal.
+fn answered_once(alloc: Global, played: &Played, calls: usize) -> Result<bool, Fail> {
+    let entries = played.core.entries().to_vec(alloc)?;
+    Ok(
+        collected(&entries) == calls
+            && played.core.unadmitted() == 0
+            && given(&played.replies) == calls
+            && is_legal(alloc, &played.core, &entries)?,
+    )
+}
+
+/// Lets 16 callers ask so many calls each, which 4 workers serve. Whether each call got its reply, and the journal is
+/// legal.
+fn sixteen<R: Threads + Wait + Sync>(rt: &R, alloc: Global, calls: u32) -> Result<bool, Fail> {
+    let played = played(rt, alloc, &sixteen_callers(alloc, calls)?)?;
+    answered_once(alloc, &played, 16 * calls as usize)
 }
 
 #[test]
 fn what_many_threads_make_is_legal(rt: HostRuntime) -> Result<(), Fail> {
-    let alloc = rt.alloc();
-    let played = sixteen(&rt, alloc, 3)?;
-    assert_eq!(rt; given(&played), 48);
-    assert!(rt; is_legal(alloc, &played.core)?);
+    assert!(rt; sixteen(&rt, rt.alloc(), 3)?);
     Ok(())
 }
 
 #[test]
 fn two_thousand_calls_are_answered_once(rt: HostRuntime) -> Result<(), Fail> {
-    let alloc = rt.alloc();
-    let played = sixteen(&rt, alloc, 125)?;
-    assert_eq!(rt; given(&played), 2000);
-    assert!(rt; is_legal(alloc, &played.core)?);
+    assert!(rt; sixteen(&rt, rt.alloc(), 125)?);
     Ok(())
 }
 
-#[test]
-fn a_worker_gives_up_while_calls_are_held_and_objects_deactivated(
-    rt: HostRuntime,
-) -> Result<(), Fail> {
-    let alloc = rt.alloc();
+/// The tasks of a worker that gives up, of one that holds requests, of three workers, and of 4 callers.
+fn with_a_quitter(alloc: Global) -> Result<Vec<Task>, Fail> {
     let mut tasks = Vec::from_slice(
         alloc,
         &[
@@ -202,13 +227,30 @@ fn a_worker_gives_up_while_calls_are_held_and_objects_deactivated(
     for number in 0..4 {
         tasks.push(Task::Caller { number, calls: 10 })?;
     }
-    let played = played(&rt, alloc, &tasks)?;
+    Ok(tasks)
+}
+
+/// Whether all calls got their replies though worker 1 gave up, three were held, and an object was taken out.
+fn outlived(played: &Played, entries: &[Entry]) -> bool {
+    given(&played.replies) == 43
+        && played.core.phase() == Phase::Abandoned { worker: 1 }
+        && held(entries) == 3
+        && has_removal(entries)
+        && entries.len() <= JUDGED
+}
+
+/// Whether it is so, and the journal is legal.
+fn outlived_legally(alloc: Global, played: &Played) -> Result<bool, Fail> {
     let entries = played.core.entries().to_vec(alloc)?;
-    assert_eq!(rt; given(&played), 43);
-    assert!(rt; played.core.phase() == Phase::Abandoned { worker: 1 });
-    assert_eq!(rt; held(entries.as_slice()), 3);
-    assert!(rt; has_removal(entries.as_slice()));
-    assert!(rt; entries.len() <= JUDGED);
-    assert!(rt; is_legal(alloc, &played.core)?);
+    Ok(outlived(played, &entries) && is_legal(alloc, &played.core, &entries)?)
+}
+
+#[test]
+fn a_worker_gives_up_while_calls_are_held_and_objects_deactivated(
+    rt: HostRuntime,
+) -> Result<(), Fail> {
+    let alloc = rt.alloc();
+    let played = played(&rt, alloc, &with_a_quitter(alloc)?)?;
+    assert!(rt; outlived_legally(alloc, &played)?);
     Ok(())
 }
