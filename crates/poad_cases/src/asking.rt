@@ -10,41 +10,63 @@ impl Case {
     pub fn ask(&mut self, messages: &Messages, line: &[u8], words: &[&[u8]]) -> Result<()> {
         match words {
             [b"words", rest @ ..] => self.words = texts(self.alloc, rest)?,
-            [b"lane"] => {
-                self.is_at_administrators = false;
-                self.lanes.push(DoorCase::new(self.alloc))?;
-            }
+            [b"lane"] => self.begin_lane()?,
             [b"administrators"] => self.is_at_administrators = true,
-            [b"link"] => {
-                let link = LinkCase::new(self.alloc);
-                self.door()?.links.push(link)?;
-            }
+            [b"link"] => self.begin_link()?,
             [b"fails", kind, calls @ ..] => self.add_failures(kind, calls)?,
             [b"holds", length] => self.held_for = Some(number(length)? as usize),
-            [b"together"] => self.is_together = true,
-            [b"store"] => self.has_store = true,
             [b"takes", count] => self.limit = Some(number(count)?),
-            [b"order", kinds @ ..] => self.ordered = texts(self.alloc, kinds)?,
-            [b"entries", kinds @ ..] => self.counted = Some(texts(self.alloc, kinds)?),
+            [b"together" | b"store" | b"order" | b"entries", ..] => self.ask_printed(words)?,
             _ => self.link()?.ask(messages, line, words)?,
         }
+        Ok(())
+    }
+
+    /// Does a line that says what is printed.
+    fn ask_printed(&mut self, words: &[&[u8]]) -> Result<()> {
+        match words {
+            [b"together"] => self.is_together = true,
+            [b"store"] => self.has_store = true,
+            [b"order", kinds @ ..] => self.ordered = texts(self.alloc, kinds)?,
+            [b"entries", kinds @ ..] => self.counted = Some(texts(self.alloc, kinds)?),
+            _ => bail!("no such line"),
+        }
+        Ok(())
+    }
+
+    /// Begins the next lane.
+    fn begin_lane(&mut self) -> Result<()> {
+        self.is_at_administrators = false;
+        self.lanes.push(DoorCase::new(self.alloc))?;
+        Ok(())
+    }
+
+    /// Begins a link at the door in work.
+    fn begin_link(&mut self) -> Result<()> {
+        let alloc = self.alloc;
+        self.door()?.links.push(LinkCase::new(alloc))?;
         Ok(())
     }
 
     /// Adds calls of this kind that fail, or reads that find nothing for now.
     fn add_failures(&mut self, kind: &[u8], calls: &[&[u8]]) -> Result<()> {
         let failing = numbers(self.alloc, calls)?;
-        match kind {
-            b"read" => self.link()?.failing_reads.extend_from_slice(&failing)?,
-            b"write" => self.link()?.failing_writes.extend_from_slice(&failing)?,
-            b"quiet" => self.link()?.quiet_reads.extend_from_slice(&failing)?,
-            b"next" => self.door()?.failing.extend_from_slice(&failing)?,
-            b"take" => self.failing_takes.extend_from_slice(&failing)?,
-            b"put" => self.failing_puts.extend_from_slice(&failing)?,
-            b"start" => self.failing_starts.extend_from_slice(&failing)?,
-            _ => bail!("no such call"),
-        }
+        self.failing(kind)?.extend_from_slice(&failing)?;
         Ok(())
+    }
+
+    /// The calls of this kind that fail.
+    fn failing(&mut self, kind: &[u8]) -> Result<&mut Vec<u64>> {
+        Ok(match kind {
+            b"read" => &mut self.link()?.failing_reads,
+            b"write" => &mut self.link()?.failing_writes,
+            b"quiet" => &mut self.link()?.quiet_reads,
+            b"next" => &mut self.door()?.failing,
+            b"take" => &mut self.failing_takes,
+            b"put" => &mut self.failing_puts,
+            b"start" => &mut self.failing_starts,
+            _ => bail!("no such call"),
+        })
     }
 }
 
@@ -52,27 +74,53 @@ impl LinkCase {
     /// Does a line that speaks of the link.
     fn ask(&mut self, messages: &Messages, line: &[u8], words: &[&[u8]]) -> Result<()> {
         match words {
-            [b"send", rest @ ..] => self.send(&bytes_of(self.alloc, messages, rest)?)?,
-            [b"times", count, rest @ ..] => {
-                let bytes = bytes_of(self.alloc, messages, rest)?;
-                for _ in 0..number(count)? {
-                    self.send(&bytes)?;
-                }
+            [b"send", rest @ ..] => self.send_words(messages, rest, 1),
+            [b"times", count, rest @ ..] => self.send_words(messages, rest, number(count)?),
+            [b"line", ..] => self.send_line(line),
+            [b"fill", value, count] => self.send_filling(value, count),
+            [b"piece", sizes @ ..] => self.add_pieces(sizes),
+            [b"due", rest @ ..] => self.add_due(messages, rest),
+            [b"loose"] => {
+                self.is_loose = true;
+                Ok(())
             }
-            [b"line", ..] => {
-                self.send(line.strip_prefix(b"line ".as_slice()).unwrap_or(&[]))?;
-                self.send(b"\n")?;
-            }
-            [b"fill", value, count] => self.send(&filling(self.alloc, value, count)?)?,
-            [b"piece", sizes @ ..] => {
-                for size in sizes {
-                    self.pieces.push(number(size)? as usize)?;
-                }
-            }
-            [b"due", rest @ ..] => self.due.push(bytes_of(self.alloc, messages, rest)?)?,
-            [b"loose"] => self.is_loose = true,
             _ => bail!("no such line"),
         }
+    }
+
+    /// Its peer sends the bytes that these words say, so many times.
+    fn send_words(&mut self, messages: &Messages, words: &[&[u8]], count: u64) -> Result<()> {
+        let bytes = bytes_of(self.alloc, messages, words)?;
+        for _ in 0..count {
+            self.send(&bytes)?;
+        }
+        Ok(())
+    }
+
+    /// Its peer sends what stands behind the first word of a line, and LF.
+    fn send_line(&mut self, line: &[u8]) -> Result<()> {
+        self.send(line.strip_prefix(b"line ".as_slice()).unwrap_or(&[]))?;
+        self.send(b"\n")
+    }
+
+    /// Its peer sends so many bytes of one value.
+    fn send_filling(&mut self, value: &[u8], count: &[u8]) -> Result<()> {
+        let bytes = filling(self.alloc, value, count)?;
+        self.send(&bytes)
+    }
+
+    /// The next reads give so many bytes at most.
+    fn add_pieces(&mut self, sizes: &[&[u8]]) -> Result<()> {
+        for size in sizes {
+            self.pieces.push(number(size)? as usize)?;
+        }
+        Ok(())
+    }
+
+    /// The bytes that these words say may be written, too.
+    fn add_due(&mut self, messages: &Messages, words: &[&[u8]]) -> Result<()> {
+        let bytes = bytes_of(self.alloc, messages, words)?;
+        self.due.push(bytes)?;
         Ok(())
     }
 }

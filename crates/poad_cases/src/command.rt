@@ -3,13 +3,14 @@ ghost use Rattle.std.specs.Prelude.{IfOk};
 ghost use Rattle.conf_rules.specs.Rules.{KeepsRules};
 
 use crate::case::Case;
-use crate::files::{File, in_memory};
+use crate::files::File;
+use crate::host::{MemHost, host_of};
 use anyhow::{Context, Result, bail, ensure};
 use conf_toml::read_config;
 use poa_base::Config;
 use poa_base::limits::CALLS;
 use poad_cmd::run_words;
-use poad_files::{Host, Status};
+use poad_files::Status;
 use replay_run::{Played, replay};
 use replay_script::read_script;
 use std::alloc::Global;
@@ -26,12 +27,12 @@ pub fn command(alloc: Global, case: &Case, files: &[File]) -> Result<Done> {
     if let Some(limit) = case.limit {
         return play(alloc, &case.words, files, limit);
     }
-    let mut host = Host {
-        source: case.streams.source()?,
-        sink: case.streams.sink()?,
-        files: in_memory(alloc, &case.failing_takes, &case.failing_puts, files)?,
-    };
-    let status = run_words(alloc, &case.words, &mut host);
+    run(alloc, &case.words, &mut host_of(alloc, case, files)?)
+}
+
+/// What the command of these words wrote to a host, and how it ended.
+fn run(alloc: Global, words: &[String], host: &mut MemHost) -> Result<Done> {
+    let status = run_words(alloc, words, host);
     let written = Vec::from_slice(alloc, host.sink.held())?;
     Ok(Done { status, written })
 }
@@ -42,10 +43,10 @@ fn play(alloc: Global, words: &[String], files: &[File], limit: u64) -> Result<D
         bail!("no replay of a script");
     };
     ensure!(1 <= limit && limit <= CALLS, "no limit of a run");
-    let config = config_of(alloc, content(files, config)?)?;
     let script = read_script(alloc, content(files, script)?)
         .ok()
         .context("no script")?;
+    let config = config_of(alloc, content(files, config)?)?;
     let played = replay(alloc, config, limit, &script)?;
     Ok(Done {
         status: status_of(&played),

@@ -17,21 +17,26 @@ impl Report {
     /// asks of it.
     pub fn put_journal(&mut self, case: &Case, core: &Core, files: &MemFiles) -> Result<()> {
         let text = print_parts(self.alloc, core.run(), core.opening(), core.entries())?;
-        let is_put = files.content("journal") == Some(text.as_slice());
-        let read = if is_read(self.alloc, core, text.as_slice())? {
-            "read"
-        } else {
-            "unread"
-        };
-        let put = if is_put { "put" } else { "unput" };
-        let judged = judgement(self.alloc, core)?;
-        let line = format!(in self.alloc; "journal {read} {put} {judged}")?;
-        self.put_line(line.as_bytes())?;
+        self.put_judged(core, files, text.as_slice())?;
         self.put_kinds(case, text.as_slice())?;
         if case.has_store {
             self.put(print_store(self.alloc, core.store())?.as_slice())?;
         }
         Ok(())
+    }
+
+    /// Prints what is said of a journal with this text.
+    fn put_judged(&mut self, core: &Core, files: &MemFiles, text: &[u8]) -> Result<()> {
+        let read = if is_read(self.alloc, core, text)? {
+            "read"
+        } else {
+            "unread"
+        };
+        let is_put = files.content("journal") == Some(text);
+        let put = if is_put { "put" } else { "unput" };
+        let judged = judgement(self.alloc, core)?;
+        let line = format!(in self.alloc; "journal {read} {put} {judged}")?;
+        self.put_line(line.as_bytes())
     }
 }
 

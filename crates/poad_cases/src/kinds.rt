@@ -14,15 +14,20 @@ impl Report {
             let line = counts(self.alloc, counted, &kinds)?;
             self.put_line(&line)?;
         }
-        if !case.ordered.is_empty() {
-            self.put(b"order")?;
-            for kind in kinds.iter().filter(|kind| is_asked(&case.ordered, kind)) {
-                self.put(b" ")?;
-                self.put(kind)?;
-            }
-            self.put(b"\n")?;
+        if case.ordered.is_empty() {
+            return Ok(());
         }
-        Ok(())
+        self.put_order(&case.ordered, &kinds)
+    }
+
+    /// Prints these kinds, but for those that aren't asked.
+    fn put_order(&mut self, asked: &[String], kinds: &[&[u8]]) -> Result<()> {
+        self.put(b"order")?;
+        for kind in kinds.iter().filter(|kind| is_asked(asked, kind)) {
+            self.put(b" ")?;
+            self.put(kind)?;
+        }
+        self.put(b"\n")
     }
 }
 

@@ -36,6 +36,7 @@ mod command;
 mod door_case;
 mod doors;
 mod files;
+mod host;
 mod journal;
 mod kinds;
 mod link_case;
@@ -48,6 +49,7 @@ mod written;
 
 use anyhow::{Context, Result};
 use command::command;
+use files::File;
 pub use report::Report;
 use serving::serve;
 use std::alloc::Global;
@@ -62,19 +64,50 @@ pub fn play<R>(rt: &R, alloc: Global, text: &[u8], report: &mut Report) -> Resul
 where
     R: Threads + Wait + Clock + Copy + Send + Sync + Drop + 'static,
 {
-    let mut table = Table::new(alloc);
-    for (place, line) in parts(alloc, text, b'\n')?.iter().enumerate() {
+    let lines = parts(alloc, text, b'\n')?;
+    play_lines(rt, alloc, &lines, &mut Table::new(alloc), report)
+}
+
+/// Does the lines of a table that is at its beginning.
+fn play_lines<R>(
+    rt: &R,
+    alloc: Global,
+    lines: &[&[u8]],
+    table: &mut Table,
+    report: &mut Report,
+) -> Result<()>
+where
+    R: Threads + Wait + Clock + Copy + Send + Sync + Drop + 'static,
+{
+    for (place, line) in lines.iter().enumerate() {
         let number = place.saturating_add(1);
         let ready = table.line(line).context(format_args!("line {number}"))?;
-        match ready {
-            Some(Ready::Command(case)) => {
-                report.put_command(&case, &command(alloc, &case, table.files())?)?
-            }
-            Some(Ready::Server(case)) => {
-                report.put_server(&case, &serve(rt, alloc, &case, table.files())?)?
-            }
-            None => (),
+        if let Some(ready) = ready {
+            play_case(rt, alloc, &ready, table.files(), report)?;
         }
     }
     Ok(())
+}
+
+/// Runs a case over these files, and prints what came of it.
+fn play_case<R>(
+    rt: &R,
+    alloc: Global,
+    ready: &Ready,
+    files: &[File],
+    report: &mut Report,
+) -> Result<()>
+where
+    R: Threads + Wait + Clock + Copy + Send + Sync + Drop + 'static,
+{
+    match ready {
+        Ready::Command(case) => {
+            let done = command(alloc, case, files)?;
+            report.put_command(case, &done)
+        }
+        Ready::Server(case) => {
+            let ran = serve(rt, alloc, case, files)?;
+            report.put_server(case, &ran)
+        }
+    }
 }

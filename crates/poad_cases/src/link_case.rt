@@ -48,14 +48,19 @@ impl LinkCase {
 
     /// The link. It raises the signal, if there is one, when so many bytes were written to it.
     pub fn link(&self, hold: Option<(&Signal, usize)>) -> Result<MemLink> {
+        let Some((signal, length)) = hold else {
+            return self.free_link();
+        };
+        let signal = signal.try_clone()?;
+        Ok(self.free_link()?.raising(signal, length))
+    }
+
+    /// The link, which raises no signal.
+    fn free_link(&self) -> Result<MemLink> {
         let (reads, writes) = (self.failing_reads.clone()?, self.failing_writes.clone()?);
-        let link = MemLink::new(self.alloc, self.input.clone()?, self.pieces.clone()?)
-            .failing(reads, writes)
-            .quiet(self.quiet_reads.clone()?);
-        match hold {
-            Some((signal, length)) => Ok(link.raising(signal.try_clone()?, length)),
-            None => Ok(link),
-        }
+        let quiet = self.quiet_reads.clone()?;
+        let link = MemLink::new(self.alloc, self.input.clone()?, self.pieces.clone()?);
+        Ok(link.failing(reads, writes).quiet(quiet))
     }
 
     /// Standard input that gives what was sent.

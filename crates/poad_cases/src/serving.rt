@@ -1,11 +1,11 @@
 //! The server is run.
 use crate::case::Case;
-use crate::files::{File, in_memory};
-use anyhow::{Result, ensure};
+use crate::files::File;
+use crate::host::host_of;
+use anyhow::{Result, bail};
 use command_words::plan_of;
 use outside::{Gate, MemFiles, OpenGate, ThreadCrew};
 use outside_memory::{HoldGate, MemDoor, Signal};
-use poad_files::Host;
 use poad_serve::{Served, run_serve};
 use std::alloc::Global;
 use std::sync::{Arc, Wait};
@@ -26,9 +26,12 @@ where
     }
     let signal = Signal::new(alloc)?;
     let gate = Arc::new(alloc, HoldGate::new(*rt, signal.try_clone()?))?;
-    let served = serve_past(rt, alloc, case, files, Some(&signal), &gate)?;
-    ensure!(!gate.has_timed_out(), "a worker was held in vain");
-    Ok(served)
+    let served = serve_past(rt, alloc, case, files, Some(&signal), &gate);
+    if gate.has_timed_out() {
+        drop(served);
+        bail!("a worker was held in vain");
+    }
+    served
 }
 
 /// The same past this gate, which the signal opens.
@@ -44,17 +47,18 @@ where
     R: Threads + Wait + Copy + Send + Drop + 'static,
     G: Gate + Send + Sync + Drop + 'static,
 {
-    let lanes = match plan_of(alloc, &case.words)? {
-        Some(plan) => plan.lanes,
-        None => 0,
-    };
-    let doors = case.doors(lanes, signal)?;
-    let mut host = Host {
-        source: case.streams.source()?,
-        sink: case.streams.sink()?,
-        files: in_memory(alloc, &case.failing_takes, &case.failing_puts, files)?,
-    };
+    let lanes = lanes_of(alloc, case)?;
     let mut crew = ThreadCrew::new(alloc, *rt, case.failing_starts.clone()?);
+    let mut host = host_of(alloc, case, files)?;
+    let doors = case.doors(lanes, signal)?;
     let served = run_serve(rt, alloc, &case.words, &mut host, doors, &mut crew, gate);
     Ok((served, host.files))
+}
+
+/// How many lanes the words of a case ask for; none where they plan no run.
+fn lanes_of(alloc: Global, case: &Case) -> Result<u32> {
+    Ok(match plan_of(alloc, &case.words)? {
+        Some(plan) => plan.lanes,
+        None => 0,
+    })
 }

@@ -73,12 +73,18 @@ impl Report {
 fn add_messages(alloc: Global, lines: &mut Vec<Vec<u8>>, bytes: &[u8]) -> Result<()> {
     let frames = frame(alloc, LARGEST, &[&bytes[..bytes.len().min(MOST)]])?;
     for message in &frames.messages {
-        let mut line = Vec::from_slice(alloc, b"message")?;
-        put_octets(&mut line, b"", message.bytes())?;
-        lines.push(line)?;
+        add_message(alloc, lines, message.bytes())?;
     }
     if !matches!(frames.last, Next::NeedMore { have: 0 }) {
         lines.push(Vec::from_slice(alloc, b"and no whole message")?)?;
     }
+    Ok(())
+}
+
+/// Adds the line of a message.
+fn add_message(alloc: Global, lines: &mut Vec<Vec<u8>>, message: &[u8]) -> Result<()> {
+    let mut line = Vec::from_slice(alloc, b"message")?;
+    put_octets(&mut line, b"", message)?;
+    lines.push(line)?;
     Ok(())
 }
