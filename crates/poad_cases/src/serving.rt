@@ -47,18 +47,13 @@ where
     R: Threads + Wait + Copy + Send + Drop + 'static,
     G: Gate + Send + Sync + Drop + 'static,
 {
-    let lanes = lanes_of(alloc, case)?;
+    let lanes = match plan_of(alloc, &case.words)? {
+        Some(plan) => plan.lanes,
+        None => 0,
+    };
     let mut crew = ThreadCrew::new(alloc, *rt, case.failing_starts.clone()?);
     let mut host = host_of(alloc, case, files)?;
     let doors = case.doors(lanes, signal)?;
     let served = run_serve(rt, alloc, &case.words, &mut host, doors, &mut crew, gate);
     Ok((served, host.files))
-}
-
-/// How many lanes the words of a case ask for; none where they plan no run.
-fn lanes_of(alloc: Global, case: &Case) -> Result<u32> {
-    Ok(match plan_of(alloc, &case.words)? {
-        Some(plan) => plan.lanes,
-        None => 0,
-    })
 }
