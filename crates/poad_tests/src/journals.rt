@@ -56,7 +56,7 @@ abandon 3
 ";
 
 /// Whether a journal is of this run, has so many entries and prints as this text.
-fn is_whole(
+fn fits(
     alloc: Global,
     journal: &Journal,
     run: u32,
@@ -79,7 +79,7 @@ fn reads_as(
     printed: &[u8],
 ) -> Result<bool, Fail> {
     let journal = read(alloc, text)?;
-    let same = is_whole(alloc, &journal, run, entries, printed);
+    let same = fits(alloc, &journal, run, entries, printed);
     drop(journal);
     Ok(same?)
 }
@@ -140,7 +140,9 @@ fn entry_line(alloc: Global) -> Result<Bytes, WantMemory> {
         cleanup: true,
         remaining: false,
     };
-    print_entry(alloc, &entry)
+    let line = print_entry(alloc, &entry);
+    drop(entry);
+    line
 }
 
 /// The text of a journal without entries.

@@ -14,7 +14,9 @@ fn reply(alloc: Global) -> Result<Bytes, WantMemory> {
         locate: false,
     };
     let five = Reply::Outcome(Outcome::Value(Some(Datum::Long(5))));
-    write_reply(alloc, &head, &five)
+    let bytes = write_reply(alloc, &head, &five);
+    drop(five);
+    bytes
 }
 
 /// Whether these hexadecimal digits are those of the bytes.

@@ -71,7 +71,7 @@ fn input_limit_has(alloc: Global, number: u8, line: &str) -> Result<bool, Fail> 
 
 #[test]
 fn each_status_has_a_number_and_a_line(rt: HostRuntime) -> Result<(), Fail> {
-    assert_eq!(rt; Status::Ok.number(), 0);
+    assert!(rt; Status::Ok.number() == 0);
     assert!(rt; table_holds(rt.alloc())?);
     assert!(rt; limit_has(rt.alloc(), 12, "limit 1 64")?);
     assert!(rt; input_limit_has(rt.alloc(), 19, "input limit 4294967296")?);
