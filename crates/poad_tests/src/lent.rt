@@ -64,12 +64,10 @@ fn lends(alloc: Global, stream: &str, places: [(usize, usize); 3]) -> Result<boo
     let stream = hex::decode(alloc, stream)?;
     let stream = &stream.as_slice()[..stream.len().min(LONGEST)];
     let frames = frame(alloc, 1_048_576, &[stream])?;
-    let same = match frames.messages.first() {
-        Some(message) => lends_from(message, places),
-        None => false,
-    };
-    drop(frames);
-    Ok(same)
+    match frames.messages.first() {
+        Some(message) => Ok(lends_from(message, places)),
+        None => Ok(false),
+    }
 }
 
 /// Whether a message lends the key of its target, its operation and its body from these places.

@@ -50,15 +50,28 @@ fn fails(frames: &Frames, place: u64, reason: Why) -> bool {
     }
 }
 
+/// Whether the stream of a text is bad at this place for this reason.
+fn is_bad(alloc: Global, text: &[u8], place: u64, reason: Why) -> Result<bool, WantMemory>
+    requires { length text.now < 2 ^ 31 }
+{
+    let frames = frame(alloc, LIMIT, &[text])?;
+    Ok(fails(&frames, place, reason))
+}
+
+/// Puts the first parts of so many messages behind a text, by the ids from 0 on.
+fn put_beginnings(text: &mut Vec<u8>, messages: u32) -> Result<(), WantMemory> {
+    for id in 0..messages {
+        put_part(text, 3, 3, id, &[])?;
+    }
+    Ok(())
+}
+
 #[test]
 fn opens_a_million_messages_and_refuses_one_more(rt: HostRuntime) -> Result<(), Fail> {
     let mut text = Vec::new(rt.alloc());
-    for id in 0..1_048_577u32 {
-        put_part(&mut text, 3, 3, id, &[])?;
-    }
-    assert_eq!(rt; text.len(), 16_777_232);
-    let frames = frame(rt.alloc(), LIMIT, &[text.as_slice()])?;
-    assert!(rt; fails(&frames, 16_777_216, Why::TooLong));
+    put_beginnings(&mut text, 1_048_577)?;
+    assert!(rt; text.len() == 16_777_232);
+    assert!(rt; is_bad(rt.alloc(), text.as_slice(), 16_777_216, Why::TooLong)?);
     Ok(())
 }
 
@@ -101,7 +114,7 @@ fn tells_why_a_header_is_bad(rt: HostRuntime) -> Result<(), Fail> {
         (b"GIOP\x01\x02\x03\x00\x03\x00\x00\x00", Why::BadFragment),
     ];
     for (text, why) in cases {
-        assert!(rt; fails(&frame(rt.alloc(), LIMIT, &[text.as_slice()])?, 0, why));
+        assert!(rt; is_bad(rt.alloc(), text.as_slice(), 0, why)?);
     }
     Ok(())
 }
