@@ -133,6 +133,11 @@ fn a_missing_last_end_of_line_is_forgiven(rt: HostRuntime) -> Result<(), Fail> {
     Ok(())
 }
 
+/// Whether what was printed is this text.
+fn is_text(printed: Bytes, text: &[u8]) -> bool {
+    printed.as_slice() == text
+}
+
 /// The line of an entry.
 fn entry_line(alloc: Global) -> Result<Bytes, WantMemory> {
     let entry = Entry::Etherealized {
@@ -157,8 +162,8 @@ fn empty_text(alloc: Global) -> Result<Bytes, WantMemory> {
 
 #[test]
 fn an_entry_prints_as_its_line(rt: HostRuntime) -> Result<(), Fail> {
-    assert!(rt; entry_line(rt.alloc())?.as_slice() == b"etherealized 2 yes no".as_slice());
-    assert!(rt; empty_text(rt.alloc())?.as_slice() == b"journal 1 run 1\n".as_slice());
+    assert!(rt; is_text(entry_line(rt.alloc())?, b"etherealized 2 yes no"));
+    assert!(rt; is_text(empty_text(rt.alloc())?, b"journal 1 run 1\n"));
     Ok(())
 }
 
@@ -180,8 +185,8 @@ fn reprinted(alloc: Global, rows: &[u8]) -> Result<Bytes, Fail> {
 
 #[test]
 fn each_row_reads_and_prints_as_it_stands(rt: HostRuntime) -> Result<(), Fail> {
-    assert!(rt; reprinted(rt.alloc(), ROWS)?.as_slice() == ROWS);
-    assert!(rt; reprinted(rt.alloc(), b"")?.as_slice().is_empty());
+    assert!(rt; is_text(reprinted(rt.alloc(), ROWS)?, ROWS));
+    assert!(rt; is_text(reprinted(rt.alloc(), b"")?, b""));
     Ok(())
 }
 

@@ -49,9 +49,11 @@ fn a_locate_lends_its_key(rt: HostRuntime) -> Result<(), Fail> {
 #[test]
 fn a_key_is_lent_from_inside_its_profile(rt: HostRuntime) -> Result<(), Fail> {
     let alloc = rt.alloc();
-    assert!(rt; lends(alloc, GET_BY_PROFILE, [(56, 80), (88, 91), NOWHERE])?);
-    assert!(rt; lends(alloc, ADD_BY_REFERENCE, [(84, 108), (116, 119), (128, 136)])?);
-    assert!(rt; lends(alloc, GET_BY_NO_KEY, [NOWHERE, (36, 39), NOWHERE])?);
+    assert!(rt;
+        lends(alloc, GET_BY_PROFILE, [(56, 80), (88, 91), NOWHERE])?
+            && lends(alloc, ADD_BY_REFERENCE, [(84, 108), (116, 119), (128, 136)])?
+            && lends(alloc, GET_BY_NO_KEY, [NOWHERE, (36, 39), NOWHERE])?
+    );
     Ok(())
 }
 

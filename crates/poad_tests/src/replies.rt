@@ -14,9 +14,7 @@ fn reply(alloc: Global) -> Result<Bytes, WantMemory> {
         locate: false,
     };
     let five = Reply::Outcome(Outcome::Value(Some(Datum::Long(5))));
-    let bytes = write_reply(alloc, &head, &five);
-    drop(five);
-    bytes
+    write_reply(alloc, &head, &five)
 }
 
 /// Whether these hexadecimal digits are those of the bytes.

@@ -52,28 +52,25 @@ fn table_holds(alloc: Global) -> Result<bool, Fail> {
     each_has(alloc, &STATUSES)
 }
 
-/// Whether the ending for a full run has this number and this line.
-fn limit_has(alloc: Global, number: u8, line: &str) -> Result<bool, Fail> {
+/// Whether the statuses of the limits have their numbers and lines.
+fn limits_hold(alloc: Global) -> Result<bool, Fail> {
     let limit = Status::Limit {
         arrivals: 1,
         bytes: 64,
     };
-    has(alloc, &limit, number, line)
-}
-
-/// Whether the ending for much input has this number and this line.
-fn input_limit_has(alloc: Global, number: u8, line: &str) -> Result<bool, Fail> {
-    let limit = Status::InputLimit {
+    let taken = Status::InputLimit {
         taken: 4_294_967_296,
     };
-    has(alloc, &limit, number, line)
+    let rows = [
+        (limit, 12, "limit 1 64"),
+        (taken, 19, "input limit 4294967296"),
+    ];
+    each_has(alloc, &rows)
 }
 
 #[test]
 fn each_status_has_a_number_and_a_line(rt: HostRuntime) -> Result<(), Fail> {
     assert!(rt; Status::Ok.number() == 0);
-    assert!(rt; table_holds(rt.alloc())?);
-    assert!(rt; limit_has(rt.alloc(), 12, "limit 1 64")?);
-    assert!(rt; input_limit_has(rt.alloc(), 19, "input limit 4294967296")?);
+    assert!(rt; table_holds(rt.alloc())? && limits_hold(rt.alloc())?);
     Ok(())
 }

@@ -33,13 +33,12 @@ fn put_part(
     text.extend_from_slice(filling)
 }
 
-/// Whether these are the messages, by their places and bytes.
-fn gives(frames: &Frames, messages: &[(u64, &[u8])]) -> bool {
-    let mut same = frames.messages.len() == messages.len();
-    for (message, (at, bytes)) in frames.messages.iter().zip(messages) {
-        same = same && message.at() == *at && message.bytes() == *bytes;
+/// Whether there is one message, at this place and of these bytes.
+fn gives(frames: &Frames, place: u64, bytes: &[u8]) -> bool {
+    match frames.messages.as_slice() {
+        [message] => message.at() == place && message.bytes() == bytes,
+        _ => false,
     }
-    same
 }
 
 /// Whether this place is bad for this reason.
@@ -84,12 +83,12 @@ fn put_fragments(text: &mut Vec<u8>, empty: u32) -> Result<(), WantMemory> {
     put_part(text, 1, 7, 9, b"end")
 }
 
-/// Whether the stream of a text is this message alone.
+/// Whether the stream of a text is this message alone, from its first byte on.
 fn is_one(alloc: Global, text: &[u8], message: &[u8]) -> Result<bool, WantMemory>
     requires { length text.now < 2 ^ 31 }
 {
     let frames = frame(alloc, LIMIT, &[text])?;
-    Ok(gives(&frames, &[(0, message)]))
+    Ok(gives(&frames, 0, message))
 }
 
 #[test]
