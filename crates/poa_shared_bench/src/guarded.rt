@@ -33,7 +33,12 @@ impl Guarded {
 
     /// Whether a call was taken.
     pub fn arrive(&mut self, conn: u32, call: Call) -> bool {
-        conn < self.conns && self.core.arrive(conn, call, SIZE).is_ok()
+        if conn < self.conns {
+            self.core.arrive(conn, call, SIZE).is_ok()
+        } else {
+            drop(call);
+            false
+        }
     }
 
     /// Whether the worker below 16 made an entry.

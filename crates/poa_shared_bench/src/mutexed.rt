@@ -73,19 +73,36 @@ fn work<R: Wait>(rt: &R, alloc: Global, job: Job) -> u64 {
     call_all(rt, alloc, &*job.core, job.plan, job.caller)
 }
 
-/// Runs the plan; how many calls were answered.
-pub fn count<R: Threads + Wait + Sync>(rt: &R, alloc: Global, plan: Plan) -> Result<u64, Fault> {
+/// The job of a caller.
+fn job_of(
+    core: &Arc<Mutex<Guarded>, Global>,
+    start: &Arc<Barrier, Global>,
+    plan: Plan,
+    caller: u32,
+) -> Result<Job, Fault> {
+    let start = Arc::try_clone(start)?;
+    Ok(Job {
+        core: Arc::try_clone(core)?,
+        start,
+        plan,
+        caller,
+    })
+}
+
+/// The jobs of the callers of a plan, over a new core.
+fn jobs_of(alloc: Global, plan: Plan) -> Result<Vec<Job>, Fault> {
     let core = Arc::new(alloc, Mutex::new(Guarded::new(core(alloc)?)))?;
     let start = Arc::new(alloc, Barrier::new(plan.callers as usize))?;
     let mut jobs = Vec::with_capacity(alloc, plan.callers as usize)?;
     for caller in 0..plan.callers {
-        jobs.push(Job {
-            core: Arc::try_clone(&core)?,
-            start: Arc::try_clone(&start)?,
-            plan,
-            caller,
-        })?;
+        jobs.push(job_of(&core, &start, plan, caller)?)?;
     }
+    Ok(jobs)
+}
+
+/// Runs the plan; how many calls were answered.
+pub fn count<R: Threads + Wait + Sync>(rt: &R, alloc: Global, plan: Plan) -> Result<u64, Fault> {
+    let jobs = jobs_of(alloc, plan)?;
     let counts = thread::map_vec(rt, jobs, &|job| work(rt, alloc, job))?;
     Ok(total(&counts))
 }

@@ -1,5 +1,5 @@
 //! The calls over the shared core.
-ghost use Rattle.std.specs.Prelude.{◌≡◌, ◌<◌};
+ghost use Rattle.std.specs.Prelude.{◌≡◌, ◌<◌, ◌≤◌, ◌+◌};
 ghost use Rattle.std.specs.Arc.{arc_value};
 ghost use Rattle.seat_lock.specs.Seats.{view};
 ghost use Rattle.poa_shared.specs.Seats.{IsIdle};
@@ -134,22 +134,58 @@ fn work<R: Wait>(rt: &R, alloc: Global, job: Job) -> u64 {
     ask_all(rt, alloc, &*shared, &mut seat, &mut aid, conn, plan, caller)
 }
 
-/// Runs the plan; how many calls were answered.
-pub fn count<R: Threads + Wait + Sync>(rt: &R, alloc: Global, plan: Plan) -> Result<u64, Fault> {
-    let (shared, mut seat) = Shared::new(alloc, core(alloc)?)?;
-    let shared = Arc::new(alloc, shared)?;
+/// The job of a caller, with two seats of its own.
+fn job_of(
+    shared: &Arc<Shared, Global>,
+    start: &Arc<Barrier, Global>,
+    seat: &mut Seat,
+    plan: Plan,
+    caller: u32,
+) -> Result<Job, Fault>
+    requires seat { IsIdle (arc_value shared.now) seat.old }
+    requires room { 2 ≤ (view seat.old).room }
+    ensures seat { IsIdle (arc_value shared.now) seat.new }
+    ensures room { (view seat.old).room ≤ (view seat.new).room + 2 }
+{
+    let start = Arc::try_clone(start)?;
+    Ok(Job {
+        shared: Arc::try_clone(shared)?,
+        start,
+        seat: shared.split(seat),
+        aid: shared.split(seat),
+        plan,
+        caller,
+    })
+}
+
+/// The jobs of the callers of a plan, at most 512 of them, over a shared core.
+fn jobs_over(
+    alloc: Global,
+    shared: &Arc<Shared, Global>,
+    seat: &mut Seat,
+    plan: Plan,
+) -> Result<Vec<Job>, Fault>
+    requires seat { IsIdle (arc_value shared.now) seat.old }
+    requires room { (view seat.old).room ≡ 1024 }
+{
     let start = Arc::new(alloc, Barrier::new(plan.callers as usize))?;
     let mut jobs = Vec::with_capacity(alloc, plan.callers as usize)?;
     for caller in 0..plan.callers.min(512) {
-        jobs.push(Job {
-            shared: Arc::try_clone(&shared)?,
-            start: Arc::try_clone(&start)?,
-            seat: shared.split(&mut seat),
-            aid: shared.split(&mut seat),
-            plan,
-            caller,
-        })?;
+        jobs.push(job_of(shared, &start, seat, plan, caller)?)?;
     }
+    Ok(jobs)
+}
+
+/// The same, over a new core.
+fn jobs_of(alloc: Global, plan: Plan) -> Result<Vec<Job>, Fault> {
+    let (shared, mut seat) = Shared::new(alloc, core(alloc)?)?;
+    let shared = Arc::new(alloc, shared)?;
+    jobs_over(alloc, &shared, &mut seat, plan)
+}
+
+/// Runs the plan; how many calls were answered.
+pub fn count<R: Threads + Wait + Sync>(rt: &R, alloc: Global, plan: Plan) -> Result<u64, Fault> {
+    let jobs = jobs_of(alloc, plan)?;
     let counts = thread::map_vec(rt, jobs, &|job| work(rt, alloc, job))?;
     Ok(total(&counts))
 }
