@@ -145,9 +145,7 @@ fn entry_line(alloc: Global) -> Result<Bytes, WantMemory> {
         cleanup: true,
         remaining: false,
     };
-    let line = print_entry(alloc, &entry);
-    drop(entry);
-    line
+    print_entry(alloc, &entry)
 }
 
 /// The text of a journal without entries.

@@ -56,20 +56,14 @@ fn whole(alloc: Global) -> Result<Vec<Entry>, Fail> {
 fn illegal_place(alloc: Global, history: &[Entry]) -> Result<Option<usize>, WantMemory> {
     let config = config(alloc);
     let store = Store::new(alloc);
-    let place = first_illegal(alloc, &config, 1, 0, &store, history);
-    drop(config);
-    drop(store);
-    place
+    first_illegal(alloc, &config, 1, 0, &store, history)
 }
 
 /// Whether an entry may come behind these.
 fn may_come(alloc: Global, past: &[Entry], entry: &Entry) -> Result<bool, WantMemory> {
     let config = config(alloc);
     let store = Store::new(alloc);
-    let may = may_follow(alloc, &config, 1, 0, &store, past, entry);
-    drop(config);
-    drop(store);
-    may
+    may_follow(alloc, &config, 1, 0, &store, past, entry)
 }
 
 #[test]

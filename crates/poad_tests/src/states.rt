@@ -24,9 +24,6 @@ fn what_is_stored_counts_where_it_is_of_the_kind(rt: HostRuntime) -> Result<(), 
     let alloc = rt.alloc();
     let five = State::Register(5);
     let log = State::Book(Items::new(alloc));
-    let counts = counts_its_kind(alloc, &five, &log);
-    drop(five);
-    drop(log);
-    assert!(rt; counts?);
+    assert!(rt; counts_its_kind(alloc, &five, &log)?);
     Ok(())
 }
