@@ -33,12 +33,7 @@ impl Guarded {
 
     /// Whether a call was taken.
     pub fn arrive(&mut self, conn: u32, call: Call) -> bool {
-        if conn < self.conns {
-            self.core.arrive(conn, call, SIZE).is_ok()
-        } else {
-            drop(call);
-            false
-        }
+        conn < self.conns && self.core.arrive(conn, call, SIZE).is_ok()
     }
 
     /// Whether the worker below 16 made an entry.

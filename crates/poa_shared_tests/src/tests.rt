@@ -137,7 +137,7 @@ fn added_both(alloc: Global, all: &[Result<Vec<Reply>, WantMemory>]) -> Result<b
     Ok(sums.as_slice() == [1, 2].as_slice() || sums.as_slice() == [2, 1].as_slice())
 }
 
-/// Whether they did so by two runs, and the journal is legal.
+/// Whether the callers added up to 1 and 2 by two runs, and the journal is legal.
 fn added_by_two_runs(alloc: Global, played: &Played) -> Result<bool, Fail> {
     let entries = played.core.entries().to_vec(alloc)?;
     Ok(
@@ -239,7 +239,7 @@ fn outlived(played: &Played, entries: &[Entry]) -> bool {
         && entries.len() <= JUDGED
 }
 
-/// Whether it is so, and the journal is legal.
+/// Whether all calls got their replies though a worker gave up, as `outlived` says it, and the journal is legal.
 fn outlived_legally(alloc: Global, played: &Played) -> Result<bool, Fail> {
     let entries = played.core.entries().to_vec(alloc)?;
     Ok(outlived(played, &entries) && is_legal(alloc, &played.core, &entries)?)

@@ -25,8 +25,8 @@ where
     let Ok(plan) = plan_of(alloc, words) else {
         return Status::WantMemory;
     };
-    let (ports, gate_ms) = match opened(rt, plan, &mut host.files) {
-        Ok(opened) => opened,
+    let (ports, gate_ms) = match planned_ports(rt, plan, &mut host.files) {
+        Ok(planned) => planned,
         Err(status) => return status,
     };
     let lanes = match plan {
@@ -44,8 +44,8 @@ where
     run_serve(threads, alloc, words, host, doors, &mut crew, &gate).status
 }
 
-// The ports of the plan, and how long its gate takes, in milliseconds.
-fn opened<F: Files>(
+// The ports of the plan, opened, and how long its gate takes, in milliseconds.
+fn planned_ports<F: Files>(
     rt: &HostRuntime,
     plan: Option<Plan<'_>>,
     files: &mut F,

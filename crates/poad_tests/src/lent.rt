@@ -1,6 +1,6 @@
 //! Where the parts lie that a view of a message lends.
 
-use giop_frame::{Message, frame};
+use giop_frame::frame;
 use giop_msg::{Seen, view_call};
 use std::alloc::Global;
 use std::test::Fail;
@@ -49,11 +49,9 @@ fn a_locate_lends_its_key(rt: HostRuntime) -> Result<(), Fail> {
 #[test]
 fn a_key_is_lent_from_inside_its_profile(rt: HostRuntime) -> Result<(), Fail> {
     let alloc = rt.alloc();
-    assert!(rt;
-        lends(alloc, GET_BY_PROFILE, [(56, 80), (88, 91), NOWHERE])?
-            && lends(alloc, ADD_BY_REFERENCE, [(84, 108), (116, 119), (128, 136)])?
-            && lends(alloc, GET_BY_NO_KEY, [NOWHERE, (36, 39), NOWHERE])?
-    );
+    assert!(rt; lends(alloc, GET_BY_PROFILE, [(56, 80), (88, 91), NOWHERE])?);
+    assert!(rt; lends(alloc, ADD_BY_REFERENCE, [(84, 108), (116, 119), (128, 136)])?);
+    assert!(rt; lends(alloc, GET_BY_NO_KEY, [NOWHERE, (36, 39), NOWHERE])?);
     Ok(())
 }
 
@@ -66,14 +64,9 @@ fn lends(alloc: Global, stream: &str, places: [(usize, usize); 3]) -> Result<boo
     let stream = hex::decode(alloc, stream)?;
     let stream = &stream.as_slice()[..stream.len().min(LONGEST)];
     let frames = frame(alloc, 1_048_576, &[stream])?;
-    match frames.messages.first() {
-        Some(message) => Ok(lends_from(message, places)),
-        None => Ok(false),
-    }
-}
-
-/// Whether a message lends the key of its target, its operation and its body from these places.
-fn lends_from(message: &Message, places: [(usize, usize); 3]) -> bool {
+    let Some(message) = frames.messages.first() else {
+        return Ok(false);
+    };
     let bytes = message.bytes();
     let [key_at, operation_at, body_at] = places;
     match view_call(message) {
@@ -84,13 +77,13 @@ fn lends_from(message: &Message, places: [(usize, usize); 3]) -> bool {
                 body,
                 ..
             },
-        ) => {
+        ) => Ok(
             lies(bytes, target.unwrap_or(&[]), key_at)
                 && lies(bytes, operation, operation_at)
-                && lies(bytes, body, body_at)
-        }
-        Ok(Seen::Locate { target, .. }) => lies(bytes, target.unwrap_or(&[]), key_at),
-        _ => false,
+                && lies(bytes, body, body_at),
+        ),
+        Ok(Seen::Locate { target, .. }) => Ok(lies(bytes, target.unwrap_or(&[]), key_at)),
+        _ => Ok(false),
     }
 }
 

@@ -127,7 +127,9 @@ fn is_made_again(message: Message) -> bool {
 #[test]
 fn makes_a_message_and_gives_its_bytes(rt: HostRuntime) -> Result<(), Fail> {
     each_text_has_one_stream();
-    for message in frame(rt.alloc(), LIMIT, &[GET])?.messages {
+    let messages = frame(rt.alloc(), LIMIT, &[GET])?.messages;
+    assert!(rt; messages.len() == 1);
+    for message in messages {
         assert!(rt; is_made_again(message));
     }
     Ok(())
