@@ -2,7 +2,7 @@
 use Rattle.std.proofs.Common.{◌≡◌, ℕ, suc, ◌+◌, ◌<◌, List, ◌∷◌, ◌++◌, length, drop, get_or, Option, slice_get, refl, ap, sym, ◌∙◌, add-one}
 use Rattle.std.proofs.lemmas.List.{append_assoc, drop_more}
 use Rattle.poa_base.specs.declared.Config.{Config}
-use Rattle.poa_names.specs.declared.Key.{Key}
+use Rattle.poa_base.specs.declared.Key.{Key}
 use Rattle.poa_base.specs.declared.ObjectConf.{ObjectConf}
 use Rattle.ior_text.specs.Reference.{reference_text}
 use Rattle.conf_print.specs.Numbers.{Numbers}

@@ -2,7 +2,7 @@
 use Rattle.std.specs.Prelude.{ℕ, suc, if◌then◌else◌, List, [], ◌∷◌, Option, Some, None}
 use Rattle.std.specs.BTreeMap.{is_at}
 use Rattle.poa_base.specs.declared.AdapterConf.{AdapterConf}
-use Rattle.poa_names.specs.Policies.{is_persistent}
+use Rattle.poa_base.specs.Policies.{is_persistent}
 use Rattle.poa_base.specs.Store.{path_cmp}
 
 -- the number at a path, if a transient adapter stands there

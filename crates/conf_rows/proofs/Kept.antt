@@ -9,7 +9,7 @@ use Rattle.poa_base.specs.declared.AdapterConf.{AdapterConf}
 use Rattle.poa_base.specs.declared.Gives.{Gives}
 use Rattle.poa_base.specs.declared.Gives.TheVariants as gives
 use Rattle.poa_base.specs.declared.ManagerConf.{ManagerConf}
-use Rattle.poa_names.specs.declared.PolicySet.{PolicySet}
+use Rattle.poa_base.specs.declared.PolicySet.{PolicySet}
 use Rattle.poa_base.specs.declared.RuleConf.{RuleConf}
 use Rattle.poa_base.specs.declared.ServantConf.{ServantConf}
 use Rattle.poa_policy.specs.Kinds.{IsSet}

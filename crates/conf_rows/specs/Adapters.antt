@@ -2,8 +2,8 @@
 use Rattle.std.specs.Prelude.{ℕ, Bool, true, false, not, ◌||◌, ◌==◌, List, [], ◌∷◌, codes, length, map, Option, Some, None, Result, Ok, if◌then◌else◌}
 use Rattle.std.specs.List.{slice_get, list_any}
 use Rattle.poa_base.specs.declared.AdapterConf.{AdapterConf}
-use Rattle.poa_names.specs.declared.PolicySet.{PolicySet}
-use Rattle.poa_names.specs.Policies.{is_default_servant}
+use Rattle.poa_base.specs.declared.PolicySet.{PolicySet}
+use Rattle.poa_base.specs.Policies.{is_default_servant}
 use Rattle.poa_policy.specs.Rules.{defaults}
 use Rattle.text_words.specs.Path.{path_text}
 use Rattle.toml.specs.Data.{Data, Members, as_bool}

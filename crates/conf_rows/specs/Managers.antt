@@ -1,7 +1,7 @@
 -- The managers of a configuration. `root` is there already, with the number 0.
 use Rattle.std.specs.Prelude.{ℕ, List, [], ◌∷◌, codes, length, map, Result, Ok}
 use Rattle.poa_base.specs.declared.ManagerConf.{ManagerConf}
-use Rattle.poa_names.specs.declared.ManagerState.TheVariants.{Holding}
+use Rattle.poa_base.specs.declared.ManagerState.TheVariants.{Holding}
 use Rattle.text_words.specs.Name.{name_of}
 use Rattle.toml.specs.Data.{Data, Members}
 use Rattle.conf_fields.specs.Chain.{◌>>=◌}

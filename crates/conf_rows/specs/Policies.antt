@@ -1,7 +1,7 @@
 -- The policies of an adapter in a configuration.
 use Rattle.std.specs.Prelude.{ℕ, List, [], codes, Result, Ok, Err}
-use Rattle.poa_names.specs.declared.Policy.{Policy}
-use Rattle.poa_names.specs.declared.PolicySet.{PolicySet}
+use Rattle.poa_base.specs.declared.Policy.{Policy}
+use Rattle.poa_base.specs.declared.PolicySet.{PolicySet}
 use Rattle.poa_policy.specs.Settled.{settled}
 use Rattle.poa_policy.specs.declared.InvalidPolicy.{InvalidPolicy}
 use Rattle.toml.specs.Data.{Data, Members}

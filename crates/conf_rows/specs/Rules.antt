@@ -5,9 +5,9 @@ use Rattle.std.specs.Str.{bytes_eq}
 use Rattle.poa_base.specs.Minors.{completion_of}
 use Rattle.poa_base.specs.declared.Gives.{Gives}
 use Rattle.poa_base.specs.declared.Gives.TheVariants as gives
-use Rattle.poa_names.specs.declared.PolicySet.{PolicySet}
+use Rattle.poa_base.specs.declared.PolicySet.{PolicySet}
 use Rattle.poa_base.specs.declared.RuleConf.{RuleConf}
-use Rattle.poa_names.specs.Policies.{is_retain, is_servant_manager}
+use Rattle.poa_base.specs.Policies.{is_retain, is_servant_manager}
 use Rattle.text_words.specs.Identity.{id_of}
 use Rattle.text_words.specs.Name.{host_of}
 use Rattle.toml.specs.Data.{Data, Items, no_items, item, Members, get_member}

@@ -2,8 +2,8 @@
 use Rattle.std.specs.Prelude.{ℕ, pos, List, [], ◌∷◌, codes, length, map, Result, Ok}
 use Rattle.poa_base.specs.declared.Kind.{Kind}
 use Rattle.poa_base.specs.declared.Kind.TheVariants as kind
-use Rattle.poa_names.specs.declared.State.{State}
-use Rattle.poa_names.specs.declared.State.TheVariants as state
+use Rattle.poa_base.specs.declared.State.{State}
+use Rattle.poa_base.specs.declared.State.TheVariants as state
 use Rattle.poa_base.specs.declared.ServantConf.{ServantConf}
 use Rattle.text_words.specs.Name.{name_of}
 use Rattle.toml.specs.Data.{Data, Members, as_integer}

@@ -9,7 +9,7 @@ ghost use Rattle.conf_rules.specs.Adapters.{AreRules, GivesWithin};
 ghost use Rattle.std.specs.List.{AllByRecursion};
 ghost use Rattle.conf_fields.specs.declared.ConfFault.TheVariants as fault;
 ghost use Rattle.conf_fields.specs.declared.Place.TheVariants as place;
-ghost use Rattle.poa_names.specs.Policies.{is_servant_manager as the_servant_manager};
+ghost use Rattle.poa_base.specs.Policies.{is_servant_manager as the_servant_manager};
 ghost use Rattle.conf_rows.specs.Rules.{matched as the_matched, no_other as the_no_other, not_raised as the_not_raised, way_of as the_way_of, fresh_at as the_fresh_at, servant_given as the_servant_given, forward_given as the_forward_given, raise_given as the_raise_given, given_by as the_given_by, rule_at as the_rule_at, rule_in, rule_after, rules_at as the_rules_at, is_empty as the_empty, rule_keys as the_rule_keys};
 
 use conf_fields::{

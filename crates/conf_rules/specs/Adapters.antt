@@ -2,12 +2,12 @@
 use Rattle.std.specs.Prelude.{◌≡◌, ℕ, ◌≤◌, ◌<◌, true, List, [], length, IfSome, ◌⊎◌, ⊤}
 use Rattle.std.specs.List.{AllByRecursion, list_all}
 use Rattle.poa_base.specs.declared.AdapterConf.{AdapterConf}
-use Rattle.poa_names.specs.declared.Endpoint.{Endpoint}
+use Rattle.poa_base.specs.declared.Endpoint.{Endpoint}
 use Rattle.poa_base.specs.declared.Gives.{Gives}
 use Rattle.poa_base.specs.declared.Gives.TheVariants as gives
-use Rattle.poa_names.specs.declared.PolicySet.{PolicySet}
+use Rattle.poa_base.specs.declared.PolicySet.{PolicySet}
 use Rattle.poa_base.specs.declared.RuleConf.{RuleConf}
-use Rattle.poa_names.specs.Policies.{is_retain, is_default_servant, is_servant_manager}
+use Rattle.poa_base.specs.Policies.{is_retain, is_default_servant, is_servant_manager}
 use Rattle.poa_policy.specs.Kinds.{IsSet}
 use Rattle.poa_policy.specs.Rules.{keeps}
 use Rattle.poa_policy.specs.declared.Rule.{Rule}

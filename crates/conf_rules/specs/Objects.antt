@@ -2,8 +2,8 @@
 use Rattle.std.specs.Prelude.{◌≡◌, ℕ, ◌<◌, true, List, [], ◌∷◌, Option, is_some, is_none, ◌⊎◌}
 use Rattle.poa_base.specs.declared.AdapterConf.{AdapterConf}
 use Rattle.poa_base.specs.declared.ObjectConf.{ObjectConf}
-use Rattle.poa_names.specs.declared.PolicySet.{PolicySet}
-use Rattle.poa_names.specs.Policies.{is_retain, is_system_id, is_multiple_id}
+use Rattle.poa_base.specs.declared.PolicySet.{PolicySet}
+use Rattle.poa_base.specs.Policies.{is_retain, is_system_id, is_multiple_id}
 use Rattle.poa_policy.specs.Rules.{defaults}
 use Rattle.conf_rules.specs.Entries.{IsNew, IsEntry}
 

@@ -8,7 +8,7 @@ use Rattle.std.specs.Str.{bytes_eq}
 use Rattle.poa_base.specs.declared.AdapterConf.{AdapterConf}
 use Rattle.poa_base.specs.declared.ForwardConf.{ForwardConf}
 use Rattle.poa_base.specs.declared.ObjectConf.{ObjectConf}
-use Rattle.poa_names.specs.declared.PolicySet.{PolicySet}
+use Rattle.poa_base.specs.declared.PolicySet.{PolicySet}
 use Rattle.poa_base.specs.declared.ServantConf.{ServantConf}
 use Rattle.text_words.specs.Name.{is_name}
 use Rattle.text_words.specs.Path.{path_text}

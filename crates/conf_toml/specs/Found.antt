@@ -3,8 +3,8 @@ use Rattle.std.specs.Prelude.{◌≡◌, ℕ, ◌≤◌, length, true, List, [],
 use Rattle.std.specs.List.{list_all}
 use Rattle.poa_base.specs.declared.AdapterConf.{AdapterConf}
 use Rattle.poa_base.specs.declared.ObjectConf.{ObjectConf}
-use Rattle.poa_names.specs.declared.PolicySet.{PolicySet}
-use Rattle.poa_names.specs.Policies.{is_retain, is_system_id, is_multiple_id}
+use Rattle.poa_base.specs.declared.PolicySet.{PolicySet}
+use Rattle.poa_base.specs.Policies.{is_retain, is_system_id, is_multiple_id}
 use Rattle.poa_policy.specs.Rules.{defaults}
 use Rattle.text_words.specs.Name.{is_name}
 use Rattle.text_words.specs.Path.{path_text}

@@ -5,8 +5,8 @@ use Rattle.hex.specs.Hex.{encode_lower}
 use Rattle.poa_base.specs.declared.limits.TheConstants.{OBJECTS}
 use Rattle.poa_base.specs.declared.AdapterConf.{AdapterConf}
 use Rattle.poa_base.specs.declared.ObjectConf.{ObjectConf}
-use Rattle.poa_names.specs.declared.PolicySet.{PolicySet}
-use Rattle.poa_names.specs.Policies.{is_retain, is_system_id, is_multiple_id}
+use Rattle.poa_base.specs.declared.PolicySet.{PolicySet}
+use Rattle.poa_base.specs.Policies.{is_retain, is_system_id, is_multiple_id}
 use Rattle.poa_policy.specs.Rules.{defaults}
 use Rattle.text_words.specs.Identity.{id_of}
 use Rattle.text_words.specs.Path.{path_text}

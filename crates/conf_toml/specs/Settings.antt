@@ -1,6 +1,6 @@
 -- The keys of a configuration's top table that aren't arrays of tables.
 use Rattle.std.specs.Prelude.{ℕ, List, [], ◌∷◌, codes, Result, Ok}
-use Rattle.poa_names.specs.declared.ManagerState.TheVariants.{Holding}
+use Rattle.poa_base.specs.declared.ManagerState.TheVariants.{Holding}
 use Rattle.text_words.specs.Name.{host_of}
 use Rattle.toml.specs.Data.{Members}
 use Rattle.conf_fields.specs.Chain.{◌>>=◌}

@@ -1,7 +1,7 @@
 -- The key that a target spells is the one that is seen in it.
 use Rattle.std.proofs.Common.{◌≡◌, ◌≢◌, ℕ, List, Option, Some, None, refl, sym, subst}
 use Rattle.std.specs.Prelude.{IfSome, IfNone}
-use Rattle.poa_names.specs.declared.Key.{Key}
+use Rattle.poa_base.specs.declared.Key.{Key}
 use Rattle.object_key.specs.Spelling.{key_spelling, IsKey}
 use Rattle.history_standing.specs.Keys.{key_of}
 use Rattle.poa_history.proofs.KeysSpelled.{key_spelled, spelling_found}

@@ -3,7 +3,7 @@ use Rattle.std.specs.Prelude.{◌≡◌, ℕ, not, ◌&&◌, ◌==◌, List, len
 use Rattle.std.specs.List.{list_any}
 use Rattle.poa_base.specs.declared.Config.{Config}
 use Rattle.poa_base.specs.declared.Entry.{Entry}
-use Rattle.poa_names.specs.declared.Sid.{Sid}
+use Rattle.poa_base.specs.declared.Sid.{Sid}
 use Rattle.history_standing.specs.declared.stage.Stage.{Stage}
 use Rattle.history_standing.specs.declared.stage.Stage.TheVariants.{Incarnating, Removing, Serving}
 use Rattle.poa_history.specs.Changes.{standing}

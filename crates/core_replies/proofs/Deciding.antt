@@ -15,7 +15,7 @@ use Rattle.poa_base.specs.declared.Incarnation.TheVariants.{Fresh, Named, Double
 use Rattle.poa_base.specs.declared.Outcome.{Outcome}
 use Rattle.poa_base.specs.declared.Reply.{Reply}
 use Rattle.poa_base.specs.declared.Reply.TheVariants.{Outcome as Ended, Answer as AnswerReply}
-use Rattle.poa_names.specs.declared.Sid.{Sid}
+use Rattle.poa_base.specs.declared.Sid.{Sid}
 use Rattle.poa_base.specs.declared.Verdict.{Verdict}
 use Rattle.poa_base.specs.declared.Verdict.TheVariants.{Serve, Preset, Locator, Incarnate, Try, Refuse, Forward, Addressing as AddressingVerdict, Here, Unknown, Answer, Wait}
 use Rattle.history_standing.specs.Arrivals.{call_of}

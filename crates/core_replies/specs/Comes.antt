@@ -7,7 +7,7 @@ use Rattle.poa_base.specs.declared.Config.{Config}
 use Rattle.poa_base.specs.declared.Entry.{Entry}
 use Rattle.poa_base.specs.declared.Entry.TheVariants.{Admit, Run}
 use Rattle.poa_base.specs.declared.Outcome.{Outcome}
-use Rattle.poa_names.specs.declared.Sid.{Sid}
+use Rattle.poa_base.specs.declared.Sid.{Sid}
 use Rattle.history_standing.specs.Arrivals.{call_of}
 use Rattle.poa_history.specs.InFlight.{IsManned}
 use Rattle.history_standing.specs.Stages.{arrival_in, stage}

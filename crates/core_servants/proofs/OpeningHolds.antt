@@ -8,8 +8,8 @@ use Rattle.std.specs.Map.{lookup}
 use Rattle.std.specs.Ordering.{nat_cmp}
 use Rattle.poa_base.specs.declared.Config.{Config}
 use Rattle.poa_base.specs.declared.ServantConf.{ServantConf}
-use Rattle.poa_names.specs.declared.State.TheVariants.{Fault}
-use Rattle.poa_names.specs.declared.Sid.TheVariants.{Fresh as FreshServant}
+use Rattle.poa_base.specs.declared.State.TheVariants.{Fault}
+use Rattle.poa_base.specs.declared.Sid.TheVariants.{Fresh as FreshServant}
 use Rattle.poa_base.specs.Store as slots
 use Rattle.poa_base.specs.Store.{Slots}
 use Rattle.history_standing.specs.declared.activation.Activation.{Activation}

@@ -8,7 +8,7 @@ use Rattle.std.specs.List.{filter_map}
 use Rattle.std.specs.Option.{option_or}
 use Rattle.std.specs.Ordering.{is_eq, is_lt}
 use Rattle.std.specs.declared.cmp.Ordering.TheVariants.{Less, Equal, Greater}
-use Rattle.poa_names.specs.declared.servant.State.{State}
+use Rattle.poa_base.specs.declared.servant.State.{State}
 use Rattle.poa_base.specs.Store.{Place, Slots, place_cmp, filled, stored, states, with_place, with_room, with_state}
 use Rattle.poa_base.proofs.Shelves.{same_place}
 use Rattle.poa_base.proofs.Stored.{stored-with_room, stored-with_state}

@@ -4,9 +4,9 @@ use Rattle.std.proofs.Common.{sym, ap, ◌∙◌}
 use Rattle.std.proofs.lemmas.Bool.{true≢false, false_from_ne_true}
 use Rattle.poa_base.specs.declared.Config.{Config}
 use Rattle.poa_base.specs.declared.Call.{Call}
-use Rattle.poa_names.specs.declared.State.TheVariants.{Fault}
-use Rattle.poa_names.specs.declared.Sid.{Sid}
-use Rattle.poa_names.specs.declared.Sid.TheVariants.{Named as NamedServant, Fresh as FreshServant}
+use Rattle.poa_base.specs.declared.State.TheVariants.{Fault}
+use Rattle.poa_base.specs.declared.Sid.{Sid}
+use Rattle.poa_base.specs.declared.Sid.TheVariants.{Named as NamedServant, Fresh as FreshServant}
 use Rattle.poa_base.specs.declared.Entry.{Entry}
 use Rattle.poa_base.specs.declared.Entry.TheVariants.{Run}
 use Rattle.poa_base.specs.declared.Verdict.{Verdict}

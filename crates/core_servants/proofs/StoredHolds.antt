@@ -7,10 +7,10 @@ use Rattle.std.specs.Ordering.{is_eq}
 use Rattle.std.specs.declared.cmp.Ordering.{Ordering}
 use Rattle.std.specs.declared.cmp.Ordering.TheVariants.{Less, Equal, Greater}
 use Rattle.poa_base.specs.declared.Config.{Config}
-use Rattle.poa_names.specs.declared.State.{State}
-use Rattle.poa_names.specs.declared.State.TheVariants.{Fault}
-use Rattle.poa_names.specs.declared.Sid.{Sid}
-use Rattle.poa_names.specs.declared.Sid.TheVariants.{Named as NamedServant, Fresh as FreshServant}
+use Rattle.poa_base.specs.declared.State.{State}
+use Rattle.poa_base.specs.declared.State.TheVariants.{Fault}
+use Rattle.poa_base.specs.declared.Sid.{Sid}
+use Rattle.poa_base.specs.declared.Sid.TheVariants.{Named as NamedServant, Fresh as FreshServant}
 use Rattle.poa_base.specs.declared.Entry.{Entry}
 use Rattle.poa_base.specs.declared.Entry.TheVariants.{Incarnated, Etherealized}
 use Rattle.poa_base.specs.declared.Incarnation.TheVariants.{Fresh}

@@ -12,8 +12,8 @@ use Rattle.poa_base.specs.declared.Call.{Call}
 use Rattle.poa_base.specs.declared.Config.{Config}
 use Rattle.poa_base.specs.declared.Entry.{Entry}
 use Rattle.poa_base.specs.declared.Outcome.{Outcome}
-use Rattle.poa_names.specs.declared.State.{State}
-use Rattle.poa_names.specs.declared.State.TheVariants.{Fault}
+use Rattle.poa_base.specs.declared.State.{State}
+use Rattle.poa_base.specs.declared.State.TheVariants.{Fault}
 use Rattle.poa_base.specs.Store as slots
 use Rattle.poa_base.specs.Store.{IsReserved, with_room}
 use Rattle.poa_base.proofs.Stored.{stored-with_room, reserved-insert}

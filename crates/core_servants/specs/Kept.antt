@@ -3,10 +3,10 @@ use Rattle.std.specs.Prelude.{ℕ, List, Option, unwrap_or, slice_get}
 use Rattle.std.specs.Map.{lookup}
 use Rattle.std.specs.BTreeMap.{is_at}
 use Rattle.std.specs.Ordering.{nat_cmp}
-use Rattle.poa_names.specs.declared.State.{State}
-use Rattle.poa_names.specs.declared.State.TheVariants.{Fault}
-use Rattle.poa_names.specs.declared.Sid.{Sid}
-use Rattle.poa_names.specs.declared.Sid.TheVariants.{Named as NamedServant, Fresh as FreshServant}
+use Rattle.poa_base.specs.declared.State.{State}
+use Rattle.poa_base.specs.declared.State.TheVariants.{Fault}
+use Rattle.poa_base.specs.declared.Sid.{Sid}
+use Rattle.poa_base.specs.declared.Sid.TheVariants.{Named as NamedServant, Fresh as FreshServant}
 use Rattle.poa_base.specs.Store as slots
 use Rattle.poa_base.specs.Store.{Slots}
 use Rattle.poa_history.specs.States.{Stored}

@@ -2,7 +2,7 @@
 use Rattle.std.specs.Prelude.{◌≡◌, ℕ, List, Some}
 use Rattle.poa_base.specs.declared.Config.{Config}
 use Rattle.poa_base.specs.declared.Entry.{Entry}
-use Rattle.poa_names.specs.declared.Sid.{Sid}
+use Rattle.poa_base.specs.declared.Sid.{Sid}
 use Rattle.poa_history.specs.States.{servant_run}
 use Rattle.history_standing.specs.declared.stage.Stage.TheVariants.{Serving}
 

@@ -2,7 +2,7 @@
 ghost use Rattle.std.specs.Prelude.{◌≡◌, ◌==◌, ℕ, Some, None, IfOk, OnOk, OnErr, if◌then◌else◌, option_copied, option_map, unwrap_or, slice_get};
 ghost use Rattle.std.specs.BTreeMap as tree;
 ghost use Rattle.std.specs.Ordering.{nat_cmp};
-ghost use Rattle.poa_names.specs.declared.State.{State as Held};
+ghost use Rattle.poa_base.specs.declared.State.{State as Held};
 ghost use Rattle.poa_history.specs.States.{acted};
 ghost use Rattle.core_servants.specs.Kept.{kept_in};
 ghost use Rattle.core_servants.specs.Steps.{IsActed, outcome_in};

@@ -3,7 +3,7 @@ use Rattle.std.proofs.Common.{◌≡◌, ℕ, suc, ◌+◌, ◌<◌, List, [], l
 use Rattle.std.proofs.Math.Seq.{drop-cons}
 use Rattle.std.proofs.lemmas.List.{take_more}
 use Rattle.std.specs.Prelude.{Option, Some, None}
-use Rattle.poa_names.specs.declared.Endpoint.{Endpoint}
+use Rattle.poa_base.specs.declared.Endpoint.{Endpoint}
 use Rattle.history_standing.specs.Logs.{forward_from}
 
 -- name by name: what is found below counts, else the endpoint here

@@ -4,7 +4,7 @@ use Rattle.std.proofs.lemmas.Bool.{cond_both, eqb-true}
 use Rattle.std.specs.Prelude.{◌==◌, slice_index_or, slice_get, Some, None}
 use Rattle.poa_base.specs.declared.Config.{Config}
 use Rattle.poa_base.specs.declared.ManagerConf.{ManagerConf}
-use Rattle.poa_names.specs.declared.ManagerState.TheVariants.{Holding}
+use Rattle.poa_base.specs.declared.ManagerState.TheVariants.{Holding}
 use Rattle.core_settings.specs.States.{start_states, state_at}
 use Rattle.history_standing.specs.Logs.{start_of}
 use Rattle.core_settings.specs.Told.{Tells}

@@ -1,8 +1,8 @@
 -- The states of the managers, by their numbers (CORBA 3.3 Part 1, section 15.3.2).
 use Rattle.std.specs.Prelude.{ℕ, List, ◌∷◌, map, slice_index_or}
 use Rattle.poa_base.specs.declared.Config.{Config}
-use Rattle.poa_names.specs.declared.ManagerState.{ManagerState}
-use Rattle.poa_names.specs.declared.ManagerState.TheVariants.{Holding}
+use Rattle.poa_base.specs.declared.ManagerState.{ManagerState}
+use Rattle.poa_base.specs.declared.ManagerState.TheVariants.{Holding}
 
 -- manager 0 is `root`, and the configured ones follow
 abbrev pub start_states : Config → List ManagerState

@@ -1,8 +1,8 @@
 -- What the administrator's commands have set, beside what is configured.
 use Rattle.std.specs.Prelude.{◌≡◌, ℕ, suc, Bool, true, false, List, [], find, length, Option, Some, None, if◌then◌else◌}
 use Rattle.poa_base.specs.declared.Config.{Config}
-use Rattle.poa_names.specs.declared.Endpoint.{Endpoint}
-use Rattle.poa_names.specs.declared.ManagerState.{ManagerState}
+use Rattle.poa_base.specs.declared.Endpoint.{Endpoint}
+use Rattle.poa_base.specs.declared.ManagerState.{ManagerState}
 use Rattle.poa_base.specs.declared.Command.{Command}
 use Rattle.poa_base.specs.declared.Command.TheVariants.{Preset, Forward, Unforward}
 use Rattle.poa_base.specs.declared.Entry.{Entry}

@@ -14,7 +14,7 @@ pub struct Managers {
 
 impl Model for Managers {
     ghost use Rattle.std.specs.Prelude.{List};
-    ghost use Rattle.poa_names.specs.declared.ManagerState.{ManagerState};
+    ghost use Rattle.poa_base.specs.declared.ManagerState.{ManagerState};
 
     ghost Value = { List ManagerState };
 

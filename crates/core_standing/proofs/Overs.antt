@@ -4,7 +4,7 @@ use Rattle.std.specs.List.{list_any}
 use Rattle.std.proofs.Common.{inl, inr, sym, ap, ap₂, subst, ◌∙◌, arith}
 use Rattle.std.proofs.lemmas.Bool.{cond_both, false_from_ne_true, true≢false}
 use Rattle.poa_base.specs.declared.Config.{Config}
-use Rattle.poa_names.specs.declared.Key.{Key}
+use Rattle.poa_base.specs.declared.Key.{Key}
 use Rattle.poa_base.specs.declared.Verdict.{Verdict}
 use Rattle.poa_base.specs.declared.Verdict.TheVariants.{Serve, Preset, Locator, Incarnate, Try, Refuse, Forward, Addressing, Here, Unknown, Answer, Wait}
 use Rattle.poa_base.specs.declared.Entry.{Entry}

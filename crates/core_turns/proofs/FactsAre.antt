@@ -4,7 +4,7 @@ use Rattle.std.specs.Prelude.{Some, length}
 use Rattle.poa_base.specs.declared.Config.{Config}
 use Rattle.poa_base.specs.declared.Call.{Call}
 use Rattle.poa_base.specs.declared.Entry.{Entry}
-use Rattle.poa_names.specs.declared.Key.{Key}
+use Rattle.poa_base.specs.declared.Key.{Key}
 use Rattle.poa_choose.specs.declared.Facts.{Facts}
 use Rattle.poa_choose.specs.declared.KeyFact.{KeyFact}
 use Rattle.poa_tree.specs.declared.found.Found.{Found}

@@ -7,7 +7,7 @@ use Rattle.poa_base.specs.declared.Entry.TheVariants.{Tried, Incarnated, Etherea
 use Rattle.poa_base.specs.declared.Gives.TheVariants.{Fresh as FreshKind, Servant, Forward as ForwardTo, Raise as RaiseThis}
 use Rattle.poa_base.specs.declared.Incarnation.TheVariants.{Double, Named as Brought, Raise}
 use Rattle.poa_base.specs.declared.RuleConf.{RuleConf}
-use Rattle.poa_names.specs.declared.Sid.TheVariants.{Named}
+use Rattle.poa_base.specs.declared.Sid.TheVariants.{Named}
 use Rattle.history_standing.specs.declared.activation.Activation.{Activation}
 use Rattle.history_standing.specs.declared.stage.Stage.{Stage}
 use Rattle.history_standing.specs.declared.stage.Stage.TheVariants.{Free, Trying, Incarnating, Serving, Ran, Removing}

@@ -1,11 +1,11 @@
 -- System exceptions: CORBA 3.3 Part 1, A.5, and Part 2, 9.4.3.2.
 use Rattle.std.specs.Prelude.{ℕ, List, [], ◌∷◌, codes}
 use Rattle.cdr_core.specs.Field.{Field, ulong, text}
-use Rattle.poa_names.specs.declared.ExcName.{ExcName}
-use Rattle.poa_names.specs.declared.ExcName.TheVariants.{ObjectNotExist, Transient, ObjAdapter, BadOperation, Marshal, Unknown}
-use Rattle.poa_names.specs.declared.SysExc.{SysExc}
-use Rattle.poa_names.specs.declared.Completion.{Completion}
-use Rattle.poa_names.specs.declared.Completion.TheVariants.{Yes, No, Maybe}
+use Rattle.poa_base.specs.declared.ExcName.{ExcName}
+use Rattle.poa_base.specs.declared.ExcName.TheVariants.{ObjectNotExist, Transient, ObjAdapter, BadOperation, Marshal, Unknown}
+use Rattle.poa_base.specs.declared.SysExc.{SysExc}
+use Rattle.poa_base.specs.declared.Completion.{Completion}
+use Rattle.poa_base.specs.declared.Completion.TheVariants.{Yes, No, Maybe}
 use Rattle.poa_base.specs.Minors.{completion_of}
 use Rattle.giop_answer.specs.declared.exception.TheConstants.{COMPLETED_YES, COMPLETED_NO, COMPLETED_MAYBE}
 

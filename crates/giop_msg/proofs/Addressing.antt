@@ -4,8 +4,8 @@ use Rattle.std.specs.Prelude.{slice_get}
 use Rattle.cdr_core.specs.Field.{ushort, ulong, octets}
 use Rattle.cdr_core.specs.Cursor.{Cursor, Reads}
 use Rattle.cdr_core.proofs.OneReading.{one_ushort_read, one_ulong_read}
-use Rattle.poa_names.specs.declared.Ior.{Ior}
-use Rattle.poa_names.specs.declared.Profile.{Profile}
+use Rattle.poa_base.specs.declared.Ior.{Ior}
+use Rattle.poa_base.specs.declared.Profile.{Profile}
 use Rattle.ior_profile.specs.Key.{TellsKey}
 use Rattle.ior_profile.specs.Reference.{ReadsIor}
 use Rattle.ior_profile.specs.Tagged.{ReadsProfile}

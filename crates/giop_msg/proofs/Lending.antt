@@ -9,8 +9,8 @@ use Rattle.cdr_core.specs.Cursor.{Cursor}
 use Rattle.cdr_core.specs.Part.{IsSlice, StandsIn, counted_at}
 use Rattle.cdr_core.proofs.Slices.{stands_behind, lies_in_message, slice_of_slice}
 use Rattle.cdr_core.proofs.Lying.{octets_lie, text_lies}
-use Rattle.poa_names.specs.declared.Ior.{Ior}
-use Rattle.poa_names.specs.declared.Profile.{Profile}
+use Rattle.poa_base.specs.declared.Ior.{Ior}
+use Rattle.poa_base.specs.declared.Profile.{Profile}
 use Rattle.poa_base.specs.declared.Body.{Body}
 use Rattle.poa_base.specs.declared.Call.TheVariants.{Request, Locate, Line}
 use Rattle.poa_base.specs.declared.Head.{Head}

@@ -5,7 +5,7 @@ use Rattle.cdr_core.specs.Cursor.{Cursor, Reads}
 use Rattle.cdr_core.proofs.OneReading.{same_cursor}
 use Rattle.cdr_core.specs.Part.{StandsIn}
 use Rattle.cdr_core.proofs.Slices.{stands_behind}
-use Rattle.poa_names.specs.declared.Profile.{Profile}
+use Rattle.poa_base.specs.declared.Profile.{Profile}
 use Rattle.giop_frame.specs.Part.{is_little}
 use Rattle.ior_profile.specs.Tagged.{ReadsProfile, ReadsProfiles}
 use Rattle.giop_answer.specs.declared.kind.TheConstants.{HEADER}

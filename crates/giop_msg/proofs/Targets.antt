@@ -8,7 +8,7 @@ use Rattle.cdr_core.specs.Cursor.{Cursor, Reads}
 use Rattle.cdr_core.specs.Refusal.{Refuses}
 use Rattle.cdr_core.proofs.OneReading.{one_ushort_read, one_ulong_read, one_octets_read}
 use Rattle.cdr_core.proofs.Refusals.{none_where_refused}
-use Rattle.poa_names.specs.declared.Profile.{Profile}
+use Rattle.poa_base.specs.declared.Profile.{Profile}
 use Rattle.ior_profile.specs.Tagged.{ProfileBreaks}
 use Rattle.ior_profile.specs.Reference.{ReadsIor, IorBreaks}
 use Rattle.ior_profile.specs.Key.{TellsKey, HasKey, IsKeyOr}

@@ -4,8 +4,8 @@ use Rattle.std.specs.Prelude.{MatchBool, ⊤, slice_get}
 use Rattle.cdr_core.specs.Field.{octet, ushort, ulong, text, octets}
 use Rattle.cdr_core.specs.Cursor.{Cursor, Reads}
 use Rattle.cdr_core.proofs.OneReading.{one_octet_read, one_ushort_read, one_octets_read, one_text_read}
-use Rattle.poa_names.specs.declared.Ior.{Ior}
-use Rattle.poa_names.specs.declared.Profile.{Profile}
+use Rattle.poa_base.specs.declared.Ior.{Ior}
+use Rattle.poa_base.specs.declared.Profile.{Profile}
 use Rattle.ior_profile.specs.declared.body.ProfileBody.{ProfileBody}
 use Rattle.ior_profile.specs.declared.profile.TheConstants.{TAG_INTERNET_IOP}
 use Rattle.ior_profile.specs.Body.{has_components, Counted, ReadsBody}

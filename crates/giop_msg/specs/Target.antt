@@ -2,8 +2,8 @@
 use Rattle.std.specs.Prelude.{◌≡◌, ℕ, List, [], ◌∷◌, Option, Some}
 use Rattle.cdr_core.specs.Field.{Field, ushort, ulong, octets}
 use Rattle.cdr_core.specs.Cursor.{Cursor, Reads}
-use Rattle.poa_names.specs.declared.Ior.{Ior}
-use Rattle.poa_names.specs.declared.Profile.{Profile}
+use Rattle.poa_base.specs.declared.Ior.{Ior}
+use Rattle.poa_base.specs.declared.Profile.{Profile}
 use Rattle.ior_profile.specs.Tagged.{ReadsProfile}
 use Rattle.ior_profile.specs.Reference.{ReadsIor}
 use Rattle.ior_profile.specs.Key.{TellsKey, HasKey, IsKeyOr}

@@ -2,14 +2,14 @@
 use Rattle.std.specs.Prelude.{◌≡◌, ◌==◌, ℕ, Bool, true, false, not, ◌&&◌, if◌then◌else◌, List, Option, Some, None, ◌⊎◌, refl}
 use Rattle.std.proofs.Common.{inl, inr, sym, subst, ap, ◌∙◌}
 use Rattle.std.proofs.lemmas.Bool.{cond_both, and_parts, and_from, true≢false, not-true, not-false, not_from_false}
-use Rattle.poa_names.specs.Policies.{is_main_thread, is_retain, is_single_thread}
-use Rattle.poa_names.specs.declared.Endpoint.{Endpoint}
-use Rattle.poa_names.specs.declared.ExcName.{ExcName}
-use Rattle.poa_names.specs.declared.ExcName.TheVariants.{ObjAdapter, ObjectNotExist, Transient as Transiently}
-use Rattle.poa_names.specs.declared.ManagerState.{ManagerState}
-use Rattle.poa_names.specs.declared.ManagerState.TheVariants.{Active, Discarding, Holding, Inactive}
-use Rattle.poa_names.specs.declared.Policy.{Policy}
-use Rattle.poa_names.specs.declared.Policy.TheVariants.{DefaultServant, ServantManager}
+use Rattle.poa_base.specs.Policies.{is_main_thread, is_retain, is_single_thread}
+use Rattle.poa_base.specs.declared.Endpoint.{Endpoint}
+use Rattle.poa_base.specs.declared.ExcName.{ExcName}
+use Rattle.poa_base.specs.declared.ExcName.TheVariants.{ObjAdapter, ObjectNotExist, Transient as Transiently}
+use Rattle.poa_base.specs.declared.ManagerState.{ManagerState}
+use Rattle.poa_base.specs.declared.ManagerState.TheVariants.{Active, Discarding, Holding, Inactive}
+use Rattle.poa_base.specs.declared.Policy.{Policy}
+use Rattle.poa_base.specs.declared.Policy.TheVariants.{DefaultServant, ServantManager}
 use Rattle.poa_base.specs.declared.Cause.{Cause}
 use Rattle.poa_base.specs.declared.Cause.TheVariants.{Adapter, Manager as ManagerCause, Trial as TrialCause, Id as IdCause}
 use Rattle.poa_base.specs.declared.Verdict.{Verdict}

@@ -2,8 +2,8 @@
 use Rattle.std.specs.Prelude.{◌≡◌, ℕ, ◌<◌, Bool, true, false, ◌&&◌, ◌||◌, List, ◌∷◌, Option, Some, None, refl}
 use Rattle.std.proofs.Common.{inl, inr, sym, subst, ap, ap₂, ◌∙◌}
 use Rattle.std.proofs.lemmas.Bool.{or_parts}
-use Rattle.poa_names.specs.Policies.{is_retain, is_system_id}
-use Rattle.poa_names.specs.declared.Key.{Key}
+use Rattle.poa_base.specs.Policies.{is_retain, is_system_id}
+use Rattle.poa_base.specs.declared.Key.{Key}
 use Rattle.poa_base.specs.declared.Call.{Call}
 use Rattle.poa_base.specs.declared.Config.{Config}
 use Rattle.poa_base.specs.declared.Entry.{Entry}

@@ -4,8 +4,8 @@ use Rattle.std.proofs.Common.{sym, ap, ◌∙◌, arith}
 use Rattle.std.proofs.lemmas.Bool.{cond_both, true≢false, eqb-true, or_right, and_left, not_from_false}
 use Rattle.poa_base.specs.declared.limits.TheConstants.{UNADMITTED}
 use Rattle.poa_base.specs.declared.Config.{Config}
-use Rattle.poa_names.specs.declared.Key.{Key}
-use Rattle.poa_names.specs.declared.ManagerState.{ManagerState}
+use Rattle.poa_base.specs.declared.Key.{Key}
+use Rattle.poa_base.specs.declared.ManagerState.{ManagerState}
 use Rattle.poa_base.specs.declared.Command.{Command}
 use Rattle.poa_base.specs.declared.Verdict.{Verdict}
 use Rattle.poa_base.specs.declared.Verdict.TheVariants.{Serve, Preset, Locator, Incarnate, Try, Refuse, Forward, Addressing, Here, Unknown, Answer, Wait}

@@ -1,8 +1,8 @@
 -- What blocks a request or a locate (CORBA 3.3 Part 1, sections 15.2.3 and 15.3).
 use Rattle.std.specs.Prelude.{◌≡◌, ℕ, Bool, true, false, if◌then◌else◌, Option, Some, None, ◌⊎◌}
-use Rattle.poa_names.specs.Policies.{is_single_thread, is_main_thread, is_retain}
-use Rattle.poa_names.specs.declared.ManagerState.TheVariants.{Holding, Active as IsActive}
-use Rattle.poa_names.specs.declared.Policy.TheVariants.{ServantManager}
+use Rattle.poa_base.specs.Policies.{is_single_thread, is_main_thread, is_retain}
+use Rattle.poa_base.specs.declared.ManagerState.TheVariants.{Holding, Active as IsActive}
+use Rattle.poa_base.specs.declared.Policy.TheVariants.{ServantManager}
 use Rattle.poa_base.specs.declared.Cause.{Cause}
 use Rattle.poa_base.specs.declared.Cause.TheVariants as causes
 use Rattle.poa_choose.specs.Table.{awaits_turn, is_transient, unmade}

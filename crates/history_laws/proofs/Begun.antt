@@ -5,7 +5,7 @@ use Rattle.poa_base.specs.declared.Entry.{Entry}
 use Rattle.poa_base.specs.declared.Entry.TheVariants.{Admit, Etherealized, Incarnated, TakeOut}
 use Rattle.poa_base.specs.declared.Incarnation.{Incarnation}
 use Rattle.poa_base.specs.declared.Incarnation.TheVariants.{Double, Forward as ForwardTo, Fresh, Named, Raise}
-use Rattle.poa_names.specs.declared.Sid.TheVariants.{Fresh as FreshServant, Named as NamedServant}
+use Rattle.poa_base.specs.declared.Sid.TheVariants.{Fresh as FreshServant, Named as NamedServant}
 use Rattle.poa_base.specs.declared.Verdict.TheVariants.{Incarnate}
 use Rattle.poa_history.proofs.ActivationsFrom.{activating, activating_id, activation_from, begun as activation_begun, incarnating, phase_by, referring, stood as activation_stood}
 use Rattle.poa_history.proofs.AloneKept.{all_open}

@@ -2,16 +2,16 @@
 use Rattle.history_laws.proofs.HeldRows.{is_held, third_false}
 use Rattle.history_laws.proofs.Idle.{first_none, given_none, mapped_none}
 use Rattle.history_laws.specs.Undone.{AreIdle}
-use Rattle.poa_names.specs.Policies.{is_main_thread}
+use Rattle.poa_base.specs.Policies.{is_main_thread}
 use Rattle.poa_base.specs.declared.Call.{Call}
 use Rattle.poa_base.specs.declared.Call.TheVariants.{Line, Locate, Request}
 use Rattle.poa_base.specs.declared.Cause.TheVariants.{Adapter, Manager as ManagerCause}
 use Rattle.poa_base.specs.declared.Config.{Config}
 use Rattle.poa_base.specs.declared.Entry.{Entry}
 use Rattle.poa_base.specs.declared.Entry.TheVariants.{Admit, TakeOut}
-use Rattle.poa_names.specs.declared.ExcName.TheVariants.{ObjectNotExist, Transient as Transiently}
-use Rattle.poa_names.specs.declared.ManagerState.{ManagerState}
-use Rattle.poa_names.specs.declared.ManagerState.TheVariants.{Active, Discarding, Holding, Inactive}
+use Rattle.poa_base.specs.declared.ExcName.TheVariants.{ObjectNotExist, Transient as Transiently}
+use Rattle.poa_base.specs.declared.ManagerState.{ManagerState}
+use Rattle.poa_base.specs.declared.ManagerState.TheVariants.{Active, Discarding, Holding, Inactive}
 use Rattle.poa_base.specs.declared.Verdict.TheVariants.{Addressing}
 use Rattle.poa_base.specs.declared.minors.TheConstants.{ADAPTER_DYING, BAD_KEY, DISCARDED, OTHER_LIFESPAN}
 use Rattle.poa_choose.specs.Table.{awaits_main, awaits_turn, first_row, inactive_rule, key_rows, missing_rows, object_rows, refuse, state_rule, thread_rows, walk_rows}

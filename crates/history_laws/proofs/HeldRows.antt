@@ -1,13 +1,13 @@
 -- Where nothing is in flight or changing, the table of verdicts holds nothing but what a manager in the state HOLDING holds.
-use Rattle.poa_names.specs.Policies.{is_main_thread, is_retain, is_single_thread}
+use Rattle.poa_base.specs.Policies.{is_main_thread, is_retain, is_single_thread}
 use Rattle.poa_base.specs.declared.Cause.TheVariants.{Adapter, Manager as ManagerCause, Trial}
-use Rattle.poa_names.specs.declared.Endpoint.{Endpoint}
-use Rattle.poa_names.specs.declared.ExcName.{ExcName}
-use Rattle.poa_names.specs.declared.ExcName.TheVariants.{ObjAdapter, ObjectNotExist, Transient as Transiently}
-use Rattle.poa_names.specs.declared.ManagerState.{ManagerState}
-use Rattle.poa_names.specs.declared.ManagerState.TheVariants.{Active, Discarding, Holding, Inactive}
-use Rattle.poa_names.specs.declared.Policy.{Policy}
-use Rattle.poa_names.specs.declared.Policy.TheVariants.{DefaultServant, ServantManager}
+use Rattle.poa_base.specs.declared.Endpoint.{Endpoint}
+use Rattle.poa_base.specs.declared.ExcName.{ExcName}
+use Rattle.poa_base.specs.declared.ExcName.TheVariants.{ObjAdapter, ObjectNotExist, Transient as Transiently}
+use Rattle.poa_base.specs.declared.ManagerState.{ManagerState}
+use Rattle.poa_base.specs.declared.ManagerState.TheVariants.{Active, Discarding, Holding, Inactive}
+use Rattle.poa_base.specs.declared.Policy.{Policy}
+use Rattle.poa_base.specs.declared.Policy.TheVariants.{DefaultServant, ServantManager}
 use Rattle.poa_base.specs.declared.Verdict.TheVariants.{Addressing, Here, Incarnate, Try}
 use Rattle.poa_base.specs.declared.minors.TheConstants.{ADAPTER_DYING, BAD_KEY, DISCARDED, MANAGER_INACTIVE, NOT_ACTIVE, NO_ADAPTER, NO_SERVANT_MANAGER, OTHER_LIFESPAN}
 use Rattle.poa_choose.specs.Table.{activator_rows, awaits_main, awaits_turn, default_rows, first_row, forward_or, found_rows, inactive_rule, is_transient, key_rows, located_rows, locator_rows, manager_rows, map_rows, missing_rows, object_rows, processing_rows, refuse, state_rule, thread_rows, trial_rows, unmade, walk_rows}

@@ -6,7 +6,7 @@ use Rattle.history_laws.specs.Undone.{AreIdle}
 use Rattle.poa_base.specs.declared.Config.{Config}
 use Rattle.poa_base.specs.declared.Entry.{Entry}
 use Rattle.poa_base.specs.declared.Entry.TheVariants.{Done, Etherealized, Incarnated, Run, TakeOut, Tried}
-use Rattle.poa_names.specs.declared.Sid.{Sid}
+use Rattle.poa_base.specs.declared.Sid.{Sid}
 use Rattle.poa_history.proofs.ActivationsLater.{begun_phase}
 use Rattle.poa_history.proofs.GoneIs.{some_in, gone_done, stands_ungone}
 use Rattle.poa_history.proofs.LegalSound.{legal_sound}

@@ -13,7 +13,7 @@ use Rattle.poa_base.specs.declared.Incarnation.TheVariants.{Forward as ForwardTo
 use Rattle.poa_base.specs.declared.Kind.{Kind}
 use Rattle.poa_base.specs.declared.Kind.TheVariants.{Fault as FaultKind}
 use Rattle.poa_base.specs.declared.RuleConf.{RuleConf}
-use Rattle.poa_names.specs.declared.Sid.TheVariants.{Fresh as FreshServant}
+use Rattle.poa_base.specs.declared.Sid.TheVariants.{Fresh as FreshServant}
 use Rattle.poa_base.specs.declared.Verdict.TheVariants.{Addressing, Answer as AnswerNow, Forward, Here, Incarnate, Locator, Preset, Refuse, Serve, Try, Unknown, Wait}
 use Rattle.poa_history.proofs.ActivationsFrom.{activating, activating_id, activation_from, begun as activation_begun, incarnating, phase_by, referring, stood as activation_stood}
 use Rattle.poa_history.proofs.ActivationsLater.{step_later}

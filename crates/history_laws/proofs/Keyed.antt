@@ -3,15 +3,15 @@
 use Rattle.history_laws.proofs.Begun.{let_same, next_number}
 use Rattle.history_laws.specs.Keyed.{Reaches, Fits, IsKeyed}
 use Rattle.history_laws.proofs.RunRows.{is_loose, ties}
-use Rattle.poa_names.specs.Policies.{is_retain, is_servant_manager}
+use Rattle.poa_base.specs.Policies.{is_retain, is_servant_manager}
 use Rattle.poa_base.specs.declared.Attempt.TheVariants.{Dying as ParentDying, No as NoChild, Raised, Yes}
 use Rattle.poa_base.specs.declared.Call.{Call}
 use Rattle.poa_base.specs.declared.Call.TheVariants.{Line, Locate, Request}
 use Rattle.poa_base.specs.declared.Config.{Config}
 use Rattle.poa_base.specs.declared.Entry.{Entry}
 use Rattle.poa_base.specs.declared.Entry.TheVariants.{Abandon, Admit, Arrive, Collect, Done, Entered, Etherealized, Filled, Incarnated, Left, Run, TakeOut, Tried}
-use Rattle.poa_names.specs.declared.Key.{Key}
-use Rattle.poa_names.specs.declared.Sid.{Sid}
+use Rattle.poa_base.specs.declared.Key.{Key}
+use Rattle.poa_base.specs.declared.Sid.{Sid}
 use Rattle.poa_base.specs.declared.Verdict.{Verdict}
 use Rattle.poa_base.specs.declared.Verdict.TheVariants.{Addressing, Answer as AnswerNow, Forward, Here, Incarnate, Locator, Preset, Refuse, Serve, Try, Unknown, Wait}
 use Rattle.poa_choose.specs.Laws.{runs}

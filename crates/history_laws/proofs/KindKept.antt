@@ -5,8 +5,8 @@ use Rattle.poa_base.specs.declared.Call.TheVariants.{Line, Locate, Request}
 use Rattle.poa_base.specs.declared.Entry.{Entry}
 use Rattle.poa_base.specs.declared.Kind.{Kind}
 use Rattle.poa_base.specs.declared.Kind.TheVariants.{Echo as EchoKind, Fault as FaultKind, Log, Register as RegisterKind}
-use Rattle.poa_names.specs.declared.State.{State}
-use Rattle.poa_names.specs.declared.State.TheVariants.{Book, Echo, Fault, Register}
+use Rattle.poa_base.specs.declared.State.{State}
+use Rattle.poa_base.specs.declared.State.TheVariants.{Book, Echo, Fault, Register}
 use Rattle.poa_history.specs.States.{Stored, acted, is_of_kind, opening_state, restored}
 use Rattle.servant_kinds.specs.Act.{act_of}
 use Rattle.std.proofs.Common.{ap}

@@ -3,8 +3,8 @@ use Rattle.history_laws.specs.OneLine.{IsOneLine, calls_on, line_opening, line_s
 use Rattle.poa_base.specs.declared.Config.{Config}
 use Rattle.poa_base.specs.declared.Entry.{Entry}
 use Rattle.poa_base.specs.declared.Kind.{Kind}
-use Rattle.poa_names.specs.declared.Sid.TheVariants.{Fresh as FreshServant, Named as NamedServant}
-use Rattle.poa_names.specs.declared.State.{State}
+use Rattle.poa_base.specs.declared.Sid.TheVariants.{Fresh as FreshServant, Named as NamedServant}
+use Rattle.poa_base.specs.declared.State.{State}
 use Rattle.poa_history.proofs.ActivationsFrom.{Brings, IsStep, Tells, activating, activating_id, activation_from, begun as activation_begun, incarnating, referring, stood as activation_stood}
 use Rattle.poa_history.proofs.ActivationsLater.{step_later}
 use Rattle.poa_history.proofs.AloneKept.{of_servant}

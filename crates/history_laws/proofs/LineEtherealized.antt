@@ -8,9 +8,9 @@ use Rattle.poa_base.specs.declared.Config.{Config}
 use Rattle.poa_base.specs.declared.Entry.{Entry}
 use Rattle.poa_base.specs.declared.Entry.TheVariants.{Etherealized, Incarnated}
 use Rattle.poa_base.specs.declared.Kind.{Kind}
-use Rattle.poa_names.specs.declared.Sid.{Sid}
-use Rattle.poa_names.specs.declared.Sid.TheVariants.{Fresh as FreshServant}
-use Rattle.poa_names.specs.declared.State.{State}
+use Rattle.poa_base.specs.declared.Sid.{Sid}
+use Rattle.poa_base.specs.declared.Sid.TheVariants.{Fresh as FreshServant}
+use Rattle.poa_base.specs.declared.State.{State}
 use Rattle.poa_history.proofs.ActivationsFrom.{Brings, Tells}
 use Rattle.poa_history.proofs.LegalSound.{legal_sound}
 use Rattle.poa_history.proofs.MannedKept.{all_manned}

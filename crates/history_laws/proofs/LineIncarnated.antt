@@ -11,9 +11,9 @@ use Rattle.poa_base.specs.declared.Incarnation.{Incarnation}
 use Rattle.poa_base.specs.declared.Incarnation.TheVariants.{Double, Forward as ForwardTo, Fresh, Named, Raise}
 use Rattle.poa_base.specs.declared.Kind.{Kind}
 use Rattle.poa_base.specs.declared.RuleConf.{RuleConf}
-use Rattle.poa_names.specs.declared.Sid.TheVariants.{Fresh as FreshServant, Named as NamedServant}
-use Rattle.poa_names.specs.declared.State.{State}
-use Rattle.poa_names.specs.declared.State.TheVariants.{Fault}
+use Rattle.poa_base.specs.declared.Sid.TheVariants.{Fresh as FreshServant, Named as NamedServant}
+use Rattle.poa_base.specs.declared.State.{State}
+use Rattle.poa_base.specs.declared.State.TheVariants.{Fault}
 use Rattle.poa_history.proofs.ActivationsFrom.{Brings, Tells}
 use Rattle.poa_history.proofs.LegalSound.{legal_sound}
 use Rattle.poa_history.proofs.MannedKept.{all_manned}

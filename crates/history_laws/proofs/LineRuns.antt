@@ -10,9 +10,9 @@ use Rattle.poa_base.specs.declared.Entry.{Entry}
 use Rattle.poa_base.specs.declared.Entry.TheVariants.{Etherealized, Incarnated, Run}
 use Rattle.poa_base.specs.declared.Kind.{Kind}
 use Rattle.poa_base.specs.declared.Reply.TheVariants.{Outcome as Ended}
-use Rattle.poa_names.specs.declared.Sid.{Sid}
-use Rattle.poa_names.specs.declared.Sid.TheVariants.{Fresh as FreshServant, Named as NamedServant}
-use Rattle.poa_names.specs.declared.State.{State}
+use Rattle.poa_base.specs.declared.Sid.{Sid}
+use Rattle.poa_base.specs.declared.Sid.TheVariants.{Fresh as FreshServant, Named as NamedServant}
+use Rattle.poa_base.specs.declared.State.{State}
 use Rattle.poa_base.specs.declared.Verdict.{Verdict}
 use Rattle.poa_base.specs.declared.Verdict.TheVariants.{Incarnate, Locator, Preset, Serve}
 use Rattle.poa_choose.specs.Laws.{runs}

@@ -11,7 +11,7 @@ use Rattle.poa_base.specs.declared.Entry.{Entry}
 use Rattle.poa_base.specs.declared.Entry.TheVariants.{Abandon, Admit, Arrive, Collect, Done, Entered, Etherealized, Filled, Incarnated, Left, Run, TakeOut, Tried}
 use Rattle.poa_base.specs.declared.Incarnation.{Incarnation}
 use Rattle.poa_base.specs.declared.Kind.{Kind}
-use Rattle.poa_names.specs.declared.Sid.TheVariants.{Fresh as FreshServant}
+use Rattle.poa_base.specs.declared.Sid.TheVariants.{Fresh as FreshServant}
 use Rattle.poa_history.proofs.LegalSound.{legal_sound}
 use Rattle.poa_history.specs.Alone.{IsGivenAlone}
 use Rattle.poa_history.specs.Bounds.{IsWithinLimits}

@@ -1,13 +1,13 @@
 -- Where an adapter keeps its objects and has a servant manager, no default servant and no locator's servant runs.
-use Rattle.poa_names.specs.Policies.{is_retain, is_servant_manager}
+use Rattle.poa_base.specs.Policies.{is_retain, is_servant_manager}
 use Rattle.poa_base.specs.declared.Cause.TheVariants.{Adapter, Trial}
-use Rattle.poa_names.specs.declared.Endpoint.{Endpoint}
-use Rattle.poa_names.specs.declared.ExcName.{ExcName}
-use Rattle.poa_names.specs.declared.ExcName.TheVariants.{ObjAdapter, ObjectNotExist, Transient as Transiently}
-use Rattle.poa_names.specs.declared.ManagerState.{ManagerState}
-use Rattle.poa_names.specs.declared.ManagerState.TheVariants.{Active, Discarding, Holding, Inactive}
-use Rattle.poa_names.specs.declared.Policy.{Policy}
-use Rattle.poa_names.specs.declared.Policy.TheVariants.{DefaultServant, ServantManager}
+use Rattle.poa_base.specs.declared.Endpoint.{Endpoint}
+use Rattle.poa_base.specs.declared.ExcName.{ExcName}
+use Rattle.poa_base.specs.declared.ExcName.TheVariants.{ObjAdapter, ObjectNotExist, Transient as Transiently}
+use Rattle.poa_base.specs.declared.ManagerState.{ManagerState}
+use Rattle.poa_base.specs.declared.ManagerState.TheVariants.{Active, Discarding, Holding, Inactive}
+use Rattle.poa_base.specs.declared.Policy.{Policy}
+use Rattle.poa_base.specs.declared.Policy.TheVariants.{DefaultServant, ServantManager}
 use Rattle.poa_base.specs.declared.Verdict.TheVariants.{Here, Incarnate, Locator, Preset, Refuse, Serve, Try, Unknown}
 use Rattle.poa_base.specs.declared.minors.TheConstants.{ADAPTER_DYING, BAD_KEY, DISCARDED, MANAGER_INACTIVE, NOT_ACTIVE, NO_ADAPTER, NO_SERVANT_MANAGER, OTHER_LIFESPAN}
 use Rattle.poa_choose.specs.Table.{activator_rows, awaits_main, awaits_turn, first_row, forward_or, inactive_rule, is_transient, key_rows, locator_rows, manager_rows, map_rows, object_rows, processing_rows, refuse, state_rule, thread_rows, trial_rows, unmade, walk_rows}
@@ -23,7 +23,7 @@ use Rattle.poa_choose.specs.declared.WalkFact.TheVariants.{Dying as MeetsDying, 
 use Rattle.std.proofs.Common.{◌∙◌, sym}
 use Rattle.std.proofs.lemmas.Bool.{cond_both, true≢false}
 use Rattle.std.specs.Prelude.{◌≡◌, Bool, None, Option, Some, false, if◌then◌else◌, not, refl, true, ℕ}
-use Rattle.poa_names.specs.declared.Completion.TheVariants.{No as NotCompleted}
+use Rattle.poa_base.specs.declared.Completion.TheVariants.{No as NotCompleted}
 
 -- a default servant or a locator's
 abbrev pub is_loose : Choice → Bool

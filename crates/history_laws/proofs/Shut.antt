@@ -10,7 +10,7 @@ use Rattle.poa_base.specs.declared.Command.{Command}
 use Rattle.poa_base.specs.declared.Command.TheVariants.{Activate, ActivateId, Bad as BadLine, Create, Deactivate, Destroy, Forward as ForwardLine, Manager, Preset as PresetLine, Reference, Shutdown, Unforward}
 use Rattle.poa_base.specs.declared.Config.{Config}
 use Rattle.poa_base.specs.declared.Entry.{Entry}
-use Rattle.poa_names.specs.declared.ExcName.TheVariants.{Transient as Transiently}
+use Rattle.poa_base.specs.declared.ExcName.TheVariants.{Transient as Transiently}
 use Rattle.poa_base.specs.declared.minors.TheConstants.{DISCARDED}
 use Rattle.poa_choose.specs.Table.{first_row, key_rows, refuse, walk_rows}
 use Rattle.poa_choose.specs.declared.Facts.{Facts}

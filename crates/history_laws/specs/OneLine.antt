@@ -5,13 +5,13 @@ use Rattle.poa_base.specs.declared.Config.{Config}
 use Rattle.poa_base.specs.declared.Entry.{Entry}
 use Rattle.poa_base.specs.declared.Entry.TheVariants.{Admit, Run}
 use Rattle.poa_base.specs.declared.Gives.TheVariants.{Fresh as FreshKind}
-use Rattle.poa_names.specs.declared.Key.{Key}
+use Rattle.poa_base.specs.declared.Key.{Key}
 use Rattle.poa_base.specs.declared.Kind.{Kind}
 use Rattle.poa_base.specs.declared.Reply.{Reply}
 use Rattle.poa_base.specs.declared.Reply.TheVariants.{Outcome as Ended}
 use Rattle.poa_base.specs.declared.RuleConf.{RuleConf}
-use Rattle.poa_names.specs.declared.Sid.TheVariants.{Fresh as FreshServant}
-use Rattle.poa_names.specs.declared.State.{State}
+use Rattle.poa_base.specs.declared.Sid.TheVariants.{Fresh as FreshServant}
+use Rattle.poa_base.specs.declared.State.{State}
 use Rattle.poa_base.specs.declared.Verdict.TheVariants.{Incarnate}
 use Rattle.history_standing.specs.Arrivals.{call_of}
 use Rattle.poa_history.specs.Changes.{standing}

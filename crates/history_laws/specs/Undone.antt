@@ -6,7 +6,7 @@ use Rattle.poa_base.specs.declared.Command.TheVariants.{Shutdown}
 use Rattle.poa_base.specs.declared.Config.{Config}
 use Rattle.poa_base.specs.declared.Entry.{Entry}
 use Rattle.poa_base.specs.declared.Entry.TheVariants.{Etherealized}
-use Rattle.poa_names.specs.declared.ManagerState.TheVariants.{Holding}
+use Rattle.poa_base.specs.declared.ManagerState.TheVariants.{Holding}
 use Rattle.poa_choose.specs.Table.{first_row}
 use Rattle.poa_choose.specs.declared.Choice.TheVariants.{Held}
 use Rattle.history_standing.specs.Arrivals.{arrivals, call_of, is_message}

@@ -5,8 +5,8 @@ use Rattle.std.proofs.Math.Seq.{append_snoc}
 use Rattle.std.proofs.lemmas.Bool.{and_parts, true≢false, false_from_ne_true}
 use Rattle.poa_base.specs.declared.Config.{Config}
 use Rattle.poa_base.specs.declared.ObjectConf.{ObjectConf}
-use Rattle.poa_names.specs.declared.Sid.{Sid}
-use Rattle.poa_names.specs.declared.Sid.TheVariants.{Named}
+use Rattle.poa_base.specs.declared.Sid.{Sid}
+use Rattle.poa_base.specs.declared.Sid.TheVariants.{Named}
 use Rattle.conf_rules.specs.Entries.{EachAfter}
 use Rattle.conf_rules.specs.Objects.{IsObject, id_key, servant_key}
 use Rattle.conf_rules.specs.Parents.{IsBoot}

@@ -4,10 +4,10 @@ use Rattle.std.proofs.Common.{inl, inr, sym, ap, ◌∙◌}
 use Rattle.std.proofs.lemmas.Bool.{and_parts, or_cases, false≢true}
 use Rattle.poa_base.specs.declared.Config.{Config}
 use Rattle.poa_base.specs.declared.AdapterConf.{AdapterConf}
-use Rattle.poa_names.specs.declared.Policy.{Policy}
-use Rattle.poa_names.specs.declared.Policy.TheVariants.{UniqueId}
-use Rattle.poa_names.specs.declared.PolicySet.{PolicySet}
-use Rattle.poa_names.specs.Policies.{is_unique_id, is_multiple_id, is_system_id, is_implicit, is_retain}
+use Rattle.poa_base.specs.declared.Policy.{Policy}
+use Rattle.poa_base.specs.declared.Policy.TheVariants.{UniqueId}
+use Rattle.poa_base.specs.declared.PolicySet.{PolicySet}
+use Rattle.poa_base.specs.Policies.{is_unique_id, is_multiple_id, is_system_id, is_implicit, is_retain}
 use Rattle.poa_policy.specs.Rules.{needs}
 use Rattle.poa_policy.specs.declared.Rule.TheVariants.{ImplicitMakesIds}
 use Rattle.conf_rules.specs.Adapters.{IsAdapter}

@@ -4,8 +4,8 @@ use Rattle.std.specs.List.{list_any}
 use Rattle.std.specs.Int.{w32, from_be_bytes}
 use Rattle.poa_base.specs.declared.limits.TheConstants.{ADAPTERS}
 use Rattle.poa_base.specs.declared.Config.{Config}
-use Rattle.poa_names.specs.declared.ManagerState.{ManagerState}
-use Rattle.poa_names.specs.declared.ManagerState.TheVariants.{Inactive}
+use Rattle.poa_base.specs.declared.ManagerState.{ManagerState}
+use Rattle.poa_base.specs.declared.ManagerState.TheVariants.{Inactive}
 use Rattle.poa_base.specs.declared.Command.{Command}
 use Rattle.poa_base.specs.declared.Command.TheVariants.{Manager, Create, Destroy, Activate, ActivateId, Deactivate, Reference, Preset, Forward, Unforward, Shutdown, Bad}
 use Rattle.poa_base.specs.declared.Order.{Order}
@@ -16,7 +16,7 @@ use Rattle.poa_base.specs.declared.Verdict.TheVariants.{Answer, Wait}
 use Rattle.poa_base.specs.declared.Answer.TheVariants.{Good, GoodId, GoodIor, No}
 use Rattle.poa_base.specs.declared.Reason.{Reason}
 use Rattle.poa_base.specs.declared.Reason.TheVariants.{NoManager, AdapterInactive, AdapterNonExistent, NoTemplate, AdapterAlreadyExists, TooMany, WrongPolicy, NoServant, ServantAlreadyActive, BadId, ObjectAlreadyActive, ObjectNotActive, ServantNotActive, NoForward, BadWord}
-use Rattle.poa_names.specs.declared.Sid.TheVariants.{Named}
+use Rattle.poa_base.specs.declared.Sid.TheVariants.{Named}
 use Rattle.poa_tree.specs.declared.node.Node.{Node}
 use Rattle.history_standing.specs.declared.activation.Activation.{Activation}
 use Rattle.poa_tree.specs.Paths.{parent_path}

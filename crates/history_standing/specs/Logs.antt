@@ -1,9 +1,9 @@
 -- What the administrator's commands have set: manager states, default servants, endpoints.
 use Rattle.std.specs.Prelude.{ℕ, pred, Bool, true, false, ◌==◌, if◌then◌else◌, List, [], ◌∷◌, ◌++◌, find, Option, Some, None, option_map, option_and_then, slice_get}
 use Rattle.poa_base.specs.declared.Config.{Config}
-use Rattle.poa_names.specs.declared.Endpoint.{Endpoint}
-use Rattle.poa_names.specs.declared.ManagerState.{ManagerState}
-use Rattle.poa_names.specs.declared.ManagerState.TheVariants.{Holding, Active, Discarding, Inactive}
+use Rattle.poa_base.specs.declared.Endpoint.{Endpoint}
+use Rattle.poa_base.specs.declared.ManagerState.{ManagerState}
+use Rattle.poa_base.specs.declared.ManagerState.TheVariants.{Holding, Active, Discarding, Inactive}
 use Rattle.poa_base.specs.declared.Call.{Call}
 use Rattle.poa_base.specs.declared.Call.TheVariants.{Line}
 use Rattle.poa_base.specs.declared.Command.{Command}

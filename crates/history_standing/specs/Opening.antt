@@ -4,7 +4,7 @@ use Rattle.std.specs.Int.{w32, to_be_bytes}
 use Rattle.poa_base.specs.declared.Config.{Config}
 use Rattle.poa_base.specs.declared.AdapterConf.{AdapterConf}
 use Rattle.poa_base.specs.declared.ObjectConf.{ObjectConf}
-use Rattle.poa_names.specs.declared.Sid.TheVariants.{Named}
+use Rattle.poa_base.specs.declared.Sid.TheVariants.{Named}
 use Rattle.history_standing.specs.declared.activation.Phase.{Phase}
 use Rattle.history_standing.specs.declared.activation.Phase.TheVariants.{Complete}
 use Rattle.history_standing.specs.Standings.{Standing}

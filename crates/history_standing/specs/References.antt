@@ -1,7 +1,7 @@
 -- The reference of an object, as `reference` answers it and as the configured objects have it.
 use Rattle.std.specs.Prelude.{ℕ, List, [], Some, None, slice_get, if◌then◌else◌}
 use Rattle.poa_base.specs.declared.Config.{Config}
-use Rattle.poa_names.specs.declared.Key.{Key}
+use Rattle.poa_base.specs.declared.Key.{Key}
 use Rattle.ior_text.specs.Reference.{reference_text as reference_at}
 use Rattle.servant_kinds.specs.Object.{type_id_of}
 use Rattle.history_standing.specs.Templates.{policies_at, lasts}

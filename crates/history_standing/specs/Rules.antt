@@ -3,11 +3,11 @@ use Rattle.std.specs.Prelude.{ℕ, Bool, true, false, ◌&&◌, List, find, Opti
 use Rattle.poa_base.specs.declared.Config.{Config}
 use Rattle.poa_base.specs.declared.RuleConf.{RuleConf}
 use Rattle.poa_base.specs.declared.Gives.TheVariants.{Fresh as FreshKind, Servant, Forward as ForwardTo, Raise as RaiseThis}
-use Rattle.poa_names.specs.declared.SysExc.{SysExc}
-use Rattle.poa_names.specs.declared.ExcName.TheVariants.{ObjectNotExist}
-use Rattle.poa_names.specs.declared.Completion.TheVariants.{No as NotCompleted}
+use Rattle.poa_base.specs.declared.SysExc.{SysExc}
+use Rattle.poa_base.specs.declared.ExcName.TheVariants.{ObjectNotExist}
+use Rattle.poa_base.specs.declared.Completion.TheVariants.{No as NotCompleted}
 use Rattle.poa_base.specs.declared.minors.TheConstants.{NOT_ACTIVE}
-use Rattle.poa_names.specs.declared.Sid.TheVariants.{Named as NamedServant}
+use Rattle.poa_base.specs.declared.Sid.TheVariants.{Named as NamedServant}
 use Rattle.poa_base.specs.declared.Incarnation.{Incarnation}
 use Rattle.poa_base.specs.declared.Incarnation.TheVariants.{Fresh, Named, Double, Forward, Raise}
 use Rattle.poa_choose.specs.declared.Located.{Located}

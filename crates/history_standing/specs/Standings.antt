@@ -1,8 +1,8 @@
 -- What stands after a history: adapters, what is in flight, activations (CORBA 3.3 Part 1, sections 15.2 and 15.3).
 use Rattle.std.specs.Prelude.{ℕ, Bool, true, false, not, ◌&&◌, ◌==◌, List, Some, None}
 use Rattle.std.specs.List.{list_any}
-use Rattle.poa_names.specs.declared.Sid.{Sid}
-use Rattle.poa_names.specs.declared.Sid.TheVariants.{Named, Fresh}
+use Rattle.poa_base.specs.declared.Sid.{Sid}
+use Rattle.poa_base.specs.declared.Sid.TheVariants.{Named, Fresh}
 use Rattle.poa_tree.specs.declared.node.Node.{Node}
 use Rattle.history_standing.specs.declared.flight.Flight.{Flight}
 use Rattle.history_standing.specs.declared.activation.Activation.{Activation}

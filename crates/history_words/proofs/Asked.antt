@@ -7,7 +7,7 @@ use Rattle.poa_base.specs.declared.Config.{Config}
 use Rattle.poa_base.specs.declared.Children.{Children}
 use Rattle.poa_base.specs.declared.Children.TheVariants.{Create, Refuse as RefuseChild, Raise as RaiseInstead}
 use Rattle.poa_base.specs.declared.limits.TheConstants.{ADAPTERS}
-use Rattle.poa_names.specs.declared.Key.{Key}
+use Rattle.poa_base.specs.declared.Key.{Key}
 use Rattle.poa_base.specs.declared.Attempt.TheVariants.{Yes, No, Raised, Dying as ParentDying}
 use Rattle.poa_base.specs.declared.Entry.{Entry}
 use Rattle.poa_base.specs.declared.Entry.TheVariants.{Entered, Arrive, Filled, Left, Collect, Admit, Tried, Incarnated}

@@ -7,7 +7,7 @@ use Rattle.poa_base.specs.declared.Command.TheVariants.{Manager, Destroy, Shutdo
 use Rattle.poa_base.specs.declared.Order.TheVariants.{Deactivate as DeactivateAll}
 use Rattle.poa_base.specs.declared.Entry.{Entry}
 use Rattle.poa_base.specs.declared.Entry.TheVariants.{TakeOut, Etherealized}
-use Rattle.poa_names.specs.declared.Sid.{Sid}
+use Rattle.poa_base.specs.declared.Sid.{Sid}
 use Rattle.history_standing.specs.declared.activation.Activation.{Activation}
 use Rattle.history_standing.specs.declared.activation.Phase.TheVariants.{Complete}
 use Rattle.history_standing.specs.declared.stage.Stage.TheVariants.{Removing}

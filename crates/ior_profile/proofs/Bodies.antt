@@ -9,7 +9,7 @@ use Rattle.cdr_core.specs.Cursor.{Cursor, Reads}
 use Rattle.cdr_core.specs.Refusal.{Refuses}
 use Rattle.cdr_core.proofs.OneReading.{one_octet_read, one_ushort_read, one_text_read, one_octets_read}
 use Rattle.cdr_core.proofs.Refusals.{none_where_refused}
-use Rattle.poa_names.specs.declared.Profile.{Profile}
+use Rattle.poa_base.specs.declared.Profile.{Profile}
 use Rattle.ior_profile.specs.declared.body.ProfileBody.{ProfileBody}
 use Rattle.ior_profile.specs.Encapsulation.{inside}
 use Rattle.ior_profile.specs.Body.{has_components, Counted, ReadsBody, HasBody}

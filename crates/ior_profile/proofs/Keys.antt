@@ -3,8 +3,8 @@ use Rattle.std.proofs.Common.{◌≡◌, ℕ, List, Option, Some, None, refl, sy
 use Rattle.std.specs.Prelude.{slice_get}
 use Rattle.cdr_core.specs.Cursor.{Cursor}
 use Rattle.cdr_core.proofs.OneReading.{one_octets_read}
-use Rattle.poa_names.specs.declared.Ior.{Ior}
-use Rattle.poa_names.specs.declared.Profile.{Profile}
+use Rattle.poa_base.specs.declared.Ior.{Ior}
+use Rattle.poa_base.specs.declared.Profile.{Profile}
 use Rattle.ior_profile.specs.declared.body.ProfileBody.{ProfileBody}
 use Rattle.ior_profile.specs.Body.{ReadsBody, HasBody}
 use Rattle.ior_profile.specs.Key.{TellsKey, HasKey, IsKeyOr}

@@ -3,8 +3,8 @@ use Rattle.std.proofs.Common.{◌≡◌, ℕ, ◌<◌, List, [], ◌∷◌, leng
 use Rattle.cdr_core.specs.Field.{ulong, text, octets}
 use Rattle.cdr_core.specs.Cursor.{Cursor, Reads}
 use Rattle.cdr_core.proofs.OneReading.{one_ulong_read, one_octets_read, one_text_read}
-use Rattle.poa_names.specs.declared.Ior.{Ior}
-use Rattle.poa_names.specs.declared.Profile.{Profile}
+use Rattle.poa_base.specs.declared.Ior.{Ior}
+use Rattle.poa_base.specs.declared.Profile.{Profile}
 use Rattle.ior_profile.specs.Tagged.{ReadsProfile, ProfileBreaks, ReadsProfiles}
 use Rattle.ior_profile.specs.Reference.{ReadsIor, IorBreaks}
 

@@ -1,7 +1,7 @@
 -- One more profile behind the others.
 use Rattle.std.proofs.Common.{List, [], ◌∷◌, ◌++◌, refl, subst}
 use Rattle.cdr_core.specs.Cursor.{Cursor}
-use Rattle.poa_names.specs.declared.Profile.{Profile}
+use Rattle.poa_base.specs.declared.Profile.{Profile}
 use Rattle.ior_profile.specs.Tagged.{ReadsProfile, ReadsProfiles}
 
 pub reads_push : (ps : List Profile) (p : Profile) (c behind after : Cursor) → ReadsProfiles ps c behind → ReadsProfile p behind after

@@ -3,7 +3,7 @@
 use Rattle.std.specs.Prelude.{◌≡◌, ℕ, nat_lt, ◌==◌, ◌||◌, ◌&&◌, nat_le, Bool, List, Some, MatchBool, ⊤}
 use Rattle.cdr_core.specs.Field.{octet, ushort, ulong, text, octets}
 use Rattle.cdr_core.specs.Cursor.{Cursor, Reads}
-use Rattle.poa_names.specs.declared.Profile.{Profile}
+use Rattle.poa_base.specs.declared.Profile.{Profile}
 use Rattle.ior_profile.specs.declared.body.ProfileBody.{ProfileBody}
 use Rattle.ior_profile.specs.declared.profile.TheConstants.{TAG_INTERNET_IOP}
 use Rattle.ior_profile.specs.Encapsulation.{inside}

@@ -1,7 +1,7 @@
 -- The object key that a profile or a reference tells.
 use Rattle.std.specs.Prelude.{◌≡◌, ℕ, List, Option, Some, MatchOption, slice_get}
-use Rattle.poa_names.specs.declared.Ior.{Ior}
-use Rattle.poa_names.specs.declared.Profile.{Profile}
+use Rattle.poa_base.specs.declared.Ior.{Ior}
+use Rattle.poa_base.specs.declared.Profile.{Profile}
 use Rattle.ior_profile.specs.declared.body.ProfileBody.{ProfileBody}
 use Rattle.ior_profile.specs.Body.{HasBody}
 

@@ -3,8 +3,8 @@ use Rattle.std.specs.Prelude.{ℕ, List, [], ◌∷◌, false}
 use Rattle.cdr_core.specs.Field.{Field, octet, ushort, ulong, text, octets}
 use Rattle.cdr_core.specs.Draft.{empty_draft}
 use Rattle.cdr_core.specs.Fields.{with_fields}
-use Rattle.poa_names.specs.declared.Endpoint.{Endpoint}
-use Rattle.poa_names.specs.declared.Profile.{Profile}
+use Rattle.poa_base.specs.declared.Endpoint.{Endpoint}
+use Rattle.poa_base.specs.declared.Profile.{Profile}
 use Rattle.ior_profile.specs.declared.profile.TheConstants.{TAG_INTERNET_IOP}
 
 -- the byte order, big-endian; version 1.2; the host, the port and the object's key; no components

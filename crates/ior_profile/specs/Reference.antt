@@ -3,7 +3,7 @@ use Rattle.std.specs.Prelude.{ℕ, List, length, ◌⊎◌}
 use Rattle.cdr_core.specs.Kind.{Text, ULong}
 use Rattle.cdr_core.specs.Field.{text, ulong}
 use Rattle.cdr_core.specs.Cursor.{Cursor, Reads}
-use Rattle.poa_names.specs.declared.Ior.{Ior}
+use Rattle.poa_base.specs.declared.Ior.{Ior}
 use Rattle.ior_profile.specs.Breaking.{Breaks}
 use Rattle.ior_profile.specs.Tagged.{ReadsProfiles, ProfilesBreak}
 

@@ -3,7 +3,7 @@ use Rattle.std.specs.Prelude.{◌≡◌, ℕ, ◌<◌, List, [], ◌∷◌, leng
 use Rattle.cdr_core.specs.Kind.{ULong, Octets}
 use Rattle.cdr_core.specs.Field.{ulong, octets}
 use Rattle.cdr_core.specs.Cursor.{Cursor, Reads}
-use Rattle.poa_names.specs.declared.Profile.{Profile}
+use Rattle.poa_base.specs.declared.Profile.{Profile}
 use Rattle.ior_profile.specs.Breaking.{Breaks}
 
 -- one profile

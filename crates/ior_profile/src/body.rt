@@ -1,6 +1,6 @@
 //! The data of an IIOP profile.
 ghost use Rattle.std.specs.Prelude.{◌≡◌, ◌≢◌, ⊤, true, None, IfOk, IfErr, OnOk, OnErr, MatchOption, MatchBool};
-ghost use Rattle.poa_names.specs.declared.Profile.{Profile};
+ghost use Rattle.poa_base.specs.declared.Profile.{Profile};
 ghost use Rattle.ior_profile.specs.declared.body.ProfileBody.{ProfileBody};
 ghost use Rattle.ior_profile.specs.Body.{has_components, Counted, ReadsBody, HasBody};
 

@@ -1,8 +1,8 @@
 -- The line of a key. A line ends with LF, 10.
 use Rattle.std.specs.Prelude.{◌≡◌, ◌≢◌, ℕ, List, [], ◌∷◌, ◌++◌, codes, decimal, Option, Some, None, if◌then◌else◌, ◌⊎◌}
 use Rattle.std.specs.List.{list_all}
-use Rattle.poa_names.specs.declared.Key.{Key}
-use Rattle.poa_names.specs.declared.Stamp.{Stamp}
+use Rattle.poa_base.specs.declared.Key.{Key}
+use Rattle.poa_base.specs.declared.Stamp.{Stamp}
 use Rattle.object_key.specs.Spelling.{key_spelling, IsKey}
 use Rattle.text_words.specs.Path.{path_text}
 use Rattle.ior_show.specs.Printed.{is_plain, hexed}

@@ -1,7 +1,7 @@
 -- The printed form of a reference: its type, and a line or two for each profile. A line ends with LF, 10.
 use Rattle.std.specs.Prelude.{◌≡◌, ℕ, ◌+◌, List, [], ◌∷◌, ◌++◌, codes, decimal, ◌⊎◌}
-use Rattle.poa_names.specs.declared.Ior.{Ior}
-use Rattle.poa_names.specs.declared.Profile.{Profile}
+use Rattle.poa_base.specs.declared.Ior.{Ior}
+use Rattle.poa_base.specs.declared.Profile.{Profile}
 use Rattle.ior_profile.specs.declared.ProfileBody.{ProfileBody}
 use Rattle.ior_profile.specs.Body.{HasBody}
 use Rattle.ior_show.specs.Printed.{hexed, printed}

@@ -2,7 +2,7 @@
 use Rattle.std.proofs.Common.{◌≡◌, ℕ, List, Result, Ok, Err, refl, sym, ◌∙◌, ap, subst, ◌⊎◌, inl, inr}
 use Rattle.std.specs.Prelude.{IfOk, IfErr}
 use Rattle.cdr_core.specs.Cursor.{Cursor}
-use Rattle.poa_names.specs.declared.Ior.{Ior}
+use Rattle.poa_base.specs.declared.Ior.{Ior}
 use Rattle.ior_text.specs.declared.fault.IorFault.{IorFault}
 use Rattle.ior_text.specs.declared.fault.IorFault.TheVariants.{NoPrefix, OddDigits, BadDigit, Malformed, WantMemory}
 use Rattle.ior_profile.specs.Reference.{ReadsIor, IorBreaks}

@@ -3,7 +3,7 @@ use Rattle.std.proofs.Common.{◌≡◌, ℕ, ◌+◌, ◌<◌, List, [], ◌∷
 use Rattle.std.proofs.lemmas.List.{take_more}
 use Rattle.cdr_core.specs.Field.{ulong, octets}
 use Rattle.cdr_core.specs.Draft.{Draft, with_field}
-use Rattle.poa_names.specs.declared.Profile.{Profile}
+use Rattle.poa_base.specs.declared.Profile.{Profile}
 use Rattle.ior_text.specs.Written.{with_profile, with_profiles}
 
 pub with_profiles-push : (ps : List Profile) (p : Profile) (d : Draft) → with_profiles (ps ++ p ∷ []) d ≡ with_profile p (with_profiles ps d)

@@ -10,8 +10,8 @@ use Rattle.cdr_core.specs.Spelling.{written}
 use Rattle.cdr_core.specs.Cursor.{Cursor, Reads}
 use Rattle.cdr_core.specs.Draft.{Draft, empty_draft, with_field}
 use Rattle.cdr_core.proofs.Written.{written_reads_back}
-use Rattle.poa_names.specs.declared.Ior.{Ior}
-use Rattle.poa_names.specs.declared.Profile.{Profile}
+use Rattle.poa_base.specs.declared.Ior.{Ior}
+use Rattle.poa_base.specs.declared.Profile.{Profile}
 use Rattle.ior_profile.specs.Encapsulation.{inside}
 use Rattle.ior_profile.specs.Tagged.{ReadsProfiles}
 use Rattle.ior_text.specs.Encapsulation.{Encloses}

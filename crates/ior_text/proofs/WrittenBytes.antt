@@ -6,7 +6,7 @@ use Rattle.hex.specs.Hex.{IsBytes}
 use Rattle.cdr_core.specs.Field.{ulong, text, octets}
 use Rattle.cdr_core.specs.Spelling.{gap, number_bytes, written}
 use Rattle.cdr_core.specs.Draft.{Draft}
-use Rattle.poa_names.specs.declared.Profile.{Profile}
+use Rattle.poa_base.specs.declared.Profile.{Profile}
 use Rattle.ior_text.specs.Written.{with_profile, with_profiles, IsProfile}
 
 pub IsBytes-append : (a b : List ℕ) → IsBytes a → IsBytes b → IsBytes (a ++ b)

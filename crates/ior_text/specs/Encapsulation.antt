@@ -1,7 +1,7 @@
 -- A reference in an encapsulation (CORBA 3.3 Part 2, 9.3.3 and 7.6.2). Bytes behind the reference are ignored.
 use Rattle.std.specs.Prelude.{◌≡◌, ℕ, List, Some, None, ◌⊎◌}
 use Rattle.cdr_core.specs.Cursor.{Cursor}
-use Rattle.poa_names.specs.declared.Ior.{Ior}
+use Rattle.poa_base.specs.declared.Ior.{Ior}
 use Rattle.ior_profile.specs.Encapsulation.{inside}
 use Rattle.ior_profile.specs.Reference.{ReadsIor, IorBreaks}
 use Rattle.ior_text.specs.declared.fault.IorFault.{IorFault}

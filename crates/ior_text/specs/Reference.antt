@@ -1,8 +1,8 @@
 -- The text of an object's reference: CORBA 3.3 Part 2, 7.6.9 and 9.7.2.
 use Rattle.std.specs.Prelude.{ℕ, List, [], ◌∷◌}
-use Rattle.poa_names.specs.declared.Endpoint.{Endpoint}
-use Rattle.poa_names.specs.declared.Ior.{Ior}
-use Rattle.poa_names.specs.declared.Key.{Key}
+use Rattle.poa_base.specs.declared.Endpoint.{Endpoint}
+use Rattle.poa_base.specs.declared.Ior.{Ior}
+use Rattle.poa_base.specs.declared.Key.{Key}
 use Rattle.object_key.specs.Spelling.{key_spelling}
 use Rattle.ior_profile.specs.Profile.{profile_of}
 use Rattle.ior_text.specs.Written.{ior_text}

@@ -3,8 +3,8 @@ use Rattle.std.specs.Prelude.{ℕ, ◌+◌, ◌^◌, ◌<◌, false, List, [], �
 use Rattle.hex.specs.Hex.{encode_lower, IsBytes}
 use Rattle.cdr_core.specs.Field.{octet, ulong, text, octets}
 use Rattle.cdr_core.specs.Draft.{Draft, empty_draft, with_field}
-use Rattle.poa_names.specs.declared.Ior.{Ior}
-use Rattle.poa_names.specs.declared.Profile.{Profile}
+use Rattle.poa_base.specs.declared.Ior.{Ior}
+use Rattle.poa_base.specs.declared.Profile.{Profile}
 
 -- a tag and the profile's data
 abbrev pub with_profile : Profile → Draft → Draft

@@ -1,6 +1,6 @@
 //! What holds of all texts.
 ghost use Rattle.std.specs.Prelude.{◌≡◌, List, ℕ, Result};
-ghost use Rattle.poa_names.specs.declared.Ior.{Ior};
+ghost use Rattle.poa_base.specs.declared.Ior.{Ior};
 ghost use Rattle.ior_text.specs.declared.fault.IorFault.{IorFault};
 ghost use Rattle.ior_text.specs.Text.{TextGives};
 

@@ -1,6 +1,6 @@
 //! From a text to a reference.
 ghost use Rattle.std.specs.Prelude.{◌≡◌, ◌⊎◌, IfOk, IfErr, Ok, Err, Result};
-ghost use Rattle.poa_names.specs.declared.Ior.{Ior};
+ghost use Rattle.poa_base.specs.declared.Ior.{Ior};
 ghost use Rattle.ior_text.specs.declared.fault.IorFault.{IorFault};
 ghost use Rattle.ior_text.specs.Text.{behind_prefix, bytes_of, digit_fault, TextGives};
 ghost use Rattle.ior_text.specs.Written.{ior_text, IsIor};

@@ -1,8 +1,8 @@
 -- The words of a row give the row, and tell it from an entry.
 use Rattle.std.proofs.Common.{◌≡◌, ℕ, List, [], ◌∷◌, map, Some, None, refl}
 use Rattle.std.specs.Prelude.{codes}
-use Rattle.poa_names.specs.declared.State.{State}
-use Rattle.poa_names.specs.declared.State.TheVariants.{Register, Book, Echo, Fault}
+use Rattle.poa_base.specs.declared.State.{State}
+use Rattle.poa_base.specs.declared.State.TheVariants.{Register, Book, Echo, Fault}
 use Rattle.poa_base.specs.Store.{Place}
 use Rattle.text_words.specs.Token.{AllFit, texts, path, identity}
 use Rattle.text_words.proofs.ReadBack.{path_back, printed_id_back, signed_back, prefixed_back}

@@ -1,8 +1,8 @@
 -- The rows of a store, a line each: `store PATH OID STATE`.
 use Rattle.std.specs.Prelude.{ℕ, List, [], ◌∷◌, codes, map, Option, Some, None, if◌then◌else◌}
 use Rattle.std.specs.Str.{bytes_eq}
-use Rattle.poa_names.specs.declared.State.{State}
-use Rattle.poa_names.specs.declared.State.TheVariants.{Register, Book, Echo, Fault}
+use Rattle.poa_base.specs.declared.State.{State}
+use Rattle.poa_base.specs.declared.State.TheVariants.{Register, Book, Echo, Fault}
 use Rattle.poa_base.specs.Store.{Place}
 use Rattle.text_words.specs.Chain.{◌>>=◌}
 use Rattle.text_words.specs.Keyword.{named_in}

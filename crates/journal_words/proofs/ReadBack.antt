@@ -11,9 +11,9 @@ use Rattle.poa_base.specs.declared.Attempt.{Attempt}
 use Rattle.poa_base.specs.declared.Attempt.TheVariants as attempt
 use Rattle.poa_base.specs.declared.Incarnation.{Incarnation}
 use Rattle.poa_base.specs.declared.Incarnation.TheVariants as incarnation
-use Rattle.poa_names.specs.declared.ExcName.{ExcName}
-use Rattle.poa_names.specs.declared.ExcName.TheVariants as exception
-use Rattle.poa_names.specs.declared.SysExc.{SysExc}
+use Rattle.poa_base.specs.declared.ExcName.{ExcName}
+use Rattle.poa_base.specs.declared.ExcName.TheVariants as exception
+use Rattle.poa_base.specs.declared.SysExc.{SysExc}
 use Rattle.admin_line.specs.declared.Source.TheVariants.{Journal}
 use Rattle.journal_words.specs.Fixed.{call_word, order_word, order_for, is_little, ruling_word, trial_word, bringing_word, mark_word, exception_word}
 use Rattle.poa_base.specs.Minors.{completion_of}

@@ -1,8 +1,8 @@
 -- System exceptions in a journal: the standard name, and the minor in eight hexadecimal digits.
 use Rattle.std.specs.Prelude.{◌≡◌, ℕ, List, [], ◌∷◌, Option, None}
 use Rattle.poa_base.specs.Minors.{completion_of}
-use Rattle.poa_names.specs.declared.ExcName.{ExcName}
-use Rattle.poa_names.specs.declared.SysExc.{SysExc}
+use Rattle.poa_base.specs.declared.ExcName.{ExcName}
+use Rattle.poa_base.specs.declared.SysExc.{SysExc}
 use Rattle.std.specs.Option.{option_map}
 use Rattle.text_words.specs.Chain.{◌>>=◌}
 use Rattle.text_words.specs.Keyword.{named_in}

@@ -1,9 +1,9 @@
 -- The fixed words of calls, verdicts and outcomes, and those that stand alone at their place.
 use Rattle.std.specs.Prelude.{ℕ, Bool, true, false, List, [], ◌∷◌, codes, Option, Some, None, if◌then◌else◌}
 use Rattle.std.specs.Str.{bytes_eq}
-use Rattle.poa_names.specs.declared.ExcName.{ExcName}
+use Rattle.poa_base.specs.declared.ExcName.{ExcName}
 use Rattle.journal_words.specs.declared.fixed.Raised.{Raised}
-use Rattle.poa_names.specs.declared.ExcName.TheVariants as exception
+use Rattle.poa_base.specs.declared.ExcName.TheVariants as exception
 use Rattle.journal_words.specs.declared.fixed.CallKind.{CallKind}
 use Rattle.journal_words.specs.declared.fixed.CallKind.TheVariants as call
 use Rattle.journal_words.specs.declared.fixed.ByteOrder.{ByteOrder}

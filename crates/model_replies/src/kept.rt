@@ -1,7 +1,7 @@
 //! The states of the servants, and what is stored.
 ghost use Rattle.std.specs.Prelude.{◌≡◌, reverse, option_copied, unwrap_or, IfOk};
 ghost use Rattle.poa_base.specs.Store.{stored as stored_at_opening};
-ghost use Rattle.poa_names.specs.declared.State.TheVariants.{Fault};
+ghost use Rattle.poa_base.specs.declared.State.TheVariants.{Fault};
 ghost use Rattle.poa_history.specs.States as states;
 ghost use Rattle.model_replies.specs.Kept as keeps;
 

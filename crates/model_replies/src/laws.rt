@@ -2,7 +2,7 @@
 ghost use Rattle.std.specs.Prelude.{◌≡◌, ℕ, List};
 ghost use Rattle.poa_base.specs.declared.Config.{Config};
 ghost use Rattle.poa_base.specs.declared.Entry.{Entry};
-ghost use Rattle.poa_names.specs.declared.Sid.{Sid};
+ghost use Rattle.poa_base.specs.declared.Sid.{Sid};
 ghost use Rattle.poa_history.specs.States.{Stored, state_of, stored};
 ghost use Rattle.model_replies.specs.Kept.{kept, state_in, stored_in};
 

@@ -2,9 +2,9 @@
 use Rattle.std.proofs.Common.{◌≡◌, ◌≢◌, ℕ, ◌<◌, ◌^◌, List, [], ◌++◌, length, arith, append-nil, sym, ◌∙◌, ap, Option, Some, None}
 use Rattle.std.specs.Prelude.{IfSome, IfNone}
 use Rattle.std.proofs.lemmas.List.{append_cancel_left}
-use Rattle.poa_names.specs.declared.Key.{Key}
-use Rattle.poa_names.specs.declared.Stamp.{Stamp}
-use Rattle.poa_names.specs.Limits.{IsOid}
+use Rattle.poa_base.specs.declared.Key.{Key}
+use Rattle.poa_base.specs.declared.Stamp.{Stamp}
+use Rattle.poa_base.specs.Limits.{IsOid}
 use Rattle.object_key.specs.Spelling.{key_mark, stamp_bytes, path_bytes, oid_bytes, key_spelling, IsStamp, ArePathNames, IsKey}
 use Rattle.object_key.specs.Reading.{KeyReads}
 use Rattle.object_key.proofs.OneReading.{one_stamp, one_path, one_oid}

@@ -5,7 +5,7 @@ use Rattle.std.proofs.Math.Seq.{take-append_seam, drop-append_seam}
 use Rattle.std.proofs.lemmas.List.{take_more, append_cancel_left, take-append-drop, length-take}
 use Rattle.std.proofs.lemmas.List.Elements.{All-more, All-head, All-tail, All-append, All-cons, All-nil}
 use Rattle.std.proofs.lemmas.Grind.{flat_map-append}
-use Rattle.poa_names.specs.Limits.{IsName}
+use Rattle.poa_base.specs.Limits.{IsName}
 use Rattle.object_key.specs.Spelling.{name_bytes}
 use Rattle.object_key.specs.Lent.{SpellsNames}
 use Rattle.object_key.specs.Reading.{KeyReads, ReadsNone, AreNames, names_bytes, names_of}

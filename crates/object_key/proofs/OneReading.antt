@@ -2,7 +2,7 @@
 use Rattle.std.proofs.Common.{◌≡◌, ℕ, ◌<◌, ◌^◌, List, [], ◌∷◌, ◌++◌, length, refl, sym, ◌∙◌, ap, ap₂, arith, append_assoc, Option, Some, None}
 use Rattle.std.specs.Int.{w16, w32, to_be_bytes, from_be_bytes}
 use Rattle.std.proofs.lemmas.Nat.{from_be_bytes-to_be_bytes_2, from_be_bytes-to_be_bytes_4}
-use Rattle.poa_names.specs.declared.Stamp.{Stamp}
+use Rattle.poa_base.specs.declared.Stamp.{Stamp}
 use Rattle.object_key.specs.Spelling.{stamp_bytes, name_bytes, path_bytes, oid_bytes, IsStamp}
 use Rattle.object_key.specs.Reading.{names_bytes}
 

@@ -1,6 +1,6 @@
 -- Where the parts of a key lie: each is the slice of the bytes at the place that the spelling gives it.
 use Rattle.std.specs.Prelude.{◌≡◌, ℕ, ◌+◌, ◌<◌, List, [], length, take, drop, get_or}
-use Rattle.poa_names.specs.declared.Key.{Key}
+use Rattle.poa_base.specs.declared.Key.{Key}
 use Rattle.object_key.specs.Spelling.{key_mark, stamp_bytes}
 use Rattle.object_key.specs.Reading.{AreNames, names_bytes, names_of}
 

@@ -1,7 +1,7 @@
 -- What a reader of one part of a key finds at the front of a text.
 use Rattle.std.specs.Prelude.{◌≡◌, ℕ, zero, suc, List, [], ◌∷◌, ◌++◌, length, take, drop, All}
 use Rattle.std.specs.List.{flat_map}
-use Rattle.poa_names.specs.Limits.{IsName}
+use Rattle.poa_base.specs.Limits.{IsName}
 use Rattle.object_key.specs.Spelling.{name_bytes}
 
 -- the text begins with the bytes of a value within its limits, and the rest stands behind them

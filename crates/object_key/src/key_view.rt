@@ -1,6 +1,6 @@
 //! A key that is seen where it lies.
 ghost use Rattle.std.specs.Prelude.{◌≡◌, [], None, IfOk};
-ghost use Rattle.poa_names.specs.Limits.{IsOid};
+ghost use Rattle.poa_base.specs.Limits.{IsOid};
 
 use crate::path_view::PathView;
 use poa_base::{Key, Oid, Stamp, WantMemory};
@@ -16,8 +16,8 @@ pub struct KeyView<'a> {
 }
 
 impl<'a> Model for KeyView<'a> {
-    ghost use Rattle.poa_names.specs.declared.Key.{Key};
-    ghost use Rattle.poa_names.specs.Limits.{IsOid};
+    ghost use Rattle.poa_base.specs.declared.Key.{Key};
+    ghost use Rattle.poa_base.specs.Limits.{IsOid};
 
     ghost Value = { Key };
 

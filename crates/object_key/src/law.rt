@@ -1,6 +1,6 @@
 //! What holds of all keys.
 ghost use Rattle.std.specs.Prelude.{◌≡◌};
-ghost use Rattle.poa_names.specs.declared.Key.{Key};
+ghost use Rattle.poa_base.specs.declared.Key.{Key};
 ghost use Rattle.object_key.specs.Spelling.{key_spelling, IsKey};
 
 /// No two keys have one spelling.

@@ -1,6 +1,6 @@
 //! From octets to a key: what is seen, copied.
 ghost use Rattle.std.specs.Prelude.{◌≡◌, ◌≢◌, IfOk, MatchResult};
-ghost use Rattle.poa_names.specs.declared.Key.{Key};
+ghost use Rattle.poa_base.specs.declared.Key.{Key};
 ghost use Rattle.object_key.specs.Spelling.{key_spelling, IsKey};
 
 use crate::fault::KeyFault;

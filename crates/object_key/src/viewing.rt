@@ -1,11 +1,10 @@
 //! From octets to a key that is seen where it lies.
 ghost use Rattle.std.specs.Prelude.{◌≡◌, ◌≢◌, ◌++◌, ℕ, List, Some, IfSome, IfNone};
-ghost use Rattle.poa_names.specs.declared.Key.{Key};
-ghost use Rattle.poa_names.specs.Limits.{IsOid};
+ghost use Rattle.poa_base.specs.declared.Key.{Key};
+ghost use Rattle.poa_base.specs.Limits.{IsOid, IsName};
 ghost use Rattle.object_key.specs.Spelling.{key_mark, stamp_bytes, name_bytes, path_bytes, oid_bytes, key_spelling, IsStamp, ArePathNames, IsKey};
 ghost use Rattle.object_key.specs.Reading.{KeyReads, ReadsNone, AreNames, names_bytes, names_of};
 ghost use Rattle.object_key.specs.Lent.{LendsKey};
-ghost use Rattle.poa_names.specs.Limits.{IsName};
 
 use crate::key_view::KeyView;
 use crate::path_view::PathView;

@@ -1,7 +1,7 @@
 //! From a key to its octets.
 ghost use Rattle.std.specs.Prelude.{◌≡◌, ◌++◌, IfOk, OnOk};
 ghost use Rattle.object_key.specs.Spelling.{stamp_bytes, name_bytes, path_bytes, oid_bytes, key_spelling, IsStamp, ArePathNames, IsKey};
-ghost use Rattle.poa_names.specs.Limits.{IsOid, IsName};
+ghost use Rattle.poa_base.specs.Limits.{IsOid, IsName};
 
 use poa_base::{Bytes, Key, Name, Oid, Path, Stamp, WantMemory};
 use std::alloc::Global;

@@ -9,7 +9,7 @@ use Rattle.std.specs.List.Sorted.{IsStrictlySortedBy}
 use Rattle.std.specs.Map.{keys_of}
 use Rattle.std.specs.Ordering.{ordering_then}
 use Rattle.std.specs.declared.cmp.Ordering.TheVariants.{Less}
-use Rattle.poa_names.specs.declared.servant.State.{State}
+use Rattle.poa_base.specs.declared.servant.State.{State}
 use Rattle.poa_base.specs.Shelves.{Shelves, placed, flat, slots_of, IsInOrder, IsShelved}
 use Rattle.poa_base.specs.Store.{Place, Slots, oid_cmp, path_cmp, place_cmp, with_place, states}
 use Rattle.poa_base.proofs.Shelves.{path_total, place_total}

@@ -11,7 +11,7 @@ use Rattle.std.specs.Ordering.{is_eq, ordering_then, eq_by_cmp, match_ordering}
 use Rattle.std.specs.BTreeMap.{is_at, insert_entry}
 use Rattle.std.specs.declared.cmp.Ordering.{Ordering}
 use Rattle.std.specs.declared.cmp.Ordering.TheVariants.{Less, Equal, Greater}
-use Rattle.poa_names.specs.declared.servant.State.{State}
+use Rattle.poa_base.specs.declared.servant.State.{State}
 use Rattle.poa_base.specs.Shelves.{Shelves, Shelf, placed, flat, slots_of, on_shelf, IsInOrder, IsShelved}
 use Rattle.poa_base.specs.Store.{Place, Slots, IsReserved, filled, stored, with_room, oid_cmp, path_cmp, place_cmp}
 

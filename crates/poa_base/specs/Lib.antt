@@ -1,3 +1,5 @@
+pub mod Limits
+pub mod Policies
 pub mod Minors
 pub mod Rows
 pub mod Shelves

@@ -1,5 +1,5 @@
 -- What a row of a store shows.
-use Rattle.poa_names.specs.declared.servant.State.{State}
+use Rattle.poa_base.specs.declared.servant.State.{State}
 use Rattle.poa_base.specs.declared.store.Row.{Row}
 use Rattle.poa_base.specs.Store.{Place}
 

@@ -5,7 +5,7 @@ use Rattle.std.specs.List.Sorted.{IsStrictlySortedBy}
 use Rattle.std.specs.Map.{keys_of, lookup}
 use Rattle.std.specs.FinMap as finite
 use Rattle.std.specs.BTreeMap.{BTreeMap, is_at}
-use Rattle.poa_names.specs.declared.servant.State.{State}
+use Rattle.poa_base.specs.declared.servant.State.{State}
 use Rattle.poa_base.specs.Store.{Place, Slots, oid_cmp, path_cmp}
 
 abbrev pub Shelf : Type 0

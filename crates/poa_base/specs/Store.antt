@@ -8,7 +8,7 @@ use Rattle.std.specs.declared.cmp.Ordering.{Ordering}
 use Rattle.std.specs.Cmp.Lexicographic.{slice_cmp}
 use Rattle.std.specs.FinMap as finite
 use Rattle.std.specs.FinMap.{FinMap}
-use Rattle.poa_names.specs.declared.servant.State.{State}
+use Rattle.poa_base.specs.declared.servant.State.{State}
 
 -- where a state is stored: an adapter's path, and an object id
 abbrev pub Place : Type 0

@@ -1,5 +1,7 @@
 //! The answers to an administrator's commands.
-use poa_names::{Bytes, Oid, TryClone};
+use crate::bytes::Bytes;
+use crate::copy::TryClone;
+use crate::oid::Oid;
 use std::alloc::AllocError;
 
 /// The answer to a command.

@@ -1,5 +1,9 @@
 //! The administrator's commands.
-use poa_names::{Endpoint, Name, Oid, Path, TryClone};
+use crate::copy::TryClone;
+use crate::endpoint::Endpoint;
+use crate::name::Name;
+use crate::oid::Oid;
+use crate::path::Path;
 use std::alloc::AllocError;
 
 /// What a manager is told to do.

@@ -1,5 +1,14 @@
 //! A configuration, with its names turned into numbers.
-use poa_names::{Bytes, Endpoint, Items, ManagerState, Name, Oid, Path, PolicySet, State, SysExc};
+use crate::bytes::Bytes;
+use crate::endpoint::Endpoint;
+use crate::exception::SysExc;
+use crate::items::Items;
+use crate::manager::ManagerState;
+use crate::name::Name;
+use crate::oid::Oid;
+use crate::path::Path;
+use crate::policy::PolicySet;
+use crate::servant::State;
 
 /// What a server is configured with. Manager 0 is `root`, and the configured managers follow from 1
 /// on; a servant's number is its place in `servants`, from 0 on.

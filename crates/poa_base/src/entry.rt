@@ -1,7 +1,10 @@
 //! The entries of a history.
+use crate::copy::TryClone;
+use crate::endpoint::Endpoint;
+use crate::exception::SysExc;
 use crate::message::Call;
+use crate::name::Name;
 use crate::verdict::Verdict;
-use poa_names::{Endpoint, Name, SysExc, TryClone};
 use std::alloc::AllocError;
 
 /// What the adapter activator answered: CORBA 3.3 Part 1, chapter 15, AdapterActivator.

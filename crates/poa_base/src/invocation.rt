@@ -1,7 +1,10 @@
 //! What is asked of a servant, and what is answered.
 use crate::answer::Answer;
+use crate::bytes::Bytes;
+use crate::copy::TryClone;
+use crate::endpoint::Endpoint;
+use crate::exception::SysExc;
 use crate::message::Head;
-use poa_names::{Bytes, Endpoint, SysExc, TryClone};
 use std::alloc::AllocError;
 
 /// A request to be written by a client.

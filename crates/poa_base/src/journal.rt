@@ -1,7 +1,7 @@
 //! The journal of a run.
 use crate::entry::Entry;
+use crate::items::Items;
 use crate::store::Store;
-use poa_names::Items;
 
 /// A history from its opening on.
 #[derive(Drop)]

@@ -1,6 +1,7 @@
 //! The calls that come in: requests and locates of GIOP, and an administrator's lines.
+use crate::bytes::Bytes;
 use crate::command::Command;
-use poa_names::{Bytes, TryClone};
+use crate::copy::TryClone;
 use std::alloc::AllocError;
 
 /// What a reply needs of the message that it answers: CORBA 3.3 Part 2, chapter 9.

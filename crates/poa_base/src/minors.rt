@@ -4,7 +4,7 @@
 ghost use Rattle.std.specs.Prelude.{◌≡◌};
 ghost use Rattle.poa_base.specs.Minors as told;
 
-use poa_names::Completion;
+use crate::exception::Completion;
 
 /// TRANSIENT 1 of the OMG: the manager discards requests, or too many calls stood unadmitted.
 pub const DISCARDED: u32 = 0x4F4D_0001;

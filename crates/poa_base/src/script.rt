@@ -1,6 +1,9 @@
 //! The lines of a script that is replayed.
+use crate::bytes::Bytes;
 use crate::invocation::Datum;
-use poa_names::{Bytes, Name, Oid, Path};
+use crate::name::Name;
+use crate::oid::Oid;
+use crate::path::Path;
 
 /// A line of a script.
 #[derive(Drop)]

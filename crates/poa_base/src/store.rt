@@ -3,7 +3,7 @@ ghost use Rattle.std.specs.Prelude.{◌≡◌, ◌++◌, [], map, ℕ, List, Opt
 ghost use Rattle.std.specs.BTreeMap as tree;
 ghost use Rattle.std.specs.BTreeMap.{is_at};
 ghost use Rattle.std.specs.Ordering.{is_eq};
-ghost use Rattle.poa_names.specs.declared.servant.State.{State};
+ghost use Rattle.poa_base.specs.declared.servant.State.{State};
 ghost use Rattle.poa_base.specs.Rows.{row_seen};
 ghost use Rattle.poa_base.specs.Shelves.{IsInOrder, placed};
 ghost use Rattle.std.specs.List.{filter_map};
@@ -11,7 +11,10 @@ ghost use Rattle.std.specs.Option.{option_copied};
 ghost use Rattle.std.specs.FinMap as finite;
 ghost use Rattle.poa_base.specs.Store.{Slots, filled, oid_cmp, place_cmp, stored, IsReserved, with_place, with_room, with_state, states};
 
-use poa_names::{Oid, Path, State, TryClone};
+use crate::copy::TryClone;
+use crate::oid::Oid;
+use crate::path::Path;
+use crate::servant::State;
 use std::alloc::{AllocError, Global};
 use std::collections::BTreeMap;
 use std::marker::Model;
@@ -32,7 +35,7 @@ pub struct Store {
 }
 
 impl Model for Store {
-    ghost use Rattle.poa_names.specs.contracts.servant.State as state;
+    ghost use Rattle.poa_base.specs.contracts.servant.State as state;
     ghost use Rattle.std.specs.Coded.{coded×, coded_list, coded_option, coded_ℕ};
     ghost use Rattle.std.specs.FinMap as finite;
     ghost use Rattle.poa_base.specs.Store.{Slots};

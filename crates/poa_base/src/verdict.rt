@@ -1,6 +1,9 @@
 //! What is decided on a call.
 use crate::answer::Answer;
-use poa_names::{Endpoint, Name, SysExc, TryClone};
+use crate::copy::TryClone;
+use crate::endpoint::Endpoint;
+use crate::exception::SysExc;
+use crate::name::Name;
 use std::alloc::AllocError;
 
 /// What is done with a call when it is admitted.

@@ -1,15 +1,15 @@
 -- What holds of each choice that a locate may get, holds of every choice for a locate.
 use Rattle.std.proofs.Common.{◌≡◌, ℕ, true, false, List, Option, None, Some, not, sym, ◌∙◌}
 use Rattle.std.proofs.lemmas.Bool.{cond_both, true≢false}
-use Rattle.poa_names.specs.Policies.{is_retain}
-use Rattle.poa_names.specs.declared.Endpoint.{Endpoint}
-use Rattle.poa_names.specs.declared.ExcName.{ExcName}
+use Rattle.poa_base.specs.Policies.{is_retain}
+use Rattle.poa_base.specs.declared.Endpoint.{Endpoint}
+use Rattle.poa_base.specs.declared.ExcName.{ExcName}
 use Rattle.poa_base.specs.declared.Verdict.{Verdict}
 use Rattle.poa_base.specs.declared.Verdict.TheVariants.{Try, Forward, Addressing, Here, Unknown}
-use Rattle.poa_names.specs.declared.ManagerState.{ManagerState}
-use Rattle.poa_names.specs.declared.ManagerState.TheVariants.{Holding, Active, Discarding, Inactive}
-use Rattle.poa_names.specs.declared.Policy.{Policy}
-use Rattle.poa_names.specs.declared.Policy.TheVariants.{DefaultServant, ServantManager}
+use Rattle.poa_base.specs.declared.ManagerState.{ManagerState}
+use Rattle.poa_base.specs.declared.ManagerState.TheVariants.{Holding, Active, Discarding, Inactive}
+use Rattle.poa_base.specs.declared.Policy.{Policy}
+use Rattle.poa_base.specs.declared.Policy.TheVariants.{DefaultServant, ServantManager}
 use Rattle.poa_base.specs.declared.Cause.{Cause}
 use Rattle.poa_choose.specs.declared.facts.Choice.{Choice}
 use Rattle.poa_choose.specs.declared.facts.Choice.TheVariants.{Go, Held}

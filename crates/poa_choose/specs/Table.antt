@@ -1,16 +1,16 @@
 -- The verdict on a request or a locate, by its facts: the first row that applies. The rows stand in
 -- groups, and the last row of a group hands on to the next group.
 use Rattle.std.specs.Prelude.{◌==◌, ℕ, Bool, true, false, ◌&&◌, not, List, Option, None, Some, if◌then◌else◌}
-use Rattle.poa_names.specs.Policies.{is_single_thread, is_main_thread, is_system_id, is_retain}
+use Rattle.poa_base.specs.Policies.{is_single_thread, is_main_thread, is_system_id, is_retain}
 use Rattle.poa_base.specs.declared.Cause.TheVariants.{Manager, Adapter, Id, Trial}
-use Rattle.poa_names.specs.declared.Completion.TheVariants.{No}
-use Rattle.poa_names.specs.declared.Endpoint.{Endpoint}
-use Rattle.poa_names.specs.declared.ExcName.{ExcName}
-use Rattle.poa_names.specs.declared.ExcName.TheVariants.{ObjectNotExist, Transient as Transiently, ObjAdapter}
-use Rattle.poa_names.specs.declared.ManagerState.{ManagerState}
-use Rattle.poa_names.specs.declared.ManagerState.TheVariants.{Holding, Active, Discarding, Inactive}
-use Rattle.poa_names.specs.declared.Policy.{Policy}
-use Rattle.poa_names.specs.declared.Policy.TheVariants.{DefaultServant, ServantManager}
+use Rattle.poa_base.specs.declared.Completion.TheVariants.{No}
+use Rattle.poa_base.specs.declared.Endpoint.{Endpoint}
+use Rattle.poa_base.specs.declared.ExcName.{ExcName}
+use Rattle.poa_base.specs.declared.ExcName.TheVariants.{ObjectNotExist, Transient as Transiently, ObjAdapter}
+use Rattle.poa_base.specs.declared.ManagerState.{ManagerState}
+use Rattle.poa_base.specs.declared.ManagerState.TheVariants.{Holding, Active, Discarding, Inactive}
+use Rattle.poa_base.specs.declared.Policy.{Policy}
+use Rattle.poa_base.specs.declared.Policy.TheVariants.{DefaultServant, ServantManager}
 use Rattle.poa_base.specs.declared.Verdict.{Verdict}
 use Rattle.poa_base.specs.declared.Verdict.TheVariants.{Serve, Preset, Locator, Incarnate, Try, Refuse, Forward, Addressing, Here, Unknown}
 use Rattle.poa_base.specs.declared.minors.TheConstants.{DISCARDED, ADAPTER_DYING, NO_DEFAULT_SERVANT, NO_SERVANT_MANAGER, NO_ADAPTER, BAD_KEY, OTHER_LIFESPAN, NOT_ACTIVE, MANAGER_INACTIVE}

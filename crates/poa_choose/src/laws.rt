@@ -1,6 +1,6 @@
 //! What the table of verdicts says of every call, for those who stand on it without its rows.
 ghost use Rattle.std.specs.Prelude.{◌≡◌, ℕ, true, false};
-ghost use Rattle.poa_names.specs.declared.ManagerState.TheVariants.{Active};
+ghost use Rattle.poa_base.specs.declared.ManagerState.TheVariants.{Active};
 ghost use Rattle.poa_choose.specs.Laws.{runs, raises};
 ghost use Rattle.poa_choose.specs.Table.{first_row};
 ghost use Rattle.poa_choose.specs.declared.facts.Facts.{Facts};

@@ -3,11 +3,11 @@ use Rattle.std.specs.Prelude.{◌≡◌, ℕ, suc, Bool, true, false, not, ◌&&
 use Rattle.std.proofs.Common.{inl, inr, sym, ap, ap₂, ◌∙◌}
 use Rattle.std.proofs.lemmas.Bool.{cond_both, and_parts, or_cases}
 use Rattle.poa_base.specs.declared.Config.{Config}
-use Rattle.poa_names.specs.declared.Key.{Key}
+use Rattle.poa_base.specs.declared.Key.{Key}
 use Rattle.poa_base.specs.declared.Command.{Command}
 use Rattle.poa_base.specs.declared.Command.TheVariants.{Manager, Create, Destroy, Activate, ActivateId, Deactivate, Reference, Preset as PresetLine, Forward as ForwardLine, Unforward, Shutdown, Bad}
 use Rattle.poa_base.specs.declared.Order.TheVariants.{Activate as ActivateAll, Hold, Discard, Deactivate as DeactivateAll}
-use Rattle.poa_names.specs.declared.Sid.TheVariants.{Fresh as FreshServant}
+use Rattle.poa_base.specs.declared.Sid.TheVariants.{Fresh as FreshServant}
 use Rattle.poa_base.specs.declared.Verdict.{Verdict}
 use Rattle.poa_base.specs.declared.Verdict.TheVariants.{Serve, Preset, Locator, Incarnate, Try, Refuse, Forward, Addressing, Here, Unknown, Answer, Wait}
 use Rattle.poa_base.specs.declared.Entry.{Entry}

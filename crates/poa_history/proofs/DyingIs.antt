@@ -6,7 +6,7 @@ use Rattle.poa_base.specs.declared.Config.{Config}
 use Rattle.poa_base.specs.declared.AdapterConf.{AdapterConf}
 use Rattle.poa_base.specs.declared.ObjectConf.{ObjectConf}
 use Rattle.poa_base.specs.declared.Entry.{Entry}
-use Rattle.poa_names.specs.declared.Sid.TheVariants.{Named as NamedServant}
+use Rattle.poa_base.specs.declared.Sid.TheVariants.{Named as NamedServant}
 use Rattle.history_standing.specs.declared.activation.Phase.TheVariants.{Complete}
 use Rattle.poa_tree.specs.declared.node.Node.{Node}
 use Rattle.poa_tree.specs.Paths.{is_root}

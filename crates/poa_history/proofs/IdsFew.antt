@@ -5,7 +5,7 @@ use Rattle.std.proofs.lemmas.Bool.{cases_Bool, cond_both, and_parts, true≢fals
 use Rattle.poa_base.specs.declared.Config.{Config}
 use Rattle.poa_base.specs.declared.AdapterConf.{AdapterConf}
 use Rattle.poa_base.specs.declared.ObjectConf.{ObjectConf}
-use Rattle.poa_names.specs.declared.Key.{Key}
+use Rattle.poa_base.specs.declared.Key.{Key}
 use Rattle.poa_base.specs.declared.Call.{Call}
 use Rattle.poa_base.specs.declared.Call.TheVariants.{Request, Locate, Line}
 use Rattle.poa_base.specs.declared.Command.{Command}
@@ -20,7 +20,7 @@ use Rattle.poa_base.specs.declared.Attempt.TheVariants.{Yes, No, Raised, Dying a
 use Rattle.poa_base.specs.declared.Incarnation.{Incarnation}
 use Rattle.poa_base.specs.declared.Incarnation.TheVariants.{Fresh, Named, Double, Forward as ForwardTo, Raise}
 use Rattle.history_standing.specs.declared.flight.Flight.{Flight}
-use Rattle.poa_names.specs.declared.Sid.TheVariants.{Named as NamedServant}
+use Rattle.poa_base.specs.declared.Sid.TheVariants.{Named as NamedServant}
 use Rattle.history_standing.specs.declared.activation.Phase.TheVariants.{Complete}
 use Rattle.history_standing.specs.declared.stage.Stage.{Stage}
 use Rattle.history_standing.specs.declared.stage.Stage.TheVariants.{Free, Trying, Incarnating, Serving, Ran, Removing}

@@ -6,9 +6,9 @@ use Rattle.std.proofs.Common.{sym, subst, ap, ap₂, ◌∙◌, arith, append_as
 use Rattle.std.proofs.lemmas.Bool.{cond_both, and_parts, lt-ltb, ltb-true, le-leb, leb-true}
 use Rattle.std.proofs.lemmas.List.Elements.{All-nil, All-cons, All-head, All-tail}
 use Rattle.std.proofs.lemmas.Nat.{from_be_bytes-to_be_bytes_4}
-use Rattle.poa_names.specs.declared.Key.{Key}
-use Rattle.poa_names.specs.declared.Stamp.{Stamp}
-use Rattle.poa_names.specs.Limits.{IsName}
+use Rattle.poa_base.specs.declared.Key.{Key}
+use Rattle.poa_base.specs.declared.Stamp.{Stamp}
+use Rattle.poa_base.specs.Limits.{IsName}
 use Rattle.object_key.specs.Spelling.{stamp_bytes, name_bytes, path_bytes, oid_bytes, key_spelling, IsStamp, IsKey}
 use Rattle.poa_tree.specs.Paths.{same_bytes}
 use Rattle.history_standing.specs.Keys.{names_in, key_behind, stamp_in, key_tried, is_within, if_spelled, key_of}

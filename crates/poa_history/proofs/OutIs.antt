@@ -3,7 +3,7 @@ use Rattle.std.specs.Prelude.{◌≡◌, ℕ, ◌<◌, Bool, true, false, not, �
 use Rattle.std.proofs.Common.{inl, inr, sym, subst, ap, ap₂, ◌∙◌, arith}
 use Rattle.std.proofs.lemmas.Bool.{cond_both, and_parts, or_cases, true≢false, eqb-true, eq-eqb}
 use Rattle.poa_base.specs.declared.Config.{Config}
-use Rattle.poa_names.specs.declared.Sid.{Sid}
+use Rattle.poa_base.specs.declared.Sid.{Sid}
 use Rattle.poa_base.specs.declared.Entry.{Entry}
 use Rattle.poa_base.specs.declared.Entry.TheVariants.{Entered, Arrive, Filled, Left, Collect, Admit, Tried, Incarnated, Run, Done, TakeOut, Etherealized, Abandon}
 use Rattle.history_standing.specs.declared.activation.Activation.{Activation}

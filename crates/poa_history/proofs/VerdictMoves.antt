@@ -3,7 +3,7 @@ use Rattle.std.specs.Prelude.{◌≡◌, ℕ, suc, Bool, true, false, not, ◌&&
 use Rattle.std.proofs.Common.{inl, inr, sym, subst, ap, ap₂, ◌∙◌}
 use Rattle.std.proofs.lemmas.Bool.{cases_Bool, and_parts, false_from_ne_true, true≢false, eq-eqb}
 use Rattle.poa_base.specs.declared.Config.{Config}
-use Rattle.poa_names.specs.declared.Key.{Key}
+use Rattle.poa_base.specs.declared.Key.{Key}
 use Rattle.poa_base.specs.declared.Call.{Call}
 use Rattle.poa_base.specs.declared.Entry.{Entry}
 use Rattle.poa_base.specs.declared.Verdict.{Verdict}
@@ -15,7 +15,7 @@ use Rattle.poa_choose.specs.declared.MapFact.TheVariants.{Active, Busy, Free}
 use Rattle.poa_choose.specs.declared.WalkFact.TheVariants.{Dying as MeetsDying, Missing as MeetsMissing, Found as MeetsAdapter}
 use Rattle.poa_choose.specs.Table.{unmade, first_row}
 use Rattle.std.specs.Int.{w32, from_be_bytes}
-use Rattle.poa_names.specs.Policies.{is_retain}
+use Rattle.poa_base.specs.Policies.{is_retain}
 use Rattle.history_standing.specs.Templates.{policies_at, makes_ids}
 use Rattle.history_standing.specs.Commands.{is_bad_id}
 use Rattle.history_standing.specs.declared.activation.Activation.{Activation}

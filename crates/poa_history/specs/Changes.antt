@@ -2,11 +2,11 @@
 use Rattle.std.specs.Prelude.{ℕ, suc, Bool, true, false, not, ◌&&◌, ◌||◌, ◌==◌, if◌then◌else◌, List, [], ◌∷◌, ◌++◌, map, filter, length, find, Option, Some, None, option_and_then}
 use Rattle.std.specs.List.{list_any}
 use Rattle.poa_base.specs.declared.Config.{Config}
-use Rattle.poa_names.specs.declared.Key.{Key}
+use Rattle.poa_base.specs.declared.Key.{Key}
 use Rattle.poa_base.specs.declared.Command.{Command}
 use Rattle.poa_base.specs.declared.Command.TheVariants.{Manager, Create, Destroy, Activate, ActivateId, Deactivate, Reference, Shutdown}
 use Rattle.poa_base.specs.declared.Order.TheVariants.{Deactivate as DeactivateAll}
-use Rattle.poa_names.specs.declared.Sid.TheVariants.{Named as NamedServant, Fresh as FreshServant}
+use Rattle.poa_base.specs.declared.Sid.TheVariants.{Named as NamedServant, Fresh as FreshServant}
 use Rattle.poa_base.specs.declared.Entry.{Entry}
 use Rattle.poa_base.specs.declared.Entry.TheVariants.{Admit, Tried, Incarnated, Done, TakeOut, Etherealized}
 use Rattle.poa_base.specs.declared.Attempt.{Attempt}

@@ -1,7 +1,7 @@
 -- What never goes back.
 use Rattle.std.specs.Prelude.{◌≡◌, true}
 use Rattle.poa_base.specs.declared.Config.{Config}
-use Rattle.poa_names.specs.declared.Sid.{Sid}
+use Rattle.poa_base.specs.declared.Sid.{Sid}
 use Rattle.history_standing.specs.declared.activation.Activation.{Activation}
 use Rattle.history_standing.specs.declared.activation.Phase.TheVariants.{Complete, Void}
 use Rattle.history_standing.specs.Standings.{Standing}

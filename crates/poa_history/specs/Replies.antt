@@ -4,11 +4,11 @@ use Rattle.std.specs.Option.{option_or}
 use Rattle.poa_base.specs.declared.Config.{Config}
 use Rattle.poa_base.specs.declared.Call.{Call}
 use Rattle.poa_base.specs.declared.Call.TheVariants.{Request, Locate, Line}
-use Rattle.poa_names.specs.declared.SysExc.{SysExc}
-use Rattle.poa_names.specs.declared.ExcName.TheVariants.{ObjectNotExist, Transient, ObjAdapter}
-use Rattle.poa_names.specs.declared.Completion.TheVariants.{No as NotCompleted}
+use Rattle.poa_base.specs.declared.SysExc.{SysExc}
+use Rattle.poa_base.specs.declared.ExcName.TheVariants.{ObjectNotExist, Transient, ObjAdapter}
+use Rattle.poa_base.specs.declared.Completion.TheVariants.{No as NotCompleted}
 use Rattle.poa_base.specs.declared.minors.TheConstants.{ADAPTER_DYING, ACTIVATOR_RAISED, SERVANT_DOUBLE, NO_ADAPTER}
-use Rattle.poa_names.specs.declared.Endpoint.{Endpoint}
+use Rattle.poa_base.specs.declared.Endpoint.{Endpoint}
 use Rattle.poa_base.specs.declared.Outcome.TheVariants.{System}
 use Rattle.poa_base.specs.declared.Reply.{Reply}
 use Rattle.poa_base.specs.declared.Reply.TheVariants.{Outcome as Ended, Forward as ForwardReply, Addressing as AddressingReply, Here as HereReply, UnknownObject, Answer as AnswerReply}
@@ -21,7 +21,7 @@ use Rattle.poa_base.specs.declared.Incarnation.{Incarnation}
 use Rattle.poa_base.specs.declared.Incarnation.TheVariants.{Double, Forward as ForwardTo, Raise}
 use Rattle.poa_base.specs.declared.Verdict.{Verdict}
 use Rattle.poa_base.specs.declared.Verdict.TheVariants.{Refuse, Forward, Addressing, Here, Unknown, Answer, Wait}
-use Rattle.poa_names.specs.declared.Sid.{Sid}
+use Rattle.poa_base.specs.declared.Sid.{Sid}
 use Rattle.history_standing.specs.Searches.{least, count_below}
 use Rattle.history_standing.specs.Arrivals.{arrivals, call_of, conn_of, target_of}
 use Rattle.history_standing.specs.Stages.{stage, arrival_in, is_at, admitted, brings}

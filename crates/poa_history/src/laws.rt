@@ -2,7 +2,7 @@
 ghost use Rattle.std.specs.Prelude.{◌≡◌, ℕ, suc, true, false, ◌<◌, ◌^◌, List, ◌++◌, Some};
 ghost use Rattle.poa_base.specs.declared.Config.{Config};
 ghost use Rattle.poa_base.specs.declared.Entry.{Entry};
-ghost use Rattle.poa_names.specs.declared.Key.{Key};
+ghost use Rattle.poa_base.specs.declared.Key.{Key};
 ghost use Rattle.poa_tree.specs.declared.node.Node.{Node};
 ghost use Rattle.poa_tree.specs.Trees.{In};
 ghost use Rattle.object_key.specs.Spelling.{key_spelling, IsKey};

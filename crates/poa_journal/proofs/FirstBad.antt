@@ -2,7 +2,7 @@
 use Rattle.std.proofs.Common.{◌≡◌, ℕ, ◌+◌, ◌-◌, ◌≤◌, Bool, true, false, List, [], ◌∷◌, map, take, Option, Some, None, Result, Ok, Err, refl, ap, sym, ◌∙◌, arith, suc, zero, subst, cond}
 use Rattle.poa_base.specs.declared.Entry.{Entry}
 use Rattle.poa_base.specs.declared.Journal.{Journal}
-use Rattle.poa_names.specs.declared.State.{State}
+use Rattle.poa_base.specs.declared.State.{State}
 use Rattle.poa_base.specs.Store.{Place, Slots}
 use Rattle.text_words.specs.Cuts.{words_of}
 use Rattle.text_words.specs.Token.{spelled}

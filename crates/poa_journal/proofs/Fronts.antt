@@ -1,7 +1,7 @@
 -- Rows and entries that were read line by line.
 use Rattle.std.proofs.Common.{◌≡◌, ℕ, ◌+◌, ◌<◌, ◌≤◌, Bool, true, false, cond, List, [], ◌∷◌, ◌++◌, length, map, Option, Some, None, Result, Ok, Err, refl, ap, sym, ◌∙◌, arith, append_assoc, append-nil}
 use Rattle.poa_base.specs.declared.Entry.{Entry}
-use Rattle.poa_names.specs.declared.State.{State}
+use Rattle.poa_base.specs.declared.State.{State}
 use Rattle.poa_base.specs.Store.{Place, Slots, states, with_room, with_state}
 use Rattle.text_words.specs.Cuts.{lines_of, words_of}
 use Rattle.text_words.specs.Token.{spelled}

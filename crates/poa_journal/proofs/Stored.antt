@@ -9,7 +9,7 @@ use Rattle.std.specs.Ordering.{is_lt, ordering_reverse}
 use Rattle.std.specs.declared.cmp.Ordering.{Ordering}
 use Rattle.std.specs.declared.cmp.Ordering.TheVariants.{Less, Equal, Greater}
 use Rattle.std.proofs.lemmas.Bool.{false≢true}
-use Rattle.poa_names.specs.declared.State.{State}
+use Rattle.poa_base.specs.declared.State.{State}
 use Rattle.poa_base.specs.Store.{Place, Slots, place_cmp, stored, with_room, with_state, with_place, states}
 use Rattle.poa_base.proofs.Shelves.{place_total}
 use Rattle.poa_journal.specs.Whole.{is_above}

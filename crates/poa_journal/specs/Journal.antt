@@ -3,7 +3,7 @@
 use Rattle.std.specs.Prelude.{ℕ, ◌^◌, List, [], ◌∷◌, ◌++◌, map}
 use Rattle.std.specs.List.{AllByRecursion}
 use Rattle.poa_base.specs.declared.Journal.{Journal}
-use Rattle.poa_names.specs.declared.State.{State}
+use Rattle.poa_base.specs.declared.State.{State}
 use Rattle.poa_base.specs.Store.{Place, Slots, states}
 use Rattle.text_words.specs.Token.{Token, keyword, number, spelled, AllFit}
 use Rattle.journal_words.specs.declared.fixed.Mark.TheVariants as mark

@@ -3,7 +3,7 @@ use Rattle.std.specs.Prelude.{◌≡◌, ℕ, ◌+◌, ◌^◌, ⊤, Bool, true,
 use Rattle.std.specs.Ordering.{is_lt}
 use Rattle.poa_base.specs.declared.Entry.{Entry}
 use Rattle.poa_base.specs.declared.Journal.{Journal}
-use Rattle.poa_names.specs.declared.State.{State}
+use Rattle.poa_base.specs.declared.State.{State}
 use Rattle.poa_base.specs.Store.{Place, place_cmp, states}
 use Rattle.text_words.specs.Cuts.{lines_of, words_of}
 use Rattle.text_words.specs.Number.{number_of}

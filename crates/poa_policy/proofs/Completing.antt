@@ -4,15 +4,15 @@ use Rattle.std.proofs.lemmas.Bool.{cases_Bool, false≢true, and_parts}
 use Rattle.std.proofs.Math.Bool.{or-true}
 use Rattle.std.specs.List.{list_any, AllByRecursion}
 use Rattle.std.proofs.lemmas.List.Elements.{All-from_recursion, recursion_from_All}
-use Rattle.poa_names.specs.declared.policy.Policy.{Policy}
-use Rattle.poa_names.specs.declared.policy.Policy.TheVariants.{MultipleId, SystemId, NoImplicit, Retain, ServantManager}
-use Rattle.poa_names.specs.declared.policy.PolicySet.{PolicySet}
+use Rattle.poa_base.specs.declared.policy.Policy.{Policy}
+use Rattle.poa_base.specs.declared.policy.Policy.TheVariants.{MultipleId, SystemId, NoImplicit, Retain, ServantManager}
+use Rattle.poa_base.specs.declared.policy.PolicySet.{PolicySet}
 use Rattle.poa_policy.specs.declared.kind.PolicyKind.{PolicyKind}
 use Rattle.poa_policy.specs.declared.kind.PolicyKind.TheVariants as kind
 use Rattle.poa_policy.specs.declared.rule.Rule.{Rule}
 use Rattle.poa_policy.specs.declared.rule.Rule.TheVariants.{MapOnlyRetains, DefaultServantIsShared, ImplicitMakesIds}
 use Rattle.poa_policy.specs.Kinds.{kind_of, of_kind, number_of, is_of, same_kind, put, put_of, IsSet, Has}
-use Rattle.poa_names.specs.Policies.{is_multiple_id, is_system_id, is_implicit, is_retain, is_map_only, is_default_servant}
+use Rattle.poa_base.specs.Policies.{is_multiple_id, is_system_id, is_implicit, is_retain, is_map_only, is_default_servant}
 use Rattle.poa_policy.specs.Rules.{needs, keeps, first_broken, harmless, defaults}
 use Rattle.poa_policy.specs.Settled.{once, listed_over, completable, CanComplete}
 

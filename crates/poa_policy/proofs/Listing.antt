@@ -6,9 +6,9 @@ use Rattle.std.proofs.lemmas.List.{take_more, length-take-le}
 use Rattle.std.proofs.lemmas.List.Folds.{list_any-append}
 use Rattle.std.proofs.lemmas.List.Sums.{fold-append}
 use Rattle.std.specs.List.{list_any}
-use Rattle.poa_names.specs.declared.policy.Policy.{Policy}
-use Rattle.poa_names.specs.declared.policy.PolicySet.{PolicySet}
-use Rattle.poa_names.specs.declared.policy.Policy.TheVariants.{OrbCtrl}
+use Rattle.poa_base.specs.declared.policy.Policy.{Policy}
+use Rattle.poa_base.specs.declared.policy.PolicySet.{PolicySet}
+use Rattle.poa_base.specs.declared.policy.Policy.TheVariants.{OrbCtrl}
 use Rattle.poa_policy.specs.declared.rule.Rule.{Rule}
 use Rattle.poa_policy.specs.Rules.{names}
 use Rattle.poa_policy.specs.Kinds.{kind_of, same_kind, put}

@@ -4,7 +4,7 @@ use Rattle.std.proofs.lemmas.Bool.{cases_Bool, false≢true, or_parts}
 use Rattle.std.proofs.Math.Seq.{take-append_seam, take-append-add}
 use Rattle.std.proofs.lemmas.List.Elements.{All-from_recursion}
 use Rattle.std.specs.List.{list_any, slice_get}
-use Rattle.poa_names.specs.declared.policy.Policy.{Policy}
+use Rattle.poa_base.specs.declared.policy.Policy.{Policy}
 use Rattle.poa_policy.specs.declared.kind.PolicyKind.{PolicyKind}
 use Rattle.poa_policy.specs.declared.kind.PolicyKind.TheVariants as kind
 use Rattle.poa_policy.specs.declared.rule.Rule.{Rule}

@@ -1,8 +1,8 @@
 -- The kinds of policy: CORBA 3.3 Part 1, chapter 15, "POA Policy Objects".
 use Rattle.std.specs.Prelude.{◌≡◌, ℕ, Bool, ◌==◌}
-use Rattle.poa_names.specs.declared.policy.Policy.{Policy}
-use Rattle.poa_names.specs.declared.policy.Policy.TheVariants.{OrbCtrl, SingleThread, MainThread, Transient, Persistent, UniqueId, MultipleId, SystemId, UserId, NoImplicit, Implicit, Retain, NonRetain, MapOnly, DefaultServant, ServantManager}
-use Rattle.poa_names.specs.declared.policy.PolicySet.{PolicySet}
+use Rattle.poa_base.specs.declared.policy.Policy.{Policy}
+use Rattle.poa_base.specs.declared.policy.Policy.TheVariants.{OrbCtrl, SingleThread, MainThread, Transient, Persistent, UniqueId, MultipleId, SystemId, UserId, NoImplicit, Implicit, Retain, NonRetain, MapOnly, DefaultServant, ServantManager}
+use Rattle.poa_base.specs.declared.policy.PolicySet.{PolicySet}
 use Rattle.poa_policy.specs.declared.kind.PolicyKind.{PolicyKind}
 use Rattle.poa_policy.specs.declared.kind.PolicyKind.TheVariants as kind
 

@@ -1,9 +1,9 @@
 -- The three rules that the policies of an adapter keep: CORBA 3.3 Part 1, chapter 15, "POA Policy Objects".
 use Rattle.std.specs.Prelude.{Bool, true, false, not, ◌&&◌, ◌||◌, if◌then◌else◌, Option, Some, None}
-use Rattle.poa_names.specs.declared.policy.Policy.{Policy}
-use Rattle.poa_names.specs.declared.policy.Policy.TheVariants.{OrbCtrl, Transient, UniqueId, MultipleId, SystemId, NoImplicit, Retain, MapOnly, ServantManager}
-use Rattle.poa_names.specs.declared.policy.PolicySet.{PolicySet}
-use Rattle.poa_names.specs.Policies.{is_multiple_id, is_system_id, is_implicit, is_retain, is_map_only, is_default_servant}
+use Rattle.poa_base.specs.declared.policy.Policy.{Policy}
+use Rattle.poa_base.specs.declared.policy.Policy.TheVariants.{OrbCtrl, Transient, UniqueId, MultipleId, SystemId, NoImplicit, Retain, MapOnly, ServantManager}
+use Rattle.poa_base.specs.declared.policy.PolicySet.{PolicySet}
+use Rattle.poa_base.specs.Policies.{is_multiple_id, is_system_id, is_implicit, is_retain, is_map_only, is_default_servant}
 use Rattle.poa_policy.specs.declared.kind.PolicyKind.{PolicyKind}
 use Rattle.poa_policy.specs.declared.kind.PolicyKind.TheVariants as kind
 use Rattle.poa_policy.specs.declared.rule.Rule.{Rule}

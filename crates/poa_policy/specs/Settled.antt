@@ -1,8 +1,8 @@
 -- The policy set that a list of policies gives, or the index of the policy that is refused.
 use Rattle.std.specs.Prelude.{◌≡◌, ◌<◌, ◌+◌, ◌⊎◌, ℕ, Bool, true, false, not, ◌&&◌, if◌then◌else◌, Option, Some, None, is_none, Result, Ok, Err, List, [], ◌∷◌, ◌++◌, length, take, drop, fold, All, slice_get}
 use Rattle.std.specs.List.{list_any}
-use Rattle.poa_names.specs.declared.policy.Policy.{Policy}
-use Rattle.poa_names.specs.declared.policy.PolicySet.{PolicySet}
+use Rattle.poa_base.specs.declared.policy.Policy.{Policy}
+use Rattle.poa_base.specs.declared.policy.PolicySet.{PolicySet}
 use Rattle.poa_policy.specs.declared.rule.Rule.{Rule}
 use Rattle.poa_policy.specs.declared.settling.InvalidPolicy.{InvalidPolicy}
 use Rattle.poa_policy.specs.Kinds.{kind_of, of_kind, is_of, same_kind, IsSet, Has, put}

@@ -1,7 +1,7 @@
 -- What `show` of a text prints, and its status.
 use Rattle.std.specs.Prelude.{◌≡◌, ◌≢◌, ℕ, List, ◌++◌, Option, Ok as OkResult, Err, take}
 use Rattle.outside.specs.Told.{IfTold}
-use Rattle.poa_names.specs.declared.Ior.{Ior}
+use Rattle.poa_base.specs.declared.Ior.{Ior}
 use Rattle.ior_text.specs.declared.IorFault.{IorFault}
 use Rattle.ior_text.specs.declared.IorFault.TheVariants as ior
 use Rattle.ior_text.specs.Text.{TextGives}

@@ -5,8 +5,8 @@ use Rattle.poa_base.specs.declared.Config.{Config}
 use Rattle.poa_base.specs.declared.Entry.{Entry}
 use Rattle.poa_base.specs.declared.Entry.TheVariants.{Incarnated, Etherealized}
 use Rattle.poa_base.specs.Store.{Place, Slots, states}
-use Rattle.poa_names.specs.declared.servant.State.{State}
-use Rattle.poa_names.specs.declared.servant.State.TheVariants.{Register}
+use Rattle.poa_base.specs.declared.servant.State.{State}
+use Rattle.poa_base.specs.declared.servant.State.TheVariants.{Register}
 use Rattle.poa_history.specs.Legal.{IsLegal}
 use Rattle.poa_history.specs.Lifetime.{HasLifetime}
 use Rattle.history_standing.specs.Stages.{brings}

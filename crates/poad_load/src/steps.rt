@@ -1,6 +1,6 @@
 //! The steps of scripts that are played.
 ghost use Rattle.std.specs.Prelude.{◌≡◌, ◌++◌, IfOk, codes, decimal};
-ghost use Rattle.poa_names.specs.Limits.{IsName};
+ghost use Rattle.poa_base.specs.Limits.{IsName};
 ghost use Rattle.poad_load.specs.Schedule as schedule;
 
 use crate::draw::Draw;

@@ -7,7 +7,7 @@ use Rattle.cdr_core.specs.Cursor.{Cursor, Reads}
 use Rattle.cdr_core.specs.declared.PartFault.{PartFault}
 use Rattle.cdr_core.specs.declared.PartFault.TheVariants.{Short, BadBool, NoNul}
 use Rattle.cdr_core.specs.Fault.{refusal}
-use Rattle.poa_names.specs.declared.Profile.{Profile}
+use Rattle.poa_base.specs.declared.Profile.{Profile}
 use Rattle.ior_profile.specs.declared.profile.TheConstants.{TAG_INTERNET_IOP}
 use Rattle.ior_profile.specs.Encapsulation.{inside}
 use Rattle.ior_profile.specs.Body.{has_components, Counted}

@@ -6,7 +6,7 @@ use Rattle.cdr_core.specs.Cursor.{Cursor}
 use Rattle.cdr_core.specs.Part.{IsSlice, StandsIn, counted_at}
 use Rattle.cdr_core.proofs.Slices.{stands_behind, lies_in_message}
 use Rattle.cdr_core.proofs.Lying.{octets_lie}
-use Rattle.poa_names.specs.declared.Profile.{Profile}
+use Rattle.poa_base.specs.declared.Profile.{Profile}
 use Rattle.ior_profile.specs.declared.body.ProfileBody.{ProfileBody}
 use Rattle.ior_profile.specs.Encapsulation.{inside}
 use Rattle.ior_profile.specs.Body.{ReadsBody}

@@ -2,8 +2,8 @@
 use Rattle.std.specs.Prelude.{◌≡◌, ℕ, List, Option, length, slice_get}
 use Rattle.cdr_core.specs.Cursor.{Cursor}
 use Rattle.cdr_core.specs.Part.{IsSlice, counted_at}
-use Rattle.poa_names.specs.declared.Ior.{Ior}
-use Rattle.poa_names.specs.declared.Profile.{Profile}
+use Rattle.poa_base.specs.declared.Ior.{Ior}
+use Rattle.poa_base.specs.declared.Profile.{Profile}
 use Rattle.ior_profile.specs.declared.body.ProfileBody.{ProfileBody}
 use Rattle.ior_profile.specs.Body.{ReadsBody}
 use Rattle.ior_profile.specs.Tagged.{ReadsProfiles}

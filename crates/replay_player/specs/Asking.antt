@@ -4,8 +4,8 @@ use Rattle.poa_base.specs.declared.Ask.{Ask}
 use Rattle.poa_base.specs.declared.Config.{Config}
 use Rattle.poa_base.specs.declared.Datum.{Datum}
 use Rattle.poa_base.specs.declared.Head.{Head}
-use Rattle.poa_names.specs.declared.Key.{Key}
-use Rattle.poa_names.specs.declared.Stamp.{Stamp}
+use Rattle.poa_base.specs.declared.Key.{Key}
+use Rattle.poa_base.specs.declared.Stamp.{Stamp}
 use Rattle.object_key.specs.Spelling.{key_spelling}
 use Rattle.giop_msg.specs.Ask.{request_bytes}
 use Rattle.poa_tree.specs.Nodes.{node_at}

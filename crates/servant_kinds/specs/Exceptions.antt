@@ -2,8 +2,8 @@
 use Rattle.std.specs.Prelude.{codes}
 use Rattle.poa_base.specs.declared.Outcome.{Outcome}
 use Rattle.poa_base.specs.declared.Outcome.TheVariants.{User, System}
-use Rattle.poa_names.specs.declared.ExcName.TheVariants.{BadOperation, Marshal, Unknown}
-use Rattle.poa_names.specs.declared.Completion.TheVariants.{No, Maybe}
+use Rattle.poa_base.specs.declared.ExcName.TheVariants.{BadOperation, Marshal, Unknown}
+use Rattle.poa_base.specs.declared.Completion.TheVariants.{No, Maybe}
 use Rattle.poa_base.specs.declared.minors.TheConstants.{UNKNOWN_OPERATION, BAD_ARGUMENTS, FAULT_SERVANT}
 
 -- the servant has no operation of this name

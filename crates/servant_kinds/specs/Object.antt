@@ -2,8 +2,8 @@
 use Rattle.std.specs.Prelude.{ℕ, false, ◌||◌, if◌then◌else◌, List, codes, Option, Some, None}
 use Rattle.std.specs.Str.{bytes_eq}
 use Rattle.poa_base.specs.declared.Body.{Body}
-use Rattle.poa_names.specs.declared.State.{State}
-use Rattle.poa_names.specs.declared.State.TheVariants.{Register, Book, Echo, Fault}
+use Rattle.poa_base.specs.declared.State.{State}
+use Rattle.poa_base.specs.declared.State.TheVariants.{Register, Book, Echo, Fault}
 use Rattle.poa_base.specs.declared.Outcome.{Outcome}
 use Rattle.poa_base.specs.declared.Outcome.TheVariants.{Value}
 use Rattle.poa_base.specs.declared.Datum.TheVariants.{Flag}

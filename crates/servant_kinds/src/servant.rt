@@ -18,7 +18,7 @@ pub struct Servant {
 }
 
 impl Model for Servant {
-    ghost use Rattle.poa_names.specs.declared.State.{State};
+    ghost use Rattle.poa_base.specs.declared.State.{State};
     ghost use Rattle.std.specs.Prelude.{◌≡◌};
     ghost use Rattle.servant_kinds.specs.Log.{state_room};
 

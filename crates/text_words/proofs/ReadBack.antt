@@ -22,7 +22,7 @@ use Rattle.text_words.specs.Name.{is_name, is_name_byte, name_of, is_host, host_
 use Rattle.text_words.specs.Path.{below_root, path_text, all_names_of, path_of}
 use Rattle.text_words.specs.Cuts.{lacks}
 use Rattle.text_words.specs.Identity.{printed_id_of, id_of}
-use Rattle.poa_names.specs.declared.Endpoint.{Endpoint}
+use Rattle.poa_base.specs.declared.Endpoint.{Endpoint}
 use Rattle.text_words.specs.Parts.{endpoint_tokens, last_endpoint}
 use Rattle.text_words.specs.Token.{AllFit, IsLong, texts}
 use Rattle.text_words.proofs.Numbers.{number_back}

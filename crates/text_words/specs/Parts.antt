@@ -1,6 +1,6 @@
 -- The last words of a line.
 use Rattle.std.specs.Prelude.{ℕ, ◌^◌, List, [], ◌∷◌, Option, Some, None}
-use Rattle.poa_names.specs.declared.Endpoint.{Endpoint}
+use Rattle.poa_base.specs.declared.Endpoint.{Endpoint}
 use Rattle.text_words.specs.Chain.{◌>>=◌}
 use Rattle.text_words.specs.Name.{name_of, host_of}
 use Rattle.text_words.specs.Number.{number_of, port_of}

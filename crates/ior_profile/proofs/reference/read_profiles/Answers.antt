@@ -1,5 +1,5 @@
 use Rattle.std.proofs.Common.{arith, length-append, subst, sym, List}
-use Rattle.poa_names.specs.declared.Profile.{Profile}
+use Rattle.poa_base.specs.declared.Profile.{Profile}
 use Rattle.ior_profile.specs.Tagged.{ReadsProfiles}
 use Rattle.ior_profile.proofs.Pushing.{reads_push}
 use Rattle.ior_profile.proofs.reference.read_profiles.Goals as goal

@@ -1,5 +1,5 @@
 use Rattle.std.proofs.Common.{◌≡◌, IfOk, subst}
-use Rattle.poa_names.specs.declared.Ior.{Ior}
+use Rattle.poa_base.specs.declared.Ior.{Ior}
 use Rattle.ior_text.specs.Written.{ior_text}
 use Rattle.ior_text.proofs.reference.write_reference.Goals as goal
 

@@ -1,6 +1,6 @@
 use Rattle.std.proofs.Common.{◌≡◌, option_copied, take, reverse}
 use Rattle.std.specs.Prelude.{unwrap_or}
-use Rattle.poa_names.specs.declared.State.TheVariants.{Fault}
+use Rattle.poa_base.specs.declared.State.TheVariants.{Fault}
 use Rattle.model_replies.specs.Kept as keeps
 use Rattle.model_replies.proofs.kept.state_found.Given as goal
 

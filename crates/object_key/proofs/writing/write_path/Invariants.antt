@@ -1,6 +1,6 @@
 use Rattle.std.proofs.Common.{◌≡◌, ◌++◌, ◌∷◌, take, length}
 use Rattle.std.specs.Prelude.{All}
-use Rattle.poa_names.specs.Limits.{IsName}
+use Rattle.poa_base.specs.Limits.{IsName}
 use Rattle.object_key.specs.Reading.{names_bytes}
 use Rattle.object_key.proofs.writing.write_path.Given as goal
 

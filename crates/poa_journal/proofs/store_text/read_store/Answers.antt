@@ -1,5 +1,5 @@
 use Rattle.std.proofs.Common.{◌∙◌, ℕ, Result, List, ap, subst}
-use Rattle.poa_names.specs.declared.State.{State}
+use Rattle.poa_base.specs.declared.State.{State}
 use Rattle.poa_base.specs.Store.{Place, Slots, states}
 use Rattle.poa_journal.specs.declared.fault.JournalFault.{JournalFault}
 use Rattle.poa_journal.specs.Whole.{JournalReads, rows_of}

@@ -1,7 +1,7 @@
 -- Which policy it is.
 use Rattle.std.specs.Prelude.{Bool, true, false}
-use Rattle.poa_names.specs.declared.policy.Policy.{Policy}
-use Rattle.poa_names.specs.declared.policy.Policy.TheVariants.{SingleThread, MainThread, Persistent, UniqueId, MultipleId, SystemId, Implicit, Retain, MapOnly, DefaultServant, ServantManager}
+use Rattle.poa_base.specs.declared.policy.Policy.{Policy}
+use Rattle.poa_base.specs.declared.policy.Policy.TheVariants.{SingleThread, MainThread, Persistent, UniqueId, MultipleId, SystemId, Implicit, Retain, MapOnly, DefaultServant, ServantManager}
 
 abbrev pub is_single_thread : Policy → Bool
 is_single_thread SingleThread = true

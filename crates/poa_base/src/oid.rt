@@ -1,68 +1,68 @@
-//! The name of an adapter, a manager, a servant or a connection.
+//! An object id: CORBA 3.3 Part 1, chapter 15, ObjectId.
 ghost use Rattle.std.specs.Prelude.{◌≡◌, ◌↔◌, IsSome, IfSome};
-ghost use Rattle.poa_names.specs.Limits.{IsName};
+ghost use Rattle.poa_base.specs.Limits.{IsOid};
 
 use crate::copy::TryClone;
 use std::alloc::AllocError;
 use std::cmp::Ordering;
 use std::marker::Model;
 
-/// 1 to 64 bytes.
+/// At most 256 bytes, which name an object within its adapter.
 #[derive(Drop)]
-pub struct Name {
+pub struct Oid {
     items: Vec<u8>,
 }
 
-impl Model for Name {
+impl Model for Oid {
     ghost use Rattle.std.specs.Prelude.{List, ℕ};
-    ghost use Rattle.poa_names.specs.Limits.{IsName};
+    ghost use Rattle.poa_base.specs.Limits.{IsOid};
 
     ghost Value = { List ℕ };
 
     ghost view = { λ n. n.items.items };
 
-    ghost invariant = { λ n. IsName n.items.items };
+    ghost invariant = { λ n. IsOid n.items.items };
 }
 
-impl Name {
-    /// The name of these bytes; none where they are not 1 to 64. Takes no memory.
+impl Oid {
+    /// The id of these bytes; none where they are more than 256. Takes no memory.
     pub fn from_vec(items: Vec<u8>) -> Option<Self>
-        ensures exact { IsSome result ↔ IsName items.items }
+        ensures exact { IsSome result ↔ IsOid items.items }
         ensures value { IfSome result (λ n. n ≡ items.items) }
     {
-        if items.is_empty() || items.len() > 64 {
+        if items.len() > 256 {
             return None;
         }
-        Some(Name { items })
+        Some(Oid { items })
     }
 
     /// The bytes, given back. Takes no memory.
     pub fn into_vec(self) -> Vec<u8>
         ensures { result.items ≡ self }
     {
-        let Name { items } = self;
+        let Oid { items } = self;
         items
     }
 
-    /// The bytes of the name, which are 1 to 64.
+    /// The bytes of the id, which are at most 256.
     pub fn as_slice(&self) -> &[u8]
         ensures value { result.now ≡ self.now }
-        ensures bounds { IsName self.now }
+        ensures bounds { IsOid self.now }
     {
         self.items.as_slice()
     }
 }
 
-impl Clone for Name {
+impl Clone for Oid {
     ghost is_clone = { λ x y. y ≡ x };
 
     fn clone(&self) -> Result<Self, AllocError> {
         let items = self.items.clone()?;
-        Ok(Name { items })
+        Ok(Oid { items })
     }
 }
 
-impl PartialEq for Name {
+impl PartialEq for Oid {
     ghost use Rattle.std.specs.Prelude.{nat_eq};
     ghost use Rattle.std.specs.Cmp.Lexicographic.{pointwise};
     ghost use Rattle.std.specs.Cmp.Rules.{comparing};
@@ -77,14 +77,14 @@ impl PartialEq for Name {
     }
 }
 
-impl Eq for Name {
+impl Eq for Oid {
     ghost use Rattle.std.specs.Cmp.Rules.{comparing};
     ghost use Rattle.std.proofs.Common.{rules};
 
     ghost laws = { Prim.search (comparing, rules) };
 }
 
-impl PartialOrd for Name {
+impl PartialOrd for Oid {
     ghost use Rattle.std.specs.Prelude.{Some};
     ghost use Rattle.std.specs.Ordering.{nat_cmp};
     ghost use Rattle.std.specs.Cmp.Lexicographic.{slice_cmp, texts_po};
@@ -98,7 +98,7 @@ impl PartialOrd for Name {
     }
 }
 
-impl Ord for Name {
+impl Ord for Oid {
     ghost use Rattle.std.specs.Prelude.{refl};
     ghost use Rattle.std.specs.Ordering.{nat_cmp};
     ghost use Rattle.std.specs.Cmp.Lexicographic.{slice_cmp, nat_list_cmp_total, texts_ties};
@@ -116,7 +116,7 @@ impl Ord for Name {
     }
 }
 
-impl TryClone for Name {
+impl TryClone for Oid {
     fn try_clone(&self) -> Result<Self, AllocError> {
         self.clone()
     }

@@ -1,6 +1,6 @@
 //! The path of an adapter: the names from below the root down to it.
 ghost use Rattle.std.specs.Prelude.{◌≡◌, ◌↔◌, [], IsSome, IfSome};
-ghost use Rattle.poa_names.specs.Limits.{IsPath};
+ghost use Rattle.poa_base.specs.Limits.{IsPath};
 
 use crate::copy::TryClone;
 use crate::name::Name;
@@ -16,7 +16,7 @@ pub struct Path {
 
 impl Model for Path {
     ghost use Rattle.std.specs.Prelude.{List, ℕ};
-    ghost use Rattle.poa_names.specs.Limits.{IsPath};
+    ghost use Rattle.poa_base.specs.Limits.{IsPath};
 
     ghost Value = { List (List ℕ) };
 

@@ -1,6 +1,6 @@
 //! The policies of an adapter: CORBA 3.3 Part 1, chapter 15.
 ghost use Rattle.std.specs.Prelude.{◌≡◌};
-ghost use Rattle.poa_names.specs.Policies.{is_single_thread, is_main_thread, is_persistent, is_unique_id, is_multiple_id, is_system_id, is_implicit, is_retain, is_map_only, is_default_servant, is_servant_manager};
+ghost use Rattle.poa_base.specs.Policies.{is_single_thread, is_main_thread, is_persistent, is_unique_id, is_multiple_id, is_system_id, is_implicit, is_retain, is_map_only, is_default_servant, is_servant_manager};
 
 /// The values of the seven kinds of policy.
 #[derive(Clone, Copy, Drop)]

@@ -1,5 +1,5 @@
 use Rattle.std.proofs.Common.{◌≡◌, take}
-use Rattle.poa_names.proofs.items.ItemsClone.clone.Given as goal
+use Rattle.poa_base.proofs.items.ItemsClone.clone.Given as goal
 
 abbrev pub invariant-loop-item : goal.invariant-loop-item
 invariant-loop-item g l = l.items.items ≡ take l.item-index l.item-items
