@@ -6,7 +6,7 @@ ghost use Rattle.poa_base.specs.declared.SessionEnd.TheVariants as end;
 ghost use Rattle.session_laws.specs.declared.Peer.{Peer};
 ghost use Rattle.poa_shared.specs.Seats.{IsIdle};
 ghost use Rattle.poa_shared.specs.Seen.{HoldsConnection};
-ghost use Rattle.poa_worker.specs.Helping.{Aids, IsReady};
+ghost use Rattle.poa_shared.specs.Helping.{Aids, IsReady};
 ghost use Rattle.poa_session.specs.Exchanging.{Exchanges};
 
 use crate::collecting::gather_within;
@@ -14,8 +14,7 @@ use crate::flow::Flow;
 use crate::listening::listen_within;
 use crate::paying::look_within;
 use poa_base::{SessionEnd, WantMemory};
-use poa_shared::{Front, News, Seat, Shared};
-use poa_worker::Aid;
+use poa_shared::{Aid, Front, News, Seat, Shared};
 use session_input::Input;
 use std::alloc::Global;
 use std::sync::Wait;

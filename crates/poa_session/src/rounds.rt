@@ -7,7 +7,7 @@ ghost use Rattle.poa_base.specs.declared.SessionEnd.TheVariants as end;
 ghost use Rattle.session_laws.specs.declared.Peer.{Peer};
 ghost use Rattle.poa_shared.specs.Seats.{IsIdle};
 ghost use Rattle.poa_shared.specs.Seen.{HoldsConnection};
-ghost use Rattle.poa_worker.specs.Helping.{Aids, IsReady};
+ghost use Rattle.poa_shared.specs.Helping.{Aids, IsReady};
 ghost use Rattle.poa_session.specs.Rounding.{Rounds};
 
 use crate::buffers::Buffers;
@@ -17,8 +17,7 @@ use crate::taking_in::take_in;
 use crate::writing::write_all;
 use outside::Link;
 use poa_base::SessionEnd;
-use poa_shared::{Seat, Shared};
-use poa_worker::Aid;
+use poa_shared::{Aid, Seat, Shared};
 use session_input::Input;
 use std::alloc::Global;
 use std::sync::Wait;

@@ -4,7 +4,7 @@ ghost use Rattle.seat_lock.specs.Seats.{view};
 ghost use Rattle.run_history.specs.declared.Givens.{Givens};
 ghost use Rattle.session_laws.specs.declared.Peer.TheVariants as peers;
 ghost use Rattle.poa_shared.specs.Seats.{IsIdle};
-ghost use Rattle.poa_worker.specs.Helping.{Aids, IsReady};
+ghost use Rattle.poa_shared.specs.Helping.{Aids, IsReady};
 ghost use Rattle.poa_session.specs.Served.{Served};
 ghost use Rattle.poa_session.specs.Settling.{TurnsAway, refusal as refusal_of};
 
@@ -13,8 +13,7 @@ use crate::conversing::converse;
 use outside::Link;
 use poa_base::{Session, SessionEnd};
 use poa_core::EnterFault;
-use poa_shared::{Seat, Shared};
-use poa_worker::Aid;
+use poa_shared::{Aid, Seat, Shared};
 use session_laws::Peer;
 use std::alloc::Global;
 use std::sync::Wait;

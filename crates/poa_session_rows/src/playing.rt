@@ -7,8 +7,7 @@ use outside_memory::MemLink;
 use poa_base::{Entry, Session, Store, WantMemory};
 use poa_core::Core;
 use poa_session::serve_link;
-use poa_shared::Shared;
-use poa_worker::Aid;
+use poa_shared::{Aid, Shared};
 use std::alloc::Global;
 use std::sync::{Arc, Wait};
 

@@ -3,17 +3,27 @@
 //! own, is in `specs/Seen.antt`. Beside them stand bells, on which no clause rests.
 #![tactic(auto)]
 
+mod aid;
 mod arriving;
 mod belfry;
 mod bell;
 mod collecting;
 mod entering;
+mod helping;
 mod news;
+mod pause;
 mod printing;
 mod ringing;
 mod shared;
 mod stepping;
+mod turning;
+mod work_end;
+mod working;
 
+pub use aid::Aid;
 pub use bell::Bell;
 pub use news::News;
+pub use poa_base::WantMemory;
 pub use shared::{Front, Seat, Shared};
+pub use work_end::WorkEnd;
+pub use working::work;

@@ -9,7 +9,7 @@ use lib.ListN.{get_elem?}
 use Rattle.outside.specs.Link.{Shown}
 use Rattle.poa_base.specs.declared.Entry.{Entry}
 use Rattle.poa_base.specs.declared.Entry.TheVariants.{Entered}
-use Rattle.poa_worker.proofs.Making.{in_either}
+use Rattle.poa_shared.proofs.Making.{in_either}
 use Rattle.run_history.specs.declared.givens.Givens.{Givens}
 use Rattle.run_history.specs.Owners.{owner_of}
 use Rattle.poa_session.specs.Served.{RefusedAs, Served, ServedAs}

@@ -5,9 +5,9 @@ use Rattle.outside.specs.Link.{Shown}
 use Rattle.poa_base.specs.declared.Entry.{Entry}
 use Rattle.poa_shared.specs.Seats.{IsIdle}
 use Rattle.poa_shared.specs.declared.shared.Shared.{Shared}
-use Rattle.poa_worker.specs.Helping.{IsReady, SeatOf}
-use Rattle.poa_worker.specs.Worked.{Worked as WorkedAs}
-use Rattle.poa_worker.specs.declared.work_end.WorkEnd.{WorkEnd}
+use Rattle.poa_shared.specs.Helping.{IsReady, SeatOf}
+use Rattle.poa_shared.specs.Worked.{Worked as WorkedAs}
+use Rattle.poa_shared.specs.declared.work_end.WorkEnd.{WorkEnd}
 use Rattle.run_history.specs.declared.givens.Givens.{Givens}
 use Rattle.seat_lock.specs.declared.view.View.{View}
 use Rattle.session_laws.specs.declared.peer.Peer.TheVariants.{Client, Administrator}

@@ -3,7 +3,7 @@ ghost use Rattle.std.specs.Prelude.{◌≡◌, Some, []};
 ghost use Rattle.seat_lock.specs.Seats.{view};
 ghost use Rattle.run_history.specs.declared.givens.Givens.{Givens};
 ghost use Rattle.poa_shared.specs.Seats.{IsIdle};
-ghost use Rattle.poa_worker.specs.Helping.{Aids, IsReady};
+ghost use Rattle.poa_shared.specs.Helping.{Aids, IsReady};
 ghost use Rattle.serve_pieces.specs.Doors.{DoorKept, DoorServed, ending_of, stop_of};
 
 use crate::ran::{PieceEnd, Ran};
@@ -11,8 +11,7 @@ use crate::received::Received;
 use crate::receiving::receive;
 use crate::refusing::noted;
 use outside::Acceptor;
-use poa_shared::{Seat, Shared};
-use poa_worker::Aid;
+use poa_shared::{Aid, Seat, Shared};
 use run_tally::{Full, Phase};
 use session_laws::Peer;
 use std::alloc::Global;

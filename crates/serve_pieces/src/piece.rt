@@ -3,8 +3,7 @@ use crate::attending::serve_door;
 use crate::ran::{PieceEnd, Ran};
 use crate::task::Task;
 use outside::{Acceptor, Gate, Job};
-use poa_shared::{Seat, Shared};
-use poa_worker::{Aid, work};
+use poa_shared::{Aid, Seat, Shared, work};
 use session_laws::Peer;
 use std::alloc::Global;
 use std::sync::{Arc, Wait};
@@ -26,7 +25,7 @@ impl<R: Wait + Copy, A: Acceptor, G: Gate + Drop> Job for Piece<R, A, G> {
     ghost use Rattle.seat_lock.specs.Seats.{view};
     ghost use Rattle.std.specs.Arc.{arc_value};
     ghost use Rattle.run_history.specs.declared.givens.Givens.{Givens};
-    ghost use Rattle.poa_worker.specs.Helping.{Aids};
+    ghost use Rattle.poa_shared.specs.Helping.{Aids};
     ghost use Rattle.serve_pieces.specs.Promises.{AreIdle, IsFresh, Keeps};
 
     type Out = Ran<A>;

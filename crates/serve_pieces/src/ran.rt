@@ -1,6 +1,5 @@
 //! What comes of a piece.
-use poa_shared::Seat;
-use poa_worker::{Aid, WorkEnd};
+use poa_shared::{Aid, Seat, WorkEnd};
 use run_tally::{Full, Phase};
 
 /// How a piece ended.

@@ -7,7 +7,7 @@ ghost use Rattle.run_history.specs.declared.givens.Givens.{Givens};
 ghost use Rattle.outside.specs.Cause.{HasCause};
 ghost use Rattle.poa_shared.specs.Seats.{IsIdle};
 ghost use Rattle.poa_session.specs.Served.{Served};
-ghost use Rattle.poa_worker.specs.Helping.{Aids, IsReady};
+ghost use Rattle.poa_shared.specs.Helping.{Aids, IsReady};
 ghost use Rattle.serve_pieces.specs.Visits.{Visit};
 ghost use Rattle.serve_pieces.specs.Doors.{AsReceived, Attending};
 
@@ -15,8 +15,7 @@ use crate::received::Received;
 use outside::{Acceptor, Door, Link};
 use poa_base::Session;
 use poa_session::{serve_admin, serve_link};
-use poa_shared::{Seat, Shared};
-use poa_worker::Aid;
+use poa_shared::{Aid, Seat, Shared};
 use session_laws::Peer;
 use std::alloc::Global;
 use std::sync::Wait;

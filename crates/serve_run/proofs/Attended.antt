@@ -6,10 +6,10 @@ use Rattle.outside.specs.Accepting.{Standing}
 use Rattle.outside.specs.Link.{Shown}
 use Rattle.poa_base.specs.declared.Entry.{Entry}
 use Rattle.poa_shared.specs.Seen.{HoldsConnection}
-use Rattle.poa_worker.specs.Worked.{Worked as WorkedAs}
-use Rattle.poa_worker.specs.declared.work_end.WorkEnd.{WorkEnd}
-use Rattle.poa_worker.specs.declared.work_end.WorkEnd.TheVariants.{Closed, Stopped, WantMemory}
-use Rattle.poa_worker.proofs.Making.{in_either}
+use Rattle.poa_shared.specs.Worked.{Worked as WorkedAs}
+use Rattle.poa_shared.specs.declared.work_end.WorkEnd.{WorkEnd}
+use Rattle.poa_shared.specs.declared.work_end.WorkEnd.TheVariants.{Closed, Stopped, WantMemory}
+use Rattle.poa_shared.proofs.Making.{in_either}
 use Rattle.run_history.specs.declared.givens.Givens.{Givens}
 use Rattle.run_tally.specs.declared.full.Full.{Full}
 use Rattle.seat_lock.specs.declared.view.View.{View}

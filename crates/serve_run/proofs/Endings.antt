@@ -23,8 +23,8 @@ use Rattle.run_endings.specs.Closing.{HasNoTurn, IsOver}
 use Rattle.run_endings.proofs.Freed.{freed}
 use Rattle.run_endings.proofs.LateCalls.{late}
 use Rattle.run_endings.proofs.Over.{closed_over, history_before}
-use Rattle.poa_worker.specs.Helping.{IsHelpAt}
-use Rattle.poa_worker.proofs.Making.{in_either}
+use Rattle.poa_shared.specs.Helping.{IsHelpAt}
+use Rattle.poa_shared.proofs.Making.{in_either}
 use Rattle.run_history.specs.declared.givens.Givens.{Givens}
 use Rattle.run_history.specs.Owners.{owner_of, worker_of}
 use Rattle.run_history.specs.Runs.{IsHistory, IsLog}

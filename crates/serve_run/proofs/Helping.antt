@@ -7,9 +7,9 @@ use lib.ListN.{get_elem?}
 use Rattle.poa_base.specs.declared.Entry.{Entry}
 use Rattle.poa_base.specs.declared.Entry.TheVariants.{Abandon}
 use Rattle.poa_history.specs.Legal.{is_filled}
-use Rattle.poa_worker.specs.Helping.{Helps, IsHelpAt}
-use Rattle.poa_worker.proofs.Helped.{help_stays}
-use Rattle.poa_worker.proofs.Making.{makes_all}
+use Rattle.poa_shared.specs.Helping.{Helps, IsHelpAt}
+use Rattle.poa_shared.proofs.Helped.{help_stays}
+use Rattle.poa_shared.proofs.Making.{makes_all}
 use Rattle.run_history.specs.declared.givens.Givens.{Givens}
 use Rattle.run_history.specs.Owners.{worker_of}
 use Rattle.run_tally.specs.Leaving.{is_shut}

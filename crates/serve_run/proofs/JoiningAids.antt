@@ -4,9 +4,9 @@ use Rattle.std.proofs.lemmas.List.{append-nil}
 use Rattle.outside.specs.Accepting.{Standing}
 use Rattle.outside.specs.Link.{Shown}
 use Rattle.poa_base.specs.declared.Entry.{Entry}
-use Rattle.poa_worker.specs.Helping.{Aids, Helps, SeatOf}
-use Rattle.poa_worker.proofs.Helped.{help_stays}
-use Rattle.poa_worker.proofs.Making.{in_either}
+use Rattle.poa_shared.specs.Helping.{Aids, Helps, SeatOf}
+use Rattle.poa_shared.proofs.Helped.{help_stays}
+use Rattle.poa_shared.proofs.Making.{in_either}
 use Rattle.run_history.specs.declared.givens.Givens.{Givens}
 use Rattle.run_history.specs.Owners.{owner_of}
 use Rattle.seat_lock.specs.Histories.{Belongs, In}

@@ -3,11 +3,11 @@ use Rattle.std.proofs.Common.{◌≡◌, ℕ, ◌<◌, List, [], ◌∷◌, ◌+
 use Rattle.outside.specs.Accepting.{Standing}
 use Rattle.outside.specs.Link.{Shown}
 use Rattle.poa_base.specs.declared.Entry.{Entry}
-use Rattle.poa_worker.specs.Helping.{IsHelpAt}
-use Rattle.poa_worker.specs.Worked.{IsMadeAt, IsTurnAt, Worked}
-use Rattle.poa_worker.specs.declared.work_end.WorkEnd.TheVariants.{Closed}
-use Rattle.poa_worker.proofs.Helped.{help_stays}
-use Rattle.poa_worker.proofs.Making.{in_either, makes_all}
+use Rattle.poa_shared.specs.Helping.{IsHelpAt}
+use Rattle.poa_shared.specs.Worked.{IsMadeAt, IsTurnAt, Worked}
+use Rattle.poa_shared.specs.declared.work_end.WorkEnd.TheVariants.{Closed}
+use Rattle.poa_shared.proofs.Helped.{help_stays}
+use Rattle.poa_shared.proofs.Making.{in_either, makes_all}
 use Rattle.run_history.specs.declared.givens.Givens.{Givens}
 use Rattle.run_history.specs.Owners.{owner_of, worker_of}
 use Rattle.seat_lock.specs.declared.view.View.{View}

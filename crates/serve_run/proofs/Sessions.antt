@@ -14,8 +14,8 @@ use Rattle.poa_base.specs.declared.Entry.TheVariants.{Entered, Abandon}
 use Rattle.poa_base.specs.declared.SessionEnd.{SessionEnd}
 use Rattle.history_standing.specs.Stages.{is_abandoned}
 use Rattle.poa_session.specs.Served.{RefusedAs, ServedAs}
-use Rattle.poa_worker.specs.Helping.{IsHelpAt}
-use Rattle.poa_worker.proofs.Making.{in_either}
+use Rattle.poa_shared.specs.Helping.{IsHelpAt}
+use Rattle.poa_shared.proofs.Making.{in_either}
 use Rattle.run_history.specs.declared.givens.Givens.{Givens}
 use Rattle.run_history.specs.Owners.{owner_of, worker_of, HasNone}
 use Rattle.run_history.specs.Runs.{IsLog}

@@ -5,7 +5,7 @@ use native.Mathlib.Decide.{ℕ_discrete}
 use Rattle.poa_base.specs.declared.Entry.{Entry}
 use Rattle.poa_base.specs.declared.Entry.TheVariants.{Entered}
 use Rattle.poa_shared.specs.Seen.{Owns}
-use Rattle.poa_worker.proofs.Making.{in_either}
+use Rattle.poa_shared.proofs.Making.{in_either}
 use Rattle.run_history.specs.declared.givens.Givens.{Givens}
 use Rattle.run_history.specs.Owners.{owner_of}
 use Rattle.seat_lock.specs.declared.view.View.{View}

@@ -1,7 +1,7 @@
 -- How the seat of a lane's aid is split and joined.
 use Rattle.std.specs.Prelude.{◌≡◌, Option, Some, None}
 use Rattle.poa_base.specs.declared.Entry.{Entry}
-use Rattle.poa_worker.specs.Helping.{SeatOf}
+use Rattle.poa_shared.specs.Helping.{SeatOf}
 use Rattle.run_history.specs.declared.givens.Givens.{Givens}
 use Rattle.seat_lock.specs.Seats.{view}
 use Rattle.seat_lock.specs.Steps.{Unites}

@@ -3,7 +3,7 @@ use Rattle.std.specs.Prelude.{Bool, true, false, ◌||◌, List, [], ◌∷◌, 
 use Rattle.run_tally.specs.declared.full.Full.{Full}
 use Rattle.serve_pieces.specs.Refusals.{earlier}
 use Rattle.serve_pieces.specs.declared.ran.PieceEnd.{PieceEnd}
-use Rattle.poa_worker.specs.declared.work_end.WorkEnd.TheVariants.{Closed}
+use Rattle.poa_shared.specs.declared.work_end.WorkEnd.TheVariants.{Closed}
 use Rattle.serve_pieces.specs.declared.ran.PieceEnd.TheVariants.{DoorFailed, Worked}
 use Rattle.serve_run.specs.declared.outcome.Outcome.{Outcome}
 use Rattle.serve_run.specs.declared.outcome.Want.{Want}

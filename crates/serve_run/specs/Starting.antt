@@ -5,7 +5,7 @@ use Rattle.outside.specs.Accepting.{Standing}
 use Rattle.outside.specs.Link.{Shown}
 use Rattle.poa_base.specs.declared.Entry.{Entry}
 use Rattle.poa_shared.specs.declared.shared.Shared.{Shared}
-use Rattle.poa_worker.specs.Helping.{SeatOf}
+use Rattle.poa_shared.specs.Helping.{SeatOf}
 use Rattle.run_history.specs.declared.givens.Givens.{Givens}
 use Rattle.run_tally.specs.declared.full.Full.{Full}
 use Rattle.seat_lock.specs.declared.view.View.{View}

@@ -1,12 +1,11 @@
 //! A lane's aid: its seat is split and joined.
 ghost use Rattle.std.specs.Prelude.{◌≡◌, ◌<◌, false, None};
 ghost use Rattle.poa_shared.specs.Seats.{IsIdle};
-ghost use Rattle.poa_worker.specs.Helping.{IsReady};
+ghost use Rattle.poa_shared.specs.Helping.{IsReady};
 ghost use Rattle.seat_lock.specs.Seats.{view};
 ghost use Rattle.serve_run.specs.Aiding.{AidJoined, IsSplit};
 
-use poa_shared::{Seat, Shared};
-use poa_worker::Aid;
+use poa_shared::{Aid, Seat, Shared};
 
 /// An aid on a new seat, where the gate never keeps anybody; else one without a seat.
 pub fn split_aid(shared: &Shared, seat: &mut Seat, is_open: bool) -> Aid

@@ -2,13 +2,12 @@
 ghost use Rattle.std.specs.Prelude.{◌≡◌, IsSome, Some};
 ghost use Rattle.std.specs.Arc.{arc_value};
 ghost use Rattle.poa_shared.specs.Seats.{IsIdle};
-ghost use Rattle.poa_worker.specs.Helping.{Aids, IsReady};
+ghost use Rattle.poa_shared.specs.Helping.{Aids, IsReady};
 ghost use Rattle.seat_lock.specs.Seats.{view};
 ghost use Rattle.serve_run.specs.Starting.{HasDoor, IsJoined, task_door};
 
 use outside::{Acceptor, Gate, ThreadCrew, Ticket};
-use poa_shared::{Seat, Shared};
-use poa_worker::Aid;
+use poa_shared::{Aid, Seat, Shared};
 use run_tally::Full;
 use serve_pieces::{Piece, PieceEnd, Task};
 use std::alloc::Global;

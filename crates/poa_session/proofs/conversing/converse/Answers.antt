@@ -1,5 +1,5 @@
 use Rattle.seat_lock.specs.Seats.{view}
-use Rattle.poa_worker.proofs.Helped.{aids_none}
+use Rattle.poa_shared.proofs.Helped.{aids_none}
 use Rattle.poa_session.proofs.Talking.{sits_lost, sits_new}
 use Rattle.poa_session.proofs.conversing.converse.Goals as goal
 

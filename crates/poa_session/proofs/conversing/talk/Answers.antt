@@ -1,6 +1,6 @@
 use Rattle.std.proofs.Common.{◌<◌, arith, rules, sym, subst, ap, le_trans, ◌∙◌}
 use Rattle.seat_lock.specs.Seats.{view}
-use Rattle.poa_worker.proofs.Helped.{aids_none, aids_through}
+use Rattle.poa_shared.proofs.Helped.{aids_none, aids_through}
 use Rattle.poa_session.specs.declared.flow.Flow.TheVariants.{Broke, Ends}
 use Rattle.poa_session.proofs.Counted.{rose_after, rose_before}
 use Rattle.poa_session.proofs.Talking.{sits_broken, sits_ended, sits_new, sits_on}

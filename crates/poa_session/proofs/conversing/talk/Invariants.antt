@@ -3,7 +3,7 @@ use Rattle.seat_lock.specs.Seats.{view}
 use Rattle.run_history.specs.declared.Givens.{Givens}
 use Rattle.poa_shared.specs.Seats.{IsIdle}
 use Rattle.poa_shared.specs.Seen.{HoldsConnection}
-use Rattle.poa_worker.specs.Helping.{Aids, IsReady}
+use Rattle.poa_shared.specs.Helping.{Aids, IsReady}
 use Rattle.poa_session.proofs.Talking.{Sits}
 use Rattle.poa_session.proofs.conversing.talk.Given as goal
 

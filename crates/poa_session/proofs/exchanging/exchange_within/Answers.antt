@@ -1,6 +1,6 @@
 use Rattle.std.proofs.Common.{refl, inl, inr, ◌∙◌}
 use Rattle.seat_lock.specs.Seats.{view}
-use Rattle.poa_worker.proofs.Helped.{aids_none}
+use Rattle.poa_shared.proofs.Helped.{aids_none}
 use Rattle.poa_session.proofs.exchanging.exchange_within.Goals as goal
 
 pub returns-in-Some-clause-conn : goal.returns-in-Some-clause-conn

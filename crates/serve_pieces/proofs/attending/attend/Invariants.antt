@@ -1,6 +1,6 @@
 use Rattle.std.proofs.Common.{◌≡◌, Some}
 use Rattle.poa_shared.specs.Seats.{IsIdle}
-use Rattle.poa_worker.specs.Helping.{Aids, IsReady}
+use Rattle.poa_shared.specs.Helping.{Aids, IsReady}
 use Rattle.run_history.specs.declared.givens.Givens.{Givens}
 use Rattle.seat_lock.specs.Seats.{view}
 use Rattle.serve_pieces.proofs.Rounds.{Rounds}

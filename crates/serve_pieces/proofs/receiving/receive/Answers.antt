@@ -1,6 +1,6 @@
 use Rattle.std.proofs.Common.{◌≡◌, refl, ◌∙◌}
 use Rattle.outside.specs.declared.accepting.Door.TheVariants as door
-use Rattle.poa_worker.proofs.Helped.{aids_none}
+use Rattle.poa_shared.proofs.Helped.{aids_none}
 use Rattle.seat_lock.specs.Seats.{view}
 use Rattle.serve_pieces.specs.Visits.{Visit}
 use Rattle.serve_pieces.proofs.Passing.{passed_on}

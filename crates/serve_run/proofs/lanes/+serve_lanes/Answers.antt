@@ -1,6 +1,6 @@
 use Rattle.std.proofs.Common.{◌++◌, ◌∷◌, [], rules, refl, sym, ap, ◌∙◌, subst, None}
 use Rattle.seat_lock.specs.Seats.{view}
-use Rattle.poa_worker.specs.Helping.{Aids}
+use Rattle.poa_shared.specs.Helping.{Aids}
 use Rattle.serve_pieces.specs.declared.task.Task.TheVariants.{Lane}
 use Rattle.serve_pieces.specs.Promises.{Keeps}
 use Rattle.serve_run.specs.Aiding.{AidJoined}

@@ -4,7 +4,7 @@ use Rattle.poa_base.specs.declared.Entry.{Entry}
 use Rattle.poa_base.specs.declared.Entry.TheVariants.{Abandon}
 use Rattle.poa_shared.specs.Seats.{IsIdle}
 use Rattle.poa_shared.specs.declared.shared.Shared.{Shared}
-use Rattle.poa_worker.specs.Making.{Makes}
+use Rattle.poa_shared.specs.Making.{Makes}
 use Rattle.run_history.specs.Life.{Life}
 use Rattle.run_history.specs.Owners.{worker_of}
 use Rattle.run_history.specs.declared.givens.Givens.{Givens}

@@ -5,8 +5,8 @@ use mathlib.Core.Logic.{dite}
 use native.Mathlib.Decide.{ℕ_discrete}
 use Rattle.poa_base.specs.declared.Entry.{Entry}
 use Rattle.poa_shared.specs.Seen.{past, Turns}
-use Rattle.poa_worker.specs.Making.{Makes}
-use Rattle.poa_worker.proofs.Seeing.{same_seen, one_seen, found_longer}
+use Rattle.poa_shared.specs.Making.{Makes}
+use Rattle.poa_shared.proofs.Seeing.{same_seen, one_seen, found_longer}
 use Rattle.run_history.specs.declared.givens.Givens.{Givens}
 use Rattle.seat_lock.specs.declared.view.View.{View}
 use Rattle.seat_lock.specs.Histories.{In, times}

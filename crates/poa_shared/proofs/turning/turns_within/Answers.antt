@@ -3,11 +3,11 @@ use Rattle.std.proofs.lemmas.Result.{err_from_is_err_and}
 use Rattle.poa_core.specs.declared.step_out.StepOut.TheVariants as step_out
 use Rattle.poa_shared.specs.Events.{Event}
 use Rattle.poa_core.specs.Answers.{Steps}
-use Rattle.poa_worker.specs.Pauses.{IsPaused}
-use Rattle.poa_worker.proofs.Ending.{step_did, step_idle, step_stopped}
-use Rattle.poa_worker.proofs.Steps.{steps_on}
+use Rattle.poa_shared.specs.Pauses.{IsPaused}
+use Rattle.poa_shared.proofs.Ending.{step_did, step_idle, step_stopped}
+use Rattle.poa_shared.proofs.Steps.{steps_on}
 use Rattle.seat_lock.specs.Seats.{view}
-use Rattle.poa_worker.proofs.turning.turns_within.Goals as goal
+use Rattle.poa_shared.proofs.turning.turns_within.Goals as goal
 
 pub returns-in_err-step_within-clause-turned : goal.returns-in_err-step_within-clause-turned
 returns-in_err-step_within-clause-turned g c = λ k given.

@@ -9,11 +9,11 @@ use Rattle.run_history.specs.declared.givens.Givens.{Givens}
 use Rattle.run_history.specs.Runs.{IsLog}
 use Rattle.run_history.specs.Owners.{owner_of}
 use Rattle.poa_shared.specs.Seen.{past}
-use Rattle.poa_worker.specs.declared.pause.Pause.{Pause}
-use Rattle.poa_worker.specs.declared.pause.Pause.TheVariants as pause
+use Rattle.poa_shared.specs.declared.pause.Pause.{Pause}
+use Rattle.poa_shared.specs.declared.pause.Pause.TheVariants as pause
 use Rattle.run_endings.specs.Closing.{IsClosed}
-use Rattle.poa_worker.specs.Making.{Makes}
-use Rattle.poa_worker.specs.Worked.{IsTurnAt}
+use Rattle.poa_shared.specs.Making.{Makes}
+use Rattle.poa_shared.specs.Worked.{IsTurnAt}
 use Rattle.seat_lock.specs.declared.view.View.{View}
 use Rattle.seat_lock.specs.Steps.{Knows}
 

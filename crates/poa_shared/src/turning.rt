@@ -3,12 +3,13 @@ ghost use Rattle.std.specs.Prelude.{◌≡◌, ◌<◌, Some};
 ghost use Rattle.seat_lock.specs.Seats.{view};
 ghost use Rattle.run_history.specs.declared.givens.Givens.{Givens};
 ghost use Rattle.poa_shared.specs.Seats.{IsIdle};
-ghost use Rattle.poa_worker.specs.Pauses.{Pauses};
+ghost use Rattle.poa_shared.specs.Pauses.{Pauses};
 
+use crate::news::News;
 use crate::pause::Pause;
+use crate::shared::{Front, Seat, Shared};
 use poa_base::{Point, WantMemory};
 use poa_core::StepOut;
-use poa_shared::{Front, News, Seat, Shared};
 use std::sync::Wait;
 
 /// How many turns a worker makes at most before it lets others to the front.

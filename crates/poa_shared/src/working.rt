@@ -3,14 +3,15 @@ ghost use Rattle.std.specs.Prelude.{◌≡◌, ◌<◌, Some};
 ghost use Rattle.seat_lock.specs.Seats.{view};
 ghost use Rattle.run_history.specs.declared.givens.Givens.{Givens};
 ghost use Rattle.poa_shared.specs.Seats.{IsIdle};
-ghost use Rattle.poa_worker.specs.Worked.{Worked};
+ghost use Rattle.poa_shared.specs.Worked.{Worked};
 
+use crate::bell::Bell;
 use crate::pause::Pause;
+use crate::shared::{Seat, Shared};
 use crate::turning::take_turns;
 use crate::work_end::WorkEnd;
 use outside::Gate;
 use poa_base::WantMemory;
-use poa_shared::{Bell, Seat, Shared};
 use std::sync::Wait;
 
 /// Works as a worker below 16 until the run is over. Between the stages of what it has begun it passes the gate, outside

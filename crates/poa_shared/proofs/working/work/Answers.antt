@@ -1,9 +1,9 @@
 use Rattle.std.proofs.Common.{◌≡◌, ap, rules, subst, sym, true, Ok}
-use Rattle.poa_worker.specs.declared.pause.Pause.TheVariants as pause
-use Rattle.poa_worker.specs.Pauses.{MakesTurns}
-use Rattle.poa_worker.proofs.Ending.{closes, gives_it_up, goes_further, stops}
+use Rattle.poa_shared.specs.declared.pause.Pause.TheVariants as pause
+use Rattle.poa_shared.specs.Pauses.{MakesTurns}
+use Rattle.poa_shared.proofs.Ending.{closes, gives_it_up, goes_further, stops}
 use Rattle.seat_lock.specs.Seats.{view}
-use Rattle.poa_worker.proofs.working.work.Goals as goal
+use Rattle.poa_shared.proofs.working.work.Goals as goal
 
 pub loop-preserved-in-Ok-At : goal.loop-preserved-in-Ok-At
 loop-preserved-in-Ok-At g c = record {

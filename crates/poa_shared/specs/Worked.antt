@@ -10,9 +10,9 @@ use Rattle.run_history.specs.declared.givens.Givens.{Givens}
 use Rattle.run_history.specs.Runs.{IsLog}
 use Rattle.run_history.specs.Owners.{owner_of, worker_of}
 use Rattle.poa_shared.specs.Seen.{past}
-use Rattle.poa_worker.specs.Making.{Makes}
-use Rattle.poa_worker.specs.declared.work_end.WorkEnd.{WorkEnd}
-use Rattle.poa_worker.specs.declared.work_end.WorkEnd.TheVariants.{Closed, Stopped, WantMemory}
+use Rattle.poa_shared.specs.Making.{Makes}
+use Rattle.poa_shared.specs.declared.work_end.WorkEnd.{WorkEnd}
+use Rattle.poa_shared.specs.declared.work_end.WorkEnd.TheVariants.{Closed, Stopped, WantMemory}
 use Rattle.seat_lock.specs.declared.view.View.{View}
 use Rattle.seat_lock.specs.Histories.{In}
 use Rattle.seat_lock.specs.Steps.{Knows}

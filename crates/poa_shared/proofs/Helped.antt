@@ -8,10 +8,10 @@ use Rattle.poa_core.specs.declared.step_out.StepOut.{StepOut}
 use Rattle.poa_core.specs.declared.step_out.StepOut.TheVariants as step_out
 use Rattle.poa_shared.specs.Events.{Event, StepsRunning}
 use Rattle.poa_shared.specs.Seen.{past, Turns}
-use Rattle.poa_worker.specs.Helping.{Aids, Helps, IsHelpAt, SeatOf}
-use Rattle.poa_worker.proofs.Making.{call_none, call_one, makes_none, makes_through}
-use Rattle.poa_worker.proofs.Seeing.{seen_one}
-use Rattle.poa_worker.proofs.Steps.{turn_own, IsOf}
+use Rattle.poa_shared.specs.Helping.{Aids, Helps, IsHelpAt, SeatOf}
+use Rattle.poa_shared.proofs.Making.{call_none, call_one, makes_none, makes_through}
+use Rattle.poa_shared.proofs.Seeing.{seen_one}
+use Rattle.poa_shared.proofs.Steps.{turn_own, IsOf}
 use Rattle.run_history.specs.declared.givens.Givens.{Givens}
 use Rattle.run_tally.specs.Phases.{phase_of}
 use Rattle.run_tally.specs.declared.phase.Phase.TheVariants.{Running}

@@ -3,11 +3,12 @@ ghost use Rattle.std.specs.Prelude.{◌≡◌, Some};
 ghost use Rattle.seat_lock.specs.Seats.{view};
 ghost use Rattle.run_history.specs.declared.givens.Givens.{Givens};
 ghost use Rattle.poa_shared.specs.Seats.{IsIdle};
-ghost use Rattle.poa_worker.specs.Helping.{Aids, Helps, IsReady};
+ghost use Rattle.poa_shared.specs.Helping.{Aids, Helps, IsReady};
 
 use crate::aid::Aid;
+use crate::news::News;
+use crate::shared::{Front, Seat, Shared};
 use poa_core::StepOut;
-use poa_shared::{Front, News, Seat, Shared};
 use std::sync::Wait;
 
 /// The worker whose turns others make: the first, which may admit the calls of every adapter.

@@ -21,15 +21,15 @@ use Rattle.poa_core.specs.declared.step_out.StepOut.TheVariants as step_out
 use Rattle.poa_shared.specs.Seen.{past, Turns}
 use Rattle.poa_shared.specs.Events.{Event}
 use Rattle.run_history.specs.Life.{life_at}
-use Rattle.poa_worker.specs.declared.work_end.WorkEnd.TheVariants as work_end
-use Rattle.poa_worker.specs.Making.{Makes}
-use Rattle.poa_worker.specs.Worked.{IsGivenUpAt, IsMadeAt, IsTurnAt, Worked}
-use Rattle.poa_worker.specs.Pauses.{HasSeenAll, IsPaused, MakesTurns, Pauses}
-use Rattle.poa_worker.specs.declared.pause.Pause.{Pause}
-use Rattle.poa_worker.specs.declared.pause.Pause.TheVariants as pause
-use Rattle.poa_worker.proofs.Making.{call_none, call_one, in_either, makes_through}
-use Rattle.poa_worker.proofs.Seeing.{one_stands}
-use Rattle.poa_worker.proofs.Steps.{turn_stays, turns_through}
+use Rattle.poa_shared.specs.declared.work_end.WorkEnd.TheVariants as work_end
+use Rattle.poa_shared.specs.Making.{Makes}
+use Rattle.poa_shared.specs.Worked.{IsGivenUpAt, IsMadeAt, IsTurnAt, Worked}
+use Rattle.poa_shared.specs.Pauses.{HasSeenAll, IsPaused, MakesTurns, Pauses}
+use Rattle.poa_shared.specs.declared.pause.Pause.{Pause}
+use Rattle.poa_shared.specs.declared.pause.Pause.TheVariants as pause
+use Rattle.poa_shared.proofs.Making.{call_none, call_one, in_either, makes_through}
+use Rattle.poa_shared.proofs.Seeing.{one_stands}
+use Rattle.poa_shared.proofs.Steps.{turn_stays, turns_through}
 use Rattle.seat_lock.specs.declared.view.View.{View}
 use Rattle.seat_lock.specs.Histories.{In}
 use Rattle.seat_lock.proofs.Totals.{at_below, in_added}

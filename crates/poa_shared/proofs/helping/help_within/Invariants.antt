@@ -1,9 +1,9 @@
 use Rattle.std.specs.Prelude.{◌≡◌, Some}
 use Rattle.run_history.specs.declared.givens.Givens.{Givens}
 use Rattle.poa_shared.specs.Seats.{IsIdle}
-use Rattle.poa_worker.specs.Helping.{Helps}
+use Rattle.poa_shared.specs.Helping.{Helps}
 use Rattle.seat_lock.specs.Seats.{view}
-use Rattle.poa_worker.proofs.helping.help_within.Given as goal
+use Rattle.poa_shared.proofs.helping.help_within.Given as goal
 
 abbrev pub invariant-loop : goal.invariant-loop
 invariant-loop G l = record {

@@ -1,7 +1,7 @@
 //! A second seat, for turns.
 ghost use Rattle.std.specs.Prelude.{◌≡◌, None};
 
-use poa_shared::Seat;
+use crate::shared::Seat;
 
 /// A second seat of one who serves connections. By it he makes the first worker's turns for the calls that came in by him,
 /// so that they don't wait for that worker's thread. Without a seat he leaves them to it.

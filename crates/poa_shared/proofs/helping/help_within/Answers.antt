@@ -1,7 +1,7 @@
 use Rattle.std.proofs.Common.{rules}
-use Rattle.poa_worker.proofs.Helped.{helps_none, steps_on}
+use Rattle.poa_shared.proofs.Helped.{helps_none, steps_on}
 use Rattle.seat_lock.specs.Seats.{view}
-use Rattle.poa_worker.proofs.helping.help_within.Goals as goal
+use Rattle.poa_shared.proofs.helping.help_within.Goals as goal
 
 pub loop-init : goal.loop-init
 loop-init g c = record {

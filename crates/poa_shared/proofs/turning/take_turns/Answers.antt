@@ -1,7 +1,7 @@
 use Rattle.std.proofs.Common.{ap, sym, subst}
 use Rattle.seat_lock.specs.Seats.{view}
-use Rattle.poa_worker.specs.Pauses.{Pauses}
-use Rattle.poa_worker.proofs.turning.take_turns.Goals as goal
+use Rattle.poa_shared.specs.Pauses.{Pauses}
+use Rattle.poa_shared.proofs.turning.take_turns.Goals as goal
 
 pub returns-clause-turned : goal.returns-clause-turned
 returns-clause-turned g c = λ k given.

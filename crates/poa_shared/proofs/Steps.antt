@@ -19,10 +19,10 @@ use Rattle.poa_core.specs.declared.step_out.StepOut.{StepOut}
 use Rattle.poa_core.specs.declared.step_out.StepOut.TheVariants as step_out
 use Rattle.poa_shared.specs.Seen.{past, Turns}
 use Rattle.poa_shared.specs.Events.{Event}
-use Rattle.poa_worker.specs.Worked.{IsTurnAt}
-use Rattle.poa_worker.specs.Pauses.{MakesTurns}
-use Rattle.poa_worker.proofs.Making.{call_none, call_one, makes_through}
-use Rattle.poa_worker.proofs.Seeing.{one_stands}
+use Rattle.poa_shared.specs.Worked.{IsTurnAt}
+use Rattle.poa_shared.specs.Pauses.{MakesTurns}
+use Rattle.poa_shared.proofs.Making.{call_none, call_one, makes_through}
+use Rattle.poa_shared.proofs.Seeing.{one_stands}
 use Rattle.seat_lock.specs.declared.view.View.{View}
 use Rattle.seat_lock.specs.Histories.{IsPrefix}
 use Rattle.seat_lock.proofs.Calls.{at_prefix}

@@ -1,5 +1,0 @@
-pub mod Seeing
-pub mod Making
-pub mod Steps
-pub mod Ending
-pub mod Helped

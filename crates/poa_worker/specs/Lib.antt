@@ -1,4 +1,0 @@
-pub mod Making
-pub mod Worked
-pub mod Pauses
-pub mod Helping
