@@ -23,8 +23,8 @@ use Rattle.run_history.specs.Life.{Life}
 use Rattle.run_history.specs.declared.givens.Givens.{Givens}
 use Rattle.run_tally.specs.Limits.{filled_at}
 use Rattle.run_tally.specs.declared.full.Full.{Full}
-use Rattle.serve_pieces.specs.declared.ran.PieceEnd.{PieceEnd}
-use Rattle.serve_pieces.specs.declared.ran.PieceEnd.TheVariants.{DoorEnd, DoorFailed, NotRunning, Worked}
+use Rattle.serve_run.specs.declared.ran.PieceEnd.{PieceEnd}
+use Rattle.serve_run.specs.declared.ran.PieceEnd.TheVariants.{DoorEnd, DoorFailed, NotRunning, Worked}
 use Rattle.serve_run.specs.Outcomes.{any_failed, is_failed, least_in}
 use Rattle.serve_run.specs.Running.{IsKeptRun, IsServedRun, IsWholeRun}
 use Rattle.serve_run.specs.Served.{EachEnded}

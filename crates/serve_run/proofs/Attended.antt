@@ -15,11 +15,11 @@ use Rattle.run_tally.specs.declared.full.Full.{Full}
 use Rattle.seat_lock.specs.declared.view.View.{View}
 use Rattle.seat_lock.specs.Histories.{In}
 use Rattle.session_laws.specs.declared.peer.Peer.TheVariants.{Administrator}
-use Rattle.serve_pieces.specs.Doors.{DoorKept}
-use Rattle.serve_pieces.specs.declared.ran.PieceEnd.{PieceEnd}
-use Rattle.serve_pieces.specs.declared.ran.PieceEnd.TheVariants.{DoorEnd, DoorFailed, NotRunning, Worked}
-use Rattle.serve_pieces.specs.declared.task.Task.{Task}
-use Rattle.serve_pieces.proofs.Places.{in_first, in_second}
+use Rattle.serve_run.specs.Doors.{DoorKept}
+use Rattle.serve_run.specs.declared.ran.PieceEnd.{PieceEnd}
+use Rattle.serve_run.specs.declared.ran.PieceEnd.TheVariants.{DoorEnd, DoorFailed, NotRunning, Worked}
+use Rattle.serve_run.specs.declared.task.Task.{Task}
+use Rattle.serve_run.proofs.Places.{in_first, in_second}
 use Rattle.serve_run.specs.Attending.{AllServed, Attended, DoorsServed}
 use Rattle.serve_run.specs.Holding.{Holds}
 use Rattle.serve_run.specs.Lanes.{AreServed, LanesServed}

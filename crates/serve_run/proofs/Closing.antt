@@ -3,7 +3,7 @@ use Rattle.std.proofs.Common.{◌≡◌, ℕ, ◌<◌, List, length, sym, ap, �
 use Rattle.std.specs.Prelude.{Option}
 use Rattle.seat_lock.specs.Histories.{Belongs, In, IsClosed, IsPrefix, entering}
 use Rattle.seat_lock.proofs.Histories.{entering_least, entering_stays}
-use Rattle.serve_pieces.proofs.Places.{stood_before}
+use Rattle.serve_run.proofs.Places.{stood_before}
 use Rattle.poa_base.specs.declared.Entry.{Entry}
 
 module _ (owner : Entry → Option ℕ) (short long : List Entry) (p : IsPrefix short long) where

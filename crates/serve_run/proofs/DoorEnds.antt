@@ -20,10 +20,10 @@ use Rattle.run_tally.specs.declared.phase.Phase.TheVariants.{Running}
 use Rattle.std.specs.Option.{option_or}
 use Rattle.seat_lock.specs.declared.view.View.{View}
 use Rattle.seat_lock.specs.Histories.{IsPrefix}
-use Rattle.serve_pieces.specs.Doors.{DoorHasCause}
-use Rattle.serve_pieces.specs.declared.ran.PieceEnd.{PieceEnd}
-use Rattle.serve_pieces.specs.declared.ran.PieceEnd.TheVariants.{DoorEnd, DoorFailed, NotRunning, Worked}
-use Rattle.serve_pieces.proofs.Places.{earlier_stands}
+use Rattle.serve_run.specs.Doors.{DoorHasCause}
+use Rattle.serve_run.specs.declared.ran.PieceEnd.{PieceEnd}
+use Rattle.serve_run.specs.declared.ran.PieceEnd.TheVariants.{DoorEnd, DoorFailed, NotRunning, Worked}
+use Rattle.serve_run.proofs.Places.{earlier_stands}
 use Rattle.serve_run.specs.Holding.{AreBefore}
 use Rattle.serve_run.specs.Served.{EachEnded, EachPassed, IsEnded, NoneGaveUp, is_shut_by_others}
 use Rattle.serve_run.specs.Tours.{Tour, EachToured, HasToured}

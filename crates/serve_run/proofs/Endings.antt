@@ -36,9 +36,9 @@ use Rattle.seat_lock.proofs.Lists.{at_longer}
 use Rattle.seat_lock.proofs.Totals.{at_below}
 use Rattle.session_laws.specs.Records.{is_late}
 use Rattle.session_laws.specs.declared.peer.Peer.{Peer}
-use Rattle.serve_pieces.specs.Visits.{Visit, Visited, EachVisited, conn_in, conns_of}
-use Rattle.serve_pieces.proofs.Entering.{entered_low, entered_once}
-use Rattle.serve_pieces.proofs.Places.{stood_before}
+use Rattle.serve_run.specs.Visits.{Visit, Visited, EachVisited, conn_in, conns_of}
+use Rattle.serve_run.proofs.Entering.{entered_low, entered_once}
+use Rattle.serve_run.proofs.Places.{stood_before}
 use Rattle.serve_run.specs.Tours.{Tour, Shift, conns_in, workers_in, EachToured, EachWorked, HasWorked}
 use Rattle.serve_run.specs.Holding.{Holds}
 use Rattle.serve_run.specs.Served.{IsRunOver}

@@ -21,9 +21,9 @@ use Rattle.seat_lock.proofs.Calls.{at_prefix}
 use Rattle.seat_lock.proofs.Histories.{prefix_shorter, prefix_through}
 use Rattle.seat_lock.proofs.Lists.{at_last}
 use Rattle.seat_lock.proofs.Totals.{at_below, one_at}
-use Rattle.serve_pieces.specs.Ledgers.{Ledger}
-use Rattle.serve_pieces.proofs.Growing.{Adds}
-use Rattle.serve_pieces.proofs.Places.{stood_before}
+use Rattle.serve_run.specs.Ledgers.{Ledger}
+use Rattle.serve_run.proofs.Growing.{Adds}
+use Rattle.serve_run.proofs.Places.{stood_before}
 use Rattle.serve_run.specs.Holding.{HasTurnsOf}
 use Rattle.serve_run.specs.Tours.{IsWorkersAt}
 use Rattle.serve_run.proofs.Lasting.{shut_behind}

@@ -14,9 +14,9 @@ use Rattle.seat_lock.specs.Seats.{view}
 use Rattle.seat_lock.specs.Steps.{Unites}
 use Rattle.seat_lock.specs.Views.{longer}
 use Rattle.seat_lock.specs.declared.view.View.{View}
-use Rattle.serve_pieces.specs.Ledgers.{Ledger}
-use Rattle.serve_pieces.proofs.Growing.{Adds}
-use Rattle.serve_pieces.proofs.Places.{in_first, in_second, stood_before}
+use Rattle.serve_run.specs.Ledgers.{Ledger}
+use Rattle.serve_run.proofs.Growing.{Adds}
+use Rattle.serve_run.proofs.Places.{in_first, in_second, stood_before}
 use Rattle.serve_run.specs.Aiding.{AidJoined, IsSplit}
 use Rattle.serve_run.specs.Holding.{Holds}
 use Rattle.serve_run.specs.Lanes.{AreServed, LanesServed}

@@ -14,12 +14,12 @@ use Rattle.seat_lock.proofs.Calls.{at_prefix}
 use Rattle.seat_lock.proofs.Histories.{prefix_self, prefix_through}
 use Rattle.seat_lock.proofs.Totals.{one_at, times_both, times_here}
 use Rattle.session_laws.specs.declared.peer.Peer.{Peer}
-use Rattle.serve_pieces.specs.Doors.{DoorServed}
-use Rattle.serve_pieces.specs.Ledgers.{IsOfConns, IsOfWorkers}
-use Rattle.serve_pieces.specs.Visits.{conns_of}
-use Rattle.serve_pieces.specs.declared.ran.PieceEnd.{PieceEnd}
-use Rattle.serve_pieces.proofs.Growing.{each_later, Adds}
-use Rattle.serve_pieces.proofs.Places.{in_first, in_second, stood_before}
+use Rattle.serve_run.specs.Doors.{DoorServed}
+use Rattle.serve_run.specs.Ledgers.{IsOfConns, IsOfWorkers}
+use Rattle.serve_run.specs.Visits.{conns_of}
+use Rattle.serve_run.specs.declared.ran.PieceEnd.{PieceEnd}
+use Rattle.serve_run.proofs.Growing.{each_later, Adds}
+use Rattle.serve_run.proofs.Places.{in_first, in_second, stood_before}
 use Rattle.serve_run.specs.Tours.{Tour, Shift, conns_in, workers_in, EachToured, EachWorked, HasToured, HasWorked, IsWorkersAt}
 use Rattle.serve_run.specs.Holding.{Holds}
 use Rattle.serve_run.proofs.Helping.{turns_more}

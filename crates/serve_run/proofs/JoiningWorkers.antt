@@ -15,9 +15,9 @@ use Rattle.seat_lock.specs.Histories.{Belongs, In}
 use Rattle.seat_lock.specs.Steps.{Unites}
 use Rattle.seat_lock.proofs.Calls.{at_prefix}
 use Rattle.seat_lock.proofs.Totals.{one_at}
-use Rattle.serve_pieces.specs.Ledgers.{IsOfConns, IsOfWorkers, Ledger}
-use Rattle.serve_pieces.proofs.Growing.{Adds}
-use Rattle.serve_pieces.proofs.Places.{in_first, in_second, stood_before}
+use Rattle.serve_run.specs.Ledgers.{IsOfConns, IsOfWorkers, Ledger}
+use Rattle.serve_run.proofs.Growing.{Adds}
+use Rattle.serve_run.proofs.Places.{in_first, in_second, stood_before}
 use Rattle.serve_run.specs.Tours.{Tour, Shift, conns_in, workers_in, IsWorkersAt}
 use Rattle.serve_run.specs.Holding.{Holds, IsLast}
 use Rattle.serve_run.proofs.Closing.{belongs_before}

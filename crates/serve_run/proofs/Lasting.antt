@@ -23,7 +23,7 @@ use Rattle.seat_lock.proofs.Lists.{at_last, at_longer}
 use Rattle.seat_lock.proofs.Totals.{at_below}
 use Rattle.session_laws.specs.Hearing.{Heard}
 use Rattle.session_laws.specs.Records.{arrived_by, is_late_by}
-use Rattle.serve_pieces.proofs.Places.{earlier_stands, newest_stands, which_stands}
+use Rattle.serve_run.proofs.Places.{earlier_stands, newest_stands, which_stands}
 
 -- the entry behind a beginning
 pub next_stands : (short rest : List Entry) (e : Entry) → get_elem? (short ++ e ∷ rest) (length short) ≡ some e

@@ -1,3 +1,10 @@
+pub mod Places
+pub mod Entering
+pub mod Growing
+pub mod Served
+pub mod Looking
+pub mod Passing
+pub mod Rounds
 pub mod Closing
 pub mod Uniting
 pub mod Numbers

@@ -24,7 +24,7 @@ use Rattle.run_history.specs.Owners.{worker_of}
 use Rattle.seat_lock.specs.declared.view.View.{View}
 use Rattle.seat_lock.specs.Histories.{times, In}
 use Rattle.seat_lock.proofs.Totals.{one_at, times_else, times_here}
-use Rattle.serve_pieces.proofs.Places.{in_first, newest_stands}
+use Rattle.serve_run.proofs.Places.{in_first, newest_stands}
 use Rattle.serve_run.specs.Tours.{Tour, Shift, conns_in}
 use Rattle.serve_run.specs.Holding.{Holds, IsLast, IsWord}
 use Rattle.serve_run.proofs.Staying.{holds_looked, holds_own, last_own}

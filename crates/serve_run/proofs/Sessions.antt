@@ -25,10 +25,10 @@ use Rattle.seat_lock.proofs.Totals.{at_below, one_at, times_both, times_here}
 use Rattle.seat_lock.proofs.Lists.{at_last, at_longer}
 use Rattle.session_laws.specs.declared.peer.Peer.{Peer}
 use Rattle.session_laws.specs.Sessions.{Session}
-use Rattle.serve_pieces.specs.Ledgers.{IsOfConns, IsOfWorkers}
-use Rattle.serve_pieces.specs.Visits.{Visit, Visited, EachVisited}
-use Rattle.serve_pieces.proofs.Entering.{entered_low}
-use Rattle.serve_pieces.proofs.Places.{in_second, stood_before}
+use Rattle.serve_run.specs.Ledgers.{IsOfConns, IsOfWorkers}
+use Rattle.serve_run.specs.Visits.{Visit, Visited, EachVisited}
+use Rattle.serve_run.proofs.Entering.{entered_low}
+use Rattle.serve_run.proofs.Places.{in_second, stood_before}
 use Rattle.serve_run.specs.Tours.{Tour, Shift, conns_in, workers_in, EachToured, EachWorked, HasWorked}
 use Rattle.serve_run.specs.Holding.{Holds}
 use Rattle.serve_run.specs.Served.{AreConnections, EachDoor, EachSession, NoneGaveUp, IsSession, IsTurnedAway}

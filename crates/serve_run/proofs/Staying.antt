@@ -15,8 +15,8 @@ use Rattle.seat_lock.specs.Histories.{Belongs, In, IsClosed, IsPrefix}
 use Rattle.seat_lock.proofs.Histories.{prefix_below, prefix_longer}
 use Rattle.seat_lock.proofs.Lists.{at_last}
 use Rattle.seat_lock.proofs.Totals.{in_added, one_at, times_here}
-use Rattle.serve_pieces.proofs.Growing.{adds_behind, explained_more, owns_later, Adds}
-use Rattle.serve_pieces.proofs.Places.{in_first, stood_before}
+use Rattle.serve_run.proofs.Growing.{adds_behind, explained_more, owns_later, Adds}
+use Rattle.serve_run.proofs.Places.{in_first, stood_before}
 use Rattle.serve_run.specs.Tours.{Tour, Shift, conns_in, workers_in, EachToured, IsWorkersAt}
 use Rattle.serve_run.specs.Holding.{AreBefore, Holds, IsLast, IsOwn}
 use Rattle.serve_run.proofs.Closing.{belongs_before, closed_longer}

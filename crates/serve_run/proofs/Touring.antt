@@ -11,10 +11,10 @@ use Rattle.seat_lock.specs.declared.view.View.{View}
 use Rattle.seat_lock.specs.Histories.{IsPrefix}
 use Rattle.session_laws.specs.declared.peer.Peer.{Peer}
 use Rattle.session_laws.specs.declared.peer.Peer.TheVariants.{Client}
-use Rattle.serve_pieces.specs.Doors.{DoorKept, DoorServed}
-use Rattle.serve_pieces.specs.Refusals.{earlier}
-use Rattle.serve_pieces.specs.declared.ran.PieceEnd.{PieceEnd}
-use Rattle.serve_pieces.specs.declared.task.Task.{Task}
+use Rattle.serve_run.specs.Doors.{DoorKept, DoorServed}
+use Rattle.serve_run.specs.Refusals.{earlier}
+use Rattle.serve_run.specs.declared.ran.PieceEnd.{PieceEnd}
+use Rattle.serve_run.specs.declared.task.Task.{Task}
 use Rattle.serve_run.specs.Holding.{Holds}
 use Rattle.serve_run.specs.Lanes.{AreServed, LanesServed}
 use Rattle.serve_run.specs.Outcomes.{good, is_failed, short_of, with_door}

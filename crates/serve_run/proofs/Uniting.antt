@@ -13,9 +13,9 @@ use Rattle.seat_lock.specs.Histories.{times, Belongs, In, IsClosed, IsPrefix, en
 use Rattle.seat_lock.specs.Steps.{Unites}
 use Rattle.seat_lock.proofs.Calls.{at_prefix}
 use Rattle.seat_lock.proofs.Histories.{closed_both, prefix_below}
-use Rattle.serve_pieces.specs.Ledgers.{Ledger}
-use Rattle.serve_pieces.proofs.Growing.{explained_more, owns_later, Adds}
-use Rattle.serve_pieces.proofs.Places.{in_first, in_second}
+use Rattle.serve_run.specs.Ledgers.{Ledger}
+use Rattle.serve_run.proofs.Growing.{explained_more, owns_later, Adds}
+use Rattle.serve_run.proofs.Places.{in_first, in_second}
 use Rattle.serve_run.proofs.Closing.{closed_longer}
 
 -- one of the two seats, and the place at which a connection of it entered

@@ -17,7 +17,7 @@ use Rattle.run_history.specs.Owners.{owner_of}
 use Rattle.seat_lock.specs.declared.view.View.{View}
 use Rattle.seat_lock.specs.Histories.{In}
 use Rattle.seat_lock.specs.Steps.{Knows}
-use Rattle.serve_pieces.proofs.Places.{earlier_stands, newest_stands, which_stands}
+use Rattle.serve_run.proofs.Places.{earlier_stands, newest_stands, which_stands}
 
 -- every entry of the journal was made by the seat
 pub record IsWhole (v : View Givens Entry) (log : List Entry) : Type 0 where

@@ -13,7 +13,7 @@ use Rattle.run_history.specs.declared.givens.Givens.{Givens}
 use Rattle.run_history.specs.Owners.{owner_of}
 use Rattle.seat_lock.specs.declared.view.View.{View}
 use Rattle.seat_lock.specs.Histories.{Belongs, In}
-use Rattle.serve_pieces.specs.Ledgers.{Ledger}
+use Rattle.serve_run.specs.Ledgers.{Ledger}
 use Rattle.serve_run.specs.Tours.{Tour, Shift, conns_in, workers_in, EachToured, EachWorked, IsWorkersAt}
 
 -- what the run's own connection made: it entered, and made this one entry more where there is one

@@ -1,3 +1,8 @@
+pub mod Ledgers
+pub mod Visits
+pub mod Refusals
+pub mod Doors
+pub mod Promises
 pub mod Tours
 pub mod Holding
 pub mod Served

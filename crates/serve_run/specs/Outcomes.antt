@@ -1,10 +1,10 @@
 -- How a run came off, as its doors and workers tell.
 use Rattle.std.specs.Prelude.{Bool, true, false, ◌||◌, List, [], ◌∷◌, Option, Some, None}
 use Rattle.run_tally.specs.declared.full.Full.{Full}
-use Rattle.serve_pieces.specs.Refusals.{earlier}
-use Rattle.serve_pieces.specs.declared.ran.PieceEnd.{PieceEnd}
+use Rattle.serve_run.specs.Refusals.{earlier}
+use Rattle.serve_run.specs.declared.ran.PieceEnd.{PieceEnd}
 use Rattle.poa_shared.specs.declared.work_end.WorkEnd.TheVariants.{Closed}
-use Rattle.serve_pieces.specs.declared.ran.PieceEnd.TheVariants.{DoorFailed, Worked}
+use Rattle.serve_run.specs.declared.ran.PieceEnd.TheVariants.{DoorFailed, Worked}
 use Rattle.serve_run.specs.declared.outcome.Outcome.{Outcome}
 use Rattle.serve_run.specs.declared.outcome.Want.{Want}
 use Rattle.serve_run.specs.Tours.{Tour}

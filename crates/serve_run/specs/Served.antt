@@ -25,8 +25,8 @@ use Rattle.seat_lock.specs.Histories.{times, Belongs, In, IsPrefix}
 use Rattle.run_tally.specs.Leaving.{is_shut_by}
 use Rattle.session_laws.specs.declared.peer.Peer.{Peer}
 use Rattle.session_laws.specs.Sessions.{Cause, Session}
-use Rattle.serve_pieces.specs.Visits.{Visit, Passes}
-use Rattle.serve_pieces.specs.declared.ran.PieceEnd.TheVariants.{DoorFailed}
+use Rattle.serve_run.specs.Visits.{Visit, Passes}
+use Rattle.serve_run.specs.declared.ran.PieceEnd.TheVariants.{DoorFailed}
 use Rattle.serve_run.specs.Holding.{IsOwn, IsWord}
 use Rattle.serve_run.specs.Tours.{Tour}
 

@@ -11,12 +11,12 @@ use Rattle.run_tally.specs.declared.full.Full.{Full}
 use Rattle.seat_lock.specs.declared.view.View.{View}
 use Rattle.seat_lock.specs.Steps.{Unites}
 use Rattle.seat_lock.specs.Views.{joined_view}
-use Rattle.serve_pieces.specs.Promises.{Keeps}
-use Rattle.serve_pieces.specs.declared.piece.Piece.{Piece}
-use Rattle.serve_pieces.specs.declared.ran.PieceEnd.{PieceEnd}
-use Rattle.serve_pieces.specs.declared.ran.Ran.{Ran}
-use Rattle.serve_pieces.specs.declared.task.Task.{Task}
-use Rattle.serve_pieces.specs.declared.task.Task.TheVariants.{Lane, Admin, Worker}
+use Rattle.serve_run.specs.Promises.{Keeps}
+use Rattle.serve_run.specs.declared.piece.Piece.{Piece}
+use Rattle.serve_run.specs.declared.ran.PieceEnd.{PieceEnd}
+use Rattle.serve_run.specs.declared.ran.Ran.{Ran}
+use Rattle.serve_run.specs.declared.task.Task.{Task}
+use Rattle.serve_run.specs.declared.task.Task.TheVariants.{Lane, Admin, Worker}
 
 -- the seat knows what it knew, and made what it made
 pub record IsKept (old new : View Givens Entry) : Type 0 where

@@ -13,10 +13,10 @@ use Rattle.run_tally.specs.declared.full.Full.{Full}
 use Rattle.seat_lock.specs.declared.view.View.{View}
 use Rattle.seat_lock.specs.Histories.{In, IsPrefix}
 use Rattle.session_laws.specs.declared.peer.Peer.{Peer}
-use Rattle.serve_pieces.specs.declared.ran.PieceEnd.{PieceEnd}
-use Rattle.serve_pieces.specs.Doors.{DoorHasCause}
-use Rattle.serve_pieces.specs.Refusals.{least_refusal}
-use Rattle.serve_pieces.specs.Visits.{Visit, conns_of, EachVisited, Passes}
+use Rattle.serve_run.specs.declared.ran.PieceEnd.{PieceEnd}
+use Rattle.serve_run.specs.Doors.{DoorHasCause}
+use Rattle.serve_run.specs.Refusals.{least_refusal}
+use Rattle.serve_run.specs.Visits.{Visit, conns_of, EachVisited, Passes}
 
 -- a door as it was handed in and as it came back, the links that it gave, and how its serving ended
 pub record Tour (A L : Type 0) : Type 0 where

@@ -6,10 +6,12 @@ ghost use Rattle.poa_shared.specs.Helping.{Aids, IsReady};
 ghost use Rattle.seat_lock.specs.Seats.{view};
 ghost use Rattle.serve_run.specs.Starting.{HasDoor, IsJoined, task_door};
 
+use crate::piece::Piece;
+use crate::ran::PieceEnd;
+use crate::task::Task;
 use outside::{Acceptor, Gate, ThreadCrew, Ticket};
 use poa_shared::{Aid, Seat, Shared};
 use run_tally::Full;
-use serve_pieces::{Piece, PieceEnd, Task};
 use std::alloc::Global;
 use std::sync::{Arc, Wait};
 use std::thread::Threads;

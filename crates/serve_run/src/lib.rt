@@ -3,16 +3,27 @@
 #![tactic(auto)]
 
 mod aiding;
+mod attending;
 mod doors;
 mod joining;
 mod lanes;
 mod outcome;
+mod piece;
+mod ran;
+mod received;
+mod receiving;
+mod refusing;
 mod running;
 mod serving;
 mod shutting;
 mod starting;
+mod task;
 mod working;
 
 pub use doors::Doors;
 pub use outcome::{Outcome, Want};
+pub use piece::Piece;
+pub use ran::{PieceEnd, Ran};
+pub use refusing::earlier;
 pub use running::{Finished, Run, serve_core};
+pub use task::Task;

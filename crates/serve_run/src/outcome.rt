@@ -2,8 +2,9 @@
 ghost use Rattle.std.specs.Prelude.{◌≡◌, ◌||◌, None, false, true};
 ghost use Rattle.serve_run.specs.Outcomes as outcomes;
 
+use crate::ran::PieceEnd;
+use crate::refusing::earlier;
 use run_tally::Full;
-use serve_pieces::{PieceEnd, earlier};
 
 /// For want of what a piece wasn't started.
 #[derive(Clone, Copy, Drop)]

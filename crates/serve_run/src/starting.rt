@@ -4,14 +4,15 @@ ghost use Rattle.std.specs.Arc.{arc_value};
 ghost use Rattle.poa_shared.specs.Seats.{IsIdle};
 ghost use Rattle.poa_shared.specs.Helping.{IsReady};
 ghost use Rattle.seat_lock.specs.Seats.{view};
-ghost use Rattle.serve_pieces.specs.Promises.{IsNumbered};
+ghost use Rattle.serve_run.specs.Promises.{IsNumbered};
 ghost use Rattle.serve_run.specs.Starting.{IsKept, IsStarted};
 ghost use Rattle.serve_run.specs.Threads.{CountsThreads};
 
 use crate::outcome::Want;
+use crate::piece::Piece;
+use crate::task::Task;
 use outside::{Acceptor, Gate, ThreadCrew, Ticket};
 use poa_shared::{Aid, Seat, Shared};
-use serve_pieces::{Piece, Task};
 use std::alloc::Global;
 use std::sync::{Arc, Wait};
 use std::thread::Threads;

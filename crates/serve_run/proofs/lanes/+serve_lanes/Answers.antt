@@ -1,8 +1,8 @@
 use Rattle.std.proofs.Common.{◌++◌, ◌∷◌, [], rules, refl, sym, ap, ◌∙◌, subst, None}
 use Rattle.seat_lock.specs.Seats.{view}
 use Rattle.poa_shared.specs.Helping.{Aids}
-use Rattle.serve_pieces.specs.declared.task.Task.TheVariants.{Lane}
-use Rattle.serve_pieces.specs.Promises.{Keeps}
+use Rattle.serve_run.specs.declared.task.Task.TheVariants.{Lane}
+use Rattle.serve_run.specs.Promises.{Keeps}
 use Rattle.serve_run.specs.Aiding.{AidJoined}
 use Rattle.serve_run.specs.Lanes.{LanesServed}
 use Rattle.serve_run.proofs.JoiningAids.{aid_given, lanes_aided, rejoined, split_kept}

@@ -1,7 +1,7 @@
 use Rattle.std.proofs.Common.{[], refl, sym, ap, ◌∙◌, subst, None}
 use Rattle.seat_lock.specs.Seats.{view}
-use Rattle.serve_pieces.specs.declared.task.Task.TheVariants.{Admin}
-use Rattle.serve_pieces.specs.Promises.{Keeps}
+use Rattle.serve_run.specs.declared.task.Task.TheVariants.{Admin}
+use Rattle.serve_run.specs.Promises.{Keeps}
 use Rattle.serve_run.specs.Attending.{DoorsServed}
 use Rattle.serve_run.proofs.Attended.{doors_more, doors_short}
 use Rattle.serve_run.proofs.Opening.{connection_held}

@@ -1,6 +1,6 @@
 use Rattle.std.proofs.Common.{◌≡◌, ◌+◌, ◌-◌, [], refl, arith, sym, ap, ◌∙◌, subst, None}
 use Rattle.seat_lock.specs.Seats.{view}
-use Rattle.serve_pieces.specs.Promises.{Keeps}
+use Rattle.serve_run.specs.Promises.{Keeps}
 use Rattle.serve_run.specs.Attending.{AllServed}
 use Rattle.serve_run.specs.Outcomes.{is_loss, with_loss}
 use Rattle.serve_run.specs.declared.outcome.Want.TheVariants.{Memory}

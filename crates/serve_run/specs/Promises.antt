@@ -11,11 +11,11 @@ use Rattle.poa_shared.specs.declared.work_end.WorkEnd.{WorkEnd}
 use Rattle.run_history.specs.declared.givens.Givens.{Givens}
 use Rattle.seat_lock.specs.declared.view.View.{View}
 use Rattle.session_laws.specs.declared.peer.Peer.TheVariants.{Client, Administrator}
-use Rattle.serve_pieces.specs.declared.ran.PieceEnd.TheVariants.{Worked}
-use Rattle.serve_pieces.specs.declared.ran.Ran.{Ran}
-use Rattle.serve_pieces.specs.declared.task.Task.{Task}
-use Rattle.serve_pieces.specs.declared.task.Task.TheVariants.{Lane, Admin, Worker}
-use Rattle.serve_pieces.specs.Doors.{DoorKept}
+use Rattle.serve_run.specs.declared.ran.PieceEnd.TheVariants.{Worked}
+use Rattle.serve_run.specs.declared.ran.Ran.{Ran}
+use Rattle.serve_run.specs.declared.task.Task.{Task}
+use Rattle.serve_run.specs.declared.task.Task.TheVariants.{Lane, Admin, Worker}
+use Rattle.serve_run.specs.Doors.{DoorKept}
 
 -- the seats, of which the second may be lacking, are of this shared core, and hold nothing
 abbrev pub AreIdle : Shared → SeatOf → Option SeatOf → Type 0

@@ -1,6 +1,6 @@
 //! The numbers with which connections couldn't enter.
 ghost use Rattle.std.specs.Prelude.{◌≡◌};
-ghost use Rattle.serve_pieces.specs.Refusals as refusals;
+ghost use Rattle.serve_run.specs.Refusals as refusals;
 
 use crate::received::Received;
 use poa_base::{Session, SessionEnd};

@@ -21,12 +21,12 @@ use Rattle.seat_lock.proofs.Calls.{at_prefix}
 use Rattle.seat_lock.proofs.Histories.{prefix_self, prefix_through}
 use Rattle.seat_lock.proofs.Totals.{at_below, one_at, times_here, times_else}
 use Rattle.session_laws.specs.declared.peer.Peer.{Peer}
-use Rattle.serve_pieces.specs.Doors.{Attends}
-use Rattle.serve_pieces.specs.Ledgers.{IsExplained}
-use Rattle.serve_pieces.specs.Visits.{Visit, conn_in, conns_of}
-use Rattle.serve_pieces.proofs.Places.{in_first, in_second, place_stands, stands_at_place}
-use Rattle.serve_pieces.proofs.Entering.{entered_once}
-use Rattle.serve_pieces.proofs.Growing.{adds_behind, each_later, explained_more, owns_later, Adds}
+use Rattle.serve_run.specs.Doors.{Attends}
+use Rattle.serve_run.specs.Ledgers.{IsExplained}
+use Rattle.serve_run.specs.Visits.{Visit, conn_in, conns_of}
+use Rattle.serve_run.proofs.Places.{in_first, in_second, place_stands, stands_at_place}
+use Rattle.serve_run.proofs.Entering.{entered_once}
+use Rattle.serve_run.proofs.Growing.{adds_behind, each_later, explained_more, owns_later, Adds}
 
 -- where a connection's places are
 pub place_belongs : (log : List Entry) (c x : ℕ) → In x (places c log) → Belongs owner_of log x c

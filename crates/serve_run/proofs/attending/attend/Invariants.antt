@@ -3,8 +3,8 @@ use Rattle.poa_shared.specs.Seats.{IsIdle}
 use Rattle.poa_shared.specs.Helping.{Aids, IsReady}
 use Rattle.run_history.specs.declared.givens.Givens.{Givens}
 use Rattle.seat_lock.specs.Seats.{view}
-use Rattle.serve_pieces.proofs.Rounds.{Rounds}
-use Rattle.serve_pieces.proofs.attending.attend.Given as goal
+use Rattle.serve_run.proofs.Rounds.{Rounds}
+use Rattle.serve_run.proofs.attending.attend.Given as goal
 
 abbrev pub invariant-loop : goal.invariant-loop
 invariant-loop g l = record {

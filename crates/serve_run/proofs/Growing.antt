@@ -13,9 +13,9 @@ use Rattle.seat_lock.proofs.Calls.{at_prefix}
 use Rattle.seat_lock.proofs.Histories.{prefix_through}
 use Rattle.seat_lock.proofs.Totals.{times_here}
 use Rattle.session_laws.specs.declared.peer.Peer.{Peer}
-use Rattle.serve_pieces.specs.Ledgers.{IsExplained, IsOfConns, IsOfWorkers}
-use Rattle.serve_pieces.specs.Visits.{Visit, Visited, EachVisited, IsGone, conn_in, conns_of}
-use Rattle.serve_pieces.proofs.Places.{in_first, in_second, stood_before}
+use Rattle.serve_run.specs.Ledgers.{IsExplained, IsOfConns, IsOfWorkers}
+use Rattle.serve_run.specs.Visits.{Visit, Visited, EachVisited, IsGone, conn_in, conns_of}
+use Rattle.serve_run.proofs.Places.{in_first, in_second, stood_before}
 
 -- an entry is explained by more connections and workers too, and as the journal grows
 pub explained_more : (conns workers conns' workers' : List ℕ) (short long : List Entry) (place : ℕ) → ((c : ℕ) → In c conns → In c conns')

@@ -9,9 +9,9 @@ use Rattle.seat_lock.specs.declared.view.View.{View}
 use Rattle.seat_lock.specs.Histories.{In, IsPrefix}
 use Rattle.seat_lock.proofs.Histories.{prefix_through}
 use Rattle.session_laws.specs.declared.peer.Peer.{Peer}
-use Rattle.serve_pieces.specs.Doors.{Attends}
-use Rattle.serve_pieces.specs.Visits.{Visit, conns_of}
-use Rattle.serve_pieces.proofs.Growing.{adds_behind, each_later, explained_more, owns_later, Adds}
+use Rattle.serve_run.specs.Doors.{Attends}
+use Rattle.serve_run.specs.Visits.{Visit, conns_of}
+use Rattle.serve_run.proofs.Growing.{adds_behind, each_later, explained_more, owns_later, Adds}
 
 module _ (g : Givens) (v w : View Givens Entry) (h : List Entry) (t : Turns g v h w) (same : past w ≡ h) where
   -- what is seen goes on from what was seen

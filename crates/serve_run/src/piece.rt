@@ -26,7 +26,7 @@ impl<R: Wait + Copy, A: Acceptor, G: Gate + Drop> Job for Piece<R, A, G> {
     ghost use Rattle.std.specs.Arc.{arc_value};
     ghost use Rattle.run_history.specs.declared.givens.Givens.{Givens};
     ghost use Rattle.poa_shared.specs.Helping.{Aids};
-    ghost use Rattle.serve_pieces.specs.Promises.{AreIdle, IsFresh, Keeps};
+    ghost use Rattle.serve_run.specs.Promises.{AreIdle, IsFresh, Keeps};
 
     type Out = Ran<A>;
 

@@ -10,7 +10,7 @@ use Rattle.history_standing.specs.Arrivals.{connections}
 use Rattle.poa_history.specs.Legal.{IsLegal, MayFollow}
 use Rattle.run_history.specs.declared.givens.Givens.{Givens}
 use Rattle.run_history.specs.Runs.{IsLog}
-use Rattle.serve_pieces.proofs.Places.{which_stands}
+use Rattle.serve_run.proofs.Places.{which_stands}
 
 more_connections : (e : Entry) (past : List Entry) → connections past ≤ connections (e ∷ past)
 more_connections (Entered k) past = omega arith

@@ -8,8 +8,8 @@ ghost use Rattle.outside.specs.Cause.{HasCause};
 ghost use Rattle.poa_shared.specs.Seats.{IsIdle};
 ghost use Rattle.poa_session.specs.Served.{Served};
 ghost use Rattle.poa_shared.specs.Helping.{Aids, IsReady};
-ghost use Rattle.serve_pieces.specs.Visits.{Visit};
-ghost use Rattle.serve_pieces.specs.Doors.{AsReceived, Attending};
+ghost use Rattle.serve_run.specs.Visits.{Visit};
+ghost use Rattle.serve_run.specs.Doors.{AsReceived, Attending};
 
 use crate::received::Received;
 use outside::{Acceptor, Door, Link};

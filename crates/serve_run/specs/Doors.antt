@@ -14,14 +14,14 @@ use Rattle.poa_shared.specs.Seen.{past}
 use Rattle.seat_lock.specs.declared.view.View.{View}
 use Rattle.seat_lock.specs.Histories.{IsPrefix}
 use Rattle.session_laws.specs.declared.peer.Peer.{Peer}
-use Rattle.serve_pieces.specs.declared.ran.PieceEnd.{PieceEnd}
-use Rattle.serve_pieces.specs.declared.ran.PieceEnd.TheVariants.{DoorEnd, DoorFailed, NotRunning, Worked}
-use Rattle.serve_pieces.specs.declared.ran.Ran.{Ran}
-use Rattle.serve_pieces.specs.declared.received.Received.{Received}
-use Rattle.serve_pieces.specs.declared.received.Received.TheVariants as received
-use Rattle.serve_pieces.specs.Ledgers.{Ledger}
-use Rattle.serve_pieces.specs.Refusals.{least_refusal}
-use Rattle.serve_pieces.specs.Visits.{Visit, conns_of, EachVisited, Passes}
+use Rattle.serve_run.specs.declared.ran.PieceEnd.{PieceEnd}
+use Rattle.serve_run.specs.declared.ran.PieceEnd.TheVariants.{DoorEnd, DoorFailed, NotRunning, Worked}
+use Rattle.serve_run.specs.declared.ran.Ran.{Ran}
+use Rattle.serve_run.specs.declared.received.Received.{Received}
+use Rattle.serve_run.specs.declared.received.Received.TheVariants as received
+use Rattle.serve_run.specs.Ledgers.{Ledger}
+use Rattle.serve_run.specs.Refusals.{least_refusal}
+use Rattle.serve_run.specs.Visits.{Visit, conns_of, EachVisited, Passes}
 
 -- between two views of a seat that had made nothing it made the entries of these visits, and no others
 pub record Attends {L : Type 0} (g : Givens) (peer : Peer) (shown : L → Shown) (visits : List (Visit L))

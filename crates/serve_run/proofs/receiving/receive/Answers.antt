@@ -2,10 +2,10 @@ use Rattle.std.proofs.Common.{◌≡◌, refl, ◌∙◌}
 use Rattle.outside.specs.declared.accepting.Door.TheVariants as door
 use Rattle.poa_shared.proofs.Helped.{aids_none}
 use Rattle.seat_lock.specs.Seats.{view}
-use Rattle.serve_pieces.specs.Visits.{Visit}
-use Rattle.serve_pieces.proofs.Passing.{passed_on}
-use Rattle.serve_pieces.proofs.Serving.{attends_more}
-use Rattle.serve_pieces.proofs.receiving.receive.Goals as goal
+use Rattle.serve_run.specs.Visits.{Visit}
+use Rattle.serve_run.proofs.Passing.{passed_on}
+use Rattle.serve_run.proofs.Served.{attends_more}
+use Rattle.serve_run.proofs.receiving.receive.Goals as goal
 
 pub returns-in-Link-clause-received : goal.returns-in-Link-clause-received
 returns-in-Link-clause-received g c = λ k first closed visits given so_far.

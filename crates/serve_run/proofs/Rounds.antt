@@ -11,16 +11,16 @@ use Rattle.run_tally.specs.declared.phase.Phase.TheVariants.{Running, Full, Shut
 use Rattle.run_tally.specs.declared.full.Full.{Full as FullNumbers}
 use Rattle.seat_lock.specs.declared.view.View.{View}
 use Rattle.session_laws.specs.declared.peer.Peer.{Peer}
-use Rattle.serve_pieces.specs.Doors.{AsReceived, Attending, DoorServed, ending_of, stop_of}
-use Rattle.serve_pieces.specs.Refusals.{earlier, least_refusal, noted, refusal_of}
-use Rattle.serve_pieces.specs.Visits.{Visit}
-use Rattle.serve_pieces.specs.declared.ran.PieceEnd.{PieceEnd}
-use Rattle.serve_pieces.specs.declared.ran.PieceEnd.TheVariants.{DoorEnd, DoorFailed, NotRunning}
-use Rattle.serve_pieces.specs.declared.received.Received.{Received}
-use Rattle.serve_pieces.specs.declared.received.Received.TheVariants as received
-use Rattle.serve_pieces.proofs.Looking.{attends_looked}
-use Rattle.serve_pieces.proofs.Passing.{passes_none}
-use Rattle.serve_pieces.proofs.Serving.{attends_none}
+use Rattle.serve_run.specs.Doors.{AsReceived, Attending, DoorServed, ending_of, stop_of}
+use Rattle.serve_run.specs.Refusals.{earlier, least_refusal, noted, refusal_of}
+use Rattle.serve_run.specs.Visits.{Visit}
+use Rattle.serve_run.specs.declared.ran.PieceEnd.{PieceEnd}
+use Rattle.serve_run.specs.declared.ran.PieceEnd.TheVariants.{DoorEnd, DoorFailed, NotRunning}
+use Rattle.serve_run.specs.declared.received.Received.{Received}
+use Rattle.serve_run.specs.declared.received.Received.TheVariants as received
+use Rattle.serve_run.proofs.Looking.{attends_looked}
+use Rattle.serve_run.proofs.Passing.{passes_none}
+use Rattle.serve_run.proofs.Served.{attends_none}
 
 -- a run that isn't running stops a door
 stopped : (phase : Phase) (end : PieceEnd) → stop_of phase ≡ Some end → (NotRunning phase ≡ end) × (phase ≢ Running)

@@ -4,9 +4,9 @@ use Rattle.poa_base.specs.declared.Session.{Session}
 use Rattle.poa_base.specs.declared.SessionEnd.{SessionEnd}
 use Rattle.poa_base.specs.declared.SessionEnd.TheVariants.{Limit}
 use Rattle.run_tally.specs.declared.full.Full.{Full}
-use Rattle.serve_pieces.specs.declared.received.Received.{Received}
-use Rattle.serve_pieces.specs.declared.received.Received.TheVariants as received
-use Rattle.serve_pieces.specs.Visits.{Visit}
+use Rattle.serve_run.specs.declared.received.Received.{Received}
+use Rattle.serve_run.specs.declared.received.Received.TheVariants as received
+use Rattle.serve_run.specs.Visits.{Visit}
 
 abbrev pub refusal_by : Option ℕ → SessionEnd → Option Full
 refusal_by None (Limit arrivals bytes) = Some (record { arrivals = arrivals; bytes = bytes })

@@ -3,7 +3,7 @@ use Rattle.std.proofs.Common.{◌≡◌, ◌-◌, List, [], ◌∷◌, ◌++◌,
 use Rattle.outside.specs.Accepting.{Opens, Standing, TakesBack}
 use Rattle.outside.specs.Told.{IfTold}
 use Rattle.outside.specs.declared.accepting.Door.TheVariants as door
-use Rattle.serve_pieces.specs.Visits.{Visit, Passes, given}
+use Rattle.serve_run.specs.Visits.{Visit, Passes, given}
 
 module _ {L : Type 0} where
   pub passes_none : (s : Option (Standing L)) → IfTold s s (Passes [])

@@ -1,8 +1,8 @@
 use Rattle.std.proofs.Common.{◌∙◌, sym}
 use Rattle.seat_lock.specs.Seats.{view}
 use Rattle.poa_shared.proofs.Helped.{aids_none, aids_through}
-use Rattle.serve_pieces.proofs.Rounds.{rounds_end, rounds_looked, rounds_more, rounds_none, rounds_stop}
-use Rattle.serve_pieces.proofs.attending.attend.Goals as goal
+use Rattle.serve_run.proofs.Rounds.{rounds_end, rounds_looked, rounds_more, rounds_none, rounds_stop}
+use Rattle.serve_run.proofs.attending.attend.Goals as goal
 
 pub loop-init : goal.loop-init
 loop-init g c = record {

@@ -2,7 +2,7 @@ use Rattle.std.proofs.Common.{subst, sym}
 use Rattle.poa_session.specs.Served.{Served}
 use Rattle.seat_lock.specs.Seats.{view}
 use Rattle.poa_shared.proofs.Helped.{aids_none}
-use Rattle.serve_pieces.proofs.receiving.serve.Goals as goal
+use Rattle.serve_run.proofs.receiving.serve.Goals as goal
 
 pub returns-in-Client-clause-served : goal.returns-in-Client-clause-served
 returns-in-Client-clause-served g c = λ k given.

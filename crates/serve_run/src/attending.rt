@@ -4,7 +4,7 @@ ghost use Rattle.seat_lock.specs.Seats.{view};
 ghost use Rattle.run_history.specs.declared.givens.Givens.{Givens};
 ghost use Rattle.poa_shared.specs.Seats.{IsIdle};
 ghost use Rattle.poa_shared.specs.Helping.{Aids, IsReady};
-ghost use Rattle.serve_pieces.specs.Doors.{DoorKept, DoorServed, ending_of, stop_of};
+ghost use Rattle.serve_run.specs.Doors.{DoorKept, DoorServed, ending_of, stop_of};
 
 use crate::ran::{PieceEnd, Ran};
 use crate::received::Received;

@@ -2,9 +2,9 @@ use Rattle.std.proofs.Common.{refl, rules, sym, subst}
 use Rattle.seat_lock.specs.Seats.{view}
 use Rattle.std.proofs.Common.{None}
 use Rattle.poa_shared.proofs.Helped.{aids_none}
-use Rattle.serve_pieces.specs.declared.ran.PieceEnd.TheVariants.{Worked}
-use Rattle.serve_pieces.specs.Promises.{Keeps}
-use Rattle.serve_pieces.proofs.piece.PieceJob.work.Goals as goal
+use Rattle.serve_run.specs.declared.ran.PieceEnd.TheVariants.{Worked}
+use Rattle.serve_run.specs.Promises.{Keeps}
+use Rattle.serve_run.proofs.piece.PieceJob.work.Goals as goal
 
 pub returns : goal.returns
 returns g c = (
