@@ -1,3 +1,4 @@
+pub mod Alarm
 pub mod Cause
 pub mod Told
 pub mod Reading

@@ -8,6 +8,7 @@
 #![tactic(auto)]
 
 mod accepting;
+mod alarm;
 mod keeping;
 mod linking;
 mod memory_files;
@@ -24,12 +25,12 @@ mod working;
 mod writing;
 
 pub use accepting::{Acceptor, Door};
+pub use alarm::Alarm;
 pub use keeping::{Files, Put, Taken};
 pub use linking::Link;
 pub use memory_files::MemFiles;
 pub use memory_sink::MemSink;
 pub use memory_source::MemSource;
-pub use outside_alarm::Alarm;
 pub use passing::{Gate, OpenGate};
 pub use reading::{Source, Took};
 pub use standard_input::StandardInput;

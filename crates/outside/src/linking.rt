@@ -5,9 +5,9 @@ ghost use Rattle.outside.specs.Reading.{IsWithin};
 ghost use Rattle.outside.specs.Writing.{IsWithin as IsPart};
 ghost use Rattle.outside.specs.Link.{Shown, IsRead, IsWritten};
 
+use crate::alarm::Alarm;
 use crate::reading::Took;
 use crate::writing::Wrote;
-use outside_alarm::Alarm;
 use poa_base::WantMemory;
 
 /// Where bytes come from and go to, as over a connection. It is a waiting one: it may have nothing now and more

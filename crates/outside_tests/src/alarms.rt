@@ -1,6 +1,6 @@
 use crate::waiting::Waiting;
 use mio::{Token, Waker};
-use outside_alarm::*;
+use outside::*;
 use std::sync::Arc;
 use std::test::Fail;
 use std::time::Duration;

@@ -1,8 +1,7 @@
 ghost use Rattle.std.specs.Prelude.{◌<◌, length};
 
 use crate::waiting::Waiting;
-use outside::{Acceptor, Door, Gate, Link, Took, Wrote};
-use outside_alarm::Alarm;
+use outside::{Acceptor, Alarm, Door, Gate, Link, Took, Wrote};
 use outside_sockets::{Ears, MioDoor, MioLink, WaitingGate, listen};
 use poa_base::{Point, Session, SessionEnd};
 use std::io::{Read, Write};

@@ -1,6 +1,6 @@
 //! The alarms of links that wait for input and for replies at once.
 use crate::bell::SLOTS;
-use outside_alarm::Alarm;
+use outside::Alarm;
 use poa_base::WantMemory;
 use std::alloc::Global;
 use std::sync::atomic::{AtomicBool, Ordering};

@@ -8,7 +8,7 @@ ghost use Rattle.poa_shared.specs.Seats.{IsIdle};
 use crate::bell::{Bell, SLOTS};
 use crate::news::News;
 use crate::shared::{Seat, Shared};
-use outside_alarm::Alarm;
+use outside::Alarm;
 use poa_base::WantMemory;
 use std::sync::Wait;
 use std::time::Duration;

@@ -1,6 +1,6 @@
 //! What ends the wait of a reader.
 ghost use Rattle.std.specs.Prelude.{◌≡◌, true, false, IfOk};
-ghost use Rattle.outside_alarm.specs.Alarm.{is_silent};
+ghost use Rattle.outside.specs.Alarm.{is_silent};
 
 use mio::Waker;
 use std::alloc::{AllocError, Global};

@@ -1,6 +1,6 @@
 -- What is known of an alarm.
 use Rattle.std.specs.Prelude.{Bool, is_none}
-use Rattle.outside_alarm.specs.declared.alarm.Alarm.{Alarm}
+use Rattle.outside.specs.declared.alarm.Alarm.{Alarm}
 
 -- nobody hears it
 abbrev pub is_silent : Alarm → Bool
