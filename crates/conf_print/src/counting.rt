@@ -1,6 +1,6 @@
 //! How many there are of each kind.
 ghost use Rattle.std.specs.Prelude.{◌≡◌, ◌++◌, ◌≤◌, ◌<◌, ◌^◌, length, IfOk, OnOk};
-ghost use Rattle.conf_rules.specs.Rules.{KeepsRules};
+ghost use Rattle.poa_policy.specs.Kept.{KeepsRules};
 ghost use Rattle.conf_print.specs.Counts.{count_line, counts_text, below_root as the_below_root};
 
 use poa_base::{AdapterConf, Bytes, Config, WantMemory};

@@ -6,7 +6,7 @@ ghost use Rattle.std.specs.Option.{option_copied};
 ghost use Rattle.ior_text.specs.Reference.{reference_text};
 ghost use Rattle.std.specs.BTreeMap as tree;
 ghost use Rattle.poa_base.specs.Store.{path_cmp};
-ghost use Rattle.conf_rules.specs.Rules.{KeepsRules};
+ghost use Rattle.poa_policy.specs.Kept.{KeepsRules};
 ghost use Rattle.conf_print.specs.Objects as spec;
 ghost use Rattle.conf_print.specs.Objects.{references_text};
 

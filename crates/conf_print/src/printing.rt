@@ -1,6 +1,6 @@
 //! What is printed of the configuration that a text is.
 ghost use Rattle.std.specs.Prelude.{◌≡◌, Ok, IfOk, IfErr};
-ghost use Rattle.conf_rules.specs.Rules.{KeepsRules};
+ghost use Rattle.poa_policy.specs.Kept.{KeepsRules};
 ghost use Rattle.conf_toml.specs.declared.ConfFault.TheVariants as fault;
 ghost use Rattle.conf_print.specs.Printing.{ConfPrints, text_of};
 

@@ -7,8 +7,8 @@ use Rattle.poa_base.specs.declared.ServantConf.{ServantConf}
 use Rattle.text_words.specs.Path.{path_text}
 use Rattle.conf_fields.specs.Numbers.{Find, IsNumber, place_of}
 use Rattle.conf_fields.proofs.Finds.{none_new}
-use Rattle.conf_rules.specs.Adapters.{IsAdapter}
-use Rattle.conf_rules.specs.Entries.{EachAfter, IsNew}
+use Rattle.poa_policy.specs.Adapters.{IsAdapter}
+use Rattle.poa_policy.specs.Entries.{EachAfter, IsNew}
 use Rattle.conf_rows.specs.Managers.{manager_names}
 use Rattle.conf_rows.specs.Servants.{servant_names}
 use Rattle.conf_rows.specs.Found.{IsManagerNumber, IsReadAfter}

@@ -12,7 +12,7 @@ use Rattle.text_words.specs.Path.{below_root, path_of, path_text}
 use Rattle.text_words.proofs.ReadBack.{path_back}
 use Rattle.conf_fields.specs.Numbers.{place_of}
 use Rattle.conf_fields.proofs.Finds.{found_at}
-use Rattle.conf_rules.specs.Parents.{IsBelow, IsBoot}
+use Rattle.poa_policy.specs.Parents.{IsBelow, IsBoot}
 use Rattle.conf_rows.specs.Adapters.{adapter_paths, boots_at, is_boot, parent_boots, parent_text}
 use Rattle.conf_rows.specs.Found.{HasParent}
 

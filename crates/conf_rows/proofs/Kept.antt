@@ -18,8 +18,8 @@ use Rattle.poa_policy.specs.declared.PolicyKind.TheVariants as kind
 use Rattle.poa_policy.specs.declared.Rule.{Rule}
 use Rattle.poa_policy.specs.declared.Rule.TheVariants as rule
 use Rattle.text_words.specs.Name.{is_name}
-use Rattle.conf_rules.specs.Adapters.{AreTogether, GivesWithin, IsPreset, IsTemplate}
-use Rattle.conf_rules.specs.Rules.{IsManager, IsServant}
+use Rattle.poa_policy.specs.Adapters.{AreTogether, GivesWithin, IsPreset, IsTemplate}
+use Rattle.poa_policy.specs.Kept.{IsManager, IsServant}
 use Rattle.conf_fields.specs.Numbers.{Find, IsNumber, place_of}
 use Rattle.conf_fields.proofs.Finds.{none_new, not_here, place_within}
 use Rattle.conf_rows.specs.Managers.{manager_names}

@@ -5,7 +5,7 @@ use Rattle.poa_base.specs.declared.AdapterConf.{AdapterConf}
 use Rattle.text_words.specs.Name.{is_name}
 use Rattle.text_words.specs.Path.{path_text}
 use Rattle.conf_fields.specs.Numbers.{Find, IsNumber, place_of}
-use Rattle.conf_rules.specs.Adapters.{IsTemplate}
+use Rattle.poa_policy.specs.Adapters.{IsTemplate}
 use Rattle.conf_rows.specs.Adapters.{parent_boots, parent_text, adapter_paths}
 
 -- the number of a manager: that of `root`, or one that some name has

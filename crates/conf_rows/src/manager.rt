@@ -3,8 +3,8 @@ ghost use Rattle.std.specs.Prelude.{◌≡◌, ◌≤◌, true, [], length, None
 ghost use Rattle.toml.specs.View.{table_view};
 ghost use Rattle.conf_fields.specs.FieldGives.{GivesView};
 ghost use Rattle.text_words.specs.Name.{is_name};
-ghost use Rattle.conf_rules.specs.Entries.{EachAfter};
-ghost use Rattle.conf_rules.specs.Rules.{IsManager};
+ghost use Rattle.poa_policy.specs.Entries.{EachAfter};
+ghost use Rattle.poa_policy.specs.Kept.{IsManager};
 ghost use Rattle.conf_fields.specs.Numbers.{find_in, place_of};
 ghost use Rattle.conf_fields.specs.declared.ConfFault.TheVariants as fault;
 ghost use Rattle.conf_rows.specs.Managers.{manager_at as the_manager_at, manager_after, manager_names, managers_of};

@@ -4,7 +4,7 @@ ghost use Rattle.toml.specs.View.{table_view, items_view};
 ghost use Rattle.poa_policy.specs.Settled.{settled as the_settled};
 ghost use Rattle.conf_fields.specs.Entries.{entries_of};
 ghost use Rattle.conf_fields.specs.FieldGives.{FieldGives};
-ghost use Rattle.conf_rules.specs.Adapters.{AreTogether};
+ghost use Rattle.poa_policy.specs.Adapters.{AreTogether};
 ghost use Rattle.conf_rows.specs.Policies.{policy_after, or_policy as the_or_policy, policies_at as the_policies_at};
 
 use conf_fields::{ConfFault, Place, items_at, or_wrong, word_in};

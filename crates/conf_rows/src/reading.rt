@@ -6,7 +6,7 @@ ghost use Rattle.conf_fields.specs.Entries.{entries_of};
 ghost use Rattle.conf_fields.specs.FieldGives.{FieldGives};
 ghost use Rattle.conf_fields.specs.Numbers.{find_in, place_of};
 ghost use Rattle.conf_fields.specs.declared.ConfFault.{ConfFault as Fault};
-ghost use Rattle.conf_rules.specs.Entries.{EachAfter};
+ghost use Rattle.poa_policy.specs.Entries.{EachAfter};
 
 use conf_fields::{ConfFault, Numbers};
 use poa_base::Items;

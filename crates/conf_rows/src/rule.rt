@@ -5,7 +5,7 @@ ghost use Rattle.conf_fields.specs.Entries.{entries_of};
 ghost use Rattle.conf_fields.specs.FieldGives.{FieldGives as Answers};
 ghost use Rattle.conf_fields.specs.Look.{wanted, text_in, only_known};
 ghost use Rattle.conf_fields.specs.Numbers.{Find, IsNumber, find_in};
-ghost use Rattle.conf_rules.specs.Adapters.{AreRules, GivesWithin};
+ghost use Rattle.poa_policy.specs.Adapters.{AreRules, GivesWithin};
 ghost use Rattle.std.specs.List.{AllByRecursion};
 ghost use Rattle.conf_fields.specs.declared.ConfFault.TheVariants as fault;
 ghost use Rattle.conf_fields.specs.declared.Place.TheVariants as place;

@@ -3,8 +3,8 @@ ghost use Rattle.std.specs.Prelude.{◌≡◌, ◌≤◌, true, [], length, None
 ghost use Rattle.toml.specs.View.{table_view};
 ghost use Rattle.conf_fields.specs.FieldGives.{FieldGives, GivesView};
 ghost use Rattle.text_words.specs.Name.{is_name};
-ghost use Rattle.conf_rules.specs.Entries.{EachAfter};
-ghost use Rattle.conf_rules.specs.Rules.{IsServant};
+ghost use Rattle.poa_policy.specs.Entries.{EachAfter};
+ghost use Rattle.poa_policy.specs.Kept.{IsServant};
 ghost use Rattle.conf_fields.specs.Numbers.{find_in, place_of};
 ghost use Rattle.conf_rows.specs.Servants.{without_value as the_without_value, register_opening, opening as the_opening, servant_at as the_servant_at, servant_after, servant_names, servants_of};
 

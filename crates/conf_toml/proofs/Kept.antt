@@ -14,11 +14,11 @@ use Rattle.text_words.specs.Name.{is_name}
 use Rattle.text_words.specs.Path.{path_text}
 use Rattle.conf_fields.specs.Numbers.{Find, place_of, seen_of}
 use Rattle.conf_fields.proofs.Finds.{none_new}
-use Rattle.conf_rules.specs.Adapters.{IsEndpoint}
-use Rattle.conf_rules.specs.Entries.{EachAfter, IsNew}
-use Rattle.conf_rules.specs.Objects.{IsHome, IsObject, id_key, servant_key}
-use Rattle.conf_rules.specs.Rules.{IsForward}
-use Rattle.conf_rules.proofs.Each.{each_weaker}
+use Rattle.poa_policy.specs.Adapters.{IsEndpoint}
+use Rattle.poa_policy.specs.Entries.{EachAfter, IsNew}
+use Rattle.poa_policy.specs.Objects.{IsHome, IsObject, id_key, servant_key}
+use Rattle.poa_policy.specs.Kept.{IsForward}
+use Rattle.poa_policy.proofs.Each.{each_weaker}
 use Rattle.conf_rows.specs.Adapters.{adapter_paths}
 use Rattle.conf_rows.specs.Servants.{servant_names}
 use Rattle.conf_rows.proofs.Below.{IsWritten, found_by_text}

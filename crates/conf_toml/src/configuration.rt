@@ -2,7 +2,7 @@
 ghost use Rattle.std.specs.Prelude.{◌≡◌, IfOk};
 ghost use Rattle.toml.specs.View.{table_view};
 ghost use Rattle.conf_fields.specs.FieldGives.{FieldGives};
-ghost use Rattle.conf_rules.specs.Rules.{KeepsRules};
+ghost use Rattle.poa_policy.specs.Kept.{KeepsRules};
 ghost use Rattle.conf_toml.specs.Configuration.{config_of, ReadAs};
 
 use crate::forward::forwards;

@@ -8,7 +8,7 @@ ghost use Rattle.conf_fields.specs.FieldGives.{FieldGives, GivesView};
 ghost use Rattle.conf_fields.specs.Numbers.{find_in, noted, seen_of};
 ghost use Rattle.poa_base.specs.declared.limits.TheConstants.{OBJECTS};
 ghost use Rattle.poa_base.specs.Policies.{is_system_id as the_system_id, is_multiple_id as the_multiple_id};
-ghost use Rattle.conf_rules.specs.Entries.{EachAfter};
+ghost use Rattle.poa_policy.specs.Entries.{EachAfter};
 ghost use Rattle.conf_toml.specs.Found.{HomeFound, IsFit, IsFoundHome, IsRead, IsReadAfter};
 ghost use Rattle.conf_toml.specs.Notes.{noted_id};
 ghost use Rattle.conf_fields.specs.declared.ConfFault.TheVariants as fault;

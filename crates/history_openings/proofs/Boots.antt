@@ -5,10 +5,10 @@ use Rattle.std.proofs.Math.Seq.{append_snoc}
 use Rattle.std.proofs.lemmas.Bool.{cond_both, cases_Bool, and_parts, true≢false, false≢true}
 use Rattle.poa_base.specs.declared.Config.{Config}
 use Rattle.poa_base.specs.declared.AdapterConf.{AdapterConf}
-use Rattle.conf_rules.specs.Adapters.{IsAdapter}
-use Rattle.conf_rules.specs.Entries.{EachAfter}
-use Rattle.conf_rules.specs.Parents.{IsBoot}
-use Rattle.conf_rules.specs.Rules.{KeepsRules}
+use Rattle.poa_policy.specs.Adapters.{IsAdapter}
+use Rattle.poa_policy.specs.Entries.{EachAfter}
+use Rattle.poa_policy.specs.Parents.{IsBoot}
+use Rattle.poa_policy.specs.Kept.{KeepsRules}
 use Rattle.poa_tree.specs.declared.node.Node.{Node}
 use Rattle.poa_tree.specs.Paths.{is_root}
 use Rattle.poa_tree.specs.Trees.{In, IsTree, MayCreate}

@@ -7,10 +7,10 @@ use Rattle.poa_base.specs.declared.Config.{Config}
 use Rattle.poa_base.specs.declared.ObjectConf.{ObjectConf}
 use Rattle.poa_base.specs.declared.Sid.{Sid}
 use Rattle.poa_base.specs.declared.Sid.TheVariants.{Named}
-use Rattle.conf_rules.specs.Entries.{EachAfter}
-use Rattle.conf_rules.specs.Objects.{IsObject, id_key, servant_key}
-use Rattle.conf_rules.specs.Parents.{IsBoot}
-use Rattle.conf_rules.specs.Rules.{KeepsRules}
+use Rattle.poa_policy.specs.Entries.{EachAfter}
+use Rattle.poa_policy.specs.Objects.{IsObject, id_key, servant_key}
+use Rattle.poa_policy.specs.Parents.{IsBoot}
+use Rattle.poa_policy.specs.Kept.{KeepsRules}
 use Rattle.poa_tree.specs.declared.node.Node.{Node}
 use Rattle.poa_tree.specs.Nodes.{node_at}
 use Rattle.poa_tree.specs.Trees.{In}

@@ -7,8 +7,8 @@ use Rattle.std.proofs.lemmas.Option.{slice_get_within}
 use Rattle.poa_base.specs.declared.Config.{Config}
 use Rattle.poa_base.specs.declared.Entry.{Entry}
 use Rattle.poa_base.specs.declared.ServantConf.{ServantConf}
-use Rattle.conf_rules.specs.Rules.{KeepsRules, IsServant}
-use Rattle.conf_rules.proofs.Each.{each_at}
+use Rattle.poa_policy.specs.Kept.{KeepsRules, IsServant}
+use Rattle.poa_policy.proofs.Each.{each_at}
 use Rattle.poa_tree.specs.Paths.{same_bytes}
 use Rattle.poa_tree.specs.Trees.{In}
 use Rattle.history_standing.specs.Templates.{servant_number, servant_name}

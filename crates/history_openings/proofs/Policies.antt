@@ -10,10 +10,10 @@ use Rattle.poa_base.specs.declared.PolicySet.{PolicySet}
 use Rattle.poa_base.specs.Policies.{is_unique_id, is_multiple_id, is_system_id, is_implicit, is_retain}
 use Rattle.poa_policy.specs.Rules.{needs}
 use Rattle.poa_policy.specs.declared.Rule.TheVariants.{ImplicitMakesIds}
-use Rattle.conf_rules.specs.Adapters.{IsAdapter}
-use Rattle.conf_rules.specs.Objects.{IsHome}
-use Rattle.conf_rules.specs.Parents.{IsBoot}
-use Rattle.conf_rules.specs.Rules.{KeepsRules}
+use Rattle.poa_policy.specs.Adapters.{IsAdapter}
+use Rattle.poa_policy.specs.Objects.{IsHome}
+use Rattle.poa_policy.specs.Parents.{IsBoot}
+use Rattle.poa_policy.specs.Kept.{KeepsRules}
 use Rattle.poa_tree.specs.Paths.{same_path}
 use Rattle.poa_tree.specs.Trees.{In}
 use Rattle.poa_tree.proofs.Finding.{find_in, find_none, same_path_self, path_same}

@@ -3,7 +3,7 @@ use Rattle.std.specs.Prelude.{ℕ, ◌^◌, ◌<◌, ◌≤◌, List}
 use Rattle.poa_base.specs.declared.limits.TheConstants.{CALLS}
 use Rattle.poa_base.specs.declared.Config.{Config}
 use Rattle.poa_base.specs.declared.Entry.{Entry}
-use Rattle.conf_rules.specs.Rules.{KeepsRules}
+use Rattle.poa_policy.specs.Kept.{KeepsRules}
 use Rattle.poa_history.specs.Legal.{IsLegal}
 
 -- a legal history of a run, whose number has 32 bits, with a limit on the arrivals

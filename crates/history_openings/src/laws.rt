@@ -7,7 +7,7 @@ ghost use Rattle.poa_base.specs.declared.Kind.{Kind};
 ghost use Rattle.poa_base.specs.declared.Verdict.{Verdict};
 ghost use Rattle.poa_choose.specs.Laws.{runs};
 ghost use Rattle.poa_choose.specs.declared.Choice.TheVariants.{Go};
-ghost use Rattle.conf_rules.specs.Rules.{KeepsRules};
+ghost use Rattle.poa_policy.specs.Kept.{KeepsRules};
 ghost use Rattle.poa_tree.specs.declared.node.Node.{Node};
 ghost use Rattle.poa_tree.specs.Paths.{is_root};
 ghost use Rattle.poa_tree.specs.Trees.{In};

@@ -1,6 +1,6 @@
 -- A run that hasn't begun is kept.
 use Rattle.std.proofs.Common.{◌≡◌, ℕ, ◌+◌, ◌^◌, ◌<◌, ◌≤◌, [], length, reverse, refl, sym, ap, subst, ◌∙◌, arith}
-use Rattle.conf_rules.specs.Rules.{KeepsRules}
+use Rattle.poa_policy.specs.Kept.{KeepsRules}
 use Rattle.core_outboxes.specs.Owed.{AreOwed}
 use Rattle.core_outboxes.specs.Desk.{Files}
 use Rattle.core_state.specs.State.{IsState}

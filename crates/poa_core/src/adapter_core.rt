@@ -2,7 +2,7 @@
 ghost use Rattle.std.specs.Prelude.{◌≡◌, ℕ, ◌≤◌, ◌<◌, List, option_map, reverse, IfOk};
 ghost use Rattle.run_tally.specs.Phases.{phase_of};
 ghost use Rattle.poa_base.specs.Store.{stored as stored_in};
-ghost use Rattle.conf_rules.specs.Rules.{KeepsRules};
+ghost use Rattle.poa_policy.specs.Kept.{KeepsRules};
 ghost use Rattle.history_laws.specs.Lasting.{KeepsUpdates, LeavesNothing};
 ghost use Rattle.history_openings.specs.Runs.{IsRun};
 ghost use Rattle.history_standing.specs.Arrivals.{connections};

@@ -1,7 +1,7 @@
 //! A run begins.
 ghost use Rattle.std.specs.Prelude.{◌≡◌, ◌≤◌, [], IfOk};
 ghost use Rattle.poa_base.specs.Store.{stored as stored_in};
-ghost use Rattle.conf_rules.specs.Rules.{KeepsRules};
+ghost use Rattle.poa_policy.specs.Kept.{KeepsRules};
 ghost use Rattle.core_state.specs.State.{IsState};
 ghost use Rattle.core_tables.specs.Known.{KnowsTables};
 ghost use Rattle.run_history.specs.Life as lives;

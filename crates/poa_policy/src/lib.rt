@@ -3,9 +3,11 @@
 #![tactic(auto)]
 
 mod kind;
+mod laws;
 mod rule;
 mod settling;
 
 pub use kind::{PolicyKind, kind_of};
+pub use laws::{adapters_keep_their_rule, objects_keep_their_rule};
 pub use rule::Rule;
 pub use settling::{InvalidPolicy, defaults, settle};

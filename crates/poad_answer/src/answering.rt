@@ -5,7 +5,7 @@ ghost use Rattle.outside.specs.Reading.{IsWithin, Delivers};
 ghost use Rattle.outside.specs.Told.{IfTold};
 ghost use Rattle.poad_answer.specs.Run.{RunAnswers};
 ghost use Rattle.giop_frame.specs.Framer.{reach};
-ghost use Rattle.conf_rules.specs.Rules.{KeepsRules};
+ghost use Rattle.poa_policy.specs.Kept.{KeepsRules};
 ghost use Rattle.poa_core.specs.Answers.{unadmitted};
 ghost use Rattle.poad_answer.specs.Service.{IsReady};
 ghost use Rattle.poad_answer.specs.Piece.{TakesPiece, EndsAt};

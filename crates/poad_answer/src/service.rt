@@ -2,7 +2,7 @@
 ghost use Rattle.std.specs.Prelude.{◌≡◌, ◌≢◌, ◌≤◌, ◌++◌, [], Some, false, IfOk, length};
 ghost use Rattle.outside.specs.Cause.{HasCause};
 ghost use Rattle.outside.specs.Told.{IfTold};
-ghost use Rattle.conf_rules.specs.Rules.{KeepsRules};
+ghost use Rattle.poa_policy.specs.Kept.{KeepsRules};
 ghost use Rattle.giop_replies.specs.Calls.{IsHeaded};
 ghost use Rattle.poa_history.specs.Legal.{IsSize};
 ghost use Rattle.poad_answer.specs.Serving.{IsServing};

@@ -1,6 +1,6 @@
 //! A command is done.
 ghost use Rattle.std.specs.Prelude.{IfOk};
-ghost use Rattle.conf_rules.specs.Rules.{KeepsRules};
+ghost use Rattle.poa_policy.specs.Kept.{KeepsRules};
 
 use crate::case::Case;
 use crate::files::File;

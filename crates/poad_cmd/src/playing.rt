@@ -2,7 +2,7 @@
 ghost use Rattle.std.specs.Prelude.{◌≡◌};
 ghost use Rattle.outside.specs.Cause.{HasCause};
 ghost use Rattle.outside.specs.Told.{IfTold};
-ghost use Rattle.conf_rules.specs.Rules.{KeepsRules};
+ghost use Rattle.poa_policy.specs.Kept.{KeepsRules};
 ghost use Rattle.poad_files.specs.Taking.{HoldsStill};
 ghost use Rattle.poad_cmd.specs.Playing.{EndsPlay, PlaysFiles, PlaysScript};
 

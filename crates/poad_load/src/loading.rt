@@ -1,6 +1,6 @@
 //! `load`: what it writes, and its status.
 ghost use Rattle.std.specs.Prelude.{◌≡◌, ◌≤◌, IfOk};
-ghost use Rattle.conf_rules.specs.Rules.{KeepsRules};
+ghost use Rattle.poa_policy.specs.Kept.{KeepsRules};
 ghost use Rattle.outside.specs.Cause.{HasCause};
 ghost use Rattle.poad_load.specs.Counts.{IsLoaded};
 ghost use Rattle.poad_load.specs.Writing.{LoadGives};

@@ -1,6 +1,6 @@
 //! Steps of scripts, played one by one, of which nothing is printed.
 ghost use Rattle.std.specs.Prelude.{◌≡◌, ◌<◌, ◌≤◌, ◌++◌, ℕ, Some, IfOk, OnOk};
-ghost use Rattle.conf_rules.specs.Rules.{KeepsRules};
+ghost use Rattle.poa_policy.specs.Kept.{KeepsRules};
 ghost use Rattle.giop_replies.specs.Calls.{Each, IsGivenTo, IsSaid};
 ghost use Rattle.history_standing.specs.Arrivals.{connections};
 ghost use Rattle.replay_player.specs.Collecting.{CollectsAll};

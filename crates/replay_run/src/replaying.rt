@@ -7,7 +7,7 @@ ghost use Rattle.history_laws.specs.Lasting.{KeepsUpdates, LeavesNothing};
 ghost use Rattle.history_openings.specs.Runs.{IsRun};
 ghost use Rattle.run_history.specs.Life.{opened};
 ghost use Rattle.poa_core.specs.Answers.{unadmitted};
-ghost use Rattle.conf_rules.specs.Rules.{KeepsRules};
+ghost use Rattle.poa_policy.specs.Kept.{KeepsRules};
 ghost use Rattle.replay_run.specs.Playing.{IsPlayed, Plays, PlaysAll};
 ghost use Rattle.replay_run.specs.Keeping.{Keeps, Shows, IsAtFirst};
 

@@ -1,5 +1,5 @@
 use Rattle.std.proofs.Common.{[]}
-use Rattle.conf_rules.proofs.Each.{each_more}
+use Rattle.poa_policy.proofs.Each.{each_more}
 use Rattle.conf_fields.proofs.Entries.{reached_more}
 use Rattle.conf_rows.proofs.reading.read.Goals as goal
 

@@ -1,7 +1,7 @@
 use Rattle.std.proofs.Common.{◌≡◌, []}
 use Rattle.conf_fields.specs.Numbers.{find_in, place_of}
 use Rattle.conf_fields.proofs.Entries.{Reached}
-use Rattle.conf_rules.specs.Entries.{EachAfter}
+use Rattle.poa_policy.specs.Entries.{EachAfter}
 use Rattle.conf_rows.proofs.reading.read.Given as goal
 
 abbrev pub invariant-loop-i : goal.invariant-loop-i

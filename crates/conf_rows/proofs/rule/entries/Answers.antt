@@ -1,7 +1,7 @@
 use Rattle.poa_base.specs.declared.RuleConf.{RuleConf}
 use Rattle.conf_fields.specs.Numbers.{IsNumber, find_in}
 use Rattle.conf_fields.proofs.Entries.{reached_more}
-use Rattle.conf_rules.specs.Adapters.{GivesWithin}
+use Rattle.poa_policy.specs.Adapters.{GivesWithin}
 use Rattle.conf_rows.specs.Rules.{rule_after}
 use Rattle.conf_rows.proofs.AdaptersKept.{all_push}
 use Rattle.conf_rows.proofs.rule.entries.Goals as goal

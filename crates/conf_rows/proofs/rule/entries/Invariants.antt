@@ -1,7 +1,7 @@
 use Rattle.std.specs.List.{AllByRecursion}
 use Rattle.conf_fields.specs.Numbers.{IsNumber, find_in}
 use Rattle.conf_fields.proofs.Entries.{Reached}
-use Rattle.conf_rules.specs.Adapters.{GivesWithin}
+use Rattle.poa_policy.specs.Adapters.{GivesWithin}
 use Rattle.conf_rows.specs.Rules.{rule_after}
 use Rattle.conf_rows.proofs.rule.entries.Given as goal
 

@@ -4,8 +4,8 @@ use Rattle.text_words.specs.Path.{path_text}
 use Rattle.conf_fields.specs.Numbers.{find_in}
 use Rattle.conf_fields.proofs.Entries.{reached_more}
 use Rattle.conf_fields.proofs.Finds.{noted_next}
-use Rattle.conf_rules.specs.Rules.{IsForward}
-use Rattle.conf_rules.proofs.Each.{each_more}
+use Rattle.poa_policy.specs.Kept.{IsForward}
+use Rattle.poa_policy.proofs.Each.{each_more}
 use Rattle.conf_toml.proofs.Kept.{forward_keeps}
 use Rattle.conf_toml.specs.Forwards.{forward_after, forward_paths}
 use Rattle.conf_toml.proofs.Noting.{forward_paths_more}

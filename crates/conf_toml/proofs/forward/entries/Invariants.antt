@@ -1,8 +1,8 @@
 use Rattle.std.proofs.Common.{◌≡◌, []}
 use Rattle.conf_fields.specs.Numbers.{find_in, place_of}
 use Rattle.conf_fields.proofs.Entries.{Reached}
-use Rattle.conf_rules.specs.Entries.{EachAfter}
-use Rattle.conf_rules.specs.Rules.{IsForward}
+use Rattle.poa_policy.specs.Entries.{EachAfter}
+use Rattle.poa_policy.specs.Kept.{IsForward}
 use Rattle.conf_toml.specs.Forwards.{forward_after, forward_paths}
 use Rattle.conf_toml.proofs.forward.entries.Given as goal
 

@@ -1,7 +1,7 @@
 use Rattle.std.proofs.Common.{[]}
 use Rattle.conf_fields.specs.Numbers.{find_in}
 use Rattle.conf_fields.proofs.Entries.{reached_more}
-use Rattle.conf_rules.proofs.Each.{each_more}
+use Rattle.poa_policy.proofs.Each.{each_more}
 use Rattle.conf_toml.specs.Found.{IsReadAfter}
 use Rattle.conf_toml.specs.Objects.{object_after}
 use Rattle.conf_toml.proofs.Noting.{ids_next, taken_next}

@@ -1,7 +1,7 @@
 use Rattle.std.proofs.Common.{◌≡◌, []}
 use Rattle.conf_fields.specs.Numbers.{find_in, seen_of}
 use Rattle.conf_fields.proofs.Entries.{Reached}
-use Rattle.conf_rules.specs.Entries.{EachAfter}
+use Rattle.poa_policy.specs.Entries.{EachAfter}
 use Rattle.conf_toml.specs.Found.{IsReadAfter}
 use Rattle.conf_toml.specs.Objects.{object_after, ids_of, taken_of}
 use Rattle.conf_toml.proofs.object.entries.Given as goal

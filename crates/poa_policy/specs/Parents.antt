@@ -1,7 +1,7 @@
 -- Where an adapter that is created at the start stands: below the root, or below an earlier one of its kind.
 use Rattle.std.specs.Prelude.{◌≡◌, ℕ, true, List, [], ◌∷◌, ◌++◌, ◌⊎◌}
 use Rattle.poa_base.specs.declared.AdapterConf.{AdapterConf}
-use Rattle.conf_rules.specs.Entries.{IsEntry}
+use Rattle.poa_policy.specs.Entries.{IsEntry}
 
 -- an entry of this path that is created at the start
 pub record IsBoot (adapters : List AdapterConf) (path : List (List ℕ)) : Type 0 where

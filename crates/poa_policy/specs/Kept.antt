@@ -7,9 +7,9 @@ use Rattle.poa_base.specs.declared.ManagerConf.{ManagerConf}
 use Rattle.poa_base.specs.declared.ServantConf.{ServantConf}
 use Rattle.std.specs.List.{list_all}
 use Rattle.text_words.specs.Name.{is_name}
-use Rattle.conf_rules.specs.Entries.{EachAfter, IsNew}
-use Rattle.conf_rules.specs.Adapters.{IsAdapter, IsEndpoint}
-use Rattle.conf_rules.specs.Objects.{IsObject}
+use Rattle.poa_policy.specs.Entries.{EachAfter, IsNew}
+use Rattle.poa_policy.specs.Adapters.{IsAdapter, IsEndpoint}
+use Rattle.poa_policy.specs.Objects.{IsObject}
 
 -- `root` is there already
 pub record IsManager (done : List ManagerConf) (m : ManagerConf) : Type 0 where

@@ -3,9 +3,9 @@ ghost use Rattle.std.specs.Prelude.{◌≡◌, ℕ, Some, slice_get, length, tak
 ghost use Rattle.poa_base.specs.declared.AdapterConf.{AdapterConf};
 ghost use Rattle.poa_base.specs.declared.Config.{Config};
 ghost use Rattle.poa_base.specs.declared.ObjectConf.{ObjectConf};
-ghost use Rattle.conf_rules.specs.Adapters.{IsAdapter};
-ghost use Rattle.conf_rules.specs.Objects.{IsObject};
-ghost use Rattle.conf_rules.specs.Rules.{KeepsRules};
+ghost use Rattle.poa_policy.specs.Adapters.{IsAdapter};
+ghost use Rattle.poa_policy.specs.Objects.{IsObject};
+ghost use Rattle.poa_policy.specs.Kept.{KeepsRules};
 
 /// The adapter of an index keeps its rule with the adapters before it.
 pub fn adapters_keep_their_rule()

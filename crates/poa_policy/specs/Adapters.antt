@@ -10,10 +10,10 @@ use Rattle.poa_base.specs.declared.RuleConf.{RuleConf}
 use Rattle.poa_base.specs.Policies.{is_retain, is_default_servant, is_servant_manager}
 use Rattle.poa_policy.specs.Kinds.{IsSet}
 use Rattle.poa_policy.specs.Rules.{keeps}
-use Rattle.poa_policy.specs.declared.Rule.{Rule}
+use Rattle.poa_policy.specs.declared.rule.Rule.{Rule}
 use Rattle.text_words.specs.Name.{is_name, is_host}
-use Rattle.conf_rules.specs.Entries.{IsNew}
-use Rattle.conf_rules.specs.Parents.{IsBelow}
+use Rattle.poa_policy.specs.Entries.{IsNew}
+use Rattle.poa_policy.specs.Parents.{IsBelow}
 
 -- each policy is of its kind, and they keep the three rules (CORBA 3.3 Part 1, chapter 15, "POA Policy Objects")
 pub record AreTogether (set : PolicySet) : Type 0 where

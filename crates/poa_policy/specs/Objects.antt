@@ -5,7 +5,7 @@ use Rattle.poa_base.specs.declared.ObjectConf.{ObjectConf}
 use Rattle.poa_base.specs.declared.PolicySet.{PolicySet}
 use Rattle.poa_base.specs.Policies.{is_retain, is_system_id, is_multiple_id}
 use Rattle.poa_policy.specs.Rules.{defaults}
-use Rattle.conf_rules.specs.Entries.{IsNew, IsEntry}
+use Rattle.poa_policy.specs.Entries.{IsNew, IsEntry}
 
 -- an entry of this path with these policies, which is created at the start and has RETAIN
 pub record IsRetaining (adapters : List AdapterConf) (path : List (List ℕ)) (set : PolicySet) : Type 0 where

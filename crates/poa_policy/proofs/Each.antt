@@ -3,7 +3,7 @@ use Rattle.std.proofs.Common.{◌≡◌, ℕ, suc, zero, List, [], ◌∷◌, �
 use Rattle.std.proofs.Math.Seq.{append_snoc}
 use Rattle.std.proofs.lemmas.Option.{none-some, same_Some}
 use Rattle.std.specs.Prelude.{slice_get}
-use Rattle.conf_rules.specs.Entries.{EachAfter}
+use Rattle.poa_policy.specs.Entries.{EachAfter}
 
 -- one more that keeps the rule with all before it
 pub each_more : {A : Type 0} (R : List A → A → Type 0) (done xs : List A) (x : A) → EachAfter R done xs → R (done ++ xs) x → EachAfter R done (xs ++ x ∷ [])
