@@ -1,1 +1,2 @@
+pub mod AnswerReadBack
 pub mod ReadBack

@@ -1,3 +1,5 @@
+pub mod FixedAnswer
+pub mod Answer
 pub mod Fixed
 pub mod Command
 pub mod Place

@@ -4,12 +4,15 @@
 //! `specs/Reading.antt` which command a line gives, or the first word of it that is wrong.
 #![tactic(auto)]
 
+mod answer;
 mod fixed;
+mod fixed_answer;
 mod line;
 mod place;
 mod reading;
 mod writing;
 
+pub use answer::{put_answer, read_answer};
 pub use line::{command_text, read_line, write_answer, write_line};
 pub use place::Wrong;
 pub use reading::{Source, read_words};

@@ -1,14 +1,14 @@
 //! Whole lines.
 ghost use Rattle.std.specs.Prelude.{◌≡◌, ◌∷◌, ◌^◌, IfOk};
-ghost use Rattle.admin_answer.specs.Answer.{answer_tokens};
+ghost use Rattle.admin_line.specs.Answer.{answer_tokens};
 ghost use Rattle.text_words.specs.Token.{AllFit, Token, spelled};
 ghost use Rattle.admin_line.specs.Command.{IsCommand, command_tokens};
 ghost use Rattle.admin_line.specs.Reading.{command_of_line};
 
+use crate::answer::put_answer;
 use crate::place::Wrong;
 use crate::reading::{Source, read_words};
 use crate::writing::command_bytes;
-use admin_answer::put_answer;
 use itoa::Buffer;
 use poa_base::{Answer, Bytes, Command, WantMemory};
 use std::alloc::Global;

@@ -29,7 +29,7 @@ use Rattle.text_words.specs.Token.{AllFit, Fits, texts, spell}
 use Rattle.text_words.proofs.Numbers.{back8, back32, back64}
 use Rattle.text_words.proofs.ReadBack.{endpoint_back, name_back, minor_back, prefixed_back}
 use Rattle.admin_line.proofs.ReadBack.{command_back}
-use Rattle.admin_answer.proofs.ReadBack.{answer_back}
+use Rattle.admin_line.proofs.AnswerReadBack.{answer_back}
 
 exception_name_back : (name : ExcName) → exception_name_of (exception_word name) ≡ Some name
 unfolding exception_word

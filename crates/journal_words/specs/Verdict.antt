@@ -6,7 +6,7 @@ use Rattle.text_words.specs.Chain.{◌>>=◌}
 use Rattle.text_words.specs.Keyword.{named_in}
 use Rattle.text_words.specs.Token.{Token, keyword, number, named}
 use Rattle.text_words.specs.Parts.{endpoint_tokens, alone, last_number, last_name, last_endpoint}
-use Rattle.admin_answer.specs.Answer.{answer_tokens, answer_of}
+use Rattle.admin_line.specs.Answer.{answer_tokens, answer_of}
 use Rattle.journal_words.specs.declared.fixed.Ruling.{Ruling}
 use Rattle.journal_words.specs.declared.fixed.Ruling.TheVariants as ruling
 use Rattle.journal_words.specs.Fixed.{ruling_word, rulings}

@@ -6,7 +6,7 @@ ghost use Rattle.journal_words.specs.Verdict.{ruling_of, verdict_behind, verdict
 
 use crate::exception::{put_exception, read_exception};
 use crate::fixed::Ruling;
-use admin_answer::{put_answer, read_answer};
+use admin_line::{put_answer, read_answer};
 use poa_base::{Verdict, WantMemory};
 use std::alloc::Global;
 use text_words::{

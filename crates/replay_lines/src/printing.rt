@@ -3,7 +3,7 @@ ghost use Rattle.std.specs.Prelude.{◌≡◌, ◌++◌, OnOk};
 ghost use Rattle.replay_lines.specs.Lines.{entry_line, idle_line, limit_line, bad_line, answer_line, bytes_line};
 
 use crate::mark::Mark;
-use admin_answer::put_answer;
+use admin_line::put_answer;
 use journal_lines::put_entry;
 use poa_base::{Answer, Entry, WantMemory};
 use text_words::{Worded, put_number, put_octets, put_word};

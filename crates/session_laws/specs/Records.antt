@@ -16,7 +16,7 @@ use Rattle.run_tally.specs.Leaving.{is_shut}
 use Rattle.core_outboxes.specs.Owed.{head_of}
 use Rattle.giop_answer.specs.Reply.{reply_bytes}
 use Rattle.text_words.specs.Token.{number, spelled}
-use Rattle.admin_answer.specs.Answer.{answer_tokens}
+use Rattle.admin_line.specs.Answer.{answer_tokens}
 use Rattle.session_laws.specs.Hearing.{Heard}
 
 -- the calls of the connection that arrived, in their order

@@ -1,6 +1,6 @@
 //! The text of a reply.
 use crate::fault::Fault;
-use admin_answer::put_answer;
+use admin_line::put_answer;
 use journal_words::put_verdict;
 use poa_base::{Call, Datum, Outcome, Reply, Verdict};
 use text_words::{put_number, put_octets, put_signed, put_word};

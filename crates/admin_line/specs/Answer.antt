@@ -10,11 +10,11 @@ use Rattle.text_words.specs.Identity.{printed_id_of}
 use Rattle.text_words.specs.Keyword.{named_in}
 use Rattle.text_words.specs.Parts.{alone, last_number}
 use Rattle.text_words.specs.Token.{Token, keyword, number, identity, reference}
-use Rattle.admin_answer.specs.declared.fixed.Success.{Success}
-use Rattle.admin_answer.specs.declared.fixed.Success.TheVariants as success
-use Rattle.admin_answer.specs.declared.fixed.Objection.{Objection}
-use Rattle.admin_answer.specs.declared.fixed.Objection.TheVariants as objection
-use Rattle.admin_answer.specs.Fixed.{success_word, successes, objection_word, objections}
+use Rattle.admin_line.specs.declared.fixed_answer.Success.{Success}
+use Rattle.admin_line.specs.declared.fixed_answer.Success.TheVariants as success
+use Rattle.admin_line.specs.declared.fixed_answer.Objection.{Objection}
+use Rattle.admin_line.specs.declared.fixed_answer.Objection.TheVariants as objection
+use Rattle.admin_line.specs.FixedAnswer.{success_word, successes, objection_word, objections}
 
 -- the kind of a reason
 abbrev pub objection_in : Reason → Objection

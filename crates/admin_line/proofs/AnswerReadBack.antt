@@ -7,8 +7,8 @@ use Rattle.poa_base.specs.declared.Reason.TheVariants as reason
 use Rattle.text_words.specs.Token.{AllFit, texts}
 use Rattle.text_words.proofs.Numbers.{back32}
 use Rattle.text_words.proofs.ReadBack.{printed_id_back, reference_back, reference_no_id}
-use Rattle.admin_answer.specs.Answer.{reason_tokens, reason_of, answer_tokens, answer_of}
-use Rattle.admin_answer.specs.Fixed.{success_word, objection_word}
+use Rattle.admin_line.specs.Answer.{reason_tokens, reason_of, answer_tokens, answer_of}
+use Rattle.admin_line.specs.FixedAnswer.{success_word, objection_word}
 
 -- the words of a reason give the reason
 reason_back : (r : Reason) → AllFit (reason_tokens r) → reason_of (texts (reason_tokens r)) ≡ Some r

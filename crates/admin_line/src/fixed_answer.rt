@@ -9,11 +9,11 @@ pub(crate) enum Success {
 }
 
 impl Worded for Success {
-    ghost use Rattle.admin_answer.specs.Fixed.{success_word};
+    ghost use Rattle.admin_line.specs.FixedAnswer.{success_word};
 
     ghost text = { success_word };
 
-    #[tactic(auto, unfolding(crate::specs::Fixed::success_word))]
+    #[tactic(auto, unfolding(crate::specs::FixedAnswer::success_word))]
     fn word(self) -> &'static [u8] {
         match self {
             Success::Ok => b"ok",
@@ -43,11 +43,11 @@ pub(crate) enum Objection {
 }
 
 impl Worded for Objection {
-    ghost use Rattle.admin_answer.specs.Fixed.{objection_word};
+    ghost use Rattle.admin_line.specs.FixedAnswer.{objection_word};
 
     ghost text = { objection_word };
 
-    #[tactic(auto, unfolding(crate::specs::Fixed::objection_word))]
+    #[tactic(auto, unfolding(crate::specs::FixedAnswer::objection_word))]
     fn word(self) -> &'static [u8] {
         match self {
             Objection::NoManager => b"NoManager",

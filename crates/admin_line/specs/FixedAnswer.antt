@@ -1,9 +1,9 @@
 -- The fixed words of answers.
 use Rattle.std.specs.Prelude.{ℕ, List, [], ◌∷◌, codes}
-use Rattle.admin_answer.specs.declared.fixed.Success.{Success}
-use Rattle.admin_answer.specs.declared.fixed.Success.TheVariants as success
-use Rattle.admin_answer.specs.declared.fixed.Objection.{Objection}
-use Rattle.admin_answer.specs.declared.fixed.Objection.TheVariants as objection
+use Rattle.admin_line.specs.declared.fixed_answer.Success.{Success}
+use Rattle.admin_line.specs.declared.fixed_answer.Success.TheVariants as success
+use Rattle.admin_line.specs.declared.fixed_answer.Objection.{Objection}
+use Rattle.admin_line.specs.declared.fixed_answer.Objection.TheVariants as objection
 
 unfoldable pub success_word : Success → List ℕ
 success_word success.Ok = codes "ok"

@@ -2,10 +2,10 @@ ghost use Rattle.std.specs.Prelude.{◌≡◌, ◌∷◌, ◌++◌, [], IfOk, On
 ghost use Rattle.text_words.specs.WordGives.{WordGives};
 ghost use Rattle.text_words.specs.Identity.{printed_id_of};
 ghost use Rattle.text_words.specs.Token.{tails, texts};
-ghost use Rattle.admin_answer.specs.Answer.{answer_behind, answer_of, answer_tokens, behind_ok, id_or_reference as id_or_reference_of, objection_in, objection_of, reason_behind, reason_of, reason_tokens, success_in, value_tokens};
-ghost use Rattle.admin_answer.specs.Fixed.{objection_word, success_word};
+ghost use Rattle.admin_line.specs.Answer.{answer_behind, answer_of, answer_tokens, behind_ok, id_or_reference as id_or_reference_of, objection_in, objection_of, reason_behind, reason_of, reason_tokens, success_in, value_tokens};
+ghost use Rattle.admin_line.specs.FixedAnswer.{objection_word, success_word};
 
-use crate::fixed::{Objection, Success};
+use crate::fixed_answer::{Objection, Success};
 use poa_base::{Answer, Reason, WantMemory};
 use std::alloc::Global;
 use text_words::{
