@@ -11,7 +11,7 @@ use Rattle.poa_base.specs.declared.Profile.{Profile}
 use Rattle.poa_base.specs.declared.Reply.{Reply}
 use Rattle.poa_base.specs.declared.Reply.TheVariants as reply
 use Rattle.cdr_core.specs.Fields.{with_fields}
-use Rattle.ior_profile.specs.Profile.{profile_of}
+use Rattle.ior_text.specs.Profile.{profile_of}
 use Rattle.giop_answer.specs.declared.kind.TheConstants as kind
 use Rattle.giop_answer.specs.declared.status.TheConstants as status
 use Rattle.giop_answer.specs.Exception.{exception_fields}

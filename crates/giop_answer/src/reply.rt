@@ -1,7 +1,7 @@
 //! The bytes of a reply: CORBA 3.3 Part 2, 9.4.3 and 9.4.6.
 ghost use Rattle.std.specs.Prelude.{◌≡◌, ◌≤◌, ◌++◌, length, take, vec_len, IfOk, OnOk, OnErr};
 ghost use Rattle.cdr_core.specs.Fields.{with_fields};
-ghost use Rattle.ior_profile.specs.Profile.{profile_of};
+ghost use Rattle.ior_text.specs.Profile.{profile_of};
 ghost use Rattle.giop_answer.specs.Reply.{reply_bytes, reply_kind as kind_of_reply, content_draft, reply_fields, outcome_fields, reference_fields, value_fields, opening_of, reply_status as status_of, outcome_status as status_of_outcome, locate_status as status_of_locate, hides_results as hides, AnswersHead};
 
 use crate::exception::put_exception;
@@ -13,7 +13,7 @@ use crate::status::{
     OBJECT_FORWARD, OBJECT_HERE, SYSTEM_EXCEPTION, UNKNOWN_OBJECT, USER_EXCEPTION,
 };
 use cdr_core::Writer;
-use ior_profile::write_profile;
+use ior_text::write_profile;
 use poa_base::{Bytes, Datum, Endpoint, Head, Outcome, Reply, WantMemory};
 use std::alloc::Global;
 use std::mem;

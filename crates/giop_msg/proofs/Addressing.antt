@@ -6,9 +6,9 @@ use Rattle.cdr_core.specs.Cursor.{Cursor, Reads}
 use Rattle.cdr_core.proofs.OneReading.{one_ushort_read, one_ulong_read}
 use Rattle.poa_base.specs.declared.Ior.{Ior}
 use Rattle.poa_base.specs.declared.Profile.{Profile}
-use Rattle.ior_profile.specs.Key.{TellsKey}
-use Rattle.ior_profile.specs.Reference.{ReadsIor}
-use Rattle.ior_profile.specs.Tagged.{ReadsProfile}
+use Rattle.ior_text.specs.Key.{TellsKey}
+use Rattle.ior_text.specs.ReferenceFields.{ReadsIor}
+use Rattle.ior_text.specs.Tagged.{ReadsProfile}
 use Rattle.giop_msg.specs.declared.target.TheConstants.{KEY_ADDRESS, PROFILE_ADDRESS, REFERENCE_ADDRESS}
 use Rattle.giop_msg.specs.Target.{Target, by_key, by_profile, by_reference, disposition_of, ReadsAddress, GivesKey, IsAddress, IsTarget}
 use Rattle.giop_msg.proofs.Deciding.{Decided, decided_as, decided_then, is_decided, Stands, StandsThen}

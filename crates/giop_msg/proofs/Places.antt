@@ -7,7 +7,7 @@ use Rattle.cdr_core.specs.Part.{StandsIn}
 use Rattle.cdr_core.proofs.Slices.{stands_behind}
 use Rattle.poa_base.specs.declared.Profile.{Profile}
 use Rattle.giop_frame.specs.Part.{is_little}
-use Rattle.ior_profile.specs.Tagged.{ReadsProfile, ReadsProfiles}
+use Rattle.ior_text.specs.Tagged.{ReadsProfile, ReadsProfiles}
 use Rattle.giop_answer.specs.declared.kind.TheConstants.{HEADER}
 use Rattle.giop_msg.specs.Fields.{ReadsAll, fields_start}
 use Rattle.giop_msg.specs.Target.{Target, by_key, by_profile, by_reference, ReadsAddress, IsTarget}

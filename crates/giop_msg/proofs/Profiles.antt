@@ -5,9 +5,9 @@ use Rattle.cdr_core.specs.Cursor.{Cursor, Reads}
 use Rattle.cdr_core.proofs.OneReading.{one_ulong_read, one_text_read}
 use Rattle.poa_base.specs.declared.Ior.{Ior}
 use Rattle.poa_base.specs.declared.Profile.{Profile}
-use Rattle.ior_profile.specs.Reference.{ReadsIor}
-use Rattle.ior_profile.specs.Tagged.{ReadsProfile, ReadsProfiles}
-use Rattle.ior_profile.proofs.OneReading.{one_profile}
+use Rattle.ior_text.specs.ReferenceFields.{ReadsIor}
+use Rattle.ior_text.specs.Tagged.{ReadsProfile, ReadsProfiles}
+use Rattle.ior_text.proofs.OneReading.{one_profile}
 use Rattle.giop_msg.proofs.Deciding.{Decided, decided_as, decided_then, Stands, StandsThen}
 use Rattle.giop_msg.proofs.Numbers.{ulong_decided}
 use Rattle.giop_msg.proofs.Strings.{octets_decided, text_decided}

@@ -9,11 +9,11 @@ use Rattle.cdr_core.specs.Refusal.{Refuses}
 use Rattle.cdr_core.proofs.OneReading.{one_ushort_read, one_ulong_read, one_octets_read}
 use Rattle.cdr_core.proofs.Refusals.{none_where_refused}
 use Rattle.poa_base.specs.declared.Profile.{Profile}
-use Rattle.ior_profile.specs.Tagged.{ProfileBreaks}
-use Rattle.ior_profile.specs.Reference.{ReadsIor, IorBreaks}
-use Rattle.ior_profile.specs.Key.{TellsKey, HasKey, IsKeyOr}
-use Rattle.ior_profile.proofs.OneReading.{one_profile, one_ior, profile_stands, ior_stands}
-use Rattle.ior_profile.proofs.Keys.{one_told_key, one_key, one_found, found_at}
+use Rattle.ior_text.specs.Tagged.{ProfileBreaks}
+use Rattle.ior_text.specs.ReferenceFields.{ReadsIor, IorBreaks}
+use Rattle.ior_text.specs.Key.{TellsKey, HasKey, IsKeyOr}
+use Rattle.ior_text.proofs.OneReading.{one_profile, one_ior, profile_stands, ior_stands}
+use Rattle.ior_text.proofs.Keys.{one_told_key, one_key, one_found, found_at}
 use Rattle.profile_view.specs.declared.ProfileView.{ProfileView}
 use Rattle.profile_view.specs.Seen.{seen_profile, SeesProfile}
 use Rattle.giop_msg.specs.declared.target.TheConstants.{KEY_ADDRESS, PROFILE_ADDRESS, REFERENCE_ADDRESS}

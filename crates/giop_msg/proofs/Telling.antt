@@ -6,12 +6,12 @@ use Rattle.cdr_core.specs.Cursor.{Cursor, Reads}
 use Rattle.cdr_core.proofs.OneReading.{one_octet_read, one_ushort_read, one_octets_read, one_text_read}
 use Rattle.poa_base.specs.declared.Ior.{Ior}
 use Rattle.poa_base.specs.declared.Profile.{Profile}
-use Rattle.ior_profile.specs.declared.body.ProfileBody.{ProfileBody}
-use Rattle.ior_profile.specs.declared.profile.TheConstants.{TAG_INTERNET_IOP}
-use Rattle.ior_profile.specs.Body.{has_components, Counted, ReadsBody}
-use Rattle.ior_profile.specs.Encapsulation.{inside}
-use Rattle.ior_profile.specs.Key.{TellsKey, HasKey, IsKeyOr}
-use Rattle.ior_profile.proofs.Keys.{found_at}
+use Rattle.ior_text.specs.declared.body.ProfileBody.{ProfileBody}
+use Rattle.ior_text.specs.declared.profile.TheConstants.{TAG_INTERNET_IOP}
+use Rattle.ior_text.specs.Body.{has_components, Counted, ReadsBody}
+use Rattle.ior_text.specs.Encapsulated.{inside}
+use Rattle.ior_text.specs.Key.{TellsKey, HasKey, IsKeyOr}
+use Rattle.ior_text.proofs.Keys.{found_at}
 use Rattle.giop_msg.proofs.Deciding.{Decided, decided_as, decided_then, is_decided, Stands, StandsThen}
 use Rattle.giop_msg.proofs.Numbers.{octet_decided, ushort_decided, ulong_decided}
 use Rattle.giop_msg.proofs.Strings.{octets_decided, text_decided}

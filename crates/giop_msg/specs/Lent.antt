@@ -8,8 +8,8 @@ use Rattle.poa_base.specs.declared.Profile.{Profile}
 use Rattle.poa_base.specs.declared.Body.{Body}
 use Rattle.poa_base.specs.declared.Call.TheVariants as call
 use Rattle.poa_base.specs.declared.Head.{Head}
-use Rattle.ior_profile.specs.Tagged.{ReadsProfile, ReadsProfiles}
-use Rattle.ior_profile.specs.Reference.{ReadsIor}
+use Rattle.ior_text.specs.Tagged.{ReadsProfile, ReadsProfiles}
+use Rattle.ior_text.specs.ReferenceFields.{ReadsIor}
 use Rattle.profile_view.specs.Seen.{KeyLies}
 use Rattle.giop_msg.specs.declared.incoming.Incoming.{Incoming}
 use Rattle.giop_msg.specs.declared.incoming.Incoming.TheVariants as incoming

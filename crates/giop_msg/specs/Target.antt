@@ -4,9 +4,9 @@ use Rattle.cdr_core.specs.Field.{Field, ushort, ulong, octets}
 use Rattle.cdr_core.specs.Cursor.{Cursor, Reads}
 use Rattle.poa_base.specs.declared.Ior.{Ior}
 use Rattle.poa_base.specs.declared.Profile.{Profile}
-use Rattle.ior_profile.specs.Tagged.{ReadsProfile}
-use Rattle.ior_profile.specs.Reference.{ReadsIor}
-use Rattle.ior_profile.specs.Key.{TellsKey, HasKey, IsKeyOr}
+use Rattle.ior_text.specs.Tagged.{ReadsProfile}
+use Rattle.ior_text.specs.ReferenceFields.{ReadsIor}
+use Rattle.ior_text.specs.Key.{TellsKey, HasKey, IsKeyOr}
 use Rattle.giop_msg.specs.declared.target.TheConstants.{KEY_ADDRESS, PROFILE_ADDRESS, REFERENCE_ADDRESS}
 
 -- how an object is addressed

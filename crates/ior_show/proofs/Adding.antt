@@ -2,8 +2,8 @@
 use Rattle.std.proofs.Common.{◌≡◌, ℕ, ◌+◌, ◌<◌, List, [], ◌∷◌, ◌++◌, length, take, get_or, refl, sym, ◌∙◌, ap, subst, arith, append_assoc, append-nil, length-take-le, inl}
 use Rattle.std.proofs.lemmas.List.{take_more}
 use Rattle.poa_base.specs.declared.Profile.{Profile}
-use Rattle.ior_profile.specs.declared.ProfileBody.{ProfileBody}
-use Rattle.ior_profile.specs.Body.{HasBody}
+use Rattle.ior_text.specs.declared.ProfileBody.{ProfileBody}
+use Rattle.ior_text.specs.Body.{HasBody}
 use Rattle.ior_show.specs.KeyLine.{KeyShown}
 use Rattle.ior_show.specs.Shown.{Adds, body_line, ProfileShown, ProfilesShown}
 

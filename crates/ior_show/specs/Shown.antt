@@ -2,8 +2,8 @@
 use Rattle.std.specs.Prelude.{◌≡◌, ℕ, ◌+◌, List, [], ◌∷◌, ◌++◌, codes, decimal, ◌⊎◌}
 use Rattle.poa_base.specs.declared.Ior.{Ior}
 use Rattle.poa_base.specs.declared.Profile.{Profile}
-use Rattle.ior_profile.specs.declared.ProfileBody.{ProfileBody}
-use Rattle.ior_profile.specs.Body.{HasBody}
+use Rattle.ior_text.specs.declared.ProfileBody.{ProfileBody}
+use Rattle.ior_text.specs.Body.{HasBody}
 use Rattle.ior_show.specs.Printed.{hexed, printed}
 use Rattle.ior_show.specs.KeyLine.{KeyShown}
 

@@ -4,7 +4,7 @@ ghost use Rattle.ior_show.specs.Shown.{Adds, ProfileShown, body_line, tag_line};
 
 use crate::key::put_key;
 use crate::printed::{put_hexed, put_printed, put_text};
-use ior_profile::{ProfileBody, read_body};
+use ior_text::{ProfileBody, read_body};
 use poa_base::{Profile, WantMemory};
 
 /// Adds the lines of a profile.

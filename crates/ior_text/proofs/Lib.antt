@@ -1,3 +1,8 @@
+pub mod OneReading
+pub mod Stopping
+pub mod PushingFields
+pub mod Bodies
+pub mod Keys
 pub mod OneText
 pub mod Pushing
 pub mod Digits

@@ -5,10 +5,10 @@ use Rattle.cdr_core.specs.Cursor.{Cursor}
 use Rattle.poa_base.specs.declared.Ior.{Ior}
 use Rattle.ior_text.specs.declared.fault.IorFault.{IorFault}
 use Rattle.ior_text.specs.declared.fault.IorFault.TheVariants.{NoPrefix, OddDigits, BadDigit, Malformed, WantMemory}
-use Rattle.ior_profile.specs.Reference.{ReadsIor, IorBreaks}
+use Rattle.ior_text.specs.ReferenceFields.{ReadsIor, IorBreaks}
 use Rattle.ior_text.specs.Encapsulation.{Encloses, Spoils}
 use Rattle.ior_text.specs.Text.{bytes_of, TextGives}
-use Rattle.ior_profile.proofs.OneReading.{one_ior, ior_stands, one_ior_place}
+use Rattle.ior_text.proofs.OneReading.{one_ior, ior_stands, one_ior_place}
 
 pub one_enclosed : (bytes : List ℕ) (i j : Ior) → Encloses bytes i → Encloses bytes j → i ≡ j
 one_enclosed bytes i j r s =

@@ -12,8 +12,8 @@ use Rattle.cdr_core.specs.Draft.{Draft, empty_draft, with_field}
 use Rattle.cdr_core.proofs.Written.{written_reads_back}
 use Rattle.poa_base.specs.declared.Ior.{Ior}
 use Rattle.poa_base.specs.declared.Profile.{Profile}
-use Rattle.ior_profile.specs.Encapsulation.{inside}
-use Rattle.ior_profile.specs.Tagged.{ReadsProfiles}
+use Rattle.ior_text.specs.Encapsulated.{inside}
+use Rattle.ior_text.specs.Tagged.{ReadsProfiles}
 use Rattle.ior_text.specs.Encapsulation.{Encloses}
 use Rattle.ior_text.specs.Text.{digits_of, TextGives}
 use Rattle.ior_text.specs.Written.{with_profile, with_profiles, encapsulation, ior_text, IsProfile, IsIor}

@@ -2,8 +2,8 @@
 use Rattle.std.specs.Prelude.{◌≡◌, ℕ, List, Some, None, ◌⊎◌}
 use Rattle.cdr_core.specs.Cursor.{Cursor}
 use Rattle.poa_base.specs.declared.Ior.{Ior}
-use Rattle.ior_profile.specs.Encapsulation.{inside}
-use Rattle.ior_profile.specs.Reference.{ReadsIor, IorBreaks}
+use Rattle.ior_text.specs.Encapsulated.{inside}
+use Rattle.ior_text.specs.ReferenceFields.{ReadsIor, IorBreaks}
 use Rattle.ior_text.specs.declared.fault.IorFault.{IorFault}
 use Rattle.ior_text.specs.declared.fault.IorFault.TheVariants.{Malformed, WantMemory}
 

@@ -1,3 +1,10 @@
+pub mod Profile
+pub mod Breaking
+pub mod Encapsulated
+pub mod Tagged
+pub mod ReferenceFields
+pub mod Body
+pub mod Key
 pub mod Encapsulation
 pub mod Reference
 pub mod Text

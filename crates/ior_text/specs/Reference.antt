@@ -4,7 +4,7 @@ use Rattle.poa_base.specs.declared.Endpoint.{Endpoint}
 use Rattle.poa_base.specs.declared.Ior.{Ior}
 use Rattle.poa_base.specs.declared.Key.{Key}
 use Rattle.object_key.specs.Spelling.{key_spelling}
-use Rattle.ior_profile.specs.Profile.{profile_of}
+use Rattle.ior_text.specs.Profile.{profile_of}
 use Rattle.ior_text.specs.Written.{ior_text}
 
 -- one profile: where the server listens, and the object's key

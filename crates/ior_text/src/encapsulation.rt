@@ -3,8 +3,9 @@ ghost use Rattle.std.specs.Prelude.{◌≡◌, ◌≢◌, ◌⊎◌, IfOk, IfErr
 ghost use Rattle.ior_text.specs.Encapsulation.{Encloses, Spoils, FaultBy};
 
 use crate::fault::IorFault;
+use crate::reference_fields::read_reference;
+use crate::written_encapsulation::enter;
 use cdr_core::CdrFault;
-use ior_profile::{enter, read_reference};
 use poa_base::Ior;
 use std::alloc::Global;
 

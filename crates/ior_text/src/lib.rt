@@ -3,16 +3,26 @@
 //! of this server: its type id, and one IIOP profile with the server's endpoint and the object's key (9.7.2).
 #![tactic(auto)]
 
+mod body;
 mod encapsulation;
 mod fault;
+mod key;
 mod law;
+mod profile;
 mod reading;
 mod reference;
+mod reference_fields;
 mod writing;
+mod written_encapsulation;
 
+pub use body::{ProfileBody, read_body};
 pub use fault::IorFault;
-pub use ior_profile::key_of;
+pub use key::{key_of, read_key};
 pub use law::one_answer;
+pub use poa_base::WantMemory;
+pub use profile::write_profile;
 pub use reading::read_ior;
 pub use reference::write_reference;
+pub use reference_fields::{read_profile, read_reference};
 pub use writing::write_ior;
+pub use written_encapsulation::enter;

@@ -2,8 +2,8 @@
 ghost use Rattle.std.specs.Prelude.{◌≡◌, IfOk};
 ghost use Rattle.ior_text.specs.Reference.{reference_of, reference_text};
 
+use crate::profile::write_profile;
 use crate::writing::write_ior;
-use ior_profile::write_profile;
 use object_key::write_key;
 use poa_base::{Bytes, Endpoint, Ior, Items, Key, WantMemory};
 use std::alloc::Global;

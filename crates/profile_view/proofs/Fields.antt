@@ -8,11 +8,11 @@ use Rattle.cdr_core.specs.declared.PartFault.{PartFault}
 use Rattle.cdr_core.specs.declared.PartFault.TheVariants.{Short, BadBool, NoNul}
 use Rattle.cdr_core.specs.Fault.{refusal}
 use Rattle.poa_base.specs.declared.Profile.{Profile}
-use Rattle.ior_profile.specs.declared.profile.TheConstants.{TAG_INTERNET_IOP}
-use Rattle.ior_profile.specs.Encapsulation.{inside}
-use Rattle.ior_profile.specs.Body.{has_components, Counted}
-use Rattle.ior_profile.specs.Key.{TellsKey}
-use Rattle.ior_profile.proofs.Bodies.{Versioned, fields_read}
+use Rattle.ior_text.specs.declared.profile.TheConstants.{TAG_INTERNET_IOP}
+use Rattle.ior_text.specs.Encapsulated.{inside}
+use Rattle.ior_text.specs.Body.{has_components, Counted}
+use Rattle.ior_text.specs.Key.{TellsKey}
+use Rattle.ior_text.proofs.Bodies.{Versioned, fields_read}
 use Rattle.profile_view.specs.Seen.{ReadsKey}
 
 -- no view refuses for want of memory

@@ -5,8 +5,8 @@ use Rattle.std.proofs.lemmas.Option.{slice_get_past}
 use Rattle.cdr_core.specs.Field.{text, ulong}
 use Rattle.cdr_core.specs.Cursor.{Cursor, Reads}
 use Rattle.poa_base.specs.declared.Profile.{Profile}
-use Rattle.ior_profile.specs.Tagged.{ReadsProfile, ProfileBreaks, ProfilesBreak}
-use Rattle.ior_profile.proofs.Pushing.{reads_push}
+use Rattle.ior_text.specs.Tagged.{ReadsProfile, ProfileBreaks, ProfilesBreak}
+use Rattle.ior_text.proofs.PushingFields.{reads_push}
 use Rattle.profile_view.specs.Seen.{SeesProfile, SeesAmong}
 
 -- what stands last, and what stands elsewhere

@@ -7,10 +7,10 @@ use Rattle.cdr_core.specs.Part.{IsSlice, StandsIn, counted_at}
 use Rattle.cdr_core.proofs.Slices.{stands_behind, lies_in_message}
 use Rattle.cdr_core.proofs.Lying.{octets_lie}
 use Rattle.poa_base.specs.declared.Profile.{Profile}
-use Rattle.ior_profile.specs.declared.body.ProfileBody.{ProfileBody}
-use Rattle.ior_profile.specs.Encapsulation.{inside}
-use Rattle.ior_profile.specs.Body.{ReadsBody}
-use Rattle.ior_profile.specs.Key.{TellsKey}
+use Rattle.ior_text.specs.declared.body.ProfileBody.{ProfileBody}
+use Rattle.ior_text.specs.Encapsulated.{inside}
+use Rattle.ior_text.specs.Body.{ReadsBody}
+use Rattle.ior_text.specs.Key.{TellsKey}
 use Rattle.profile_view.specs.Seen.{KeyLies}
 
 -- the fields of an encapsulation stand in it behind its first octet

@@ -4,11 +4,11 @@ use Rattle.cdr_core.specs.Cursor.{Cursor}
 use Rattle.cdr_core.specs.Part.{IsSlice, counted_at}
 use Rattle.poa_base.specs.declared.Ior.{Ior}
 use Rattle.poa_base.specs.declared.Profile.{Profile}
-use Rattle.ior_profile.specs.declared.body.ProfileBody.{ProfileBody}
-use Rattle.ior_profile.specs.Body.{ReadsBody}
-use Rattle.ior_profile.specs.Tagged.{ReadsProfiles}
-use Rattle.ior_profile.specs.Reference.{ReadsIor}
-use Rattle.ior_profile.specs.Key.{TellsKey}
+use Rattle.ior_text.specs.declared.body.ProfileBody.{ProfileBody}
+use Rattle.ior_text.specs.Body.{ReadsBody}
+use Rattle.ior_text.specs.Tagged.{ReadsProfiles}
+use Rattle.ior_text.specs.ReferenceFields.{ReadsIor}
+use Rattle.ior_text.specs.Key.{TellsKey}
 use Rattle.profile_view.specs.declared.profile.ProfileView.{ProfileView}
 
 -- the profile that is lent

@@ -1,6 +1,6 @@
 //! Encapsulations.
 ghost use Rattle.std.specs.Prelude.{◌≡◌};
-ghost use Rattle.ior_profile.specs.Encapsulation.{inside};
+ghost use Rattle.ior_text.specs.Encapsulated.{inside};
 
 use cdr_core::View;
 

@@ -1,8 +1,8 @@
 //! The object key that a profile tells.
 ghost use Rattle.std.specs.Prelude.{◌≡◌, ⊤, true, option_map, IfOk, IfSome, OnOk, OnErr, MatchBool};
-ghost use Rattle.ior_profile.specs.declared.body.ProfileBody.{ProfileBody};
-ghost use Rattle.ior_profile.specs.Body.{has_components, Counted, ReadsBody};
-ghost use Rattle.ior_profile.specs.Key.{TellsKey, IsKeyOr};
+ghost use Rattle.ior_text.specs.declared.body.ProfileBody.{ProfileBody};
+ghost use Rattle.ior_text.specs.Body.{has_components, Counted, ReadsBody};
+ghost use Rattle.ior_text.specs.Key.{TellsKey, IsKeyOr};
 ghost use Rattle.profile_view.specs.Seen.{seen_profile, ReadsKey, KeyLies};
 
 use crate::encapsulation::enter;

@@ -1,6 +1,6 @@
 //! Tagged profiles.
 ghost use Rattle.std.specs.Prelude.{IfOk, OnErr};
-ghost use Rattle.ior_profile.specs.Tagged.{ReadsProfile, ProfileBreaks};
+ghost use Rattle.ior_text.specs.Tagged.{ReadsProfile, ProfileBreaks};
 ghost use Rattle.profile_view.specs.Seen.{seen_profile};
 
 use cdr_core::{PartFault, View};

@@ -1,7 +1,7 @@
 //! References as fields.
 ghost use Rattle.std.specs.Prelude.{IfOk, OnErr, option_map};
-ghost use Rattle.ior_profile.specs.Tagged.{ProfilesBreak};
-ghost use Rattle.ior_profile.specs.Reference.{IorBreaks};
+ghost use Rattle.ior_text.specs.Tagged.{ProfilesBreak};
+ghost use Rattle.ior_text.specs.ReferenceFields.{IorBreaks};
 ghost use Rattle.profile_view.specs.Seen.{seen_profile, SeesProfile, SeesAmong};
 
 use crate::profile::{ProfileView, view_profile};

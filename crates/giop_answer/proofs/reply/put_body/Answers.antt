@@ -2,7 +2,7 @@
 use Rattle.std.proofs.Common.{◌≡◌, ℕ, List, subst}
 use Rattle.std.specs.Prelude.{OnOk}
 use Rattle.cdr_core.specs.Fields.{with_fields}
-use Rattle.ior_profile.specs.Profile.{profile_of}
+use Rattle.ior_text.specs.Profile.{profile_of}
 use Rattle.giop_answer.specs.Reply.{reference_fields}
 use Rattle.giop_answer.proofs.reply.put_body.Goals as goal
 

@@ -1,7 +1,7 @@
 -- Each field is read where the one before it ends.
 use Rattle.std.proofs.Common.{inr}
 use Rattle.cdr_core.specs.Fault.{refusal}
-use Rattle.ior_profile.proofs.Bodies.{no_host, no_port, no_object_key, no_count}
+use Rattle.ior_text.proofs.Bodies.{no_host, no_port, no_object_key, no_count}
 use Rattle.profile_view.proofs.Refused.{on_err}
 use Rattle.profile_view.proofs.Fields.{not_memory, versioned, key_read}
 use Rattle.profile_view.proofs.key.view_fields.Goals as goal

@@ -1,8 +1,8 @@
 -- The key of the body that was read is the profile's, and without a body there is none.
 use Rattle.std.proofs.Common.{◌≡◌, sym, arith}
-use Rattle.ior_profile.specs.declared.profile.TheConstants.{TAG_INTERNET_IOP}
-use Rattle.ior_profile.proofs.Bodies.{unread}
-use Rattle.ior_profile.proofs.Keys.{none_told}
+use Rattle.ior_text.specs.declared.profile.TheConstants.{TAG_INTERNET_IOP}
+use Rattle.ior_text.proofs.Bodies.{unread}
+use Rattle.ior_text.proofs.Keys.{none_told}
 use Rattle.profile_view.specs.Seen.{seen_profile}
 use Rattle.profile_view.proofs.Fields.{told}
 use Rattle.profile_view.proofs.Lying.{key_lies}

@@ -1,7 +1,7 @@
 -- A refused field is where reading stops.
 use Rattle.std.proofs.Common.{inl, inr}
 use Rattle.cdr_core.specs.Kind.{ULong, Octets}
-use Rattle.ior_profile.proofs.Stopping.{breaks_where_refused}
+use Rattle.ior_text.proofs.Stopping.{breaks_where_refused}
 use Rattle.profile_view.proofs.Refused.{on_err}
 use Rattle.profile_view.proofs.profile.view_profile.Goals as goal
 

@@ -1,5 +1,0 @@
-pub mod OneReading
-pub mod Stopping
-pub mod Pushing
-pub mod Bodies
-pub mod Keys
