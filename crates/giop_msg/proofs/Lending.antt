@@ -16,7 +16,7 @@ use Rattle.poa_base.specs.declared.Call.TheVariants.{Request, Locate, Line}
 use Rattle.poa_base.specs.declared.Head.{Head}
 use Rattle.ior_text.specs.Tagged.{ReadsProfile, ReadsProfiles}
 use Rattle.ior_text.specs.Key.{TellsKey, HasKey}
-use Rattle.profile_view.proofs.Lying.{key_lies}
+use Rattle.ior_text.proofs.Lying.{key_lies}
 use Rattle.giop_msg.specs.declared.incoming.Incoming.{Incoming}
 use Rattle.giop_msg.specs.declared.incoming.Incoming.TheVariants as incoming
 use Rattle.giop_answer.specs.declared.kind.TheConstants.{HEADER}

@@ -14,8 +14,8 @@ use Rattle.ior_text.specs.ReferenceFields.{ReadsIor, IorBreaks}
 use Rattle.ior_text.specs.Key.{TellsKey, HasKey, IsKeyOr}
 use Rattle.ior_text.proofs.OneReading.{one_profile, one_ior, profile_stands, ior_stands}
 use Rattle.ior_text.proofs.Keys.{one_told_key, one_key, one_found, found_at}
-use Rattle.profile_view.specs.declared.ProfileView.{ProfileView}
-use Rattle.profile_view.specs.Seen.{seen_profile, SeesProfile}
+use Rattle.ior_text.specs.declared.ProfileView.{ProfileView}
+use Rattle.ior_text.specs.Seen.{seen_profile, SeesProfile}
 use Rattle.giop_msg.specs.declared.target.TheConstants.{KEY_ADDRESS, PROFILE_ADDRESS, REFERENCE_ADDRESS}
 use Rattle.giop_msg.specs.Target.{Target, by_key, by_profile, by_reference, disposition_of, ReadsAddress, GivesKey, IsAddress, IsTarget}
 use Rattle.giop_msg.specs.Reading.{NoTarget, NoAddress}

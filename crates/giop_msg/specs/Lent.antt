@@ -10,7 +10,7 @@ use Rattle.poa_base.specs.declared.Call.TheVariants as call
 use Rattle.poa_base.specs.declared.Head.{Head}
 use Rattle.ior_text.specs.Tagged.{ReadsProfile, ReadsProfiles}
 use Rattle.ior_text.specs.ReferenceFields.{ReadsIor}
-use Rattle.profile_view.specs.Seen.{KeyLies}
+use Rattle.ior_text.specs.Seen.{KeyLies}
 use Rattle.giop_msg.specs.declared.incoming.Incoming.{Incoming}
 use Rattle.giop_msg.specs.declared.incoming.Incoming.TheVariants as incoming
 use Rattle.giop_msg.specs.Target.{Target, by_key, by_profile, by_reference, IsTarget}

@@ -5,7 +5,7 @@ ghost use Rattle.giop_msg.specs.Reading.{NoTarget, NoAddress};
 
 use crate::view_fault::Unreadable;
 use cdr_core::{PartFault, View};
-use profile_view::{view_key, view_profile, view_reference};
+use ior_text::{view_key, view_profile, view_reference};
 
 /// How a target is told: by its key, by a profile, or by a reference.
 pub(crate) const KEY_ADDRESS: u16 = 0;

@@ -8,3 +8,7 @@ pub mod Pushing
 pub mod Digits
 pub mod ReadingBack
 pub mod WrittenBytes
+pub mod Refused
+pub mod Lying
+pub mod Fields
+pub mod Lists

@@ -9,3 +9,4 @@ pub mod Encapsulation
 pub mod Reference
 pub mod Text
 pub mod Written
+pub mod Seen

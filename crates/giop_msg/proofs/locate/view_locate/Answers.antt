@@ -2,7 +2,7 @@
 use Rattle.std.proofs.Common.{Bool, ap, subst}
 use Rattle.cdr_core.specs.Field.{ulong}
 use Rattle.cdr_core.specs.Cursor.{Cursor, Reads}
-use Rattle.profile_view.proofs.Refused.{on_err}
+use Rattle.ior_text.proofs.Refused.{on_err}
 use Rattle.giop_msg.specs.Locate.{locate_head}
 use Rattle.giop_msg.proofs.Locates.{no_target}
 use Rattle.giop_msg.proofs.locate.view_locate.Goals as goal

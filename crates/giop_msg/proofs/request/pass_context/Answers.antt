@@ -1,6 +1,6 @@
 -- An id and data were read.
 use Rattle.std.proofs.Common.{refl}
-use Rattle.profile_view.proofs.Refused.{on_err}
+use Rattle.ior_text.proofs.Refused.{on_err}
 use Rattle.giop_msg.proofs.Contexts.{no_data}
 use Rattle.giop_msg.proofs.request.pass_context.Goals as goal
 

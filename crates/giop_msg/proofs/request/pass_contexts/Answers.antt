@@ -1,7 +1,7 @@
 -- Each turn reads one more context.
 use Rattle.std.proofs.Common.{◌≡◌, ℕ, subst, arith}
 use Rattle.giop_msg.specs.Reading.{HasContexts}
-use Rattle.profile_view.proofs.Refused.{on_err}
+use Rattle.ior_text.proofs.Refused.{on_err}
 use Rattle.giop_msg.proofs.Contexts.{no_contexts, more_contexts, no_more_contexts}
 use Rattle.giop_msg.proofs.request.pass_contexts.Goals as goal
 

@@ -1,5 +1,5 @@
 -- The operation, the count of the contexts and the contexts were read.
-use Rattle.profile_view.proofs.Refused.{on_err}
+use Rattle.ior_text.proofs.Refused.{on_err}
 use Rattle.giop_msg.proofs.Contexts.{no_operation, no_count, no_contexts_behind, closing_read}
 use Rattle.giop_msg.proofs.request.view_closing.Goals as goal
 

@@ -5,7 +5,7 @@ use Rattle.cdr_core.specs.Field.{ulong, octet}
 use Rattle.cdr_core.specs.Cursor.{Cursor}
 use Rattle.giop_msg.specs.Fields.{ReadsAll}
 use Rattle.giop_msg.specs.Request.{opening_fields, IsOpening}
-use Rattle.profile_view.proofs.Refused.{on_err}
+use Rattle.ior_text.proofs.Refused.{on_err}
 use Rattle.giop_msg.proofs.Fields.{stuck}
 use Rattle.giop_msg.proofs.request.view_opening.Goals as goal
 

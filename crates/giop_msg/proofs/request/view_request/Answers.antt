@@ -2,7 +2,7 @@
 use Rattle.std.proofs.Common.{subst, sym, arith}
 use Rattle.cdr_core.specs.Cursor.{Cursor}
 use Rattle.giop_msg.specs.Request.{IsOpening}
-use Rattle.profile_view.proofs.Refused.{on_err}
+use Rattle.ior_text.proofs.Refused.{on_err}
 use Rattle.giop_msg.proofs.Requests.{opened, no_opening, no_target, no_closing, within, request_read}
 use Rattle.giop_msg.proofs.request.view_request.Goals as goal
 

@@ -1,8 +1,8 @@
 -- The profile was read, and its key.
 use Rattle.std.proofs.Common.{refl}
-use Rattle.profile_view.specs.Seen.{seen_profile}
+use Rattle.ior_text.specs.Seen.{seen_profile}
 use Rattle.giop_msg.specs.Target.{by_profile}
-use Rattle.profile_view.proofs.Refused.{on_err}
+use Rattle.ior_text.proofs.Refused.{on_err}
 use Rattle.giop_msg.proofs.Targets.{no_profile}
 use Rattle.giop_msg.proofs.target.by_profile.Goals as goal
 

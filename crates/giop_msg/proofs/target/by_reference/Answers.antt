@@ -1,5 +1,5 @@
 -- The index and the reference were read, and the key at that index.
-use Rattle.profile_view.proofs.Refused.{on_err}
+use Rattle.ior_text.proofs.Refused.{on_err}
 use Rattle.giop_msg.proofs.Targets.{no_reference, key_in_reference, none_in_reference}
 use Rattle.giop_msg.proofs.target.by_reference.Goals as goal
 

@@ -2,7 +2,7 @@
 use Rattle.std.proofs.Common.{ℕ, sym, subst, refl, arith}
 use Rattle.giop_msg.specs.Target.{by_key}
 use Rattle.giop_msg.specs.Reading.{NoAddress}
-use Rattle.profile_view.proofs.Refused.{on_err}
+use Rattle.ior_text.proofs.Refused.{on_err}
 use Rattle.giop_msg.proofs.Targets.{no_key, other_disposition}
 use Rattle.giop_msg.proofs.target.view_address.Goals as goal
 

@@ -1,5 +1,5 @@
 -- The disposition was read, and the address behind it.
-use Rattle.profile_view.proofs.Refused.{on_err}
+use Rattle.ior_text.proofs.Refused.{on_err}
 use Rattle.giop_msg.proofs.Targets.{no_target_behind}
 use Rattle.giop_msg.proofs.target.view_target.Goals as goal
 

@@ -7,7 +7,7 @@ use Rattle.cdr_core.specs.Cursor.{Cursor, Reads}
 use Rattle.poa_base.specs.declared.Profile.{Profile}
 use Rattle.ior_text.specs.Tagged.{ReadsProfile, ProfileBreaks, ProfilesBreak}
 use Rattle.ior_text.proofs.PushingFields.{reads_push}
-use Rattle.profile_view.specs.Seen.{SeesProfile, SeesAmong}
+use Rattle.ior_text.specs.Seen.{SeesProfile, SeesAmong}
 
 -- what stands last, and what stands elsewhere
 got_last : {X : Type 0} (xs : List X) (x : X) (i : ℕ) → i ≡ length xs → slice_get (xs ++ x ∷ []) i ≡ Some x

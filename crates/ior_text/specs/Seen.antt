@@ -9,7 +9,7 @@ use Rattle.ior_text.specs.Body.{ReadsBody}
 use Rattle.ior_text.specs.Tagged.{ReadsProfiles}
 use Rattle.ior_text.specs.ReferenceFields.{ReadsIor}
 use Rattle.ior_text.specs.Key.{TellsKey}
-use Rattle.profile_view.specs.declared.profile.ProfileView.{ProfileView}
+use Rattle.ior_text.specs.declared.seen_profile.ProfileView.{ProfileView}
 
 -- the profile that is lent
 abbrev pub seen_profile : ProfileView → Profile

@@ -1,11 +1,11 @@
 -- Each turn reads one more profile.
 use Rattle.std.proofs.Common.{ap, arith, inl, inr}
 use Rattle.std.specs.Prelude.{option_map}
-use Rattle.profile_view.specs.Seen.{seen_profile}
-use Rattle.profile_view.proofs.Refused.{on_err}
-use Rattle.profile_view.proofs.Lists.{sees_none, sees_next, stops_among}
-use Rattle.profile_view.proofs.reference.view_profiles.Goals as goal
-use Rattle.profile_view.proofs.reference.view_profiles.Goals.{then-i-index, else-i-index}
+use Rattle.ior_text.specs.Seen.{seen_profile}
+use Rattle.ior_text.proofs.Refused.{on_err}
+use Rattle.ior_text.proofs.Lists.{sees_none, sees_next, stops_among}
+use Rattle.ior_text.proofs.seen_reference.view_profiles.Goals as goal
+use Rattle.ior_text.proofs.seen_reference.view_profiles.Goals.{then-i-index, else-i-index}
 
 pub loop-i-init : goal.loop-i-init
 loop-i-init c = sees_none c.args.index c.args.view.now

@@ -1,6 +1,6 @@
 use Rattle.std.specs.Prelude.{option_map}
-use Rattle.profile_view.specs.Seen.{seen_profile, SeesAmong}
-use Rattle.profile_view.proofs.reference.view_profiles.Given as goal
+use Rattle.ior_text.specs.Seen.{seen_profile, SeesAmong}
+use Rattle.ior_text.proofs.seen_reference.view_profiles.Given as goal
 
 -- the profiles so far are read
 abbrev pub invariant-loop-i : goal.invariant-loop-i

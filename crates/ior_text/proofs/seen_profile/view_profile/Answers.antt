@@ -2,8 +2,8 @@
 use Rattle.std.proofs.Common.{inl, inr}
 use Rattle.cdr_core.specs.Kind.{ULong, Octets}
 use Rattle.ior_text.proofs.Stopping.{breaks_where_refused}
-use Rattle.profile_view.proofs.Refused.{on_err}
-use Rattle.profile_view.proofs.profile.view_profile.Goals as goal
+use Rattle.ior_text.proofs.Refused.{on_err}
+use Rattle.ior_text.proofs.seen_profile.view_profile.Goals as goal
 
 pub returns-in_err-tag-clause-bad : goal.returns-in_err-tag-clause-bad
 returns-in_err-tag-clause-bad c =

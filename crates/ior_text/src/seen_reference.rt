@@ -2,9 +2,9 @@
 ghost use Rattle.std.specs.Prelude.{IfOk, OnErr, option_map};
 ghost use Rattle.ior_text.specs.Tagged.{ProfilesBreak};
 ghost use Rattle.ior_text.specs.ReferenceFields.{IorBreaks};
-ghost use Rattle.profile_view.specs.Seen.{seen_profile, SeesProfile, SeesAmong};
+ghost use Rattle.ior_text.specs.Seen.{seen_profile, SeesProfile, SeesAmong};
 
-use crate::profile::{ProfileView, view_profile};
+use crate::seen_profile::{ProfileView, view_profile};
 use cdr_core::{PartFault, View};
 
 /// The profile at an index of the reference that stands at the view (CORBA 3.3 Part 2, 7.6.2), which is read

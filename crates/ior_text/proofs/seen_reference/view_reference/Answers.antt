@@ -2,9 +2,9 @@
 use Rattle.std.proofs.Common.{inl, inr}
 use Rattle.cdr_core.specs.Kind.{Text, ULong}
 use Rattle.ior_text.proofs.Stopping.{breaks_where_refused}
-use Rattle.profile_view.proofs.Refused.{on_err}
-use Rattle.profile_view.proofs.Lists.{reference_seen}
-use Rattle.profile_view.proofs.reference.view_reference.Goals as goal
+use Rattle.ior_text.proofs.Refused.{on_err}
+use Rattle.ior_text.proofs.Lists.{reference_seen}
+use Rattle.ior_text.proofs.seen_reference.view_reference.Goals as goal
 
 pub returns-in_err-text-clause-bad : goal.returns-in_err-text-clause-bad
 returns-in_err-text-clause-bad c =

@@ -3,10 +3,10 @@ use Rattle.std.proofs.Common.{◌≡◌, sym, arith}
 use Rattle.ior_text.specs.declared.profile.TheConstants.{TAG_INTERNET_IOP}
 use Rattle.ior_text.proofs.Bodies.{unread}
 use Rattle.ior_text.proofs.Keys.{none_told}
-use Rattle.profile_view.specs.Seen.{seen_profile}
-use Rattle.profile_view.proofs.Fields.{told}
-use Rattle.profile_view.proofs.Lying.{key_lies}
-use Rattle.profile_view.proofs.key.view_key.Goals as goal
+use Rattle.ior_text.specs.Seen.{seen_profile}
+use Rattle.ior_text.proofs.Fields.{told}
+use Rattle.ior_text.proofs.Lying.{key_lies}
+use Rattle.ior_text.proofs.seen_key.view_key.Goals as goal
 
 pub returns-in-Ok-clause-lent : goal.returns-in-Ok-clause-lent
 returns-in-Ok-clause-lent c =

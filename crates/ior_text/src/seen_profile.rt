@@ -1,7 +1,7 @@
 //! Tagged profiles.
 ghost use Rattle.std.specs.Prelude.{IfOk, OnErr};
 ghost use Rattle.ior_text.specs.Tagged.{ReadsProfile, ProfileBreaks};
-ghost use Rattle.profile_view.specs.Seen.{seen_profile};
+ghost use Rattle.ior_text.specs.Seen.{seen_profile};
 
 use cdr_core::{PartFault, View};
 

@@ -13,7 +13,7 @@ use Rattle.ior_text.specs.Encapsulated.{inside}
 use Rattle.ior_text.specs.Body.{has_components, Counted}
 use Rattle.ior_text.specs.Key.{TellsKey}
 use Rattle.ior_text.proofs.Bodies.{Versioned, fields_read}
-use Rattle.profile_view.specs.Seen.{ReadsKey}
+use Rattle.ior_text.specs.Seen.{ReadsKey}
 
 -- no view refuses for want of memory
 pub not_memory : (fault : PartFault) → refusal fault ≢ WantMemory

@@ -2,9 +2,9 @@
 use Rattle.std.proofs.Common.{inr}
 use Rattle.cdr_core.specs.Fault.{refusal}
 use Rattle.ior_text.proofs.Bodies.{no_host, no_port, no_object_key, no_count}
-use Rattle.profile_view.proofs.Refused.{on_err}
-use Rattle.profile_view.proofs.Fields.{not_memory, versioned, key_read}
-use Rattle.profile_view.proofs.key.view_fields.Goals as goal
+use Rattle.ior_text.proofs.Refused.{on_err}
+use Rattle.ior_text.proofs.Fields.{not_memory, versioned, key_read}
+use Rattle.ior_text.proofs.seen_key.view_fields.Goals as goal
 
 pub returns-in_err-text-clause-bad : goal.returns-in_err-text-clause-bad
 returns-in_err-text-clause-bad c =

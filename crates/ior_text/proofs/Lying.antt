@@ -11,7 +11,7 @@ use Rattle.ior_text.specs.declared.body.ProfileBody.{ProfileBody}
 use Rattle.ior_text.specs.Encapsulated.{inside}
 use Rattle.ior_text.specs.Body.{ReadsBody}
 use Rattle.ior_text.specs.Key.{TellsKey}
-use Rattle.profile_view.specs.Seen.{KeyLies}
+use Rattle.ior_text.specs.Seen.{KeyLies}
 
 -- the fields of an encapsulation stand in it behind its first octet
 start_stands : (bytes : List ℕ) (start : Cursor) → inside bytes ≡ Some start → StandsIn bytes start

@@ -3,10 +3,10 @@ ghost use Rattle.std.specs.Prelude.{◌≡◌, ⊤, true, option_map, IfOk, IfSo
 ghost use Rattle.ior_text.specs.declared.body.ProfileBody.{ProfileBody};
 ghost use Rattle.ior_text.specs.Body.{has_components, Counted, ReadsBody};
 ghost use Rattle.ior_text.specs.Key.{TellsKey, IsKeyOr};
-ghost use Rattle.profile_view.specs.Seen.{seen_profile, ReadsKey, KeyLies};
+ghost use Rattle.ior_text.specs.Seen.{seen_profile, ReadsKey, KeyLies};
 
-use crate::encapsulation::enter;
-use crate::profile::ProfileView;
+use crate::seen_encapsulation::enter;
+use crate::seen_profile::ProfileView;
 use cdr_core::{PartFault, View};
 
 /// The tag of an IIOP profile, TAG_INTERNET_IOP.

@@ -1,4 +1,0 @@
-pub mod Refused
-pub mod Lying
-pub mod Fields
-pub mod Lists
