@@ -7,8 +7,8 @@ use Rattle.poa_base.specs.Store.{Place, Slots}
 use Rattle.text_words.specs.Cuts.{words_of}
 use Rattle.text_words.specs.Token.{spelled}
 use Rattle.poa_journal.specs.Journal.{journal_lines, IsJournal, store_lines, IsStore}
-use Rattle.journal_lines.specs.Reading.{entry_of}
-use Rattle.journal_lines.specs.Row.{row_behind, row_words_of}
+use Rattle.poa_journal.specs.Reading.{entry_of}
+use Rattle.poa_journal.specs.Row.{row_behind, row_words_of}
 use Rattle.poa_journal.specs.Whole.{Front, is_above, row_above, put_row, after_row, at_line, rows_front, entry_at, put_entry, entries_of, head_of, run_of, numbered, with_entries, with_front, with_run, contents_of_lines, no_line, with_rows, all_rows}
 use Rattle.poa_journal.proofs.PrintedBack.{journal_lines_back, store_lines_back}
 

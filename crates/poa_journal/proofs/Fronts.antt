@@ -5,9 +5,9 @@ use Rattle.poa_base.specs.declared.State.{State}
 use Rattle.poa_base.specs.Store.{Place, Slots, states, with_room, with_state}
 use Rattle.text_words.specs.Cuts.{lines_of, words_of}
 use Rattle.text_words.specs.Token.{spelled}
-use Rattle.journal_lines.specs.Entry.{entry_tokens}
-use Rattle.journal_lines.specs.Reading.{entry_of}
-use Rattle.journal_lines.specs.Row.{row_tokens, row_behind, row_words_of}
+use Rattle.poa_journal.specs.Entry.{entry_tokens}
+use Rattle.poa_journal.specs.Reading.{entry_of}
+use Rattle.poa_journal.specs.Row.{row_tokens, row_behind, row_words_of}
 use Rattle.poa_journal.specs.Whole.{Front, is_above, row_above, put_row, after_row, at_line, rows_front, entry_at, put_entry, entries_of}
 use Rattle.poa_journal.proofs.Stored.{IsEnd, states_stored, end_stored}
 

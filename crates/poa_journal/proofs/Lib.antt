@@ -1,3 +1,6 @@
+pub mod Pages
+pub mod LineRows
+pub mod Entries
 pub mod Fronts
 pub mod Stored
 pub mod Ascending

@@ -2,7 +2,7 @@
 use Rattle.std.proofs.Common.{◌≡◌, ℕ, ◌+◌, suc, zero, List, [], ◌∷◌, ◌++◌, map, drop, Some, None, refl, ap, sym, ◌∙◌, append_assoc, arith}
 use Rattle.std.specs.List.{slice_get}
 use Rattle.poa_base.specs.declared.Entry.{Entry}
-use Rattle.journal_lines.specs.Entry.{entry_tokens}
+use Rattle.poa_journal.specs.Entry.{entry_tokens}
 use Rattle.text_words.specs.Token.{Token, spelled}
 use Rattle.poa_journal.specs.Journal.{text_of}
 

@@ -10,14 +10,14 @@ use Rattle.text_words.specs.Token.{Token, AllFit, texts, spelled, keyword, numbe
 use Rattle.text_words.proofs.Lines.{words_spelled, line_first}
 use Rattle.text_words.proofs.Numbers.{number_back}
 use Rattle.journal_words.specs.Fixed.{mark_word}
-use Rattle.journal_lines.specs.Fixed.{kind_word}
+use Rattle.poa_journal.specs.Fixed.{kind_word}
 use Rattle.journal_words.specs.declared.fixed.Mark.TheVariants as mark
-use Rattle.journal_lines.specs.Row.{row_tokens, state_tokens}
-use Rattle.journal_lines.specs.Entry.{entry_tokens, body_tokens, kind_in, IsWritten}
+use Rattle.poa_journal.specs.Row.{row_tokens, state_tokens}
+use Rattle.poa_journal.specs.Entry.{entry_tokens, body_tokens, kind_in, IsWritten}
 use Rattle.poa_journal.specs.Journal.{head_tokens, text_of, journal_lines, journal_text, IsRow, IsJournal, store_lines, store_text, IsStore}
 use Rattle.poa_journal.specs.Whole.{rows_front, entries_of, numbered, head_of, contents_of_lines, contents_of, contents, all_rows, rows_of}
-use Rattle.journal_lines.proofs.Entries.{entry_back}
-use Rattle.journal_lines.proofs.Rows.{row_back, row_starts, entry_starts}
+use Rattle.poa_journal.proofs.Entries.{entry_back}
+use Rattle.poa_journal.proofs.LineRows.{row_back, row_starts, entry_starts}
 use Rattle.poa_journal.proofs.Ascending.{Ascends, states_ascend}
 
 -- lines of tokens that fit

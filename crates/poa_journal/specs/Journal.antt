@@ -8,8 +8,8 @@ use Rattle.poa_base.specs.Store.{Place, Slots, states}
 use Rattle.text_words.specs.Token.{Token, keyword, number, spelled, AllFit}
 use Rattle.journal_words.specs.declared.fixed.Mark.TheVariants as mark
 use Rattle.journal_words.specs.Fixed.{mark_word}
-use Rattle.journal_lines.specs.Row.{row_tokens}
-use Rattle.journal_lines.specs.Entry.{entry_tokens, IsWritten}
+use Rattle.poa_journal.specs.Row.{row_tokens}
+use Rattle.poa_journal.specs.Entry.{entry_tokens, IsWritten}
 
 -- `journal 1 run N`
 abbrev pub head_tokens : ℕ → List Token

@@ -1,2 +1,6 @@
+pub mod Fixed
+pub mod Entry
+pub mod Row
+pub mod Reading
 pub mod Journal
 pub mod Whole

@@ -13,8 +13,8 @@ use Rattle.poa_journal.specs.declared.fault.JournalFault.TheVariants.{BadLine, W
 use Rattle.text_words.specs.Chain.{◌>>=◌}
 use Rattle.journal_words.specs.declared.fixed.Mark.TheVariants as mark
 use Rattle.journal_words.specs.Fixed.{expected}
-use Rattle.journal_lines.specs.Row.{row_behind, row_words_of}
-use Rattle.journal_lines.specs.Reading.{entry_of}
+use Rattle.poa_journal.specs.Row.{row_behind, row_words_of}
+use Rattle.poa_journal.specs.Reading.{entry_of}
 
 -- the rows at the front of lines, the number of the next line, and the lines from there on
 abbrev pub Front : Type 0

@@ -5,13 +5,18 @@
 //! and the first line outside the grammar is told.
 #![tactic(auto)]
 
+mod entry;
 mod fault;
+mod fixed;
 mod reading;
+mod row;
 mod rows;
 mod store_text;
 mod writing;
 
+pub use entry::{put_entry, read_entry};
 pub use fault::JournalFault;
 pub use reading::read;
+pub use row::{put_row, read_row, row_words};
 pub use store_text::{print_store, read_store};
 pub use writing::{print, print_entry, print_parts};

@@ -3,14 +3,14 @@ ghost use Rattle.std.specs.Prelude.{◌≡◌, ◌+◌, ◌<◌, ◌^◌, IfOk, 
 ghost use Rattle.text_words.specs.Cuts.{lines_of, words_of};
 ghost use Rattle.text_words.specs.WordGives.{WordGives};
 ghost use Rattle.text_words.specs.Token.{spelled, texts};
-ghost use Rattle.journal_lines.specs.Entry.{entry_tokens};
+ghost use Rattle.poa_journal.specs.Entry.{entry_tokens};
 ghost use Rattle.poa_journal.specs.Journal.{head_tokens, journal_lines, journal_text, IsJournal};
-ghost use Rattle.journal_lines.specs.Reading.{entry_of};
+ghost use Rattle.poa_journal.specs.Reading.{entry_of};
 ghost use Rattle.poa_journal.specs.Whole.{JournalReads, contents, contents_of, entries_of, entry_at as entry_at_of, head_of, run_of};
 
+use crate::entry::read_entry;
 use crate::fault::JournalFault;
 use crate::rows::read_rows;
-use journal_lines::read_entry;
 use journal_words::{Mark, expect};
 use poa_base::{Entry, Items, Journal};
 use std::alloc::Global;

@@ -5,11 +5,11 @@ ghost use Rattle.text_words.specs.Cuts.{lines_of};
 ghost use Rattle.text_words.specs.Token.{spelled, texts};
 ghost use Rattle.journal_words.specs.declared.fixed.Mark.TheVariants as mark;
 ghost use Rattle.journal_words.specs.Fixed.{mark_word};
-ghost use Rattle.journal_lines.specs.Row.{row_behind, row_tokens};
+ghost use Rattle.poa_journal.specs.Row.{row_behind, row_tokens};
 ghost use Rattle.poa_journal.specs.Whole.{JournalReads, front_seen, is_above as is_above_of, row_above, rows_front};
 
 use crate::fault::JournalFault;
-use journal_lines::{read_row, row_words};
+use crate::row::{read_row, row_words};
 use poa_base::{Oid, Path, State, Store};
 use std::alloc::{AllocError, Global};
 use text_words::{WordFault, next_line, words};

@@ -4,12 +4,13 @@ ghost use Rattle.poa_base.specs.Rows.{row_seen};
 ghost use Rattle.poa_base.specs.Store.{states};
 ghost use Rattle.journal_entries.specs.Rows.{seen};
 ghost use Rattle.text_words.specs.Token.{spelled};
-ghost use Rattle.journal_lines.specs.Entry.{entry_tokens};
-ghost use Rattle.journal_lines.specs.Row.{row_tokens};
+ghost use Rattle.poa_journal.specs.Entry.{entry_tokens};
+ghost use Rattle.poa_journal.specs.Row.{row_tokens};
 ghost use Rattle.poa_journal.specs.Journal.{head_tokens, journal_text, text_of};
 
+use crate::entry::put_entry;
+use crate::row::put_row;
 use journal_entries::{Entries, EntryView, Row as KeptRow};
-use journal_lines::{put_entry, put_row};
 use journal_words::Mark;
 use poa_base::{Bytes, Entry, Journal, Row, Store, WantMemory};
 use std::alloc::Global;

@@ -6,7 +6,7 @@ use Rattle.poa_base.specs.declared.Head.{Head}
 use Rattle.poa_base.specs.declared.Reply.{Reply}
 use Rattle.poa_base.specs.declared.Reply.TheVariants as reply
 use Rattle.text_words.specs.Token.{Token, keyword, named, octets, spelled}
-use Rattle.journal_lines.specs.Entry.{entry_tokens, n64}
+use Rattle.poa_journal.specs.Entry.{entry_tokens, n64}
 use Rattle.admin_line.specs.Answer.{answer_tokens}
 use Rattle.giop_answer.specs.Reply.{reply_bytes}
 use Rattle.replay_lines.specs.declared.mark.Mark.{Mark}

@@ -4,8 +4,8 @@ ghost use Rattle.replay_lines.specs.Lines.{entry_line, idle_line, limit_line, ba
 
 use crate::mark::Mark;
 use admin_line::put_answer;
-use journal_lines::put_entry;
 use poa_base::{Answer, Entry, WantMemory};
+use poa_journal::put_entry;
 use text_words::{Worded, put_number, put_octets, put_word};
 
 /// Prints an entry as a journal has it.

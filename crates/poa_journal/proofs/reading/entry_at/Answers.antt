@@ -1,8 +1,8 @@
 use Rattle.std.proofs.Common.{◌∙◌, sym, ap, map}
 use Rattle.text_words.specs.Token.{keyword}
 use Rattle.text_words.proofs.Lines.{line_spelled}
-use Rattle.journal_lines.specs.Fixed.{kind_word}
-use Rattle.journal_lines.specs.Entry.{kind_in, body_tokens}
+use Rattle.poa_journal.specs.Fixed.{kind_word}
+use Rattle.poa_journal.specs.Entry.{kind_in, body_tokens}
 use Rattle.poa_journal.proofs.reading.entry_at.Goals as goal
 
 pub returns-in-Ok-clause-text : goal.returns-in-Ok-clause-text

@@ -5,7 +5,7 @@ use Rattle.text_words.specs.Token.{keyword, path, identity}
 use Rattle.text_words.proofs.Lines.{line_spelled}
 use Rattle.journal_words.specs.declared.fixed.Mark.TheVariants as mark
 use Rattle.journal_words.specs.Fixed.{mark_word}
-use Rattle.journal_lines.specs.Row.{state_tokens, row_words_of}
+use Rattle.poa_journal.specs.Row.{state_tokens, row_words_of}
 use Rattle.poa_journal.proofs.Stored.{end_empty, states_empty}
 use Rattle.poa_journal.proofs.Fronts.{rows_begin, rows_step}
 use Rattle.poa_journal.proofs.rows.read_rows.Goals as goal

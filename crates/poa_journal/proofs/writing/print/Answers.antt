@@ -1,7 +1,7 @@
 use Rattle.std.proofs.Common.{◌∙◌, ◌∷◌, ◌++◌, ap, map}
 use Rattle.poa_base.specs.Store.{states}
-use Rattle.journal_lines.specs.Entry.{entry_tokens}
-use Rattle.journal_lines.specs.Row.{row_tokens}
+use Rattle.poa_journal.specs.Entry.{entry_tokens}
+use Rattle.poa_journal.specs.Row.{row_tokens}
 use Rattle.poa_journal.specs.Journal.{head_tokens, text_of}
 use Rattle.poa_journal.proofs.Printed.{printed}
 use Rattle.poa_journal.proofs.writing.print.Goals as goal

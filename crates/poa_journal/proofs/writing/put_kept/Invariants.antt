@@ -1,5 +1,5 @@
 use Rattle.std.proofs.Common.{◌≡◌, ◌++◌, drop, map}
-use Rattle.journal_lines.specs.Entry.{entry_tokens}
+use Rattle.poa_journal.specs.Entry.{entry_tokens}
 use Rattle.poa_journal.specs.Journal.{text_of}
 use Rattle.poa_journal.proofs.writing.put_kept.Given as goal
 

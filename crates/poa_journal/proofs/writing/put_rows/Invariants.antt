@@ -1,6 +1,6 @@
 use Rattle.std.proofs.Common.{◌≡◌, ◌++◌, drop, map}
 use Rattle.poa_base.specs.Rows.{row_seen}
-use Rattle.journal_lines.specs.Row.{row_tokens}
+use Rattle.poa_journal.specs.Row.{row_tokens}
 use Rattle.poa_journal.specs.Journal.{text_of}
 use Rattle.poa_journal.proofs.writing.put_rows.Given as goal
 

@@ -8,10 +8,10 @@ use Rattle.text_words.specs.Token.{AllFit, texts, path, identity}
 use Rattle.text_words.proofs.ReadBack.{path_back, printed_id_back, signed_back, prefixed_back}
 use Rattle.journal_words.specs.declared.fixed.Mark.TheVariants as mark
 use Rattle.journal_words.specs.Fixed.{mark_word}
-use Rattle.journal_lines.specs.declared.fixed.Kind.{Kind}
-use Rattle.journal_lines.specs.declared.fixed.Kind.TheVariants as kind
-use Rattle.journal_lines.specs.Fixed.{holding_word, kind_word}
-use Rattle.journal_lines.specs.Row.{page_token, pages_of, row_behind, row_tokens, row_words_of, state_tokens}
+use Rattle.poa_journal.specs.declared.fixed.Kind.{Kind}
+use Rattle.poa_journal.specs.declared.fixed.Kind.TheVariants as kind
+use Rattle.poa_journal.specs.Fixed.{holding_word, kind_word}
+use Rattle.poa_journal.specs.Row.{page_token, pages_of, row_behind, row_tokens, row_words_of, state_tokens}
 
 pages_back : (pages : List (List ℕ)) → AllFit (map page_token pages) → pages_of (texts (map page_token pages)) ≡ Some pages
 pages_back [] h = refl

@@ -1,7 +1,7 @@
 use Rattle.std.proofs.Common.{◌≡◌, ◌++◌, drop, map}
 use Rattle.text_words.specs.Token.{tails}
-use Rattle.journal_lines.specs.Row.{page_token}
-use Rattle.journal_lines.proofs.row.put_pages.Given as goal
+use Rattle.poa_journal.specs.Row.{page_token}
+use Rattle.poa_journal.proofs.row.put_pages.Given as goal
 
 abbrev pub invariant-loop-page : goal.invariant-loop-page
 invariant-loop-page l =

@@ -5,9 +5,9 @@ ghost use Rattle.text_words.specs.Token.{Token, spelled, tails, texts};
 ghost use Rattle.text_words.specs.Number.{signed_of};
 ghost use Rattle.poa_base.specs.Rows.{row_seen};
 ghost use Rattle.journal_words.specs.Fixed.{mark_word};
-ghost use Rattle.journal_lines.specs.Fixed.{holding_word};
+ghost use Rattle.poa_journal.specs.Fixed.{holding_word};
 ghost use Rattle.text_words.specs.Parts.{only};
-ghost use Rattle.journal_lines.specs.Row.{row_words_of, holding_of, page_token, pages_of, row_behind, row_tokens, state_behind, state_tokens};
+ghost use Rattle.poa_journal.specs.Row.{row_words_of, holding_of, page_token, pages_of, row_behind, row_tokens, state_behind, state_tokens};
 
 use crate::fixed::Holding;
 use journal_words::{Mark, is_mark};

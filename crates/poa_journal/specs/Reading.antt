@@ -5,11 +5,11 @@ use Rattle.poa_base.specs.declared.Entry.TheVariants.{Entered, Arrive, Filled, L
 use Rattle.text_words.specs.Chain.{◌>>=◌}
 use Rattle.text_words.specs.Keyword.{named_in}
 use Rattle.text_words.specs.Number.{number_of}
-use Rattle.journal_lines.specs.declared.fixed.Kind.{Kind}
-use Rattle.journal_lines.specs.declared.fixed.Kind.TheVariants as kind
-use Rattle.journal_lines.specs.declared.fixed.Removal.{Removal}
-use Rattle.journal_lines.specs.declared.fixed.Flag.{Flag}
-use Rattle.journal_lines.specs.Fixed.{kind_word, kinds, removal_word, removals, is_etherealizing, flag_word, flags, holds}
+use Rattle.poa_journal.specs.declared.fixed.Kind.{Kind}
+use Rattle.poa_journal.specs.declared.fixed.Kind.TheVariants as kind
+use Rattle.poa_journal.specs.declared.fixed.Removal.{Removal}
+use Rattle.poa_journal.specs.declared.fixed.Flag.{Flag}
+use Rattle.poa_journal.specs.Fixed.{kind_word, kinds, removal_word, removals, is_etherealizing, flag_word, flags, holds}
 use Rattle.text_words.specs.Parts.{only, last_number}
 use Rattle.journal_words.specs.Call.{call_of}
 use Rattle.journal_words.specs.Verdict.{verdict_of}

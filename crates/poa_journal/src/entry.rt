@@ -1,10 +1,10 @@
 ghost use Rattle.std.specs.Prelude.{◌≡◌, ◌∷◌, ◌++◌, [], IfOk, OnOk, map};
 ghost use Rattle.text_words.specs.WordGives.{WordGives};
 ghost use Rattle.text_words.specs.Token.{spelled, tails, texts};
-ghost use Rattle.journal_lines.specs.Fixed.{flag_word, kind_word, removal_word};
-ghost use Rattle.journal_lines.specs.Entry.{body_tokens, entry_tokens, kind_in, n32, n64};
+ghost use Rattle.poa_journal.specs.Fixed.{flag_word, kind_word, removal_word};
+ghost use Rattle.poa_journal.specs.Entry.{body_tokens, entry_tokens, kind_in, n32, n64};
 ghost use Rattle.text_words.specs.Parts.{only};
-ghost use Rattle.journal_lines.specs.Reading.{admit_of, arrive_of, body_of, entry_of, etherealized_of, flag_of, incarnated_of, kind_of, last_pair as last_pair_of, removal_of, take_out_of, tried_of};
+ghost use Rattle.poa_journal.specs.Reading.{admit_of, arrive_of, body_of, entry_of, etherealized_of, flag_of, incarnated_of, kind_of, last_pair as last_pair_of, removal_of, take_out_of, tried_of};
 
 use crate::fixed::{Flag, Kind, Removal};
 use journal_words::{

@@ -1,6 +1,6 @@
 use Rattle.std.proofs.Common.{arith}
-use Rattle.journal_lines.proofs.Pages.{page_step}
-use Rattle.journal_lines.proofs.row.read_pages.Goals as goal
+use Rattle.poa_journal.proofs.Pages.{page_step}
+use Rattle.poa_journal.proofs.row.read_pages.Goals as goal
 
 pub loop-word-preserved : goal.loop-word-preserved
 loop-word-preserved c =

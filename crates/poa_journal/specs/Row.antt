@@ -11,11 +11,11 @@ use Rattle.text_words.specs.Path.{path_of}
 use Rattle.text_words.specs.Identity.{printed_id_of}
 use Rattle.text_words.specs.Hexadecimal.{prefixed_of}
 use Rattle.text_words.specs.Token.{Token, keyword, signed, path, identity, octets}
-use Rattle.journal_lines.specs.declared.fixed.Holding.{Holding}
-use Rattle.journal_lines.specs.declared.fixed.Holding.TheVariants as holding
+use Rattle.poa_journal.specs.declared.fixed.Holding.{Holding}
+use Rattle.poa_journal.specs.declared.fixed.Holding.TheVariants as holding
 use Rattle.journal_words.specs.declared.fixed.Mark.TheVariants as mark
 use Rattle.journal_words.specs.Fixed.{mark_word}
-use Rattle.journal_lines.specs.Fixed.{holding_word, holdings}
+use Rattle.poa_journal.specs.Fixed.{holding_word, holdings}
 use Rattle.text_words.specs.Parts.{alone, only}
 
 -- an entry of a log

@@ -1,6 +1,6 @@
 //! The fixed words of entries and of rows.
 ghost use Rattle.std.specs.Prelude.{◌≡◌};
-ghost use Rattle.journal_lines.specs.Fixed.{flag_for, holds, is_etherealizing, removal_for};
+ghost use Rattle.poa_journal.specs.Fixed.{flag_for, holds, is_etherealizing, removal_for};
 
 use text_words::Worded;
 
@@ -23,7 +23,7 @@ pub(crate) enum Kind {
 }
 
 impl Worded for Kind {
-    ghost use Rattle.journal_lines.specs.Fixed.{kind_word};
+    ghost use Rattle.poa_journal.specs.Fixed.{kind_word};
 
     ghost text = { kind_word };
 
@@ -55,7 +55,7 @@ pub(crate) enum Removal {
 }
 
 impl Worded for Removal {
-    ghost use Rattle.journal_lines.specs.Fixed.{removal_word};
+    ghost use Rattle.poa_journal.specs.Fixed.{removal_word};
 
     ghost text = { removal_word };
 
@@ -97,7 +97,7 @@ pub(crate) enum Flag {
 }
 
 impl Worded for Flag {
-    ghost use Rattle.journal_lines.specs.Fixed.{flag_word};
+    ghost use Rattle.poa_journal.specs.Fixed.{flag_word};
 
     ghost text = { flag_word };
 
@@ -137,7 +137,7 @@ pub(crate) enum Holding {
 }
 
 impl Worded for Holding {
-    ghost use Rattle.journal_lines.specs.Fixed.{holding_word};
+    ghost use Rattle.poa_journal.specs.Fixed.{holding_word};
 
     ghost text = { holding_word };
 

@@ -5,7 +5,7 @@ use Rattle.std.specs.Prelude.{codes}
 use Rattle.text_words.specs.Chain.{◌>>=◌}
 use Rattle.text_words.specs.Hexadecimal.{prefixed_of}
 use Rattle.text_words.specs.Token.{spell, texts}
-use Rattle.journal_lines.specs.Row.{page_token, pages_of}
+use Rattle.poa_journal.specs.Row.{page_token, pages_of}
 
 -- what is read behind the entries that were
 abbrev pub behind_pages : List (List ℕ) → Option (List (List ℕ)) → Option (List (List ℕ))

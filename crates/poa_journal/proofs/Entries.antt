@@ -5,9 +5,9 @@ use Rattle.poa_base.specs.declared.Entry.TheVariants.{Entered, Arrive, Filled, L
 use Rattle.text_words.specs.Token.{texts}
 use Rattle.text_words.proofs.Numbers.{back32, back64}
 use Rattle.journal_words.proofs.ReadBack.{attempt_back, call_back, incarnation_back, verdict_back}
-use Rattle.journal_lines.specs.Fixed.{kind_word, removal_word, flag_word, flag_for}
-use Rattle.journal_lines.specs.Entry.{entry_tokens, IsWritten}
-use Rattle.journal_lines.specs.Reading.{entry_of, flag_of}
+use Rattle.poa_journal.specs.Fixed.{kind_word, removal_word, flag_word, flag_for}
+use Rattle.poa_journal.specs.Entry.{entry_tokens, IsWritten}
+use Rattle.poa_journal.specs.Reading.{entry_of, flag_of}
 
 flag_back : (truth : Bool) → flag_of (flag_word (flag_for truth)) ≡ Some (flag_for truth)
 unfolding flag_word

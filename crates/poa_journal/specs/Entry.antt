@@ -3,9 +3,9 @@ use Rattle.std.specs.Prelude.{ℕ, ◌^◌, List, [], ◌∷◌}
 use Rattle.poa_base.specs.declared.Entry.{Entry}
 use Rattle.poa_base.specs.declared.Entry.TheVariants.{Entered, Arrive, Filled, Left, Collect, Admit, Tried, Incarnated, Run, Done, TakeOut, Etherealized, Abandon}
 use Rattle.text_words.specs.Token.{Token, keyword, number, AllFit}
-use Rattle.journal_lines.specs.declared.fixed.Kind.{Kind}
-use Rattle.journal_lines.specs.declared.fixed.Kind.TheVariants as kind
-use Rattle.journal_lines.specs.Fixed.{kind_word, removal_word, removal_for, flag_word, flag_for}
+use Rattle.poa_journal.specs.declared.fixed.Kind.{Kind}
+use Rattle.poa_journal.specs.declared.fixed.Kind.TheVariants as kind
+use Rattle.poa_journal.specs.Fixed.{kind_word, removal_word, removal_for, flag_word, flag_for}
 use Rattle.journal_words.specs.Call as call
 use Rattle.journal_words.specs.Verdict as verdict
 use Rattle.journal_words.specs.Outcome as outcome

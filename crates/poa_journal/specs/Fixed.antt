@@ -1,13 +1,13 @@
 -- The fixed words of entries and of rows.
 use Rattle.std.specs.Prelude.{ℕ, Bool, true, false, List, [], ◌∷◌, codes}
-use Rattle.journal_lines.specs.declared.fixed.Kind.{Kind}
-use Rattle.journal_lines.specs.declared.fixed.Kind.TheVariants as kind
-use Rattle.journal_lines.specs.declared.fixed.Removal.{Removal}
-use Rattle.journal_lines.specs.declared.fixed.Removal.TheVariants as removal
-use Rattle.journal_lines.specs.declared.fixed.Flag.{Flag}
-use Rattle.journal_lines.specs.declared.fixed.Flag.TheVariants as flag
-use Rattle.journal_lines.specs.declared.fixed.Holding.{Holding}
-use Rattle.journal_lines.specs.declared.fixed.Holding.TheVariants as holding
+use Rattle.poa_journal.specs.declared.fixed.Kind.{Kind}
+use Rattle.poa_journal.specs.declared.fixed.Kind.TheVariants as kind
+use Rattle.poa_journal.specs.declared.fixed.Removal.{Removal}
+use Rattle.poa_journal.specs.declared.fixed.Removal.TheVariants as removal
+use Rattle.poa_journal.specs.declared.fixed.Flag.{Flag}
+use Rattle.poa_journal.specs.declared.fixed.Flag.TheVariants as flag
+use Rattle.poa_journal.specs.declared.fixed.Holding.{Holding}
+use Rattle.poa_journal.specs.declared.fixed.Holding.TheVariants as holding
 
 unfoldable pub kind_word : Kind → List ℕ
 kind_word kind.Entered = codes "entered"

@@ -1,4 +1,0 @@
-pub mod Fixed
-pub mod Entry
-pub mod Row
-pub mod Reading
