@@ -25,10 +25,10 @@ use Rattle.poa_tree.proofs.Members.{kept_in}
 use Rattle.core_queries.specs.Numbers.{below, Ascends}
 use Rattle.core_queries.proofs.Numbers.{below_in, in_below, ascending}
 use Rattle.poa_tree.proofs.Members.{in_kept}
-use Rattle.history_holds.specs.Blocks.{Blocks, hold_for}
-use Rattle.history_holds.specs.declared.hold.Hold.{Hold}
-use Rattle.history_holds.specs.declared.hold.Hold.TheVariants.{Main}
-use Rattle.history_holds.proofs.Rows.{held_blocks, blocks_held}
+use Rattle.held_queue.specs.Blocks.{Blocks, hold_for}
+use Rattle.held_queue.specs.declared.hold.Hold.{Hold}
+use Rattle.held_queue.specs.declared.hold.Hold.TheVariants.{Main}
+use Rattle.held_queue.proofs.HoldRows.{held_blocks, blocks_held}
 use Rattle.held_queue.specs.Held.{IsGripped, AreHeld, IsSettled}
 use Rattle.held_queue.specs.Numbers.{has}
 use Rattle.held_queue.specs.Rows.{in_rows, is_asked}

@@ -8,8 +8,8 @@ use Rattle.history_standing.specs.declared.stage.Stage.TheVariants.{Free, Trying
 use Rattle.poa_history.specs.Changes.{standing}
 use Rattle.history_standing.specs.Stages.{stage}
 use Rattle.history_standing.specs.Standings.{Standing}
-use Rattle.history_holds.specs.declared.freed.Freed.{Freed}
-use Rattle.history_holds.specs.Frees.{etherealizing}
+use Rattle.held_queue.specs.declared.freed.Freed.{Freed}
+use Rattle.held_queue.specs.Frees.{etherealizing}
 use Rattle.core_queries.specs.Answers.{AnswersAs, works_on}
 
 etherealizing_at : (c : Config) (run : ℕ) (h : List Entry) (t : Standing) → AnswersAs c run h t → (w : ℕ) (b : Stage) → stage h w ≡ b

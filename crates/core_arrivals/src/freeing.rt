@@ -2,7 +2,7 @@
 ghost use Rattle.std.specs.Prelude.{◌≡◌, ℕ, List};
 ghost use Rattle.poa_base.specs.declared.Config.{Config};
 ghost use Rattle.poa_base.specs.declared.Entry.{Entry as EntryOf};
-ghost use Rattle.history_holds.specs.Frees as frees;
+ghost use Rattle.held_queue.specs.Frees as frees;
 ghost use Rattle.core_standing.specs.Entries.{stage_at};
 ghost use Rattle.core_queries.specs.Answers.{AnswersAs};
 ghost use Rattle.core_queries.specs.Seen.{seen};
@@ -12,7 +12,7 @@ use core_queries::Standing;
 use core_queries::commands::is_accepted;
 use core_queries::searches::activation_numbered;
 use core_queries::workers::arrival_in;
-use history_holds::Freed;
+use held_queue::Freed;
 use history_standing::Stage;
 use poa_base::Entry;
 

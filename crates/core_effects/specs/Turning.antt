@@ -8,7 +8,7 @@ use Rattle.poa_base.specs.declared.Verdict.{Verdict}
 use Rattle.poa_history.specs.States.{Stored, servant_run}
 use Rattle.history_openings.specs.Runs.{IsRun}
 use Rattle.core_standing.specs.Entries.{stage_at}
-use Rattle.history_holds.specs.Frees.{freed_by}
+use Rattle.held_queue.specs.Frees.{freed_by}
 use Rattle.core_outboxes.specs.Decided.{Decides}
 use Rattle.core_outboxes.specs.Desk.{WaitIs}
 use Rattle.core_outboxes.specs.Waits.{ordered_by}

@@ -1,6 +1,6 @@
 //! What an entry brings.
 use core_outboxes::{Decision, Ordered, Wait};
-use history_holds::Freed;
+use held_queue::Freed;
 
 /// What an entry of a worker brings, beside what it changes.
 #[derive(Drop)]

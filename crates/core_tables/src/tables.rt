@@ -6,15 +6,14 @@ ghost use Rattle.history_openings.specs.Runs.{IsRun};
 ghost use Rattle.core_standing.specs.Entries.{stage_at};
 ghost use Rattle.core_arrivals.specs.Placed.{arrives};
 ghost use Rattle.core_arrivals.specs.Queued.{HasPlace};
-ghost use Rattle.history_holds.specs.Frees.{freed_by};
+ghost use Rattle.held_queue.specs.Frees.{freed_by};
 ghost use Rattle.held_queue.specs.Numbers.{HasRoom};
 ghost use Rattle.held_queue.specs.Waiting.{may_queue};
 ghost use Rattle.run_tally.specs.Tallies.{HasRoomFor, HasRoomForOne};
 ghost use Rattle.core_tables.specs.Known.{KnowsTables};
 
 use core_arrivals::{Calls, Queue, Workers, calls, queue, workers};
-use held_queue::HeldQueue;
-use history_holds::Freed;
+use held_queue::{Freed, HeldQueue};
 use history_standing::Stage;
 use journal_entries::Entries;
 use poa_base::{Entry, WantMemory};

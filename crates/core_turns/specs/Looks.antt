@@ -3,7 +3,7 @@ use Rattle.std.specs.Prelude.{ℕ}
 use Rattle.poa_choose.specs.Table.{first_row}
 use Rattle.poa_choose.specs.declared.Facts.{Facts}
 use Rattle.poa_choose.specs.declared.Choice.TheVariants as choices
-use Rattle.history_holds.specs.Blocks.{hold_for}
+use Rattle.held_queue.specs.Blocks.{hold_for}
 use Rattle.core_turns.specs.declared.looks.Look.{Look}
 use Rattle.core_turns.specs.declared.looks.Look.TheVariants.{Go, Held}
 

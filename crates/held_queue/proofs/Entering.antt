@@ -15,12 +15,12 @@ use Rattle.poa_history.specs.Sound.{IsGiven}
 use Rattle.history_standing.specs.Stages.{stage, arrival_in, is_at, admitted, is_unadmitted}
 use Rattle.poa_tree.specs.Trees.{In}
 use Rattle.poa_tree.proofs.Members.{in_image}
-use Rattle.history_holds.specs.Blocks.{Blocks, TakesTurn}
-use Rattle.history_holds.specs.Frees.{freed_by, frees}
-use Rattle.history_holds.specs.declared.freed.Freed.{Freed}
-use Rattle.history_holds.specs.declared.hold.Hold.{Hold}
-use Rattle.history_holds.specs.declared.hold.Hold.TheVariants.{Manager, Trial, Turn as HeldTurn, Main, Id, Change}
-use Rattle.history_holds.proofs.Stays.{still_blocked, turn_stays}
+use Rattle.held_queue.specs.Blocks.{Blocks, TakesTurn}
+use Rattle.held_queue.specs.Frees.{freed_by, frees}
+use Rattle.held_queue.specs.declared.freed.Freed.{Freed}
+use Rattle.held_queue.specs.declared.hold.Hold.{Hold}
+use Rattle.held_queue.specs.declared.hold.Hold.TheVariants.{Manager, Trial, Turn as HeldTurn, Main, Id, Change}
+use Rattle.held_queue.proofs.Stays.{still_blocked, turn_stays}
 use Rattle.held_queue.specs.Held.{IsGripped, IsRow, KnowsCalls}
 use Rattle.held_queue.specs.Numbers.{Heap, has}
 use Rattle.held_queue.specs.Rows.{let_go, freed_grip, freed_row, in_rows}

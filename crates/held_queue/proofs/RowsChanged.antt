@@ -11,9 +11,9 @@ use Rattle.poa_history.specs.Situations.{facts_of}
 use Rattle.history_standing.specs.Standings.{is_running}
 use Rattle.poa_tree.specs.Trees.{In}
 use Rattle.poa_tree.proofs.Members.{in_either}
-use Rattle.history_holds.specs.Blocks.{Blocks, TakesTurn}
-use Rattle.history_holds.specs.declared.hold.Hold.{Hold}
-use Rattle.history_holds.specs.declared.hold.Hold.TheVariants.{Turn as HeldTurn}
+use Rattle.held_queue.specs.Blocks.{Blocks, TakesTurn}
+use Rattle.held_queue.specs.declared.hold.Hold.{Hold}
+use Rattle.held_queue.specs.declared.hold.Hold.TheVariants.{Turn as HeldTurn}
 use Rattle.held_queue.specs.Held.{IsGripped, IsRow, KnowsCalls, AreSettled}
 use Rattle.held_queue.specs.Numbers.{Heap, has, IsLeast}
 use Rattle.held_queue.specs.Rows.{in_rows, settled_grip, regripped, is_empty_row, GoesOver, IsSettledRow}

@@ -3,10 +3,10 @@ use Rattle.std.specs.Prelude.{◌≡◌, ℕ, zero, suc, ◌≤◌, ◌==◌, Bo
 use Rattle.std.specs.List.{list_any}
 use Rattle.history_standing.specs.declared.flight.Flight.{Flight}
 use Rattle.history_standing.specs.Standings.{is_running}
-use Rattle.history_holds.specs.declared.freed.Freed.{Freed}
-use Rattle.history_holds.specs.declared.hold.Hold.{Hold}
-use Rattle.history_holds.specs.declared.hold.Hold.TheVariants.{Main, Turn as HeldTurn}
-use Rattle.history_holds.specs.Frees.{frees}
+use Rattle.held_queue.specs.declared.freed.Freed.{Freed}
+use Rattle.held_queue.specs.declared.hold.Hold.{Hold}
+use Rattle.held_queue.specs.declared.hold.Hold.TheVariants.{Main, Turn as HeldTurn}
+use Rattle.held_queue.specs.Frees.{frees}
 use Rattle.held_queue.specs.Numbers.{Heap, has}
 use Rattle.held_queue.specs.declared.grip.Grip.{Grip}
 use Rattle.held_queue.specs.declared.grip.Grip.TheVariants.{Held, Turn, Loose}

@@ -1,5 +1,5 @@
 //! How a row of calls is held.
-use history_holds::Hold;
+use crate::hold::Hold;
 
 /// How the calls of a row are held.
 #[derive(Clone, Copy, PartialEq, Eq, Drop)]

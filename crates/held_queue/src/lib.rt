@@ -2,13 +2,18 @@
 //! what holds it; of the requests that take their turn in an adapter only the first is asked.
 #![tactic(auto)]
 
+mod freed;
 mod grip;
+mod hold;
+pub mod laws;
 mod numbers;
 mod queue;
 mod row;
 mod rows;
 
+pub use freed::Freed;
 pub use grip::Grip;
+pub use hold::Hold;
 pub use numbers::Numbers;
 pub use queue::HeldQueue;
 pub use row::Row;

@@ -6,7 +6,7 @@ ghost use Rattle.poa_core.specs.Kept.{IsQuiet};
 use crate::inside::Inside;
 use crate::noting::note;
 use core_effects::Brought;
-use history_holds::Freed;
+use held_queue::Freed;
 use history_standing::Stage;
 use poa_base::Entry;
 

@@ -1,6 +1,6 @@
 use Rattle.std.proofs.Common.{◌≡◌, ap, sym, subst, ◌∙◌}
 use Rattle.poa_base.specs.declared.Entry.{Entry as EntryOf}
-use Rattle.history_holds.specs.Frees as frees
+use Rattle.held_queue.specs.Frees as frees
 use Rattle.core_standing.specs.Entries.{stage_at}
 use Rattle.core_queries.specs.Seen.{seen}
 use Rattle.core_arrivals.proofs.FreesAs.{etherealizing_kept}

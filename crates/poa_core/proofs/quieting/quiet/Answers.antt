@@ -1,5 +1,5 @@
 use Rattle.std.proofs.Common.{None, sym, subst}
-use Rattle.history_holds.specs.declared.freed.Freed.{Freed}
+use Rattle.held_queue.specs.declared.freed.Freed.{Freed}
 use Rattle.history_standing.specs.declared.stage.Stage.TheVariants.{Free}
 use Rattle.poa_core.specs.Agrees.{history}
 use Rattle.poa_core.specs.Noting.{IsHalfway}

@@ -1,5 +1,5 @@
-use Rattle.history_holds.proofs.laws.held_stays_held.Goals as goal
-use Rattle.history_holds.proofs.Stays.{still_blocked, turn_stays}
+use Rattle.held_queue.proofs.laws.held_stays_held.Goals as goal
+use Rattle.held_queue.proofs.Stays.{still_blocked, turn_stays}
 
 pub returns-clause-stays : goal.returns-clause-stays
 returns-clause-stays c =

@@ -31,7 +31,7 @@ use Rattle.poa_history.proofs.LegalSound.{legal_sound}
 use Rattle.poa_history.proofs.MannedKept.{all_manned}
 use Rattle.poa_history.proofs.StagesFrom.{stays_admitted, stays_incarnated, stays_etherealized, stays_fewer}
 use Rattle.poa_history.proofs.TurnTells.{done_is, incarnation_is}
-use Rattle.history_holds.specs.Frees.{landing, incarnating, etherealizing, freed_by}
+use Rattle.held_queue.specs.Frees.{landing, incarnating, etherealizing, freed_by}
 use Rattle.poa_tree.proofs.Members.{any_in}
 
 -- a number isn't freed that is given

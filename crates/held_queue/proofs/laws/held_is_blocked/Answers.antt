@@ -1,5 +1,5 @@
-use Rattle.history_holds.proofs.laws.held_is_blocked.Goals as goal
-use Rattle.history_holds.proofs.Rows.{held_blocks, blocks_held}
+use Rattle.held_queue.proofs.laws.held_is_blocked.Goals as goal
+use Rattle.held_queue.proofs.HoldRows.{held_blocks, blocks_held}
 
 pub returns-clause-blocked : goal.returns-clause-blocked
 returns-clause-blocked c = λ facts worker cause row. held_blocks facts cause worker row

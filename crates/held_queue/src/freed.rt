@@ -1,6 +1,6 @@
 //! What an entry frees.
 ghost use Rattle.std.specs.Prelude.{◌≡◌};
-ghost use Rattle.history_holds.specs.Frees.{everything, frees, nothing};
+ghost use Rattle.held_queue.specs.Frees.{everything, frees, nothing};
 
 use crate::hold::Hold;
 

@@ -28,9 +28,9 @@ use Rattle.poa_choose.specs.declared.MapFact.TheVariants.{Active as ActiveAs, Bu
 use Rattle.poa_choose.specs.declared.WalkFact.{WalkFact}
 use Rattle.poa_choose.specs.declared.WalkFact.TheVariants.{Dying as MeetsDying, Found as Met, Missing as MeetsMissing}
 use Rattle.poa_history.specs.Verdicts.{chosen}
-use Rattle.history_holds.specs.Blocks.{is_ours, MeetsAdapter, LacksChild, TakesTurn, IsForMain, MeetsBusy, AwaitsChange, Blocks, hold_for}
-use Rattle.history_holds.specs.declared.hold.Hold.{Hold}
-use Rattle.history_holds.specs.declared.hold.Hold.TheVariants.{Manager, Trial, Turn, Main, Id, Change}
+use Rattle.held_queue.specs.Blocks.{is_ours, MeetsAdapter, LacksChild, TakesTurn, IsForMain, MeetsBusy, AwaitsChange, Blocks, hold_for}
+use Rattle.held_queue.specs.declared.hold.Hold.{Hold}
+use Rattle.held_queue.specs.declared.hold.Hold.TheVariants.{Manager, Trial, Turn, Main, Id, Change}
 
 module _ (f : Facts) (cause : Option Cause) where
   -- what a choice that holds tells

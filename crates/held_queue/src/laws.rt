@@ -13,10 +13,10 @@ ghost use Rattle.poa_history.specs.Legal.{IsLegal};
 ghost use Rattle.poa_history.specs.Situations.{facts_of};
 ghost use Rattle.poa_history.specs.Sound.{IsGiven};
 ghost use Rattle.poa_history.specs.Verdicts.{chosen};
-ghost use Rattle.history_holds.specs.Blocks.{Blocks, TakesTurn, hold_for};
-ghost use Rattle.history_holds.specs.Frees.{freed_by, frees};
-ghost use Rattle.history_holds.specs.declared.hold.Hold.{Hold};
-ghost use Rattle.history_holds.specs.declared.hold.Hold.TheVariants.{Main};
+ghost use Rattle.held_queue.specs.Blocks.{Blocks, TakesTurn, hold_for};
+ghost use Rattle.held_queue.specs.Frees.{freed_by, frees};
+ghost use Rattle.held_queue.specs.declared.hold.Hold.{Hold};
+ghost use Rattle.held_queue.specs.declared.hold.Hold.TheVariants.{Main};
 
 /// A call that the table of verdicts holds is blocked by what its cause stands for; and what is blocked, the table
 /// holds for every worker, but for the first one what is to be run by it.

@@ -26,7 +26,7 @@ use Rattle.history_standing.specs.Logs.{is_accepted, command_in, command_done, o
 use Rattle.poa_history.specs.Changes.{standing, changed, with_admitted, with_command, without_flight, with_incarnated, with_etherealized}
 use Rattle.poa_history.specs.Situations.{is_crowded, waiting_messages}
 use Rattle.poa_history.proofs.Untouched.{nodes_in, made_in}
-use Rattle.history_holds.specs.Frees.{nothing, everything, freed_by}
+use Rattle.held_queue.specs.Frees.{nothing, everything, freed_by}
 
 -- where not all is freed, no command is done
 pub no_command : (c : Config) (run : ℕ) (past : List Entry) (e : Entry) → (freed_by c run past e).all ≡ false → command_done past e ≡ None

@@ -28,15 +28,15 @@ use Rattle.poa_tree.specs.declared.found.Found.{Found}
 use Rattle.poa_tree.specs.Walks.{walk, adapter_met, child_met, place_met}
 use Rattle.poa_history.proofs.LegalSound.{legal_sound}
 use Rattle.poa_history.proofs.MannedKept.{all_manned}
-use Rattle.history_holds.specs.Blocks.{MeetsAdapter, LacksChild, TakesTurn, Blocks}
-use Rattle.history_holds.specs.Frees.{freed_by, frees}
-use Rattle.history_holds.specs.declared.freed.Freed.{Freed}
-use Rattle.history_holds.specs.declared.hold.Hold.{Hold}
-use Rattle.history_holds.specs.declared.hold.Hold.TheVariants.{Manager, Trial, Turn, Main, Id, Change}
-use Rattle.history_holds.proofs.Rewalked.{walk_same, trial_at}
-use Rattle.history_holds.proofs.Unchanged.{no_command, state_same, crowded_same, smaller}
-use Rattle.history_holds.proofs.Landing.{runs_on, tried_on}
-use Rattle.history_holds.proofs.Busy.{busy_stays, inactive_stays, changing_stays}
+use Rattle.held_queue.specs.Blocks.{MeetsAdapter, LacksChild, TakesTurn, Blocks}
+use Rattle.held_queue.specs.Frees.{freed_by, frees}
+use Rattle.held_queue.specs.declared.freed.Freed.{Freed}
+use Rattle.held_queue.specs.declared.hold.Hold.{Hold}
+use Rattle.held_queue.specs.declared.hold.Hold.TheVariants.{Manager, Trial, Turn, Main, Id, Change}
+use Rattle.held_queue.proofs.Rewalked.{walk_same, trial_at}
+use Rattle.held_queue.proofs.Unchanged.{no_command, state_same, crowded_same, smaller}
+use Rattle.held_queue.proofs.Landing.{runs_on, tried_on}
+use Rattle.held_queue.proofs.Busy.{busy_stays, inactive_stays, changing_stays}
 use Rattle.history_standing.proofs.CallsKept.{call_kept}
 
 -- where a hold isn't freed, not all is freed

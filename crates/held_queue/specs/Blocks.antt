@@ -11,8 +11,8 @@ use Rattle.poa_choose.specs.declared.KeyFact.{KeyFact}
 use Rattle.poa_choose.specs.declared.KeyFact.TheVariants.{Transient, Persistent}
 use Rattle.poa_choose.specs.declared.MapFact.TheVariants.{Active, Busy}
 use Rattle.poa_choose.specs.declared.WalkFact.TheVariants.{Found, Missing}
-use Rattle.history_holds.specs.declared.hold.Hold.{Hold}
-use Rattle.history_holds.specs.declared.hold.Hold.TheVariants.{Manager, Trial, Turn, Main, Id, Change}
+use Rattle.held_queue.specs.declared.hold.Hold.{Hold}
+use Rattle.held_queue.specs.declared.hold.Hold.TheVariants.{Manager, Trial, Turn, Main, Id, Change}
 
 -- the key is one of this run, or a persistent one
 abbrev pub is_ours : KeyFact → Bool

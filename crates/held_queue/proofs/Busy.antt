@@ -35,9 +35,9 @@ use Rattle.poa_history.proofs.LegalSound.{legal_sound}
 use Rattle.poa_history.proofs.MannedKept.{all_manned}
 use Rattle.poa_history.proofs.OutIs.{out_run_out}
 use Rattle.poa_history.proofs.TurnTells.{takeout_is}
-use Rattle.history_holds.specs.Frees.{freed_by}
-use Rattle.history_holds.proofs.Unchanged.{no_command}
-use Rattle.history_holds.proofs.Landing.{freed_never, flies_on, brings_moves, brings_changes, tells_moves, tells_changes}
+use Rattle.held_queue.specs.Frees.{freed_by}
+use Rattle.held_queue.proofs.Unchanged.{no_command}
+use Rattle.held_queue.proofs.Landing.{freed_never, flies_on, brings_moves, brings_changes, tells_moves, tells_changes}
 use Rattle.poa_tree.proofs.Members.{any_in}
 
 -- tests on how far an activation came

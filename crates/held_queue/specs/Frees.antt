@@ -10,9 +10,9 @@ use Rattle.history_standing.specs.Logs.{is_accepted}
 use Rattle.history_standing.specs.Stages.{stage, arrival_in, is_at}
 use Rattle.history_standing.specs.Standings.{Standing}
 use Rattle.poa_history.specs.Turns.{flight_of, activation_numbered}
-use Rattle.history_holds.specs.declared.freed.Freed.{Freed}
-use Rattle.history_holds.specs.declared.hold.Hold.{Hold}
-use Rattle.history_holds.specs.declared.hold.Hold.TheVariants.{Manager, Trial, Turn, Main, Id, Change}
+use Rattle.held_queue.specs.declared.freed.Freed.{Freed}
+use Rattle.held_queue.specs.declared.hold.Hold.{Hold}
+use Rattle.held_queue.specs.declared.hold.Hold.TheVariants.{Manager, Trial, Turn, Main, Id, Change}
 
 abbrev pub nothing : Freed
 nothing = record { all = false; landed = None; changed = None; moved = None }
