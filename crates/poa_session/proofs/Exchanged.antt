@@ -9,7 +9,7 @@ use Rattle.outside.specs.Link.{Shown}
 use Rattle.run_history.specs.declared.Givens.{Givens}
 use Rattle.poa_shared.specs.Seen.{Owns}
 use Rattle.session_laws.specs.declared.Peer.{Peer}
-use Rattle.session_input.specs.Hearing.{Intake}
+use Rattle.session_laws.specs.HearingPieces.{Intake}
 use Rattle.poa_session.specs.Exchanging.{Exchanges, IsHeard, IsStopped}
 use Rattle.poa_session.specs.Rounding.{Rounds}
 use Rattle.poa_session.specs.Taking.{Takes}

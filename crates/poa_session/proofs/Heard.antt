@@ -13,9 +13,9 @@ use Rattle.session_laws.specs.Records.{arrived_by, filling_by}
 use Rattle.session_laws.specs.Sessions.{IsNext}
 use Rattle.session_laws.specs.Expecting.{Expects}
 use Rattle.session_laws.proofs.Expected.{expects_begins, expects_call, expects_next, expects_same, expects_stop}
-use Rattle.session_input.specs.declared.Told.TheVariants as told
-use Rattle.session_input.specs.Hearing.{AsTold, Intake, OfIntake}
-use Rattle.session_input.proofs.GoingOn.{intake_goes_on}
+use Rattle.session_laws.specs.declared.Told.TheVariants as told
+use Rattle.session_laws.specs.HearingPieces.{AsTold, Intake, OfIntake}
+use Rattle.session_laws.proofs.GoingOn.{intake_goes_on}
 use Rattle.poa_session.specs.Listening.{AsArrived, Hears}
 use Rattle.poa_session.specs.declared.progress.Progress.{Progress}
 use Rattle.poa_session.specs.declared.progress.Progress.TheVariants as progress

@@ -18,8 +18,8 @@ use Rattle.session_laws.specs.Sessions.{Begins, CauseBy, Hears as HearsAll, Inpu
 use Rattle.session_laws.specs.Expecting.{Expects}
 use Rattle.session_laws.proofs.Causes.{shut_later}
 use Rattle.session_laws.proofs.Expected.{expects_begins, expects_fed, expects_front, expects_stop}
-use Rattle.session_input.specs.Hearing.{Intake, OfIntake}
-use Rattle.session_input.proofs.GoingOn.{intake_goes_on}
+use Rattle.session_laws.specs.HearingPieces.{Intake, OfIntake}
+use Rattle.session_laws.proofs.GoingOn.{intake_goes_on}
 use Rattle.poa_session.specs.Growing.{Adds}
 use Rattle.poa_session.specs.Served.{DriesUp}
 use Rattle.poa_session.specs.Listening.{AsHeard, Hears, Listens}

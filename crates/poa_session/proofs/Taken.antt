@@ -6,7 +6,7 @@ use Rattle.poa_base.specs.declared.SessionEnd.TheVariants.{Ended, Shut, ReadFaul
 use Rattle.outside.specs.Link.{Shown, Moves, IsDry}
 use Rattle.outside.proofs.Moving.{moves_none}
 use Rattle.session_laws.specs.Hearing.{Heard, Stop}
-use Rattle.session_input.specs.Hearing.{Intake, OfIntake}
+use Rattle.session_laws.specs.HearingPieces.{Intake, OfIntake}
 use Rattle.poa_session.specs.Taking.{EndsAt, Takes}
 
 module _ (i j : Intake) (have : ℕ) (a b : Shown) where

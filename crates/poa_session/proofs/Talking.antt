@@ -15,8 +15,8 @@ use Rattle.session_laws.specs.Records.{arrived_by, joined_by, filling_by, is_lat
 use Rattle.session_laws.specs.Sessions.{IsNext}
 use Rattle.session_laws.specs.Expecting.{Expects}
 use Rattle.session_laws.proofs.Expected.{expects_begins}
-use Rattle.session_input.specs.Hearing.{Intake, OfIntake}
-use Rattle.session_input.proofs.GoingOn.{intake_goes_on}
+use Rattle.session_laws.specs.HearingPieces.{Intake, OfIntake}
+use Rattle.session_laws.proofs.GoingOn.{intake_goes_on}
 use Rattle.poa_session.specs.Growing.{Adds}
 use Rattle.poa_session.specs.Rounding.{Rounds}
 use Rattle.poa_session.specs.Settling.{Converses, Settled, Settles}

@@ -7,7 +7,7 @@ use Rattle.poa_base.specs.declared.SessionEnd.TheVariants.{WantMemory}
 use Rattle.seat_lock.specs.declared.view.View.{View}
 use Rattle.run_history.specs.declared.Givens.{Givens}
 use Rattle.session_laws.specs.declared.Peer.{Peer}
-use Rattle.session_input.specs.Hearing.{Intake}
+use Rattle.session_laws.specs.HearingPieces.{Intake}
 use Rattle.poa_session.specs.Listening.{Listens}
 use Rattle.poa_session.specs.Paying.{Gathers}
 use Rattle.poa_session.specs.Stopping.{Looks}

@@ -12,7 +12,7 @@ use Rattle.session_laws.specs.Hearing.{Heard, over}
 use Rattle.session_laws.specs.Records.{arrived_by, filling_by}
 use Rattle.session_laws.specs.Sessions.{IsNext}
 use Rattle.session_laws.specs.Expecting.{Expects}
-use Rattle.session_input.specs.Hearing.{Intake, OfIntake}
+use Rattle.session_laws.specs.HearingPieces.{Intake, OfIntake}
 use Rattle.poa_session.specs.Growing.{Adds}
 use Rattle.poa_session.specs.Served.{DriesUp}
 use Rattle.poa_session.specs.declared.progress.Progress.{Progress}

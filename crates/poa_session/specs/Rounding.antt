@@ -10,7 +10,7 @@ use Rattle.session_laws.specs.Hearing.{Heard}
 use Rattle.session_laws.specs.Records.{arrived_by, filling_by, is_late_by}
 use Rattle.session_laws.specs.Sessions.{Begins}
 use Rattle.session_laws.specs.Expecting.{Expects}
-use Rattle.session_input.specs.Hearing.{Intake, OfIntake}
+use Rattle.session_laws.specs.HearingPieces.{Intake, OfIntake}
 use Rattle.poa_session.specs.Growing.{Adds}
 use Rattle.poa_session.specs.Served.{DriesUp}
 use Rattle.poa_session.specs.declared.flow.Flow.{Flow}

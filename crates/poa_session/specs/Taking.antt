@@ -4,7 +4,7 @@ use Rattle.poa_base.specs.declared.SessionEnd.{SessionEnd}
 use Rattle.poa_base.specs.declared.SessionEnd.TheVariants.{Ended, ReadFault, Truncated, InputLimit, WantMemory}
 use Rattle.outside.specs.Link.{Shown, Moves, IsDry}
 use Rattle.session_laws.specs.Hearing.{Heard, Stop}
-use Rattle.session_input.specs.Hearing.{Intake, OfIntake}
+use Rattle.session_laws.specs.HearingPieces.{Intake, OfIntake}
 
 -- at the end of an input so many bytes are left over
 abbrev pub EndsAt : ℕ → SessionEnd → Type 0

@@ -7,7 +7,7 @@ ghost use Rattle.poa_shared.specs.Seats.{IsIdle};
 ghost use Rattle.poa_shared.specs.Seen.{HoldsConnection};
 ghost use Rattle.poa_shared.specs.Helping.{Aids, IsReady};
 ghost use Rattle.session_laws.specs.Expecting.{Expects};
-ghost use Rattle.session_input.specs.Hearing.{OfIntake};
+ghost use Rattle.session_laws.specs.HearingPieces.{OfIntake};
 ghost use Rattle.poa_session.specs.Settling.{Converses};
 
 use crate::buffers::Buffers;
@@ -17,8 +17,7 @@ use crate::rounds::round;
 use outside::Link;
 use poa_base::{SessionEnd, WantMemory};
 use poa_shared::{Aid, Seat, Shared};
-use session_input::Input;
-use session_laws::Peer;
+use session_laws::{Input, Peer};
 use std::alloc::Global;
 use std::sync::Wait;
 

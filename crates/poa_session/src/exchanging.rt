@@ -15,7 +15,7 @@ use crate::listening::listen_within;
 use crate::paying::look_within;
 use poa_base::{SessionEnd, WantMemory};
 use poa_shared::{Aid, Front, News, Seat, Shared};
-use session_input::Input;
+use session_laws::Input;
 use std::alloc::Global;
 use std::sync::Wait;
 

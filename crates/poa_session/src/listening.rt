@@ -12,7 +12,7 @@ use crate::progress::Progress;
 use poa_base::{Call, SessionEnd};
 use poa_core::ArriveFault;
 use poa_shared::{Front, News, Seat, Shared};
-use session_input::{Input, Told};
+use session_laws::{Input, Told};
 use std::alloc::Global;
 use std::sync::Wait;
 

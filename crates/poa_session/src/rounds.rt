@@ -18,7 +18,7 @@ use crate::writing::write_all;
 use outside::Link;
 use poa_base::SessionEnd;
 use poa_shared::{Aid, Seat, Shared};
-use session_input::Input;
+use session_laws::Input;
 use std::alloc::Global;
 use std::sync::Wait;
 

@@ -7,7 +7,7 @@ ghost use Rattle.poa_session.specs.Taking.{EndsAt, Takes};
 
 use outside::{Link, Took};
 use poa_base::SessionEnd;
-use session_input::Input;
+use session_laws::Input;
 
 /// The most bytes that one session reads.
 const INPUT_LIMIT: u64 = 1 << 40;

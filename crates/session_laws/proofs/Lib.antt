@@ -7,3 +7,5 @@ pub mod Paying
 pub mod Causes
 pub mod Ends
 pub mod Staying
+pub mod GoingOn
+pub mod Answers

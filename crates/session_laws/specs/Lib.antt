@@ -3,3 +3,4 @@ pub mod Lines
 pub mod Records
 pub mod Sessions
 pub mod Expecting
+pub mod HearingPieces

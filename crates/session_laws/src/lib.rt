@@ -5,7 +5,13 @@
 //! same of every way to read, to wait and to write.
 #![tactic(auto)]
 
+mod ear;
+mod input;
 pub mod laws;
+mod line_cutter;
 mod peer;
+mod told;
 
+pub use input::Input;
 pub use peer::Peer;
+pub use told::Told;

@@ -1,6 +1,6 @@
 use Rattle.std.proofs.Common.{subst}
 use Rattle.seat_lock.specs.Seats.{view}
-use Rattle.session_input.specs.Hearing.{AsTold, OfIntake}
+use Rattle.session_laws.specs.HearingPieces.{AsTold, OfIntake}
 use Rattle.poa_session.proofs.Heard.{hears_bad, hears_call, hears_closed, hears_lost, hears_more, hears_nothing}
 use Rattle.poa_session.proofs.listening.hear.Goals as goal
 

@@ -1,7 +1,7 @@
 use Rattle.std.proofs.Common.{sym, ap, ◌∙◌}
 use Rattle.session_laws.specs.Expecting.{Cutting}
-use Rattle.session_input.proofs.Answers.{cut_line, cut_line_long, cut_long, cut_over}
-use Rattle.session_input.proofs.line_cutter.LineCutter.next.Goals as goal
+use Rattle.session_laws.proofs.Answers.{cut_line, cut_line_long, cut_long, cut_over}
+use Rattle.session_laws.proofs.line_cutter.LineCutter.next.Goals as goal
 
 pub returns-then-is_long-clause-told : goal.returns-then-is_long-clause-told
 returns-then-is_long-clause-told c =

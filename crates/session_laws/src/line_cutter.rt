@@ -4,7 +4,7 @@ ghost use Rattle.text_words.specs.Cuts.{lacks};
 ghost use Rattle.session_laws.specs.Hearing.{Heard, Stop};
 ghost use Rattle.session_laws.specs.Lines.{is_long as is_long_line, is_spoken as is_spoken_line, without_return as without_return_of};
 ghost use Rattle.session_laws.specs.Expecting.{OfLines};
-ghost use Rattle.session_input.specs.Hearing.{AsTold, Speaks, TakesBytes};
+ghost use Rattle.session_laws.specs.HearingPieces.{AsTold, Speaks, TakesBytes};
 
 use crate::told::Told;
 use admin_line::read_line;

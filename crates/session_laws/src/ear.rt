@@ -2,15 +2,15 @@
 ghost use Rattle.std.specs.Prelude.{◌≡◌, ◌+◌, ◌++◌, ◌<◌, ◌≤◌, ◌^◌, ℕ, List, [], length, IfOk, OnOk, OnErr};
 ghost use Rattle.session_laws.specs.Hearing.{Heard, Stop, message_limit};
 ghost use Rattle.session_laws.specs.Expecting.{Expects, OfFramer, OfLines};
-ghost use Rattle.session_input.specs.Hearing.{AsTold, Asks, IsLimited, OfEar, TakesBytes, reach_of, unread_of};
+ghost use Rattle.session_laws.specs.HearingPieces.{AsTold, Asks, IsLimited, OfEar, TakesBytes, reach_of, unread_of};
 ghost use Rattle.giop_frame.specs.Framer.{reach};
 
 use crate::line_cutter::LineCutter;
+use crate::peer::Peer;
 use crate::told::Told;
 use giop_frame::{Framer, Message, Next};
 use giop_msg::{Incoming, MsgFault, read_call};
 use poa_base::WantMemory;
-use session_laws::Peer;
 use std::alloc::Global;
 
 /// The largest size that a message may have, without its header.

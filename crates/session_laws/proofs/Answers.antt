@@ -12,9 +12,9 @@ use Rattle.session_laws.specs.Lines.{is_long, without_return}
 use Rattle.session_laws.specs.Expecting.{Cutting, OfFramer, OfLines}
 use Rattle.session_laws.proofs.Messages.{framer_call, framer_cancel, framer_closing, framer_malformed, framer_same, FramerGoesOn}
 use Rattle.session_laws.proofs.Lines.{behind_line, front_long, line_long, line_read, lines_over}
-use Rattle.session_input.specs.declared.told.Told.{Told}
-use Rattle.session_input.specs.declared.told.Told.TheVariants as told
-use Rattle.session_input.specs.Hearing.{Asks, AsTold, Speaks}
+use Rattle.session_laws.specs.declared.told.Told.{Told}
+use Rattle.session_laws.specs.declared.told.Told.TheVariants as told
+use Rattle.session_laws.specs.HearingPieces.{Asks, AsTold, Speaks}
 
 given_on : (f : Framing) (text : List ℕ) → FramerGoesOn f text
 given_on f text = (let given = some_given f text in (given.messages, given.end, given.gives))

@@ -1,8 +1,8 @@
 use Rattle.std.proofs.Common.{◌++◌, sym, subst}
 use Rattle.session_laws.proofs.Messages.{framer_fed}
-use Rattle.session_input.specs.Hearing.{OfEar}
-use Rattle.session_input.proofs.Answers.{on_ok}
-use Rattle.session_input.proofs.ear.Ear.feed.Goals as goal
+use Rattle.session_laws.specs.HearingPieces.{OfEar}
+use Rattle.session_laws.proofs.Answers.{on_ok}
+use Rattle.session_laws.proofs.ear.Ear.feed.Goals as goal
 
 pub returns-in-Messages-clause-fed : goal.returns-in-Messages-clause-fed
 returns-in-Messages-clause-fed c =

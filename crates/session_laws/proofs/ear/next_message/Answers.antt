@@ -1,8 +1,8 @@
 use Rattle.std.proofs.Common.{[], subst}
 use Rattle.giop_frame.specs.Framer.{FramerAnswers}
 use Rattle.session_laws.proofs.Messages.{framer_bad}
-use Rattle.session_input.proofs.Answers.{if_ok, told_message}
-use Rattle.session_input.proofs.ear.next_message.Goals as goal
+use Rattle.session_laws.proofs.Answers.{if_ok, told_message}
+use Rattle.session_laws.proofs.ear.next_message.Goals as goal
 
 pub returns-in-Message-clause-told : goal.returns-in-Message-clause-told
 returns-in-Message-clause-told c =

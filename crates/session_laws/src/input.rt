@@ -2,12 +2,12 @@
 ghost use Rattle.std.specs.Prelude.{◌≡◌, ◌+◌, ◌++◌, ◌≤◌, ◌^◌, ℕ, List, [], length, IfOk, OnOk, OnErr};
 ghost use Rattle.session_laws.specs.Hearing.{Heard, Stop};
 ghost use Rattle.session_laws.specs.Expecting.{Expects};
-ghost use Rattle.session_input.specs.Hearing.{AsTold, OfIntake, TakesBytes, unread_of};
+ghost use Rattle.session_laws.specs.HearingPieces.{AsTold, OfIntake, TakesBytes, unread_of};
 
 use crate::ear::Ear;
+use crate::peer::Peer;
 use crate::told::Told;
 use poa_base::WantMemory;
-use session_laws::Peer;
 use std::alloc::Global;
 use std::marker::Model;
 
@@ -20,7 +20,7 @@ pub struct Input {
 
 impl Model for Input {
     ghost use Rattle.std.specs.Prelude.{◌≤◌, ◌^◌};
-    ghost use Rattle.session_input.specs.Hearing.{Intake, IsLimited, reach_of};
+    ghost use Rattle.session_laws.specs.HearingPieces.{Intake, IsLimited, reach_of};
 
     ghost Value = { Intake };
 

@@ -5,9 +5,9 @@ use Rattle.giop_msg.proofs.Saying.{each_says}
 use Rattle.session_laws.specs.Expecting.{GoesOn}
 use Rattle.session_laws.proofs.Messages.{framer_goes_on}
 use Rattle.session_laws.proofs.Lines.{lines_go_on}
-use Rattle.session_input.specs.declared.ear.Ear.{Ear}
-use Rattle.session_input.specs.declared.ear.Ear.TheVariants.{Messages, Lines}
-use Rattle.session_input.specs.Hearing.{Intake, OfEar, OfIntake}
+use Rattle.session_laws.specs.declared.ear.Ear.{Ear}
+use Rattle.session_laws.specs.declared.ear.Ear.TheVariants.{Messages, Lines}
+use Rattle.session_laws.specs.HearingPieces.{Intake, OfEar, OfIntake}
 
 pub ear_goes_on : (ear : Ear) (text : List ℕ) → GoesOn (OfEar ear) text
 ear_goes_on (Messages framer) text = (let given = some_given framer text in framer_goes_on each_says framer text (given.messages, given.end, given.gives))

@@ -9,10 +9,10 @@ use Rattle.giop_frame.specs.Framer.{reach}
 use Rattle.poa_history.specs.Legal.{IsSize}
 use Rattle.session_laws.specs.Hearing.{Heard, Stop, closed, over, bad, message_limit}
 use Rattle.session_laws.specs.Expecting.{Hearing, OfFramer, OfLines}
-use Rattle.session_input.specs.declared.ear.Ear.{Ear}
-use Rattle.session_input.specs.declared.ear.Ear.TheVariants.{Messages, Lines}
-use Rattle.session_input.specs.declared.told.Told.{Told}
-use Rattle.session_input.specs.declared.told.Told.TheVariants as told
+use Rattle.session_laws.specs.declared.ear.Ear.{Ear}
+use Rattle.session_laws.specs.declared.ear.Ear.TheVariants.{Messages, Lines}
+use Rattle.session_laws.specs.declared.told.Told.{Told}
+use Rattle.session_laws.specs.declared.told.Told.TheVariants as told
 
 -- what an ear still hears
 abbrev pub OfEar : Ear → Hearing

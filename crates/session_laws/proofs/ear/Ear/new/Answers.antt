@@ -1,7 +1,7 @@
 use Rattle.std.proofs.Common.{sym, subst}
 use Rattle.session_laws.specs.Sessions.{Hears}
 use Rattle.session_laws.proofs.Messages.{framer_new}
-use Rattle.session_input.proofs.ear.Ear.new.Goals as goal
+use Rattle.session_laws.proofs.ear.Ear.new.Goals as goal
 
 pub returns-in-Client-clause-expects : goal.returns-in-Client-clause-expects
 returns-in-Client-clause-expects c =
