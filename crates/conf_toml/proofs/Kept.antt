@@ -19,10 +19,10 @@ use Rattle.poa_policy.specs.Entries.{EachAfter, IsNew}
 use Rattle.poa_policy.specs.Objects.{IsHome, IsObject, id_key, servant_key}
 use Rattle.poa_policy.specs.Kept.{IsForward}
 use Rattle.poa_policy.proofs.Each.{each_weaker}
-use Rattle.conf_rows.specs.Adapters.{adapter_paths}
-use Rattle.conf_rows.specs.Servants.{servant_names}
-use Rattle.conf_rows.proofs.Below.{IsWritten, found_by_text}
-use Rattle.conf_rows.proofs.Kept.{servant_number_within}
+use Rattle.conf_toml.specs.Adapters.{adapter_paths}
+use Rattle.conf_toml.specs.Servants.{servant_names}
+use Rattle.conf_toml.proofs.Below.{IsWritten, found_by_text}
+use Rattle.conf_toml.proofs.KeptRows.{servant_number_within}
 use Rattle.conf_toml.specs.Forwards.{forward_paths}
 use Rattle.conf_toml.specs.Found.{HomeFound, IsReadAfter}
 use Rattle.conf_toml.specs.Objects.{id_text, id_texts, ids_of, servant_text, taken_of}

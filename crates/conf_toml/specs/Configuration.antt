@@ -8,9 +8,9 @@ use Rattle.conf_fields.specs.FieldGives.{FieldGives}
 use Rattle.conf_fields.specs.Numbers.{place_of}
 use Rattle.conf_fields.specs.declared.ConfFault.{ConfFault}
 use Rattle.conf_fields.specs.declared.ConfFault.TheVariants.{NotToml, WantMemory}
-use Rattle.conf_rows.specs.Managers.{managers_of, manager_names}
-use Rattle.conf_rows.specs.Servants.{servants_of, servant_names}
-use Rattle.conf_rows.specs.Adapters.{adapters_of, adapter_paths}
+use Rattle.conf_toml.specs.Managers.{managers_of, manager_names}
+use Rattle.conf_toml.specs.Servants.{servants_of, servant_names}
+use Rattle.conf_toml.specs.Adapters.{adapters_of, adapter_paths}
 use Rattle.conf_toml.specs.Objects.{objects_of}
 use Rattle.conf_toml.specs.Forwards.{forwards_of}
 use Rattle.conf_toml.specs.Settings.{settings_of}

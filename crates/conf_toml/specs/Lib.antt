@@ -1,3 +1,9 @@
+pub mod Managers
+pub mod Servants
+pub mod Policies
+pub mod Rules
+pub mod Adapters
+pub mod FoundRows
 pub mod Objects
 pub mod Notes
 pub mod Forwards

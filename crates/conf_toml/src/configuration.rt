@@ -5,11 +5,13 @@ ghost use Rattle.conf_fields.specs.FieldGives.{FieldGives};
 ghost use Rattle.poa_policy.specs.Kept.{KeepsRules};
 ghost use Rattle.conf_toml.specs.Configuration.{config_of, ReadAs};
 
+use crate::adapter::adapters;
 use crate::forward::forwards;
+use crate::manager::managers;
 use crate::object::{Homes, objects};
+use crate::servant::servants;
 use crate::settings::top_settings;
 use conf_fields::ConfFault;
-use conf_rows::{adapters, managers, servants};
 use poa_base::Config;
 use std::alloc::Global;
 use toml::Table;

@@ -2,10 +2,19 @@
 //! keys, with their defaults and ranges.
 #![tactic(auto)]
 
+mod adapter;
 mod configuration;
 mod forward;
+mod manager;
 mod object;
+mod policies;
+mod reading;
+mod rule;
+mod servant;
 mod settings;
 
+pub use adapter::adapters;
 pub use conf_fields::ConfFault;
 pub use configuration::read_config;
+pub use manager::managers;
+pub use servant::servants;

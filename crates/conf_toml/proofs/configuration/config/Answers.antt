@@ -1,6 +1,6 @@
 use Rattle.std.proofs.Common.{[]}
 use Rattle.conf_fields.specs.Numbers.{find_in}
-use Rattle.conf_rows.proofs.AdaptersKept.{adapters_keep, all_written}
+use Rattle.conf_toml.proofs.AdaptersKept.{adapters_keep, all_written}
 use Rattle.conf_toml.proofs.Kept.{objects_keep}
 use Rattle.conf_toml.proofs.configuration.config.Goals as goal
 
