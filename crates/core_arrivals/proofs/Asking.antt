@@ -22,8 +22,8 @@ use Rattle.poa_history.specs.Verdicts.{chosen, verdict_on, verdict}
 use Rattle.poa_history.proofs.GoneIs.{some_in}
 use Rattle.poa_tree.specs.Trees.{In}
 use Rattle.poa_tree.proofs.Members.{kept_in}
-use Rattle.core_queries.specs.Numbers.{below, Ascends}
-use Rattle.core_queries.proofs.Numbers.{below_in, in_below, ascending}
+use Rattle.core_standing.specs.Numbers.{below, Ascends}
+use Rattle.core_standing.proofs.Numbers.{below_in, in_below, ascending}
 use Rattle.poa_tree.proofs.Members.{in_kept}
 use Rattle.held_queue.specs.Blocks.{Blocks, hold_for}
 use Rattle.held_queue.specs.declared.hold.Hold.{Hold}

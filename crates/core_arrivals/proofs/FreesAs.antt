@@ -10,7 +10,7 @@ use Rattle.history_standing.specs.Stages.{stage}
 use Rattle.history_standing.specs.Standings.{Standing}
 use Rattle.held_queue.specs.declared.freed.Freed.{Freed}
 use Rattle.held_queue.specs.Frees.{etherealizing}
-use Rattle.core_queries.specs.Answers.{AnswersAs, works_on}
+use Rattle.core_standing.specs.Answers.{AnswersAs, works_on}
 
 etherealizing_at : (c : Config) (run : ℕ) (h : List Entry) (t : Standing) → AnswersAs c run h t → (w : ℕ) (b : Stage) → stage h w ≡ b
     → etherealizing t b ≡ etherealizing (standing c run h) b

@@ -21,12 +21,12 @@ use Rattle.poa_history.specs.Legal.{MayFollow}
 use Rattle.poa_history.specs.Situations.{is_crowded, waiting_messages}
 use Rattle.history_standing.specs.Stages.{stage, arrival_in, is_at, admitted, is_unadmitted}
 use Rattle.poa_history.proofs.TurnTells.{admission_is}
-use Rattle.core_queries.specs.Numbers.{below}
+use Rattle.core_standing.specs.Numbers.{below}
 use Rattle.core_arrivals.specs.Numbers.{inserted, without}
 use Rattle.held_queue.specs.Waiting.{is_waiting}
 use Rattle.core_arrivals.specs.Queued.{IsQueue}
 use Rattle.core_arrivals.specs.declared.queue.Queue.{Queue}
-use Rattle.core_queries.proofs.Numbers.{counted}
+use Rattle.core_standing.proofs.Numbers.{counted}
 use Rattle.core_arrivals.proofs.Numbers.{same_below, one_less, one_more, any_kept}
 use Rattle.history_standing.proofs.CallsKept.{call_beyond, call_kept}
 

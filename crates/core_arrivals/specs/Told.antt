@@ -1,8 +1,8 @@
 -- What is known of a run is what its history tells.
 use Rattle.std.specs.Prelude.{List, reverse}
 use Rattle.poa_base.specs.declared.Entry.{Entry}
-use Rattle.core_queries.specs.Answers.{AnswersAs}
-use Rattle.core_queries.specs.Seen.{seen}
+use Rattle.core_standing.specs.Answers.{AnswersAs}
+use Rattle.core_standing.specs.Seen.{seen}
 use Rattle.core_settings.specs.Told.{Tells}
 use Rattle.core_arrivals.specs.declared.known.Known.{Known}
 use Rattle.core_arrivals.specs.Placed.{KnowsCalls}

@@ -9,7 +9,7 @@ ghost use Rattle.core_arrivals.specs.Queued as queued;
 ghost use Rattle.core_arrivals.specs.Placed as placed;
 ghost use Rattle.core_arrivals.specs.Placed.{KnowsCalls};
 
-use core_queries::workers::arrival_in;
+use core_standing::workers::arrival_in;
 use history_standing::Stage;
 use journal_entries::{Entries, EntryView, Row};
 use poa_base::{Attempt, Call, Entry, WantMemory};

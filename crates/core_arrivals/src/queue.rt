@@ -17,8 +17,8 @@ ghost use Rattle.core_arrivals.specs.Queued.{IsQueue, HasPlace, call_tried};
 ghost use Rattle.held_queue.specs.Waiting.{is_waiting, may_queue};
 
 use crate::ordered::{has, insert, insert_if, push_if, remove};
-use core_queries::calls::is_message;
-use core_queries::workers::arrival_in;
+use core_standing::calls::is_message;
+use core_standing::workers::arrival_in;
 use history_standing::Stage;
 use poa_base::limits::UNADMITTED;
 use poa_base::{Attempt, Call, Entry, WantMemory};

@@ -9,7 +9,7 @@ ghost use Rattle.core_standing.specs.Entries as entries;
 ghost use Rattle.core_arrivals.specs.Begun as tables;
 ghost use Rattle.core_arrivals.specs.Begun.{AreStages, AreAbandoned, KnowsWorkers};
 
-use core_queries::workers::stage_after;
+use core_standing::workers::stage_after;
 use history_standing::Stage;
 use poa_base::{Entry, WantMemory};
 use std::alloc::Global;

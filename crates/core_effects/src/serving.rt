@@ -4,13 +4,13 @@ ghost use Rattle.journal_entries.specs.Rows.{seen as entry_seen};
 ghost use Rattle.history_standing.specs.Stages as begun;
 ghost use Rattle.poa_history.specs.States as states;
 ghost use Rattle.history_openings.specs.Runs.{IsRun};
-ghost use Rattle.core_queries.specs.Answers.{AnswersAs};
-ghost use Rattle.core_queries.specs.Seen.{seen};
+ghost use Rattle.core_standing.specs.Answers.{AnswersAs};
+ghost use Rattle.core_standing.specs.Seen.{seen};
 ghost use Rattle.core_arrivals.specs.Begun.{only_ends};
 ghost use Rattle.core_effects.specs.Turning as turning;
 
-use core_queries::Standing;
 use core_servants::servant_by;
+use core_standing::Standing;
 use history_standing::Stage;
 use journal_entries::{Entries, EntryView, Row};
 use poa_base::{Config, Entry, Sid, Verdict, WantMemory};

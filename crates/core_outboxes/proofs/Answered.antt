@@ -11,7 +11,7 @@ use Rattle.poa_history.specs.Settling.{is_quiet}
 use Rattle.history_standing.specs.Stages.{is_at}
 use Rattle.history_standing.specs.Standings.{Standing}
 use Rattle.history_standing.specs.Templates.{manager_number}
-use Rattle.core_queries.specs.Answers.{AnswersAs}
+use Rattle.core_standing.specs.Answers.{AnswersAs}
 use Rattle.core_outboxes.specs.declared.owing.Owing.{Owing}
 use Rattle.core_outboxes.specs.declared.wait.Ordered.{Ordered}
 use Rattle.core_outboxes.specs.declared.wait.Wait.{Wait}

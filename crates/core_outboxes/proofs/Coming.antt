@@ -14,7 +14,7 @@ use Rattle.core_outboxes.specs.declared.owing.Owing.{Owing}
 use Rattle.core_outboxes.specs.declared.wait.Wait.{Wait}
 use Rattle.core_outboxes.specs.declared.wait.Ordered.{Ordered}
 use Rattle.core_outboxes.specs.Waits.{ordered_by}
-use Rattle.core_queries.specs.Numbers.{Ascends}
+use Rattle.core_standing.specs.Numbers.{Ascends}
 use Rattle.core_outboxes.specs.Owed.{AreOwed, arrivals_of}
 use Rattle.core_outboxes.specs.Decided.{AreFiled, target_of}
 use Rattle.core_outboxes.specs.Desk.{is_decided, file, set_wait, waited, waited_by, WaitIs, Comes, AreOwedBefore, AreLeft, IsAlone}

@@ -12,12 +12,12 @@ use Rattle.poa_tree.proofs.Members.{in_kept}
 use Rattle.core_outboxes.specs.declared.owing.Owing.{Owing}
 use Rattle.core_outboxes.specs.declared.wait.Wait.{Wait}
 use Rattle.core_outboxes.specs.declared.wait.Ordered.{Ordered}
-use Rattle.core_queries.specs.Numbers.{below}
+use Rattle.core_standing.specs.Numbers.{below}
 use Rattle.core_outboxes.specs.Waits.{wait_in, has_come}
 use Rattle.core_outboxes.specs.Owed.{is_owed, head_of}
 use Rattle.core_outboxes.specs.Decided.{is_answered_by}
 use Rattle.core_outboxes.specs.Desk.{is_decided}
-use Rattle.core_queries.proofs.Numbers.{filter_twice, in_below}
+use Rattle.core_standing.proofs.Numbers.{filter_twice, in_below}
 use Rattle.core_outboxes.proofs.Lists.{filter_agrees, filter_mapped}
 use Rattle.core_outboxes.proofs.Waiting.{comes, IsOvertaken, settles_is}
 use Rattle.history_standing.proofs.CallsKept.{call_kept}

@@ -23,18 +23,17 @@ use Rattle.poa_tree.specs.Trees.{In}
 use Rattle.poa_tree.proofs.Members.{in_kept, image_in}
 use Rattle.core_outboxes.specs.declared.filed.Filed.{Filed as FiledRow}
 use Rattle.core_outboxes.specs.declared.owing.Owing.{Owing}
-use Rattle.core_queries.specs.Numbers.{below, Ascends}
+use Rattle.core_standing.specs.Numbers.{below, Ascends}
 use Rattle.core_outboxes.specs.Waits.{wait_of, wait_in, ordered_by}
 use Rattle.core_outboxes.specs.Owed.{is_owed, head_of, AreOwed, Owes, IsCurrent, arrivals_of}
 use Rattle.core_outboxes.specs.Decided.{answered, AreFiled, IsFiled}
 use Rattle.core_outboxes.specs.Desk.{is_decided, file, waited, IsAlone}
-use Rattle.core_queries.proofs.Numbers.{in_below}
+use Rattle.core_standing.proofs.Numbers.{in_below, ascending}
 use Rattle.core_outboxes.proofs.Fixed.{Fixes}
 use Rattle.core_outboxes.proofs.Deciding.{AreRows, owed_which}
 use Rattle.core_outboxes.proofs.FiledAfter.{row_stays, filed_after, each_filed}
 use Rattle.core_outboxes.proofs.RowsNext.{TriesNone, rows_next}
 use Rattle.core_outboxes.proofs.Arrived.{decided_arrived, admitted_arrived, next_decided, collected_decided, at_is}
-use Rattle.core_queries.proofs.Numbers.{ascending}
 use Rattle.core_outboxes.proofs.Removed.{Distinct, distinct_below, distinct_kept}
 
 -- where no arrival stands twice, the target stands in one row at most

@@ -20,12 +20,12 @@ use Rattle.core_outboxes.specs.declared.owing.Owing.{Owing}
 use Rattle.core_outboxes.specs.declared.wait.Wait.{Wait}
 use Rattle.core_outboxes.specs.declared.wait.Wait.TheVariants.{Nothing, Quiet, Off, Gone}
 use Rattle.core_outboxes.specs.declared.wait.Ordered.{Ordered}
-use Rattle.core_queries.specs.Numbers.{below}
+use Rattle.core_standing.specs.Numbers.{below}
 use Rattle.core_outboxes.specs.Waits.{is_overtaking, has_come}
 use Rattle.core_outboxes.specs.Owed.{head_of, Owes, IsCurrent}
 use Rattle.core_outboxes.specs.Decided.{is_answered_by, answered, IsFiled}
 use Rattle.core_outboxes.specs.Desk.{is_decided, file}
-use Rattle.core_queries.proofs.Numbers.{in_below}
+use Rattle.core_standing.proofs.Numbers.{in_below}
 use Rattle.core_outboxes.proofs.Fixed.{Fixes}
 use Rattle.core_outboxes.proofs.Waiting.{IsOvertaken}
 use Rattle.core_outboxes.proofs.Deciding.{AreRows, row_owed, row_fresh, row_decided, filed_which}

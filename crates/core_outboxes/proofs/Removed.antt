@@ -12,10 +12,10 @@ use Rattle.poa_history.specs.States.{Stored}
 use Rattle.poa_tree.specs.Trees.{In}
 use Rattle.poa_tree.proofs.Members.{in_kept}
 use Rattle.core_outboxes.specs.declared.filed.Filed.{Filed as FiledRow}
-use Rattle.core_queries.specs.Numbers.{below}
+use Rattle.core_standing.specs.Numbers.{below}
 use Rattle.core_outboxes.specs.Decided.{is_answered_by, answered, AreFiled}
 use Rattle.core_outboxes.specs.Desk.{without_first}
-use Rattle.core_queries.proofs.Numbers.{filter_twice, in_below}
+use Rattle.core_standing.proofs.Numbers.{filter_twice, in_below}
 use Rattle.core_outboxes.proofs.Lists.{filter_agrees}
 use Rattle.core_outboxes.proofs.Arrived.{answered_decided}
 

@@ -12,7 +12,7 @@ use Rattle.poa_history.specs.States.{Stored}
 use Rattle.poa_tree.specs.Trees.{In}
 use Rattle.core_outboxes.specs.declared.decision.Decision.{Decision}
 use Rattle.core_outboxes.specs.declared.filed.Filed.{Filed}
-use Rattle.core_queries.specs.Numbers.{below}
+use Rattle.core_standing.specs.Numbers.{below}
 use Rattle.core_outboxes.specs.Owed.{head_of}
 
 -- the entry decides the arrival, which asks a reply

@@ -12,7 +12,7 @@ use Rattle.poa_tree.specs.Trees.{In}
 use Rattle.core_outboxes.specs.declared.owing.Owing.{Owing}
 use Rattle.core_outboxes.specs.declared.wait.Wait.{Wait}
 use Rattle.core_outboxes.specs.declared.wait.Wait.TheVariants.{Quiet}
-use Rattle.core_queries.specs.Numbers.{below}
+use Rattle.core_standing.specs.Numbers.{below}
 use Rattle.core_outboxes.specs.Waits.{wait_in}
 
 -- a line of an administrator has none

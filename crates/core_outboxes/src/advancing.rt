@@ -1,7 +1,7 @@
 //! The desk after an entry.
 ghost use Rattle.std.specs.Prelude.{◌≡◌, ◌∷◌, ℕ, List, map, IfSome};
 ghost use Rattle.history_standing.specs.Arrivals.{arrivals};
-ghost use Rattle.core_queries.specs.Seen.{seen};
+ghost use Rattle.core_standing.specs.Seen.{seen};
 ghost use Rattle.core_outboxes.specs.Decided.{AreFiled, target_of};
 ghost use Rattle.core_outboxes.specs.Owed.{AreOwed};
 ghost use Rattle.core_outboxes.specs.Desk as desks;
@@ -11,7 +11,7 @@ ghost use Rattle.core_outboxes.specs.declared.filed.Filed.{Filed as FiledRow};
 use crate::decision::Decision;
 use crate::desk::Desk;
 use crate::wait::{Ordered, Wait};
-use core_queries::Standing;
+use core_standing::Standing;
 use poa_base::{Config, Entry, Reply};
 
 /// An arrival that is admitted gets what it waits for from now on.

@@ -10,7 +10,7 @@ use crate::outboxes::Outboxes;
 use crate::owing::Owing;
 use crate::rows::{any_waits, file_decided, file_target, put_waits};
 use crate::wait::{Ordered, Wait};
-use core_queries::Standing;
+use core_standing::Standing;
 use poa_base::{Config, Reply, WantMemory};
 use std::alloc::Global;
 use std::collections::VecDeque;
@@ -32,11 +32,11 @@ pub struct Desk {
 
 impl Desk {
     ghost use Rattle.std.specs.Prelude.{◌≤◌, ◌+◌, ◌++◌, ◌∷◌, List, not, [], find, map, IsOk, OnOk};
-    ghost use Rattle.core_queries.specs.Seen.{seen};
+    ghost use Rattle.core_standing.specs.Seen.{seen};
     ghost use Rattle.core_outboxes.specs.declared.filed.Filed.{Filed as FiledRow};
     ghost use Rattle.core_outboxes.specs.Desk as desks;
     ghost use Rattle.core_outboxes.specs.Desk.{Files, IsAlone, HasRoomForOne};
-    ghost use Rattle.core_queries.specs.Numbers.{Ascends};
+    ghost use Rattle.core_standing.specs.Numbers.{Ascends};
     ghost use Rattle.core_outboxes.specs.Outboxes.{room_at, room_left};
     ghost use Rattle.core_outboxes.specs.Owed.{arrivals_of};
 

@@ -3,19 +3,19 @@ ghost use Rattle.std.specs.Prelude.{◌≡◌, ◌==◌, ◌≤◌, ◌++◌, �
 ghost use Rattle.std.specs.VecDeque.{deque_len, deque_capacity};
 ghost use Rattle.std.specs.List.{list_any};
 ghost use Rattle.history_standing.specs.Stages as begun;
-ghost use Rattle.core_queries.specs.Seen.{seen};
+ghost use Rattle.core_standing.specs.Seen.{seen};
 ghost use Rattle.core_outboxes.specs.Desk as desks;
 ghost use Rattle.core_outboxes.specs.Desk.{IsAlone};
 ghost use Rattle.core_outboxes.specs.Outboxes.{HasRoomAt, awaited_at, replies_at};
-ghost use Rattle.core_queries.specs.Numbers.{Ascends};
+ghost use Rattle.core_standing.specs.Numbers.{Ascends};
 ghost use Rattle.core_outboxes.specs.Owed.{arrivals_of, has_wait};
 
 use crate::filed::Filed;
 use crate::outboxes::Outboxes;
 use crate::owing::Owing;
 use crate::wait::{Ordered, Wait, has_come};
-use core_queries::Standing;
-use core_queries::workers::is_at;
+use core_standing::Standing;
+use core_standing::workers::is_at;
 use poa_base::{Answer, Config, Reply};
 use std::collections::VecDeque;
 use std::mem;

@@ -6,14 +6,14 @@ ghost use Rattle.poa_history.specs.Replies as replies;
 ghost use Rattle.core_outboxes.specs.Desk.{WaitIs};
 ghost use Rattle.core_outboxes.specs.Waits.{call_told};
 ghost use Rattle.core_outboxes.specs.Waits as waits;
-ghost use Rattle.core_queries.specs.Answers.{AnswersAs};
-ghost use Rattle.core_queries.specs.Seen.{seen};
+ghost use Rattle.core_standing.specs.Answers.{AnswersAs};
+ghost use Rattle.core_standing.specs.Seen.{seen};
 
 use active_map::templates::manager_number;
-use core_queries::Standing;
-use core_queries::commands::{command_in, is_accepted, number_at};
-use core_queries::ends::is_gone;
-use core_queries::orders::{are_ended, is_quiet};
+use core_standing::Standing;
+use core_standing::asked_commands::{command_in, is_accepted, number_at};
+use core_standing::ends::is_gone;
+use core_standing::orders::{are_ended, is_quiet};
 use poa_base::{Call, Command, Config, Entry, Name, Order, Verdict, WantMemory};
 
 /// What a command waits for, from its Admit on.

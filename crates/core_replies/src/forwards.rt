@@ -2,7 +2,7 @@
 ghost use Rattle.std.specs.Prelude.{◌≡◌, option_copied, IfOk};
 ghost use Rattle.poa_history.specs.Replies as replies;
 
-use core_queries::calls::target_of;
+use core_standing::calls::target_of;
 use poa_base::{Bytes, Call, Endpoint, Reply, WantMemory};
 use std::alloc::Global;
 

@@ -9,8 +9,8 @@ ghost use Rattle.core_replies.specs.Unmade.{reply_tried as tried_in, reply_unmad
 
 use crate::exceptions::{ACTIVATOR_RAISED, ADAPTER_DYING, NOT_EXIST, raised_to};
 use crate::forwards::forwarded_to;
-use core_queries::keys::key_in;
 use core_settings::{Settings, forward_of};
+use core_standing::keys::key_in;
 use poa_base::{Attempt, Call, Config, Name, Path, Reply, WantMemory};
 use std::alloc::Global;
 

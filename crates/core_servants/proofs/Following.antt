@@ -20,7 +20,7 @@ use Rattle.poa_history.specs.States.{acted, call_run, servant_run, state_of}
 use Rattle.core_servants.specs.Comes.{Comes, HoldsThen, TellsThen, outcome_told, worker_of}
 use Rattle.core_servants.specs.Holds.{Holds}
 use Rattle.core_servants.specs.Kept.{Kept}
-use Rattle.core_queries.specs.Answers.{works_on}
+use Rattle.core_standing.specs.Answers.{works_on}
 use Rattle.core_servants.specs.Steps.{Brings, IsActed, Incarnates, Etherealizes, HasRoom, removed, removed_of, outcome_in}
 use Rattle.core_servants.proofs.QuietHolds.{is_quiet, quiet_holds}
 use Rattle.core_servants.proofs.RunHolds.{run_holds, run_tells}

@@ -14,7 +14,7 @@ use Rattle.poa_history.specs.Sound.{IsGiven}
 use Rattle.history_standing.specs.Stages.{stage}
 use Rattle.history_standing.specs.Standings.{Standing}
 use Rattle.poa_history.specs.States.{Stored, acted, call_run, servant_run, state_of}
-use Rattle.core_queries.specs.Answers.{AnswersAs}
+use Rattle.core_standing.specs.Answers.{AnswersAs}
 use Rattle.core_servants.specs.Holds.{Holds}
 use Rattle.core_servants.specs.Kept.{Kept}
 use Rattle.core_servants.specs.Steps.{is_new}

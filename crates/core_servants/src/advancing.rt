@@ -1,6 +1,6 @@
 //! An entry comes, and the servants follow it.
 ghost use Rattle.std.specs.Prelude.{◌≡◌, true, IfOk, OnOk, OnErr, option_copied};
-ghost use Rattle.core_queries.specs.Seen.{seen};
+ghost use Rattle.core_standing.specs.Seen.{seen};
 ghost use Rattle.core_servants.specs.Comes.{Comes, HoldsThen, TellsThen, may_want};
 ghost use Rattle.core_servants.specs.Kept.{kept_in};
 ghost use Rattle.core_servants.specs.Steps.{IsUnchanged};
@@ -9,7 +9,7 @@ use crate::acting::act;
 use crate::bringing::incarnate;
 use crate::etherealizing::etherealize;
 use crate::servants::Servants;
-use core_queries::Standing;
+use core_standing::Standing;
 use history_standing::Stage;
 use poa_base::{Call, Config, Entry, Outcome, Sid, WantMemory};
 use std::alloc::Global;

@@ -1,14 +1,14 @@
 //! A fresh servant is brought.
 ghost use Rattle.std.specs.Prelude.{◌≡◌, true, OnOk, OnErr};
 ghost use Rattle.poa_history.specs.Turns as turns;
-ghost use Rattle.core_queries.specs.Seen.{seen};
+ghost use Rattle.core_standing.specs.Seen.{seen};
 ghost use Rattle.core_servants.specs.Kept.{kept_in};
 ghost use Rattle.core_servants.specs.Steps.{Brings, Incarnates, IsUnchanged, is_new};
 
 use crate::kinds::{kind_brought, restored};
 use crate::servants::Servants;
-use core_queries::Standing;
-use core_queries::searches::activation_numbered;
+use core_standing::Standing;
+use core_standing::searches::activation_numbered;
 use history_standing::Activation;
 use poa_base::{Config, Incarnation, WantMemory};
 use servant_kinds::Servant;

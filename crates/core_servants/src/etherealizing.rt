@@ -1,12 +1,12 @@
 //! A fresh servant is etherealized.
 ghost use Rattle.std.specs.Prelude.{◌≡◌, option_copied, option_map};
-ghost use Rattle.core_queries.specs.Seen.{seen};
+ghost use Rattle.core_standing.specs.Seen.{seen};
 ghost use Rattle.core_servants.specs.Kept.{kept_in};
 ghost use Rattle.core_servants.specs.Steps as steps;
 
 use crate::servants::Servants;
-use core_queries::Standing;
-use core_queries::searches::activation_numbered;
+use core_standing::Standing;
+use core_standing::searches::activation_numbered;
 use history_standing::{Activation, Phase, Stage};
 use poa_base::Sid;
 

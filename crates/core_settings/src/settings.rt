@@ -9,7 +9,7 @@ use crate::endpoints::Endpoints;
 use crate::managers::Managers;
 use crate::presets::Presets;
 use crate::states::set_state;
-use core_queries::commands::command_done;
+use core_standing::asked_commands::command_done;
 use poa_base::{Command, Config, Entry, WantMemory};
 use std::alloc::Global;
 

@@ -44,12 +44,12 @@ use Rattle.poa_history.specs.Changes.{changed, with_activations, with_request, w
 use Rattle.poa_history.specs.Later.{IsLater}
 use Rattle.poa_history.proofs.ActivationsLater.{later_self, later_ended, later_ending, later_out, later_told, later_come, later_let_out}
 use Rattle.poa_history.proofs.SettledKept.{or_first, or_second}
-use Rattle.core_queries.specs.Seen.{forgotten}
+use Rattle.core_standing.specs.Seen.{forgotten}
 use Rattle.active_map.specs.Live.{is_live, live}
-use Rattle.core_queries.specs.Kept.{Forgets, StandsFor}
-use Rattle.core_queries.proofs.Kept.{any_alike, find_alike}
+use Rattle.core_standing.specs.Kept.{Forgets, StandsFor}
+use Rattle.core_standing.proofs.Kept.{any_alike, find_alike}
 use Rattle.core_standing.proofs.Still.{still_come, still_told, still_taken, still_below, still_off, still_ending, still_in, takes_alike}
-use Rattle.core_queries.proofs.Behind.{first_fails, second_fails}
+use Rattle.core_standing.proofs.Behind.{first_fails, second_fails}
 
 void_phase : (p : Phase) → (elim p [ Void ↦ true | Begun ↦ false | Complete s ↦ false ]) ≡ true → p ≡ Void
 void_phase Void is = refl

@@ -13,7 +13,7 @@ use Rattle.history_standing.specs.declared.activation.Activation.{Activation}
 use Rattle.history_standing.specs.declared.flight.Flight.{Flight}
 use Rattle.history_standing.specs.Ends.{is_over, is_clear, is_done_with}
 use Rattle.history_standing.specs.Standings.{Standing}
-use Rattle.core_queries.proofs.Kept.{any_kept}
+use Rattle.core_standing.proofs.Kept.{any_kept}
 use Rattle.history_standing.proofs.Tests.{none_by}
 use Rattle.history_standing.proofs.Clear.{clear_parts}
 

@@ -11,10 +11,10 @@ use Rattle.history_standing.specs.Ends.{is_over, settled}
 use Rattle.history_standing.specs.Standings.{Standing}
 use Rattle.poa_tree.specs.Trees.{In}
 use Rattle.poa_tree.proofs.Members.{in_kept}
-use Rattle.core_queries.specs.Seen.{forgotten, behind}
+use Rattle.core_standing.specs.Seen.{forgotten, behind}
 use Rattle.active_map.specs.Live.{is_live, live}
-use Rattle.core_queries.specs.Kept.{Forgets, KeepsNoneOver, StandsFor, StandsAfter}
-use Rattle.core_queries.proofs.Behind.{length_behind}
+use Rattle.core_standing.specs.Kept.{Forgets, KeepsNoneOver, StandsFor, StandsAfter}
+use Rattle.core_standing.proofs.Behind.{length_behind}
 use Rattle.core_standing.specs.Entries.{may_begin, may_end}
 use Rattle.core_standing.proofs.ChangesAlike.{stands_changed, stands_settled, stands_through}
 use Rattle.core_standing.proofs.Few.{few_changed, few_settled}

@@ -19,9 +19,9 @@ use Rattle.history_standing.specs.Ends.{is_left, is_over, let_out, settled}
 use Rattle.history_standing.specs.Stages.{stage}
 use Rattle.history_standing.specs.Standings.{Standing}
 use Rattle.poa_history.proofs.GoneIs.{some_in as one_of}
-use Rattle.core_queries.specs.declared.standing.Standing.{Standing as Held}
-use Rattle.core_queries.specs.Kept.{StandsAfter}
-use Rattle.core_queries.specs.Seen.{seen}
+use Rattle.core_standing.specs.declared.standing.Standing.{Standing as Held}
+use Rattle.core_standing.specs.Kept.{StandsAfter}
+use Rattle.core_standing.specs.Seen.{seen}
 use Rattle.core_standing.specs.Entries.{is_removal}
 use Rattle.core_standing.specs.Touched.{Lasts, Others, SameOthers, is_touched, left}
 use Rattle.core_standing.specs.declared.touched.Touched.{Touched}

@@ -1,3 +1,10 @@
+pub mod KeysRead
+pub mod Onward
+pub mod Numbers
+pub mod Behind
+pub mod Kept
+pub mod Itself
+pub mod Exchange
 mod Dropping
 pub mod Settled
 mod Still

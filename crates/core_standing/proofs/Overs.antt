@@ -23,9 +23,9 @@ use Rattle.poa_history.proofs.AloneKept.{all_open}
 use Rattle.history_standing.specs.Logs.{command_in}
 use Rattle.history_standing.specs.Standings.{Standing}
 use Rattle.poa_history.proofs.GoneIs.{some_in}
-use Rattle.core_queries.specs.declared.standing.Standing.{Standing as Held}
-use Rattle.core_queries.specs.Kept.{KeepsNoneOver}
-use Rattle.core_queries.specs.Seen.{seen}
+use Rattle.core_standing.specs.declared.standing.Standing.{Standing as Held}
+use Rattle.core_standing.specs.Kept.{KeepsNoneOver}
+use Rattle.core_standing.specs.Seen.{seen}
 use Rattle.core_standing.specs.Entries.{may_end}
 use Rattle.core_standing.specs.Touched.{Others, OverTouched, SameOthers}
 use Rattle.core_standing.proofs.Forgotten.{from_behind, in_behind}

@@ -23,7 +23,7 @@ use Rattle.history_standing.specs.Ends.{is_left, let_out, settled}
 use Rattle.history_standing.specs.Standings.{Standing, is_begun, is_complete, is_ending, is_used}
 use Rattle.history_standing.specs.Templates.{has_activator}
 use Rattle.poa_tree.specs.Trees.{In}
-use Rattle.core_queries.specs.Kept.{StandsAfter}
+use Rattle.core_standing.specs.Kept.{StandsAfter}
 use Rattle.core_standing.specs.Flying.{uses}
 use Rattle.core_standing.specs.Touched.{Others, SameOthers, Still}
 use Rattle.poa_tree.proofs.Members.{image_in, in_either, in_image}

@@ -11,10 +11,10 @@ use Rattle.poa_history.specs.Changes.{at_number, come_to, ended_by_destroy, is_e
 use Rattle.history_standing.specs.Ends.{is_left, let_out}
 use Rattle.history_standing.specs.Standings.{Standing, is_mapped, has_servant, is_of}
 use Rattle.history_standing.specs.Templates.{has_activator, manager_at}
-use Rattle.core_queries.specs.declared.standing.Standing.{Standing as Held}
-use Rattle.core_queries.specs.Seen.{forgotten, behind, seen}
+use Rattle.core_standing.specs.declared.standing.Standing.{Standing as Held}
+use Rattle.core_standing.specs.Seen.{forgotten, behind, seen}
 use Rattle.active_map.specs.Tables.{Table}
-use Rattle.core_queries.proofs.Behind.{any_behind, map_behind, second_fails}
+use Rattle.core_standing.proofs.Behind.{any_behind, map_behind, second_fails}
 
 -- each activation of a table is changed, and so each that is seen
 pub changed_each : (s : Held) (t : Table) (f : Activation → Activation) → f forgotten ≡ forgotten

@@ -7,7 +7,7 @@ use Rattle.history_standing.specs.Standings.{Standing}
 use Rattle.poa_tree.specs.declared.node.Node.{Node}
 use Rattle.poa_tree.specs.Paths.{is_root}
 use Rattle.poa_tree.specs.Trees.{In}
-use Rattle.core_queries.specs.Seen.{forgotten}
+use Rattle.core_standing.specs.Seen.{forgotten}
 use Rattle.core_standing.specs.declared.touched.Touched.{Touched}
 use Rattle.core_standing.specs.declared.touched.Touched.TheVariants.{Nothing, One, All}
 

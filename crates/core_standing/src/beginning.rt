@@ -2,13 +2,13 @@
 ghost use Rattle.std.specs.Prelude.{◌≡◌, ◌≤◌, ◌&&◌, false, not, length, IfOk, OnOk, OnErr};
 ghost use Rattle.poa_tree.specs.Paths.{is_root};
 ghost use Rattle.history_standing.specs.Opening as opens;
-ghost use Rattle.core_queries.specs.Kept.{KeepsNoneOver};
-ghost use Rattle.core_queries.specs.Seen.{seen};
+ghost use Rattle.core_standing.specs.Kept.{KeepsNoneOver};
+ghost use Rattle.core_standing.specs.Seen.{seen};
 
+use crate::asked_commands::number_at;
+use crate::ids::{made_id, next};
+use crate::standing::Standing;
 use active_map::Activations;
-use core_queries::Standing;
-use core_queries::commands::number_at;
-use core_queries::ids::{made_id, next};
 use history_standing::{Activation, Phase};
 use poa_base::{AdapterConf, Config, ObjectConf, Oid, Path, Sid, WantMemory};
 use poa_tree::Node;

@@ -2,14 +2,14 @@
 ghost use Rattle.std.specs.Prelude.{◌≡◌, ℕ, ◌≤◌, ◌^◌, length, Some, None, if◌then◌else◌, option_copied, IfOk, IsOk, OnOk, OnErr};
 ghost use Rattle.poa_history.specs.Changes as changes;
 ghost use Rattle.history_standing.specs.Templates.{manager_number as number_of_manager};
-ghost use Rattle.core_queries.specs.Seen.{seen};
+ghost use Rattle.core_standing.specs.Seen.{seen};
 
+use crate::asked_commands::{is_implicit, live_at, number_at};
 use crate::beginning::{add_activation, add_node};
 use crate::ending::{deactivate, destroy, turn_off};
+use crate::ids::{made_id, next};
+use crate::standing::Standing;
 use active_map::templates::{manager_number, servant_number};
-use core_queries::Standing;
-use core_queries::commands::{is_implicit, live_at, number_at};
-use core_queries::ids::{made_id, next};
 use history_standing::Phase;
 use poa_base::{Command, Config, Name, Order, Path, Sid, WantMemory};
 use std::alloc::Global;

@@ -3,9 +3,9 @@
 ghost use Rattle.std.specs.Prelude.{◌≡◌, if◌then◌else◌, OnOk, OnErr};
 ghost use Rattle.poa_tree.specs.Nodes as tree;
 ghost use Rattle.poa_history.specs.Changes as changes;
-ghost use Rattle.core_queries.specs.Seen.{seen};
+ghost use Rattle.core_standing.specs.Seen.{seen};
 
-use core_queries::Standing;
+use crate::standing::Standing;
 use poa_base::{Config, Name, Oid, WantMemory};
 use poa_tree::nodes::mark;
 

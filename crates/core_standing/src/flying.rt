@@ -1,12 +1,12 @@
 //! What an entry begins and ends in flight.
 ghost use Rattle.std.specs.Prelude.{◌≡◌, ◌==◌, filter, not, IfOk, OnOk, OnErr, option_copied};
 ghost use Rattle.poa_history.specs.Changes as changes;
-ghost use Rattle.core_queries.specs.Seen.{seen};
+ghost use Rattle.core_standing.specs.Seen.{seen};
 
 use crate::beginning::begun;
+use crate::keys::walk_to;
+use crate::standing::Standing;
 use active_map::flights::flight_of;
-use core_queries::Standing;
-use core_queries::keys::walk_to;
 use history_standing::{Flight, Phase};
 use object_key::KeyView;
 use poa_base::{Name, Path, Verdict, WantMemory};

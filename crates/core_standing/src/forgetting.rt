@@ -1,11 +1,11 @@
 //! Those of the activations that are over are forgotten. Takes no memory.
 ghost use Rattle.std.specs.Prelude.{◌≡◌};
-ghost use Rattle.core_queries.specs.Kept.{KeepsNoneOver, StandsFor};
-ghost use Rattle.core_queries.specs.Seen.{seen};
+ghost use Rattle.core_standing.specs.Kept.{KeepsNoneOver, StandsFor};
+ghost use Rattle.core_standing.specs.Seen.{seen};
 ghost use Rattle.core_standing.specs.Touched.{OverTouched, is_touched};
 
+use crate::standing::Standing;
 use crate::touched::Touched;
-use core_queries::Standing;
 use poa_base::Config;
 
 /// Those of the touched that are over are forgotten, but for their number.

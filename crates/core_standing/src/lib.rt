@@ -2,16 +2,27 @@
 //! at a time changes it in place, all of it or nothing, and an entry with which something ends takes no memory.
 #![tactic(auto)]
 
+pub mod asked_commands;
 mod beginning;
+pub mod calls;
 mod changes;
 mod commands;
 mod ending;
+pub mod ends;
 mod flying;
 mod forgetting;
+pub mod ids;
+pub mod keys;
 pub mod laws;
 mod lives;
+pub mod orders;
+pub mod rules;
+pub mod searches;
 mod settling;
+mod standing;
 mod touched;
+pub mod workers;
 
 pub use beginning::opening;
 pub use changes::{advance, advance_kept, standing_of};
+pub use standing::Standing;

@@ -2,9 +2,9 @@
 //! made in place and takes no memory.
 ghost use Rattle.std.specs.Prelude.{◌≡◌, true};
 ghost use Rattle.poa_history.specs.Changes as changes;
-ghost use Rattle.core_queries.specs.Seen.{seen};
+ghost use Rattle.core_standing.specs.Seen.{seen};
 
-use core_queries::Standing;
+use crate::standing::Standing;
 use history_standing::Phase;
 
 /// The activation that is being incarnated has come so far.

@@ -1,15 +1,15 @@
 //! What has ended goes. Each change is made in place and takes no memory.
 ghost use Rattle.std.specs.Prelude.{◌≡◌, ℕ, false, true, map};
 ghost use Rattle.history_standing.specs.Ends as ends;
-ghost use Rattle.core_queries.specs.Seen.{seen};
+ghost use Rattle.core_standing.specs.Seen.{seen};
 ghost use Rattle.core_standing.specs.Touched.{Lasts, Others, is_touched, left};
 ghost use Rattle.core_standing.specs.declared.touched.Touched.TheVariants.{One};
 ghost use Rattle.history_standing.specs.declared.activation.Activation.{Activation};
 ghost use Rattle.poa_tree.specs.Trees.{In};
 
+use crate::ends::stays;
+use crate::standing::Standing;
 use crate::touched::Touched;
-use core_queries::Standing;
-use core_queries::ends::stays;
 use poa_base::Config;
 
 /// What is to leave the map does, where none but what is touched is to.

@@ -11,7 +11,7 @@ ghost use Rattle.poa_tree.specs.Trees.{In};
 ghost use Rattle.core_standing.specs.Touched.{Others, SameOthers, Still, is_touched};
 ghost use Rattle.core_standing.specs.Flying.{uses};
 
-use core_queries::workers::arrival_in;
+use crate::workers::arrival_in;
 use history_standing::{Flight, Stage};
 use poa_base::Entry;
 

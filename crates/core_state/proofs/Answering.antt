@@ -31,12 +31,12 @@ use Rattle.poa_history.specs.Turns.{activation_numbered, is_due, removal}
 use Rattle.poa_history.proofs.LegalSound.{legal_sound}
 use Rattle.poa_history.proofs.MannedKept.{all_manned}
 use Rattle.poa_history.proofs.OutIs.{out_complete}
-use Rattle.core_queries.specs.Seen.{forgotten}
-use Rattle.core_queries.specs.Kept.{Forgets, StandsAfter}
-use Rattle.core_queries.specs.Answers.{AnswersAs}
-use Rattle.core_queries.proofs.Kept.{any_alike, all_alike, find_alike}
+use Rattle.core_standing.specs.Seen.{forgotten}
+use Rattle.core_standing.specs.Kept.{Forgets, StandsAfter}
+use Rattle.core_standing.specs.Answers.{AnswersAs}
+use Rattle.core_standing.proofs.Kept.{any_alike, all_alike, find_alike}
 use Rattle.core_standing.proofs.ChangesAlike.{unmapped, mapped_alike, lived_alike}
-use Rattle.core_queries.proofs.Behind.{first_fails, second_fails}
+use Rattle.core_standing.proofs.Behind.{first_fails, second_fails}
 use Rattle.core_state.proofs.OverTests.{inactive, unchanging, undue}
 use Rattle.core_state.proofs.WorkedOn.{IsLive, worked_lives, served_there}
 

@@ -11,7 +11,7 @@ use Rattle.history_standing.specs.Ends.{is_over, is_finished}
 use Rattle.poa_history.specs.Situations.{is_unfinished}
 use Rattle.history_standing.specs.Standings.{is_active, is_begun, is_complete, is_void}
 use Rattle.history_standing.specs.Templates.{has_activator}
-use Rattle.core_queries.proofs.Behind.{first_fails, second_fails}
+use Rattle.core_standing.proofs.Behind.{first_fails, second_fails}
 
 pub void_phase : (p : Phase) → (elim p [ Void ↦ true | Begun ↦ false | Complete s ↦ false ]) ≡ true → p ≡ Void
 void_phase Void is = refl

@@ -16,10 +16,10 @@ use Rattle.history_standing.specs.Standings.{Standing as Stood}
 use Rattle.poa_history.specs.States.{Stored, call_run}
 use Rattle.history_openings.specs.Runs.{IsRun}
 use Rattle.history_openings.proofs.Opened.{given, alone, within}
-use Rattle.core_queries.specs.declared.standing.Standing.{Standing}
-use Rattle.core_queries.specs.Answers.{AnswersAs}
-use Rattle.core_queries.specs.Kept.{KeepsNoneOver, StandsFor, StandsAfter}
-use Rattle.core_queries.specs.Seen.{seen}
+use Rattle.core_standing.specs.declared.standing.Standing.{Standing}
+use Rattle.core_standing.specs.Answers.{AnswersAs}
+use Rattle.core_standing.specs.Kept.{KeepsNoneOver, StandsFor, StandsAfter}
+use Rattle.core_standing.specs.Seen.{seen}
 use Rattle.core_standing.specs.Entries.{stage_at, call_admitted}
 use Rattle.core_state.proofs.Answering.{answers}
 use Rattle.core_settings.specs.declared.settings.Settings.{Settings}

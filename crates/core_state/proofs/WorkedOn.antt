@@ -25,7 +25,7 @@ use Rattle.poa_history.proofs.MannedKept.{all_manned}
 use Rattle.poa_history.proofs.OutIs.{out_complete}
 use Rattle.poa_history.proofs.StagesFrom.{removal_before}
 use Rattle.poa_history.proofs.TurnTells.{takeout_is}
-use Rattle.core_queries.specs.Answers.{works_on}
+use Rattle.core_standing.specs.Answers.{works_on}
 use Rattle.core_state.proofs.OverTests.{begun_lives, served_lives, untold_lives}
 
 module _ (c : Config) (run limit : ℕ) (given : IsGiven c run) (alone : IsGivenAlone c run) (within : IsWithinLimits c limit) where

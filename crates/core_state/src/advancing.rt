@@ -10,8 +10,8 @@ ghost use Rattle.core_state.specs.State.{IsNext, IsState, only_ends, outcome_of,
 
 use crate::coming::Coming;
 use crate::state::State;
-use core_queries::commands::{command_in, is_accepted};
 use core_settings::apply;
+use core_standing::asked_commands::{command_in, is_accepted};
 use poa_base::{Call, Command, Config, Entry, Outcome, Verdict, WantMemory};
 use std::alloc::Global;
 

@@ -8,8 +8,8 @@ ghost use Rattle.poa_history.specs.Bounds.{IsWithinLimits};
 ghost use Rattle.poa_history.specs.Legal.{IsLegal};
 ghost use Rattle.poa_history.specs.Sound.{IsGiven};
 ghost use Rattle.history_standing.specs.Standings.{Standing};
-ghost use Rattle.core_queries.specs.Answers.{AnswersAs};
-ghost use Rattle.core_queries.specs.Kept.{StandsAfter};
+ghost use Rattle.core_standing.specs.Answers.{AnswersAs};
+ghost use Rattle.core_standing.specs.Kept.{StandsAfter};
 
 /// After a legal history what is kept, where some activations that are over may be forgotten, answers as what stands.
 pub fn what_is_kept_answers()

@@ -3,9 +3,9 @@ ghost use Rattle.std.specs.Prelude.{[], IfOk};
 ghost use Rattle.poa_base.specs.Store.{stored as stored_in};
 ghost use Rattle.core_state.specs.State.{IsState};
 
-use core_queries::Standing;
 use core_servants::Servants;
 use core_settings::Settings;
+use core_standing::Standing;
 use poa_base::{Config, Store, WantMemory};
 use std::alloc::Global;
 

@@ -18,7 +18,7 @@ use Rattle.history_standing.specs.Opening.{made_id}
 use Rattle.history_standing.specs.References.{reference_text}
 use Rattle.history_standing.specs.Standings.{Standing, is_active, is_of}
 use Rattle.history_standing.specs.Templates.{policies_at, retains, is_unique, makes_ids, activates_implicitly, servant_number}
-use Rattle.core_queries.specs.Answers.{AnswersAs}
+use Rattle.core_standing.specs.Answers.{AnswersAs}
 
 -- what is done with what is found is the same
 found_same : {A B : Type 0} (f g : A → B) (none : B) (o : Option A) → ((x : A) → f x ≡ g x)

@@ -14,7 +14,7 @@ use Rattle.history_standing.specs.Keys.{key_in}
 use Rattle.history_standing.specs.Standings.{Standing}
 use Rattle.poa_history.specs.Changes.{standing}
 use Rattle.poa_history.specs.Situations.{facts_met, facts_of, is_crowded, key_fact, key_or_none}
-use Rattle.core_queries.specs.Answers.{AnswersAs}
+use Rattle.core_standing.specs.Answers.{AnswersAs}
 
 -- what answers as what stands is met with the same facts
 met_same : (c : Config) (run : ℕ) (past : List Entry) (t : Standing) → AnswersAs c run past t

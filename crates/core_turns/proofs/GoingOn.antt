@@ -17,7 +17,7 @@ use Rattle.history_standing.specs.Stages.{stage}
 use Rattle.history_standing.specs.Standings.{Standing}
 use Rattle.history_standing.specs.Templates.{policies_at, is_unique, rules_at, servant_name}
 use Rattle.poa_history.specs.Turns.{attempt, going_on}
-use Rattle.core_queries.specs.Answers.{AnswersAs, works_on}
+use Rattle.core_standing.specs.Answers.{AnswersAs, works_on}
 
 module _ (c : Config) (run : ℕ) (past : List Entry) (t : Standing) (answers : AnswersAs c run past t) where
   -- the servant activator brings the same

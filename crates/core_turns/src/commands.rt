@@ -15,18 +15,18 @@ ghost use Rattle.history_standing.specs.Standings as stands;
 ghost use Rattle.history_standing.specs.Opening.{made_id as id_made};
 ghost use Rattle.history_standing.specs.References.{reference_text as text_of_reference};
 ghost use Rattle.poa_tree.specs.Nodes as tree;
-ghost use Rattle.core_queries.specs.Seen.{seen};
+ghost use Rattle.core_standing.specs.Seen.{seen};
 ghost use Rattle.core_settings.specs.Told.{Tells};
 
 use crate::references::reference_text;
 use active_map::Activations;
 use active_map::flights::is_tried;
 use active_map::templates::{has_template, manager_number, policies_at, servant_number};
-use core_queries::Standing;
-use core_queries::commands::{is_implicit, live_at, referred};
-use core_queries::ids::{made_id, next};
-use core_queries::searches::is_in_map;
 use core_settings::{Settings, endpoint_of, manager_state};
+use core_standing::Standing;
+use core_standing::asked_commands::{is_implicit, live_at, referred};
+use core_standing::ids::{made_id, next};
+use core_standing::searches::is_in_map;
 use poa_base::limits::ADAPTERS;
 use poa_base::{
     Answer, Command, Config, ManagerState, Name, Oid, Order, Path, Reason, Sid, Verdict, WantMemory,

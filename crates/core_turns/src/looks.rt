@@ -6,14 +6,14 @@ ghost use Rattle.poa_choose.specs.declared.Facts.{Facts as FactsOf};
 ghost use Rattle.history_standing.specs.Arrivals.{call_of};
 ghost use Rattle.poa_history.specs.Situations as situations;
 ghost use Rattle.held_queue.specs.Blocks as blocks;
-ghost use Rattle.core_queries.specs.Answers.{AnswersAs};
-ghost use Rattle.core_queries.specs.Seen.{seen};
+ghost use Rattle.core_standing.specs.Answers.{AnswersAs};
+ghost use Rattle.core_standing.specs.Seen.{seen};
 ghost use Rattle.core_settings.specs.Told.{Tells};
 ghost use Rattle.core_turns.specs.Looks.{looked};
 
 use crate::facts::facts_of;
-use core_queries::Standing;
 use core_settings::Settings;
+use core_standing::Standing;
 use held_queue::Hold;
 use poa_base::{Call, Cause, Config, Verdict, WantMemory};
 use poa_choose::{Choice, Facts, choose};

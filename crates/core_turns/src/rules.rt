@@ -4,12 +4,12 @@ ghost use Rattle.poa_base.specs.declared.Incarnation.TheVariants.{Named, Raise};
 ghost use Rattle.poa_choose.specs.declared.Located.{Located};
 ghost use Rattle.history_standing.specs.Rules as rules;
 ghost use Rattle.history_standing.specs.Templates.{servant_name};
-ghost use Rattle.core_queries.specs.Seen.{seen};
+ghost use Rattle.core_standing.specs.Seen.{seen};
 
 use active_map::templates::{policies_at, rules_at, servant_name};
-use core_queries::Standing;
-use core_queries::rules::rule_for;
-use core_queries::searches::is_in_map;
+use core_standing::Standing;
+use core_standing::rules::rule_for;
+use core_standing::searches::is_in_map;
 use history_standing::Activation;
 use poa_base::{
     Completion, Config, ExcName, Gives, Incarnation, Name, Sid, SysExc, WantMemory, minors,

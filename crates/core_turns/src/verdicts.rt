@@ -4,14 +4,14 @@ ghost use Rattle.poa_base.specs.declared.Entry.{Entry};
 ghost use Rattle.history_standing.specs.Arrivals.{call_of, is_message};
 ghost use Rattle.poa_history.specs.Situations.{is_crowded};
 ghost use Rattle.poa_history.specs.Verdicts as verdicts;
-ghost use Rattle.core_queries.specs.Answers.{AnswersAs};
-ghost use Rattle.core_queries.specs.Seen.{seen};
+ghost use Rattle.core_standing.specs.Answers.{AnswersAs};
+ghost use Rattle.core_standing.specs.Seen.{seen};
 ghost use Rattle.core_settings.specs.Told.{Tells};
 
 use crate::commands::command_verdict;
 use crate::facts::facts_of;
-use core_queries::Standing;
 use core_settings::Settings;
+use core_standing::Standing;
 use poa_base::{Call, Config, Verdict, WantMemory};
 use poa_choose::{Choice, choose};
 use std::alloc::Global;

@@ -5,7 +5,7 @@ use Rattle.std.proofs.lemmas.List.{take-append-drop, reverse-append}
 use Rattle.poa_base.specs.declared.Config.{Config}
 use Rattle.poa_base.specs.declared.Entry.{Entry}
 use Rattle.poa_history.specs.Legal.{IsLegal}
-use Rattle.core_queries.proofs.Onward.{reversed_more}
+use Rattle.core_standing.proofs.Onward.{reversed_more}
 use Rattle.model_legal.specs.Illegal.{IsFirstIllegal}
 
 -- an entry stands below the length

@@ -9,8 +9,8 @@ ghost use Rattle.model_legal.specs.Workers.{is_step};
 
 use crate::arriving::{arrived_bytes, had_shutdown, has_left, is_filled};
 use crate::same::is_that;
-use core_queries::calls::{arrivals, connections};
-use core_queries::workers::is_abandoned;
+use core_standing::calls::{arrivals, connections};
+use core_standing::workers::is_abandoned;
 use model_replies::slow_next_reply;
 use poa_base::limits::CONNECTIONS;
 use poa_base::{Call, Config, Entry, Store, WantMemory};

@@ -6,7 +6,7 @@ use Rattle.poa_base.specs.declared.Entry.{Entry}
 use Rattle.history_standing.specs.Arrivals.{arrivals}
 use Rattle.history_standing.specs.Searches.{least}
 use Rattle.poa_history.specs.Replies.{is_asked, is_collected, decided, next_within}
-use Rattle.core_queries.proofs.Onward.{reversed_more}
+use Rattle.core_standing.proofs.Onward.{reversed_more}
 
 -- an element stands below the length
 some_at : {A : Type 0} (h : List A) (i : ℕ) → i < length h → (e : A) × (e ≡ get_or h i e)

@@ -6,7 +6,7 @@ ghost use Rattle.history_standing.specs.Searches.{least};
 
 use crate::deciding::decided;
 use crate::owing::is_asked;
-use core_queries::calls::arrivals;
+use core_standing::calls::arrivals;
 use poa_base::{Config, Entry, WantMemory};
 use std::alloc::Global;
 

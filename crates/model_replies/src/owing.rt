@@ -4,8 +4,8 @@ ghost use Rattle.poa_history.specs.Replies as replies;
 ghost use Rattle.history_standing.specs.Stages as begun;
 
 use crate::deciding::decided;
-use core_queries::calls::{arrivals, call_of, conn_of};
 use core_replies::asks;
+use core_standing::calls::{arrivals, call_of, conn_of};
 use poa_base::{Config, Entry, WantMemory};
 use std::alloc::Global;
 

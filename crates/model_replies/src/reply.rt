@@ -10,10 +10,10 @@ use crate::deciding::{decided, is_at_work};
 use crate::entries::kept_of;
 use crate::kept::state_in;
 use crate::servants::{call_run, servant_run};
-use core_queries::calls::call_of;
-use core_queries::workers::stage;
 use core_replies::{good, reply_admitted, reply_incarnated, reply_tried};
 use core_settings::settings_of;
+use core_standing::calls::call_of;
+use core_standing::workers::stage;
 use poa_base::{Attempt, Call, Config, Entry, Reply, Sid, Store, WantMemory};
 use std::alloc::Global;
 

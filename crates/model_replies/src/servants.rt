@@ -1,14 +1,13 @@
 //! Which servant runs, and what it runs.
 ghost use Rattle.std.specs.Prelude.{◌≡◌, reverse, option_copied, IfOk};
 ghost use Rattle.poa_history.specs.States as states;
-ghost use Rattle.core_queries.specs.Seen.{seen};
+ghost use Rattle.core_standing.specs.Seen.{seen};
 
 use active_map::templates::servant_number;
-use core_queries::Standing;
-use core_queries::calls::call_of;
-use core_queries::searches::activation_numbered;
-use core_queries::workers::admitted;
-use core_standing::standing_of;
+use core_standing::calls::call_of;
+use core_standing::searches::activation_numbered;
+use core_standing::workers::admitted;
+use core_standing::{Standing, standing_of};
 use history_standing::{Activation, Phase, Stage};
 use poa_base::{Call, Config, Entry, Name, Sid, Verdict, WantMemory};
 use std::alloc::Global;

@@ -8,8 +8,8 @@ use Rattle.history_standing.specs.Arrivals.{arrivals}
 use Rattle.history_standing.specs.Stages.{stage}
 use Rattle.poa_history.specs.States.{servant_run}
 use Rattle.history_openings.specs.Runs.{IsRun}
-use Rattle.core_queries.specs.Answers.{AnswersAs}
-use Rattle.core_queries.specs.Seen.{seen}
+use Rattle.core_standing.specs.Answers.{AnswersAs}
+use Rattle.core_standing.specs.Seen.{seen}
 use Rattle.core_standing.specs.Entries.{stage_at}
 use Rattle.core_arrivals.specs.Placed.{KnowsCalls}
 use Rattle.core_replies.specs.Comes.{call_at}

@@ -5,7 +5,7 @@ use Rattle.poa_base.specs.declared.Config.{Config}
 use Rattle.poa_base.specs.Store.{Slots}
 use Rattle.poa_base.specs.declared.Entry.{Entry}
 use Rattle.history_standing.specs.declared.stage.Stage.{Stage}
-use Rattle.core_queries.specs.Seen.{seen}
+use Rattle.core_standing.specs.Seen.{seen}
 use Rattle.core_outboxes.specs.Desk.{Comes}
 use Rattle.core_state.proofs.Stated.{answers_state}
 use Rattle.poa_core.specs.declared.inside.Inside.{Inside}

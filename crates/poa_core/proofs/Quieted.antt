@@ -8,7 +8,7 @@ use Rattle.history_standing.specs.declared.stage.Stage.TheVariants.{Free}
 use Rattle.poa_history.specs.States.{Stored}
 use Rattle.history_openings.specs.Runs.{IsRun}
 use Rattle.history_openings.proofs.Opened.{given, within}
-use Rattle.core_queries.specs.Seen.{seen}
+use Rattle.core_standing.specs.Seen.{seen}
 use Rattle.held_queue.specs.Frees.{nothing, freed_by}
 use Rattle.core_standing.specs.Entries.{stage_at, changes_nothing}
 use Rattle.core_standing.proofs.Settled.{nothing_changed}

@@ -5,8 +5,8 @@ use Rattle.history_standing.specs.Standings.{Standing}
 use Rattle.poa_history.specs.Changes.{standing}
 use Rattle.poa_history.specs.Turns.{removal}
 use Rattle.active_map.specs.Live.{live}
-use Rattle.core_queries.specs.Numbers.{below}
-use Rattle.core_queries.specs.Seen.{seen}
+use Rattle.core_standing.specs.Numbers.{below}
+use Rattle.core_standing.specs.Seen.{seen}
 use Rattle.held_queue.specs.Held.{AreHeld}
 use Rattle.held_queue.specs.Waiting.{is_waiting}
 use Rattle.core_arrivals.specs.Queued.{is_waiting_line}

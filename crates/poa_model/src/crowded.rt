@@ -4,8 +4,8 @@ ghost use Rattle.history_standing.specs.Arrivals as calls;
 ghost use Rattle.history_standing.specs.Stages as begun;
 ghost use Rattle.poa_history.specs.Situations as situations;
 
-use core_queries::calls::{arrivals, call_of, is_message};
-use core_queries::workers::admitted;
+use core_standing::calls::{arrivals, call_of, is_message};
+use core_standing::workers::admitted;
 use poa_base::Entry;
 use poa_base::limits::UNADMITTED;
 

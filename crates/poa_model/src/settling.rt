@@ -6,11 +6,11 @@ ghost use Rattle.poa_history.specs.Changes.{standing};
 ghost use Rattle.history_standing.specs.Opening.{number_at as number_of_path};
 
 use active_map::templates::manager_number;
-use core_queries::calls::call_of;
-use core_queries::commands::{command_in, done_by, number_at};
-use core_queries::ends::is_gone;
-use core_queries::orders::{are_ended, is_quiet};
 use core_settings::order_for;
+use core_standing::asked_commands::{command_in, done_by, number_at};
+use core_standing::calls::call_of;
+use core_standing::ends::is_gone;
+use core_standing::orders::{are_ended, is_quiet};
 use core_standing::standing_of;
 use poa_base::{Command, Config, Entry, Name, Order, WantMemory};
 use std::alloc::Global;

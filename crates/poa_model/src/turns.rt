@@ -6,9 +6,9 @@ ghost use Rattle.history_standing.specs.declared.stage.Stage.TheVariants.{Free};
 ghost use Rattle.poa_history.specs.Turns as turns;
 
 use crate::verdicts::slow_verdict;
-use core_queries::calls::arrivals;
-use core_queries::workers::{admitted, stage};
+use core_standing::calls::arrivals;
 use core_standing::standing_of;
+use core_standing::workers::{admitted, stage};
 use core_turns::{going_on, removal};
 use history_standing::Stage;
 use poa_base::{Config, Entry, Store, WantMemory};

@@ -3,8 +3,8 @@ ghost use Rattle.std.specs.Prelude.{◌≡◌, reverse, IfOk};
 ghost use Rattle.poa_history.specs.Verdicts as verdicts;
 
 use crate::crowded::is_crowded;
-use core_queries::calls::call_of;
 use core_settings::settings_of;
+use core_standing::calls::call_of;
 use core_standing::standing_of;
 use core_turns::verdict_on;
 use poa_base::{Config, Entry, Store, Verdict, WantMemory};

@@ -5,7 +5,7 @@ ghost use Rattle.poa_history.specs.Legal.{IsLegal};
 ghost use Rattle.poa_history.specs.Lifetime.{HasLifetime};
 ghost use Rattle.poad_load.specs.Counts as counts;
 
-use core_queries::workers::brings;
+use core_standing::workers::brings;
 use journal_entries::{Entries, EntryView, Row};
 use poa_base::Entry;
 use poa_core::Core;

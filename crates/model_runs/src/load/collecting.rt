@@ -6,7 +6,7 @@
 use crate::fault::Fault;
 use crate::load::due::Due;
 use crate::load::play::{CONNECTIONS, Play};
-use core_queries::calls::conn_of;
+use core_standing::calls::conn_of;
 use model_replies::{decided, slow_next_reply};
 use poa_base::Entry;
 use std::mem;

@@ -3,7 +3,7 @@ use crate::fault::Fault;
 use crate::load::calls::{object_id, path};
 use crate::load::play::Play;
 use crate::load::replies::reply_bytes;
-use core_queries::workers::brings;
+use core_standing::workers::brings;
 use model_replies::{Kept, kept_of, stored_in};
 use poa_base::{Entry, State};
 use std::alloc::Global;

@@ -4,7 +4,7 @@ use crate::load::calls::{deactivation, request, shutdown};
 use crate::load::draw::Draw;
 use crate::load::due::Due;
 use conf_toml::read_config;
-use core_queries::calls::arrivals;
+use core_standing::calls::arrivals;
 use poa_base::{Call, Config, Entry, Store};
 use poa_model::slow_next;
 use poad_load::CONFIGURATION;

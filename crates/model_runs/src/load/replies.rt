@@ -5,8 +5,8 @@
 use crate::fault::Fault;
 use crate::load::calls::head;
 use crate::load::play::Play;
-use core_queries::calls::call_of;
-use core_queries::workers::{arrival_in, stage};
+use core_standing::calls::call_of;
+use core_standing::workers::{arrival_in, stage};
 use giop_answer::write_reply;
 use model_replies::{Kept, ServantState, slow_reply};
 use poa_base::{Bytes, Call, Datum, Entry, Incarnation, Outcome, Reply, State};

@@ -3,7 +3,7 @@ use crate::fault::Fault;
 use crate::scripts::replies::{put_reply, request_id};
 use active_map::templates::{has_template, policies_at};
 use conf_toml::read_config;
-use core_queries::calls::call_of;
+use core_standing::calls::call_of;
 use core_standing::standing_of;
 use model_legal::first_illegal;
 use model_replies::{slow_next_reply, slow_owed, slow_reply};

@@ -2,7 +2,7 @@ use Rattle.std.proofs.Common.{◌≡◌, ap, sym, subst, ◌∙◌}
 use Rattle.poa_base.specs.declared.Entry.{Entry as EntryOf}
 use Rattle.held_queue.specs.Frees as frees
 use Rattle.core_standing.specs.Entries.{stage_at}
-use Rattle.core_queries.specs.Seen.{seen}
+use Rattle.core_standing.specs.Seen.{seen}
 use Rattle.core_arrivals.proofs.FreesAs.{etherealizing_kept}
 use Rattle.core_arrivals.proofs.freeing.freed_by.Goals as goal
 

@@ -5,7 +5,7 @@ use Rattle.held_queue.specs.declared.freed.Freed.{Freed}
 use Rattle.held_queue.specs.Frees.{landing}
 use Rattle.history_standing.specs.declared.flight.Flight.{Flight}
 use Rattle.poa_history.specs.Turns.{flight_of}
-use Rattle.core_queries.specs.Seen.{seen}
+use Rattle.core_standing.specs.Seen.{seen}
 use Rattle.core_arrivals.proofs.freeing.landing.Goals as goal
 
 pub returns-in-Some-flight_of : goal.returns-in-Some-flight_of

@@ -2,8 +2,8 @@ use Rattle.std.proofs.Common.{◌==◌, sym, subst, ap, ◌∙◌}
 use Rattle.std.specs.List.{list_any}
 use Rattle.history_standing.specs.Arrivals.{arrivals}
 use Rattle.held_queue.specs.Waiting.{is_waiting}
-use Rattle.core_queries.specs.Numbers.{Ascends}
-use Rattle.core_queries.proofs.Numbers.{ascending}
+use Rattle.core_standing.specs.Numbers.{Ascends}
+use Rattle.core_standing.proofs.Numbers.{ascending}
 use Rattle.core_arrivals.proofs.Queueing.{waiting_told}
 use Rattle.core_arrivals.proofs.queue.waits.Goals as goal
 

@@ -2,7 +2,7 @@ use Rattle.std.proofs.Common.{◌≡◌, reverse, IfOk, sym, ap, subst, ◌∙�
 use Rattle.history_standing.specs.declared.stage.Stage.TheVariants.{Serving}
 use Rattle.history_standing.specs.Stages.{arrival_in, stage}
 use Rattle.poa_history.specs.States.{servant_by, servant_run}
-use Rattle.core_queries.specs.Seen.{seen}
+use Rattle.core_standing.specs.Seen.{seen}
 use Rattle.core_effects.proofs.Admitted.{still_admitted}
 use Rattle.core_effects.proofs.serving.servant_in.Goals as goal
 

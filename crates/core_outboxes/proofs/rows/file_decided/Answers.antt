@@ -1,7 +1,7 @@
 use Rattle.std.proofs.Common.{◌≡◌, ◌<◌, ◌∙◌, ◌++◌, ◌∷◌, ◌==◌, [], ap, arith, filter, get_or, length, map, not, rules, take}
 use Rattle.std.specs.List.{list_any}
 use Rattle.history_standing.specs.Stages as begun
-use Rattle.core_queries.specs.Seen.{seen}
+use Rattle.core_standing.specs.Seen.{seen}
 use Rattle.core_outboxes.specs.Desk as desks
 use Rattle.core_outboxes.specs.Outboxes.{replies_at}
 use Rattle.core_outboxes.proofs.Filing.{file_step, kept_step, next_first, some_of}

@@ -2,7 +2,7 @@ use Rattle.std.proofs.Common.{◌≡◌, ◌==◌, ◌≤◌, ◌++◌, ℕ, fal
 use Rattle.std.specs.VecDeque.{deque_len, deque_capacity}
 use Rattle.std.specs.List.{list_any}
 use Rattle.history_standing.specs.Stages as begun
-use Rattle.core_queries.specs.Seen.{seen}
+use Rattle.core_standing.specs.Seen.{seen}
 use Rattle.core_outboxes.specs.Desk as desks
 use Rattle.core_outboxes.specs.Outboxes.{HasRoomAt, awaited_at, replies_at}
 use Rattle.core_outboxes.proofs.rows.file_decided.Given as goal

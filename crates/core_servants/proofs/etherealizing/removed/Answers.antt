@@ -1,5 +1,5 @@
 use Rattle.std.proofs.Common.{◌∙◌, sym, ap}
-use Rattle.core_queries.specs.Seen.{seen}
+use Rattle.core_standing.specs.Seen.{seen}
 use Rattle.core_servants.specs.Steps as steps
 use Rattle.core_servants.proofs.etherealizing.removed.Goals as goal
 

@@ -1,8 +1,8 @@
 use Rattle.std.proofs.Common.{ℕ, List, false, ◌∙◌, ◌<◌, ap, ap₂, sym, subst}
 use Rattle.history_standing.specs.declared.activation.Activation.{Activation}
-use Rattle.core_queries.specs.Seen.{seen, behind}
+use Rattle.core_standing.specs.Seen.{seen, behind}
 use Rattle.active_map.specs.Tables.{Table}
-use Rattle.core_queries.proofs.Behind.{length_behind, pushed_behind}
+use Rattle.core_standing.proofs.Behind.{length_behind, pushed_behind}
 use Rattle.core_standing.proofs.beginning.add_activation.Goals as goal
 
 pub push-requires-clause-next : goal.push-requires-clause-next

@@ -1,6 +1,6 @@
 use Rattle.std.proofs.Common.{◌≡◌, drop}
 use Rattle.history_standing.specs.Opening as opens
-use Rattle.core_queries.specs.Seen.{seen}
+use Rattle.core_standing.specs.Seen.{seen}
 use Rattle.core_standing.proofs.beginning.add_objects.Given as goal
 
 abbrev pub invariant-loop-object : goal.invariant-loop-object

@@ -1,6 +1,6 @@
 use Rattle.std.proofs.Common.{◌≡◌, rules}
 use Rattle.history_standing.specs.Opening as opens
-use Rattle.core_queries.specs.Seen.{seen}
+use Rattle.core_standing.specs.Seen.{seen}
 use Rattle.core_standing.proofs.Overs.{opening_over}
 use Rattle.core_standing.proofs.beginning.opening.Goals as goal
 

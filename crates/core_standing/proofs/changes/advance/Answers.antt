@@ -2,7 +2,7 @@ use Rattle.std.proofs.Common.{◌∙◌, ap, subst, sym}
 use Rattle.std.proofs.lemmas.Bool.{true≢false}
 use Rattle.poa_history.specs.Changes.{changed}
 use Rattle.history_standing.specs.Ends.{settled}
-use Rattle.core_queries.specs.Seen.{seen}
+use Rattle.core_standing.specs.Seen.{seen}
 use Rattle.core_standing.specs.Touched.{Others, Still, is_touched}
 use Rattle.core_standing.proofs.Staying.{standing_still}
 use Rattle.core_standing.proofs.Settled.{still_after}

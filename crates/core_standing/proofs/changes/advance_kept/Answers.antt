@@ -1,7 +1,7 @@
 use Rattle.std.proofs.Common.{◌∙◌, sym, subst}
 use Rattle.poa_history.specs.Changes.{changed}
-use Rattle.core_queries.specs.Kept.{KeepsNoneOver}
-use Rattle.core_queries.specs.Seen.{seen}
+use Rattle.core_standing.specs.Kept.{KeepsNoneOver}
+use Rattle.core_standing.specs.Seen.{seen}
 use Rattle.core_standing.specs.Touched.{Others, OverTouched, is_touched}
 use Rattle.core_standing.proofs.Lasting.{lasts_where}
 use Rattle.core_standing.proofs.Staying.{kept_still}

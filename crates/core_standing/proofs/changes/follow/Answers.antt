@@ -1,6 +1,6 @@
 use Rattle.std.proofs.Common.{◌∙◌, reverse, take, ap, sym}
 use Rattle.poa_history.specs.Changes.{standing}
-use Rattle.core_queries.proofs.Onward.{reversed_more}
+use Rattle.core_standing.proofs.Onward.{reversed_more}
 use Rattle.core_standing.proofs.changes.follow.Goals as goal
 
 pub loop-i-preserved : goal.loop-i-preserved

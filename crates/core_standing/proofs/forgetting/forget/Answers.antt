@@ -1,8 +1,8 @@
 use Rattle.std.proofs.Common.{◌==◌, ◌&&◌, inl, inr, refl, sym, ap, ◌∙◌}
 use Rattle.std.proofs.lemmas.Bool.{and_cases, and_parts, true≢false}
 use Rattle.history_standing.specs.Ends.{is_over}
-use Rattle.core_queries.specs.Seen.{seen}
-use Rattle.core_queries.proofs.Itself.{stands_itself}
+use Rattle.core_standing.specs.Seen.{seen}
+use Rattle.core_standing.proofs.Itself.{stands_itself}
 use Rattle.core_standing.specs.Touched.{is_touched}
 use Rattle.core_standing.proofs.Forgotten.{forgets_some, none_left}
 use Rattle.core_standing.proofs.Staying.{turned}

@@ -1,5 +1,5 @@
 use Rattle.std.proofs.Common.{◌≡◌, ◌<◌, ◌-◌, suc, length, sym, arith}
-use Rattle.core_queries.specs.Seen.{seen}
+use Rattle.core_standing.specs.Seen.{seen}
 use Rattle.core_standing.proofs.Dropping.{node_kept, node_removed}
 use Rattle.core_standing.proofs.settling.drop_gone.Goals as goal
 

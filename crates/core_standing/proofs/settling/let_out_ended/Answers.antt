@@ -1,7 +1,7 @@
 use Rattle.std.proofs.Common.{◌==◌, ◌∙◌, ap, sym}
 use Rattle.poa_history.specs.Changes.{at_number}
 use Rattle.history_standing.specs.Ends.{let_out}
-use Rattle.core_queries.specs.Seen.{forgotten, seen}
+use Rattle.core_standing.specs.Seen.{forgotten, seen}
 use Rattle.core_standing.specs.Touched.{is_touched}
 use Rattle.core_standing.proofs.Still.{changed_each, still_in, still_where}
 use Rattle.core_standing.proofs.Staying.{none_goes, one_goes}

@@ -1,5 +1,5 @@
 use Rattle.std.proofs.Common.{◌∙◌, sym, ap}
-use Rattle.core_queries.specs.Seen.{seen}
+use Rattle.core_standing.specs.Seen.{seen}
 use Rattle.core_standing.proofs.Overs.{kept_none}
 use Rattle.core_settings.specs.Told.{may_grow}
 use Rattle.core_state.proofs.Stated.{ok_then, quiet_state, admits_quietly, done_is, admitted_is, growing_stays}

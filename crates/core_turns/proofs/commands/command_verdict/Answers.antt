@@ -1,7 +1,7 @@
 use Rattle.std.proofs.Common.{◌≡◌, sym, subst}
 use Rattle.std.specs.Prelude.{IfOk}
 use Rattle.history_standing.specs.Commands.{command_verdict}
-use Rattle.core_queries.specs.Seen.{seen}
+use Rattle.core_standing.specs.Seen.{seen}
 use Rattle.core_turns.proofs.commands.command_verdict.Goals as goal
 
 pub returns-in-Manager : goal.returns-in-Manager

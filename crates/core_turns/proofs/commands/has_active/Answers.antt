@@ -1,8 +1,8 @@
 use Rattle.std.proofs.Common.{◌∙◌, ◌&&◌, ap, sym, refl}
 use Rattle.std.specs.List.{list_any}
 use Rattle.history_standing.specs.Standings.{is_active, is_of}
-use Rattle.core_queries.specs.Seen.{forgotten}
-use Rattle.core_queries.proofs.Behind.{any_behind, second_fails}
+use Rattle.core_standing.specs.Seen.{forgotten}
+use Rattle.core_standing.proofs.Behind.{any_behind, second_fails}
 use Rattle.core_turns.proofs.commands.has_active.Goals as goal
 
 pub returns : goal.returns

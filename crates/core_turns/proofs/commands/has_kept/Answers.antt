@@ -2,8 +2,8 @@ use Rattle.std.proofs.Common.{◌∙◌, not, ◌&&◌, ap, sym, refl}
 use Rattle.std.specs.List.{list_any}
 use Rattle.history_standing.specs.Ends.{is_over}
 use Rattle.history_standing.specs.Standings.{is_of}
-use Rattle.core_queries.specs.Seen.{forgotten}
-use Rattle.core_queries.proofs.Behind.{any_behind, second_fails}
+use Rattle.core_standing.specs.Seen.{forgotten}
+use Rattle.core_standing.proofs.Behind.{any_behind, second_fails}
 use Rattle.core_turns.proofs.commands.has_kept.Goals as goal
 
 pub returns : goal.returns

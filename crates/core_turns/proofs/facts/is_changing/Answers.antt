@@ -1,7 +1,7 @@
 use Rattle.std.proofs.Common.{◌∙◌, ◌==◌, ◌&&◌, sym, refl}
 use Rattle.poa_history.specs.Situations.{is_unfinished}
-use Rattle.core_queries.specs.Seen.{forgotten}
-use Rattle.core_queries.proofs.Behind.{any_behind, second_fails}
+use Rattle.core_standing.specs.Seen.{forgotten}
+use Rattle.core_standing.proofs.Behind.{any_behind, second_fails}
 use Rattle.core_turns.proofs.facts.is_changing.Goals as goal
 
 pub returns : goal.returns

@@ -2,8 +2,8 @@ use Rattle.std.proofs.Common.{◌∙◌, not, ◌&&◌, Some, None, ap₂, sym, 
 use Rattle.poa_choose.specs.declared.MapFact.TheVariants.{Active, Busy, Free}
 use Rattle.history_standing.specs.Ends.{is_over}
 use Rattle.history_standing.specs.Standings.{is_active, is_of}
-use Rattle.core_queries.specs.Seen.{forgotten}
-use Rattle.core_queries.proofs.Behind.{find_behind, second_fails}
+use Rattle.core_standing.specs.Seen.{forgotten}
+use Rattle.core_standing.proofs.Behind.{find_behind, second_fails}
 use Rattle.core_turns.proofs.facts.slot_of.Goals as goal
 
 pub returns : goal.returns

@@ -1,6 +1,6 @@
 use Rattle.std.proofs.Common.{rules}
 use Rattle.poa_history.specs.Turns.{is_due}
-use Rattle.core_queries.specs.Seen.{seen}
+use Rattle.core_standing.specs.Seen.{seen}
 use Rattle.core_turns.proofs.Due.{due_leaves}
 use Rattle.core_turns.proofs.turns.first_due.Goals as goal
 

@@ -1,7 +1,7 @@
 use Rattle.std.proofs.Common.{◌≡◌, ◌==◌, find}
 use Rattle.std.specs.List.{filter_map}
 use Rattle.poa_history.specs.Turns.{is_due}
-use Rattle.core_queries.specs.Seen.{seen}
+use Rattle.core_standing.specs.Seen.{seen}
 use Rattle.core_turns.proofs.turns.first_due.Given as goal
 
 abbrev pub invariant-loop-number : goal.invariant-loop-number

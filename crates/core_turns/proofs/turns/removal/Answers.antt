@@ -3,8 +3,8 @@ use Rattle.std.specs.Option.{option_copied, option_map}
 use Rattle.poa_base.specs.declared.Entry.TheVariants.{TakeOut}
 use Rattle.history_standing.specs.declared.activation.Activation.{Activation}
 use Rattle.poa_history.specs.Turns.{is_due}
-use Rattle.core_queries.specs.Seen.{seen}
-use Rattle.core_queries.proofs.Behind.{find_behind}
+use Rattle.core_standing.specs.Seen.{seen}
+use Rattle.core_standing.proofs.Behind.{find_behind}
 use Rattle.core_turns.proofs.turns.removal.Goals as goal
 
 pub returns-in-Some : goal.returns-in-Some

@@ -1,7 +1,7 @@
 use Rattle.std.proofs.Common.{◌≡◌, ◌∙◌, Some, ap, sym, subst}
 use Rattle.std.specs.Prelude.{IfOk}
 use Rattle.poa_history.specs.Verdicts.{verdict, verdict_on}
-use Rattle.core_queries.specs.Seen.{seen}
+use Rattle.core_standing.specs.Seen.{seen}
 use Rattle.core_turns.proofs.CommandsAre.{command_same}
 use Rattle.core_turns.proofs.verdicts.verdict_on.Goals as goal
 

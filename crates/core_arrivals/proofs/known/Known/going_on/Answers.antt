@@ -1,6 +1,6 @@
 use Rattle.std.proofs.Common.{◌≡◌, subst}
 use Rattle.std.specs.Prelude.{IfOk}
-use Rattle.core_queries.specs.Seen.{seen}
+use Rattle.core_standing.specs.Seen.{seen}
 use Rattle.core_turns.proofs.GoingOn.{going_same}
 use Rattle.core_arrivals.specs.Told.{history}
 use Rattle.core_arrivals.proofs.known.Known.going_on.Goals as goal

@@ -1,7 +1,7 @@
 use Rattle.std.proofs.Common.{◌∙◌, ◌++◌, ◌==◌, ap, filter, map, not, refl, sym}
 use Rattle.std.specs.List.{list_any}
 use Rattle.history_standing.specs.Stages as begun
-use Rattle.core_queries.specs.Seen.{seen}
+use Rattle.core_standing.specs.Seen.{seen}
 use Rattle.core_outboxes.specs.Desk as desks
 use Rattle.core_outboxes.specs.Owed.{has_wait}
 use Rattle.core_outboxes.specs.Outboxes.{replies_at}

@@ -1,5 +1,0 @@
-use Rattle.core_queries.proofs.KeysRead.{key_is_seen}
-use Rattle.core_queries.proofs.keys.key_of.Goals as goal
-
-pub returns : goal.returns
-returns c = key_is_seen _ _ c.view_key.ensures.spelled c.view_key.ensures.bad

@@ -1,0 +1,12 @@
+use Rattle.std.proofs.Common.{◌∙◌, ◌==◌, ◌&&◌, sym, refl}
+use Rattle.history_standing.specs.Standings as stands
+use Rattle.core_standing.specs.Seen.{forgotten}
+use Rattle.core_standing.proofs.Behind.{find_behind, second_fails}
+use Rattle.core_standing.proofs.searches.mapped.Goals as goal
+
+pub returns : goal.returns
+returns c =
+    (let s = c.args.standing.now in
+    c.first_mapped.ensures
+    ∙ sym (find_behind (λ a. (a.adapter == c.args.adapter) && (stands.is_mapped a && stands.has_servant c.args.servant a))
+    (second_fails (forgotten.adapter == c.args.adapter) _ refl) s.activations.forgotten s.activations.kept))
