@@ -3,8 +3,8 @@ ghost use Rattle.std.specs.Prelude.{◌≡◌, IfOk, vec_len};
 
 use outside_sockets::{Ears, MioDoor, listen};
 use poa_base::Config;
+use poad_cmd::Doors;
 use poad_files::Status;
-use poad_serve::Doors;
 use std::alloc::Global;
 use std::io;
 use std::io::ErrorKind;

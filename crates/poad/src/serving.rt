@@ -4,8 +4,8 @@ use command_words::{Plan, plan_of};
 use outside::{Files, ThreadCrew};
 use outside_sockets::WaitingGate;
 use poa_base::Config;
+use poad_cmd::run_serve;
 use poad_files::{Host, Status, take_config};
-use poad_serve::run_serve;
 use std::sync::{Arc, Wait};
 use std::thread::Threads;
 

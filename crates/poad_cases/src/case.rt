@@ -5,7 +5,7 @@ use crate::door_case::DoorCase;
 use crate::link_case::LinkCase;
 use anyhow::{Context, Result};
 use outside_memory::{MemDoor, Signal};
-use poad_serve::Doors;
+use poad_cmd::Doors;
 use std::alloc::Global;
 
 /// The words of a command line, standard input and output, the doors, what fails, and what is printed beside the doors.

@@ -6,7 +6,7 @@ use crate::report::Report;
 use anyhow::Result;
 use outside_memory::{MemDoor, MemLink};
 use poa_base::Session;
-use poad_serve::Doors;
+use poad_cmd::Doors;
 use session_laws::Peer;
 
 impl Report {

@@ -6,7 +6,7 @@ use anyhow::{Result, bail};
 use command_words::plan_of;
 use outside::{Gate, MemFiles, OpenGate, ThreadCrew};
 use outside_memory::{HoldGate, MemDoor, Signal};
-use poad_serve::{Served, run_serve};
+use poad_cmd::{Served, run_serve};
 use std::alloc::Global;
 use std::sync::{Arc, Wait};
 use std::thread::Threads;

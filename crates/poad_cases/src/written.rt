@@ -3,7 +3,7 @@ use crate::report::Report;
 use anyhow::Result;
 use giop_frame::{Next, frame};
 use outside_memory::MemDoor;
-use poad_serve::Doors;
+use poad_cmd::Doors;
 use std::alloc::Global;
 use text_words::{parts, put_octets};
 

@@ -1,2 +1,4 @@
 pub mod Played
 pub mod Commanded
+pub mod Statuses
+pub mod Telling

@@ -1,2 +1,6 @@
 pub mod Playing
 pub mod Commands
+pub mod Beginning
+pub mod Putting
+pub mod Ending
+pub mod Serving

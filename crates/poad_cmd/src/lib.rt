@@ -4,7 +4,15 @@
 //! print what a configuration has.
 #![tactic(auto)]
 
+mod beginning;
+mod ending;
 mod playing;
+mod putting;
 mod run;
+mod serve;
+mod served;
 
 pub use run::run_words;
+pub use serve::run_serve;
+pub use serve_run::Doors;
+pub use served::Served;

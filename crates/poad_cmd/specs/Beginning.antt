@@ -10,7 +10,7 @@ use Rattle.run_history.specs.Life.{Life, begun}
 use Rattle.poad_files.specs.Taking.{TakesConfig}
 use Rattle.poad_files.specs.declared.status.Status.{Status}
 use Rattle.poad_files.specs.declared.status.Status.TheVariants.{BadWords, WantMemory}
-use Rattle.poad_serve.specs.declared.beginning.Beginning.{Beginning}
+use Rattle.poad_cmd.specs.declared.beginning.Beginning.{Beginning}
 
 -- what the words ask for, or why they ask for no run
 abbrev pub IsAsked : Option Serve → Result ServeWords Status → Type 0

@@ -15,10 +15,10 @@ use Rattle.poad_files.specs.declared.status.Status.{Status}
 use Rattle.poad_files.specs.declared.status.Status.TheVariants.{NoThread}
 use Rattle.std.specs.Option.{is_some, option_or}
 use Rattle.std.specs.Result.{is_err}
-use Rattle.poad_serve.specs.Ending.{AnyRose, EachSteady, IsLimit, is_unput, status_of, wants_memory}
-use Rattle.poad_serve.specs.Beginning.{IsBegun}
-use Rattle.poad_serve.specs.Serving.{Ends, ServesOn, Tells}
-use Rattle.poad_serve.proofs.Statuses.{fine_told, limit_is, limit_told, listen_told, no_memory_wanted, none_full, none_short, not_lost, not_short, thread_short, thread_told}
+use Rattle.poad_cmd.specs.Ending.{AnyRose, EachSteady, IsLimit, is_unput, status_of, wants_memory}
+use Rattle.poad_cmd.specs.Beginning.{IsBegun}
+use Rattle.poad_cmd.specs.Serving.{Ends, ServesOn, Tells}
+use Rattle.poad_cmd.proofs.Statuses.{fine_told, limit_is, limit_told, listen_told, no_memory_wanted, none_full, none_short, not_lost, not_short, thread_short, thread_told}
 use Rattle.run_history.specs.Life.{Life}
 use Rattle.run_history.specs.declared.givens.Givens.{Givens}
 use Rattle.run_tally.specs.Limits.{filled_at}

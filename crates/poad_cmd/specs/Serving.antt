@@ -11,9 +11,9 @@ use Rattle.poa_base.specs.declared.Entry.{Entry}
 use Rattle.poad_files.specs.Taking.{HoldsStill}
 use Rattle.poad_files.specs.declared.status.Status.{Status}
 use Rattle.poad_files.specs.declared.status.Status.TheVariants.{Ok as Fine, WantMemory, NoThread, ListenFault, Limit}
-use Rattle.poad_serve.specs.Beginning.{IsBegun, IsRefused}
-use Rattle.poad_serve.specs.Ending.{AnyRose, EachSteady, IsLimit, status_of}
-use Rattle.poad_serve.specs.Putting.{PutsJournal}
+use Rattle.poad_cmd.specs.Beginning.{IsBegun, IsRefused}
+use Rattle.poad_cmd.specs.Ending.{AnyRose, EachSteady, IsLimit, status_of}
+use Rattle.poad_cmd.specs.Putting.{PutsJournal}
 use Rattle.run_history.specs.Life.{Life, givens_of}
 use Rattle.run_history.specs.declared.givens.Givens.{Givens}
 use Rattle.run_tally.specs.Limits.{filled_at}

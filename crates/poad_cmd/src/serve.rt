@@ -2,8 +2,8 @@
 ghost use Rattle.std.specs.Prelude.{◌≡◌, ◌≢◌, [], Some, None, vec_len};
 ghost use Rattle.command_words.specs.Serving.{Serve, seen_serve, serve_in};
 ghost use Rattle.outside.specs.Cause.{HasCause, Rose};
-ghost use Rattle.poad_serve.specs.Serving.{Ends, ServesOn};
-ghost use Rattle.poad_serve.specs.Beginning.{IsInRange};
+ghost use Rattle.poad_cmd.specs.Serving.{Ends, ServesOn};
+ghost use Rattle.poad_cmd.specs.Beginning.{IsInRange};
 
 use crate::beginning::{Beginning, begin};
 use crate::ending::status_of;

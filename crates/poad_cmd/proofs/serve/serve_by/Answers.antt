@@ -1,10 +1,10 @@
 use Rattle.std.proofs.Common.{sym, subst}
 use Rattle.std.specs.Prelude.{IfSome}
-use Rattle.poad_serve.proofs.Telling.{no_thread, tells}
+use Rattle.poad_cmd.proofs.Telling.{no_thread, tells}
 use Rattle.run_history.specs.Life.{givens_of}
 use Rattle.serve_run.specs.Running.{IsServedRun}
 use Rattle.serve_run.specs.Threads.{CountsThreads}
-use Rattle.poad_serve.proofs.run.serve_by.Goals as goal
+use Rattle.poad_cmd.proofs.serve.serve_by.Goals as goal
 
 pub returns-clause-serves : goal.returns-clause-serves
 returns-clause-serves g c =

@@ -1,6 +1,6 @@
 //! How a run ended.
 ghost use Rattle.std.specs.Prelude.{◌≡◌};
-ghost use Rattle.poad_serve.specs.Ending as spec;
+ghost use Rattle.poad_cmd.specs.Ending as spec;
 
 use outside::Put;
 use poa_base::WantMemory;

@@ -4,7 +4,7 @@ ghost use Rattle.outside.specs.Cause.{HasCause};
 ghost use Rattle.outside.specs.Told.{IfTold};
 ghost use Rattle.command_words.specs.Serving.{serve_in};
 ghost use Rattle.poad_files.specs.Taking.{HoldsStill};
-ghost use Rattle.poad_serve.specs.Beginning.{Begins, BeginsBy, IsAsked, IsInRange};
+ghost use Rattle.poad_cmd.specs.Beginning.{Begins, BeginsBy, IsAsked, IsInRange};
 
 use command_words::{ServeWords, WordsFault, serve_words};
 use outside::Files;

@@ -1,6 +1,6 @@
 use Rattle.command_words.specs.Serving.{seen_serve, serve_in}
-use Rattle.poad_serve.proofs.Telling.{ends}
-use Rattle.poad_serve.proofs.run.run_serve.Goals as goal
+use Rattle.poad_cmd.proofs.Telling.{ends}
+use Rattle.poad_cmd.proofs.serve.run_serve.Goals as goal
 
 pub returns-in-Ok-clause-ends : goal.returns-in-Ok-clause-ends
 returns-in-Ok-clause-ends g c =

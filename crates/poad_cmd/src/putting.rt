@@ -2,7 +2,7 @@
 ghost use Rattle.std.specs.Prelude.{◌≡◌, Ok, option_map};
 ghost use Rattle.outside.specs.Cause.{HasCause};
 ghost use Rattle.outside.specs.declared.keeping.Put.TheVariants.{Done, Failed};
-ghost use Rattle.poad_serve.specs.Putting.{PutsJournal};
+ghost use Rattle.poad_cmd.specs.Putting.{PutsJournal};
 
 use outside::{Files, Put};
 use poa_base::WantMemory;

@@ -1,4 +1,0 @@
-pub mod Beginning
-pub mod Putting
-pub mod Ending
-pub mod Serving
