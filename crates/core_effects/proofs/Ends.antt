@@ -3,7 +3,7 @@ use Rattle.std.proofs.Common.{◌≡◌, ℕ, Bool, true, false, refl}
 use Rattle.poa_base.specs.declared.Entry.{Entry}
 use Rattle.poa_base.specs.declared.Entry.TheVariants.{Entered, Arrive, Filled, Left, Collect, Admit, Tried, Incarnated, Run, Done, TakeOut, Etherealized, Abandon}
 use Rattle.core_outboxes.specs.Waits.{admits}
-use Rattle.core_replies.specs.Fixed.{may_want}
+use Rattle.core_outboxes.specs.Fixed.{may_want}
 use Rattle.core_state.specs.State.{only_ends}
 
 -- what is so of each of them

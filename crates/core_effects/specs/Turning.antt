@@ -15,7 +15,7 @@ use Rattle.core_outboxes.specs.Waits.{ordered_by}
 use Rattle.core_state.specs.declared.state.State.{State}
 use Rattle.core_state.specs.declared.coming.Coming.{Coming}
 use Rattle.core_state.specs.State.{IsState, is_turn}
-use Rattle.core_replies.specs.Comes.{call_at}
+use Rattle.core_outboxes.specs.Comes.{call_at}
 use Rattle.core_effects.specs.declared.brought.Brought.{Brought}
 
 -- the call that an entry admits or runs

@@ -3,7 +3,7 @@ ghost use Rattle.std.specs.Prelude.{◌≡◌, ◌∷◌, ℕ, true, false, List
 ghost use Rattle.poa_history.specs.States.{Stored};
 ghost use Rattle.core_standing.specs.Entries.{stage_at};
 ghost use Rattle.core_arrivals.specs.Placed.{KnowsCalls};
-ghost use Rattle.core_replies.specs.Comes.{call_at as the_call_at};
+ghost use Rattle.core_outboxes.specs.Comes.{call_at as the_call_at};
 ghost use Rattle.core_state.specs.State.{IsState, only_ends};
 ghost use Rattle.poa_base.specs.declared.Entry.{Entry as EntryOf};
 ghost use Rattle.core_outboxes.specs.Decided.{Decides};
@@ -13,8 +13,7 @@ ghost use Rattle.core_effects.specs.Turning.{IsAsked, IsBrought};
 
 use crate::brought::Brought;
 use core_arrivals::{Calls, calls, freed_by};
-use core_outboxes::{Decision, ordered_by, wait_by};
-use core_replies::decision_of;
+use core_outboxes::{Decision, decision_of, ordered_by, wait_by};
 use core_standing::workers::arrival_in;
 use core_state::{Coming, State};
 use history_standing::Stage;

@@ -19,3 +19,5 @@ pub mod Answered
 pub mod Coming
 pub mod Rising
 pub mod NoneWaits
+pub mod DecidingReply
+pub mod Told

@@ -3,3 +3,6 @@ pub mod Owed
 pub mod Decided
 pub mod Outboxes
 pub mod Desk
+pub mod Unmade
+pub mod Comes
+pub mod Fixed

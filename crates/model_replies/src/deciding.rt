@@ -4,7 +4,7 @@ ghost use Rattle.poa_history.specs.Replies as replies;
 ghost use Rattle.poa_history.specs.Settling as settling;
 ghost use Rattle.history_standing.specs.Stages as begun;
 
-use core_replies::may_decide;
+use core_outboxes::may_decide;
 use core_standing::workers::{admitted, arrival_in, brings, is_at, stage};
 use poa_base::{Attempt, Config, Entry, Verdict, WantMemory};
 use poa_model::settles;

@@ -4,7 +4,7 @@ ghost use Rattle.poa_history.specs.Replies as replies;
 ghost use Rattle.history_standing.specs.Stages as begun;
 
 use crate::deciding::decided;
-use core_replies::asks;
+use core_outboxes::asks;
 use core_standing::calls::{arrivals, call_of, conn_of};
 use poa_base::{Config, Entry, WantMemory};
 use std::alloc::Global;

@@ -10,7 +10,7 @@ use crate::deciding::{decided, is_at_work};
 use crate::entries::kept_of;
 use crate::kept::state_in;
 use crate::servants::{call_run, servant_run};
-use core_replies::{good, reply_admitted, reply_incarnated, reply_tried};
+use core_outboxes::{good, reply_admitted, reply_incarnated, reply_tried};
 use core_settings::settings_of;
 use core_standing::calls::call_of;
 use core_standing::workers::stage;

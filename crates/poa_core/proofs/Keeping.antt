@@ -12,7 +12,7 @@ use Rattle.core_standing.specs.Answers.{AnswersAs}
 use Rattle.core_standing.specs.Seen.{seen}
 use Rattle.core_standing.specs.Entries.{stage_at}
 use Rattle.core_arrivals.specs.Placed.{KnowsCalls}
-use Rattle.core_replies.specs.Comes.{call_at}
+use Rattle.core_outboxes.specs.Comes.{call_at}
 use Rattle.core_outboxes.specs.declared.filed.Filed.{Filed}
 use Rattle.core_outboxes.specs.Desk.{AreLeft}
 use Rattle.core_outboxes.specs.Decided.{AreFiled}

@@ -14,8 +14,7 @@ use crate::arrive_fault::ArriveFault;
 use crate::inside::Inside;
 use crate::quieting::quiet;
 use crate::room::make_room_for_call;
-use core_outboxes::Owing;
-use core_replies::{asks, head_of, number_of};
+use core_outboxes::{Owing, asks, head_of, number_of};
 use poa_base::{Call, Entry};
 
 /// The row of a call that asks a reply.

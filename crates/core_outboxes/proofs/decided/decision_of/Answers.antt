@@ -1,6 +1,6 @@
 use Rattle.std.proofs.Common.{sym, ◌∙◌, option_copied}
-use Rattle.core_replies.proofs.Deciding.{decides_without, has_reply, may_decides, never_decides}
-use Rattle.core_replies.proofs.decision.decision_of.Goals as goal
+use Rattle.core_outboxes.proofs.DecidingReply.{decides_without, has_reply, may_decides, never_decides}
+use Rattle.core_outboxes.proofs.decided.decision_of.Goals as goal
 
 -- an entry that may decide its arrival decides it
 pub returns-clause-decides : goal.returns-clause-decides

@@ -1,16 +1,16 @@
 //! What an entry decides.
 ghost use Rattle.std.specs.Prelude.{◌≡◌, ℕ, List, true, false, IfOk, IsOk, Ok, None, option_copied};
 ghost use Rattle.core_settings.specs.Told.{Tells};
-ghost use Rattle.core_replies.specs.Comes.{Comes};
-ghost use Rattle.core_replies.specs.Fixed as fixed;
+ghost use Rattle.core_outboxes.specs.Comes.{Comes};
+ghost use Rattle.core_outboxes.specs.Fixed as fixed;
 ghost use Rattle.core_outboxes.specs.Decided.{Decides};
 ghost use Rattle.poa_base.specs.declared.Entry.{Entry};
 ghost use Rattle.poa_history.specs.Replies as replies;
 ghost use Rattle.poa_history.specs.States.{Stored};
 
+use crate::decision::Decision;
 use crate::endings::{reply_admitted, reply_incarnated};
 use crate::tried::reply_tried;
-use core_outboxes::Decision;
 use core_settings::Settings;
 use core_standing::workers::{arrival_in, brings};
 use history_standing::Stage;

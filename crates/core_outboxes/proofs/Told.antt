@@ -13,7 +13,7 @@ use Rattle.history_standing.specs.Keys.{key_in}
 use Rattle.history_standing.specs.Logs.{endpoint_of, forward_from}
 use Rattle.poa_history.specs.Replies as replies
 use Rattle.poa_history.specs.Situations.{key_or_none}
-use Rattle.core_replies.specs.Unmade.{reply_tried}
+use Rattle.core_outboxes.specs.Unmade.{reply_tried}
 
 forward_same : (f g : List (List ℕ) → Option Endpoint) → ((p : List (List ℕ)) → f p ≡ g p) → (above p : List (List ℕ))
     → forward_from f above p ≡ forward_from g above p

@@ -1,6 +1,6 @@
 use Rattle.std.proofs.Common.{◌≡◌, subst, option_copied, IfOk}
-use Rattle.core_replies.proofs.Told.{tried_told}
-use Rattle.core_replies.proofs.tried.reply_tried.Goals as goal
+use Rattle.core_outboxes.proofs.Told.{tried_told}
+use Rattle.core_outboxes.proofs.tried.reply_tried.Goals as goal
 
 -- the settings tell what the history says
 pub returns : goal.returns

@@ -31,8 +31,8 @@ use Rattle.history_standing.specs.declared.stage.Stage.TheVariants.{Free, Trying
 use Rattle.poa_choose.specs.Laws.{runs}
 use Rattle.poa_choose.specs.declared.Choice.TheVariants.{Go}
 use Rattle.core_outboxes.specs.Decided.{Decides}
-use Rattle.core_replies.specs.Comes.{Comes, arrival_at}
-use Rattle.core_replies.specs.Fixed.{may_decide, reply_in, target_in}
+use Rattle.core_outboxes.specs.Comes.{Comes, arrival_at}
+use Rattle.core_outboxes.specs.Fixed.{may_decide, reply_in, target_in}
 
 -- what waits doesn't run
 waits_not : (v : Verdict) → runs (Go v) ≡ true → is_waiting (Some v) ≡ false

@@ -1,3 +1,0 @@
-pub mod Unmade
-pub mod Comes
-pub mod Fixed
