@@ -18,8 +18,8 @@ use Rattle.history_standing.specs.Ends.{is_left, let_out}
 use Rattle.history_standing.specs.Standings.{Standing, is_begun}
 use Rattle.poa_history.specs.Changes.{at_number, come_to}
 use Rattle.poa_base.specs.declared.Config.{Config}
-use Rattle.poa_tree.specs.Trees.{In}
-use Rattle.poa_tree.proofs.Members.{in_either, in_image, in_kept}
+use Rattle.history_standing.specs.Trees.{In}
+use Rattle.history_standing.proofs.Members.{in_either, in_image, in_kept}
 use Rattle.active_map.specs.declared.ending.Ending.{Ending}
 use Rattle.active_map.specs.declared.ending.Ending.TheVariants.{Below, Managed, Id}
 use Rattle.active_map.specs.Endings.{takes, marked, ended}

@@ -15,10 +15,10 @@ use Rattle.poa_base.specs.declared.Config.{Config}
 use Rattle.history_standing.specs.declared.activation.Activation.{Activation}
 use Rattle.history_standing.specs.Ends.{is_over}
 use Rattle.history_standing.specs.Standings.{is_of}
-use Rattle.poa_tree.specs.Paths.{same_bytes}
-use Rattle.poa_tree.specs.Trees.{In}
-use Rattle.poa_tree.proofs.Leading.{same_self, bytes_same}
-use Rattle.poa_tree.proofs.Members.{in_kept}
+use Rattle.history_standing.specs.Paths.{same_bytes}
+use Rattle.history_standing.specs.Trees.{In}
+use Rattle.history_standing.proofs.Leading.{same_self, bytes_same}
+use Rattle.history_standing.proofs.Members.{in_kept}
 use Rattle.active_map.specs.ById.{Ids, numbers_of, IsAt}
 use Rattle.active_map.specs.Live.{is_live, live}
 use Rattle.active_map.specs.Tables.{IsKeyed, IsIndexed, Keeps}

@@ -8,7 +8,7 @@ use Rattle.std.proofs.Common.{inl, inr, sym, ap, ap₂, subst, ◌∙◌, arith}
 use Rattle.std.proofs.lemmas.Bool.{cond-true, cond-false, eqb-true}
 use Rattle.std.proofs.lemmas.Map.Keys.{sorted_head, sorted_tail}
 use Rattle.history_standing.specs.declared.activation.Activation.{Activation}
-use Rattle.poa_tree.specs.Trees.{In}
+use Rattle.history_standing.specs.Trees.{In}
 use Rattle.active_map.specs.Tables.{IsKeyed}
 use Rattle.active_map.proofs.IdsKept.{behind_differs}
 use Rattle.active_map.proofs.RowsKept.{at_is}

@@ -2,8 +2,8 @@
 ghost use Rattle.std.specs.Prelude.{◌≡◌, ◌+◌, ◌<◌, ◌++◌, ◌∷◌, ℕ, [], ◌==◌, ◌&&◌, Bool, Some, None, true, false, not, map, filter, find, length, option_copied, if◌then◌else◌, IfOk, OnOk, OnErr};
 ghost use Rattle.std.specs.List.{filter_map, list_any};
 ghost use Rattle.std.specs.Map.Iter.{deref, ShowsInOrder};
-ghost use Rattle.poa_tree.specs.Nodes as tree;
-ghost use Rattle.poa_tree.specs.Trees.{In};
+ghost use Rattle.history_standing.specs.Nodes as tree;
+ghost use Rattle.history_standing.specs.Trees.{In};
 ghost use Rattle.history_standing.specs.declared.activation.Activation.{Activation as Kept};
 ghost use Rattle.poa_history.specs.Changes as changes;
 ghost use Rattle.history_standing.specs.Ends as ends;
@@ -26,9 +26,8 @@ use crate::rows::{
     Rows, count_moving, end_all, first_active, first_live, forget_ids, keep_live, let_all_out,
     moves,
 };
-use history_standing::{Activation, Flight, Phase};
+use history_standing::{Activation, Flight, Node, Phase};
 use poa_base::{Config, Name, Oid, WantMemory};
-use poa_tree::Node;
 use std::alloc::Global;
 use std::collections::btree_map::Values;
 use std::collections::btree_set::Iter;

@@ -6,10 +6,9 @@ ghost use Rattle.active_map.specs.Endings as endings;
 
 use crate::activation::is_of;
 use crate::templates::{has_activator, manager_at};
-use history_standing::Activation;
+use history_standing::nodes::stands_under;
+use history_standing::{Activation, Node};
 use poa_base::{Config, Name, Oid};
-use poa_tree::Node;
-use poa_tree::nodes::stands_under;
 
 /// The activations that a command ends.
 #[derive(Clone, Copy, Drop)]

@@ -1,7 +1,7 @@
 //! What is in flight.
 ghost use Rattle.std.specs.Prelude.{◌≡◌, ◌==◌, ◌&&◌, Some, None, true, false, find, option_copied};
 ghost use Rattle.history_standing.specs.Standings as stands;
-ghost use Rattle.poa_tree.specs.Paths as paths;
+ghost use Rattle.history_standing.specs.Paths as paths;
 
 use history_standing::Flight;
 use poa_base::Name;

@@ -4,7 +4,7 @@ ghost use Rattle.std.specs.BTreeMap.{get, values};
 ghost use Rattle.std.specs.BTreeSet.{contains};
 ghost use Rattle.std.specs.Ordering.{nat_cmp};
 ghost use Rattle.history_standing.specs.declared.activation.Activation.{Activation as Kept};
-ghost use Rattle.poa_tree.specs.Trees.{In};
+ghost use Rattle.history_standing.specs.Trees.{In};
 ghost use Rattle.active_map.specs.Endings.{takes};
 
 use crate::ending::Ending;

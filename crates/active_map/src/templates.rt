@@ -1,6 +1,6 @@
 //! What the configuration says of an adapter, a manager and a servant. A path is its names.
 ghost use Rattle.std.specs.Prelude.{◌≡◌, ◌<◌, ◌≤◌, ◌^◌, [], ◌∷◌, None, IfOk, IsOk, IfSome, codes, length, option_copied, is_some, position};
-ghost use Rattle.poa_tree.specs.Paths.{same_bytes};
+ghost use Rattle.history_standing.specs.Paths.{same_bytes};
 ghost use Rattle.history_standing.specs.Templates as configured;
 
 use poa_base::{AdapterConf, Children, Config, Name, Policy, PolicySet, RuleConf, WantMemory};

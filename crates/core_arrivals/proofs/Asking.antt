@@ -20,11 +20,10 @@ use Rattle.history_standing.specs.Stages.{is_unadmitted}
 use Rattle.poa_history.specs.Turns.{admission_of, admission}
 use Rattle.poa_history.specs.Verdicts.{chosen, verdict_on, verdict}
 use Rattle.poa_history.proofs.GoneIs.{some_in}
-use Rattle.poa_tree.specs.Trees.{In}
-use Rattle.poa_tree.proofs.Members.{kept_in}
+use Rattle.history_standing.specs.Trees.{In}
+use Rattle.history_standing.proofs.Members.{kept_in, in_kept}
 use Rattle.core_standing.specs.Numbers.{below, Ascends}
 use Rattle.core_standing.proofs.Numbers.{below_in, in_below, ascending}
-use Rattle.poa_tree.proofs.Members.{in_kept}
 use Rattle.held_queue.specs.Blocks.{Blocks, hold_for}
 use Rattle.held_queue.specs.declared.hold.Hold.{Hold}
 use Rattle.held_queue.specs.declared.hold.Hold.TheVariants.{Main}

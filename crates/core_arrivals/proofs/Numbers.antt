@@ -10,8 +10,8 @@ use Rattle.std.proofs.lemmas.Bool.{cases_Bool, cond_both, true≢false, eqb-true
 use Rattle.std.proofs.lemmas.List.{append-nil}
 use Rattle.std.proofs.lemmas.List.Elements.{filter-append}
 use Rattle.history_standing.specs.Searches.{first_given}
-use Rattle.poa_tree.specs.Trees.{In}
-use Rattle.poa_tree.proofs.Members.{in_kept, kept_in, any_in}
+use Rattle.history_standing.specs.Trees.{In}
+use Rattle.history_standing.proofs.Members.{in_kept, kept_in, any_in}
 use Rattle.core_standing.specs.Numbers.{below, Ascends}
 use Rattle.core_standing.proofs.Numbers.{in_below, below_in, filter_twice}
 use Rattle.core_arrivals.specs.Numbers.{inserted, without, first_in}

@@ -14,8 +14,8 @@ use Rattle.poa_history.specs.Settling.{settles}
 use Rattle.history_standing.specs.Stages.{stage, arrival_in, is_at, admitted, brings}
 use Rattle.poa_history.proofs.StagesFrom.{arrival_before}
 use Rattle.poa_history.proofs.TurnTells.{admission_is}
-use Rattle.poa_tree.specs.Trees.{In}
-use Rattle.poa_tree.proofs.Members.{in_kept}
+use Rattle.history_standing.specs.Trees.{In}
+use Rattle.history_standing.proofs.Members.{in_kept}
 use Rattle.core_standing.specs.Numbers.{below}
 use Rattle.core_outboxes.specs.Decided.{is_answered_by, answered}
 use Rattle.core_outboxes.proofs.Deciding.{stays_decided}

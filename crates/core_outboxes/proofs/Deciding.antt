@@ -7,8 +7,8 @@ use Rattle.poa_history.specs.Changes.{standing}
 use Rattle.poa_history.specs.Replies.{asks, decided, is_decided_by, is_waiting, number_of}
 use Rattle.poa_history.specs.Settling.{settles}
 use Rattle.history_standing.specs.Stages.{admitted, is_at}
-use Rattle.poa_tree.specs.Trees.{In}
-use Rattle.poa_tree.proofs.Members.{in_kept}
+use Rattle.history_standing.specs.Trees.{In}
+use Rattle.history_standing.proofs.Members.{in_kept}
 use Rattle.core_outboxes.specs.declared.owing.Owing.{Owing}
 use Rattle.core_outboxes.specs.declared.wait.Wait.{Wait}
 use Rattle.core_outboxes.specs.declared.wait.Ordered.{Ordered}

@@ -19,8 +19,8 @@ use Rattle.poa_history.specs.Settling.{before_admit, settles}
 use Rattle.history_standing.specs.Stages.{stage, arrival_in, is_at, admitted}
 use Rattle.poa_history.specs.States.{Stored}
 use Rattle.poa_history.proofs.TurnTells.{trial_is}
-use Rattle.poa_tree.specs.Trees.{In}
-use Rattle.poa_tree.proofs.Members.{in_kept, image_in}
+use Rattle.history_standing.specs.Trees.{In}
+use Rattle.history_standing.proofs.Members.{in_kept, image_in}
 use Rattle.core_outboxes.specs.declared.filed.Filed.{Filed as FiledRow}
 use Rattle.core_outboxes.specs.declared.owing.Owing.{Owing}
 use Rattle.core_standing.specs.Numbers.{below, Ascends}

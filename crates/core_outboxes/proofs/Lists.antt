@@ -1,6 +1,6 @@
 -- Lists that are filtered, mapped and searched.
 use Rattle.std.proofs.Common.{◌≡◌, Bool, true, false, ◌&&◌, List, [], ◌∷◌, map, filter, find, Some, option_map, cond, refl, ap, ap₂, ◌∙◌, inl, inr}
-use Rattle.poa_tree.specs.Trees.{In}
+use Rattle.history_standing.specs.Trees.{In}
 
 -- tests that agree on the elements keep the same
 pub filter_agrees : {A : Type 0} (p q : A → Bool) (xs : List A) → ((x : A) → In x xs → p x ≡ q x) → filter p xs ≡ filter q xs

@@ -9,8 +9,8 @@ use Rattle.history_standing.specs.Arrivals.{arrivals}
 use Rattle.poa_history.specs.Replies.{asks, decided, is_collected}
 use Rattle.history_standing.specs.Arrivals.{call_of}
 use Rattle.poa_history.specs.States.{Stored}
-use Rattle.poa_tree.specs.Trees.{In}
-use Rattle.poa_tree.proofs.Members.{in_kept}
+use Rattle.history_standing.specs.Trees.{In}
+use Rattle.history_standing.proofs.Members.{in_kept}
 use Rattle.core_outboxes.specs.declared.filed.Filed.{Filed as FiledRow}
 use Rattle.core_standing.specs.Numbers.{below}
 use Rattle.core_outboxes.specs.Decided.{is_answered_by, answered, AreFiled}

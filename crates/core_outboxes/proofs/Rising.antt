@@ -7,8 +7,8 @@ use Rattle.std.proofs.lemmas.Bool.{cases_Bool, eqb-true, eq-eqb, false_from_ne_t
 use Rattle.std.proofs.lemmas.Bool.Decides.{nat_tests}
 use Rattle.std.proofs.lemmas.Cmp.{ranked}
 use Rattle.history_standing.specs.Stages.{is_at}
-use Rattle.poa_tree.specs.Trees.{In}
-use Rattle.poa_tree.proofs.Members.{image_in}
+use Rattle.history_standing.specs.Trees.{In}
+use Rattle.history_standing.proofs.Members.{image_in}
 use Rattle.core_outboxes.specs.declared.owing.Owing.{Owing}
 use Rattle.core_standing.specs.Numbers.{Ascends}
 use Rattle.core_outboxes.specs.Owed.{arrivals_of}

@@ -12,8 +12,8 @@ use Rattle.history_standing.specs.Logs.{command_in, command_done, order_for}
 use Rattle.poa_history.specs.Replies.{is_waiting, number_of}
 use Rattle.poa_history.specs.Settling.{before_admit, is_overtaken}
 use Rattle.history_standing.specs.Stages.{stage, arrival_in, is_at, admitted}
-use Rattle.poa_tree.specs.Trees.{In}
-use Rattle.poa_tree.proofs.Members.{in_image}
+use Rattle.history_standing.specs.Trees.{In}
+use Rattle.history_standing.proofs.Members.{in_image}
 use Rattle.core_outboxes.specs.declared.owing.Owing.{Owing}
 use Rattle.core_outboxes.specs.declared.wait.Wait.{Wait}
 use Rattle.core_outboxes.specs.declared.wait.Wait.TheVariants.{Nothing, Quiet, Off, Gone}

@@ -9,7 +9,7 @@ use Rattle.history_standing.specs.Arrivals.{arrivals, call_of, conn_of}
 use Rattle.poa_history.specs.Replies.{asks, decided, is_collected, is_decided_by, number_of, reply_by, reply_of}
 use Rattle.history_standing.specs.Stages.{is_at}
 use Rattle.poa_history.specs.States.{Stored}
-use Rattle.poa_tree.specs.Trees.{In}
+use Rattle.history_standing.specs.Trees.{In}
 use Rattle.core_outboxes.specs.declared.decision.Decision.{Decision}
 use Rattle.core_outboxes.specs.declared.filed.Filed.{Filed}
 use Rattle.core_standing.specs.Numbers.{below}

@@ -15,7 +15,7 @@ use Rattle.poa_history.specs.Replies.{is_collected}
 use Rattle.history_standing.specs.Stages.{is_at}
 use Rattle.history_standing.specs.Standings.{Standing}
 use Rattle.poa_history.specs.States.{Stored}
-use Rattle.poa_tree.specs.Trees.{In}
+use Rattle.history_standing.specs.Trees.{In}
 use Rattle.core_outboxes.specs.declared.decision.Decision.{Decision}
 use Rattle.core_outboxes.specs.declared.desk.Desk.{Desk}
 use Rattle.core_outboxes.specs.declared.filed.Filed.{Filed}

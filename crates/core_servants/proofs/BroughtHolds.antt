@@ -17,7 +17,7 @@ use Rattle.poa_base.proofs.Stored.{stored-with_room, reserved-with_room, reserve
 use Rattle.history_standing.specs.declared.activation.Activation.{Activation}
 use Rattle.history_standing.specs.declared.activation.Phase.TheVariants.{Begun, Complete, Void}
 use Rattle.history_standing.specs.declared.stage.Stage.TheVariants.{Incarnating}
-use Rattle.poa_tree.specs.Trees.{In}
+use Rattle.history_standing.specs.Trees.{In}
 use Rattle.poa_history.specs.Alone.{IsGivenAlone}
 use Rattle.poa_history.specs.Bounds.{IsWithinLimits}
 use Rattle.poa_history.specs.Changes.{standing, changed, with_incarnated, at_number, come_to}
@@ -31,7 +31,7 @@ use Rattle.history_standing.specs.Standings.{Standing, is_begun, is_in_map}
 use Rattle.poa_history.specs.States.{Stored, state_of, stored, restored, kind_brought}
 use Rattle.history_standing.specs.Templates.{rules_at, policies_at, is_unique, servant_name}
 use Rattle.poa_history.specs.Turns.{activation_numbered}
-use Rattle.poa_tree.proofs.Members.{image_in}
+use Rattle.history_standing.proofs.Members.{image_in}
 use Rattle.poa_history.proofs.LegalSound.{legal_sound}
 use Rattle.poa_history.proofs.MannedKept.{all_manned}
 use Rattle.poa_history.proofs.OutIs.{out_complete}

@@ -15,12 +15,12 @@ use Rattle.history_standing.specs.declared.stage.Stage.TheVariants.{Incarnating,
 use Rattle.history_standing.specs.Templates.{servant_number}
 use Rattle.history_standing.specs.Stages.{stage}
 use Rattle.history_standing.specs.Standings.{Standing}
-use Rattle.poa_tree.specs.Trees.{In}
+use Rattle.history_standing.specs.Trees.{In}
 use Rattle.poa_history.specs.Changes.{standing, servant_of}
 use Rattle.poa_history.specs.Later.{IsLater}
 use Rattle.poa_history.specs.Sound.{IsSound}
 use Rattle.poa_history.specs.Turns.{activation_numbered}
-use Rattle.poa_tree.proofs.Finding.{find_in, find_none}
+use Rattle.history_standing.proofs.Finding.{find_in, find_none}
 use Rattle.poa_history.proofs.ActivationsLater.{step_later}
 use Rattle.poa_history.proofs.ActivationsFrom.{phase_by, IsBegun, incarnating, activating, activating_id, referring, stood, begun, activation_from}
 use Rattle.core_servants.specs.Holds.{is_fresh, keeps_fresh, is_kept_by, is_kept}

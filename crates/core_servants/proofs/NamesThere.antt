@@ -20,8 +20,8 @@ use Rattle.poa_choose.specs.declared.Choice.TheVariants.{Go}
 use Rattle.poa_choose.specs.declared.Located.{Located}
 use Rattle.poa_choose.specs.declared.Located.TheVariants.{Servant, Forward as ByForward, Raise as ByRaise, NoRule}
 use Rattle.poa_choose.specs.Table.{first_row}
-use Rattle.poa_tree.specs.Paths.{same_path}
-use Rattle.poa_tree.specs.declared.node.Node.{Node}
+use Rattle.history_standing.specs.Paths.{same_path}
+use Rattle.history_standing.specs.declared.node.Node.{Node}
 use Rattle.poa_history.specs.Alone.{IsGivenAlone}
 use Rattle.history_standing.specs.Arrivals.{call_of}
 use Rattle.poa_history.specs.Changes.{standing}

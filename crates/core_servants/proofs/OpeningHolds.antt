@@ -13,7 +13,7 @@ use Rattle.poa_base.specs.declared.Sid.TheVariants.{Fresh as FreshServant}
 use Rattle.poa_base.specs.Store as slots
 use Rattle.poa_base.specs.Store.{Slots}
 use Rattle.history_standing.specs.declared.activation.Activation.{Activation}
-use Rattle.poa_tree.specs.Trees.{In}
+use Rattle.history_standing.specs.Trees.{In}
 use Rattle.poa_history.specs.Changes.{standing}
 use Rattle.poa_history.specs.States.{state_of}
 use Rattle.poa_history.proofs.AloneKept.{all_open}

@@ -22,8 +22,8 @@ use Rattle.history_standing.specs.declared.activation.Activation.{Activation}
 use Rattle.history_standing.specs.declared.activation.Phase.{Phase}
 use Rattle.history_standing.specs.declared.activation.Phase.TheVariants.{Begun, Complete, Void}
 use Rattle.history_standing.specs.declared.stage.Stage.TheVariants.{Removing}
-use Rattle.poa_tree.specs.Paths.{same_bytes, same_path}
-use Rattle.poa_tree.specs.Trees.{In}
+use Rattle.history_standing.specs.Paths.{same_bytes, same_path}
+use Rattle.history_standing.specs.Trees.{In}
 use Rattle.poa_history.specs.Alone.{IsGivenAlone}
 use Rattle.poa_history.specs.Bounds.{IsWithinLimits}
 use Rattle.poa_history.specs.Changes.{standing, changed, with_etherealized, at_number}
@@ -35,9 +35,9 @@ use Rattle.history_standing.specs.Stages.{stage}
 use Rattle.history_standing.specs.Standings.{Standing}
 use Rattle.poa_history.specs.States.{Stored, state_of, stored, is_stored_by, fresh_only}
 use Rattle.poa_history.specs.Turns.{activation_numbered}
-use Rattle.poa_tree.proofs.Finding.{path_same, same_path_self}
-use Rattle.poa_tree.proofs.Leading.{bytes_same, same_self}
-use Rattle.poa_tree.proofs.Members.{image_in}
+use Rattle.history_standing.proofs.Finding.{path_same, same_path_self}
+use Rattle.history_standing.proofs.Leading.{bytes_same, same_self}
+use Rattle.history_standing.proofs.Members.{image_in}
 use Rattle.poa_history.proofs.AloneKept.{stands_alone}
 use Rattle.poa_history.proofs.LegalSound.{legal_sound}
 use Rattle.poa_history.proofs.MannedKept.{all_manned}

@@ -8,8 +8,8 @@ use Rattle.std.specs.List.{position_or_len}
 use Rattle.std.proofs.lemmas.List.Folds.{find_at, find-append}
 use Rattle.std.proofs.lemmas.Option.{slice_get_past}
 use Rattle.std.proofs.lemmas.List.Quantifiers.{position-Some}
-use Rattle.poa_tree.specs.Paths.{same_path}
-use Rattle.poa_tree.proofs.Finding.{path_same, same_path_self}
+use Rattle.history_standing.specs.Paths.{same_path}
+use Rattle.history_standing.proofs.Finding.{path_same, same_path_self}
 
 -- the test for a path, of the rows' own paths
 abbrev at : {A : Type 0} → (A → List (List ℕ)) → List (List ℕ) → A → Bool

@@ -7,7 +7,7 @@ use Rattle.poa_base.specs.declared.Command.{Command}
 use Rattle.poa_base.specs.declared.Command.TheVariants.{Preset, Forward, Unforward}
 use Rattle.poa_base.specs.declared.Entry.{Entry}
 use Rattle.core_settings.specs.States.{state_at}
-use Rattle.poa_tree.specs.Paths.{same_path}
+use Rattle.history_standing.specs.Paths.{same_path}
 use Rattle.history_standing.specs.Logs.{manager_state, preset_of, endpoint_of, forward_from}
 use Rattle.core_settings.specs.declared.presets.PresetRow.{PresetRow}
 use Rattle.core_settings.specs.declared.endpoints.EndpointRow.{EndpointRow}

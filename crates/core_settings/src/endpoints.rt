@@ -1,7 +1,7 @@
 //! The endpoints of paths, to which requests are forwarded.
 ghost use Rattle.std.specs.Prelude.{◌≡◌, ◌≤◌, [], List, IfOk, OnOk, OnErr, length, take, drop, option_copied, position};
 ghost use Rattle.poa_base.specs.declared.Entry.{Entry};
-ghost use Rattle.poa_tree.specs.Paths.{same_path};
+ghost use Rattle.history_standing.specs.Paths.{same_path};
 ghost use Rattle.history_standing.specs.Logs as logs;
 ghost use Rattle.core_settings.specs.Told.{IsEndpointSet, Tells, endpoint_in, endpoint_row, forward_in};
 

@@ -1,6 +1,6 @@
 //! The default servants of paths.
 ghost use Rattle.std.specs.Prelude.{◌≡◌, [], OnOk, OnErr, option_copied, option_map, position};
-ghost use Rattle.poa_tree.specs.Paths.{same_path};
+ghost use Rattle.history_standing.specs.Paths.{same_path};
 ghost use Rattle.history_standing.specs.Logs as logs;
 ghost use Rattle.core_settings.specs.Told.{IsPresetSet, preset_in, preset_row};
 

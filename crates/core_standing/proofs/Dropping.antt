@@ -4,11 +4,11 @@ use Rattle.std.specs.List.{list_any, remove}
 use Rattle.std.proofs.Common.{inl, inr, sym, ap, ap₂, ◌∙◌, arith}
 use Rattle.std.proofs.lemmas.Bool.{cond_both, and_parts}
 use Rattle.poa_base.specs.declared.Config.{Config}
-use Rattle.poa_tree.specs.declared.node.Node.{Node}
-use Rattle.poa_tree.specs.Nodes.{stands_under}
-use Rattle.poa_tree.specs.Paths.{leads_to, is_root}
-use Rattle.poa_tree.specs.Trees.{In}
-use Rattle.poa_tree.proofs.Leading.{leads_self}
+use Rattle.history_standing.specs.declared.node.Node.{Node}
+use Rattle.history_standing.specs.Nodes.{stands_under}
+use Rattle.history_standing.specs.Paths.{leads_to, is_root}
+use Rattle.history_standing.specs.Trees.{In}
+use Rattle.history_standing.proofs.Leading.{leads_self}
 use Rattle.history_standing.specs.declared.activation.Activation.{Activation}
 use Rattle.history_standing.specs.declared.flight.Flight.{Flight}
 use Rattle.history_standing.specs.Ends.{is_over, is_clear, is_done_with}

@@ -3,13 +3,13 @@ use Rattle.std.specs.Prelude.{◌≡◌, ℕ, Bool, true, ◌&&◌, ◌==◌, Li
 use Rattle.std.specs.List.{list_any}
 use Rattle.std.proofs.Common.{sym}
 use Rattle.std.proofs.lemmas.Bool.{and_from, and_parts, eq-eqb, eqb-true}
-use Rattle.poa_tree.specs.declared.node.Node.{Node}
-use Rattle.poa_tree.specs.Nodes.{stands_under}
-use Rattle.poa_tree.specs.Paths.{leads_to}
+use Rattle.history_standing.specs.declared.node.Node.{Node}
+use Rattle.history_standing.specs.Nodes.{stands_under}
+use Rattle.history_standing.specs.Paths.{leads_to}
 use Rattle.history_standing.specs.declared.activation.Activation.{Activation}
 use Rattle.poa_history.proofs.GoneIs.{some_in}
 use Rattle.history_standing.proofs.Tests.{same_test}
-use Rattle.poa_tree.proofs.Members.{any_in}
+use Rattle.history_standing.proofs.Members.{any_in}
 
 module _ (lives : Activation → Bool) (ns : List Node) (p : List (List ℕ)) (as' : List Activation) where
   -- one of the adapter lives

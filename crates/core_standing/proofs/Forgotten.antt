@@ -9,8 +9,8 @@ use Rattle.history_standing.specs.declared.activation.Activation.{Activation}
 use Rattle.poa_history.specs.Changes.{standing, changed}
 use Rattle.history_standing.specs.Ends.{is_over, settled}
 use Rattle.history_standing.specs.Standings.{Standing}
-use Rattle.poa_tree.specs.Trees.{In}
-use Rattle.poa_tree.proofs.Members.{in_kept}
+use Rattle.history_standing.specs.Trees.{In}
+use Rattle.history_standing.proofs.Members.{in_kept}
 use Rattle.core_standing.specs.Seen.{forgotten, behind}
 use Rattle.active_map.specs.Live.{is_live, live}
 use Rattle.core_standing.specs.Kept.{Forgets, KeepsNoneOver, StandsFor, StandsAfter}

@@ -6,7 +6,7 @@ use Rattle.std.proofs.lemmas.Bool.{cond_both}
 use Rattle.poa_base.specs.declared.Config.{Config}
 use Rattle.history_standing.specs.declared.activation.Activation.{Activation}
 use Rattle.history_standing.specs.Ends.{is_over}
-use Rattle.poa_tree.specs.Trees.{In}
+use Rattle.history_standing.specs.Trees.{In}
 use Rattle.core_standing.specs.Seen.{forgotten}
 use Rattle.active_map.specs.Live.{is_live}
 use Rattle.core_standing.specs.Kept.{Forgets}

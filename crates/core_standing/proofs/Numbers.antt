@@ -6,8 +6,8 @@ use Rattle.std.proofs.lemmas.List.{append-nil, length-append}
 use Rattle.std.proofs.lemmas.List.Folds.{find-append}
 use Rattle.std.proofs.lemmas.List.Elements.{filter-append}
 use Rattle.history_standing.specs.Searches.{least, count_below}
-use Rattle.poa_tree.specs.Trees.{In}
-use Rattle.poa_tree.proofs.Members.{in_front, in_back, in_either, in_kept}
+use Rattle.history_standing.specs.Trees.{In}
+use Rattle.history_standing.proofs.Members.{in_front, in_back, in_either, in_kept}
 use Rattle.core_standing.specs.Numbers.{below, Ascends}
 
 -- exactly the numbers below the bound stand there

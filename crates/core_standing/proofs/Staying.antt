@@ -17,16 +17,16 @@ use Rattle.poa_base.specs.declared.AdapterConf.{AdapterConf}
 use Rattle.poa_base.specs.declared.ObjectConf.{ObjectConf}
 use Rattle.poa_base.specs.declared.Entry.{Entry}
 use Rattle.history_standing.specs.Opening.{made_id, number_at, root_alone, with_activation, with_boots, with_made, with_node, with_object, with_objects}
-use Rattle.poa_tree.specs.Paths.{is_root}
+use Rattle.history_standing.specs.Paths.{is_root}
 use Rattle.poa_history.specs.Changes.{at_number, changed, child_tried, come_to, servant_of, standing, with_activations, with_child, with_incarnated, with_tried, without_flight}
 use Rattle.history_standing.specs.Ends.{is_left, let_out, settled}
 use Rattle.history_standing.specs.Standings.{Standing, is_begun, is_complete, is_ending, is_used}
 use Rattle.history_standing.specs.Templates.{has_activator}
-use Rattle.poa_tree.specs.Trees.{In}
+use Rattle.history_standing.specs.Trees.{In}
 use Rattle.core_standing.specs.Kept.{StandsAfter}
 use Rattle.core_standing.specs.Flying.{uses}
 use Rattle.core_standing.specs.Touched.{Others, SameOthers, Still}
-use Rattle.poa_tree.proofs.Members.{image_in, in_either, in_image}
+use Rattle.history_standing.proofs.Members.{image_in, in_either, in_image}
 use Rattle.core_standing.proofs.Still.{still_in}
 
 -- what was settled is so

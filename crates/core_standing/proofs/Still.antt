@@ -2,8 +2,8 @@
 use Rattle.std.specs.Prelude.{◌≡◌, ℕ, Bool, true, false, not, ◌&&◌, ◌||◌, ◌==◌, if◌then◌else◌, List, [], ◌∷◌, map, refl}
 use Rattle.std.proofs.Common.{sym, ap, ap₂, ◌∙◌}
 use Rattle.poa_base.specs.declared.Config.{Config}
-use Rattle.poa_tree.specs.declared.node.Node.{Node}
-use Rattle.poa_tree.specs.Nodes.{stands_under}
+use Rattle.history_standing.specs.declared.node.Node.{Node}
+use Rattle.history_standing.specs.Nodes.{stands_under}
 use Rattle.history_standing.specs.declared.activation.Activation.{Activation}
 use Rattle.history_standing.specs.declared.activation.Phase.{Phase}
 use Rattle.history_standing.specs.declared.activation.Phase.TheVariants.{Begun, Complete, Void}

@@ -6,7 +6,7 @@ use Rattle.history_standing.specs.declared.activation.Activation.{Activation}
 use Rattle.poa_history.specs.Changes.{standing}
 use Rattle.history_standing.specs.Ends.{is_over}
 use Rattle.history_standing.specs.Standings.{Standing}
-use Rattle.poa_tree.specs.Trees.{In}
+use Rattle.history_standing.specs.Trees.{In}
 use Rattle.active_map.specs.Live.{live}
 use Rattle.core_standing.specs.Seen.{forgotten}
 

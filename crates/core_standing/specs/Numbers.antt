@@ -1,6 +1,6 @@
 -- The numbers below a bound, and numbers in order.
 use Rattle.std.specs.Prelude.{ℕ, zero, suc, ◌<◌, List, [], ◌∷◌, ◌++◌}
-use Rattle.poa_tree.specs.Trees.{In}
+use Rattle.history_standing.specs.Trees.{In}
 
 -- the numbers below the bound
 abbrev pub below : ℕ → List ℕ

@@ -4,9 +4,9 @@ use Rattle.poa_base.specs.declared.Config.{Config}
 use Rattle.history_standing.specs.declared.activation.Activation.{Activation}
 use Rattle.history_standing.specs.Ends.{is_done_with, is_over, let_out}
 use Rattle.history_standing.specs.Standings.{Standing}
-use Rattle.poa_tree.specs.declared.node.Node.{Node}
-use Rattle.poa_tree.specs.Paths.{is_root}
-use Rattle.poa_tree.specs.Trees.{In}
+use Rattle.history_standing.specs.declared.node.Node.{Node}
+use Rattle.history_standing.specs.Paths.{is_root}
+use Rattle.history_standing.specs.Trees.{In}
 use Rattle.core_standing.specs.Seen.{forgotten}
 use Rattle.core_standing.specs.declared.touched.Touched.{Touched}
 use Rattle.core_standing.specs.declared.touched.Touched.TheVariants.{Nothing, One, All}

@@ -10,10 +10,9 @@ use crate::calls::call_of;
 use crate::searches::mapped;
 use crate::standing::Standing;
 use active_map::templates::policies_at;
-use history_standing::Activation;
+use history_standing::nodes::node_at;
+use history_standing::{Activation, Node};
 use poa_base::{Answer, Call, Command, Config, Entry, Name, Sid, Verdict};
-use poa_tree::Node;
-use poa_tree::nodes::node_at;
 
 /// Whether the command was done.
 pub fn is_accepted(verdict: &Verdict) -> bool

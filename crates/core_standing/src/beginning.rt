@@ -1,6 +1,6 @@
 //! What stands before the first entry, and how adapters and activations are added.
 ghost use Rattle.std.specs.Prelude.{◌≡◌, ◌≤◌, ◌&&◌, false, not, length, IfOk, OnOk, OnErr};
-ghost use Rattle.poa_tree.specs.Paths.{is_root};
+ghost use Rattle.history_standing.specs.Paths.{is_root};
 ghost use Rattle.history_standing.specs.Opening as opens;
 ghost use Rattle.core_standing.specs.Kept.{KeepsNoneOver};
 ghost use Rattle.core_standing.specs.Seen.{seen};
@@ -9,9 +9,8 @@ use crate::asked_commands::number_at;
 use crate::ids::{made_id, next};
 use crate::standing::Standing;
 use active_map::Activations;
-use history_standing::{Activation, Phase};
+use history_standing::{Activation, Node, Phase};
 use poa_base::{AdapterConf, Config, ObjectConf, Oid, Path, Sid, WantMemory};
-use poa_tree::Node;
 use std::alloc::Global;
 
 /// The adapter is created, and gets the next number.

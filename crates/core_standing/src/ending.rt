@@ -1,13 +1,13 @@
 //! What makes activations end: a destroy, a deactivation of an id, a manager that is turned off. Each change
 //! is made in place; where there is no memory for it, nothing is changed.
 ghost use Rattle.std.specs.Prelude.{◌≡◌, if◌then◌else◌, OnOk, OnErr};
-ghost use Rattle.poa_tree.specs.Nodes as tree;
+ghost use Rattle.history_standing.specs.Nodes as tree;
 ghost use Rattle.poa_history.specs.Changes as changes;
 ghost use Rattle.core_standing.specs.Seen.{seen};
 
 use crate::standing::Standing;
+use history_standing::nodes::mark;
 use poa_base::{Config, Name, Oid, WantMemory};
-use poa_tree::nodes::mark;
 
 /// What is active in the adapters that stand at the path or below it is ending.
 fn end_below(standing: &mut Standing, path: &[Name], etherealize: bool) -> Result<(), WantMemory>

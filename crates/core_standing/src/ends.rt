@@ -1,16 +1,16 @@
 //! When an adapter is gone.
 ghost use Rattle.std.specs.Prelude.{◌≡◌, ◌==◌, ◌&&◌, ◌||◌, not};
 ghost use Rattle.std.specs.List.{list_any};
-ghost use Rattle.poa_tree.specs.Nodes.{stands_under};
-ghost use Rattle.poa_tree.specs.Paths.{is_root, leads_to};
+ghost use Rattle.history_standing.specs.Nodes.{stands_under};
+ghost use Rattle.history_standing.specs.Paths.{is_root, leads_to};
 ghost use Rattle.history_standing.specs.Ends as ends;
 ghost use Rattle.core_standing.specs.Seen.{seen};
 
 use crate::standing::Standing;
 use active_map::Activations;
+use history_standing::paths::leads_to;
+use history_standing::{Node, nodes};
 use poa_base::{Config, Name};
-use poa_tree::paths::leads_to;
-use poa_tree::{Node, nodes};
 
 /// Whether something is in flight at the path or below it.
 fn is_flown_under(standing: &Standing, path: &[Name]) -> bool

@@ -7,10 +7,10 @@ use crate::beginning::begun;
 use crate::keys::walk_to;
 use crate::standing::Standing;
 use active_map::flights::flight_of;
+use history_standing::walks::{adapter_met, child_met, walk};
 use history_standing::{Flight, Phase};
 use object_key::KeyView;
 use poa_base::{Name, Path, Verdict, WantMemory};
-use poa_tree::walks::{adapter_met, child_met, walk};
 use std::alloc::Global;
 
 /// A request is admitted to the adapter of its key.

@@ -1,14 +1,14 @@
 //! The key that a target spells, seen where it lies, and what stands at its path.
 ghost use Rattle.std.specs.Prelude.{◌≡◌, option_copied, IfOk};
 ghost use Rattle.history_standing.specs.Keys as keys;
-ghost use Rattle.poa_tree.specs.Nodes as tree;
-ghost use Rattle.poa_tree.specs.Walks as walks;
+ghost use Rattle.history_standing.specs.Nodes as tree;
+ghost use Rattle.history_standing.specs.Walks as walks;
 
 use crate::calls::target_of;
+use history_standing::walks::walk;
+use history_standing::{Found, Node};
 use object_key::{KeyView, PathView, view_key};
 use poa_base::{Call, WantMemory};
-use poa_tree::walks::walk;
-use poa_tree::{Found, Node};
 use std::alloc::Global;
 
 /// The key whose spelling the bytes are, if there is one. Takes no memory.

@@ -10,9 +10,8 @@ use crate::standing::Standing;
 use active_map::Activations;
 use active_map::over::is_over;
 use active_map::templates::{has_activator, manager_at};
-use history_standing::Activation;
+use history_standing::{Activation, Node};
 use poa_base::Config;
-use poa_tree::Node;
 
 /// Whether it is the adapter of this number, and one of the manager's.
 fn is_manager_of(config: &Config, manager: u32, number: u32, node: &Node) -> bool

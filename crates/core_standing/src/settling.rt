@@ -5,7 +5,7 @@ ghost use Rattle.core_standing.specs.Seen.{seen};
 ghost use Rattle.core_standing.specs.Touched.{Lasts, Others, is_touched, left};
 ghost use Rattle.core_standing.specs.declared.touched.Touched.TheVariants.{One};
 ghost use Rattle.history_standing.specs.declared.activation.Activation.{Activation};
-ghost use Rattle.poa_tree.specs.Trees.{In};
+ghost use Rattle.history_standing.specs.Trees.{In};
 
 use crate::ends::stays;
 use crate::standing::Standing;

@@ -3,9 +3,8 @@ ghost use Rattle.std.specs.Prelude.{◌≡◌, ◌<◌, length, IfOk};
 ghost use Rattle.core_standing.specs.Seen.{seen};
 
 use active_map::Activations;
-use history_standing::Flight;
+use history_standing::{Flight, Node};
 use poa_base::WantMemory;
-use poa_tree::Node;
 
 /// What stands after a history.
 #[derive(Drop)]

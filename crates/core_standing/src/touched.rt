@@ -7,7 +7,7 @@ ghost use Rattle.poa_history.specs.Changes as changes;
 ghost use Rattle.history_standing.specs.Standings.{Standing as Stood};
 ghost use Rattle.core_standing.specs.Entries as entries;
 ghost use Rattle.history_standing.specs.declared.flight.Flight.{Flight as Flown};
-ghost use Rattle.poa_tree.specs.Trees.{In};
+ghost use Rattle.history_standing.specs.Trees.{In};
 ghost use Rattle.core_standing.specs.Touched.{Others, SameOthers, Still, is_touched};
 ghost use Rattle.core_standing.specs.Flying.{uses};
 

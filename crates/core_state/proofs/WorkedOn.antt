@@ -4,7 +4,7 @@ use Rattle.std.proofs.Common.{inl, inr, sym, ap, subst, ◌∙◌, arith}
 use Rattle.std.proofs.lemmas.Bool.{and_parts}
 use Rattle.poa_base.specs.declared.Config.{Config}
 use Rattle.poa_base.specs.declared.Entry.{Entry}
-use Rattle.poa_tree.specs.Trees.{In}
+use Rattle.history_standing.specs.Trees.{In}
 use Rattle.history_standing.specs.declared.activation.Activation.{Activation}
 use Rattle.history_standing.specs.declared.stage.Stage.{Stage}
 use Rattle.history_standing.specs.declared.stage.Stage.TheVariants.{Free, Trying, Incarnating, Serving, Ran, Removing}

@@ -7,8 +7,8 @@ use Rattle.poa_base.specs.declared.Entry.{Entry}
 use Rattle.poa_base.specs.declared.Key.{Key}
 use Rattle.poa_choose.specs.declared.Facts.{Facts}
 use Rattle.poa_choose.specs.declared.KeyFact.{KeyFact}
-use Rattle.poa_tree.specs.declared.found.Found.{Found}
-use Rattle.poa_tree.specs.Walks.{walk, adapter_met}
+use Rattle.history_standing.specs.declared.found.Found.{Found}
+use Rattle.history_standing.specs.Walks.{walk, adapter_met}
 use Rattle.history_standing.specs.Arrivals.{call_of, is_locate, target_of}
 use Rattle.history_standing.specs.Keys.{key_in}
 use Rattle.history_standing.specs.Standings.{Standing}

@@ -14,7 +14,7 @@ ghost use Rattle.history_standing.specs.Ends as ends;
 ghost use Rattle.history_standing.specs.Standings as stands;
 ghost use Rattle.history_standing.specs.Opening.{made_id as id_made};
 ghost use Rattle.history_standing.specs.References.{reference_text as text_of_reference};
-ghost use Rattle.poa_tree.specs.Nodes as tree;
+ghost use Rattle.history_standing.specs.Nodes as tree;
 ghost use Rattle.core_standing.specs.Seen.{seen};
 ghost use Rattle.core_settings.specs.Told.{Tells};
 
@@ -27,13 +27,13 @@ use core_standing::Standing;
 use core_standing::asked_commands::{is_implicit, live_at, referred};
 use core_standing::ids::{made_id, next};
 use core_standing::searches::is_in_map;
+use history_standing::Node;
+use history_standing::nodes::node_at;
+use history_standing::paths::parent_path;
 use poa_base::limits::ADAPTERS;
 use poa_base::{
     Answer, Command, Config, ManagerState, Name, Oid, Order, Path, Reason, Sid, Verdict, WantMemory,
 };
-use poa_tree::Node;
-use poa_tree::nodes::node_at;
-use poa_tree::paths::parent_path;
 use std::alloc::Global;
 
 fn refusal(reason: Reason) -> Option<Verdict>

@@ -7,7 +7,7 @@ ghost use Rattle.poa_history.specs.Situations as situations;
 ghost use Rattle.history_standing.specs.Keys as keys;
 ghost use Rattle.core_standing.specs.Answers.{AnswersAs};
 ghost use Rattle.core_standing.specs.Seen.{seen};
-ghost use Rattle.poa_tree.specs.Walks.{place_met as place_is, walk as walk_along};
+ghost use Rattle.history_standing.specs.Walks.{place_met as place_is, walk as walk_along};
 ghost use Rattle.core_settings.specs.Told.{Tells};
 ghost use Rattle.core_turns.specs.Said.{IsAsSaid};
 
@@ -20,11 +20,11 @@ use core_settings::{Settings, forward_of, manager_state, preset_of};
 use core_standing::Standing;
 use core_standing::calls::{is_locate, target_of};
 use core_standing::keys::{adapter_at, key_in};
+use history_standing::Found;
+use history_standing::walks::{adapter_met, child_met, place_met, walk};
 use object_key::KeyView;
 use poa_base::{Bytes, Call, Config, Endpoint, ManagerState, Name, Stamp, WantMemory};
 use poa_choose::{Facts, KeyFact, MapFact, WalkFact};
-use poa_tree::Found;
-use poa_tree::walks::{adapter_met, child_met, place_met, walk};
 use std::alloc::Global;
 
 /// What a key is to this run.

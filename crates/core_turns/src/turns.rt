@@ -14,11 +14,10 @@ use active_map::flights::{flight_of, is_used};
 use active_map::templates::{children_at, has_activator, has_template};
 use core_standing::Standing;
 use core_standing::searches::activation_numbered;
-use history_standing::{Activation, Flight, Stage};
+use history_standing::nodes::node_numbered;
+use history_standing::{Activation, Flight, Node, Stage};
 use poa_base::limits::ADAPTERS;
 use poa_base::{Attempt, Children, Config, Entry, Name, WantMemory};
-use poa_tree::Node;
-use poa_tree::nodes::node_numbered;
 
 /// What an adapter activator answers for a child, where its parent lives.
 fn attempt_by(

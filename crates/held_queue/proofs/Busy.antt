@@ -24,10 +24,10 @@ use Rattle.poa_history.specs.Sound.{IsGiven, IsSound}
 use Rattle.history_standing.specs.Stages.{is_at}
 use Rattle.history_standing.specs.Standings.{Standing, is_complete, is_void, is_begun, is_ending, is_active, is_of, is_used}
 use Rattle.history_standing.specs.Templates.{has_activator}
-use Rattle.poa_tree.specs.Paths.{same_bytes}
-use Rattle.poa_tree.specs.Trees.{In}
-use Rattle.poa_tree.proofs.Finding.{find_in, find_none}
-use Rattle.poa_tree.proofs.Leading.{bytes_same}
+use Rattle.history_standing.specs.Paths.{same_bytes}
+use Rattle.history_standing.specs.Trees.{In}
+use Rattle.history_standing.proofs.Finding.{find_in, find_none}
+use Rattle.history_standing.proofs.Leading.{bytes_same}
 use Rattle.poa_history.proofs.ActivationsFrom.{IsStep, Leaves, TakesOut, Tells, IsBegun, incarnating, activating, activating_id, referring, stood, begun, activation_from}
 use Rattle.poa_history.proofs.ActivationsLater.{step_later}
 use Rattle.poa_history.proofs.GoneIs.{some_in}
@@ -38,7 +38,7 @@ use Rattle.poa_history.proofs.TurnTells.{takeout_is}
 use Rattle.held_queue.specs.Frees.{freed_by}
 use Rattle.held_queue.proofs.Unchanged.{no_command}
 use Rattle.held_queue.proofs.Landing.{freed_never, flies_on, brings_moves, brings_changes, tells_moves, tells_changes}
-use Rattle.poa_tree.proofs.Members.{any_in}
+use Rattle.history_standing.proofs.Members.{any_in}
 
 -- tests on how far an activation came
 abbrev void_phase : Phase → Bool

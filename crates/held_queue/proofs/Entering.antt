@@ -13,8 +13,8 @@ use Rattle.poa_history.specs.Legal.{IsLegal}
 use Rattle.poa_history.specs.Situations.{facts_of}
 use Rattle.poa_history.specs.Sound.{IsGiven}
 use Rattle.history_standing.specs.Stages.{stage, arrival_in, is_at, admitted, is_unadmitted}
-use Rattle.poa_tree.specs.Trees.{In}
-use Rattle.poa_tree.proofs.Members.{in_image}
+use Rattle.history_standing.specs.Trees.{In}
+use Rattle.history_standing.proofs.Members.{in_image}
 use Rattle.held_queue.specs.Blocks.{Blocks, TakesTurn}
 use Rattle.held_queue.specs.Frees.{freed_by, frees}
 use Rattle.held_queue.specs.declared.freed.Freed.{Freed}

@@ -21,9 +21,9 @@ use Rattle.poa_history.specs.Sound.{IsGiven, IsSound}
 use Rattle.history_standing.specs.Stages.{stage, arrival_in, is_at}
 use Rattle.history_standing.specs.Standings.{Standing, is_running, is_tried}
 use Rattle.poa_history.specs.Turns.{flight_of, activation_numbered}
-use Rattle.poa_tree.specs.Paths.{same_path}
-use Rattle.poa_tree.specs.Trees.{In}
-use Rattle.poa_tree.proofs.Finding.{find_in, find_none}
+use Rattle.history_standing.specs.Paths.{same_path}
+use Rattle.history_standing.specs.Trees.{In}
+use Rattle.history_standing.proofs.Finding.{find_in, find_none}
 use Rattle.poa_history.proofs.ActivationsFrom.{Brings, Tells}
 use Rattle.poa_history.proofs.FlightsFrom.{flights_command}
 use Rattle.poa_history.proofs.GoneIs.{some_in}
@@ -32,7 +32,7 @@ use Rattle.poa_history.proofs.MannedKept.{all_manned}
 use Rattle.poa_history.proofs.StagesFrom.{stays_admitted, stays_incarnated, stays_etherealized, stays_fewer}
 use Rattle.poa_history.proofs.TurnTells.{done_is, incarnation_is}
 use Rattle.held_queue.specs.Frees.{landing, incarnating, etherealizing, freed_by}
-use Rattle.poa_tree.proofs.Members.{any_in}
+use Rattle.history_standing.proofs.Members.{any_in}
 
 -- a number isn't freed that is given
 pub freed_never : {A : Type 0} (n : ℕ) (o : Option ℕ) → is_at n o ≡ false → o ≡ Some n → A

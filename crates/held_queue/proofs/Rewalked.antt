@@ -2,16 +2,16 @@
 use Rattle.std.specs.Prelude.{◌≡◌, ℕ, suc, Bool, true, false, cond, if◌then◌else◌, List, [], ◌∷◌, ◌++◌, filter, find, take, length, Option, Some, None, refl}
 use Rattle.std.proofs.Common.{sym, ap, ap₂, ◌∙◌}
 use Rattle.std.proofs.lemmas.Bool.{cond_both, true≢false, cases_Bool, false_from_ne_true}
-use Rattle.poa_tree.specs.declared.node.Node.{Node}
-use Rattle.poa_tree.specs.declared.found.Found.{Found}
-use Rattle.poa_tree.specs.declared.found.Found.TheVariants.{Live, Dying, Missing}
-use Rattle.poa_tree.specs.Nodes.{node_at}
-use Rattle.poa_tree.specs.Paths.{same_path}
-use Rattle.poa_tree.specs.Trees.{In, IsTree}
-use Rattle.poa_tree.specs.Walks.{walk_from, walk, adapter_met, child_met}
-use Rattle.poa_tree.proofs.Finding.{path_same}
-use Rattle.poa_tree.proofs.Leading.{front_same}
-use Rattle.poa_tree.proofs.WalkStands.{Tells, walk_tells}
+use Rattle.history_standing.specs.declared.node.Node.{Node}
+use Rattle.history_standing.specs.declared.found.Found.{Found}
+use Rattle.history_standing.specs.declared.found.Found.TheVariants.{Live, Dying, Missing}
+use Rattle.history_standing.specs.Nodes.{node_at}
+use Rattle.history_standing.specs.Paths.{same_path}
+use Rattle.history_standing.specs.Trees.{In, IsTree}
+use Rattle.history_standing.specs.Walks.{walk_from, walk, adapter_met, child_met}
+use Rattle.history_standing.proofs.Finding.{path_same}
+use Rattle.history_standing.proofs.Leading.{front_same}
+use Rattle.history_standing.proofs.WalkStands.{Tells, walk_tells}
 use Rattle.poa_choose.specs.declared.WalkFact.TheVariants.{Dying as MeetsDying, Missing as MeetsMissing, Found as Met}
 use Rattle.history_standing.specs.declared.flight.Flight.{Flight}
 use Rattle.poa_history.specs.Situations.{walk_fact}

@@ -9,8 +9,8 @@ use Rattle.history_standing.specs.Arrivals.{arrivals}
 use Rattle.poa_history.specs.Changes.{standing}
 use Rattle.poa_history.specs.Situations.{facts_of}
 use Rattle.history_standing.specs.Standings.{is_running}
-use Rattle.poa_tree.specs.Trees.{In}
-use Rattle.poa_tree.proofs.Members.{in_either}
+use Rattle.history_standing.specs.Trees.{In}
+use Rattle.history_standing.proofs.Members.{in_either}
 use Rattle.held_queue.specs.Blocks.{Blocks, TakesTurn}
 use Rattle.held_queue.specs.declared.hold.Hold.{Hold}
 use Rattle.held_queue.specs.declared.hold.Hold.TheVariants.{Turn as HeldTurn}

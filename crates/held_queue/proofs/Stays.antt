@@ -24,8 +24,8 @@ use Rattle.poa_history.specs.Sound.{IsGiven, IsSound}
 use Rattle.history_standing.specs.Stages.{is_at}
 use Rattle.history_standing.specs.Standings.{Standing}
 use Rattle.history_standing.specs.Templates.{manager_at}
-use Rattle.poa_tree.specs.declared.found.Found.{Found}
-use Rattle.poa_tree.specs.Walks.{walk, adapter_met, child_met, place_met}
+use Rattle.history_standing.specs.declared.found.Found.{Found}
+use Rattle.history_standing.specs.Walks.{walk, adapter_met, child_met, place_met}
 use Rattle.poa_history.proofs.LegalSound.{legal_sound}
 use Rattle.poa_history.proofs.MannedKept.{all_manned}
 use Rattle.held_queue.specs.Blocks.{MeetsAdapter, LacksChild, TakesTurn, Blocks}

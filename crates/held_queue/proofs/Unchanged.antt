@@ -13,8 +13,8 @@ use Rattle.poa_base.specs.declared.Entry.{Entry}
 use Rattle.poa_base.specs.declared.Entry.TheVariants.{Entered, Arrive, Filled, Left, Collect, Admit, Tried, Incarnated, Run, Done, TakeOut, Etherealized, Abandon}
 use Rattle.poa_base.specs.declared.Incarnation.{Incarnation}
 use Rattle.poa_base.specs.declared.Incarnation.TheVariants.{Fresh, Named, Double, Forward as ForwardTo, Raise}
-use Rattle.poa_tree.specs.declared.node.Node.{Node}
-use Rattle.poa_tree.specs.Paths.{is_root}
+use Rattle.history_standing.specs.declared.node.Node.{Node}
+use Rattle.history_standing.specs.Paths.{is_root}
 use Rattle.history_standing.specs.declared.stage.Stage.{Stage}
 use Rattle.history_standing.specs.declared.stage.Stage.TheVariants.{Free, Trying, Incarnating, Serving, Ran, Removing}
 use Rattle.history_standing.specs.Arrivals.{arrivals, call_of}

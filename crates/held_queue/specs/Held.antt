@@ -4,7 +4,7 @@ use Rattle.poa_base.specs.declared.Config.{Config}
 use Rattle.poa_base.specs.declared.Entry.{Entry}
 use Rattle.history_standing.specs.Arrivals.{arrivals}
 use Rattle.poa_history.specs.Situations.{facts_of}
-use Rattle.poa_tree.specs.Trees.{In}
+use Rattle.history_standing.specs.Trees.{In}
 use Rattle.held_queue.specs.Blocks.{Blocks, TakesTurn}
 use Rattle.held_queue.specs.Numbers.{Heap, has}
 use Rattle.held_queue.specs.Rows.{in_rows, IsSettledRow}

@@ -49,7 +49,7 @@ fn free_one(row: &mut Row, freed: Freed)
 }
 
 /// Lets go of each row what was freed. Takes no memory.
-#[tactic(auto, using(poa_tree::proofs::InPlace::mapped_one))]
+#[tactic(auto, using(history_standing::proofs::InPlace::mapped_one))]
 pub fn free(rows: &mut Vec<Row>, freed: Freed)
     ensures { rows.new.items ≡ map (freed_row freed) rows.old.items }
 {

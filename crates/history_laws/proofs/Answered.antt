@@ -44,12 +44,12 @@ use Rattle.history_standing.specs.Stages.{admitted}
 use Rattle.history_standing.specs.Standings.{Standing}
 use Rattle.history_standing.specs.Templates.{has_activator, manager_at, manager_number}
 use Rattle.poa_history.specs.Verdicts.{verdict_on}
-use Rattle.poa_tree.proofs.Finding.{find_in}
-use Rattle.poa_tree.proofs.Leading.{leads_self}
-use Rattle.poa_tree.specs.Nodes.{node_at}
-use Rattle.poa_tree.specs.Paths.{leads_to}
-use Rattle.poa_tree.specs.Trees.{In}
-use Rattle.poa_tree.specs.declared.node.Node.{Node}
+use Rattle.history_standing.proofs.Finding.{find_in}
+use Rattle.history_standing.proofs.Leading.{leads_self}
+use Rattle.history_standing.specs.Nodes.{node_at}
+use Rattle.history_standing.specs.Paths.{leads_to}
+use Rattle.history_standing.specs.Trees.{In}
+use Rattle.history_standing.specs.declared.node.Node.{Node}
 use Rattle.std.proofs.Common.{◌∙◌, ap, ap₂, arith, inl, inr, subst, sym}
 use Rattle.std.proofs.lemmas.Bool.{cases_Bool, eqb-true, lt-ltb}
 use Rattle.std.specs.List.{list_all, list_any}

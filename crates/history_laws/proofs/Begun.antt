@@ -28,8 +28,8 @@ use Rattle.history_standing.specs.declared.activation.Activation.{Activation}
 use Rattle.history_standing.specs.declared.activation.Phase.{Phase}
 use Rattle.history_standing.specs.declared.activation.Phase.TheVariants.{Begun, Complete, Void}
 use Rattle.history_standing.specs.declared.stage.Stage.TheVariants.{Incarnating, Removing}
-use Rattle.poa_tree.proofs.Members.{in_image}
-use Rattle.poa_tree.specs.Trees.{In}
+use Rattle.history_standing.proofs.Members.{in_image}
+use Rattle.history_standing.specs.Trees.{In}
 use Rattle.std.proofs.Common.{◌∙◌, ap, inl, inr, subst, sym}
 use Rattle.std.proofs.lemmas.Bool.{cond_both, eq-eqb, false_from_ne_true, true≢false}
 use Rattle.std.specs.Prelude.{◌==◌, ◌∷◌, ◌≡◌, Bool, List, None, Some, [], false, if◌then◌else◌, length, map, not, refl, true, ℕ}

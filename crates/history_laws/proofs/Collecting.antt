@@ -31,9 +31,9 @@ use Rattle.poa_history.specs.Verdicts.{chosen, verdict, verdict_on}
 use Rattle.history_standing.specs.declared.activation.Activation.{Activation}
 use Rattle.history_standing.specs.declared.stage.Stage.{Stage}
 use Rattle.history_standing.specs.declared.stage.Stage.TheVariants.{Free, Incarnating, Ran, Removing, Serving, Trying}
-use Rattle.poa_tree.specs.Paths.{is_root}
-use Rattle.poa_tree.specs.Trees.{In}
-use Rattle.poa_tree.specs.Walks.{walk}
+use Rattle.history_standing.specs.Paths.{is_root}
+use Rattle.history_standing.specs.Trees.{In}
+use Rattle.history_standing.specs.Walks.{walk}
 use Rattle.std.proofs.Common.{◌∙◌, ap, ap₂, inl, inr, sym}
 use Rattle.std.proofs.lemmas.Bool.{and_parts, cases_Bool, cond_both}
 use Rattle.std.specs.Option.{option_or}

@@ -23,10 +23,10 @@ use Rattle.history_standing.specs.References.{reference_text}
 use Rattle.poa_history.specs.Sound.{IsGiven}
 use Rattle.history_standing.specs.Standings.{Standing, is_active, is_of, is_tried}
 use Rattle.history_standing.specs.Templates.{makes_ids, manager_number, policies_at, retains, servant_number, template, uses_default_servant}
-use Rattle.poa_tree.proofs.WalkStands.{node_found}
-use Rattle.poa_tree.specs.Nodes.{node_at}
-use Rattle.poa_tree.specs.Paths.{is_root, parent_path}
-use Rattle.poa_tree.specs.declared.node.Node.{Node}
+use Rattle.history_standing.proofs.WalkStands.{node_found}
+use Rattle.history_standing.specs.Nodes.{node_at}
+use Rattle.history_standing.specs.Paths.{is_root, parent_path}
+use Rattle.history_standing.specs.declared.node.Node.{Node}
 use Rattle.std.proofs.Common.{◌∙◌, ap, ap₂, sym}
 use Rattle.std.proofs.lemmas.Bool.{and_parts, cond_both, true≢false}
 use Rattle.std.specs.List.{list_any}

@@ -24,14 +24,14 @@ use Rattle.history_standing.specs.Opening.{number_at}
 use Rattle.poa_history.specs.Sound.{IsGiven, IsSound}
 use Rattle.history_standing.specs.Standings.{Standing}
 use Rattle.history_standing.specs.declared.activation.Activation.{Activation}
-use Rattle.poa_tree.specs.Nodes.{stands}
-use Rattle.poa_tree.specs.Paths.{leads_to}
-use Rattle.poa_tree.specs.Trees.{In}
-use Rattle.poa_tree.specs.declared.node.Node.{Node}
+use Rattle.history_standing.specs.Nodes.{stands}
+use Rattle.history_standing.specs.Paths.{leads_to}
+use Rattle.history_standing.specs.Trees.{In}
+use Rattle.history_standing.specs.declared.node.Node.{Node}
 use Rattle.std.proofs.Common.{◌∙◌, ap, ap₂, arith, inl, inr, subst, sym}
 use Rattle.std.proofs.lemmas.Bool.{eq-eqb, lt-ltb, or_cases, true≢false}
 use Rattle.std.specs.Prelude.{◌&&◌, ◌==◌, ◌∷◌, ◌≡◌, List, None, Option, Some, [], false, length, refl, true, ℕ}
-use Rattle.poa_tree.proofs.Members.{any_in}
+use Rattle.history_standing.proofs.Members.{any_in}
 
 -- a command that destroys an adapter ends what is in it
 destroy_ends : (c : Config) (s : Standing) (a : Activation) (m : Node) → In m s.nodes → m.number ≡ a.adapter → (d : Option Command) → destroys m.path d ≡ true

@@ -33,11 +33,11 @@ use Rattle.history_standing.specs.declared.activation.Phase.{Phase}
 use Rattle.history_standing.specs.declared.activation.Phase.TheVariants.{Begun, Complete, Void}
 use Rattle.history_standing.specs.declared.stage.Stage.{Stage}
 use Rattle.history_standing.specs.declared.stage.Stage.TheVariants.{Free, Incarnating, Ran, Removing, Serving, Trying}
-use Rattle.poa_tree.proofs.Finding.{find_none}
-use Rattle.poa_tree.specs.Nodes.{stands_under}
-use Rattle.poa_tree.specs.Paths.{is_root, leads_to}
-use Rattle.poa_tree.specs.Trees.{In}
-use Rattle.poa_tree.specs.declared.node.Node.{Node}
+use Rattle.history_standing.proofs.Finding.{find_none}
+use Rattle.history_standing.specs.Nodes.{stands_under}
+use Rattle.history_standing.specs.Paths.{is_root, leads_to}
+use Rattle.history_standing.specs.Trees.{In}
+use Rattle.history_standing.specs.declared.node.Node.{Node}
 use Rattle.std.proofs.Common.{◌∙◌, ap, ap₂, arith, inl, inr, subst, sym}
 use Rattle.std.proofs.lemmas.Bool.{and_parts, cases_Bool, eq-eqb, eqb-true, false_from_ne_true, ltb-false, ltb-true, or_cases, true≢false}
 use Rattle.std.specs.List.{list_any}

@@ -35,8 +35,8 @@ use Rattle.history_standing.specs.Templates.{has_activator, rules_at}
 use Rattle.history_standing.specs.declared.activation.Activation.{Activation}
 use Rattle.history_standing.specs.declared.activation.Phase.TheVariants.{Begun, Complete, Void}
 use Rattle.history_standing.specs.declared.stage.Stage.TheVariants.{Incarnating}
-use Rattle.poa_tree.proofs.Finding.{find_in}
-use Rattle.poa_tree.specs.Trees.{In}
+use Rattle.history_standing.proofs.Finding.{find_in}
+use Rattle.history_standing.specs.Trees.{In}
 use Rattle.std.proofs.Common.{◌∙◌, ap, ap₂, arith, inl, inr, subst, sym}
 use Rattle.std.proofs.lemmas.Bool.{and_parts, eqb-true, false_from_ne_true, or_cases, true≢false}
 use Rattle.std.specs.Prelude.{◌&&◌, ◌<◌, ◌==◌, ◌||◌, ◌∷◌, ◌≡◌, ◌⊎◌, Bool, List, None, Some, [], false, length, not, refl, true, ℕ}

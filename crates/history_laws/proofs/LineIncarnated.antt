@@ -35,10 +35,10 @@ use Rattle.history_standing.specs.declared.activation.Activation.{Activation}
 use Rattle.history_standing.specs.declared.activation.Phase.{Phase}
 use Rattle.history_standing.specs.declared.activation.Phase.TheVariants.{Begun, Complete, Void}
 use Rattle.history_standing.specs.declared.stage.Stage.TheVariants.{Incarnating}
-use Rattle.poa_tree.proofs.Finding.{find_in, path_same, same_path_self}
-use Rattle.poa_tree.proofs.Leading.{bytes_same, same_self}
-use Rattle.poa_tree.specs.Paths.{same_bytes, same_path}
-use Rattle.poa_tree.specs.Trees.{In}
+use Rattle.history_standing.proofs.Finding.{find_in, path_same, same_path_self}
+use Rattle.history_standing.proofs.Leading.{bytes_same, same_self}
+use Rattle.history_standing.specs.Paths.{same_bytes, same_path}
+use Rattle.history_standing.specs.Trees.{In}
 use Rattle.std.proofs.Common.{◌∙◌, ap, ap₂, inl, inr, subst, sym}
 use Rattle.std.proofs.lemmas.Bool.{and_parts, cases_Bool, cond_both, eq-eqb, eqb-true, false_from_ne_true, true≢false}
 use Rattle.std.specs.Prelude.{◌&&◌, ◌==◌, ◌∷◌, ◌≡◌, Bool, List, None, Option, Some, false, if◌then◌else◌, refl, true, ℕ}

@@ -21,12 +21,12 @@ use Rattle.history_standing.specs.Standings.{Standing}
 use Rattle.history_standing.specs.Templates.{manager_number, servant_number}
 use Rattle.history_standing.specs.declared.stage.Stage.{Stage}
 use Rattle.history_standing.specs.declared.stage.Stage.TheVariants.{Free, Incarnating, Ran, Removing, Serving, Trying}
-use Rattle.poa_tree.proofs.Members.{image_in, in_front, kept_in}
-use Rattle.poa_tree.proofs.TreeKept.{marked_number, marked_path}
-use Rattle.poa_tree.specs.Nodes.{created, marked}
-use Rattle.poa_tree.specs.Paths.{is_root}
-use Rattle.poa_tree.specs.Trees.{In}
-use Rattle.poa_tree.specs.declared.node.Node.{Node}
+use Rattle.history_standing.proofs.Members.{image_in, in_front, kept_in}
+use Rattle.history_standing.proofs.TreeKept.{marked_number, marked_path}
+use Rattle.history_standing.specs.Nodes.{created, marked}
+use Rattle.history_standing.specs.Paths.{is_root}
+use Rattle.history_standing.specs.Trees.{In}
+use Rattle.history_standing.specs.declared.node.Node.{Node}
 use Rattle.std.proofs.Common.{◌∙◌, ap, subst, sym}
 use Rattle.std.proofs.lemmas.Bool.{cond_both}
 use Rattle.std.specs.Prelude.{◌++◌, ◌||◌, ◌∷◌, ◌≡◌, List, None, Option, Some, [], false, if◌then◌else◌, map, not, refl, true, ℕ}

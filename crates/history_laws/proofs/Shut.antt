@@ -34,13 +34,13 @@ use Rattle.poa_history.specs.Situations.{facts_of, key_or_none, walk_fact}
 use Rattle.poa_history.specs.Sound.{IsGiven, IsSound}
 use Rattle.history_standing.specs.Standings.{Standing}
 use Rattle.history_standing.specs.declared.activation.Activation.{Activation}
-use Rattle.poa_tree.proofs.WalkStands.{node_found, node_missing}
-use Rattle.poa_tree.specs.Nodes.{node_at}
-use Rattle.poa_tree.specs.Paths.{leads_to}
-use Rattle.poa_tree.specs.Trees.{In}
-use Rattle.poa_tree.specs.Walks.{walk, walk_from}
-use Rattle.poa_tree.specs.declared.found.Found.TheVariants.{Dying, Live, Missing}
-use Rattle.poa_tree.specs.declared.node.Node.{Node}
+use Rattle.history_standing.proofs.WalkStands.{node_found, node_missing}
+use Rattle.history_standing.specs.Nodes.{node_at}
+use Rattle.history_standing.specs.Paths.{leads_to}
+use Rattle.history_standing.specs.Trees.{In}
+use Rattle.history_standing.specs.Walks.{walk, walk_from}
+use Rattle.history_standing.specs.declared.found.Found.TheVariants.{Dying, Live, Missing}
+use Rattle.history_standing.specs.declared.node.Node.{Node}
 use Rattle.std.proofs.Common.{◌∙◌, ap, ap₂, arith, inl, inr, subst, sym}
 use Rattle.std.proofs.lemmas.Bool.{cases_Bool, cond_both, lt-ltb, or_cases, true≢false}
 use Rattle.std.specs.Prelude.{◌&&◌, ◌++◌, ◌<◌, ◌∷◌, ◌≡◌, List, None, Option, Some, [], false, if◌then◌else◌, length, nat_lt, refl, true, ℕ}

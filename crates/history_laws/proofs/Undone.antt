@@ -31,9 +31,9 @@ use Rattle.poa_history.specs.Verdicts.{chosen, verdict, verdict_on}
 use Rattle.history_standing.specs.declared.flight.Flight.{Flight}
 use Rattle.history_standing.specs.declared.stage.Stage.{Stage}
 use Rattle.history_standing.specs.declared.stage.Stage.TheVariants.{Free, Incarnating, Ran, Removing, Serving, Trying}
-use Rattle.poa_tree.proofs.Finding.{find_in, find_none}
-use Rattle.poa_tree.specs.Trees.{In}
-use Rattle.poa_tree.specs.Walks.{adapter_met, child_met, walk}
+use Rattle.history_standing.proofs.Finding.{find_in, find_none}
+use Rattle.history_standing.specs.Trees.{In}
+use Rattle.history_standing.specs.Walks.{adapter_met, child_met, walk}
 use Rattle.std.proofs.Common.{◌∙◌, ap, ap₂, arith, inl, inr, subst, sym}
 use Rattle.std.proofs.lemmas.Bool.{and_parts, cases_Bool, eq-eqb, ltb-false, ltb-true, true≢false}
 use Rattle.std.specs.Prelude.{◌&&◌, ◌<◌, ◌==◌, ◌∷◌, ◌≡◌, Bool, List, None, Option, Some, [], false, find, if◌then◌else◌, is_some, nat_lt, not, option_map, refl, true, ℕ}

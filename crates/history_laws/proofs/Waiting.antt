@@ -21,9 +21,9 @@ use Rattle.history_standing.specs.References.{reference_text}
 use Rattle.poa_history.specs.Replies.{asks, is_waiting}
 use Rattle.history_standing.specs.Standings.{Standing, is_active, is_of, is_tried}
 use Rattle.history_standing.specs.Templates.{makes_ids, manager_number, policies_at, retains, servant_number, template, uses_default_servant}
-use Rattle.poa_tree.specs.Nodes.{node_at}
-use Rattle.poa_tree.specs.Paths.{parent_path}
-use Rattle.poa_tree.specs.declared.node.Node.{Node}
+use Rattle.history_standing.specs.Nodes.{node_at}
+use Rattle.history_standing.specs.Paths.{parent_path}
+use Rattle.history_standing.specs.declared.node.Node.{Node}
 use Rattle.std.proofs.Common.{◌∙◌, ap, inl, inr, sym}
 use Rattle.std.proofs.lemmas.Bool.{cases_Bool, cond_both, true≢false}
 use Rattle.std.specs.List.{list_any}

@@ -3,7 +3,7 @@ ghost use Rattle.std.specs.Prelude.{◌≡◌, ◌<◌, ◌⊎◌, ◌∷◌, �
 ghost use Rattle.poa_base.specs.declared.Config.{Config};
 ghost use Rattle.poa_base.specs.declared.Entry.{Entry};
 ghost use Rattle.poa_base.specs.declared.Entry.TheVariants.{Collect};
-ghost use Rattle.poa_tree.specs.Trees.{In};
+ghost use Rattle.history_standing.specs.Trees.{In};
 ghost use Rattle.poa_base.specs.declared.Kind.{Kind};
 ghost use Rattle.poa_base.specs.declared.Verdict.{Verdict};
 ghost use Rattle.poa_choose.specs.Laws.{runs};

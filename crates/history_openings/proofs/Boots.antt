@@ -9,10 +9,10 @@ use Rattle.poa_policy.specs.Adapters.{IsAdapter}
 use Rattle.poa_policy.specs.Entries.{EachAfter}
 use Rattle.poa_policy.specs.Parents.{IsBoot}
 use Rattle.poa_policy.specs.Kept.{KeepsRules}
-use Rattle.poa_tree.specs.declared.node.Node.{Node}
-use Rattle.poa_tree.specs.Paths.{is_root}
-use Rattle.poa_tree.specs.Trees.{In, IsTree, MayCreate}
-use Rattle.poa_tree.proofs.Members.{in_front, in_back, in_either}
+use Rattle.history_standing.specs.declared.node.Node.{Node}
+use Rattle.history_standing.specs.Paths.{is_root}
+use Rattle.history_standing.specs.Trees.{In, IsTree, MayCreate}
+use Rattle.history_standing.proofs.Members.{in_front, in_back, in_either}
 use Rattle.history_standing.specs.Standings.{Standing}
 use Rattle.history_standing.specs.Opening.{with_node, root_alone, with_boots}
 use Rattle.poa_history.specs.Sound.{IsSound}

@@ -5,10 +5,10 @@ use Rattle.std.proofs.Common.{inl, inr, sym, subst, ap, ◌∙◌, arith}
 use Rattle.std.proofs.lemmas.Bool.{false_from_ne_true}
 use Rattle.std.proofs.lemmas.Option.{none-some, same_Some}
 use Rattle.poa_policy.specs.Entries.{EachAfter, IsNew, IsEntry}
-use Rattle.poa_tree.specs.Paths.{same_bytes}
-use Rattle.poa_tree.specs.Trees.{In}
-use Rattle.poa_tree.proofs.Leading.{same_self, bytes_same}
-use Rattle.poa_tree.proofs.Members.{in_front, in_back}
+use Rattle.history_standing.specs.Paths.{same_bytes}
+use Rattle.history_standing.specs.Trees.{In}
+use Rattle.history_standing.proofs.Leading.{same_self, bytes_same}
+use Rattle.history_standing.proofs.Members.{in_front, in_back}
 
 -- what holds of each element holds of one
 pub all_in : {A : Type 0} (P : A → Type 0) (xs : List A) (x : A) → AllByRecursion P xs → In x xs → P x

@@ -11,11 +11,11 @@ use Rattle.poa_policy.specs.Entries.{EachAfter}
 use Rattle.poa_policy.specs.Objects.{IsObject, id_key, servant_key}
 use Rattle.poa_policy.specs.Parents.{IsBoot}
 use Rattle.poa_policy.specs.Kept.{KeepsRules}
-use Rattle.poa_tree.specs.declared.node.Node.{Node}
-use Rattle.poa_tree.specs.Nodes.{node_at}
-use Rattle.poa_tree.specs.Trees.{In}
-use Rattle.poa_tree.proofs.Members.{in_front, in_back, in_either}
-use Rattle.poa_tree.proofs.WalkStands.{node_found, node_missing}
+use Rattle.history_standing.specs.declared.node.Node.{Node}
+use Rattle.history_standing.specs.Nodes.{node_at}
+use Rattle.history_standing.specs.Trees.{In}
+use Rattle.history_standing.proofs.Members.{in_front, in_back, in_either}
+use Rattle.history_standing.proofs.WalkStands.{node_found, node_missing}
 use Rattle.history_standing.specs.declared.activation.Activation.{Activation}
 use Rattle.history_standing.specs.declared.activation.Phase.TheVariants.{Complete}
 use Rattle.history_standing.specs.Templates.{policies_at, makes_ids, is_unique}

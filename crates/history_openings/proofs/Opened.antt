@@ -9,8 +9,8 @@ use Rattle.poa_base.specs.declared.Entry.{Entry}
 use Rattle.poa_base.specs.declared.ServantConf.{ServantConf}
 use Rattle.poa_policy.specs.Kept.{KeepsRules, IsServant}
 use Rattle.poa_policy.proofs.Each.{each_at}
-use Rattle.poa_tree.specs.Paths.{same_bytes}
-use Rattle.poa_tree.specs.Trees.{In}
+use Rattle.history_standing.specs.Paths.{same_bytes}
+use Rattle.history_standing.specs.Trees.{In}
 use Rattle.history_standing.specs.Templates.{servant_number, servant_name}
 use Rattle.history_standing.specs.Opening.{root_alone, with_boots, opening}
 use Rattle.poa_history.specs.Alone.{IsGivenAlone}

@@ -14,9 +14,9 @@ use Rattle.poa_policy.specs.Adapters.{IsAdapter}
 use Rattle.poa_policy.specs.Objects.{IsHome}
 use Rattle.poa_policy.specs.Parents.{IsBoot}
 use Rattle.poa_policy.specs.Kept.{KeepsRules}
-use Rattle.poa_tree.specs.Paths.{same_path}
-use Rattle.poa_tree.specs.Trees.{In}
-use Rattle.poa_tree.proofs.Finding.{find_in, find_none, same_path_self, path_same}
+use Rattle.history_standing.specs.Paths.{same_path}
+use Rattle.history_standing.specs.Trees.{In}
+use Rattle.history_standing.proofs.Finding.{find_in, find_none, same_path_self, path_same}
 use Rattle.history_standing.specs.Templates.{entry_of, root_template, policies_at, makes_ids, is_unique, activates_implicitly}
 use Rattle.poa_history.specs.Sound.{ImplicitMakes}
 use Rattle.history_openings.proofs.Entries.{entry_in, each_in, alone_by_key}

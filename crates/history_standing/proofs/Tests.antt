@@ -3,8 +3,8 @@ use Rattle.std.specs.Prelude.{◌≡◌, Bool, true, false, not, List, refl}
 use Rattle.std.specs.List.{list_any}
 use Rattle.std.proofs.Common.{sym, ap, ◌∙◌}
 use Rattle.std.proofs.lemmas.Bool.{false_from_ne_true}
-use Rattle.poa_tree.specs.Trees.{In}
-use Rattle.poa_tree.proofs.Members.{any_in}
+use Rattle.history_standing.specs.Trees.{In}
+use Rattle.history_standing.proofs.Members.{any_in}
 
 -- each holds where the other does
 pub same_test : (x y : Bool) → (x ≡ true → y ≡ true) → (y ≡ true → x ≡ true) → x ≡ y

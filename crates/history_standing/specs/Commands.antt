@@ -17,12 +17,12 @@ use Rattle.poa_base.specs.declared.Answer.TheVariants.{Good, GoodId, GoodIor, No
 use Rattle.poa_base.specs.declared.Reason.{Reason}
 use Rattle.poa_base.specs.declared.Reason.TheVariants.{NoManager, AdapterInactive, AdapterNonExistent, NoTemplate, AdapterAlreadyExists, TooMany, WrongPolicy, NoServant, ServantAlreadyActive, BadId, ObjectAlreadyActive, ObjectNotActive, ServantNotActive, NoForward, BadWord}
 use Rattle.poa_base.specs.declared.Sid.TheVariants.{Named}
-use Rattle.poa_tree.specs.declared.node.Node.{Node}
+use Rattle.history_standing.specs.declared.node.Node.{Node}
 use Rattle.history_standing.specs.declared.activation.Activation.{Activation}
-use Rattle.poa_tree.specs.Paths.{parent_path}
+use Rattle.history_standing.specs.Paths.{parent_path}
 use Rattle.history_standing.specs.Templates.{template, policies_at, retains, is_unique, makes_ids, activates_implicitly, uses_default_servant, manager_number, servant_number}
 use Rattle.history_standing.specs.Standings.{Standing, is_active, is_mapped, has_servant, is_of, is_in_map, is_tried}
-use Rattle.poa_tree.specs.Nodes.{node_at}
+use Rattle.history_standing.specs.Nodes.{node_at}
 use Rattle.history_standing.specs.Ends.{is_over}
 use Rattle.history_standing.specs.Logs.{manager_state, endpoint_of}
 use Rattle.history_standing.specs.Opening.{made_id}

@@ -6,7 +6,7 @@ use Rattle.poa_base.specs.declared.Key.{Key}
 use Rattle.poa_base.specs.declared.Stamp.{Stamp}
 use Rattle.poa_base.specs.declared.Call.{Call}
 use Rattle.object_key.specs.Spelling.{key_spelling}
-use Rattle.poa_tree.specs.Paths.{same_bytes}
+use Rattle.history_standing.specs.Paths.{same_bytes}
 use Rattle.history_standing.specs.Arrivals.{target_of}
 
 -- so many names from the front, and what is behind them

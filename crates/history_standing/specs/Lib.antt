@@ -1,3 +1,7 @@
+pub mod Paths
+pub mod Nodes
+pub mod Walks
+pub mod Trees
 pub mod Searches
 pub mod Templates
 pub mod Arrivals

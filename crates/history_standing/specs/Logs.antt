@@ -15,7 +15,7 @@ use Rattle.poa_base.specs.declared.Entry.TheVariants.{Admit}
 use Rattle.poa_base.specs.declared.Verdict.{Verdict}
 use Rattle.poa_base.specs.declared.Verdict.TheVariants.{Answer, Wait}
 use Rattle.poa_base.specs.declared.Answer.TheVariants.{No}
-use Rattle.poa_tree.specs.Paths.{same_path}
+use Rattle.history_standing.specs.Paths.{same_path}
 use Rattle.history_standing.specs.Templates.{template_or_root, manager_number}
 use Rattle.history_standing.specs.Arrivals.{call_of}
 

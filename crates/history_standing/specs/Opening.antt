@@ -8,8 +8,8 @@ use Rattle.poa_base.specs.declared.Sid.TheVariants.{Named}
 use Rattle.history_standing.specs.declared.activation.Phase.{Phase}
 use Rattle.history_standing.specs.declared.activation.Phase.TheVariants.{Complete}
 use Rattle.history_standing.specs.Standings.{Standing}
-use Rattle.poa_tree.specs.Nodes.{node_at, created}
-use Rattle.poa_tree.specs.Paths.{is_root}
+use Rattle.history_standing.specs.Nodes.{node_at, created}
+use Rattle.history_standing.specs.Paths.{is_root}
 
 -- the adapter is created, and gets the next number
 abbrev pub with_node : List (List ℕ) → Standing → Standing

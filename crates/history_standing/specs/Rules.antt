@@ -13,7 +13,7 @@ use Rattle.poa_base.specs.declared.Incarnation.TheVariants.{Fresh, Named, Double
 use Rattle.poa_choose.specs.declared.Located.{Located}
 use Rattle.poa_choose.specs.declared.Located.TheVariants.{Servant as ByServant, Forward as ByForward, Raise as ByRaise, NoRule}
 use Rattle.history_standing.specs.declared.activation.Activation.{Activation}
-use Rattle.poa_tree.specs.Paths.{same_bytes}
+use Rattle.history_standing.specs.Paths.{same_bytes}
 use Rattle.history_standing.specs.Templates.{rules_at, policies_at, is_unique, servant_name}
 use Rattle.history_standing.specs.Standings.{Standing, is_in_map}
 

@@ -7,7 +7,7 @@ use Rattle.poa_base.specs.declared.Children.{Children}
 use Rattle.poa_base.specs.declared.Policy.TheVariants.{OrbCtrl, Transient, UniqueId, SystemId, Implicit, Retain, MapOnly}
 use Rattle.poa_base.specs.declared.PolicySet.{PolicySet}
 use Rattle.poa_base.specs.Policies.{is_retain, is_unique_id, is_system_id, is_implicit, is_default_servant, is_servant_manager, is_persistent}
-use Rattle.poa_tree.specs.Paths.{same_bytes, same_path}
+use Rattle.history_standing.specs.Paths.{same_bytes, same_path}
 
 -- the policies of the root: the defaults, but implicit activation (CORBA 3.3 Part 1, section 15.3.9)
 abbrev pub root_policies : PolicySet

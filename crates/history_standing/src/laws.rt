@@ -2,8 +2,8 @@
 ghost use Rattle.std.specs.Prelude.{◌≡◌, ℕ, true, false, ◌≤◌, List, None};
 ghost use Rattle.poa_base.specs.declared.Config.{Config};
 ghost use Rattle.poa_base.specs.declared.Entry.{Entry};
-ghost use Rattle.poa_tree.specs.Nodes.{stands_under};
-ghost use Rattle.poa_tree.specs.Trees.{In};
+ghost use Rattle.history_standing.specs.Nodes.{stands_under};
+ghost use Rattle.history_standing.specs.Trees.{In};
 ghost use Rattle.history_standing.specs.declared.activation.Activation.{Activation};
 ghost use Rattle.history_standing.specs.declared.flight.Flight.{Flight};
 ghost use Rattle.history_standing.specs.Arrivals.{arrivals, call_of, conn_of};

@@ -5,9 +5,16 @@
 
 mod activation;
 mod flight;
+mod found;
 pub mod laws;
+mod node;
+pub mod nodes;
+pub mod paths;
 mod stage;
+pub mod walks;
 
 pub use activation::{Activation, Phase};
 pub use flight::Flight;
+pub use found::Found;
+pub use node::Node;
 pub use stage::Stage;

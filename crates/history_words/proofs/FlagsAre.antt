@@ -17,8 +17,8 @@ use Rattle.history_standing.specs.declared.activation.Activation.{Activation}
 use Rattle.history_standing.specs.declared.activation.Phase.{Phase}
 use Rattle.history_standing.specs.declared.activation.Phase.TheVariants.{Begun, Complete, Void}
 use Rattle.history_standing.specs.declared.stage.Stage.TheVariants.{Free, Removing}
-use Rattle.poa_tree.specs.Trees.{In}
-use Rattle.poa_tree.proofs.Finding.{find_in}
+use Rattle.history_standing.specs.Trees.{In}
+use Rattle.history_standing.proofs.Finding.{find_in}
 use Rattle.poa_history.specs.Alone.{IsGivenAlone}
 use Rattle.poa_history.specs.Bounds.{IsWithinLimits}
 use Rattle.poa_history.specs.Changes.{standing, is_elsewhere}
@@ -45,7 +45,7 @@ use Rattle.poa_history.proofs.TurnTells.{takeout_is, removal_is}
 use Rattle.history_words.specs.Flags.{etherealizes, was_cleaned, IsShared, WasShared, TellsShared, TellsTruly}
 use Rattle.history_words.proofs.FlagsFrom.{bare, flags_from, was, fresh, remains_by}
 use Rattle.history_words.proofs.Opened.{opened_is}
-use Rattle.poa_tree.proofs.Members.{any_in}
+use Rattle.history_standing.proofs.Members.{any_in}
 use Rattle.history_standing.proofs.Tests.{not_true, not_false}
 
 -- what of an activation a command asks

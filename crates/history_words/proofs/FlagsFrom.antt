@@ -23,9 +23,9 @@ use Rattle.history_standing.specs.declared.activation.Phase.{Phase}
 use Rattle.history_standing.specs.declared.activation.Phase.TheVariants.{Begun}
 use Rattle.history_standing.specs.declared.stage.Stage.{Stage}
 use Rattle.history_standing.specs.declared.stage.Stage.TheVariants.{Free, Trying, Incarnating, Serving, Ran, Removing}
-use Rattle.poa_tree.specs.Nodes.{stands_under}
-use Rattle.poa_tree.specs.Trees.{In}
-use Rattle.poa_tree.proofs.Members.{in_either, in_image}
+use Rattle.history_standing.specs.Nodes.{stands_under}
+use Rattle.history_standing.specs.Trees.{In}
+use Rattle.history_standing.proofs.Members.{in_either, in_image}
 use Rattle.history_standing.specs.Arrivals.{call_of}
 use Rattle.poa_history.specs.Changes.{standing, changed, with_admitted, ended_by_destroy, with_manager_off, servant_of, with_made_activation}
 use Rattle.poa_history.specs.Changes.{with_reference, with_command, at_number, come_to, with_incarnated, is_elsewhere, with_etherealized}

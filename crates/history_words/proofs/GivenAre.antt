@@ -23,9 +23,9 @@ use Rattle.history_standing.specs.declared.activation.Phase.{Phase}
 use Rattle.history_standing.specs.declared.activation.Phase.TheVariants.{Begun, Complete, Void}
 use Rattle.history_standing.specs.declared.stage.Stage.{Stage}
 use Rattle.history_standing.specs.declared.stage.Stage.TheVariants.{Free, Trying, Incarnating, Serving, Ran, Removing}
-use Rattle.poa_tree.specs.Trees.{In}
-use Rattle.poa_tree.proofs.Finding.{find_in}
-use Rattle.poa_tree.proofs.Members.{in_image}
+use Rattle.history_standing.specs.Trees.{In}
+use Rattle.history_standing.proofs.Finding.{find_in}
+use Rattle.history_standing.proofs.Members.{in_image}
 use Rattle.poa_history.specs.Alone.{IsGivenAlone}
 use Rattle.poa_history.specs.Bounds.{IsWithinLimits}
 use Rattle.poa_history.specs.Changes.{standing, changed, servant_of, at_number, come_to, with_incarnated}

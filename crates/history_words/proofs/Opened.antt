@@ -7,9 +7,9 @@ use Rattle.poa_base.specs.declared.AdapterConf.{AdapterConf}
 use Rattle.poa_base.specs.declared.Config.{Config}
 use Rattle.poa_base.specs.declared.ObjectConf.{ObjectConf}
 use Rattle.poa_base.specs.declared.Sid.TheVariants.{Named as NamedServant}
-use Rattle.poa_tree.specs.Paths.{is_root}
-use Rattle.poa_tree.specs.Trees.{In}
-use Rattle.poa_tree.proofs.Members.{in_either}
+use Rattle.history_standing.specs.Paths.{is_root}
+use Rattle.history_standing.specs.Trees.{In}
+use Rattle.history_standing.proofs.Members.{in_either}
 use Rattle.history_standing.specs.declared.activation.Activation.{Activation}
 use Rattle.history_standing.specs.declared.activation.Phase.TheVariants.{Complete}
 use Rattle.poa_history.specs.Changes.{standing}

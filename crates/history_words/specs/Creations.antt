@@ -8,8 +8,8 @@ use Rattle.poa_base.specs.declared.Command.TheVariants.{Create}
 use Rattle.poa_base.specs.declared.Entry.{Entry}
 use Rattle.poa_base.specs.declared.Entry.TheVariants.{Tried}
 use Rattle.poa_base.specs.declared.Attempt.TheVariants.{Yes}
-use Rattle.poa_tree.specs.Paths.{is_root}
-use Rattle.poa_tree.specs.Walks.{walk, child_met}
+use Rattle.history_standing.specs.Paths.{is_root}
+use Rattle.history_standing.specs.Walks.{walk, child_met}
 use Rattle.history_standing.specs.Arrivals.{call_of}
 use Rattle.poa_history.specs.Changes.{standing}
 use Rattle.history_standing.specs.Keys.{key_in}

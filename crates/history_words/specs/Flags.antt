@@ -17,7 +17,7 @@ use Rattle.history_standing.specs.Logs.{command_done}
 use Rattle.poa_history.specs.Out.{was_taken}
 use Rattle.history_standing.specs.Stages.{stage}
 use Rattle.history_standing.specs.Standings.{Standing}
-use Rattle.poa_tree.specs.Trees.{In}
+use Rattle.history_standing.specs.Trees.{In}
 
 -- the command destroys adapters, or deactivates a manager, and etherealizes
 abbrev pub etherealizes : Option Command → Bool

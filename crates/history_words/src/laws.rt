@@ -2,8 +2,8 @@
 ghost use Rattle.std.specs.Prelude.{◌≡◌, ℕ, true, List, length, Option, Some, is_some, slice_get};
 ghost use Rattle.poa_base.specs.declared.Config.{Config};
 ghost use Rattle.poa_base.specs.declared.Entry.{Entry};
-ghost use Rattle.poa_tree.specs.declared.node.Node.{Node};
-ghost use Rattle.poa_tree.specs.Trees.{In};
+ghost use Rattle.history_standing.specs.declared.node.Node.{Node};
+ghost use Rattle.history_standing.specs.Trees.{In};
 ghost use Rattle.poa_history.specs.Alone.{IsGivenAlone};
 ghost use Rattle.poa_history.specs.Bounds.{IsWithinLimits};
 ghost use Rattle.poa_history.specs.Changes.{standing};

@@ -12,7 +12,7 @@ use Rattle.poa_base.specs.declared.Incarnation.TheVariants.{Fresh}
 use Rattle.history_standing.specs.declared.activation.Activation.{Activation}
 use Rattle.history_standing.specs.declared.stage.Stage.{Stage}
 use Rattle.history_standing.specs.declared.stage.Stage.TheVariants.{Free, Trying, Incarnating, Serving, Ran, Removing}
-use Rattle.poa_tree.specs.Paths.{same_bytes, same_path}
+use Rattle.history_standing.specs.Paths.{same_bytes, same_path}
 use Rattle.history_standing.specs.Stages.{stage}
 use Rattle.history_standing.specs.Standings.{Standing, same_servant}
 use Rattle.poa_history.specs.Changes.{standing}

@@ -12,9 +12,9 @@ use Rattle.poa_base.specs.declared.Answer.TheVariants.{GoodIor}
 use Rattle.poa_base.specs.declared.Verdict.{Verdict}
 use Rattle.poa_base.specs.declared.Verdict.TheVariants.{Answer, Wait}
 use Rattle.poa_base.specs.declared.Entry.{Entry}
-use Rattle.poa_tree.specs.declared.node.Node.{Node}
-use Rattle.poa_tree.specs.Nodes.{node_at}
-use Rattle.poa_tree.specs.Paths.{parent_path}
+use Rattle.history_standing.specs.declared.node.Node.{Node}
+use Rattle.history_standing.specs.Nodes.{node_at}
+use Rattle.history_standing.specs.Paths.{parent_path}
 use Rattle.history_standing.specs.Templates.{template, policies_at, retains, makes_ids, uses_default_servant, manager_number, servant_number}
 use Rattle.history_standing.specs.Standings.{Standing, is_active, is_of, is_tried}
 use Rattle.history_standing.specs.Ends.{is_over}

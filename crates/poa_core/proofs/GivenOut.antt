@@ -2,7 +2,7 @@
 use Rattle.std.proofs.Common.{◌≡◌, ℕ, ◌+◌, ◌<◌, ◌≤◌, ◌==◌, List, length, find, Option, Some, None, option_map, refl, sym, ap, subst, ◌∙◌, arith}
 use Rattle.poa_base.specs.declared.Entry.TheVariants.{Collect}
 use Rattle.poa_history.specs.Replies.{next_reply}
-use Rattle.poa_tree.proofs.Finding.{find_in}
+use Rattle.history_standing.proofs.Finding.{find_in}
 use Rattle.core_outboxes.specs.declared.desk.Desk.{Desk}
 use Rattle.core_outboxes.specs.declared.filed.Filed.{Filed}
 use Rattle.core_outboxes.specs.Owed.{AreOwed}

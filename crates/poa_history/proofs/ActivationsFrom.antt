@@ -16,7 +16,7 @@ use Rattle.poa_base.specs.declared.Entry.{Entry}
 use Rattle.poa_base.specs.declared.Entry.TheVariants.{Entered, Arrive, Filled, Left, Collect, Admit, Tried, Incarnated, Run, Done, TakeOut, Etherealized, Abandon}
 use Rattle.poa_base.specs.declared.Incarnation.{Incarnation}
 use Rattle.poa_base.specs.declared.Incarnation.TheVariants.{Fresh, Named, Double, Forward as ForwardTo, Raise}
-use Rattle.poa_tree.specs.declared.node.Node.{Node}
+use Rattle.history_standing.specs.declared.node.Node.{Node}
 use Rattle.history_standing.specs.declared.activation.Activation.{Activation}
 use Rattle.history_standing.specs.declared.activation.Phase.{Phase}
 use Rattle.history_standing.specs.declared.activation.Phase.TheVariants.{Begun, Complete, Void}
@@ -26,9 +26,9 @@ use Rattle.history_standing.specs.Templates.{has_activator, manager_at, manager_
 use Rattle.history_standing.specs.Arrivals.{call_of}
 use Rattle.history_standing.specs.Stages.{stage, arrival_in}
 use Rattle.history_standing.specs.Standings.{Standing, is_begun, is_complete, is_ending, is_void, is_of, is_used}
-use Rattle.poa_tree.specs.Nodes.{stands_under}
-use Rattle.poa_tree.specs.Trees.{In}
-use Rattle.poa_tree.specs.Walks.{walk, adapter_met}
+use Rattle.history_standing.specs.Nodes.{stands_under}
+use Rattle.history_standing.specs.Trees.{In}
+use Rattle.history_standing.specs.Walks.{walk, adapter_met}
 use Rattle.history_standing.specs.Ends.{is_left, let_out}
 use Rattle.history_standing.specs.Keys.{key_in}
 use Rattle.history_standing.specs.Logs.{is_accepted, command_in, command_done}
@@ -36,7 +36,7 @@ use Rattle.history_standing.specs.Opening.{with_activation, made_id, number_at}
 use Rattle.history_standing.specs.Commands.{is_implicit, live_at}
 use Rattle.poa_history.specs.Changes.{standing, changed, with_admitted, ended_by_destroy, with_manager_off, servant_of, with_made_activation, with_reference, with_command, at_number, come_to, with_incarnated, is_elsewhere, with_etherealized}
 use Rattle.poa_history.specs.Later.{IsLater}
-use Rattle.poa_tree.proofs.Members.{in_either, in_image}
+use Rattle.history_standing.proofs.Members.{in_either, in_image}
 use Rattle.poa_history.proofs.ActivationsLater.{begun_phase, later_self, later_through, later_ended, later_ending, later_out, later_told, later_come, later_let_out}
 use Rattle.poa_history.proofs.Untouched.{activations_in, activations_fewer, activations_tried}
 use Rattle.history_standing.proofs.Tests.{not_true}

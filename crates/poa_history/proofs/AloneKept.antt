@@ -20,7 +20,7 @@ use Rattle.poa_base.specs.declared.Entry.{Entry}
 use Rattle.poa_base.specs.declared.Entry.TheVariants.{Admit, Incarnated, TakeOut}
 use Rattle.poa_base.specs.declared.Incarnation.{Incarnation}
 use Rattle.poa_base.specs.declared.Incarnation.TheVariants.{Fresh, Named, Double, Forward as ForwardTo, Raise}
-use Rattle.poa_tree.specs.declared.node.Node.{Node}
+use Rattle.history_standing.specs.declared.node.Node.{Node}
 use Rattle.history_standing.specs.declared.flight.Flight.{Flight}
 use Rattle.history_standing.specs.declared.activation.Activation.{Activation}
 use Rattle.history_standing.specs.declared.activation.Phase.{Phase}
@@ -30,9 +30,9 @@ use Rattle.history_standing.specs.Templates.{has_activator, policies_at, rules_a
 use Rattle.history_standing.specs.Arrivals.{call_of}
 use Rattle.history_standing.specs.Stages.{stage}
 use Rattle.history_standing.specs.Standings.{Standing, is_complete, is_begun, is_ending, is_mapped, has_servant, same_servant, is_in_map, is_used}
-use Rattle.poa_tree.specs.Walks.{walk, adapter_met}
-use Rattle.poa_tree.specs.Trees.{In}
-use Rattle.poa_tree.specs.Paths.{is_root}
+use Rattle.history_standing.specs.Walks.{walk, adapter_met}
+use Rattle.history_standing.specs.Trees.{In}
+use Rattle.history_standing.specs.Paths.{is_root}
 use Rattle.history_standing.specs.Ends.{is_finished}
 use Rattle.history_standing.specs.Keys.{key_in}
 use Rattle.history_standing.specs.Logs.{command_done}
@@ -44,8 +44,8 @@ use Rattle.poa_history.specs.Legal.{MayFollow, IsLegal}
 use Rattle.poa_history.specs.Sound.{IsGiven, IsHome, IsSound}
 use Rattle.poa_history.specs.Bounds.{IsWithinLimits}
 use Rattle.poa_history.specs.Alone.{RunsAlone, ChangesAlone, IsMappedAlone, OwnsFresh, StandsAlone, IsGivenAlone}
-use Rattle.poa_tree.proofs.Members.{in_either, any_in}
-use Rattle.poa_tree.proofs.Finding.{find_in}
+use Rattle.history_standing.proofs.Members.{in_either, any_in}
+use Rattle.history_standing.proofs.Finding.{find_in}
 use Rattle.poa_history.proofs.SettledKept.{or_first, or_second}
 use Rattle.poa_history.proofs.CommandMoves.{live_tells, number_live}
 use Rattle.poa_history.proofs.TurnTells.{IsAdmission, admission_is, takeout_is, incarnation_is}

@@ -10,15 +10,15 @@ use Rattle.poa_base.specs.declared.Command.TheVariants.{Manager, Create, Destroy
 use Rattle.poa_base.specs.declared.Order.TheVariants.{Activate as ActivateAll, Hold, Discard, Deactivate as DeactivateAll}
 use Rattle.poa_base.specs.declared.Verdict.{Verdict}
 use Rattle.poa_base.specs.declared.Verdict.TheVariants.{Serve, Preset, Locator, Incarnate, Try, Refuse, Forward, Addressing, Here, Unknown, Answer, Wait}
-use Rattle.poa_tree.specs.declared.node.Node.{Node}
+use Rattle.history_standing.specs.declared.node.Node.{Node}
 use Rattle.history_standing.specs.declared.flight.Flight.{Flight}
 use Rattle.history_standing.specs.declared.activation.Activation.{Activation}
 use Rattle.history_standing.specs.declared.activation.Phase.TheVariants.{Begun, Complete, Void}
 use Rattle.history_standing.specs.Templates.{policies_at, makes_ids, has_activator, manager_at, manager_number, servant_number}
 use Rattle.history_standing.specs.Standings.{Standing, is_begun, is_of, is_void}
-use Rattle.poa_tree.specs.Nodes.{stands_under}
+use Rattle.history_standing.specs.Nodes.{stands_under}
 use Rattle.history_standing.specs.Ends.{is_finished, is_over}
-use Rattle.poa_tree.specs.Walks.{walk, adapter_met, child_met}
+use Rattle.history_standing.specs.Walks.{walk, adapter_met, child_met}
 use Rattle.history_standing.specs.Opening.{with_made, made_id, number_at}
 use Rattle.history_standing.specs.Commands.{is_bad_id, is_implicit, live_at}
 use Rattle.history_standing.specs.declared.stage.Stage.{Stage}
@@ -29,13 +29,13 @@ use Rattle.history_standing.specs.Stages.{stage, arrival_in}
 use Rattle.history_standing.specs.Keys.{key_in}
 use Rattle.history_standing.specs.Logs.{is_accepted, command_in, command_done}
 use Rattle.poa_history.specs.Changes.{without_flight, child_tried, with_child, with_tried, at_number, come_to, with_incarnated, is_elsewhere, with_takeout, with_etherealized, changed, with_flight, with_activations, with_request, with_incarnation, with_admitted, ended_by_destroy, with_destroyed, with_manager_off, with_deactivated, servant_of, with_made_activation, with_reference, with_command}
-use Rattle.poa_tree.specs.Trees.{MayCreate}
+use Rattle.history_standing.specs.Trees.{MayCreate}
 use Rattle.poa_history.specs.Sound.{IsSound}
 use Rattle.poa_history.proofs.SoundKept.{IsUntried, MayFly, MayLive, Follows, fewer_flights_sound, with_node_sound, with_dying_sound, with_flight_sound, with_activation_sound, with_activations_sound}
 use Rattle.poa_history.proofs.SettledKept.{or_first, or_second}
-use Rattle.poa_tree.proofs.Members.{in_kept}
-use Rattle.poa_tree.proofs.Finding.{find_in}
-use Rattle.poa_tree.proofs.WalkStands.{met_stands}
+use Rattle.history_standing.proofs.Members.{in_kept}
+use Rattle.history_standing.proofs.Finding.{find_in}
+use Rattle.history_standing.proofs.WalkStands.{met_stands}
 use Rattle.poa_base.specs.declared.Entry.{Entry}
 use Rattle.poa_base.specs.declared.Entry.TheVariants.{Entered, Arrive, Filled, Left, Collect, Admit, Tried, Incarnated, Run, Done, TakeOut, Etherealized, Abandon}
 use Rattle.poa_base.specs.declared.Attempt.{Attempt}

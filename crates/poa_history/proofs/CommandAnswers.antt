@@ -22,9 +22,9 @@ use Rattle.poa_choose.specs.declared.Facts.{Facts}
 use Rattle.poa_choose.specs.declared.KeyFact.{KeyFact}
 use Rattle.poa_choose.specs.declared.KeyFact.TheVariants.{Absent, Bad as BadKey, OtherRun, Transient, Persistent}
 use Rattle.poa_choose.specs.Table.{key_rows, first_row}
-use Rattle.poa_tree.specs.declared.node.Node.{Node}
-use Rattle.poa_tree.specs.Paths.{parent_path}
-use Rattle.poa_tree.specs.Nodes.{node_at}
+use Rattle.history_standing.specs.declared.node.Node.{Node}
+use Rattle.history_standing.specs.Paths.{parent_path}
+use Rattle.history_standing.specs.Nodes.{node_at}
 use Rattle.history_standing.specs.Templates.{template, policies_at, retains, makes_ids, uses_default_servant, manager_number, servant_number}
 use Rattle.history_standing.specs.Arrivals.{call_of, target_of}
 use Rattle.history_standing.specs.Standings.{Standing, is_active, is_of, is_tried}

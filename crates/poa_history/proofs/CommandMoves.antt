@@ -9,21 +9,21 @@ use Rattle.poa_base.specs.declared.Reason.TheVariants.{AdapterNonExistent, NoTem
 use Rattle.poa_base.specs.declared.Answer.TheVariants.{Good, GoodId, No}
 use Rattle.poa_base.specs.declared.Verdict.{Verdict}
 use Rattle.poa_base.specs.declared.Verdict.TheVariants.{Answer}
-use Rattle.poa_tree.specs.declared.node.Node.{Node}
+use Rattle.history_standing.specs.declared.node.Node.{Node}
 use Rattle.history_standing.specs.declared.activation.Activation.{Activation}
-use Rattle.poa_tree.specs.Paths.{same_bytes, parent_path}
+use Rattle.history_standing.specs.Paths.{same_bytes, parent_path}
 use Rattle.history_standing.specs.Templates.{template, policies_at, retains, makes_ids, servant_number}
 use Rattle.history_standing.specs.Standings.{Standing, is_active, is_of, is_tried}
-use Rattle.poa_tree.specs.Nodes.{node_at}
+use Rattle.history_standing.specs.Nodes.{node_at}
 use Rattle.history_standing.specs.Ends.{is_over}
 use Rattle.history_standing.specs.Logs.{is_accepted}
 use Rattle.history_standing.specs.Opening.{with_made, made_id, number_at}
 use Rattle.history_standing.specs.Commands.{refusal, live_at, with_live, with_servant, is_taken, is_bad_id, is_implicit, create_row, activate_row, activate_id_row}
-use Rattle.poa_tree.specs.Trees.{In, MayCreate}
+use Rattle.history_standing.specs.Trees.{In, MayCreate}
 use Rattle.poa_history.specs.Sound.{IsSound}
-use Rattle.poa_tree.proofs.Leading.{same_self}
+use Rattle.history_standing.proofs.Leading.{same_self}
 use Rattle.poa_history.proofs.SoundKept.{IsUntried, MayLive}
-use Rattle.poa_tree.proofs.WalkStands.{node_found, node_missing}
+use Rattle.history_standing.proofs.WalkStands.{node_found, node_missing}
 use Rattle.poa_history.proofs.VerdictMoves.{untried_by}
 use Rattle.poa_history.proofs.ChangeSound.{with_made_sound}
 use Rattle.history_standing.proofs.Tests.{none_by}

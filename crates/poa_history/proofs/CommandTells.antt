@@ -16,7 +16,7 @@ use Rattle.poa_base.specs.declared.Verdict.{Verdict}
 use Rattle.poa_base.specs.declared.Verdict.TheVariants.{Answer}
 use Rattle.poa_base.specs.declared.Entry.{Entry}
 use Rattle.poa_base.specs.declared.Entry.TheVariants.{Entered, Arrive, Filled, Left, Collect, Admit, Tried, Incarnated, Run, Done, TakeOut, Etherealized, Abandon}
-use Rattle.poa_tree.specs.declared.node.Node.{Node}
+use Rattle.history_standing.specs.declared.node.Node.{Node}
 use Rattle.history_standing.specs.declared.activation.Activation.{Activation}
 use Rattle.history_standing.specs.Templates.{policies_at, retains, is_unique, makes_ids, activates_implicitly, servant_number}
 use Rattle.history_standing.specs.Arrivals.{call_of}
@@ -28,12 +28,12 @@ use Rattle.history_standing.specs.Commands.{refusal, live_at, with_servant, is_t
 use Rattle.poa_history.specs.Changes.{standing}
 use Rattle.poa_history.specs.Verdicts.{verdict_on}
 use Rattle.poa_history.specs.Legal.{MayFollow}
-use Rattle.poa_tree.specs.Trees.{In}
-use Rattle.poa_tree.proofs.Finding.{find_none}
+use Rattle.history_standing.specs.Trees.{In}
+use Rattle.history_standing.proofs.Finding.{find_none}
 use Rattle.poa_history.proofs.CommandMoves.{refused, held, lived, known}
 use Rattle.poa_history.proofs.GoneIs.{some_in}
 use Rattle.poa_history.proofs.StepMoves.{admitted_for}
-use Rattle.poa_tree.proofs.Members.{any_in}
+use Rattle.history_standing.proofs.Members.{any_in}
 
 -- the servant isn't in the map of the adapter at the path, where a servant is to be there once
 pub record IsUntaken (c : Config) (s : Standing) (p : List (List ℕ)) (servant : List ℕ) : Type 0 where

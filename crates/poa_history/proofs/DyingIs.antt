@@ -8,9 +8,9 @@ use Rattle.poa_base.specs.declared.ObjectConf.{ObjectConf}
 use Rattle.poa_base.specs.declared.Entry.{Entry}
 use Rattle.poa_base.specs.declared.Sid.TheVariants.{Named as NamedServant}
 use Rattle.history_standing.specs.declared.activation.Phase.TheVariants.{Complete}
-use Rattle.poa_tree.specs.declared.node.Node.{Node}
-use Rattle.poa_tree.specs.Paths.{is_root}
-use Rattle.poa_tree.specs.Trees.{In}
+use Rattle.history_standing.specs.declared.node.Node.{Node}
+use Rattle.history_standing.specs.Paths.{is_root}
+use Rattle.history_standing.specs.Trees.{In}
 use Rattle.history_standing.specs.Standings.{Standing}
 use Rattle.history_standing.specs.Opening.{with_node, with_activation, with_made, made_id, number_at, with_boots, with_object, with_objects, root_alone}
 use Rattle.poa_history.specs.Changes.{standing}
@@ -19,7 +19,7 @@ use Rattle.poa_history.specs.Legal.{IsLegal}
 use Rattle.poa_history.specs.Sound.{IsGiven}
 use Rattle.poa_history.specs.Bounds.{IsWithinLimits}
 use Rattle.poa_history.specs.Destroyed.{destroys, was_destroyed}
-use Rattle.poa_tree.proofs.Members.{in_either}
+use Rattle.history_standing.proofs.Members.{in_either}
 use Rattle.poa_history.proofs.NodesFrom.{stood, new, node_before, count_from}
 use Rattle.poa_history.proofs.LegalSound.{legal_sound}
 use Rattle.poa_history.proofs.Untouched.{nodes_in}

@@ -20,9 +20,9 @@ use Rattle.history_standing.specs.declared.activation.Activation.{Activation}
 use Rattle.history_standing.specs.declared.activation.Phase.{Phase}
 use Rattle.history_standing.specs.declared.stage.Stage.{Stage}
 use Rattle.history_standing.specs.declared.stage.Stage.TheVariants.{Free, Trying, Incarnating, Serving, Ran, Removing}
-use Rattle.poa_tree.specs.Nodes.{stands_under}
-use Rattle.poa_tree.specs.Paths.{same_bytes}
-use Rattle.poa_tree.specs.Trees.{In}
+use Rattle.history_standing.specs.Nodes.{stands_under}
+use Rattle.history_standing.specs.Paths.{same_bytes}
+use Rattle.history_standing.specs.Trees.{In}
 use Rattle.history_standing.specs.Templates.{has_activator, manager_at, manager_number, servant_number}
 use Rattle.history_standing.specs.Arrivals.{call_of}
 use Rattle.history_standing.specs.Stages.{stage, arrival_in}
@@ -37,7 +37,7 @@ use Rattle.poa_history.specs.Legal.{IsLegal}
 use Rattle.poa_history.specs.Sound.{IsGiven}
 use Rattle.poa_history.specs.Bounds.{IsWithinLimits}
 use Rattle.poa_history.specs.Endings.{ends, keeps_servants, is_ended_by, was_ended, was_quieted}
-use Rattle.poa_tree.proofs.Members.{in_either, in_image}
+use Rattle.history_standing.proofs.Members.{in_either, in_image}
 use Rattle.poa_history.proofs.LivesKept.{as_many, one_more, changed_shape}
 use Rattle.poa_history.proofs.AloneKept.{all_open}
 use Rattle.poa_history.proofs.LegalSound.{legal_sound}

@@ -22,13 +22,13 @@ use Rattle.history_standing.specs.Templates.{manager_number, servant_number}
 use Rattle.history_standing.specs.Arrivals.{call_of}
 use Rattle.history_standing.specs.Stages.{stage, arrival_in}
 use Rattle.history_standing.specs.Standings.{Standing}
-use Rattle.poa_tree.specs.Walks.{walk, adapter_met, child_met}
-use Rattle.poa_tree.specs.Trees.{In}
+use Rattle.history_standing.specs.Walks.{walk, adapter_met, child_met}
+use Rattle.history_standing.specs.Trees.{In}
 use Rattle.history_standing.specs.Keys.{key_in}
 use Rattle.history_standing.specs.Logs.{command_done}
 use Rattle.history_standing.specs.Commands.{is_implicit, live_at}
 use Rattle.poa_history.specs.Changes.{changed, with_admitted, with_made_activation, with_manager_off, with_command, child_tried, without_flight, with_tried, with_incarnated, with_etherealized}
-use Rattle.poa_tree.proofs.Members.{in_either, in_kept}
+use Rattle.history_standing.proofs.Members.{in_either, in_kept}
 use Rattle.poa_history.proofs.Untouched.{flights_in, flights_child}
 
 -- the flight that an Admit begins

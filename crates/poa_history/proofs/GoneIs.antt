@@ -7,10 +7,10 @@ use Rattle.std.proofs.lemmas.List.{append-nil}
 use Rattle.std.proofs.Math.Seq.{append_snoc}
 use Rattle.poa_base.specs.declared.Config.{Config}
 use Rattle.poa_base.specs.declared.Entry.{Entry}
-use Rattle.poa_tree.specs.declared.node.Node.{Node}
-use Rattle.poa_tree.specs.Paths.{same_bytes, leads_to, is_root}
-use Rattle.poa_tree.specs.Nodes.{stands_under}
-use Rattle.poa_tree.specs.Trees.{In}
+use Rattle.history_standing.specs.declared.node.Node.{Node}
+use Rattle.history_standing.specs.Paths.{same_bytes, leads_to, is_root}
+use Rattle.history_standing.specs.Nodes.{stands_under}
+use Rattle.history_standing.specs.Trees.{In}
 use Rattle.history_standing.specs.Standings.{Standing}
 use Rattle.history_standing.specs.Ends.{is_over, is_clear, is_done_with, let_out, settled, is_gone}
 use Rattle.poa_history.specs.Changes.{standing, changed}
@@ -18,9 +18,9 @@ use Rattle.poa_history.specs.Legal.{IsLegal}
 use Rattle.poa_history.specs.Sound.{IsGiven, IsSound}
 use Rattle.poa_history.specs.Bounds.{IsWithinLimits}
 use Rattle.poa_history.specs.Destroyed.{IsChildOf, IsEnded, IsEmptied}
-use Rattle.poa_tree.proofs.Members.{in_kept, kept_in, any_in}
-use Rattle.poa_tree.proofs.Finding.{find_in, find_none}
-use Rattle.poa_tree.proofs.Leading.{bytes_same, leads_on}
+use Rattle.history_standing.proofs.Members.{in_kept, kept_in, any_in}
+use Rattle.history_standing.proofs.Finding.{find_in, find_none}
+use Rattle.history_standing.proofs.Leading.{bytes_same, leads_on}
 use Rattle.poa_history.proofs.SettledKept.{is_under_itself, clear_longer, stays, flight_stays, activation_stays, let_out_sound}
 use Rattle.poa_history.proofs.StepMoves.{may_move}
 use Rattle.poa_history.proofs.ChangeSound.{changed_sound}

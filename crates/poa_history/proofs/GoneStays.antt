@@ -16,17 +16,17 @@ use Rattle.poa_choose.specs.declared.KeyFact.{KeyFact}
 use Rattle.poa_choose.specs.declared.KeyFact.TheVariants.{Absent, Bad as BadKey, OtherRun, Transient, Persistent}
 use Rattle.poa_choose.specs.declared.WalkFact.TheVariants.{Dying as MeetsDying}
 use Rattle.poa_choose.specs.Table.{walk_rows, key_rows, first_row}
-use Rattle.poa_tree.specs.declared.node.Node.{Node}
+use Rattle.history_standing.specs.declared.node.Node.{Node}
 use Rattle.history_standing.specs.declared.flight.Flight.{Flight}
 use Rattle.history_standing.specs.declared.activation.Activation.{Activation}
 use Rattle.history_standing.specs.declared.activation.Phase.{Phase}
 use Rattle.history_standing.specs.declared.activation.Phase.TheVariants.{Begun, Complete, Void}
 use Rattle.history_standing.specs.Arrivals.{call_of}
-use Rattle.poa_tree.specs.Paths.{leads_to, is_root}
-use Rattle.poa_tree.specs.Nodes.{node_at}
-use Rattle.poa_tree.specs.Trees.{In}
-use Rattle.poa_tree.specs.declared.found.Found.TheVariants.{Missing, Dying, Live}
-use Rattle.poa_tree.specs.Walks.{walk, walk_from}
+use Rattle.history_standing.specs.Paths.{leads_to, is_root}
+use Rattle.history_standing.specs.Nodes.{node_at}
+use Rattle.history_standing.specs.Trees.{In}
+use Rattle.history_standing.specs.declared.found.Found.TheVariants.{Missing, Dying, Live}
+use Rattle.history_standing.specs.Walks.{walk, walk_from}
 use Rattle.history_standing.specs.Standings.{Standing, is_void, has_flights}
 use Rattle.history_standing.specs.Ends.{is_finished, is_over, is_done_with, is_gone}
 use Rattle.history_standing.specs.Keys.{key_in}
@@ -40,8 +40,8 @@ use Rattle.poa_history.specs.Sound.{IsGiven, IsSound}
 use Rattle.poa_history.specs.Bounds.{IsWithinLimits}
 use Rattle.poa_history.specs.Destroyed.{destroys, IsChildOf, IsEnded}
 use Rattle.poa_history.specs.Later.{IsLater}
-use Rattle.poa_tree.proofs.Finding.{find_in, find_none}
-use Rattle.poa_tree.proofs.WalkStands.{node_found, node_missing}
+use Rattle.history_standing.proofs.Finding.{find_in, find_none}
+use Rattle.history_standing.proofs.WalkStands.{node_found, node_missing}
 use Rattle.poa_history.proofs.SettledKept.{or_first, or_second}
 use Rattle.poa_history.proofs.CommandMoves.{live_tells}
 use Rattle.poa_history.proofs.StepMoves.{chosen_go}

@@ -29,8 +29,8 @@ use Rattle.history_standing.specs.Templates.{manager_number, servant_number}
 use Rattle.history_standing.specs.Arrivals.{arrivals, call_of}
 use Rattle.history_standing.specs.Stages.{stage, arrival_in, is_at, admitted, is_unadmitted}
 use Rattle.history_standing.specs.Standings.{Standing}
-use Rattle.poa_tree.specs.Paths.{is_root}
-use Rattle.poa_tree.specs.Trees.{In}
+use Rattle.history_standing.specs.Paths.{is_root}
+use Rattle.history_standing.specs.Trees.{In}
 use Rattle.history_standing.specs.Keys.{key_in}
 use Rattle.history_standing.specs.Logs.{is_accepted, command_in, command_done}
 use Rattle.history_standing.specs.Opening.{with_node, with_activation, with_made, made_id, number_at, with_boots, with_object, with_objects, root_alone, opening}
@@ -39,7 +39,7 @@ use Rattle.poa_history.specs.Changes.{standing, changed, with_admitted, with_mad
 use Rattle.poa_history.specs.Turns.{flight_of, node_of, attempt_at, attempt}
 use Rattle.poa_history.specs.Legal.{MayFollow, IsLegal, MayArrive, is_shutdown, had_shutdown}
 use Rattle.poa_history.specs.Bounds.{IsWithinLimits, HasFewIds}
-use Rattle.poa_tree.proofs.Finding.{find_in}
+use Rattle.history_standing.proofs.Finding.{find_in}
 use Rattle.poa_history.proofs.SettledKept.{or_first}
 use Rattle.poa_history.proofs.TurnTells.{IsAdmission, IsTrial, admission_is, trial_is}
 use Rattle.poa_history.proofs.FlightsFrom.{flight_for, flew, begins, flight_from}

@@ -10,9 +10,9 @@ use Rattle.poa_base.specs.declared.Key.{Key}
 use Rattle.poa_base.specs.declared.Stamp.{Stamp}
 use Rattle.poa_base.specs.Limits.{IsName}
 use Rattle.object_key.specs.Spelling.{stamp_bytes, name_bytes, path_bytes, oid_bytes, key_spelling, IsStamp, IsKey}
-use Rattle.poa_tree.specs.Paths.{same_bytes}
+use Rattle.history_standing.specs.Paths.{same_bytes}
 use Rattle.history_standing.specs.Keys.{names_in, key_behind, stamp_in, key_tried, is_within, if_spelled, key_of}
-use Rattle.poa_tree.proofs.Leading.{same_self, bytes_same}
+use Rattle.history_standing.proofs.Leading.{same_self, bytes_same}
 
 -- the name in front is taken, and what is behind it is left
 taken : (x y : List ℕ) → take (length x) (x ++ y) ≡ x

@@ -25,8 +25,8 @@ use Rattle.history_standing.specs.declared.activation.Activation.{Activation}
 use Rattle.history_standing.specs.declared.activation.Phase.TheVariants.{Begun, Complete, Void}
 use Rattle.history_standing.specs.declared.stage.Stage.{Stage}
 use Rattle.history_standing.specs.declared.stage.Stage.TheVariants.{Free, Trying, Incarnating, Serving, Ran, Removing}
-use Rattle.poa_tree.specs.Paths.{same_bytes}
-use Rattle.poa_tree.specs.Trees.{In}
+use Rattle.history_standing.specs.Paths.{same_bytes}
+use Rattle.history_standing.specs.Trees.{In}
 use Rattle.history_standing.specs.Templates.{has_activator, manager_number, servant_number}
 use Rattle.history_standing.specs.Arrivals.{call_of}
 use Rattle.history_standing.specs.Stages.{stage, arrival_in, admitted}
@@ -45,8 +45,8 @@ use Rattle.poa_history.specs.Bounds.{IsWithinLimits}
 use Rattle.poa_history.specs.Alone.{IsGivenAlone}
 use Rattle.poa_history.specs.InFlight.{named, IsRunning, Holds, IsManned}
 use Rattle.poa_history.specs.Lifetime.{IsServable, IsRemovable, IsEtherealizable, KeepsLives, BeginsFreely, OpensFreely, HasLifetime}
-use Rattle.poa_tree.proofs.Finding.{find_in, find_none}
-use Rattle.poa_tree.proofs.Leading.{bytes_same}
+use Rattle.history_standing.proofs.Finding.{find_in, find_none}
+use Rattle.history_standing.proofs.Leading.{bytes_same}
 use Rattle.poa_history.proofs.ActivationsLater.{later_let_out}
 use Rattle.poa_history.proofs.ChangeSound.{MayMove}
 use Rattle.poa_history.proofs.StepMoves.{may_move}

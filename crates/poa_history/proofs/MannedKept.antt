@@ -22,8 +22,8 @@ use Rattle.history_standing.specs.Templates.{has_activator}
 use Rattle.history_standing.specs.Arrivals.{call_of}
 use Rattle.history_standing.specs.Stages.{brings, begun_by, incarnated, ran, stage, arrival_in, admitted}
 use Rattle.history_standing.specs.Standings.{Standing, is_complete, is_active, is_ending, is_void, is_used}
-use Rattle.poa_tree.specs.Walks.{walk, adapter_met}
-use Rattle.poa_tree.specs.Trees.{In}
+use Rattle.history_standing.specs.Walks.{walk, adapter_met}
+use Rattle.history_standing.specs.Trees.{In}
 use Rattle.history_standing.specs.Ends.{is_left, let_out}
 use Rattle.history_standing.specs.Keys.{key_in}
 use Rattle.history_standing.specs.Logs.{is_accepted, command_in}
@@ -35,7 +35,7 @@ use Rattle.poa_history.specs.Bounds.{IsWithinLimits}
 use Rattle.poa_history.specs.Alone.{IsGivenAlone}
 use Rattle.poa_history.specs.Later.{IsLater}
 use Rattle.poa_history.specs.InFlight.{named, IsFlying, IsRunning, Holds, IsManned}
-use Rattle.poa_tree.proofs.Members.{in_back, image_in, any_in}
+use Rattle.history_standing.proofs.Members.{in_back, image_in, any_in}
 use Rattle.poa_history.proofs.ActivationsLater.{step_later, later_let_out}
 use Rattle.poa_history.proofs.TurnTells.{IsIncarnation, admission_is, incarnation_is, run_is, takeout_is}
 use Rattle.poa_history.proofs.Served.{served_by, active, preset, located, incarnated as begun_served}

@@ -15,24 +15,24 @@ use Rattle.poa_base.specs.declared.Attempt.{Attempt}
 use Rattle.poa_base.specs.declared.Attempt.TheVariants.{Yes, No, Raised, Dying as ParentDying}
 use Rattle.poa_base.specs.declared.Incarnation.{Incarnation}
 use Rattle.poa_base.specs.declared.Incarnation.TheVariants.{Fresh, Named, Double, Forward as ForwardTo, Raise}
-use Rattle.poa_tree.specs.declared.node.Node.{Node}
+use Rattle.history_standing.specs.declared.node.Node.{Node}
 use Rattle.history_standing.specs.declared.stage.Stage.{Stage}
 use Rattle.history_standing.specs.declared.stage.Stage.TheVariants.{Free, Trying, Incarnating, Serving, Ran, Removing}
 use Rattle.history_standing.specs.Templates.{manager_number, servant_number}
 use Rattle.history_standing.specs.Arrivals.{call_of}
 use Rattle.history_standing.specs.Stages.{stage, arrival_in}
 use Rattle.history_standing.specs.Standings.{Standing}
-use Rattle.poa_tree.specs.Paths.{leads_to, is_root}
-use Rattle.poa_tree.specs.Nodes.{marked, created}
-use Rattle.poa_tree.specs.Trees.{In}
+use Rattle.history_standing.specs.Paths.{leads_to, is_root}
+use Rattle.history_standing.specs.Nodes.{marked, created}
+use Rattle.history_standing.specs.Trees.{In}
 use Rattle.history_standing.specs.Ends.{is_done_with, let_out}
 use Rattle.history_standing.specs.Keys.{key_in}
 use Rattle.history_standing.specs.Logs.{command_done}
 use Rattle.history_standing.specs.Commands.{is_implicit, live_at}
 use Rattle.poa_history.specs.Changes.{standing, changed, with_admitted, with_made_activation, with_manager_off, with_reference, with_command, child_tried, with_child, without_flight, with_tried, with_incarnated, with_etherealized}
 use Rattle.poa_history.specs.Destroyed.{destroys}
-use Rattle.poa_tree.proofs.Members.{in_either, in_image, in_kept}
-use Rattle.poa_tree.proofs.TreeKept.{marked_number, marked_path}
+use Rattle.history_standing.proofs.Members.{in_either, in_image, in_kept}
+use Rattle.history_standing.proofs.TreeKept.{marked_number, marked_path}
 use Rattle.poa_history.proofs.Untouched.{nodes_in, count_in}
 
 pub data NodeFrom (s : Standing) (command : Option Command) (n : Node) : Type 0 where

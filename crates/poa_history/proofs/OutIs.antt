@@ -9,7 +9,7 @@ use Rattle.poa_base.specs.declared.Entry.TheVariants.{Entered, Arrive, Filled, L
 use Rattle.history_standing.specs.declared.activation.Activation.{Activation}
 use Rattle.history_standing.specs.declared.activation.Phase.{Phase}
 use Rattle.history_standing.specs.declared.activation.Phase.TheVariants.{Begun, Complete, Void}
-use Rattle.poa_tree.specs.Trees.{In}
+use Rattle.history_standing.specs.Trees.{In}
 use Rattle.history_standing.specs.Templates.{has_activator}
 use Rattle.history_standing.specs.Standings.{is_complete, is_ending, is_void, is_used}
 use Rattle.history_standing.specs.Ends.{is_left, let_out}
@@ -20,7 +20,7 @@ use Rattle.poa_history.specs.Sound.{IsGiven}
 use Rattle.poa_history.specs.Bounds.{IsWithinLimits}
 use Rattle.poa_history.specs.Alone.{IsGivenAlone}
 use Rattle.poa_history.specs.Out.{was_taken, has_run_out}
-use Rattle.poa_tree.proofs.Members.{in_image, image_in}
+use Rattle.history_standing.proofs.Members.{in_image, image_in}
 use Rattle.poa_history.proofs.ActivationsLater.{later_let_out}
 use Rattle.poa_history.proofs.TurnTells.{takeout_is}
 use Rattle.poa_history.proofs.ActivationsFrom.{stood, begun, activation_from}

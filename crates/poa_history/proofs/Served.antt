@@ -15,25 +15,25 @@ use Rattle.poa_choose.specs.declared.Facts.{Facts}
 use Rattle.poa_choose.specs.declared.MapFact.TheVariants.{Active as ActiveAs, Busy, Free}
 use Rattle.poa_choose.specs.declared.WalkFact.TheVariants.{Dying as MeetsDying, Missing as MeetsMissing, Found as MeetsAdapter}
 use Rattle.poa_choose.specs.Table.{first_row}
-use Rattle.poa_tree.specs.declared.node.Node.{Node}
+use Rattle.history_standing.specs.declared.node.Node.{Node}
 use Rattle.history_standing.specs.declared.activation.Activation.{Activation}
 use Rattle.history_standing.specs.Templates.{policies_at, has_activator}
 use Rattle.history_standing.specs.Arrivals.{call_of, is_locate, target_of}
-use Rattle.poa_tree.specs.Paths.{same_bytes}
+use Rattle.history_standing.specs.Paths.{same_bytes}
 use Rattle.history_standing.specs.Standings.{Standing, is_active, is_of, is_running}
 use Rattle.history_standing.specs.Ends.{is_over}
-use Rattle.poa_tree.specs.declared.found.Found.{Found}
-use Rattle.poa_tree.specs.declared.found.Found.TheVariants.{Live, Dying, Missing}
-use Rattle.poa_tree.specs.Walks.{walk, adapter_met}
-use Rattle.poa_tree.specs.Trees.{In}
+use Rattle.history_standing.specs.declared.found.Found.{Found}
+use Rattle.history_standing.specs.declared.found.Found.TheVariants.{Live, Dying, Missing}
+use Rattle.history_standing.specs.Walks.{walk, adapter_met}
+use Rattle.history_standing.specs.Trees.{In}
 use Rattle.history_standing.specs.Keys.{key_in}
 use Rattle.poa_history.specs.Changes.{standing}
 use Rattle.poa_history.specs.Situations.{walk_fact, slot_of, is_changing, key_fact, key_or_none, is_crowded, facts_met, facts_of}
 use Rattle.poa_history.specs.Verdicts.{verdict_on}
 use Rattle.poa_history.specs.Sound.{IsSound}
-use Rattle.poa_tree.proofs.Finding.{find_in}
-use Rattle.poa_tree.proofs.Leading.{bytes_same}
-use Rattle.poa_tree.proofs.WalkStands.{Tells, walk_tells}
+use Rattle.history_standing.proofs.Finding.{find_in}
+use Rattle.history_standing.proofs.Leading.{bytes_same}
+use Rattle.history_standing.proofs.WalkStands.{Tells, walk_tells}
 use Rattle.poa_history.proofs.StepMoves.{chosen_go}
 use Rattle.poa_history.proofs.TableRuns.{is_run, RunsBy, serves, presets, locates, incarnates, runs_where}
 

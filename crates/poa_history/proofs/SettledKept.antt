@@ -4,19 +4,19 @@ use Rattle.std.specs.List.{list_any}
 use Rattle.std.proofs.Common.{inl, inr, sym, ap, ap₂, ◌∙◌}
 use Rattle.std.proofs.lemmas.Bool.{cases_Bool, cond_both, and_parts, or_cases, false_from_ne_true, eq-eqb}
 use Rattle.poa_base.specs.declared.Config.{Config}
-use Rattle.poa_tree.specs.declared.node.Node.{Node}
+use Rattle.history_standing.specs.declared.node.Node.{Node}
 use Rattle.history_standing.specs.declared.flight.Flight.{Flight}
 use Rattle.history_standing.specs.declared.activation.Activation.{Activation}
-use Rattle.poa_tree.specs.Paths.{leads_to, is_root}
+use Rattle.history_standing.specs.Paths.{leads_to, is_root}
 use Rattle.history_standing.specs.Templates.{has_activator}
 use Rattle.history_standing.specs.Standings.{Standing, is_void}
-use Rattle.poa_tree.specs.Nodes.{stands_under}
+use Rattle.history_standing.specs.Nodes.{stands_under}
 use Rattle.history_standing.specs.Ends.{is_finished, is_over, is_left, let_out, is_clear, is_done_with, without_ended, settled}
-use Rattle.poa_tree.specs.Trees.{In, IsMissingChild, MayDrop}
+use Rattle.history_standing.specs.Trees.{In, IsMissingChild, MayDrop}
 use Rattle.poa_history.specs.Sound.{IsSound}
-use Rattle.poa_tree.proofs.Members.{in_kept, kept_in, any_in}
-use Rattle.poa_tree.proofs.Leading.{leads_through, leads_self}
-use Rattle.poa_tree.proofs.TreeKept.{dropped_kept}
+use Rattle.history_standing.proofs.Members.{in_kept, kept_in, any_in}
+use Rattle.history_standing.proofs.Leading.{leads_through, leads_self}
+use Rattle.history_standing.proofs.TreeKept.{dropped_kept}
 use Rattle.poa_history.proofs.SoundKept.{Follows, with_activations_sound}
 use Rattle.history_standing.proofs.Tests.{none_by, not_true, not_false}
 

@@ -4,7 +4,7 @@ use Rattle.std.proofs.Common.{inl, inr, sym, subst, ap, ap₂, ◌∙◌, arith,
 use Rattle.std.proofs.lemmas.List.{length-map}
 use Rattle.std.proofs.lemmas.Bool.{cases_Bool}
 use Rattle.poa_base.specs.declared.Config.{Config}
-use Rattle.poa_tree.specs.declared.node.Node.{Node}
+use Rattle.history_standing.specs.declared.node.Node.{Node}
 use Rattle.history_standing.specs.declared.flight.Flight.{Flight}
 use Rattle.history_standing.specs.declared.activation.Activation.{Activation}
 use Rattle.history_standing.specs.declared.activation.Phase.{Phase}
@@ -13,11 +13,11 @@ use Rattle.history_standing.specs.Ends.{is_over}
 use Rattle.history_standing.specs.Commands.{is_bad_id}
 use Rattle.history_standing.specs.Opening.{with_node, with_activation}
 use Rattle.poa_history.specs.Changes.{with_flight, with_activations, with_dying}
-use Rattle.poa_tree.specs.Nodes.{marked, created}
-use Rattle.poa_tree.specs.Trees.{In, Stands, IsMissingChild, MayCreate}
+use Rattle.history_standing.specs.Nodes.{marked, created}
+use Rattle.history_standing.specs.Trees.{In, Stands, IsMissingChild, MayCreate}
 use Rattle.poa_history.specs.Sound.{IsHome, IsSound}
-use Rattle.poa_tree.proofs.Members.{in_front, in_either, in_image, image_in, in_kept}
-use Rattle.poa_tree.proofs.TreeKept.{created_kept, marked_number, marked_path, marked_kept}
+use Rattle.history_standing.proofs.Members.{in_front, in_either, in_image, image_in, in_kept}
+use Rattle.history_standing.proofs.TreeKept.{created_kept, marked_number, marked_path, marked_kept}
 
 module _ (c : Config) (run : ℕ) (s : Standing) (sound : IsSound c run s) where
   -- no trial of the child is in flight

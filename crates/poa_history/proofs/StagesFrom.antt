@@ -18,14 +18,14 @@ use Rattle.history_standing.specs.declared.stage.Stage.TheVariants.{Free, Trying
 use Rattle.history_standing.specs.Arrivals.{call_of}
 use Rattle.history_standing.specs.Stages.{brings, begun_by, incarnated, ran, stage, arrival_in, is_at, admitted}
 use Rattle.history_standing.specs.Standings.{Standing}
-use Rattle.poa_tree.specs.Walks.{walk, adapter_met, child_met}
-use Rattle.poa_tree.specs.Trees.{In}
+use Rattle.history_standing.specs.Walks.{walk, adapter_met, child_met}
+use Rattle.history_standing.specs.Trees.{In}
 use Rattle.history_standing.specs.Keys.{key_in}
 use Rattle.history_standing.specs.Logs.{command_done}
 use Rattle.poa_history.specs.Changes.{standing, changed, with_admitted, without_flight, child_tried, with_tried, at_number, come_to, with_incarnated, with_etherealized}
 use Rattle.poa_history.specs.Legal.{MayFollow}
 use Rattle.poa_history.specs.InFlight.{Holds}
-use Rattle.poa_tree.proofs.Members.{in_front, in_back, in_kept, kept_in}
+use Rattle.history_standing.proofs.Members.{in_front, in_back, in_kept, kept_in}
 use Rattle.poa_history.proofs.TurnTells.{admission_is, trial_is, incarnation_is, run_is, takeout_is, removal_is}
 use Rattle.poa_history.proofs.FlightsFrom.{flight_for, flights_command}
 use Rattle.poa_history.proofs.ActivationsFrom.{phase_by}

@@ -15,7 +15,7 @@ use Rattle.poa_base.specs.declared.Verdict.{Verdict}
 use Rattle.poa_choose.specs.declared.Choice.{Choice}
 use Rattle.poa_choose.specs.declared.Choice.TheVariants.{Go, Held}
 use Rattle.poa_choose.specs.Table.{first_row}
-use Rattle.poa_tree.specs.declared.node.Node.{Node}
+use Rattle.history_standing.specs.declared.node.Node.{Node}
 use Rattle.history_standing.specs.declared.activation.Activation.{Activation}
 use Rattle.history_standing.specs.declared.stage.Stage.{Stage}
 use Rattle.history_standing.specs.declared.stage.Stage.TheVariants.{Free, Trying, Incarnating, Serving, Ran, Removing}
@@ -23,7 +23,7 @@ use Rattle.history_standing.specs.Templates.{policies_at, retains, activates_imp
 use Rattle.history_standing.specs.Arrivals.{call_of, is_locate, target_of}
 use Rattle.history_standing.specs.Stages.{stage, arrival_in}
 use Rattle.history_standing.specs.Standings.{Standing}
-use Rattle.poa_tree.specs.Walks.{walk}
+use Rattle.history_standing.specs.Walks.{walk}
 use Rattle.history_standing.specs.Keys.{key_in}
 use Rattle.history_standing.specs.Logs.{is_accepted, command_in, command_done}
 use Rattle.history_standing.specs.Commands.{live_at, is_implicit, command_verdict, referred}

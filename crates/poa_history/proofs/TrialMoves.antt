@@ -4,15 +4,15 @@ use Rattle.std.proofs.Common.{sym, ap, ◌∙◌}
 use Rattle.std.proofs.lemmas.Bool.{eqb-true}
 use Rattle.poa_base.specs.declared.Config.{Config}
 use Rattle.poa_base.specs.declared.Attempt.TheVariants.{Yes, No, Dying}
-use Rattle.poa_tree.specs.declared.node.Node.{Node}
+use Rattle.history_standing.specs.declared.node.Node.{Node}
 use Rattle.history_standing.specs.declared.flight.Flight.{Flight}
 use Rattle.history_standing.specs.Standings.{Standing}
 use Rattle.poa_history.specs.Changes.{child_tried}
 use Rattle.history_standing.specs.Templates.{template_or_root}
 use Rattle.poa_history.specs.Turns.{node_of, attempt_by, attempt_at, attempt}
-use Rattle.poa_tree.specs.Trees.{IsMissingChild, MayCreate}
+use Rattle.history_standing.specs.Trees.{IsMissingChild, MayCreate}
 use Rattle.poa_history.specs.Sound.{IsSound}
-use Rattle.poa_tree.proofs.Finding.{find_in}
+use Rattle.history_standing.proofs.Finding.{find_in}
 use Rattle.poa_history.proofs.ChangeSound.{MayMake}
 
 module _ (c : Config) (run : ℕ) (s : Standing) (sound : IsSound c run s) where

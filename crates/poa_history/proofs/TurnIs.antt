@@ -15,8 +15,8 @@ use Rattle.history_standing.specs.Stages.{stage, is_unadmitted}
 use Rattle.poa_history.specs.Changes.{standing}
 use Rattle.poa_history.specs.Verdicts.{verdict}
 use Rattle.poa_history.specs.Turns.{going_on, is_due, removal, admission_of, admission, next_of, turn}
-use Rattle.poa_tree.specs.Trees.{In}
-use Rattle.poa_tree.proofs.Finding.{find_in}
+use Rattle.history_standing.specs.Trees.{In}
+use Rattle.history_standing.proofs.Finding.{find_in}
 
 -- what the numbers below a bound give first is given by one of them
 pub given_by : {A : Type 0} (give : ℕ → Option A) (k : ℕ) (x : A) → first_given give k ≡ Some x → (r : ℕ) × (r < k) × (give r ≡ Some x)

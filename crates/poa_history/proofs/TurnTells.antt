@@ -18,7 +18,7 @@ use Rattle.history_standing.specs.Rules.{brought}
 use Rattle.poa_history.specs.Verdicts.{verdict, verdict_on}
 use Rattle.poa_history.specs.Turns.{attempt, going_on, activation_numbered, is_due}
 use Rattle.poa_history.specs.Legal.{IsTurn}
-use Rattle.poa_tree.specs.Trees.{In}
+use Rattle.history_standing.specs.Trees.{In}
 use Rattle.poa_history.proofs.TurnIs.{mapped_by, goes_on, takes, admits, turned}
 
 -- how what was begun goes on

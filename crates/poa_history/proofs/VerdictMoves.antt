@@ -19,20 +19,20 @@ use Rattle.poa_base.specs.Policies.{is_retain}
 use Rattle.history_standing.specs.Templates.{policies_at, makes_ids}
 use Rattle.history_standing.specs.Commands.{is_bad_id}
 use Rattle.history_standing.specs.declared.activation.Activation.{Activation}
-use Rattle.poa_tree.specs.Paths.{same_bytes, same_path}
+use Rattle.history_standing.specs.Paths.{same_bytes, same_path}
 use Rattle.history_standing.specs.Arrivals.{target_of}
 use Rattle.history_standing.specs.Standings.{Standing, is_active, is_of, is_tried}
 use Rattle.history_standing.specs.Ends.{is_over}
-use Rattle.poa_tree.specs.declared.found.Found.{Found}
-use Rattle.poa_tree.specs.declared.found.Found.TheVariants.{Live, Dying, Missing}
-use Rattle.poa_tree.specs.Walks.{walk, adapter_met, child_met}
+use Rattle.history_standing.specs.declared.found.Found.{Found}
+use Rattle.history_standing.specs.declared.found.Found.TheVariants.{Live, Dying, Missing}
+use Rattle.history_standing.specs.Walks.{walk, adapter_met, child_met}
 use Rattle.poa_history.specs.Situations.{walk_fact, slot_of, key_fact, facts_met}
-use Rattle.poa_tree.specs.Trees.{In, IsFreePath}
+use Rattle.history_standing.specs.Trees.{In, IsFreePath}
 use Rattle.poa_history.specs.Sound.{IsSound}
-use Rattle.poa_tree.proofs.Finding.{find_none, same_path_self}
-use Rattle.poa_tree.proofs.Leading.{same_self}
+use Rattle.history_standing.proofs.Finding.{find_none, same_path_self}
+use Rattle.history_standing.proofs.Leading.{same_self}
 use Rattle.poa_history.proofs.SoundKept.{IsUntried, MayFly, MayLive}
-use Rattle.poa_tree.proofs.WalkStands.{Tells, walk_tells}
+use Rattle.history_standing.proofs.WalkStands.{Tells, walk_tells}
 use Rattle.poa_history.proofs.ChangeSound.{MayAdmit}
 use Rattle.poa_history.proofs.TableTells.{AsksAlone, servant, adapter, asked}
 use Rattle.history_standing.proofs.Tests.{none_by}

@@ -25,8 +25,8 @@ use Rattle.history_standing.specs.Templates.{has_activator, manager_at, manager_
 use Rattle.history_standing.specs.Arrivals.{call_of}
 use Rattle.history_standing.specs.Stages.{stage, arrival_in}
 use Rattle.history_standing.specs.Standings.{Standing, is_of, is_begun, is_mapped, has_servant}
-use Rattle.poa_tree.specs.Nodes.{stands_under, marked}
-use Rattle.poa_tree.specs.Walks.{walk, adapter_met, child_met}
+use Rattle.history_standing.specs.Nodes.{stands_under, marked}
+use Rattle.history_standing.specs.Walks.{walk, adapter_met, child_met}
 use Rattle.history_standing.specs.Ends.{settled}
 use Rattle.history_standing.specs.Keys.{key_in}
 use Rattle.history_standing.specs.Logs.{command_done}

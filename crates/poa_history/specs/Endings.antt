@@ -6,7 +6,7 @@ use Rattle.poa_base.specs.declared.Command.TheVariants.{Manager, Destroy, Deacti
 use Rattle.poa_base.specs.declared.Order.TheVariants.{Deactivate as DeactivateAll}
 use Rattle.poa_base.specs.declared.Entry.{Entry}
 use Rattle.history_standing.specs.declared.activation.Activation.{Activation}
-use Rattle.poa_tree.specs.Nodes.{stands_under}
+use Rattle.history_standing.specs.Nodes.{stands_under}
 use Rattle.history_standing.specs.Templates.{has_activator, manager_at, manager_number}
 use Rattle.history_standing.specs.Standings.{Standing, is_of}
 use Rattle.history_standing.specs.Logs.{command_done}

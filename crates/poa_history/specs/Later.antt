@@ -6,7 +6,7 @@ use Rattle.history_standing.specs.declared.activation.Activation.{Activation}
 use Rattle.history_standing.specs.declared.activation.Phase.TheVariants.{Complete, Void}
 use Rattle.history_standing.specs.Standings.{Standing}
 use Rattle.history_standing.specs.Ends.{is_finished}
-use Rattle.poa_tree.specs.Trees.{In}
+use Rattle.history_standing.specs.Trees.{In}
 
 -- the second is what the first has become: the same activation, and it has lost nothing of how far it came
 pub record IsLater (c : Config) (a b : Activation) : Type 0 where

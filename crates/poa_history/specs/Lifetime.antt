@@ -16,7 +16,7 @@ use Rattle.poa_history.specs.Turns.{activation_numbered}
 use Rattle.poa_history.specs.InFlight.{named}
 use Rattle.poa_history.specs.Legal.{EachEntry}
 use Rattle.history_standing.specs.Opening.{opening}
-use Rattle.poa_tree.specs.Trees.{In}
+use Rattle.history_standing.specs.Trees.{In}
 
 -- it has a servant, and isn't out of the map
 pub record IsServable (s : Standing) (n : ℕ) : Type 0 where

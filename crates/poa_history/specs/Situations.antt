@@ -19,9 +19,9 @@ use Rattle.history_standing.specs.Templates.{template_or_root, policies_at, mana
 use Rattle.history_standing.specs.Arrivals.{arrivals, call_of, is_message, is_locate, target_of}
 use Rattle.history_standing.specs.Stages.{is_unadmitted}
 use Rattle.history_standing.specs.Standings.{Standing, is_begun, is_active, is_of, is_running, is_tried}
-use Rattle.poa_tree.specs.declared.found.Found.{Found}
-use Rattle.poa_tree.specs.declared.found.Found.TheVariants.{Live, Dying, Missing}
-use Rattle.poa_tree.specs.Walks.{walk, adapter_met, child_met, place_met}
+use Rattle.history_standing.specs.declared.found.Found.{Found}
+use Rattle.history_standing.specs.declared.found.Found.TheVariants.{Live, Dying, Missing}
+use Rattle.history_standing.specs.Walks.{walk, adapter_met, child_met, place_met}
 use Rattle.history_standing.specs.Ends.{is_finished, is_over}
 use Rattle.history_standing.specs.Keys.{key_of, key_in}
 use Rattle.history_standing.specs.Logs.{manager_state, preset_of, forward_of}

@@ -1,7 +1,7 @@
 -- What holds of all that stands after a legal history.
 use Rattle.std.specs.Prelude.{◌≡◌, ℕ, ◌^◌, ◌<◌, true, false, List, length, Some}
 use Rattle.poa_base.specs.declared.Config.{Config}
-use Rattle.poa_tree.specs.declared.node.Node.{Node}
+use Rattle.history_standing.specs.declared.node.Node.{Node}
 use Rattle.history_standing.specs.declared.flight.Flight.{Flight}
 use Rattle.history_standing.specs.declared.activation.Activation.{Activation}
 use Rattle.history_standing.specs.Templates.{policies_at, makes_ids, activates_implicitly}
@@ -9,7 +9,7 @@ use Rattle.history_standing.specs.Standings.{Standing}
 use Rattle.history_standing.specs.Opening.{opening}
 use Rattle.history_standing.specs.Ends.{is_over}
 use Rattle.history_standing.specs.Commands.{is_bad_id}
-use Rattle.poa_tree.specs.Trees.{In, IsTree, Stands, IsMissingChild}
+use Rattle.history_standing.specs.Trees.{In, IsTree, Stands, IsMissingChild}
 
 -- the adapter of the activation stands, at its path
 pub record IsHome (ns : List Node) (a : Activation) : Type 0 where

@@ -22,7 +22,7 @@ use Rattle.history_standing.specs.declared.activation.Activation.{Activation}
 use Rattle.history_standing.specs.declared.activation.Phase.TheVariants.{Begun, Complete, Void}
 use Rattle.history_standing.specs.declared.stage.Stage.{Stage}
 use Rattle.history_standing.specs.declared.stage.Stage.TheVariants.{Serving, Removing}
-use Rattle.poa_tree.specs.Paths.{same_bytes, same_path}
+use Rattle.history_standing.specs.Paths.{same_bytes, same_path}
 use Rattle.history_standing.specs.Templates.{rules_at, servant_number}
 use Rattle.history_standing.specs.Arrivals.{call_of}
 use Rattle.history_standing.specs.Stages.{stage, admitted}

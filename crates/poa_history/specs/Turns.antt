@@ -9,7 +9,7 @@ use Rattle.poa_base.specs.declared.Entry.{Entry}
 use Rattle.poa_base.specs.declared.Entry.TheVariants.{Admit, Tried, Incarnated, Run, Done, TakeOut, Etherealized}
 use Rattle.poa_base.specs.declared.Attempt.{Attempt}
 use Rattle.poa_base.specs.declared.Attempt.TheVariants.{Yes, No, Raised, Dying}
-use Rattle.poa_tree.specs.declared.node.Node.{Node}
+use Rattle.history_standing.specs.declared.node.Node.{Node}
 use Rattle.history_standing.specs.declared.flight.Flight.{Flight}
 use Rattle.history_standing.specs.declared.activation.Activation.{Activation}
 use Rattle.history_standing.specs.declared.stage.Stage.{Stage}

@@ -6,7 +6,7 @@ use mathlib.Core.Option.{some}
 use lib.ListN.{get_elem?}
 use Rattle.poa_base.specs.declared.Entry.{Entry}
 use Rattle.poa_base.specs.declared.Entry.TheVariants.{Entered}
-use Rattle.poa_tree.specs.Trees.{In}
+use Rattle.history_standing.specs.Trees.{In}
 use Rattle.poa_history.specs.Legal.{IsLegal}
 use Rattle.seat_lock.specs.declared.view.View.{View}
 use Rattle.seat_lock.proofs.Lists.{at_last}

@@ -4,7 +4,7 @@ use Rattle.std.proofs.lemmas.List.{reverse-append}
 use mathlib.Core.Option.{some, some-ne-none}
 use lib.ListN.{get_elem?}
 use Rattle.poa_base.specs.declared.Entry.{Entry}
-use Rattle.poa_tree.specs.Trees.{In as InList}
+use Rattle.history_standing.specs.Trees.{In as InList}
 use Rattle.seat_lock.specs.Histories.{IsPrefix, Belongs}
 use Rattle.seat_lock.proofs.Calls.{at_prefix}
 use Rattle.seat_lock.proofs.Lists.{at_last, at_longer}

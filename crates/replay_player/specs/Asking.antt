@@ -8,7 +8,7 @@ use Rattle.poa_base.specs.declared.Key.{Key}
 use Rattle.poa_base.specs.declared.Stamp.{Stamp}
 use Rattle.object_key.specs.Spelling.{key_spelling}
 use Rattle.giop_msg.specs.Ask.{request_bytes}
-use Rattle.poa_tree.specs.Nodes.{node_at}
+use Rattle.history_standing.specs.Nodes.{node_at}
 use Rattle.poa_history.specs.Changes.{standing}
 use Rattle.history_standing.specs.Templates.{template, policies_at, lasts}
 use Rattle.run_history.specs.Life.{Life}

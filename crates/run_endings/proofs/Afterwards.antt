@@ -16,7 +16,7 @@ use Rattle.history_standing.specs.declared.activation.Phase.{Phase}
 use Rattle.history_standing.specs.declared.activation.Phase.TheVariants.{Begun, Complete, Void}
 use Rattle.poa_history.proofs.ActivationsFrom.{activation_from, activating, activating_id, begun, incarnating, referring, stood, BegunBy}
 use Rattle.poa_history.proofs.SettledKept.{or_first, or_second}
-use Rattle.poa_tree.specs.Trees.{In}
+use Rattle.history_standing.specs.Trees.{In}
 use Rattle.history_laws.proofs.Decided.{decided_still}
 use Rattle.run_history.specs.Owners.{worker_of}
 use Rattle.run_endings.specs.Closing.{HasNoTurn}

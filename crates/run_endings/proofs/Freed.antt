@@ -16,8 +16,8 @@ use Rattle.history_standing.specs.declared.activation.Activation.{Activation}
 use Rattle.history_standing.specs.declared.stage.Stage.{Stage}
 use Rattle.history_standing.specs.declared.stage.Stage.TheVariants.{Free, Trying, Incarnating, Serving, Ran, Removing}
 use Rattle.poa_history.proofs.MannedKept.{all_manned}
-use Rattle.poa_tree.specs.Trees.{In}
-use Rattle.poa_tree.proofs.Finding.{find_none}
+use Rattle.history_standing.specs.Trees.{In}
+use Rattle.history_standing.proofs.Finding.{find_none}
 use Rattle.history_laws.specs.Undone.{AreIdle}
 use Rattle.history_laws.proofs.Workers.{goes_with}
 use Rattle.history_openings.proofs.Opened.{alone, given, within}

@@ -24,10 +24,10 @@ use Rattle.poa_history.proofs.DyingIs.{dying_is}
 use Rattle.poa_history.proofs.LegalSound.{legal_sound}
 use Rattle.poa_history.proofs.SettledKept.{or_first, or_second}
 use Rattle.poa_history.proofs.TurnTells.{admission_is}
-use Rattle.poa_tree.specs.Nodes.{node_at}
-use Rattle.poa_tree.specs.Trees.{In}
-use Rattle.poa_tree.specs.declared.node.Node.{Node}
-use Rattle.poa_tree.proofs.WalkStands.{node_found, node_missing}
+use Rattle.history_standing.specs.Nodes.{node_at}
+use Rattle.history_standing.specs.Trees.{In}
+use Rattle.history_standing.specs.declared.node.Node.{Node}
+use Rattle.history_standing.proofs.WalkStands.{node_found, node_missing}
 use Rattle.history_laws.specs.Undone.{AreIdle, IsAllOver}
 use Rattle.history_laws.proofs.RootStays.{root_since}
 use Rattle.history_laws.proofs.Shut.{dying_over}

@@ -9,7 +9,7 @@ use Rattle.poa_history.specs.Replies.{decided}
 use Rattle.history_standing.specs.Stages.{is_abandoned, is_unadmitted}
 use Rattle.poa_history.specs.Turns.{turn}
 use Rattle.history_standing.specs.declared.activation.Activation.{Activation}
-use Rattle.poa_tree.specs.Trees.{In}
+use Rattle.history_standing.specs.Trees.{In}
 use Rattle.run_tally.specs.Leaving.{is_shut}
 use Rattle.run_history.specs.declared.givens.Givens.{Givens}
 use Rattle.run_history.specs.Owners.{worker_of}

@@ -1,7 +1,7 @@
 //! Laws of whose the entries of a run are.
 ghost use Rattle.std.specs.Prelude.{◌≡◌, ◌<◌, ℕ, List, Some};
 ghost use Rattle.poa_base.specs.declared.Entry.{Entry};
-ghost use Rattle.poa_tree.specs.Trees.{In};
+ghost use Rattle.history_standing.specs.Trees.{In};
 ghost use Rattle.history_standing.specs.Arrivals.{connections};
 ghost use Rattle.run_history.specs.declared.givens.Givens.{Givens};
 ghost use Rattle.run_history.specs.Runs.{IsHistory};

@@ -18,7 +18,7 @@ use Rattle.poa_history.specs.Replies.{decided}
 use Rattle.history_standing.specs.Stages.{stage}
 use Rattle.history_standing.specs.declared.stage.Stage.TheVariants.{Free}
 use Rattle.poa_session.specs.Served.{RefusedAs, ServedAs}
-use Rattle.poa_tree.specs.Trees.{In as IsAmong}
+use Rattle.history_standing.specs.Trees.{In as IsAmong}
 use Rattle.run_endings.specs.Closing.{HasNoTurn, IsOver}
 use Rattle.run_endings.proofs.Freed.{freed}
 use Rattle.run_endings.proofs.LateCalls.{late}

@@ -5,13 +5,13 @@ use active_map::templates::{has_template, policies_at};
 use conf_toml::read_config;
 use core_standing::calls::call_of;
 use core_standing::standing_of;
+use history_standing::nodes::node_at;
 use model_legal::first_illegal;
 use model_replies::{slow_next_reply, slow_owed, slow_reply};
 use object_key::write_key;
 use poa_base::{Body, Bytes, Call, Config, Entry, Head, Key, Path, Stamp, Store, WantMemory};
 use poa_journal::print_entry;
 use poa_model::slow_next;
-use poa_tree::nodes::node_at;
 use std::alloc::Global;
 use text_words::{any_identity, number32, path, put_number, signed, words};
 

@@ -1,5 +1,5 @@
 use Rattle.std.proofs.Common.{sym, subst}
-use Rattle.poa_tree.specs.Trees.{In}
+use Rattle.history_standing.specs.Trees.{In}
 use Rattle.active_map.proofs.Covering.{entered, stays_with}
 use Rattle.active_map.proofs.leaving.enter.Goals as goal
 

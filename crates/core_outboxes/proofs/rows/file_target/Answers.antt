@@ -1,7 +1,7 @@
 use Rattle.std.proofs.Common.{◌≡◌, ◌∙◌, ◌++◌, ◌+◌, ◌==◌, Some, ap, ap₂, arith, filter, inl, not, length, refl, subst, sym}
 use Rattle.history_standing.specs.Stages as begun
-use Rattle.poa_tree.specs.Trees.{In}
-use Rattle.poa_tree.proofs.Members.{in_kept}
+use Rattle.history_standing.specs.Trees.{In}
+use Rattle.history_standing.proofs.Members.{in_kept}
 use Rattle.core_outboxes.specs.Outboxes.{replies_at}
 use Rattle.core_outboxes.proofs.Awaiting.{counted_apart, less_one, one_apart, some_await}
 use Rattle.core_outboxes.proofs.Filing.{filed_one, unfiled}

@@ -1,6 +1,6 @@
 use Rattle.std.proofs.Common.{ap, sym, ◌∙◌}
 use Rattle.std.specs.Prelude.{position}
-use Rattle.poa_tree.specs.Paths.{same_path}
+use Rattle.history_standing.specs.Paths.{same_path}
 use Rattle.core_settings.specs.Told.{endpoint_row}
 use Rattle.core_settings.proofs.Rows.{found_put, found_pushed}
 use Rattle.core_settings.proofs.endpoints.put.Goals as goal

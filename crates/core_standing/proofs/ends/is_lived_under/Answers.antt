@@ -1,6 +1,6 @@
 use Rattle.std.proofs.Common.{◌∙◌, not, ◌&&◌, ap, sym, refl}
 use Rattle.std.specs.List.{list_any}
-use Rattle.poa_tree.specs.Nodes.{stands_under}
+use Rattle.history_standing.specs.Nodes.{stands_under}
 use Rattle.history_standing.specs.Ends as ends
 use Rattle.core_standing.proofs.Behind.{any_behind}
 use Rattle.core_standing.proofs.ends.is_lived_under.Goals as goal

@@ -1,6 +1,6 @@
 use Rattle.std.proofs.Common.{ℕ, false, ◌≡◌, ◌++◌, ◌∷◌, [], Some, None, ◌∙◌, ◌<◌, ap, ap₂, sym, subst, length, List}
 use Rattle.poa_base.specs.declared.Key.{Key}
-use Rattle.poa_tree.specs.Walks.{walk, adapter_met}
+use Rattle.history_standing.specs.Walks.{walk, adapter_met}
 use Rattle.history_standing.specs.declared.activation.Activation.{Activation}
 use Rattle.history_standing.specs.declared.activation.Phase.TheVariants.{Begun}
 use Rattle.history_standing.specs.declared.flight.Flight.{Flight}

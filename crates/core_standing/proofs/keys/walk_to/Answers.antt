@@ -1,7 +1,7 @@
 use Rattle.std.proofs.Common.{◌∙◌, ap, sym}
 use Rattle.std.specs.Prelude.{option_copied}
-use Rattle.poa_tree.specs.Walks.{walk}
-use Rattle.poa_tree.proofs.WalkStands.{node_found}
+use Rattle.history_standing.specs.Walks.{walk}
+use Rattle.history_standing.proofs.WalkStands.{node_found}
 use Rattle.core_standing.proofs.keys.walk_to.Goals as goal
 
 pub returns-in-Some : goal.returns-in-Some

@@ -1,5 +1,5 @@
 use Rattle.std.proofs.Common.{◌≡◌, ◌||◌, ◌++◌, not, filter, take, drop}
-use Rattle.poa_tree.specs.Paths.{is_root}
+use Rattle.history_standing.specs.Paths.{is_root}
 use Rattle.history_standing.specs.Ends as ends
 use Rattle.core_standing.specs.Seen.{seen}
 use Rattle.core_standing.proofs.settling.drop_gone.Given as goal

@@ -1,7 +1,7 @@
 use Rattle.std.proofs.Common.{◌==◌, ◌&&◌, ◌∙◌, not, sym, ap}
 use Rattle.std.specs.Option.{option_copied}
 use Rattle.std.proofs.lemmas.Bool.{and_parts, eqb-true}
-use Rattle.poa_tree.proofs.Finding.{find_in}
+use Rattle.history_standing.proofs.Finding.{find_in}
 use Rattle.history_standing.specs.Ends.{is_over}
 use Rattle.poa_history.proofs.GoneIs.{some_in as one_of}
 use Rattle.core_standing.proofs.Forgotten.{in_behind}

@@ -1,7 +1,7 @@
 use Rattle.std.proofs.Common.{◌∙◌, ap, subst}
 use Rattle.history_standing.specs.Ends.{without_ended}
 use Rattle.history_standing.specs.Standings.{Standing}
-use Rattle.poa_tree.specs.Trees.{In}
+use Rattle.history_standing.specs.Trees.{In}
 use Rattle.core_standing.specs.Seen.{seen}
 use Rattle.core_standing.proofs.Lasting.{lasts_all}
 use Rattle.core_standing.proofs.settling.settle.Goals as goal

@@ -3,7 +3,7 @@ use Rattle.std.proofs.lemmas.Bool.{eq-eqb}
 use Rattle.poa_history.specs.Changes as changes
 use Rattle.history_standing.specs.Stages.{arrival_in, stage}
 use Rattle.poa_history.proofs.Untouched.{activations_fewer, activations_tried}
-use Rattle.poa_tree.specs.Trees.{In}
+use Rattle.history_standing.specs.Trees.{In}
 use Rattle.core_standing.specs.Entries.{stage_at}
 use Rattle.core_standing.specs.declared.touched.Touched.TheVariants.{One}
 use Rattle.core_standing.specs.Touched.{Others, SameOthers, is_touched}

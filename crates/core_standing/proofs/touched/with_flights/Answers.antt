@@ -1,8 +1,8 @@
 use Rattle.std.proofs.Common.{◌≡◌, ◌+◌, ◌<◌, ◌==◌, ◌∷◌, ◌++◌, ◌∙◌, [], length, take, inl, inr, subst, sym, ap, arith}
 use Rattle.std.proofs.lemmas.List.{take_more}
 use Rattle.history_standing.specs.declared.flight.Flight.{Flight}
-use Rattle.poa_tree.specs.Trees.{In}
-use Rattle.poa_tree.proofs.Members.{in_either}
+use Rattle.history_standing.specs.Trees.{In}
+use Rattle.history_standing.proofs.Members.{in_either}
 use Rattle.core_standing.specs.Flying.{uses}
 use Rattle.core_standing.proofs.touched.with_flights.Goals as goal
 

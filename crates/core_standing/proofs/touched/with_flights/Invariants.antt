@@ -1,6 +1,6 @@
 use Rattle.std.proofs.Common.{◌≡◌, ◌==◌, ℕ, true, false, take}
 use Rattle.history_standing.specs.declared.flight.Flight.{Flight}
-use Rattle.poa_tree.specs.Trees.{In}
+use Rattle.history_standing.specs.Trees.{In}
 use Rattle.core_standing.specs.Flying.{uses}
 use Rattle.core_standing.specs.Touched.{is_touched}
 use Rattle.core_standing.proofs.touched.with_flights.Given as goal

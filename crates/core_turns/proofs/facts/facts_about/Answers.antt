@@ -1,6 +1,6 @@
 use Rattle.std.proofs.Common.{◌∙◌, ap, sym}
 use Rattle.std.specs.Prelude.{option_copied}
-use Rattle.poa_tree.proofs.WalkStands.{node_found}
+use Rattle.history_standing.proofs.WalkStands.{node_found}
 use Rattle.core_turns.proofs.facts.facts_about.Goals as goal
 
 pub returns-in-Some : goal.returns-in-Some

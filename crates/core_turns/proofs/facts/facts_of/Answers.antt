@@ -1,6 +1,6 @@
 use Rattle.std.proofs.Common.{◌≡◌, subst, ap, sym, refl, ◌∙◌}
 use Rattle.std.specs.Prelude.{IfOk, option_and_then}
-use Rattle.poa_tree.specs.Walks.{walk}
+use Rattle.history_standing.specs.Walks.{walk}
 use Rattle.history_standing.specs.Keys.{key_of}
 use Rattle.poa_history.specs.Situations.{key_or_none, key_fact}
 use Rattle.core_standing.specs.Seen.{seen}

@@ -1,5 +1,5 @@
 use Rattle.std.proofs.Common.{◌+◌, length, arith, subst, sym}
-use Rattle.poa_tree.specs.Trees.{In}
+use Rattle.history_standing.specs.Trees.{In}
 use Rattle.active_map.specs.Tables.{Table}
 use Rattle.active_map.proofs.IdsKept.{earlier_less, number_alone}
 use Rattle.active_map.proofs.activations.Activations.numbers.Goals as goal

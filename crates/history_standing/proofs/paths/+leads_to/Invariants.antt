@@ -1,5 +1,5 @@
 use Rattle.std.proofs.Common.{length}
-use Rattle.poa_tree.proofs.paths.+leads_to.Given as goal
+use Rattle.history_standing.proofs.paths.+leads_to.Given as goal
 
 abbrev pub decreases-leads_to : goal.decreases-leads_to
 decreases-leads_to l = length l.path.now

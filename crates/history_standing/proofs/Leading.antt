@@ -4,7 +4,7 @@ use Rattle.std.specs.Cmp.Lexicographic.{same_text}
 use Rattle.std.proofs.Common.{inl, inr, sym, subst, ap, ap₂}
 use Rattle.std.proofs.lemmas.Bool.{and_parts}
 use Rattle.std.proofs.lemmas.Cmp.{nat_list_eq_equiv}
-use Rattle.poa_tree.specs.Paths.{same_bytes, leads_to}
+use Rattle.history_standing.specs.Paths.{same_bytes, leads_to}
 
 pub same_self : (x : List ℕ) → same_bytes x x ≡ true
 same_self x = nat_list_eq_equiv.refl x

@@ -1,7 +1,7 @@
 -- What holds of the adapters that stand, whatever was created, destroyed and ended.
 use Rattle.std.specs.Prelude.{◌≡◌, ℕ, ◌<◌, Bool, true, false, List, [], ◌∷◌, ◌++◌, ◌⊎◌}
-use Rattle.poa_tree.specs.declared.node.Node.{Node}
-use Rattle.poa_tree.specs.Paths.{leads_to}
+use Rattle.history_standing.specs.declared.node.Node.{Node}
+use Rattle.history_standing.specs.Paths.{leads_to}
 
 -- x is an element of the list
 abbrev pub In : {A : Type 0} → A → List A → Type 0

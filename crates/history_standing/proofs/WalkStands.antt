@@ -3,14 +3,14 @@ use Rattle.std.specs.Prelude.{◌≡◌, ℕ, true, false, if◌then◌else◌, 
 use Rattle.std.proofs.Common.{sym, ap, ◌∙◌}
 use Rattle.std.proofs.lemmas.List.{append-nil}
 use Rattle.std.proofs.Math.Seq.{append_snoc}
-use Rattle.poa_tree.specs.declared.node.Node.{Node}
-use Rattle.poa_tree.specs.Paths.{same_path}
-use Rattle.poa_tree.specs.Nodes.{node_at}
-use Rattle.poa_tree.specs.declared.found.Found.{Found}
-use Rattle.poa_tree.specs.declared.found.Found.TheVariants.{Live, Dying, Missing}
-use Rattle.poa_tree.specs.Walks.{walk_from, walk, adapter_met}
-use Rattle.poa_tree.specs.Trees.{In, IsTree, Stands, IsFreePath}
-use Rattle.poa_tree.proofs.Finding.{find_in, find_none, path_same, same_path_self}
+use Rattle.history_standing.specs.declared.node.Node.{Node}
+use Rattle.history_standing.specs.Paths.{same_path}
+use Rattle.history_standing.specs.Nodes.{node_at}
+use Rattle.history_standing.specs.declared.found.Found.{Found}
+use Rattle.history_standing.specs.declared.found.Found.TheVariants.{Live, Dying, Missing}
+use Rattle.history_standing.specs.Walks.{walk_from, walk, adapter_met}
+use Rattle.history_standing.specs.Trees.{In, IsTree, Stands, IsFreePath}
+use Rattle.history_standing.proofs.Finding.{find_in, find_none, path_same, same_path_self}
 
 -- the adapter at a path
 pub node_found : (ns : List Node) (p : List (List ℕ)) (n : Node) → node_at ns p ≡ Some n → In n ns × (n.path ≡ p)

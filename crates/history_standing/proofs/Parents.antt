@@ -1,6 +1,6 @@
 -- All names but the last, as a slice gives them.
 use Rattle.std.proofs.Common.{◌≡◌, ◌-◌, ℕ, List, [], ◌∷◌, length, take, refl, ap}
-use Rattle.poa_tree.specs.Paths.{parent_path}
+use Rattle.history_standing.specs.Paths.{parent_path}
 use native.Mathlib.Numerals.{unary_clauses}
 
 pub parent_taken : (p : List (List ℕ)) → take (length p - 1) p ≡ parent_path p

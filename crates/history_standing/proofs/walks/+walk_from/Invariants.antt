@@ -1,5 +1,5 @@
 use Rattle.std.proofs.Common.{length}
-use Rattle.poa_tree.proofs.walks.+walk_from.Given as goal
+use Rattle.history_standing.proofs.walks.+walk_from.Given as goal
 
 abbrev pub decreases-walk_from : goal.decreases-walk_from
 decreases-walk_from l = length l.rest.now

@@ -1,8 +1,8 @@
 -- The adapters that stand, in the order of their creation (CORBA 3.3 Part 1, section 15.2).
 use Rattle.std.specs.Prelude.{ℕ, Bool, true, false, ◌&&◌, ◌==◌, if◌then◌else◌, List, [], ◌∷◌, ◌++◌, find, Option}
 use Rattle.std.specs.List.{list_any}
-use Rattle.poa_tree.specs.declared.node.Node.{Node}
-use Rattle.poa_tree.specs.Paths.{same_path, leads_to}
+use Rattle.history_standing.specs.declared.node.Node.{Node}
+use Rattle.history_standing.specs.Paths.{same_path, leads_to}
 
 -- an adapter of this number stands
 abbrev pub stands : List Node → ℕ → Bool

@@ -2,12 +2,12 @@
 use Rattle.std.specs.Prelude.{◌≡◌, ℕ, suc, ◌<◌, Bool, true, false, List, [], ◌∷◌, ◌++◌, map, filter, ◌⊎◌, refl}
 use Rattle.std.proofs.Common.{inl, inr, sym, subst, ap, ◌∙◌, arith}
 use Rattle.std.proofs.lemmas.Bool.{cases_Bool, cond_both}
-use Rattle.poa_tree.specs.declared.node.Node.{Node}
-use Rattle.poa_tree.specs.Paths.{leads_to}
-use Rattle.poa_tree.specs.Trees.{In, IsTree, MayCreate, MayDrop}
-use Rattle.poa_tree.specs.Nodes.{created, marked}
-use Rattle.poa_tree.proofs.Members.{in_front, in_either, in_image, image_in, in_kept, kept_in}
-use Rattle.poa_tree.proofs.Leading.{leads_on, leads_shorter, leads_through, front_same}
+use Rattle.history_standing.specs.declared.node.Node.{Node}
+use Rattle.history_standing.specs.Paths.{leads_to}
+use Rattle.history_standing.specs.Trees.{In, IsTree, MayCreate, MayDrop}
+use Rattle.history_standing.specs.Nodes.{created, marked}
+use Rattle.history_standing.proofs.Members.{in_front, in_either, in_image, image_in, in_kept, kept_in}
+use Rattle.history_standing.proofs.Leading.{leads_on, leads_shorter, leads_through, front_same}
 
 module _ (ns : List Node) (count : ℕ) (p : List (List ℕ)) (tree : IsTree ns count) (may : MayCreate ns p) where
   abbrev new : Node

@@ -1,9 +1,9 @@
 -- The walk from the root along a key's path (CORBA 3.3 Part 1, section 15.2.3).
 use Rattle.std.specs.Prelude.{ℕ, suc, if◌then◌else◌, List, [], ◌∷◌, ◌++◌, take, length, Some, None}
-use Rattle.poa_tree.specs.declared.node.Node.{Node}
-use Rattle.poa_tree.specs.declared.found.Found.{Found}
-use Rattle.poa_tree.specs.declared.found.Found.TheVariants.{Live, Dying, Missing}
-use Rattle.poa_tree.specs.Nodes.{node_at}
+use Rattle.history_standing.specs.declared.node.Node.{Node}
+use Rattle.history_standing.specs.declared.found.Found.{Found}
+use Rattle.history_standing.specs.declared.found.Found.TheVariants.{Live, Dying, Missing}
+use Rattle.history_standing.specs.Nodes.{node_at}
 
 -- from an adapter along the rest of the path
 abbrev pub walk_from : List Node → Node → List (List ℕ) → Found

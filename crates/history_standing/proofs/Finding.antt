@@ -2,9 +2,9 @@
 use Rattle.std.specs.Prelude.{◌≡◌, ℕ, Bool, true, false, cond, ◌&&◌, List, [], ◌∷◌, find, Some, None, refl}
 use Rattle.std.proofs.Common.{inl, inr, sym, subst, ap, ap₂, ◌∙◌}
 use Rattle.std.proofs.lemmas.Bool.{and_parts}
-use Rattle.poa_tree.specs.Paths.{same_bytes, same_path}
-use Rattle.poa_tree.specs.Trees.{In}
-use Rattle.poa_tree.proofs.Leading.{same_self, bytes_same}
+use Rattle.history_standing.specs.Paths.{same_bytes, same_path}
+use Rattle.history_standing.specs.Trees.{In}
+use Rattle.history_standing.proofs.Leading.{same_self, bytes_same}
 
 -- what is found is an element that passes
 pub find_in : {A : Type 0} (test : A → Bool) (x : A) (xs : List A) → find test xs ≡ Some x → In x xs × (test x ≡ true)

@@ -1,8 +1,8 @@
 //! What stands at a path, under a number and below an adapter, and the mark of a destroy. A path is its names.
 //! Nothing here takes memory.
 ghost use Rattle.std.specs.Prelude.{◌≡◌, ◌==◌, ◌&&◌, [], ◌∷◌, ◌++◌, find, map, option_copied};
-ghost use Rattle.poa_tree.specs.Nodes as tree;
-ghost use Rattle.poa_tree.specs.Paths as paths;
+ghost use Rattle.history_standing.specs.Nodes as tree;
+ghost use Rattle.history_standing.specs.Paths as paths;
 
 use crate::node::Node;
 use crate::paths::{is_child, leads_to};

@@ -1,7 +1,7 @@
 //! The walk from the root along a path. It takes no memory.
 ghost use Rattle.std.specs.Prelude.{◌≡◌, if◌then◌else◌, take};
-ghost use Rattle.poa_tree.specs.Walks as walks;
-ghost use Rattle.poa_tree.specs.declared.found.Found.{Found};
+ghost use Rattle.history_standing.specs.Walks as walks;
+ghost use Rattle.history_standing.specs.declared.found.Found.{Found};
 
 use crate::found::Found;
 use crate::node::Node;

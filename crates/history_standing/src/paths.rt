@@ -1,6 +1,6 @@
 //! Paths as lists of names: which leads to which.
 ghost use Rattle.std.specs.Prelude.{◌≡◌, [], ◌∷◌, ◌++◌};
-ghost use Rattle.poa_tree.specs.Paths as paths;
+ghost use Rattle.history_standing.specs.Paths as paths;
 
 use poa_base::Name;
 

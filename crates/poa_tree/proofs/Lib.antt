@@ -1,7 +1,0 @@
-pub mod Members
-pub mod Leading
-pub mod Finding
-pub mod TreeKept
-pub mod WalkStands
-pub mod InPlace
-mod Parents

@@ -1,5 +1,0 @@
-use Rattle.poa_tree.proofs.Parents.{parent_taken}
-use Rattle.poa_tree.proofs.paths.parent_path.Goals as goal
-
-pub returns-in-len1-up : goal.returns-in-len1-up
-returns-in-len1-up c = parent_taken c.args.path.now

@@ -1,4 +1,0 @@
-pub mod Paths
-pub mod Nodes
-pub mod Walks
-pub mod Trees
