@@ -10,7 +10,7 @@ use Rattle.poa_base.specs.declared.Verdict.{Verdict}
 use Rattle.history_standing.specs.declared.stage.Stage.TheVariants.{Free}
 use Rattle.history_standing.specs.Stages.{admitted, arrival_in, is_at, stage}
 use Rattle.poa_history.proofs.StagesFrom.{arrival_before}
-use Rattle.history_openings.specs.Runs.{IsRun}
+use Rattle.poa_history.specs.Runs.{IsRun}
 use Rattle.core_state.proofs.Stated.{earlier}
 use Rattle.journal_entries.proofs.Rowing.{taken_more}
 use Rattle.core_effects.specs.Turning.{admits, last_verdict, verdict_in}

@@ -6,7 +6,7 @@ use Rattle.poa_base.specs.declared.Entry.{Entry}
 use Rattle.poa_base.specs.declared.Entry.TheVariants.{Admit, Run}
 use Rattle.poa_base.specs.declared.Verdict.{Verdict}
 use Rattle.poa_history.specs.States.{Stored, servant_run}
-use Rattle.history_openings.specs.Runs.{IsRun}
+use Rattle.poa_history.specs.Runs.{IsRun}
 use Rattle.core_standing.specs.Entries.{stage_at}
 use Rattle.held_queue.specs.Frees.{freed_by}
 use Rattle.core_outboxes.specs.Decided.{Decides}

@@ -3,7 +3,7 @@ ghost use Rattle.std.specs.Prelude.{◌≡◌, ℕ, true, reverse, option_map, I
 ghost use Rattle.journal_entries.specs.Rows.{seen as entry_seen};
 ghost use Rattle.history_standing.specs.Stages as begun;
 ghost use Rattle.poa_history.specs.States as states;
-ghost use Rattle.history_openings.specs.Runs.{IsRun};
+ghost use Rattle.poa_history.specs.Runs.{IsRun};
 ghost use Rattle.core_standing.specs.Answers.{AnswersAs};
 ghost use Rattle.core_standing.specs.Seen.{seen};
 ghost use Rattle.core_arrivals.specs.Begun.{only_ends};

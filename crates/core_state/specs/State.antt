@@ -7,7 +7,7 @@ use Rattle.poa_base.specs.declared.Entry.{Entry}
 use Rattle.poa_base.specs.declared.Entry.TheVariants.{Admit, Tried, Incarnated, Run, Done, TakeOut, Etherealized}
 use Rattle.history_standing.specs.Arrivals.{call_of}
 use Rattle.poa_history.specs.States.{Stored, call_run, servant_run}
-use Rattle.history_openings.specs.Runs.{IsRun}
+use Rattle.poa_history.specs.Runs.{IsRun}
 use Rattle.core_standing.specs.Kept.{KeepsNoneOver, StandsAfter}
 use Rattle.core_standing.specs.Seen.{seen}
 use Rattle.core_standing.specs.Entries.{stage_at}

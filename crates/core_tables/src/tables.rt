@@ -2,7 +2,7 @@
 ghost use Rattle.std.specs.Prelude.{◌≡◌, ◌<◌, ◌∷◌, ℕ, true, [], List, reverse, vec_len, vec_capacity, IfOk, OnOk};
 ghost use Rattle.poa_base.specs.declared.Config.{Config};
 ghost use Rattle.poa_base.specs.declared.Entry.{Entry as EntryOf};
-ghost use Rattle.history_openings.specs.Runs.{IsRun};
+ghost use Rattle.poa_history.specs.Runs.{IsRun};
 ghost use Rattle.core_standing.specs.Entries.{stage_at};
 ghost use Rattle.core_arrivals.specs.Placed.{arrives};
 ghost use Rattle.core_arrivals.specs.Queued.{HasPlace};

@@ -8,7 +8,7 @@ use Rattle.history_laws.proofs.Answered.{answered}
 use Rattle.history_laws.proofs.OneServant.{line_carried, line_stored, one_line}
 use Rattle.history_laws.proofs.Shut.{shut_over}
 use Rattle.history_laws.proofs.Undone.{all_done, in_hand}
-use Rattle.history_openings.specs.Runs.{IsRun}
+use Rattle.poa_history.specs.Runs.{IsRun}
 use Rattle.history_openings.proofs.Opened.{alone, given, within}
 
 module _ (c : Config) (run limit : ℕ) (h : List Entry) (is : IsRun c run limit h) where

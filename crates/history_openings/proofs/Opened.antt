@@ -16,7 +16,7 @@ use Rattle.history_standing.specs.Opening.{root_alone, with_boots, opening}
 use Rattle.poa_history.specs.Alone.{IsGivenAlone}
 use Rattle.poa_history.specs.Bounds.{IsWithinLimits}
 use Rattle.poa_history.specs.Sound.{IsGiven}
-use Rattle.history_openings.specs.Runs.{IsRun}
+use Rattle.poa_history.specs.Runs.{IsRun}
 use Rattle.history_openings.proofs.Entries.{place_first}
 use Rattle.history_openings.proofs.Policies.{implicit_makes}
 use Rattle.history_openings.proofs.Boots.{boot_stands, all_booted}

@@ -27,7 +27,7 @@ ghost use Rattle.history_laws.specs.Keyed.{IsKeyed};
 ghost use Rattle.history_laws.specs.Lasting.{KeepsUpdates, LeavesNothing};
 ghost use Rattle.history_laws.specs.Undone.{AreIdle, IsInHand, IsHeldBack, IsAllDone, IsAllOver, was_shut};
 ghost use Rattle.history_laws.specs.OneLine.{BringsFresh, AreIncarnated, IsOneLine, HasLineState, KeepsLineState};
-ghost use Rattle.history_openings.specs.Runs.{IsRun};
+ghost use Rattle.poa_history.specs.Runs.{IsRun};
 
 /// What stands at the start is sound: the adapters that are created then make a tree, and the configured
 /// objects are activations of adapters that stand, with ids of their own. A policy set with

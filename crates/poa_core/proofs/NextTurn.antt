@@ -15,7 +15,7 @@ use Rattle.history_standing.specs.Stages.{stage, is_abandoned}
 use Rattle.poa_history.specs.Turns.{attempt, going_on, activation_numbered, turn}
 use Rattle.poa_history.specs.Legal.{IsTurn, MayFollow}
 use Rattle.poa_history.proofs.TurnIs.{mapped_by, goes_on, takes, admits, turned}
-use Rattle.history_openings.specs.Runs.{IsRun}
+use Rattle.poa_history.specs.Runs.{IsRun}
 use Rattle.core_standing.specs.Entries.{stage_at}
 use Rattle.core_arrivals.specs.Begun.{worker_of, only_ends}
 use Rattle.core_arrivals.proofs.Staging.{worker_stage}

@@ -1,7 +1,7 @@
 -- What stays true of the core between its calls.
 use Rattle.std.specs.Prelude.{◌≡◌, ℕ, ◌+◌, ◌<◌, ◌≤◌, false, if◌then◌else◌, List, ◌∷◌, length, vec_len, vec_capacity}
 use Rattle.poa_base.specs.declared.Entry.{Entry}
-use Rattle.history_openings.specs.Runs.{IsRun}
+use Rattle.poa_history.specs.Runs.{IsRun}
 use Rattle.run_tally.specs.Tallies.{HasRoomForOne as HasRoomForConnection}
 use Rattle.core_outboxes.specs.Desk.{AreLeft, HasFiled}
 use Rattle.core_arrivals.specs.Queued.{HasPlace}

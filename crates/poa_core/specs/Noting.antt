@@ -2,7 +2,7 @@
 use Rattle.std.specs.Prelude.{◌≡◌, ℕ, ◌+◌, ◌<◌, true, List, ◌∷◌, length, vec_len, vec_capacity}
 use Rattle.poa_base.specs.declared.Entry.{Entry}
 use Rattle.history_standing.specs.declared.stage.Stage.{Stage}
-use Rattle.history_openings.specs.Runs.{IsRun}
+use Rattle.poa_history.specs.Runs.{IsRun}
 use Rattle.core_standing.specs.Entries.{stage_at}
 use Rattle.core_outboxes.specs.Owed.{AreOwed}
 use Rattle.history_standing.specs.Arrivals.{arrivals}

@@ -1,6 +1,6 @@
 //! A worker's entry is taken.
 ghost use Rattle.std.specs.Prelude.{◌≡◌, ◌∷◌, true, IsOk, OnOk, OnErr};
-ghost use Rattle.history_openings.specs.Runs.{IsRun};
+ghost use Rattle.poa_history.specs.Runs.{IsRun};
 ghost use Rattle.core_standing.specs.Entries.{stage_at};
 ghost use Rattle.core_state.specs.State.{is_turn};
 ghost use Rattle.run_history.specs.Life.{with_entry};

@@ -15,3 +15,4 @@ pub mod Endings
 pub mod Out
 pub mod Destroyed
 pub mod Alone
+pub mod Runs

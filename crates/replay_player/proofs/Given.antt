@@ -4,7 +4,7 @@ use Rattle.poa_base.specs.declared.Config.{Config}
 use Rattle.poa_history.specs.Legal.{IsLegal}
 use Rattle.poa_base.specs.Store.{Slots, stored as stored_in}
 use Rattle.poa_history.specs.Lifetime.{HasLifetime}
-use Rattle.history_openings.specs.Runs.{IsRun}
+use Rattle.poa_history.specs.Runs.{IsRun}
 use Rattle.history_laws.specs.Lasting.{KeepsUpdates, LeavesNothing}
 use Rattle.run_history.specs.Life.{Life, opened}
 use Rattle.replay_player.specs.Opening.{life_at_first}

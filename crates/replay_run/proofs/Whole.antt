@@ -13,7 +13,7 @@ use Rattle.replay_script.specs.declared.Step.TheVariants as step
 use Rattle.poa_base.specs.declared.Entry.{Entry}
 use Rattle.poa_base.specs.declared.Entry.TheVariants.{Collect}
 use Rattle.history_laws.specs.Undone.{AreIdle}
-use Rattle.history_openings.specs.Runs.{IsRun}
+use Rattle.poa_history.specs.Runs.{IsRun}
 use Rattle.history_standing.specs.Stages.{is_abandoned}
 use Rattle.poa_history.specs.Turns.{turn}
 use Rattle.replay_run.proofs.Idle.{idle_at_end}

@@ -3,7 +3,7 @@ use Rattle.std.specs.Prelude.{List, reverse}
 use Rattle.poa_base.specs.Store.{stored as stored_in}
 use Rattle.poa_base.specs.declared.Entry.{Entry}
 use Rattle.poa_history.specs.States.{Stored}
-use Rattle.history_openings.specs.Runs.{IsRun}
+use Rattle.poa_history.specs.Runs.{IsRun}
 use Rattle.run_history.specs.declared.givens.Givens.{Givens}
 
 -- what was stored when the run began

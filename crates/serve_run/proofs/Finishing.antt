@@ -13,7 +13,7 @@ use Rattle.run_history.specs.Life.{Life, givens_of}
 use Rattle.poa_history.specs.Lifetime.{HasLifetime}
 use Rattle.poa_shared.specs.Events.{Event}
 use Rattle.poa_shared.specs.Seen.{past, Turns}
-use Rattle.history_openings.specs.Runs.{IsRun}
+use Rattle.poa_history.specs.Runs.{IsRun}
 use Rattle.poa_shared.specs.Helping.{IsHelpAt}
 use Rattle.run_history.specs.declared.givens.Givens.{Givens}
 use Rattle.run_history.specs.Owners.{owner_of}
