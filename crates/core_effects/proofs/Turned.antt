@@ -15,7 +15,7 @@ use Rattle.poa_history.specs.States.{Stored, acted, call_run, servant_run, state
 use Rattle.poa_history.proofs.MannedKept.{all_manned}
 use Rattle.poa_history.proofs.TurnTells.{trial_is, incarnation_is, run_is, done_is, takeout_is, removal_is}
 use Rattle.poa_history.specs.Runs.{IsRun}
-use Rattle.history_openings.proofs.Opened.{given, alone, within}
+use Rattle.history_laws.proofs.Opened.{given, alone, within}
 use Rattle.core_standing.specs.Answers.{AnswersAs}
 use Rattle.core_standing.specs.Seen.{seen}
 use Rattle.core_standing.specs.Entries.{stage_at}

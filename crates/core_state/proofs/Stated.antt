@@ -15,7 +15,7 @@ use Rattle.history_standing.specs.Stages.{stage}
 use Rattle.history_standing.specs.Standings.{Standing as Stood}
 use Rattle.poa_history.specs.States.{Stored, call_run}
 use Rattle.poa_history.specs.Runs.{IsRun}
-use Rattle.history_openings.proofs.Opened.{given, alone, within}
+use Rattle.history_laws.proofs.Opened.{given, alone, within}
 use Rattle.core_standing.specs.declared.standing.Standing.{Standing}
 use Rattle.core_standing.specs.Answers.{AnswersAs}
 use Rattle.core_standing.specs.Kept.{KeepsNoneOver, StandsFor, StandsAfter}

@@ -23,3 +23,9 @@ pub mod Answered
 pub mod RootStays
 pub mod Shut
 pub mod Collecting
+pub mod Entries
+pub mod Policies
+pub mod Boots
+pub mod Objects
+pub mod Opened
+pub mod Lasting

@@ -7,7 +7,7 @@ use Rattle.poa_base.specs.declared.Entry.TheVariants.{Entered, Arrive, Filled, L
 use Rattle.history_standing.specs.declared.stage.Stage.TheVariants.{Free}
 use Rattle.poa_history.specs.States.{Stored}
 use Rattle.poa_history.specs.Runs.{IsRun}
-use Rattle.history_openings.proofs.Opened.{given, within}
+use Rattle.history_laws.proofs.Opened.{given, within}
 use Rattle.core_standing.specs.Seen.{seen}
 use Rattle.held_queue.specs.Frees.{nothing, freed_by}
 use Rattle.core_standing.specs.Entries.{stage_at, changes_nothing}

@@ -30,7 +30,7 @@ use core_arrivals::queue;
 use core_outboxes::{Desk, Fresh};
 use core_state::State;
 use core_tables::Tables;
-use history_openings::laws::{lifetimes_are_kept, runs_last};
+use history_laws::opening_laws::{lifetimes_are_kept, runs_last};
 use history_standing::nodes;
 use journal_entries::Entries;
 use poa_base::{Call, Config, Entry, Path, Store, WantMemory};

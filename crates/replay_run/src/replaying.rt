@@ -16,7 +16,7 @@ use crate::finishing::finish;
 use crate::line::Line;
 use crate::played::Played;
 use crate::talking::take_line;
-use history_openings::laws::collecting_changes_no_turn;
+use history_laws::opening_laws::collecting_changes_no_turn;
 use poa_base::{Bytes, Config, Store, WantMemory};
 use poa_core::Core;
 use replay_player::{Player, request};

@@ -5,7 +5,7 @@ use Rattle.history_standing.specs.Stages.{stage}
 use Rattle.history_standing.specs.declared.stage.Stage.TheVariants.{Free}
 use Rattle.history_laws.specs.Undone.{IsAllOver}
 use Rattle.history_laws.proofs.Since.{legal_before}
-use Rattle.history_openings.proofs.Opened.{given, within}
+use Rattle.history_laws.proofs.Opened.{given, within}
 use Rattle.run_history.specs.declared.givens.Givens.{Givens}
 use Rattle.run_history.specs.Runs.{IsHistory}
 use Rattle.run_endings.specs.Closing.{HasNoTurn, IsClosed, IsOver}

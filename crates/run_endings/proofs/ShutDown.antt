@@ -32,7 +32,7 @@ use Rattle.history_laws.specs.Undone.{AreIdle, IsAllOver}
 use Rattle.history_laws.proofs.RootStays.{root_since}
 use Rattle.history_laws.proofs.Shut.{dying_over}
 use Rattle.history_laws.proofs.Since.{destroyed_since, legal_before}
-use Rattle.history_openings.proofs.Opened.{alone, given, within}
+use Rattle.history_laws.proofs.Opened.{alone, given, within}
 use Rattle.run_tally.specs.Leaving.{is_shut, is_shut_by}
 use Rattle.run_history.specs.declared.givens.Givens.{Givens}
 use Rattle.run_history.specs.Runs.{IsHistory}

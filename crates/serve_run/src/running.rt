@@ -11,7 +11,7 @@ ghost use Rattle.serve_run.specs.Threads.{CountsThreads};
 use crate::doors::Doors;
 use crate::outcome::Outcome;
 use crate::working::serve_workers;
-use history_openings::laws::lifetimes_are_kept;
+use history_laws::opening_laws::lifetimes_are_kept;
 use outside::{Acceptor, Gate, ThreadCrew};
 use poa_core::Core;
 use poa_shared::{Seat, Shared};

@@ -1,7 +1,7 @@
 use Rattle.std.proofs.Common.{reverse, ◌∷◌, sym, ◌∙◌}
 use Rattle.std.proofs.lemmas.List.{length-reverse}
 use Rattle.poa_history.proofs.MannedKept.{all_manned}
-use Rattle.history_openings.proofs.Opened.{given, alone, within}
+use Rattle.history_laws.proofs.Opened.{given, alone, within}
 use Rattle.core_tables.proofs.tables.Tables.advance.Goals as goal
 
 pub returns : goal.returns

@@ -1,6 +1,0 @@
-use Rattle.history_openings.proofs.laws.ordinals_fit.Goals as goal
-use Rattle.poa_history.proofs.IdsFew.{has_ordinal}
-use Rattle.history_openings.proofs.Opened.{within}
-
-pub returns : goal.returns
-returns c = λ conf run limit h is. has_ordinal conf run limit (within conf run limit h is) h is.legal
