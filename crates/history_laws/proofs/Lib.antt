@@ -29,3 +29,8 @@ pub mod Boots
 pub mod Objects
 pub mod Opened
 pub mod Lasting
+pub mod ShutDown
+pub mod Freed
+pub mod Afterwards
+pub mod Over
+pub mod LateCalls

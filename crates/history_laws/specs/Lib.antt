@@ -2,3 +2,4 @@ pub mod Undone
 pub mod OneLine
 pub mod Lasting
 pub mod Keyed
+pub mod Closing

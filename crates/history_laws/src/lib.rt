@@ -2,5 +2,6 @@
 //! object that a servant activator incarnates are those of one servant that is never taken down.
 #![tactic(auto)]
 
+pub mod ending_laws;
 pub mod laws;
 pub mod opening_laws;

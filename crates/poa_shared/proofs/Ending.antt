@@ -13,7 +13,7 @@ use Rattle.history_standing.specs.Searches.{count_below}
 use Rattle.history_standing.specs.Stages.{is_abandoned, is_unadmitted, stage}
 use Rattle.poa_history.specs.Turns.{turn}
 use Rattle.run_tally.specs.Leaving.{is_shut, is_staying, are_gone, staying}
-use Rattle.run_endings.specs.Closing.{IsClosed}
+use Rattle.history_laws.specs.Closing.{IsClosed}
 use Rattle.run_history.specs.declared.givens.Givens.{Givens}
 use Rattle.poa_core.specs.Answers.{Abandons, Steps, point_of, unadmitted, is_run_over}
 use Rattle.run_history.specs.Life.{with_entry}

@@ -11,7 +11,7 @@ use Rattle.run_history.specs.Owners.{owner_of}
 use Rattle.poa_shared.specs.Seen.{past}
 use Rattle.poa_shared.specs.declared.pause.Pause.{Pause}
 use Rattle.poa_shared.specs.declared.pause.Pause.TheVariants as pause
-use Rattle.run_endings.specs.Closing.{IsClosed}
+use Rattle.history_laws.specs.Closing.{IsClosed}
 use Rattle.poa_shared.specs.Making.{Makes}
 use Rattle.poa_shared.specs.Worked.{IsTurnAt}
 use Rattle.seat_lock.specs.declared.view.View.{View}

@@ -5,7 +5,7 @@ use lib.ListN.{get_elem?}
 use Rattle.poa_base.specs.declared.Entry.{Entry}
 use Rattle.poa_base.specs.declared.Entry.TheVariants.{Abandon}
 use Rattle.history_standing.specs.Stages.{is_abandoned}
-use Rattle.run_endings.specs.Closing.{IsClosed}
+use Rattle.history_laws.specs.Closing.{IsClosed}
 use Rattle.run_history.specs.declared.givens.Givens.{Givens}
 use Rattle.run_history.specs.Runs.{IsLog}
 use Rattle.run_history.specs.Owners.{owner_of, worker_of}

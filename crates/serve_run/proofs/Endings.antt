@@ -19,10 +19,10 @@ use Rattle.history_standing.specs.Stages.{stage}
 use Rattle.history_standing.specs.declared.stage.Stage.TheVariants.{Free}
 use Rattle.poa_session.specs.Served.{RefusedAs, ServedAs}
 use Rattle.history_standing.specs.Trees.{In as IsAmong}
-use Rattle.run_endings.specs.Closing.{HasNoTurn, IsOver}
-use Rattle.run_endings.proofs.Freed.{freed}
-use Rattle.run_endings.proofs.LateCalls.{late}
-use Rattle.run_endings.proofs.Over.{closed_over, history_before}
+use Rattle.history_laws.specs.Closing.{HasNoTurn, IsOver}
+use Rattle.history_laws.proofs.Freed.{freed}
+use Rattle.history_laws.proofs.LateCalls.{late}
+use Rattle.history_laws.proofs.Over.{closed_over, history_before}
 use Rattle.poa_shared.specs.Helping.{IsHelpAt}
 use Rattle.poa_shared.proofs.Making.{in_either}
 use Rattle.run_history.specs.declared.givens.Givens.{Givens}

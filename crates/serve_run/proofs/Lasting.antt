@@ -14,7 +14,7 @@ use Rattle.history_standing.specs.Arrivals.{arrivals, call_of, conn_of}
 use Rattle.history_standing.specs.Stages.{stage}
 use Rattle.poa_history.proofs.SettledKept.{or_second}
 use Rattle.poa_history.proofs.StagesFrom.{maker, stage_other}
-use Rattle.run_endings.specs.Closing.{HasNoTurn}
+use Rattle.history_laws.specs.Closing.{HasNoTurn}
 use Rattle.run_history.specs.Owners.{worker_of}
 use Rattle.run_tally.specs.Leaving.{is_shut, is_shut_by}
 use Rattle.seat_lock.specs.Histories.{IsPrefix}

@@ -8,7 +8,7 @@ use Rattle.outside.specs.Told.{IfTold}
 use Rattle.poa_base.specs.declared.Entry.{Entry}
 use Rattle.run_history.specs.declared.givens.Givens.{Givens}
 use Rattle.run_history.specs.Owners.{worker_of}
-use Rattle.run_endings.specs.Closing.{IsClosed}
+use Rattle.history_laws.specs.Closing.{IsClosed}
 use Rattle.run_tally.specs.declared.full.Full.{Full}
 use Rattle.seat_lock.specs.declared.view.View.{View}
 use Rattle.seat_lock.specs.Histories.{In, IsPrefix}

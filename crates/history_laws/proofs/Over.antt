@@ -8,10 +8,10 @@ use Rattle.history_laws.proofs.Since.{legal_before}
 use Rattle.history_laws.proofs.Opened.{given, within}
 use Rattle.run_history.specs.declared.givens.Givens.{Givens}
 use Rattle.run_history.specs.Runs.{IsHistory}
-use Rattle.run_endings.specs.Closing.{HasNoTurn, IsClosed, IsOver}
-use Rattle.run_endings.proofs.Afterwards.{decisions_stay, overs_stay}
-use Rattle.run_endings.proofs.Freed.{all_idle}
-use Rattle.run_endings.proofs.ShutDown.{shut_ends}
+use Rattle.history_laws.specs.Closing.{HasNoTurn, IsClosed, IsOver}
+use Rattle.history_laws.proofs.Afterwards.{decisions_stay, overs_stay}
+use Rattle.history_laws.proofs.Freed.{all_idle}
+use Rattle.history_laws.proofs.ShutDown.{shut_ends}
 
 -- what stood before some entries is a history too
 pub history_before : (g : Givens) (more h : List Entry) → IsHistory g (more ++ h) → IsHistory g h

@@ -9,7 +9,7 @@ ghost use Rattle.history_laws.specs.Undone.{AreIdle, IsAllOver};
 ghost use Rattle.run_tally.specs.Leaving.{is_shut};
 ghost use Rattle.run_history.specs.declared.givens.Givens.{Givens};
 ghost use Rattle.run_history.specs.Runs.{IsHistory};
-ghost use Rattle.run_endings.specs.Closing.{HasNoTurn, IsClosed, IsOver};
+ghost use Rattle.history_laws.specs.Closing.{HasNoTurn, IsClosed, IsOver};
 
 /// Where a `shutdown` was admitted, whatever it was answered, and no worker has a next entry, every activation is void or
 /// finished, and every call is decided.
