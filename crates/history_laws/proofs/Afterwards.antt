@@ -18,7 +18,7 @@ use Rattle.poa_history.proofs.ActivationsFrom.{activation_from, activating, acti
 use Rattle.poa_history.proofs.SettledKept.{or_first, or_second}
 use Rattle.history_standing.specs.Trees.{In}
 use Rattle.history_laws.proofs.Decided.{decided_still}
-use Rattle.run_history.specs.Owners.{worker_of}
+use Rattle.poa_history.specs.Owners.{worker_of}
 use Rattle.history_laws.specs.Closing.{HasNoTurn}
 
 none_done : (past : List Entry) (e : Entry) → worker_of e ≡ None → command_done past e ≡ None

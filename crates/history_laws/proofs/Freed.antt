@@ -21,8 +21,8 @@ use Rattle.history_standing.proofs.Finding.{find_none}
 use Rattle.history_laws.specs.Undone.{AreIdle}
 use Rattle.history_laws.proofs.Workers.{goes_with}
 use Rattle.history_laws.proofs.Opened.{alone, given, within}
-use Rattle.run_history.specs.declared.givens.Givens.{Givens}
-use Rattle.run_history.specs.Runs.{IsHistory}
+use Rattle.poa_history.specs.declared.givens.Givens.{Givens}
+use Rattle.poa_history.specs.GivenRuns.{IsHistory}
 use Rattle.std.proofs.lemmas.Bool.{eq-eqb}
 
 -- what maps to nothing is nothing

@@ -6,8 +6,8 @@ use Rattle.history_standing.specs.declared.stage.Stage.TheVariants.{Free}
 use Rattle.history_laws.specs.Undone.{IsAllOver}
 use Rattle.history_laws.proofs.Since.{legal_before}
 use Rattle.history_laws.proofs.Opened.{given, within}
-use Rattle.run_history.specs.declared.givens.Givens.{Givens}
-use Rattle.run_history.specs.Runs.{IsHistory}
+use Rattle.poa_history.specs.declared.givens.Givens.{Givens}
+use Rattle.poa_history.specs.GivenRuns.{IsHistory}
 use Rattle.history_laws.specs.Closing.{HasNoTurn, IsClosed, IsOver}
 use Rattle.history_laws.proofs.Afterwards.{decisions_stay, overs_stay}
 use Rattle.history_laws.proofs.Freed.{all_idle}

@@ -34,8 +34,8 @@ use Rattle.history_laws.proofs.Shut.{dying_over}
 use Rattle.history_laws.proofs.Since.{destroyed_since, legal_before}
 use Rattle.history_laws.proofs.Opened.{alone, given, within}
 use Rattle.run_tally.specs.Leaving.{is_shut, is_shut_by}
-use Rattle.run_history.specs.declared.givens.Givens.{Givens}
-use Rattle.run_history.specs.Runs.{IsHistory}
+use Rattle.poa_history.specs.declared.givens.Givens.{Givens}
+use Rattle.poa_history.specs.GivenRuns.{IsHistory}
 
 -- where the `shutdown` was admitted
 record IsAdmitted (h : List Entry) : Type 0 where

@@ -11,8 +11,8 @@ use Rattle.poa_history.specs.Turns.{turn}
 use Rattle.history_standing.specs.declared.activation.Activation.{Activation}
 use Rattle.history_standing.specs.Trees.{In}
 use Rattle.run_tally.specs.Leaving.{is_shut}
-use Rattle.run_history.specs.declared.givens.Givens.{Givens}
-use Rattle.run_history.specs.Owners.{worker_of}
+use Rattle.poa_history.specs.declared.givens.Givens.{Givens}
+use Rattle.poa_history.specs.Owners.{worker_of}
 
 -- the worker has nothing to do, and nothing more can come: a `shutdown` was admitted, every connection but the first has
 -- left, and every call is admitted

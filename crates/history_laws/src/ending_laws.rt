@@ -7,8 +7,8 @@ ghost use Rattle.poa_history.specs.Turns.{turn};
 ghost use Rattle.history_standing.specs.declared.stage.Stage.TheVariants.{Free};
 ghost use Rattle.history_laws.specs.Undone.{AreIdle, IsAllOver};
 ghost use Rattle.run_tally.specs.Leaving.{is_shut};
-ghost use Rattle.run_history.specs.declared.givens.Givens.{Givens};
-ghost use Rattle.run_history.specs.Runs.{IsHistory};
+ghost use Rattle.poa_history.specs.declared.givens.Givens.{Givens};
+ghost use Rattle.poa_history.specs.GivenRuns.{IsHistory};
 ghost use Rattle.history_laws.specs.Closing.{HasNoTurn, IsClosed, IsOver};
 
 /// Where a `shutdown` was admitted, whatever it was answered, and no worker has a next entry, every activation is void or

@@ -11,7 +11,7 @@ use Rattle.run_tally.specs.Limits.{has_room, filled_at}
 use Rattle.run_tally.specs.Tallies.{IsTally}
 use Rattle.run_tally.proofs.Follows.{unfilled_is}
 use Rattle.poa_core.specs.declared.inside.Inside.{Inside}
-use Rattle.run_history.specs.Life.{Life, with_entry}
+use Rattle.poa_history.specs.Life.{Life, with_entry}
 use Rattle.poa_core.specs.Answers.{filled_by}
 use Rattle.poa_core.specs.Agrees.{history}
 use Rattle.poa_core.specs.Noting.{HasRoomForEntry, IsNoted}

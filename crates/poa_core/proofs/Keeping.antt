@@ -19,7 +19,7 @@ use Rattle.core_outboxes.specs.Decided.{AreFiled}
 use Rattle.core_state.specs.declared.coming.Coming.{Coming}
 use Rattle.core_state.specs.State.{is_turn}
 use Rattle.poa_core.specs.declared.inside.Inside.{Inside}
-use Rattle.run_history.specs.Life.{Life}
+use Rattle.poa_history.specs.Life.{Life}
 use Rattle.core_tables.specs.Known.{KnowsTables}
 use Rattle.poa_core.specs.Agrees.{Agrees, history, opened_in}
 use Rattle.core_tables.specs.ToCome.{is_ending, stay}

@@ -10,7 +10,7 @@ use Rattle.core_outboxes.specs.Desk.{Comes}
 use Rattle.core_state.proofs.Stated.{answers_state}
 use Rattle.poa_core.specs.declared.inside.Inside.{Inside}
 use Rattle.core_effects.specs.declared.brought.Brought.{Brought}
-use Rattle.run_history.specs.Life.{Life, with_entry}
+use Rattle.poa_history.specs.Life.{Life, with_entry}
 use Rattle.poa_core.specs.Agrees.{opened_in}
 use Rattle.poa_core.specs.Noting.{IsHalfway}
 use Rattle.core_effects.proofs.Turned.{manned_before}

@@ -17,7 +17,7 @@ use Rattle.core_arrivals.specs.Begun.{only_ends}
 use Rattle.run_tally.specs.Leaving.{is_shut, are_gone}
 pub use Rattle.run_tally.specs.Limits.{is_taken, filled_at}
 pub use Rattle.core_outboxes.specs.Owed.{head_of}
-use Rattle.run_history.specs.Life.{Life, with_entry, opened}
+use Rattle.poa_history.specs.Life.{Life, with_entry, opened}
 use Rattle.poa_core.specs.declared.enter_fault.EnterFault.{EnterFault}
 use Rattle.poa_core.specs.declared.enter_fault.EnterFault.TheVariants as enter_fault
 use Rattle.poa_core.specs.declared.arrive_fault.ArriveFault.{ArriveFault}

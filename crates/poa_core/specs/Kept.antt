@@ -7,7 +7,7 @@ use Rattle.core_outboxes.specs.Desk.{AreLeft, HasFiled}
 use Rattle.core_arrivals.specs.Queued.{HasPlace}
 use Rattle.held_queue.specs.Numbers.{HasRoom as HasRoomForCall}
 use Rattle.poa_core.specs.declared.inside.Inside.{Inside}
-use Rattle.run_history.specs.Life.{Life}
+use Rattle.poa_history.specs.Life.{Life}
 use Rattle.core_outboxes.specs.Owed.{AreOwed}
 use Rattle.core_state.specs.State.{IsState, is_turn}
 use Rattle.core_tables.specs.Known.{KnowsTables}

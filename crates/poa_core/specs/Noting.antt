@@ -17,7 +17,7 @@ use Rattle.journal_entries.specs.Rows.{HasRoomFor}
 use Rattle.core_state.specs.State.{IsState}
 use Rattle.poa_core.specs.declared.inside.Inside.{Inside}
 use Rattle.core_effects.specs.declared.brought.Brought.{Brought}
-use Rattle.run_history.specs.Life.{with_entry}
+use Rattle.poa_history.specs.Life.{with_entry}
 use Rattle.core_tables.specs.Known.{KnowsTables}
 use Rattle.poa_core.specs.Agrees.{opened_in, history}
 use Rattle.poa_core.specs.Kept.{life}

@@ -12,7 +12,7 @@ ghost use Rattle.poa_history.specs.Lifetime.{HasLifetime};
 ghost use Rattle.poa_history.specs.States.{stored};
 ghost use Rattle.history_standing.specs.Nodes.{node_at};
 ghost use Rattle.poa_base.specs.declared.Entry.TheVariants.{Left};
-ghost use Rattle.run_history.specs.Life.{begun, opened, with_entry};
+ghost use Rattle.poa_history.specs.Life.{begun, opened, with_entry};
 ghost use Rattle.core_outboxes.specs.Owed.{AreOwed};
 ghost use Rattle.core_state.specs.State.{IsState};
 ghost use Rattle.core_tables.specs.Known.{KnowsTables};
@@ -34,7 +34,7 @@ use history_laws::opening_laws::{lifetimes_are_kept, runs_last};
 use history_standing::nodes;
 use journal_entries::Entries;
 use poa_base::{Call, Config, Entry, Path, Store, WantMemory};
-use run_history::Givens;
+use poa_history::Givens;
 use run_tally::{Full, Phase};
 use seat_lock::Chronicle;
 use std::alloc::Global;
@@ -50,7 +50,7 @@ pub struct Core {
 impl Model for Core {
     ghost use Rattle.std.specs.Coded.{codes};
     ghost use Rattle.poa_base.specs.contracts.store.Store as store;
-    ghost use Rattle.run_history.specs.Life.{Life};
+    ghost use Rattle.poa_history.specs.Life.{Life};
     ghost use Rattle.poa_core.specs.Kept.{IsKept, life};
 
     ghost Value = { Life };
@@ -69,8 +69,8 @@ impl Chronicle for Core {
     type Entry = Entry;
 
     ghost use Rattle.std.specs.Prelude.{reverse};
-    ghost use Rattle.run_history.specs.Owners.{owner_of};
-    ghost use Rattle.run_history.specs.Life.{givens_of};
+    ghost use Rattle.poa_history.specs.Owners.{owner_of};
+    ghost use Rattle.poa_history.specs.Life.{givens_of};
 
     ghost givens = { givens_of };
 

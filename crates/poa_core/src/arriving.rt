@@ -6,7 +6,7 @@ ghost use Rattle.core_outboxes.specs.Desk.{HasRoomForOne};
 ghost use Rattle.poa_core.specs.Agrees.{history};
 ghost use Rattle.poa_core.specs.Answers as answers;
 ghost use Rattle.poa_core.specs.Arriving as arriving;
-ghost use Rattle.run_history.specs.Life.{with_entry};
+ghost use Rattle.poa_history.specs.Life.{with_entry};
 ghost use Rattle.poa_core.specs.Kept.{IsKept, IsReady, life};
 ghost use Rattle.poa_base.specs.declared.Entry.TheVariants.{Arrive};
 

@@ -4,7 +4,7 @@ ghost use Rattle.poa_base.specs.Store.{stored as stored_in};
 ghost use Rattle.poa_policy.specs.Kept.{KeepsRules};
 ghost use Rattle.core_state.specs.State.{IsState};
 ghost use Rattle.core_tables.specs.Known.{KnowsTables};
-ghost use Rattle.run_history.specs.Life as lives;
+ghost use Rattle.poa_history.specs.Life as lives;
 ghost use Rattle.poa_core.specs.Kept.{IsKept, life};
 
 use crate::inside::Inside;

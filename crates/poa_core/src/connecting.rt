@@ -5,7 +5,7 @@ ghost use Rattle.poa_base.specs.declared.Entry.TheVariants.{Left};
 ghost use Rattle.history_standing.specs.Arrivals.{connections};
 ghost use Rattle.poa_history.specs.Legal.{IsOpen};
 ghost use Rattle.run_tally.specs.Tallies.{IsTally};
-ghost use Rattle.run_history.specs.Life.{with_entry};
+ghost use Rattle.poa_history.specs.Life.{with_entry};
 ghost use Rattle.poa_core.specs.Agrees.{history};
 ghost use Rattle.poa_core.specs.Answers.{Enters};
 ghost use Rattle.poa_core.specs.Kept.{IsKept, life};

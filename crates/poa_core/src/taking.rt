@@ -3,7 +3,7 @@ ghost use Rattle.std.specs.Prelude.{◌≡◌, ◌∷◌, true, IsOk, OnOk, OnEr
 ghost use Rattle.poa_history.specs.Runs.{IsRun};
 ghost use Rattle.core_standing.specs.Entries.{stage_at};
 ghost use Rattle.core_state.specs.State.{is_turn};
-ghost use Rattle.run_history.specs.Life.{with_entry};
+ghost use Rattle.poa_history.specs.Life.{with_entry};
 ghost use Rattle.poa_core.specs.Agrees.{history};
 ghost use Rattle.poa_core.specs.Kept.{IsKept, life};
 ghost use Rattle.core_tables.specs.ToCome.{is_ending};

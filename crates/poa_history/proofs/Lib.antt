@@ -30,3 +30,4 @@ pub mod LivesKept
 pub mod GoneStays
 pub mod EndingsAre
 pub mod OutIs
+pub mod Owned

@@ -16,3 +16,6 @@ pub mod Out
 pub mod Destroyed
 pub mod Alone
 pub mod Runs
+pub mod GivenRuns
+pub mod Owners
+pub mod Life

@@ -3,4 +3,8 @@
 //! The definitions are in `specs/`, over those of `history_standing`.
 #![tactic(auto)]
 
+mod givens;
 pub mod laws;
+pub mod run_laws;
+
+pub use givens::Givens;

@@ -3,8 +3,8 @@ use Rattle.std.proofs.Common.{◌≡◌, ℕ, List, [], ◌∷◌, ◌++◌, len
 use Rattle.std.specs.Prelude.{Some}
 use Rattle.poa_base.specs.declared.Entry.{Entry}
 use Rattle.seat_lock.specs.declared.view.View.{View}
-use Rattle.run_history.specs.declared.Givens.{Givens}
-use Rattle.run_history.specs.Owners.{owner_of, HasNone}
+use Rattle.poa_history.specs.declared.Givens.{Givens}
+use Rattle.poa_history.specs.Owners.{owner_of, HasNone}
 use Rattle.poa_shared.specs.Seen.{Owns, Turns, past}
 use Rattle.session_laws.specs.Hearing.{Heard}
 use Rattle.session_laws.specs.Records.{arrived_by, joined_by, filling_by, is_late_by, places_by}

@@ -7,10 +7,10 @@ use Rattle.poa_base.specs.declared.Entry.TheVariants.{Arrive, Filled}
 use Rattle.poa_base.specs.declared.SessionEnd.TheVariants.{Limit, WantMemory}
 use Rattle.poa_history.specs.Legal.{is_filled}
 use Rattle.seat_lock.specs.declared.view.View.{View}
-use Rattle.run_history.specs.declared.Givens.{Givens}
+use Rattle.poa_history.specs.declared.Givens.{Givens}
 use Rattle.run_tally.specs.Limits.{filled_at}
 use Rattle.poa_core.specs.Answers as answers
-use Rattle.run_history.specs.Life.{Life, life_at, with_entry}
+use Rattle.poa_history.specs.Life.{Life, life_at, with_entry}
 use Rattle.poa_core.specs.declared.ArriveFault.TheVariants as fault
 use Rattle.poa_shared.specs.Seen.{Owns, Turns, past}
 use Rattle.session_laws.specs.declared.Peer.{Peer}

@@ -9,8 +9,8 @@ use Rattle.seat_lock.specs.declared.view.View.{View}
 use Rattle.outside.specs.Told.{IfTold}
 use Rattle.outside.specs.Link.{Shown, Moves}
 use Rattle.outside.proofs.Moving.{moves_none, moves_out}
-use Rattle.run_history.specs.declared.Givens.{Givens}
-use Rattle.run_history.specs.Runs.{IsHistory}
+use Rattle.poa_history.specs.declared.Givens.{Givens}
+use Rattle.poa_history.specs.GivenRuns.{IsHistory}
 use Rattle.poa_shared.specs.Seen.{past}
 use Rattle.session_laws.specs.declared.Peer.{Peer}
 use Rattle.session_laws.specs.Hearing.{Heard}

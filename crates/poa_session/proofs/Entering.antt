@@ -10,11 +10,11 @@ use Rattle.history_standing.specs.Trees.{In}
 use Rattle.poa_history.specs.Legal.{IsLegal}
 use Rattle.seat_lock.specs.declared.view.View.{View}
 use Rattle.seat_lock.proofs.Lists.{at_last}
-use Rattle.run_history.specs.declared.Givens.{Givens}
-use Rattle.run_history.specs.Owners.{owner_of, HasNone}
-use Rattle.run_history.proofs.Owned.{owners_low}
+use Rattle.poa_history.specs.declared.Givens.{Givens}
+use Rattle.poa_history.specs.Owners.{owner_of, HasNone}
+use Rattle.poa_history.proofs.Owned.{owners_low}
 use Rattle.poa_core.specs.Answers as answers
-use Rattle.run_history.specs.Life.{Life, life_at}
+use Rattle.poa_history.specs.Life.{Life, life_at}
 use Rattle.poa_shared.specs.Seen.{Turns, past}
 use Rattle.session_laws.specs.Records.{arrived_by, joined_by, filling_by, places_by}
 use Rattle.session_laws.proofs.Others.{arrived_others, filling_others, joined_others, places_others}

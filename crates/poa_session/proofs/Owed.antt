@@ -8,7 +8,7 @@ use Rattle.poa_base.specs.declared.SessionEnd.TheVariants.{Ended, Shut, ReadFaul
 use Rattle.seat_lock.specs.declared.view.View.{View}
 use Rattle.outside.specs.Link.{Shown, Moves}
 use Rattle.outside.proofs.Moving.{moves_none, moves_out}
-use Rattle.run_history.specs.declared.Givens.{Givens}
+use Rattle.poa_history.specs.declared.Givens.{Givens}
 use Rattle.poa_shared.specs.Seen.{Owns, past}
 use Rattle.session_laws.specs.Records.{filling_by}
 use Rattle.poa_session.specs.Growing.{Adds}

@@ -9,7 +9,7 @@ use Rattle.poa_base.specs.declared.SessionEnd.TheVariants.{Shut, Abandoned}
 use Rattle.poa_history.specs.Legal.{is_filled}
 use Rattle.history_standing.specs.Stages.{is_abandoned}
 use Rattle.seat_lock.specs.declared.view.View.{View}
-use Rattle.run_history.specs.declared.Givens.{Givens}
+use Rattle.poa_history.specs.declared.Givens.{Givens}
 use Rattle.run_tally.specs.Leaving.{is_shut}
 use Rattle.run_tally.specs.Phases.{first_abandoned, phase_by, phase_of}
 use Rattle.run_tally.specs.declared.Phase.{Phase}

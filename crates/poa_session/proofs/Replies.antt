@@ -7,9 +7,9 @@ use Rattle.poa_base.specs.declared.Head.{Head}
 use Rattle.poa_base.specs.declared.Reply.{Reply}
 use Rattle.poa_history.specs.Replies.{next_reply, owed}
 use Rattle.seat_lock.specs.declared.view.View.{View}
-use Rattle.run_history.specs.declared.Givens.{Givens}
+use Rattle.poa_history.specs.declared.Givens.{Givens}
 use Rattle.poa_core.specs.Answers as answers
-use Rattle.run_history.specs.Life.{Life, life_at, with_entry}
+use Rattle.poa_history.specs.Life.{Life, life_at, with_entry}
 use Rattle.poa_core.specs.declared.Collected.{Collected}
 use Rattle.poa_core.specs.declared.Collected.TheVariants as collected
 use Rattle.poa_shared.specs.Seen.{Owns, Turns, past}

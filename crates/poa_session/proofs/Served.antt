@@ -14,9 +14,9 @@ use Rattle.seat_lock.specs.declared.view.View.{View}
 use Rattle.seat_lock.proofs.Lists.{at_longer}
 use Rattle.outside.specs.Cause.{Rose}
 use Rattle.outside.specs.Link.{Shown}
-use Rattle.run_history.specs.declared.Givens.{Givens}
+use Rattle.poa_history.specs.declared.Givens.{Givens}
 use Rattle.poa_core.specs.Answers as answers
-use Rattle.run_history.specs.Life.{Life, life_at}
+use Rattle.poa_history.specs.Life.{Life, life_at}
 use Rattle.poa_core.specs.declared.EnterFault.{EnterFault}
 use Rattle.poa_core.specs.declared.EnterFault.TheVariants as enter_fault
 use Rattle.poa_shared.specs.Seen.{Owns, Turns, past}

@@ -7,7 +7,7 @@ use Rattle.poa_base.specs.declared.SessionEnd.TheVariants.{WantMemory}
 use Rattle.seat_lock.specs.declared.view.View.{View}
 use Rattle.outside.specs.Link.{Shown, Moves}
 use Rattle.outside.proofs.Moving.{moves_both, moves_none}
-use Rattle.run_history.specs.declared.Givens.{Givens}
+use Rattle.poa_history.specs.declared.Givens.{Givens}
 use Rattle.poa_shared.specs.Seen.{past}
 use Rattle.session_laws.specs.declared.Peer.{Peer}
 use Rattle.session_laws.specs.Hearing.{Heard}

@@ -5,7 +5,7 @@ use Rattle.poa_base.specs.declared.Entry.{Entry}
 use Rattle.poa_base.specs.declared.SessionEnd.{SessionEnd}
 use Rattle.seat_lock.specs.declared.view.View.{View}
 use Rattle.outside.specs.Link.{Shown}
-use Rattle.run_history.specs.declared.Givens.{Givens}
+use Rattle.poa_history.specs.declared.Givens.{Givens}
 use Rattle.poa_shared.specs.Seen.{past}
 use Rattle.session_laws.specs.declared.Peer.{Peer}
 use Rattle.session_laws.specs.Hearing.{Heard, over}

@@ -8,7 +8,7 @@ use Rattle.history_standing.specs.Stages.{is_abandoned}
 use Rattle.seat_lock.specs.Histories.{IsPrefix}
 use Rattle.seat_lock.specs.declared.view.View.{View}
 use Rattle.outside.specs.Link.{Shown, Moves}
-use Rattle.run_history.specs.declared.Givens.{Givens}
+use Rattle.poa_history.specs.declared.Givens.{Givens}
 use Rattle.poa_core.specs.declared.Collected.{Collected}
 use Rattle.poa_core.specs.declared.Collected.TheVariants as collected
 use Rattle.poa_shared.specs.Seen.{past}

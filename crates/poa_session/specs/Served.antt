@@ -14,9 +14,9 @@ use Rattle.seat_lock.specs.declared.view.View.{View}
 use Rattle.outside.specs.Cause.{Rose}
 use Rattle.outside.specs.Link.{Shown, Moves, IsDry}
 use Rattle.poa_shared.specs.Seen.{past}
-use Rattle.run_history.specs.declared.Givens.{Givens}
-use Rattle.run_history.specs.Owners.{owner_of}
-use Rattle.run_history.specs.Runs.{IsLog}
+use Rattle.poa_history.specs.declared.Givens.{Givens}
+use Rattle.poa_history.specs.Owners.{owner_of}
+use Rattle.poa_history.specs.GivenRuns.{IsLog}
 use Rattle.session_laws.specs.declared.Peer.{Peer}
 use Rattle.session_laws.specs.Records.{arrived, places, is_late}
 use Rattle.session_laws.specs.Sessions.{Cause, HasClosing, Session, closing}

@@ -8,8 +8,8 @@ use Rattle.seat_lock.specs.Histories.{IsPrefix}
 use Rattle.seat_lock.specs.declared.view.View.{View}
 use Rattle.outside.specs.Cause.{Rose}
 use Rattle.outside.specs.Link.{Shown, Moves}
-use Rattle.run_history.specs.declared.Givens.{Givens}
-use Rattle.run_history.specs.Runs.{IsHistory}
+use Rattle.poa_history.specs.declared.Givens.{Givens}
+use Rattle.poa_history.specs.GivenRuns.{IsHistory}
 use Rattle.poa_core.specs.declared.EnterFault.{EnterFault}
 use Rattle.poa_core.specs.declared.EnterFault.TheVariants as enter_fault
 use Rattle.poa_shared.specs.Seen.{past}

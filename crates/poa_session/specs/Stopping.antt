@@ -5,7 +5,7 @@ use Rattle.poa_base.specs.declared.SessionEnd.{SessionEnd}
 use Rattle.poa_base.specs.declared.SessionEnd.TheVariants.{Shut, Abandoned}
 use Rattle.history_standing.specs.Stages.{is_abandoned}
 use Rattle.seat_lock.specs.declared.view.View.{View}
-use Rattle.run_history.specs.declared.Givens.{Givens}
+use Rattle.poa_history.specs.declared.Givens.{Givens}
 use Rattle.run_tally.specs.Leaving.{is_shut}
 use Rattle.poa_shared.specs.Seen.{Turns, past}
 use Rattle.session_laws.specs.declared.Peer.{Peer}

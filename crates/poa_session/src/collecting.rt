@@ -2,7 +2,7 @@
 ghost use Rattle.std.specs.Prelude.{◌≡◌, ◌≢◌, ◌≤◌, ◌++◌, Some, Err, IfOk, OnOk, IsTrue};
 ghost use Rattle.seat_lock.specs.Seats.{view};
 ghost use Rattle.outside.specs.Cause.{HasCause};
-ghost use Rattle.run_history.specs.declared.Givens.{Givens};
+ghost use Rattle.poa_history.specs.declared.Givens.{Givens};
 ghost use Rattle.giop_answer.specs.Reply.{AnswersHead};
 ghost use Rattle.session_laws.specs.Records.{told};
 ghost use Rattle.poa_shared.specs.Seats.{IsIdle};

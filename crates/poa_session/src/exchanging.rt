@@ -1,7 +1,7 @@
 //! What a round does on the shared core, under one hold of the front.
 ghost use Rattle.std.specs.Prelude.{◌≡◌, ◌≢◌, Some, Err};
 ghost use Rattle.seat_lock.specs.Seats.{view};
-ghost use Rattle.run_history.specs.declared.Givens.{Givens};
+ghost use Rattle.poa_history.specs.declared.Givens.{Givens};
 ghost use Rattle.poa_base.specs.declared.SessionEnd.TheVariants as end;
 ghost use Rattle.session_laws.specs.declared.Peer.{Peer};
 ghost use Rattle.poa_shared.specs.Seats.{IsIdle};

@@ -2,7 +2,7 @@
 ghost use Rattle.std.specs.Prelude.{◌≡◌, ◌≢◌, ℕ, Some, Err, MatchOption, ⊤};
 ghost use Rattle.seat_lock.specs.Seats.{view};
 ghost use Rattle.outside.specs.Cause.{HasCause};
-ghost use Rattle.run_history.specs.declared.Givens.{Givens};
+ghost use Rattle.poa_history.specs.declared.Givens.{Givens};
 ghost use Rattle.poa_shared.specs.Seats.{IsIdle};
 ghost use Rattle.poa_shared.specs.Seen.{HoldsConnection};
 ghost use Rattle.poa_session.specs.Paying.{PaysAll};

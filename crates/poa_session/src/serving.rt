@@ -1,7 +1,7 @@
 //! Links that are served.
 ghost use Rattle.std.specs.Prelude.{◌≡◌, Some};
 ghost use Rattle.seat_lock.specs.Seats.{view};
-ghost use Rattle.run_history.specs.declared.Givens.{Givens};
+ghost use Rattle.poa_history.specs.declared.Givens.{Givens};
 ghost use Rattle.session_laws.specs.declared.Peer.TheVariants as peers;
 ghost use Rattle.poa_shared.specs.Seats.{IsIdle};
 ghost use Rattle.poa_shared.specs.Helping.{Aids, IsReady};

@@ -14,13 +14,12 @@ use Rattle.history_standing.specs.Stages.{is_abandoned, is_unadmitted, stage}
 use Rattle.poa_history.specs.Turns.{turn}
 use Rattle.run_tally.specs.Leaving.{is_shut, is_staying, are_gone, staying}
 use Rattle.history_laws.specs.Closing.{IsClosed}
-use Rattle.run_history.specs.declared.givens.Givens.{Givens}
+use Rattle.poa_history.specs.declared.givens.Givens.{Givens}
 use Rattle.poa_core.specs.Answers.{Abandons, Steps, point_of, unadmitted, is_run_over}
-use Rattle.run_history.specs.Life.{with_entry}
+use Rattle.poa_history.specs.Life.{with_entry, life_at}
 use Rattle.poa_core.specs.declared.step_out.StepOut.TheVariants as step_out
 use Rattle.poa_shared.specs.Seen.{past, Turns}
 use Rattle.poa_shared.specs.Events.{Event}
-use Rattle.run_history.specs.Life.{life_at}
 use Rattle.poa_shared.specs.declared.work_end.WorkEnd.TheVariants as work_end
 use Rattle.poa_shared.specs.Making.{Makes}
 use Rattle.poa_shared.specs.Worked.{IsGivenUpAt, IsMadeAt, IsTurnAt, Worked}

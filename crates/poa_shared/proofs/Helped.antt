@@ -12,7 +12,7 @@ use Rattle.poa_shared.specs.Helping.{Aids, Helps, IsHelpAt, SeatOf}
 use Rattle.poa_shared.proofs.Making.{call_none, call_one, makes_none, makes_through}
 use Rattle.poa_shared.proofs.Seeing.{seen_one}
 use Rattle.poa_shared.proofs.Steps.{turn_own, IsOf}
-use Rattle.run_history.specs.declared.givens.Givens.{Givens}
+use Rattle.poa_history.specs.declared.givens.Givens.{Givens}
 use Rattle.run_tally.specs.Phases.{phase_of}
 use Rattle.run_tally.specs.declared.phase.Phase.TheVariants.{Running}
 use Rattle.seat_lock.specs.Histories.{IsPrefix}

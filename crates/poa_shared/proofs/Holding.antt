@@ -14,10 +14,10 @@ use Rattle.seat_lock.specs.declared.view.View.{View}
 use Rattle.seat_lock.specs.Histories.{In, Belongs, MayMake, entering}
 use Rattle.seat_lock.specs.Steps.{Knows}
 use Rattle.seat_lock.proofs.Calls.{at_prefix}
-use Rattle.run_history.specs.declared.givens.Givens.{Givens}
-use Rattle.run_history.specs.Owners.{owner_of}
-use Rattle.run_history.specs.Runs.{IsHistory}
-use Rattle.run_history.proofs.Owned.{owners_low}
+use Rattle.poa_history.specs.declared.givens.Givens.{Givens}
+use Rattle.poa_history.specs.Owners.{owner_of}
+use Rattle.poa_history.specs.GivenRuns.{IsHistory}
+use Rattle.poa_history.proofs.Owned.{owners_low}
 use Rattle.poa_shared.specs.Seen.{GoesOn, HoldsConnection, Owns}
 use Rattle.poa_shared.proofs.Places.{at_reversed, at_shorter, none_behind, reversed_at}
 

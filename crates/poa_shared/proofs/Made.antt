@@ -12,10 +12,10 @@ use Rattle.core_state.specs.State.{is_turn}
 use Rattle.seat_lock.specs.declared.view.View.{View}
 use Rattle.seat_lock.specs.Histories.{MayMake}
 use Rattle.seat_lock.specs.Steps.{Knows}
-use Rattle.run_history.specs.declared.givens.Givens.{Givens}
-use Rattle.run_history.specs.Owners.{owner_of}
-use Rattle.run_history.specs.Runs.{IsHistory}
-use Rattle.run_history.specs.Life.{Life, givens_of, with_entry}
+use Rattle.poa_history.specs.declared.givens.Givens.{Givens}
+use Rattle.poa_history.specs.Owners.{owner_of}
+use Rattle.poa_history.specs.GivenRuns.{IsHistory}
+use Rattle.poa_history.specs.Life.{Life, givens_of, with_entry}
 use Rattle.poa_core.specs.Answers.{Enters, Arrives, Steps, Collects, Abandons}
 use Rattle.poa_core.specs.declared.enter_fault.EnterFault.{EnterFault}
 use Rattle.poa_core.specs.declared.enter_fault.EnterFault.TheVariants as enter_fault

@@ -7,7 +7,7 @@ use Rattle.poa_base.specs.declared.Entry.{Entry}
 use Rattle.poa_shared.specs.Seen.{past, Turns}
 use Rattle.poa_shared.specs.Making.{Makes}
 use Rattle.poa_shared.proofs.Seeing.{same_seen, one_seen, found_longer}
-use Rattle.run_history.specs.declared.givens.Givens.{Givens}
+use Rattle.poa_history.specs.declared.givens.Givens.{Givens}
 use Rattle.seat_lock.specs.declared.view.View.{View}
 use Rattle.seat_lock.specs.Histories.{In, times}
 use Rattle.seat_lock.proofs.Histories.{prefix_self, prefix_through, prefix_below}

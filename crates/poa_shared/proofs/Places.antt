@@ -10,7 +10,7 @@ use Rattle.seat_lock.proofs.Calls.{at_prefix}
 use Rattle.seat_lock.proofs.Lists.{at_last, at_longer}
 use Rattle.seat_lock.proofs.Totals.{at_push, at_there, one_at}
 use Rattle.std.specs.Prelude.{Some}
-use Rattle.run_history.specs.Owners.{owner_of, HasNone}
+use Rattle.poa_history.specs.Owners.{owner_of, HasNone}
 
 module _ {A : Type 0} where
   pub reverse_more : (x : A) (xs : List A) → reverse (x ∷ xs) ≡ reverse xs ++ x ∷ []

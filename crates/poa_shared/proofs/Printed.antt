@@ -5,7 +5,7 @@ use Rattle.std.specs.declared.alloc.AllocError.{AllocError}
 use Rattle.poa_base.specs.Store.{Slots}
 use Rattle.poa_base.specs.declared.Entry.{Entry}
 use Rattle.poa_journal.specs.Journal.{journal_text}
-use Rattle.run_history.specs.Life.{Life}
+use Rattle.poa_history.specs.Life.{Life}
 use Rattle.poa_shared.specs.Events.{PrintsJournal}
 
 pub prints : (r : Result (List ℕ) AllocError) (x : Life) (run : ℕ) (opening : Slots) (entries : List Entry)

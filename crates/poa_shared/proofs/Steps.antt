@@ -12,8 +12,8 @@ use Rattle.history_standing.specs.Stages.{stage}
 use Rattle.history_standing.specs.Standings.{Standing}
 use Rattle.poa_history.specs.Turns.{attempt, activation_numbered, going_on, turn}
 use Rattle.poa_history.proofs.TurnIs.{mapped_by, goes_on, takes, admits, turned}
-use Rattle.run_history.specs.declared.givens.Givens.{Givens}
-use Rattle.run_history.specs.Owners.{worker_of}
+use Rattle.poa_history.specs.declared.givens.Givens.{Givens}
+use Rattle.poa_history.specs.Owners.{worker_of}
 use Rattle.poa_core.specs.Answers.{Steps}
 use Rattle.poa_core.specs.declared.step_out.StepOut.{StepOut}
 use Rattle.poa_core.specs.declared.step_out.StepOut.TheVariants as step_out

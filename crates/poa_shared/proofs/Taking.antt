@@ -4,7 +4,7 @@ use Rattle.std.specs.Prelude.{Some, Result, Ok, Err, IfOk}
 use Rattle.history_standing.specs.Arrivals.{connections}
 use Rattle.poa_core.specs.Answers.{Enters}
 use Rattle.poa_core.specs.declared.enter_fault.EnterFault.{EnterFault}
-use Rattle.run_history.proofs.Owned.{owners_low}
+use Rattle.poa_history.proofs.Owned.{owners_low}
 use Rattle.seat_lock.proofs.Lists.{at_last}
 use Rattle.std.proofs.lemmas.List.{length-reverse, reverse-reverse}
 use mathlib.Core.Option.{some}
@@ -18,10 +18,10 @@ use Rattle.seat_lock.specs.Views.{passed_on, turned_to}
 use Rattle.seat_lock.proofs.Calls.{at_prefix, in_made, put_begins}
 use Rattle.seat_lock.proofs.Histories.{made_none, made_one, prefix_through}
 use Rattle.seat_lock.proofs.Totals.{at_below, at_push, in_added, in_last}
-use Rattle.run_history.specs.declared.givens.Givens.{Givens}
-use Rattle.run_history.specs.Owners.{owner_of}
-use Rattle.run_history.specs.Runs.{IsHistory}
-use Rattle.run_history.specs.Life.{Life, givens_of, life_at, with_entry}
+use Rattle.poa_history.specs.declared.givens.Givens.{Givens}
+use Rattle.poa_history.specs.Owners.{owner_of}
+use Rattle.poa_history.specs.GivenRuns.{IsHistory}
+use Rattle.poa_history.specs.Life.{Life, givens_of, life_at, with_entry}
 use Rattle.poa_shared.specs.Events.{Event}
 use Rattle.poa_shared.specs.Seen.{HoldsConnection, Owns, Turns, past}
 use Rattle.poa_shared.proofs.Holding.{goes_on}

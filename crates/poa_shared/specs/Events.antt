@@ -3,11 +3,11 @@ use Rattle.std.specs.Prelude.{◌≡◌, ◌≢◌, ℕ, List, reverse, Option, 
 use Rattle.std.specs.declared.alloc.AllocError.{AllocError}
 use Rattle.poa_base.specs.declared.Entry.{Entry}
 use Rattle.seat_lock.specs.declared.view.View.{View}
-use Rattle.run_history.specs.declared.givens.Givens.{Givens}
+use Rattle.poa_history.specs.declared.givens.Givens.{Givens}
 use Rattle.poa_journal.specs.Journal.{journal_text}
 use Rattle.poa_core.specs.Answers.{Collects, Steps}
 use Rattle.poa_core.specs.Fits.{FitsItsCall}
-use Rattle.run_history.specs.Life.{Life, life_at}
+use Rattle.poa_history.specs.Life.{Life, life_at}
 use Rattle.poa_core.specs.declared.collected.Collected.{Collected}
 use Rattle.poa_core.specs.declared.step_out.StepOut.{StepOut}
 use Rattle.run_tally.specs.Phases.{phase_of}

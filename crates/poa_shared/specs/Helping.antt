@@ -5,9 +5,9 @@ use Rattle.poa_base.specs.declared.Entry.TheVariants.{Abandon}
 use Rattle.poa_shared.specs.Seats.{IsIdle}
 use Rattle.poa_shared.specs.declared.shared.Shared.{Shared}
 use Rattle.poa_shared.specs.Making.{Makes}
-use Rattle.run_history.specs.Life.{Life}
-use Rattle.run_history.specs.Owners.{worker_of}
-use Rattle.run_history.specs.declared.givens.Givens.{Givens}
+use Rattle.poa_history.specs.Life.{Life}
+use Rattle.poa_history.specs.Owners.{worker_of}
+use Rattle.poa_history.specs.declared.givens.Givens.{Givens}
 use Rattle.run_tally.specs.Phases.{phase_of}
 use Rattle.run_tally.specs.declared.phase.Phase.TheVariants.{Running}
 use Rattle.seat_lock.specs.Histories.{IsPrefix}

@@ -1,7 +1,7 @@
 -- What was made by a seat, read on two views of it. A place is an index into the journal.
 use Rattle.std.specs.Prelude.{◌≡◌, ℕ, ◌≤◌, List, ◌++◌, length}
 use Rattle.poa_base.specs.declared.Entry.{Entry}
-use Rattle.run_history.specs.declared.givens.Givens.{Givens}
+use Rattle.poa_history.specs.declared.givens.Givens.{Givens}
 use Rattle.seat_lock.specs.declared.view.View.{View}
 use Rattle.seat_lock.specs.Histories.{In, IsPrefix}
 

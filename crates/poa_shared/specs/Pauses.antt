@@ -5,9 +5,9 @@ use Rattle.poa_base.specs.declared.Entry.{Entry}
 use Rattle.poa_core.specs.Answers.{point_of}
 use Rattle.history_standing.specs.Stages.{is_abandoned, stage}
 use Rattle.poa_history.specs.Turns.{turn}
-use Rattle.run_history.specs.declared.givens.Givens.{Givens}
-use Rattle.run_history.specs.Runs.{IsLog}
-use Rattle.run_history.specs.Owners.{owner_of}
+use Rattle.poa_history.specs.declared.givens.Givens.{Givens}
+use Rattle.poa_history.specs.GivenRuns.{IsLog}
+use Rattle.poa_history.specs.Owners.{owner_of}
 use Rattle.poa_shared.specs.Seen.{past}
 use Rattle.poa_shared.specs.declared.pause.Pause.{Pause}
 use Rattle.poa_shared.specs.declared.pause.Pause.TheVariants as pause

@@ -1,10 +1,10 @@
 -- The seats of a shared core.
 use Rattle.poa_base.specs.declared.Entry.{Entry}
-use Rattle.run_history.specs.declared.givens.Givens.{Givens}
+use Rattle.poa_history.specs.declared.givens.Givens.{Givens}
 use Rattle.seat_lock.specs.Seats.{IsFree, IsSeatOf, Seat}
 use Rattle.seat_lock.specs.declared.view.View.{View}
 use Rattle.std.specs.Prelude.{Option}
-use Rattle.run_history.specs.Life.{Life}
+use Rattle.poa_history.specs.Life.{Life}
 use Rattle.poa_shared.specs.declared.shared.Shared.{Shared}
 
 -- the seat is one of this shared core, and holds nothing

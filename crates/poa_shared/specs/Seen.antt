@@ -7,9 +7,9 @@ use Rattle.poa_base.specs.declared.Entry.TheVariants.{Entered, Left}
 use Rattle.seat_lock.specs.Histories.{In}
 use Rattle.seat_lock.specs.Steps.{Knows}
 use Rattle.seat_lock.specs.declared.view.View.{View}
-use Rattle.run_history.specs.declared.givens.Givens.{Givens}
-use Rattle.run_history.specs.Owners.{owner_of, HasNone}
-use Rattle.run_history.specs.Runs.{IsHistory}
+use Rattle.poa_history.specs.declared.givens.Givens.{Givens}
+use Rattle.poa_history.specs.Owners.{owner_of, HasNone}
+use Rattle.poa_history.specs.GivenRuns.{IsHistory}
 
 -- the history as the seat saw it last, the newest entry first
 abbrev pub past : View Givens Entry → List Entry

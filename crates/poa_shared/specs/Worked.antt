@@ -6,9 +6,9 @@ use Rattle.poa_base.specs.declared.Entry.{Entry}
 use Rattle.poa_base.specs.declared.Entry.TheVariants.{Abandon}
 use Rattle.history_standing.specs.Stages.{is_abandoned}
 use Rattle.history_laws.specs.Closing.{IsClosed}
-use Rattle.run_history.specs.declared.givens.Givens.{Givens}
-use Rattle.run_history.specs.Runs.{IsLog}
-use Rattle.run_history.specs.Owners.{owner_of, worker_of}
+use Rattle.poa_history.specs.declared.givens.Givens.{Givens}
+use Rattle.poa_history.specs.GivenRuns.{IsLog}
+use Rattle.poa_history.specs.Owners.{owner_of, worker_of}
 use Rattle.poa_shared.specs.Seen.{past}
 use Rattle.poa_shared.specs.Making.{Makes}
 use Rattle.poa_shared.specs.declared.work_end.WorkEnd.{WorkEnd}

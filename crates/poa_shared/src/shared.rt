@@ -4,8 +4,8 @@ ghost use Rattle.poa_base.specs.declared.Entry.{Entry};
 ghost use Rattle.seat_lock.specs.Seats.{view};
 ghost use Rattle.seat_lock.specs.Steps.{Knows, Unites};
 ghost use Rattle.seat_lock.specs.Views.{first_view, joined_view, left_of, right_of};
-ghost use Rattle.run_history.specs.Owners.{owner_of};
-ghost use Rattle.run_history.specs.Life.{givens_of};
+ghost use Rattle.poa_history.specs.Owners.{owner_of};
+ghost use Rattle.poa_history.specs.Life.{givens_of};
 ghost use Rattle.poa_shared.specs.Seats.{IsIdle};
 
 use crate::belfry::Belfry;

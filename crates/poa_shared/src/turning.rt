@@ -1,7 +1,7 @@
 //! Turns in one hold of the front.
 ghost use Rattle.std.specs.Prelude.{◌≡◌, ◌<◌, Some};
 ghost use Rattle.seat_lock.specs.Seats.{view};
-ghost use Rattle.run_history.specs.declared.givens.Givens.{Givens};
+ghost use Rattle.poa_history.specs.declared.givens.Givens.{Givens};
 ghost use Rattle.poa_shared.specs.Seats.{IsIdle};
 ghost use Rattle.poa_shared.specs.Pauses.{Pauses};
 

@@ -4,7 +4,7 @@ use Rattle.std.specs.Prelude.{MatchOption}
 use Rattle.std.proofs.Math.Seq.{take-append-add}
 use Rattle.std.proofs.lemmas.List.{take-append-drop, take_at}
 use Rattle.outside.specs.Told.{IfTold}
-use Rattle.run_history.specs.Life.{Life}
+use Rattle.poa_history.specs.Life.{Life}
 use Rattle.poa_core.specs.Answers.{unadmitted}
 use Rattle.giop_frame.specs.Stream.{Framed, End}
 use Rattle.giop_frame.specs.Framing.{Framing}

@@ -4,7 +4,7 @@ use Rattle.std.proofs.Math.Seq.{take-append-add}
 use Rattle.std.proofs.lemmas.List.{take-take, take-append-le}
 use Rattle.outside.specs.Told.{IfTold}
 use Rattle.poa_base.specs.declared.Config.{Config}
-use Rattle.run_history.specs.Life.{Life, opened}
+use Rattle.poa_history.specs.Life.{Life, opened}
 use Rattle.poa_core.specs.Answers.{unadmitted}
 use Rattle.giop_frame.specs.Stream.{Framed, Stream, left_over}
 use Rattle.giop_frame.specs.Framer.{reach}

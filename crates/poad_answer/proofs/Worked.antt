@@ -6,7 +6,7 @@ use Rattle.poa_base.specs.declared.Point.{Point}
 use Rattle.poa_base.specs.declared.Reply.{Reply}
 use Rattle.giop_answer.specs.Reply.{reply_bytes}
 use Rattle.poad_answer.specs.Serving.{IsServing}
-use Rattle.run_history.specs.Life.{Life, with_entry}
+use Rattle.poa_history.specs.Life.{Life, with_entry}
 use Rattle.poa_core.specs.Answers.{Steps, Collects, is_taken}
 use Rattle.poa_core.specs.Fits.{FitsItsCall}
 use Rattle.poa_core.specs.declared.StepOut.{StepOut}

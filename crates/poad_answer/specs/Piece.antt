@@ -1,7 +1,7 @@
 -- What a piece of input brings: the messages that it makes whole are served, and their replies are written.
 use Rattle.std.specs.Prelude.{◌≡◌, ℕ, ◌+◌, ◌<◌, ◌≤◌, List, [], ◌++◌, Option, Some, None, MatchOption, length, ⊤}
 use Rattle.outside.specs.Told.{IfTold}
-use Rattle.run_history.specs.Life.{Life}
+use Rattle.poa_history.specs.Life.{Life}
 use Rattle.poa_core.specs.Answers.{unadmitted}
 use Rattle.giop_frame.specs.Stream.{Framed}
 use Rattle.giop_frame.specs.Framer.{reach}

@@ -6,7 +6,7 @@ use Rattle.poa_base.specs.declared.Entry.TheVariants.{Entered}
 use Rattle.poa_history.specs.Legal.{IsLegal}
 use Rattle.poa_history.specs.Lifetime.{HasLifetime}
 use Rattle.history_laws.specs.Lasting.{KeepsUpdates, LeavesNothing}
-use Rattle.run_history.specs.Life.{Life, with_entry, opened}
+use Rattle.poa_history.specs.Life.{Life, with_entry, opened}
 use Rattle.poa_core.specs.Answers.{unadmitted}
 use Rattle.replay_player.specs.Opening.{life_at_first}
 use Rattle.giop_frame.specs.Stream.{Framed}

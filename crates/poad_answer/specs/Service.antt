@@ -1,7 +1,7 @@
 -- What a service does with the bytes that it was fed.
 use Rattle.std.specs.Prelude.{◌≡◌, ℕ, ◌<◌, List, [], ◌∷◌, ◌++◌, Option, Some, None, false, length, Ok, ⊤}
 use Rattle.poa_base.specs.declared.Call.{Call}
-use Rattle.run_history.specs.Life.{Life}
+use Rattle.poa_history.specs.Life.{Life}
 use Rattle.poa_core.specs.Answers.{is_taken, filled_by, filled_at}
 use Rattle.giop_frame.specs.Stream.{Framed}
 use Rattle.giop_frame.specs.Framer.{HasGiven, reach}

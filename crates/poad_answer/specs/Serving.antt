@@ -11,7 +11,7 @@ use Rattle.giop_answer.specs.Reply.{reply_bytes}
 use Rattle.poa_history.specs.Legal.{IsLegal, IsOpen}
 use Rattle.poa_history.specs.Lifetime.{HasLifetime}
 use Rattle.history_laws.specs.Lasting.{KeepsUpdates, LeavesNothing}
-use Rattle.run_history.specs.Life.{Life, with_entry, opened}
+use Rattle.poa_history.specs.Life.{Life, with_entry, opened}
 use Rattle.poa_core.specs.Answers.{is_taken}
 use Rattle.giop_replies.specs.Calls.{Each, IsHeaded}
 use Rattle.replay_player.specs.Working.{IsIdle, Makes}

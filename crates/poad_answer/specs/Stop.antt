@@ -7,7 +7,7 @@ use Rattle.giop_msg.specs.declared.Incoming.TheVariants.{Closing, Call as Incomi
 use Rattle.giop_msg.specs.declared.MsgFault.TheVariants as fault
 use Rattle.giop_msg.specs.Call.{CallOf}
 use Rattle.giop_answer.specs.Outgoing.{framed}
-use Rattle.run_history.specs.Life.{Life}
+use Rattle.poa_history.specs.Life.{Life}
 use Rattle.poa_core.specs.Answers.{is_taken, filled_by, filled_at}
 use Rattle.poad_answer.specs.declared.stop.Stop.{Stop}
 use Rattle.poad_answer.specs.declared.stop.Stop.TheVariants.{Waits, Closed, Refused, Full, NoMemory}

@@ -19,8 +19,8 @@ use Rattle.poad_cmd.specs.Ending.{AnyRose, EachSteady, IsLimit, is_unput, status
 use Rattle.poad_cmd.specs.Beginning.{IsBegun}
 use Rattle.poad_cmd.specs.Serving.{Ends, ServesOn, Tells}
 use Rattle.poad_cmd.proofs.Statuses.{fine_told, limit_is, limit_told, listen_told, no_memory_wanted, none_full, none_short, not_lost, not_short, thread_short, thread_told}
-use Rattle.run_history.specs.Life.{Life}
-use Rattle.run_history.specs.declared.givens.Givens.{Givens}
+use Rattle.poa_history.specs.Life.{Life}
+use Rattle.poa_history.specs.declared.givens.Givens.{Givens}
 use Rattle.run_tally.specs.Limits.{filled_at}
 use Rattle.run_tally.specs.declared.full.Full.{Full}
 use Rattle.serve_run.specs.declared.ran.PieceEnd.{PieceEnd}

@@ -6,7 +6,7 @@ use Rattle.outside.specs.Keeping.{Contents}
 use Rattle.std.specs.FinMap.{empty}
 use Rattle.poa_base.specs.declared.Config.{Config}
 use Rattle.poa_base.specs.declared.limits.TheConstants.{CALLS}
-use Rattle.run_history.specs.Life.{Life, begun}
+use Rattle.poa_history.specs.Life.{Life, begun}
 use Rattle.poad_files.specs.Taking.{TakesConfig}
 use Rattle.poad_files.specs.declared.status.Status.{Status}
 use Rattle.poad_files.specs.declared.status.Status.TheVariants.{BadWords, WantMemory}

@@ -5,7 +5,7 @@ use Rattle.outside.specs.Keeping.{Contents, Stores}
 use Rattle.outside.specs.Told.{IfTold}
 use Rattle.outside.specs.declared.keeping.Put.{Put}
 use Rattle.outside.specs.declared.keeping.Put.TheVariants.{Done}
-use Rattle.run_history.specs.Life.{Life}
+use Rattle.poa_history.specs.Life.{Life}
 use Rattle.poa_journal.specs.Journal.{journal_text}
 
 -- the text of the journal of a run

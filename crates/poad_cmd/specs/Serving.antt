@@ -14,8 +14,8 @@ use Rattle.poad_files.specs.declared.status.Status.TheVariants.{Ok as Fine, Want
 use Rattle.poad_cmd.specs.Beginning.{IsBegun, IsRefused}
 use Rattle.poad_cmd.specs.Ending.{AnyRose, EachSteady, IsLimit, status_of}
 use Rattle.poad_cmd.specs.Putting.{PutsJournal}
-use Rattle.run_history.specs.Life.{Life, givens_of}
-use Rattle.run_history.specs.declared.givens.Givens.{Givens}
+use Rattle.poa_history.specs.Life.{Life, givens_of}
+use Rattle.poa_history.specs.declared.givens.Givens.{Givens}
 use Rattle.run_tally.specs.Limits.{filled_at}
 use Rattle.run_tally.specs.declared.full.Full.{Full}
 use Rattle.serve_run.specs.Outcomes.{least_in}

@@ -5,8 +5,8 @@ use Rattle.std.proofs.lemmas.Nat.{mod_below}
 use Rattle.poa_base.specs.declared.Config.{Config}
 use Rattle.poa_history.specs.Legal.{IsLegal}
 use Rattle.poa_history.specs.Lifetime.{HasLifetime}
-use Rattle.run_history.specs.Life.{Life, givens_of}
-use Rattle.run_history.specs.declared.Givens.{Givens}
+use Rattle.poa_history.specs.Life.{Life, givens_of}
+use Rattle.poa_history.specs.declared.Givens.{Givens}
 use Rattle.replay_player.specs.Opening.{life_at_first}
 use Rattle.replay_player.specs.Showing.{Stores}
 use Rattle.replay_player.specs.Working.{Rests, Stays, Then}

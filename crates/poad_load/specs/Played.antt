@@ -1,7 +1,7 @@
 -- What the parts of a load do to a play. These words are for the contracts inside of this crate.
 use Rattle.std.specs.Prelude.{◌≡◌, ℕ, List}
 use Rattle.poa_base.specs.Store.{Slots}
-use Rattle.run_history.specs.Life.{Life}
+use Rattle.poa_history.specs.Life.{Life}
 use Rattle.replay_player.specs.Showing.{Stores}
 use Rattle.replay_run.specs.World.{World}
 use Rattle.replay_run.specs.Quiet.{HasGivens, IsInPlay, PutsBehind, Quietly, world_of}

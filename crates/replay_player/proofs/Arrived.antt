@@ -4,7 +4,7 @@ use Rattle.poa_base.specs.declared.Call.{Call}
 use Rattle.poa_base.specs.declared.Entry.TheVariants.{Arrive, Filled}
 use Rattle.history_standing.specs.Arrivals.{connections}
 use Rattle.poa_history.specs.Legal.{is_filled, IsOpen}
-use Rattle.run_history.specs.Life.{Life, with_entry}
+use Rattle.poa_history.specs.Life.{Life, with_entry}
 use Rattle.poa_core.specs.declared.ArriveFault.{ArriveFault}
 use Rattle.poa_core.specs.declared.ArriveFault.TheVariants as arrive_fault
 use Rattle.poa_core.specs.Answers.{filled_by, is_taken, Arrives}

@@ -5,7 +5,7 @@ use Rattle.poa_base.specs.declared.Head.{Head}
 use Rattle.poa_base.specs.declared.Point.{Point}
 use Rattle.poa_base.specs.declared.Reply.{Reply}
 use Rattle.history_standing.specs.Arrivals.{call_of}
-use Rattle.run_history.specs.Life.{Life, with_entry}
+use Rattle.poa_history.specs.Life.{Life, with_entry}
 use Rattle.poa_core.specs.Answers.{Steps, Collects, head_of}
 use Rattle.poa_core.specs.declared.StepOut.TheVariants as step_out
 use Rattle.poa_core.specs.declared.Collected.TheVariants as collected

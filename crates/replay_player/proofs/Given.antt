@@ -6,7 +6,7 @@ use Rattle.poa_base.specs.Store.{Slots, stored as stored_in}
 use Rattle.poa_history.specs.Lifetime.{HasLifetime}
 use Rattle.poa_history.specs.Runs.{IsRun}
 use Rattle.history_laws.specs.Lasting.{KeepsUpdates, LeavesNothing}
-use Rattle.run_history.specs.Life.{Life, opened}
+use Rattle.poa_history.specs.Life.{Life, opened}
 use Rattle.replay_player.specs.Opening.{life_at_first}
 use Rattle.replay_player.proofs.Same.{Givens}
 

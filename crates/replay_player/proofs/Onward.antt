@@ -1,6 +1,6 @@
 -- What was done so far, with whatever follows, is the whole.
 use Rattle.std.proofs.Common.{◌≡◌, ℕ, List, [], ◌++◌, refl, sym, ap, ◌∙◌, subst, append_assoc, append-nil}
-use Rattle.run_history.specs.Life.{Life}
+use Rattle.poa_history.specs.Life.{Life}
 use Rattle.replay_player.specs.declared.player.Player.{Player}
 use Rattle.replay_player.specs.Effects.{Works}
 

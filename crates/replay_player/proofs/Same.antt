@@ -7,7 +7,7 @@ use Rattle.poa_base.specs.declared.Reply.{Reply}
 use Rattle.history_standing.specs.Arrivals.{call_of, connections}
 use Rattle.poa_history.specs.Legal.{has_left}
 use Rattle.history_standing.specs.Stages.{is_abandoned}
-use Rattle.run_history.specs.Life.{Life, with_entry}
+use Rattle.poa_history.specs.Life.{Life, with_entry}
 use Rattle.poa_core.specs.Answers.{filled_at}
 use Rattle.replay_player.specs.Working.{Makes, Turns, makes, idles, Runs, runs_out, runs_on, Stays, RunsBelow, Rests, rested, settles_on, ByWorker, Either, is_worker, Then}
 use Rattle.replay_player.specs.Collecting.{CollectsAll, none_left, collects_on}

@@ -1,7 +1,7 @@
 -- The turns of workers, as the player takes them.
 use Rattle.std.proofs.Common.{◌≡◌, ℕ, suc, ◌+◌, ◌<◌, ◌≤◌, Bool, true, false, ◌||◌, List, [], ◌++◌, refl, sym, ap, ◌∙◌, subst, arith, add-one, nat_lt}
 use Rattle.std.proofs.lemmas.Bool.Decides.{nat_tests}
-use Rattle.run_history.specs.Life.{Life}
+use Rattle.poa_history.specs.Life.{Life}
 use Rattle.replay_player.specs.declared.player.Player.{Player}
 use Rattle.replay_lines.specs.Lines.{entry_line, idle_line}
 use Rattle.replay_player.specs.Working.{Turns, makes, idles, Runs, runs_out, runs_on, RunsBelow, Rests, rested, settles_on, IsIdle, AllIdle, ByWorker, Either, is_worker, Stays}

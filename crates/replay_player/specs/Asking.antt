@@ -11,7 +11,7 @@ use Rattle.giop_msg.specs.Ask.{request_bytes}
 use Rattle.history_standing.specs.Nodes.{node_at}
 use Rattle.poa_history.specs.Changes.{standing}
 use Rattle.history_standing.specs.Templates.{template, policies_at, lasts}
-use Rattle.run_history.specs.Life.{Life}
+use Rattle.poa_history.specs.Life.{Life}
 
 -- the number of no adapter
 abbrev pub no_adapter : ℕ

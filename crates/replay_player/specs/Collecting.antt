@@ -5,7 +5,7 @@ use Rattle.poa_base.specs.declared.Head.{Head}
 use Rattle.poa_base.specs.declared.Reply.{Reply}
 use Rattle.history_standing.specs.Arrivals.{call_of}
 use Rattle.poa_history.specs.Replies.{next_reply, reply_of}
-use Rattle.run_history.specs.Life.{Life, with_entry, opened}
+use Rattle.poa_history.specs.Life.{Life, with_entry, opened}
 use Rattle.poa_core.specs.Answers.{head_of}
 
 -- the replies that the connection is owed are collected, and told so, until none is decided

@@ -5,7 +5,7 @@ use Rattle.poa_base.specs.declared.Entry.TheVariants.{Collect}
 use Rattle.poa_base.specs.declared.Reply.{Reply}
 use Rattle.history_standing.specs.Arrivals.{call_of}
 use Rattle.poa_history.specs.Replies.{next_reply, reply_of}
-use Rattle.run_history.specs.Life.{Life, with_entry, opened}
+use Rattle.poa_history.specs.Life.{Life, with_entry, opened}
 use Rattle.poa_core.specs.Answers.{filled_at, head_of}
 use Rattle.replay_lines.specs.Lines.{entry_line, reply_line}
 use Rattle.replay_player.specs.declared.full.Full.{Full}

@@ -2,7 +2,7 @@
 use Rattle.std.specs.Prelude.{ℕ}
 use Rattle.std.specs.FinMap as finite
 use Rattle.poa_base.specs.declared.Config.{Config}
-use Rattle.run_history.specs.Life.{Life, begun}
+use Rattle.poa_history.specs.Life.{Life, begun}
 
 -- a run of the configuration's number, with nothing stored, that takes so many arrivals
 abbrev pub life_at_first : Config → ℕ → Life

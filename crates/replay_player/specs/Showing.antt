@@ -3,7 +3,7 @@ use Rattle.std.specs.Prelude.{◌≡◌, ℕ, List, reverse}
 use Rattle.poa_base.specs.Store.{Slots, stored as stored_in}
 use Rattle.poa_history.specs.States.{stored}
 use Rattle.poa_journal.specs.Journal.{journal_text, store_text}
-use Rattle.run_history.specs.Life.{Life, opened}
+use Rattle.poa_history.specs.Life.{Life, opened}
 
 -- a store of what is stored
 abbrev pub Stores : Life → Slots → Type 0

@@ -3,7 +3,7 @@ use Rattle.std.proofs.Common.{arith, ◌≡◌, ℕ, ◌+◌, ◌<◌, ◌≤◌
 use Rattle.poa_base.specs.declared.Config.{Config}
 use Rattle.poa_base.specs.declared.Head.{Head}
 use Rattle.poa_base.specs.declared.Reply.{Reply}
-use Rattle.run_history.specs.Life.{Life, givens_of}
+use Rattle.poa_history.specs.Life.{Life, givens_of}
 use Rattle.history_standing.specs.Arrivals.{connections}
 use Rattle.poa_core.specs.Answers.{Collects}
 use Rattle.poa_core.specs.declared.Collected.TheVariants as collected

@@ -3,7 +3,7 @@ use Rattle.std.proofs.Common.{◌≡◌, ℕ, zero, suc, Bool, true, false, List
 use Rattle.std.specs.Option.{option_or}
 use Rattle.poa_base.specs.declared.Entry.TheVariants.{Entered}
 use Rattle.history_standing.specs.Arrivals.{arrivals, arrived_bytes, connections}
-use Rattle.run_history.specs.Life.{Life, with_entry}
+use Rattle.poa_history.specs.Life.{Life, with_entry}
 use Rattle.replay_run.specs.declared.channel.Channel.{Channel}
 use Rattle.replay_player.specs.declared.full.Full.{Full}
 use Rattle.replay_player.specs.declared.player.Player.{Player}

@@ -6,7 +6,7 @@ use Rattle.poa_base.specs.declared.Call.{Call}
 use Rattle.poa_base.specs.declared.Call.TheVariants.{Line}
 use Rattle.poa_base.specs.declared.Command.{Command}
 use Rattle.admin_line.specs.Reading.{command_of_line}
-use Rattle.run_history.specs.Life.{Life}
+use Rattle.poa_history.specs.Life.{Life}
 use Rattle.replay_run.specs.World.{Talk}
 use Rattle.replay_player.specs.Working.{Either, Stays}
 use Rattle.giop_frame.specs.declared.Next.TheVariants as next

@@ -8,7 +8,7 @@ use Rattle.poa_base.specs.declared.Entry.{Entry}
 use Rattle.poa_base.specs.declared.Entry.TheVariants.{Arrive, Entered, Filled, Left}
 use Rattle.history_standing.specs.Arrivals.{connections}
 use Rattle.poa_history.specs.Legal.{has_left, is_filled, IsOpen}
-use Rattle.run_history.specs.Life.{Life, with_entry}
+use Rattle.poa_history.specs.Life.{Life, with_entry}
 use Rattle.poa_core.specs.Answers.{filled_at, filled_by, is_taken}
 use Rattle.giop_frame.specs.Stream.{Framed}
 use Rattle.giop_msg.specs.Call.{CallOf}

@@ -1,7 +1,7 @@
 -- A script leaves the givens of the run as they are.
 use Rattle.std.proofs.Common.{◌≡◌, ℕ, Bool, true, false, List, [], ◌∷◌, Option, Some, None, slice_get, sym, subst}
 use Rattle.history_standing.specs.Arrivals.{connections}
-use Rattle.run_history.specs.Life.{Life}
+use Rattle.poa_history.specs.Life.{Life}
 use Rattle.replay_script.specs.declared.ScriptStep.{ScriptStep}
 use Rattle.replay_script.specs.declared.Step.{Step}
 use Rattle.replay_script.specs.declared.Step.TheVariants as step

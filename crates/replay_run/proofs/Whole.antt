@@ -4,7 +4,7 @@ use Rattle.std.specs.Option.{option_or}
 use Rattle.poa_base.specs.declared.Config.{Config}
 use Rattle.poa_history.specs.Legal.{IsLegal, has_left}
 use Rattle.poa_history.specs.Lifetime.{HasLifetime}
-use Rattle.run_history.specs.Life.{Life, opened}
+use Rattle.poa_history.specs.Life.{Life, opened}
 use Rattle.history_laws.specs.Lasting.{KeepsUpdates, LeavesNothing}
 use Rattle.poa_core.specs.Answers.{filled_at, unadmitted}
 use Rattle.replay_script.specs.declared.Script.{Script}

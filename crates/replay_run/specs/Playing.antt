@@ -7,7 +7,7 @@ use Rattle.poa_history.specs.Legal.{IsLegal}
 use Rattle.poa_history.specs.Lifetime.{HasLifetime}
 use Rattle.history_laws.specs.Undone.{IsAllDone}
 use Rattle.history_laws.specs.Lasting.{KeepsUpdates, LeavesNothing}
-use Rattle.run_history.specs.Life.{Life, opened}
+use Rattle.poa_history.specs.Life.{Life, opened}
 use Rattle.poa_core.specs.Answers.{filled_at, unadmitted}
 use Rattle.replay_script.specs.declared.Script.{Script}
 use Rattle.replay_script.specs.declared.ScriptStep.{ScriptStep}

@@ -5,7 +5,7 @@ use Rattle.poa_base.specs.declared.Call.TheVariants.{Line}
 use Rattle.poa_base.specs.declared.Entry.TheVariants.{Entered, Left, Collect}
 use Rattle.history_standing.specs.Arrivals.{arrivals, arrived_bytes, connections}
 use Rattle.admin_line.specs.Reading.{command_of_line}
-use Rattle.run_history.specs.Life.{Life, with_entry}
+use Rattle.poa_history.specs.Life.{Life, with_entry}
 use Rattle.replay_run.specs.declared.channel.Channel.{Channel}
 use Rattle.replay_run.specs.declared.line.Line.{Line as LineData}
 use Rattle.replay_run.specs.declared.line.Line.TheVariants as line

@@ -1,6 +1,6 @@
 -- What stands between two lines of a script.
 use Rattle.std.specs.Prelude.{List, Option}
-use Rattle.run_history.specs.Life.{Life}
+use Rattle.poa_history.specs.Life.{Life}
 use Rattle.replay_run.specs.declared.channel.Channel.{Channel}
 use Rattle.replay_player.specs.declared.full.Full.{Full}
 

@@ -5,7 +5,7 @@ ghost use Rattle.poa_history.specs.Legal.{IsLegal};
 ghost use Rattle.poa_history.specs.Lifetime.{HasLifetime};
 ghost use Rattle.history_laws.specs.Lasting.{KeepsUpdates, LeavesNothing};
 ghost use Rattle.poa_history.specs.Runs.{IsRun};
-ghost use Rattle.run_history.specs.Life.{opened};
+ghost use Rattle.poa_history.specs.Life.{opened};
 ghost use Rattle.poa_core.specs.Answers.{unadmitted};
 ghost use Rattle.poa_policy.specs.Kept.{KeepsRules};
 ghost use Rattle.replay_run.specs.Playing.{IsPlayed, Plays, PlaysAll};

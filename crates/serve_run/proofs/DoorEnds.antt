@@ -12,7 +12,7 @@ use Rattle.history_standing.specs.Arrivals.{call_of, conn_of}
 use Rattle.poa_history.specs.Legal.{is_filled}
 use Rattle.history_standing.specs.Stages.{is_abandoned, is_at}
 use Rattle.poa_history.proofs.SettledKept.{or_first, or_second}
-use Rattle.run_history.specs.declared.givens.Givens.{Givens}
+use Rattle.poa_history.specs.declared.givens.Givens.{Givens}
 use Rattle.run_tally.specs.Leaving.{is_shut, is_shut_by}
 use Rattle.run_tally.specs.Phases.{first_abandoned, phase_by, phase_of}
 use Rattle.run_tally.specs.declared.phase.Phase.{Phase}

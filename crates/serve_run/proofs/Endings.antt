@@ -25,9 +25,9 @@ use Rattle.history_laws.proofs.LateCalls.{late}
 use Rattle.history_laws.proofs.Over.{closed_over, history_before}
 use Rattle.poa_shared.specs.Helping.{IsHelpAt}
 use Rattle.poa_shared.proofs.Making.{in_either}
-use Rattle.run_history.specs.declared.givens.Givens.{Givens}
-use Rattle.run_history.specs.Owners.{owner_of, worker_of}
-use Rattle.run_history.specs.Runs.{IsHistory, IsLog}
+use Rattle.poa_history.specs.declared.givens.Givens.{Givens}
+use Rattle.poa_history.specs.Owners.{owner_of, worker_of}
+use Rattle.poa_history.specs.GivenRuns.{IsHistory, IsLog}
 use Rattle.seat_lock.specs.declared.view.View.{View}
 use Rattle.seat_lock.specs.Histories.{times, Belongs, In, IsPrefix}
 use Rattle.seat_lock.proofs.Calls.{at_prefix}

@@ -8,8 +8,8 @@ use Rattle.poa_base.specs.declared.Entry.{Entry}
 use Rattle.poa_base.specs.declared.Entry.TheVariants.{Entered, Arrive, Filled, Left, Collect, Admit, Tried, Incarnated, Run, Done, TakeOut, Etherealized, Abandon}
 use Rattle.history_standing.specs.Arrivals.{connections}
 use Rattle.poa_history.specs.Legal.{IsLegal, MayFollow}
-use Rattle.run_history.specs.declared.givens.Givens.{Givens}
-use Rattle.run_history.specs.Runs.{IsLog}
+use Rattle.poa_history.specs.declared.givens.Givens.{Givens}
+use Rattle.poa_history.specs.GivenRuns.{IsLog}
 use Rattle.serve_run.proofs.Places.{which_stands}
 
 more_connections : (e : Entry) (past : List Entry) → connections past ≤ connections (e ∷ past)

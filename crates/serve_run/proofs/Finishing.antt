@@ -9,15 +9,15 @@ use Rattle.poa_base.specs.declared.Call.{Call}
 use Rattle.poa_base.specs.declared.Config.{Config}
 use Rattle.poa_base.specs.declared.Entry.{Entry}
 use Rattle.poa_base.specs.declared.Entry.TheVariants.{Entered, Arrive}
-use Rattle.run_history.specs.Life.{Life, givens_of}
+use Rattle.poa_history.specs.Life.{Life, givens_of}
 use Rattle.poa_history.specs.Lifetime.{HasLifetime}
 use Rattle.poa_shared.specs.Events.{Event}
 use Rattle.poa_shared.specs.Seen.{past, Turns}
 use Rattle.poa_history.specs.Runs.{IsRun}
 use Rattle.poa_shared.specs.Helping.{IsHelpAt}
-use Rattle.run_history.specs.declared.givens.Givens.{Givens}
-use Rattle.run_history.specs.Owners.{owner_of}
-use Rattle.run_history.specs.Runs.{IsHistory, IsLog}
+use Rattle.poa_history.specs.declared.givens.Givens.{Givens}
+use Rattle.poa_history.specs.Owners.{owner_of}
+use Rattle.poa_history.specs.GivenRuns.{IsHistory, IsLog}
 use Rattle.seat_lock.specs.declared.view.View.{View}
 use Rattle.seat_lock.specs.Histories.{In, IsPrefix}
 use Rattle.seat_lock.specs.Steps.{Knows}

@@ -10,8 +10,8 @@ use Rattle.poa_history.specs.Legal.{is_filled}
 use Rattle.poa_shared.specs.Helping.{Helps, IsHelpAt}
 use Rattle.poa_shared.proofs.Helped.{help_stays}
 use Rattle.poa_shared.proofs.Making.{makes_all}
-use Rattle.run_history.specs.declared.givens.Givens.{Givens}
-use Rattle.run_history.specs.Owners.{worker_of}
+use Rattle.poa_history.specs.declared.givens.Givens.{Givens}
+use Rattle.poa_history.specs.Owners.{worker_of}
 use Rattle.run_tally.specs.Leaving.{is_shut}
 use Rattle.run_tally.specs.Phases.{first_abandoned, phase_by}
 use Rattle.run_tally.specs.declared.phase.Phase.TheVariants.{Running, Shut, Abandoned}

@@ -7,8 +7,8 @@ use Rattle.poa_base.specs.declared.Entry.{Entry}
 use Rattle.poa_shared.specs.Helping.{Aids, Helps, SeatOf}
 use Rattle.poa_shared.proofs.Helped.{help_stays}
 use Rattle.poa_shared.proofs.Making.{in_either}
-use Rattle.run_history.specs.declared.givens.Givens.{Givens}
-use Rattle.run_history.specs.Owners.{owner_of}
+use Rattle.poa_history.specs.declared.givens.Givens.{Givens}
+use Rattle.poa_history.specs.Owners.{owner_of}
 use Rattle.seat_lock.specs.Histories.{Belongs, In}
 use Rattle.seat_lock.specs.Seats.{view}
 use Rattle.seat_lock.specs.Steps.{Unites}

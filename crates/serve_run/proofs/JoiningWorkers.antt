@@ -8,8 +8,8 @@ use Rattle.poa_shared.specs.Worked.{IsMadeAt, IsTurnAt, Worked}
 use Rattle.poa_shared.specs.declared.work_end.WorkEnd.TheVariants.{Closed}
 use Rattle.poa_shared.proofs.Helped.{help_stays}
 use Rattle.poa_shared.proofs.Making.{in_either, makes_all}
-use Rattle.run_history.specs.declared.givens.Givens.{Givens}
-use Rattle.run_history.specs.Owners.{owner_of, worker_of}
+use Rattle.poa_history.specs.declared.givens.Givens.{Givens}
+use Rattle.poa_history.specs.Owners.{owner_of, worker_of}
 use Rattle.seat_lock.specs.declared.view.View.{View}
 use Rattle.seat_lock.specs.Histories.{Belongs, In}
 use Rattle.seat_lock.specs.Steps.{Unites}

@@ -15,7 +15,7 @@ use Rattle.history_standing.specs.Stages.{stage}
 use Rattle.poa_history.proofs.SettledKept.{or_second}
 use Rattle.poa_history.proofs.StagesFrom.{maker, stage_other}
 use Rattle.history_laws.specs.Closing.{HasNoTurn}
-use Rattle.run_history.specs.Owners.{worker_of}
+use Rattle.poa_history.specs.Owners.{worker_of}
 use Rattle.run_tally.specs.Leaving.{is_shut, is_shut_by}
 use Rattle.seat_lock.specs.Histories.{IsPrefix}
 use Rattle.seat_lock.proofs.Histories.{prefix_shorter}

@@ -4,7 +4,7 @@ use mathlib.Core.Logic.{dite}
 use native.Mathlib.Decide.{ℕ_discrete}
 use Rattle.poa_base.specs.declared.Entry.{Entry}
 use Rattle.poa_base.specs.declared.Entry.TheVariants.{Entered, Arrive, Filled, Left, Collect, Admit, Tried, Incarnated, Run, Done, TakeOut, Etherealized, Abandon}
-use Rattle.run_history.specs.Owners.{owner_of, worker_of}
+use Rattle.poa_history.specs.Owners.{owner_of, worker_of}
 use Rattle.seat_lock.specs.Histories.{In}
 use Rattle.seat_lock.proofs.Totals.{times_else, times_here}
 

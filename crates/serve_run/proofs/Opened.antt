@@ -7,7 +7,7 @@ use Rattle.poa_core.specs.Answers.{Enters}
 use Rattle.poa_core.specs.declared.enter_fault.EnterFault.{EnterFault}
 use Rattle.poa_shared.specs.Events.{Event}
 use Rattle.poa_shared.specs.Seen.{Turns}
-use Rattle.run_history.specs.declared.givens.Givens.{Givens}
+use Rattle.poa_history.specs.declared.givens.Givens.{Givens}
 use Rattle.seat_lock.specs.declared.view.View.{View}
 use Rattle.seat_lock.specs.Views.{first_view}
 use Rattle.serve_run.specs.Holding.{Holds}

@@ -12,15 +12,15 @@ use Rattle.poa_base.specs.declared.Command.TheVariants.{Shutdown}
 use Rattle.poa_base.specs.declared.Entry.{Entry}
 use Rattle.poa_base.specs.declared.Entry.TheVariants.{Entered, Arrive, Filled, Left}
 use Rattle.poa_core.specs.Answers.{Arrives}
-use Rattle.run_history.specs.Life.{life_at, with_entry}
+use Rattle.poa_history.specs.Life.{life_at, with_entry}
 use Rattle.poa_core.specs.declared.arrive_fault.ArriveFault.{ArriveFault}
 use Rattle.poa_core.specs.declared.arrive_fault.ArriveFault.TheVariants as arrive_fault
 use Rattle.history_standing.specs.Arrivals.{connections}
 use Rattle.poa_history.specs.Legal.{is_filled}
 use Rattle.poa_shared.specs.Events.{Event}
 use Rattle.poa_shared.specs.Seen.{past, Turns, HoldsConnection}
-use Rattle.run_history.specs.declared.givens.Givens.{Givens}
-use Rattle.run_history.specs.Owners.{worker_of}
+use Rattle.poa_history.specs.declared.givens.Givens.{Givens}
+use Rattle.poa_history.specs.Owners.{worker_of}
 use Rattle.seat_lock.specs.declared.view.View.{View}
 use Rattle.seat_lock.specs.Histories.{times, In}
 use Rattle.seat_lock.proofs.Totals.{one_at, times_else, times_here}

@@ -7,7 +7,7 @@ use mathlib.Core.Option.{some, some-ne-none}
 use lib.ListN.{get_elem?}
 use Rattle.poa_base.specs.declared.Entry.{Entry}
 use Rattle.history_standing.specs.Stages.{is_at}
-use Rattle.run_history.specs.Owners.{owner_of}
+use Rattle.poa_history.specs.Owners.{owner_of}
 use Rattle.session_laws.specs.Records.{places_by}
 use Rattle.seat_lock.specs.Histories.{Belongs, In, IsPrefix}
 use Rattle.seat_lock.proofs.Lists.{at_last, at_longer}

@@ -10,8 +10,8 @@ use Rattle.outside.specs.Link.{Shown}
 use Rattle.poa_base.specs.declared.Entry.{Entry}
 use Rattle.poa_base.specs.declared.Entry.TheVariants.{Entered}
 use Rattle.poa_shared.proofs.Making.{in_either}
-use Rattle.run_history.specs.declared.givens.Givens.{Givens}
-use Rattle.run_history.specs.Owners.{owner_of}
+use Rattle.poa_history.specs.declared.givens.Givens.{Givens}
+use Rattle.poa_history.specs.Owners.{owner_of}
 use Rattle.poa_session.specs.Served.{RefusedAs, Served, ServedAs}
 use Rattle.poa_shared.specs.Seen.{Owns}
 use Rattle.session_laws.specs.Records.{places}

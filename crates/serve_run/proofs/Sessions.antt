@@ -16,9 +16,9 @@ use Rattle.history_standing.specs.Stages.{is_abandoned}
 use Rattle.poa_session.specs.Served.{RefusedAs, ServedAs}
 use Rattle.poa_shared.specs.Helping.{IsHelpAt}
 use Rattle.poa_shared.proofs.Making.{in_either}
-use Rattle.run_history.specs.declared.givens.Givens.{Givens}
-use Rattle.run_history.specs.Owners.{owner_of, worker_of, HasNone}
-use Rattle.run_history.specs.Runs.{IsLog}
+use Rattle.poa_history.specs.declared.givens.Givens.{Givens}
+use Rattle.poa_history.specs.Owners.{owner_of, worker_of, HasNone}
+use Rattle.poa_history.specs.GivenRuns.{IsLog}
 use Rattle.seat_lock.specs.declared.view.View.{View}
 use Rattle.seat_lock.specs.Histories.{Belongs, In, IsPrefix}
 use Rattle.seat_lock.proofs.Totals.{at_below, one_at, times_both, times_here}

@@ -8,8 +8,8 @@ use Rattle.outside.specs.Accepting.{Standing}
 use Rattle.outside.specs.Link.{Shown}
 use Rattle.poa_base.specs.declared.Entry.{Entry}
 use Rattle.poa_shared.specs.Seen.{past, Turns}
-use Rattle.run_history.specs.declared.givens.Givens.{Givens}
-use Rattle.run_history.specs.Owners.{owner_of, worker_of}
+use Rattle.poa_history.specs.declared.givens.Givens.{Givens}
+use Rattle.poa_history.specs.Owners.{owner_of, worker_of}
 use Rattle.seat_lock.specs.declared.view.View.{View}
 use Rattle.seat_lock.specs.Histories.{Belongs, In, IsClosed, IsPrefix}
 use Rattle.seat_lock.proofs.Histories.{prefix_below, prefix_longer}

@@ -12,8 +12,8 @@ use Rattle.history_standing.specs.Arrivals.{connections}
 use Rattle.history_standing.specs.Stages.{is_abandoned}
 use Rattle.poa_history.specs.Legal.{IsLegal}
 use Rattle.poa_history.proofs.SettledKept.{or_first, or_second}
-use Rattle.run_history.specs.declared.givens.Givens.{Givens}
-use Rattle.run_history.specs.Owners.{owner_of}
+use Rattle.poa_history.specs.declared.givens.Givens.{Givens}
+use Rattle.poa_history.specs.Owners.{owner_of}
 use Rattle.seat_lock.specs.declared.view.View.{View}
 use Rattle.seat_lock.specs.Histories.{In}
 use Rattle.seat_lock.specs.Steps.{Knows}

@@ -2,7 +2,7 @@
 use Rattle.std.specs.Prelude.{◌≡◌, Option, Some, None}
 use Rattle.poa_base.specs.declared.Entry.{Entry}
 use Rattle.poa_shared.specs.Helping.{SeatOf}
-use Rattle.run_history.specs.declared.givens.Givens.{Givens}
+use Rattle.poa_history.specs.declared.givens.Givens.{Givens}
 use Rattle.seat_lock.specs.Seats.{view}
 use Rattle.seat_lock.specs.Steps.{Unites}
 use Rattle.seat_lock.specs.Views.{joined_view, left_of, right_of}

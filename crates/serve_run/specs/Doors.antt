@@ -5,7 +5,7 @@ use Rattle.outside.specs.Cause.{Rose}
 use Rattle.outside.specs.Link.{Shown}
 use Rattle.outside.specs.Told.{IfTold}
 use Rattle.poa_base.specs.declared.Entry.{Entry}
-use Rattle.run_history.specs.declared.givens.Givens.{Givens}
+use Rattle.poa_history.specs.declared.givens.Givens.{Givens}
 use Rattle.run_tally.specs.Phases.{phase_of}
 use Rattle.run_tally.specs.declared.phase.Phase.{Phase}
 use Rattle.run_tally.specs.declared.phase.Phase.TheVariants.{Running}

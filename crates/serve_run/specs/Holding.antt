@@ -9,8 +9,8 @@ use Rattle.poa_base.specs.declared.Command.TheVariants.{Shutdown}
 use Rattle.poa_base.specs.declared.Entry.{Entry}
 use Rattle.poa_base.specs.declared.Entry.TheVariants.{Entered, Arrive, Filled}
 use Rattle.poa_shared.specs.Helping.{IsHelpAt}
-use Rattle.run_history.specs.declared.givens.Givens.{Givens}
-use Rattle.run_history.specs.Owners.{owner_of}
+use Rattle.poa_history.specs.declared.givens.Givens.{Givens}
+use Rattle.poa_history.specs.Owners.{owner_of}
 use Rattle.seat_lock.specs.declared.view.View.{View}
 use Rattle.seat_lock.specs.Histories.{Belongs, In}
 use Rattle.serve_run.specs.Ledgers.{Ledger}

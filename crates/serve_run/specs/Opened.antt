@@ -3,7 +3,7 @@ use Rattle.std.specs.Prelude.{ℕ, [], Ok}
 use Rattle.poa_base.specs.declared.Entry.{Entry}
 use Rattle.poa_core.specs.Answers.{Enters}
 use Rattle.poa_shared.specs.Events.{Event}
-use Rattle.run_history.specs.declared.givens.Givens.{Givens}
+use Rattle.poa_history.specs.declared.givens.Givens.{Givens}
 use Rattle.seat_lock.specs.declared.view.View.{View}
 use Rattle.seat_lock.specs.Views.{first_view}
 

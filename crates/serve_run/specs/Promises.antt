@@ -8,7 +8,7 @@ use Rattle.poa_shared.specs.declared.shared.Shared.{Shared}
 use Rattle.poa_shared.specs.Helping.{IsReady, SeatOf}
 use Rattle.poa_shared.specs.Worked.{Worked as WorkedAs}
 use Rattle.poa_shared.specs.declared.work_end.WorkEnd.{WorkEnd}
-use Rattle.run_history.specs.declared.givens.Givens.{Givens}
+use Rattle.poa_history.specs.declared.givens.Givens.{Givens}
 use Rattle.seat_lock.specs.declared.view.View.{View}
 use Rattle.session_laws.specs.declared.peer.Peer.TheVariants.{Client, Administrator}
 use Rattle.serve_run.specs.declared.ran.PieceEnd.TheVariants.{Worked}

@@ -3,10 +3,10 @@ use Rattle.std.specs.Prelude.{◌≡◌, ℕ, false, List, reverse, Option, None
 use Rattle.outside.specs.Accepting.{Standing}
 use Rattle.outside.specs.Link.{Shown}
 use Rattle.poa_base.specs.declared.Entry.{Entry}
-use Rattle.run_history.specs.Life.{Life, givens_of}
+use Rattle.poa_history.specs.Life.{Life, givens_of}
 use Rattle.poa_history.specs.Lifetime.{HasLifetime}
-use Rattle.run_history.specs.declared.givens.Givens.{Givens}
-use Rattle.run_history.specs.Runs.{IsHistory}
+use Rattle.poa_history.specs.declared.givens.Givens.{Givens}
+use Rattle.poa_history.specs.GivenRuns.{IsHistory}
 use Rattle.serve_run.specs.Attending.{Attended}
 use Rattle.serve_run.specs.Outcomes.{any_failed, least_in}
 use Rattle.serve_run.specs.Served.{AreConnections, EachDoor, EachEnded, EachPassed, IsFirst, NoneGaveUp, IsLastWord, IsRunOver, WorkedBelow}

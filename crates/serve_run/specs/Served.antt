@@ -19,8 +19,8 @@ use Rattle.history_standing.specs.Stages.{is_abandoned, is_at}
 use Rattle.history_standing.specs.declared.activation.Activation.{Activation}
 use Rattle.poa_session.specs.Served.{DriesUp, TurnedAway}
 use Rattle.history_standing.specs.Trees.{In as IsAmong}
-use Rattle.run_history.specs.declared.givens.Givens.{Givens}
-use Rattle.run_history.specs.Owners.{owner_of, worker_of}
+use Rattle.poa_history.specs.declared.givens.Givens.{Givens}
+use Rattle.poa_history.specs.Owners.{owner_of, worker_of}
 use Rattle.seat_lock.specs.Histories.{times, Belongs, In, IsPrefix}
 use Rattle.run_tally.specs.Leaving.{is_shut_by}
 use Rattle.session_laws.specs.declared.peer.Peer.{Peer}

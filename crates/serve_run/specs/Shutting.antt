@@ -6,7 +6,7 @@ use Rattle.poa_base.specs.declared.Entry.{Entry}
 use Rattle.poa_core.specs.Answers.{Arrives}
 use Rattle.poa_core.specs.declared.arrive_fault.ArriveFault.{ArriveFault}
 use Rattle.poa_shared.specs.Events.{Event}
-use Rattle.run_history.specs.declared.givens.Givens.{Givens}
+use Rattle.poa_history.specs.declared.givens.Givens.{Givens}
 use Rattle.seat_lock.specs.declared.view.View.{View}
 
 -- after a look the line `shutdown` arrived on the first connection, or was refused

@@ -4,8 +4,8 @@ use Rattle.outside.specs.Accepting.{Standing}
 use Rattle.outside.specs.Link.{Shown}
 use Rattle.poa_base.specs.declared.Entry.{Entry}
 use Rattle.poa_base.specs.declared.Session.{Session}
-use Rattle.run_history.specs.declared.givens.Givens.{Givens}
-use Rattle.run_history.specs.Owners.{owner_of}
+use Rattle.poa_history.specs.declared.givens.Givens.{Givens}
+use Rattle.poa_history.specs.Owners.{owner_of}
 use Rattle.poa_session.specs.Served.{Served}
 use Rattle.poa_shared.specs.Seen.{Owns}
 use Rattle.seat_lock.specs.declared.view.View.{View}

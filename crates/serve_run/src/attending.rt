@@ -1,7 +1,7 @@
 //! A door is served until it ends, or the run takes no more links.
 ghost use Rattle.std.specs.Prelude.{◌≡◌, Some, []};
 ghost use Rattle.seat_lock.specs.Seats.{view};
-ghost use Rattle.run_history.specs.declared.givens.Givens.{Givens};
+ghost use Rattle.poa_history.specs.declared.givens.Givens.{Givens};
 ghost use Rattle.poa_shared.specs.Seats.{IsIdle};
 ghost use Rattle.poa_shared.specs.Helping.{Aids, IsReady};
 ghost use Rattle.serve_run.specs.Doors.{DoorKept, DoorServed, ending_of, stop_of};

@@ -24,7 +24,7 @@ impl<R: Wait + Copy, A: Acceptor, G: Gate + Drop> Job for Piece<R, A, G> {
     ghost use Rattle.std.specs.Prelude.{◌≡◌, Some};
     ghost use Rattle.seat_lock.specs.Seats.{view};
     ghost use Rattle.std.specs.Arc.{arc_value};
-    ghost use Rattle.run_history.specs.declared.givens.Givens.{Givens};
+    ghost use Rattle.poa_history.specs.declared.givens.Givens.{Givens};
     ghost use Rattle.poa_shared.specs.Helping.{Aids};
     ghost use Rattle.serve_run.specs.Promises.{AreIdle, IsFresh, Keeps};
 

@@ -3,7 +3,7 @@ ghost use Rattle.std.specs.Prelude.{◌≡◌, Some, List};
 ghost use Rattle.poa_base.specs.declared.Entry.{Entry};
 ghost use Rattle.seat_lock.specs.Seats.{view};
 ghost use Rattle.seat_lock.specs.declared.view.View.{View};
-ghost use Rattle.run_history.specs.declared.givens.Givens.{Givens};
+ghost use Rattle.poa_history.specs.declared.givens.Givens.{Givens};
 ghost use Rattle.outside.specs.Cause.{HasCause};
 ghost use Rattle.poa_shared.specs.Seats.{IsIdle};
 ghost use Rattle.poa_session.specs.Served.{Served};

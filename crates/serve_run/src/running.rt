@@ -1,7 +1,7 @@
 //! A run from its beginning to its end.
 ghost use Rattle.std.specs.Prelude.{◌≡◌, ◌≤◌, [], None, Some, vec_len, IfSome, IfNone, ℕ, Ok};
 ghost use Rattle.std.specs.Arc.{arc_value};
-ghost use Rattle.run_history.specs.Life.{givens_of};
+ghost use Rattle.poa_history.specs.Life.{givens_of};
 ghost use Rattle.poa_shared.specs.Seats.{IsIdle};
 ghost use Rattle.seat_lock.specs.Seats.{view};
 ghost use Rattle.serve_run.specs.Opened.{IsOpened};

@@ -2,7 +2,7 @@
 ghost use Rattle.std.specs.Prelude.{◌≡◌, ◌≤◌, ◌+◌, None, Some, vec_len, []};
 ghost use Rattle.std.specs.Arc.{arc_value};
 ghost use Rattle.poa_shared.specs.Seats.{IsIdle};
-ghost use Rattle.run_history.specs.declared.givens.Givens.{Givens};
+ghost use Rattle.poa_history.specs.declared.givens.Givens.{Givens};
 ghost use Rattle.seat_lock.specs.Seats.{view};
 ghost use Rattle.serve_run.specs.Attending.{DoorsServed, AllServed};
 ghost use Rattle.serve_run.specs.Holding.{Holds};

@@ -6,8 +6,8 @@ use Rattle.poa_base.specs.declared.Entry.TheVariants.{Entered, Arrive, Filled, C
 use Rattle.history_standing.specs.Arrivals.{arrivals, call_of, conn_of}
 use Rattle.poa_history.specs.Replies.{asks, is_asked, is_collected}
 use Rattle.history_standing.specs.Stages.{is_at}
-use Rattle.run_history.specs.declared.Givens.{Givens}
-use Rattle.run_history.specs.Owners.{owner_of, HasNone}
+use Rattle.poa_history.specs.declared.Givens.{Givens}
+use Rattle.poa_history.specs.Owners.{owner_of, HasNone}
 use Rattle.session_laws.specs.Records.{arrived_by, joined_by, places_by, filling_by, is_late_by, IsPaidBy}
 
 not_of : (conn c : ℕ) → (Some conn ≡ Some c → ⊥) → (conn == c) ≡ false

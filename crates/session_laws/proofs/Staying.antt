@@ -4,9 +4,9 @@ use Rattle.std.proofs.lemmas.List.{reverse-append}
 use Rattle.poa_base.specs.declared.Entry.{Entry}
 use Rattle.poa_base.specs.declared.SessionEnd.{SessionEnd}
 use Rattle.poa_history.specs.Legal.{IsLegal}
-use Rattle.run_history.specs.declared.Givens.{Givens}
-use Rattle.run_history.specs.Owners.{HasNone}
-use Rattle.run_history.specs.Runs.{IsHistory, IsLog}
+use Rattle.poa_history.specs.declared.Givens.{Givens}
+use Rattle.poa_history.specs.Owners.{HasNone}
+use Rattle.poa_history.specs.GivenRuns.{IsHistory, IsLog}
 use Rattle.session_laws.specs.declared.peer.Peer.{Peer}
 use Rattle.session_laws.specs.Hearing.{Heard}
 use Rattle.session_laws.specs.Records.{arrived_by, joined_by, filling_by, IsPaidBy}

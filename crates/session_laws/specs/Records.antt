@@ -9,9 +9,9 @@ use Rattle.poa_base.specs.declared.Reply.TheVariants as reply
 use Rattle.history_standing.specs.Arrivals.{call_of}
 use Rattle.poa_history.specs.Replies.{is_asked, is_collected, reply_of}
 use Rattle.history_standing.specs.Stages.{is_at}
-use Rattle.run_history.specs.declared.Givens.{Givens}
-use Rattle.run_history.specs.Runs.{opened}
-use Rattle.run_history.specs.Owners.{owner_of}
+use Rattle.poa_history.specs.declared.Givens.{Givens}
+use Rattle.poa_history.specs.GivenRuns.{opened}
+use Rattle.poa_history.specs.Owners.{owner_of}
 use Rattle.run_tally.specs.Leaving.{is_shut}
 use Rattle.core_outboxes.specs.Owed.{head_of}
 use Rattle.giop_answer.specs.Reply.{reply_bytes}

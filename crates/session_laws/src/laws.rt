@@ -2,9 +2,9 @@
 ghost use Rattle.std.specs.Prelude.{ℕ, List, ◌++◌};
 ghost use Rattle.poa_base.specs.declared.Entry.{Entry};
 ghost use Rattle.poa_base.specs.declared.SessionEnd.{SessionEnd};
-ghost use Rattle.run_history.specs.declared.Givens.{Givens};
-ghost use Rattle.run_history.specs.Owners.{HasNone};
-ghost use Rattle.run_history.specs.Runs.{IsLog};
+ghost use Rattle.poa_history.specs.declared.Givens.{Givens};
+ghost use Rattle.poa_history.specs.Owners.{HasNone};
+ghost use Rattle.poa_history.specs.GivenRuns.{IsLog};
 ghost use Rattle.session_laws.specs.declared.peer.Peer.{Peer};
 ghost use Rattle.session_laws.specs.Sessions.{Session};
 

@@ -3,7 +3,7 @@ use Rattle.std.proofs.lemmas.Bool.{false_from_ne_true}
 use Rattle.history_standing.specs.Stages.{is_abandoned, stage}
 use Rattle.core_arrivals.specs.Begun.{only_ends}
 use Rattle.poa_core.specs.Agrees.{history}
-use Rattle.run_history.specs.Life.{Life}
+use Rattle.poa_history.specs.Life.{Life}
 use Rattle.poa_core.specs.declared.inside.Inside.{Inside}
 use Rattle.poa_core.specs.Kept.{life}
 use Rattle.poa_core.proofs.NextTurn.{made, follows_next, begun_next, ends_next, failed}

@@ -1,6 +1,6 @@
 use Rattle.std.proofs.Common.{◌≡◌, Some}
 use Rattle.seat_lock.specs.Seats.{view}
-use Rattle.run_history.specs.declared.Givens.{Givens}
+use Rattle.poa_history.specs.declared.Givens.{Givens}
 use Rattle.poa_shared.specs.Seats.{IsIdle}
 use Rattle.poa_shared.specs.Seen.{HoldsConnection}
 use Rattle.poa_session.proofs.Replies.{GathersOn}

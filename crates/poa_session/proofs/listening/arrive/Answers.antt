@@ -2,7 +2,7 @@ use Rattle.std.proofs.Common.{subst}
 use Rattle.std.specs.Prelude.{Err}
 use Rattle.seat_lock.specs.Seats.{view}
 use Rattle.poa_core.specs.Answers.{Arrives}
-use Rattle.run_history.specs.Life.{life_at}
+use Rattle.poa_history.specs.Life.{life_at}
 use Rattle.poa_shared.specs.Seen.{past}
 use Rattle.poa_session.proofs.Calls.{arrives_full, arrives_on, arrives_without}
 use Rattle.poa_session.proofs.listening.arrive.Goals as goal

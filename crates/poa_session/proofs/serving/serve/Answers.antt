@@ -1,6 +1,6 @@
 use Rattle.std.proofs.Common.{ap, refl, ◌∙◌}
 use Rattle.seat_lock.specs.Seats.{view}
-use Rattle.run_history.specs.Life.{Life}
+use Rattle.poa_history.specs.Life.{Life}
 use Rattle.poa_shared.proofs.Helped.{aids_none}
 use Rattle.poa_session.proofs.Entering.{begun}
 use Rattle.poa_session.proofs.Served.{refused, served}

@@ -1,5 +1,5 @@
 use Rattle.std.specs.Prelude.{◌≡◌, Some}
-use Rattle.run_history.specs.declared.givens.Givens.{Givens}
+use Rattle.poa_history.specs.declared.givens.Givens.{Givens}
 use Rattle.poa_shared.specs.Seats.{IsIdle}
 use Rattle.poa_shared.specs.Pauses.{MakesTurns}
 use Rattle.seat_lock.specs.Seats.{view}

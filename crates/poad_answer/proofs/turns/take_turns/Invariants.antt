@@ -1,5 +1,5 @@
 use Rattle.poad_answer.specs.Serving.{IsServing}
-use Rattle.run_history.specs.Life.{Life}
+use Rattle.poa_history.specs.Life.{Life}
 use Rattle.poad_answer.specs.Serving.{Works}
 use Rattle.poad_answer.proofs.turns.take_turns.Given as goal
 

@@ -1,7 +1,7 @@
 use Rattle.std.proofs.Common.{sym, subst}
 use Rattle.std.specs.Prelude.{IfSome}
 use Rattle.poad_cmd.proofs.Telling.{no_thread, tells}
-use Rattle.run_history.specs.Life.{givens_of}
+use Rattle.poa_history.specs.Life.{givens_of}
 use Rattle.serve_run.specs.Running.{IsServedRun}
 use Rattle.serve_run.specs.Threads.{CountsThreads}
 use Rattle.poad_cmd.proofs.serve.serve_by.Goals as goal

@@ -1,7 +1,7 @@
 use Rattle.std.proofs.Common.{◌≡◌, Some}
 use Rattle.poa_shared.specs.Seats.{IsIdle}
 use Rattle.poa_shared.specs.Helping.{Aids, IsReady}
-use Rattle.run_history.specs.declared.givens.Givens.{Givens}
+use Rattle.poa_history.specs.declared.givens.Givens.{Givens}
 use Rattle.seat_lock.specs.Seats.{view}
 use Rattle.serve_run.proofs.Rounds.{Rounds}
 use Rattle.serve_run.proofs.attending.attend.Given as goal

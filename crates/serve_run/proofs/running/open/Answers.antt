@@ -1,5 +1,5 @@
 use Rattle.seat_lock.specs.Seats.{view}
-use Rattle.run_history.specs.Life.{givens_of}
+use Rattle.poa_history.specs.Life.{givens_of}
 use Rattle.serve_run.proofs.Opened.{opened}
 use Rattle.serve_run.proofs.running.open.Goals as goal
 

@@ -1,6 +1,6 @@
 use Rattle.std.proofs.Common.{◌≡◌, [], arith, sym, ◌∙◌, subst, Some, None}
 use Rattle.seat_lock.specs.Seats.{view}
-use Rattle.run_history.specs.Life.{givens_of}
+use Rattle.poa_history.specs.Life.{givens_of}
 use Rattle.serve_run.proofs.Finishing.{served_run}
 use Rattle.serve_run.proofs.Opened.{opened_base, opened_given, opened_holds, opened_room}
 use Rattle.serve_run.specs.Holding.{Holds}

@@ -1,6 +1,6 @@
 use Rattle.std.proofs.Common.{◌≡◌, Some}
 use Rattle.poa_shared.specs.Seats.{IsIdle}
-use Rattle.run_history.specs.declared.givens.Givens.{Givens}
+use Rattle.poa_history.specs.declared.givens.Givens.{Givens}
 use Rattle.seat_lock.specs.Seats.{view}
 use Rattle.serve_run.specs.Starting.{IsSameSeat}
 use Rattle.serve_run.proofs.shutting.give_up.Given as goal

@@ -4,7 +4,7 @@ use Rattle.poa_history.specs.Lifetime.{HasLifetime}
 use Rattle.history_laws.specs.Lasting.{KeepsUpdates, LeavesNothing}
 use Rattle.poa_history.specs.Runs.{IsRun}
 use Rattle.history_laws.proofs.Lasting.{keeps_updates, leaves_nothing}
-use Rattle.run_history.specs.Life.{Life, opened}
+use Rattle.poa_history.specs.Life.{Life, opened}
 use Rattle.poa_core.specs.Agrees.{history}
 use Rattle.poa_core.proofs.adapter_core.Core.keeps_laws.Goals as goal
 

@@ -1,6 +1,6 @@
 use Rattle.std.proofs.Common.{subst, sym}
 use Rattle.core_state.specs.State.{IsState}
-use Rattle.run_history.specs.Life.{Life, opened}
+use Rattle.poa_history.specs.Life.{Life, opened}
 use Rattle.poa_core.specs.declared.inside.Inside.{Inside}
 use Rattle.poa_core.specs.Agreeing.{CountsAgree, RemovalsAgree}
 use Rattle.poa_core.proofs.Agreed.{counts_agree, removals_agree}

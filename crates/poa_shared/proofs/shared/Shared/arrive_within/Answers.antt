@@ -1,6 +1,6 @@
 use Rattle.poa_core.specs.Answers.{Arrives}
 use Rattle.poa_shared.proofs.Holding.{held_open}
-use Rattle.run_history.specs.Life.{givens_of}
+use Rattle.poa_history.specs.Life.{givens_of}
 use Rattle.poa_shared.proofs.Made.{arrives_made, arrives_stay}
 use Rattle.poa_shared.proofs.Taking.{event, put_history, holds_after}
 use Rattle.poa_shared.proofs.shared.Shared.arrive_within.Goals as goal

@@ -1,4 +1,4 @@
-use Rattle.run_history.specs.Life.{givens_of}
+use Rattle.poa_history.specs.Life.{givens_of}
 use Rattle.poa_shared.specs.Events.{CollectsFitting}
 use Rattle.poa_shared.proofs.Holding.{owned_entered}
 use Rattle.poa_shared.proofs.Made.{collects_made, collects_stay}

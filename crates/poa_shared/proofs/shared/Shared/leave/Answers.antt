@@ -1,6 +1,6 @@
 use Rattle.std.proofs.Common.{◌≡◌, subst, sym}
 use Rattle.poa_base.specs.declared.Entry.TheVariants.{Left}
-use Rattle.run_history.specs.Life.{givens_of, with_entry}
+use Rattle.poa_history.specs.Life.{givens_of, with_entry}
 use Rattle.poa_shared.proofs.Holding.{held_open}
 use Rattle.poa_shared.proofs.Made.{leaves_made}
 use Rattle.poa_shared.specs.Events.{Event}

@@ -3,9 +3,9 @@ ghost use Rattle.std.specs.Prelude.{◌≡◌, ◌<◌, ℕ, List, Some};
 ghost use Rattle.poa_base.specs.declared.Entry.{Entry};
 ghost use Rattle.history_standing.specs.Trees.{In};
 ghost use Rattle.history_standing.specs.Arrivals.{connections};
-ghost use Rattle.run_history.specs.declared.givens.Givens.{Givens};
-ghost use Rattle.run_history.specs.Runs.{IsHistory};
-ghost use Rattle.run_history.specs.Owners.{owner_of};
+ghost use Rattle.poa_history.specs.declared.givens.Givens.{Givens};
+ghost use Rattle.poa_history.specs.GivenRuns.{IsHistory};
+ghost use Rattle.poa_history.specs.Owners.{owner_of};
 
 /// Each entry of a connection is one of a connection that entered.
 pub fn owners_entered()

@@ -4,7 +4,7 @@ use Rattle.poa_base.specs.Store.{stored as stored_in}
 use Rattle.poa_base.specs.declared.Entry.{Entry}
 use Rattle.poa_history.specs.States.{Stored}
 use Rattle.poa_history.specs.Runs.{IsRun}
-use Rattle.run_history.specs.declared.givens.Givens.{Givens}
+use Rattle.poa_history.specs.declared.givens.Givens.{Givens}
 
 -- what was stored when the run began
 abbrev pub opened : Givens → Stored

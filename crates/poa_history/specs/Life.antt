@@ -4,7 +4,7 @@ use Rattle.poa_base.specs.declared.Config.{Config}
 use Rattle.poa_base.specs.declared.Entry.{Entry}
 use Rattle.poa_base.specs.Store.{Slots, stored as stored_in}
 use Rattle.poa_history.specs.States.{Stored}
-use Rattle.run_history.specs.declared.givens.Givens.{Givens}
+use Rattle.poa_history.specs.declared.givens.Givens.{Givens}
 
 pub record Life : Type 0 where
   pub config : Config

@@ -11,7 +11,7 @@ use Rattle.poa_history.specs.Legal.{IsLegal, MayFollow}
 use Rattle.poa_history.specs.Replies.{asks, is_asked, is_newly_decided, next_reply, next_within}
 use Rattle.history_standing.specs.Searches.{least}
 use Rattle.history_standing.specs.Stages.{is_at}
-use Rattle.run_history.specs.Owners.{owner_of}
+use Rattle.poa_history.specs.Owners.{owner_of}
 
 -- what a search finds passes
 least_passes : (test : ℕ → Bool) (n r : ℕ) → least test n ≡ Some r → test r ≡ true
