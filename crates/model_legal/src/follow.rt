@@ -11,10 +11,9 @@ use crate::arriving::{arrived_bytes, had_shutdown, has_left, is_filled};
 use crate::same::is_that;
 use core_standing::calls::{arrivals, connections};
 use core_standing::workers::is_abandoned;
-use model_replies::slow_next_reply;
 use poa_base::limits::CONNECTIONS;
 use poa_base::{Call, Config, Entry, Store, WantMemory};
-use poa_model::slow_next;
+use poa_model::{slow_next, slow_next_reply};
 use run_tally::is_shutdown;
 use std::alloc::Global;
 

@@ -3,11 +3,30 @@
 //! whole history again. Tests and the audit of journals compare with them.
 #![tactic(auto)]
 
+mod acting;
 mod crowded;
+mod deciding;
+mod entries;
+mod kept;
+pub mod laws;
+mod next_reply;
+mod owing;
+mod reply;
+mod servant_state;
+mod servants;
 mod settling;
+mod stored_state;
 mod turns;
 mod verdicts;
 
+pub use deciding::decided;
+pub use entries::kept_of;
+pub use kept::{Kept, stored_in};
+pub use next_reply::slow_next_reply;
+pub use owing::slow_owed;
+pub use reply::slow_reply;
+pub use servant_state::ServantState;
 pub use settling::settles;
+pub use stored_state::StoredState;
 pub use turns::slow_next;
 pub use verdicts::slow_verdict;

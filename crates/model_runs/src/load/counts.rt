@@ -4,8 +4,8 @@ use crate::load::calls::{object_id, path};
 use crate::load::play::Play;
 use crate::load::replies::reply_bytes;
 use core_standing::workers::brings;
-use model_replies::{Kept, kept_of, stored_in};
 use poa_base::{Entry, State};
+use poa_model::{Kept, kept_of, stored_in};
 use std::alloc::Global;
 
 /// How many objects there are.

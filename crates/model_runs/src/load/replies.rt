@@ -8,8 +8,8 @@ use crate::load::play::Play;
 use core_standing::calls::call_of;
 use core_standing::workers::{arrival_in, stage};
 use giop_answer::write_reply;
-use model_replies::{Kept, ServantState, slow_reply};
 use poa_base::{Bytes, Call, Datum, Entry, Incarnation, Outcome, Reply, State};
+use poa_model::{Kept, ServantState, slow_reply};
 use std::alloc::Global;
 
 /// Of so many requests the reply to one is compared with `slow_reply`.

@@ -7,11 +7,10 @@ use core_standing::calls::call_of;
 use core_standing::standing_of;
 use history_standing::nodes::node_at;
 use model_legal::first_illegal;
-use model_replies::{slow_next_reply, slow_owed, slow_reply};
 use object_key::write_key;
 use poa_base::{Body, Bytes, Call, Config, Entry, Head, Key, Path, Stamp, Store, WantMemory};
 use poa_journal::print_entry;
-use poa_model::slow_next;
+use poa_model::{slow_next, slow_next_reply, slow_owed, slow_reply};
 use std::alloc::Global;
 use text_words::{any_identity, number32, path, put_number, signed, words};
 

@@ -1,6 +1,0 @@
-use Rattle.std.proofs.Common.{◌≡◌, take, reverse}
-use Rattle.poa_history.specs.Replies as replies
-use Rattle.model_replies.proofs.deciding.decided.Given as goal
-
-abbrev pub invariant-loop-i : goal.invariant-loop-i
-invariant-loop-i l = l.decided ≡ replies.decided l.config l.run (reverse (take l.i l.history)) l.arrival

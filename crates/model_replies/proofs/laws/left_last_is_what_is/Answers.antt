@@ -1,8 +1,0 @@
-use Rattle.model_replies.proofs.Agree.{agrees}
-use Rattle.model_replies.proofs.laws.left_last_is_what_is.Goals as goal
-
-pub returns-clause-servants : goal.returns-clause-servants
-returns-clause-servants c = λ c run opened h. (agrees c run opened h).servants
-
-pub returns-clause-places : goal.returns-clause-places
-returns-clause-places c = λ c run opened h. (agrees c run opened h).places

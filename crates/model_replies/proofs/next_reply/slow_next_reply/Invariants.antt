@@ -1,6 +1,0 @@
-use Rattle.std.proofs.Common.{◌≡◌, take, reverse}
-use Rattle.poa_history.specs.Replies as replies
-use Rattle.model_replies.proofs.next_reply.slow_next_reply.Given as goal
-
-abbrev pub invariant-loop-i : goal.invariant-loop-i
-invariant-loop-i l = l.found ≡ replies.next_within l.config l.run (reverse l.history) l.conn (reverse (take l.i l.history))
