@@ -4,14 +4,19 @@
 #![tactic(auto)]
 
 mod acting;
+mod arriving;
 mod crowded;
 mod deciding;
 mod entries;
+mod follow;
 mod kept;
 pub mod laws;
+mod legal;
+pub mod legal_laws;
 mod next_reply;
 mod owing;
 mod reply;
+mod same;
 mod servant_state;
 mod servants;
 mod settling;
@@ -21,7 +26,9 @@ mod verdicts;
 
 pub use deciding::decided;
 pub use entries::kept_of;
+pub use follow::may_follow;
 pub use kept::{Kept, stored_in};
+pub use legal::first_illegal;
 pub use next_reply::slow_next_reply;
 pub use owing::slow_owed;
 pub use reply::slow_reply;

@@ -2,9 +2,9 @@
 use crate::playing::{Played, play};
 use crate::task::Task;
 use conf_toml::read_config;
-use model_legal::first_illegal;
 use poa_base::{Datum, Entry, Outcome, Reply, Store, WantMemory};
 use poa_core::{Core, Phase};
+use poa_model::first_illegal;
 use std::alloc::Global;
 use std::sync::Wait;
 use std::test::Fail;

@@ -2,11 +2,11 @@
 use crate::case::Case;
 use crate::report::Report;
 use anyhow::Result;
-use model_legal::first_illegal;
 use outside::MemFiles;
 use poa_base::limits::CALLS;
 use poa_core::Core;
 use poa_journal::{print_parts, print_store, read};
+use poa_model::first_illegal;
 use std::alloc::Global;
 
 /// How many entries a journal may have that is looked over; to do that with some hundreds takes minutes.

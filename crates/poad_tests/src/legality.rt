@@ -1,8 +1,8 @@
 //! What no clause says: that each call succeeds with ample memory, on a run with one `shutdown`.
-use model_legal::{first_illegal, may_follow};
 use poa_base::{
     Answer, Bytes, Call, Command, Config, Entry, Items, ManagerState, Store, Verdict, WantMemory,
 };
+use poa_model::{first_illegal, may_follow};
 use std::alloc::Global;
 use std::test::Fail;
 

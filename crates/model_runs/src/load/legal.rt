@@ -1,9 +1,9 @@
 //! Whether the history is legal.
 use crate::fault::Fault;
 use crate::load::play::Play;
-use model_legal::may_follow;
 use poa_base::Entry;
 use poa_base::limits::CALLS;
+use poa_model::may_follow;
 
 /// Says whether the history is legal, or the place of an entry that isn't.
 ///

@@ -6,11 +6,10 @@ use conf_toml::read_config;
 use core_standing::calls::call_of;
 use core_standing::standing_of;
 use history_standing::nodes::node_at;
-use model_legal::first_illegal;
 use object_key::write_key;
 use poa_base::{Body, Bytes, Call, Config, Entry, Head, Key, Path, Stamp, Store, WantMemory};
 use poa_journal::print_entry;
-use poa_model::{slow_next, slow_next_reply, slow_owed, slow_reply};
+use poa_model::{first_illegal, slow_next, slow_next_reply, slow_owed, slow_reply};
 use std::alloc::Global;
 use text_words::{any_identity, number32, path, put_number, signed, words};
 

@@ -1,7 +1,7 @@
 //! The first entry of a history that isn't legal.
 ghost use Rattle.std.specs.Prelude.{reverse, IfOk, MatchOption};
 ghost use Rattle.poa_history.specs.Legal.{IsLegal};
-ghost use Rattle.model_legal.specs.Illegal.{IsFirstIllegal};
+ghost use Rattle.poa_model.specs.Illegal.{IsFirstIllegal};
 
 use crate::follow::may_follow;
 use poa_base::{Config, Entry, Store, WantMemory};

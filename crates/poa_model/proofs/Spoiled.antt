@@ -6,7 +6,7 @@ use Rattle.poa_base.specs.declared.Config.{Config}
 use Rattle.poa_base.specs.declared.Entry.{Entry}
 use Rattle.poa_history.specs.Legal.{IsLegal}
 use Rattle.core_standing.proofs.Onward.{reversed_more}
-use Rattle.model_legal.specs.Illegal.{IsFirstIllegal}
+use Rattle.poa_model.specs.Illegal.{IsFirstIllegal}
 
 -- an entry stands below the length
 entry_at : (h : List Entry) (place : ℕ) → place < length h → (e : Entry) × (slice_get h place ≡ Some e) × (e ≡ get_or h place e)

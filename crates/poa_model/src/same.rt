@@ -1,7 +1,7 @@
 //! Whether two steps of workers are one and the same.
 ghost use Rattle.std.specs.Prelude.{◌≡◌, ◌↔◌, IsTrue, Some, true, option_copied};
 ghost use Rattle.poa_base.specs.declared.Entry.{Entry};
-ghost use Rattle.model_legal.specs.Workers.{is_step};
+ghost use Rattle.poa_model.specs.Workers.{is_step};
 
 use poa_base::{Attempt, Entry, Incarnation, Verdict};
 

@@ -5,15 +5,16 @@ ghost use Rattle.history_standing.specs.Arrivals as calls;
 ghost use Rattle.poa_history.specs.Legal as legal;
 ghost use Rattle.poa_history.specs.Replies as replies;
 ghost use Rattle.history_standing.specs.Stages as begun;
-ghost use Rattle.model_legal.specs.Workers.{is_step};
+ghost use Rattle.poa_model.specs.Workers.{is_step};
 
 use crate::arriving::{arrived_bytes, had_shutdown, has_left, is_filled};
+use crate::next_reply::slow_next_reply;
 use crate::same::is_that;
+use crate::turns::slow_next;
 use core_standing::calls::{arrivals, connections};
 use core_standing::workers::is_abandoned;
 use poa_base::limits::CONNECTIONS;
 use poa_base::{Call, Config, Entry, Store, WantMemory};
-use poa_model::{slow_next, slow_next_reply};
 use run_tally::is_shutdown;
 use std::alloc::Global;
 

@@ -1,2 +1,0 @@
-pub mod Illegal
-pub mod Workers
