@@ -1,3 +1,4 @@
+pub mod Adding
 pub mod Told
 pub mod Causes
 pub mod Delivered

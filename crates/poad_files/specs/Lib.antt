@@ -1,3 +1,6 @@
+pub mod Printed
+pub mod KeyLine
+pub mod Shown
 pub mod Taking
 pub mod Delivery
 pub mod Showing

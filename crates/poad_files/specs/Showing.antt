@@ -5,7 +5,7 @@ use Rattle.poa_base.specs.declared.Ior.{Ior}
 use Rattle.ior_text.specs.declared.IorFault.{IorFault}
 use Rattle.ior_text.specs.declared.IorFault.TheVariants as ior
 use Rattle.ior_text.specs.Text.{TextGives}
-use Rattle.ior_show.specs.Shown.{Shows}
+use Rattle.poad_files.specs.Shown.{Shows}
 use Rattle.poad_files.specs.declared.status.Status.{Status}
 use Rattle.poad_files.specs.declared.status.Status.TheVariants.{Ok, TextRefused, WriteFault, WantMemory}
 

@@ -4,8 +4,8 @@ ghost use Rattle.outside.specs.Cause.{HasCause};
 ghost use Rattle.poad_files.specs.Showing.{Refuses, Tells};
 
 use crate::delivery::deliver;
+use crate::reference::show;
 use crate::status::Status;
-use ior_show::show;
 use ior_text::{IorFault, read_ior};
 use outside::Sink;
 use std::alloc::Global;

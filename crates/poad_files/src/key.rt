@@ -3,9 +3,9 @@ ghost use Rattle.std.specs.Prelude.{◌≡◌, ◌++◌, OnOk};
 ghost use Rattle.std.specs.List.{list_all};
 ghost use Rattle.object_key.specs.Spelling.{key_spelling};
 ghost use Rattle.text_words.specs.Path.{path_text as path_spelling};
-ghost use Rattle.ior_show.specs.Printed as spec;
-ghost use Rattle.ior_show.specs.KeyLine.{KeyShown, stamp_words, hexed_key, key_line};
-ghost use Rattle.ior_show.specs.Shown.{Adds};
+ghost use Rattle.poad_files.specs.Printed as spec;
+ghost use Rattle.poad_files.specs.KeyLine.{KeyShown, stamp_words, hexed_key, key_line};
+ghost use Rattle.poad_files.specs.Shown.{Adds};
 
 use crate::printed::{is_plain, put_hexed, put_text};
 use object_key::{KeyFault, read_key};

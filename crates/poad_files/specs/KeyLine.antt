@@ -5,7 +5,7 @@ use Rattle.poa_base.specs.declared.Key.{Key}
 use Rattle.poa_base.specs.declared.Stamp.{Stamp}
 use Rattle.object_key.specs.Spelling.{key_spelling, IsKey}
 use Rattle.text_words.specs.Path.{path_text}
-use Rattle.ior_show.specs.Printed.{is_plain, hexed}
+use Rattle.poad_files.specs.Printed.{is_plain, hexed}
 
 -- the lifespan, and a transient key's run and adapter
 abbrev pub stamp_words : Option Stamp → List ℕ

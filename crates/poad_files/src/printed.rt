@@ -1,8 +1,8 @@
 //! Octets that a stranger chose, so that they show.
 ghost use Rattle.std.specs.Prelude.{◌≡◌, ◌++◌, string_bytes, OnOk};
-ghost use Rattle.ior_show.specs.Printed.{is_visible, hexed, printed};
+ghost use Rattle.poad_files.specs.Printed.{is_visible, hexed, printed};
 ghost use Rattle.std.specs.List.{list_all};
-ghost use Rattle.ior_show.specs.Printed as spec;
+ghost use Rattle.poad_files.specs.Printed as spec;
 
 use poa_base::WantMemory;
 

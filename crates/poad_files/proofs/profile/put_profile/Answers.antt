@@ -1,9 +1,9 @@
 use Rattle.std.proofs.Common.{subst, List, ℕ}
 use Rattle.std.proofs.lemmas.Result.{on_ok_weaker}
-use Rattle.ior_show.specs.KeyLine.{KeyShown}
-use Rattle.ior_show.specs.Shown.{Adds}
-use Rattle.ior_show.proofs.Adding.{body_added}
-use Rattle.ior_show.proofs.profile.put_profile.Goals as goal
+use Rattle.poad_files.specs.KeyLine.{KeyShown}
+use Rattle.poad_files.specs.Shown.{Adds}
+use Rattle.poad_files.proofs.Adding.{body_added}
+use Rattle.poad_files.proofs.profile.put_profile.Goals as goal
 
 pub returns-in_ok-put_body-in-Some : goal.returns-in_ok-put_body-in-Some
 returns-in_ok-put_body-in-Some c =

@@ -1,6 +1,6 @@
 //! The lines of a reference.
 ghost use Rattle.std.specs.Prelude.{◌≡◌, ◌++◌, IfOk, OnOk};
-ghost use Rattle.ior_show.specs.Shown.{Adds, ProfilesShown, Shows, type_line};
+ghost use Rattle.poad_files.specs.Shown.{Adds, ProfilesShown, Shows, type_line};
 
 use crate::printed::put_printed;
 use crate::profile::put_profile;

@@ -1,6 +1,6 @@
 //! The lines of a profile.
 ghost use Rattle.std.specs.Prelude.{◌≡◌, ◌++◌, OnOk};
-ghost use Rattle.ior_show.specs.Shown.{Adds, ProfileShown, body_line, tag_line};
+ghost use Rattle.poad_files.specs.Shown.{Adds, ProfileShown, body_line, tag_line};
 
 use crate::key::put_key;
 use crate::printed::{put_hexed, put_printed, put_text};

@@ -4,8 +4,8 @@ use Rattle.poa_base.specs.declared.Ior.{Ior}
 use Rattle.poa_base.specs.declared.Profile.{Profile}
 use Rattle.ior_text.specs.declared.ProfileBody.{ProfileBody}
 use Rattle.ior_text.specs.Body.{HasBody}
-use Rattle.ior_show.specs.Printed.{hexed, printed}
-use Rattle.ior_show.specs.KeyLine.{KeyShown}
+use Rattle.poad_files.specs.Printed.{hexed, printed}
+use Rattle.poad_files.specs.KeyLine.{KeyShown}
 
 -- the version and the address of an IIOP profile
 abbrev pub body_line : ℕ → ProfileBody → List ℕ

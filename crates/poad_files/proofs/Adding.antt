@@ -4,8 +4,8 @@ use Rattle.std.proofs.lemmas.List.{take_more}
 use Rattle.poa_base.specs.declared.Profile.{Profile}
 use Rattle.ior_text.specs.declared.ProfileBody.{ProfileBody}
 use Rattle.ior_text.specs.Body.{HasBody}
-use Rattle.ior_show.specs.KeyLine.{KeyShown}
-use Rattle.ior_show.specs.Shown.{Adds, body_line, ProfileShown, ProfilesShown}
+use Rattle.poad_files.specs.KeyLine.{KeyShown}
+use Rattle.poad_files.specs.Shown.{Adds, body_line, ProfileShown, ProfilesShown}
 
 -- the address and then the key
 pub body_added : (index : ℕ) (profile : Profile) (body : ProfileBody) (before between after : List ℕ) → HasBody profile body

@@ -1,6 +1,6 @@
 use Rattle.std.proofs.Common.{take}
-use Rattle.ior_show.specs.Shown.{Adds, ProfilesShown}
-use Rattle.ior_show.proofs.reference.put_profiles.Given as goal
+use Rattle.poad_files.specs.Shown.{Adds, ProfilesShown}
+use Rattle.poad_files.proofs.reference.put_profiles.Given as goal
 
 -- the lines of the profiles so far were added
 abbrev pub invariant-loop-index : goal.invariant-loop-index
