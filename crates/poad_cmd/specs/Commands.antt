@@ -2,7 +2,7 @@
 use Rattle.std.specs.Prelude.{◌≡◌, ℕ, List, Option}
 use Rattle.outside.specs.Keeping.{Contents}
 use Rattle.command_words.specs.Words.{Meant, answer, load, show, check, iors, replay}
-use Rattle.conf_print.specs.declared.Asked.TheVariants.{Counts, References}
+use Rattle.poad_files.specs.declared.Asked.TheVariants.{Counts, References}
 use Rattle.poad_files.specs.Filing.{Filed}
 use Rattle.poad_files.specs.Showing.{Tells}
 use Rattle.poad_files.specs.declared.status.Status.{Status}

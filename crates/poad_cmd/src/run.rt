@@ -4,7 +4,7 @@ ghost use Rattle.outside.specs.Cause.{HasCause};
 ghost use Rattle.outside.specs.Told.{IfTold};
 ghost use Rattle.command_words.specs.Words as spec;
 ghost use Rattle.command_words.specs.Words.{IsWithin, command_in, seen};
-ghost use Rattle.conf_print.specs.declared.Asked.TheVariants.{Counts, References};
+ghost use Rattle.poad_files.specs.declared.Asked.TheVariants.{Counts, References};
 ghost use Rattle.poad_answer.specs.Answering.{AnswersBy};
 ghost use Rattle.poad_cmd.specs.Commands.{Does};
 ghost use Rattle.poad_cmd.specs.Playing.{PlaysFiles};
@@ -15,10 +15,9 @@ ghost use Rattle.poad_load.specs.Writing.{LoadGives};
 
 use crate::playing::play_files;
 use command_words::{Command, WordsFault, command_of};
-use conf_print::Asked;
 use outside::{Files, Sink, Source};
 use poad_answer::answer_by;
-use poad_files::{Host, Status, print_file, show_text};
+use poad_files::{Asked, Host, Status, print_file, show_text};
 use poad_load::load;
 use std::alloc::Global;
 

@@ -8,7 +8,7 @@ use Rattle.poa_base.specs.declared.Config.{Config}
 use Rattle.replay_script.specs.declared.Script.{Script}
 use Rattle.poad_files.specs.declared.status.Status.{Status}
 use Rattle.poad_files.specs.declared.status.Status.TheVariants as status
-use Rattle.conf_print.specs.declared.Asked.{Asked}
+use Rattle.poad_files.specs.declared.printing.Asked.{Asked}
 use Rattle.poad_files.specs.Filing.{Filed, Printed}
 use Rattle.poad_files.specs.Taking.{HoldsStill, config_limit, script_limit, IsHeld, OfContent, ReadsConfig, ReadsScript, Refused, TakesConfig, TakesScript}
 use Rattle.poad_files.specs.Showing.{GainsNothing}

@@ -3,8 +3,8 @@ use Rattle.std.specs.Prelude.{◌≡◌, ◌≢◌, ℕ, List, ◌++◌, Option,
 use Rattle.outside.specs.Keeping.{Contents}
 use Rattle.outside.specs.Told.{IfTold}
 use Rattle.conf_fields.specs.declared.ConfFault.TheVariants as conf
-use Rattle.conf_print.specs.declared.Asked.{Asked}
-use Rattle.conf_print.specs.Printing.{ConfPrints}
+use Rattle.poad_files.specs.declared.printing.Asked.{Asked}
+use Rattle.poad_files.specs.Printing.{ConfPrints}
 use Rattle.poad_files.specs.Showing.{GainsNothing}
 use Rattle.poad_files.specs.Taking.{config_limit, IsHeld, Refused}
 use Rattle.poad_files.specs.declared.status.Status.{Status}

@@ -1,3 +1,7 @@
+pub mod Counts
+pub mod Numbers
+pub mod Objects
+pub mod Printing
 pub mod Printed
 pub mod KeyLine
 pub mod Shown

@@ -7,9 +7,9 @@ ghost use Rattle.poad_files.specs.Filing.{Filed, Printed};
 ghost use Rattle.poad_files.specs.Taking.{HoldsStill};
 
 use crate::delivery::deliver;
+use crate::printing::{Asked, print_config};
 use crate::status::Status;
 use crate::taking::{CONFIG_LIMIT, refusal, take};
-use conf_print::{Asked, print_config};
 use outside::{Files, Sink};
 use std::alloc::Global;
 

@@ -3,22 +3,30 @@
 //! no adapter: `show` prints a reference, and `check` and `iors` print what a configuration has.
 #![tactic(auto)]
 
+mod counting;
 mod delivery;
 mod fault_line;
 mod filing;
 mod host;
 mod key;
+mod numbering;
+mod objects;
 mod printed;
+mod printing;
 mod profile;
 mod reference;
 mod showing;
 mod status;
 mod taking;
 
+pub use conf_toml::ConfFault;
+pub use counting::counts;
 pub use delivery::deliver;
 pub use filing::print_file;
 pub use host::Host;
+pub use objects::references;
 pub use poa_base::WantMemory;
+pub use printing::{Asked, print_config};
 pub use reference::show;
 pub use showing::show_text;
 pub use status::Status;

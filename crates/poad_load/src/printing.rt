@@ -2,7 +2,7 @@
 ghost use Rattle.std.specs.Prelude.{◌≡◌, ◌++◌, IfOk, OnOk};
 ghost use Rattle.poa_history.specs.Legal.{IsLegal};
 ghost use Rattle.poa_history.specs.Lifetime.{HasLifetime};
-ghost use Rattle.conf_print.specs.Counts.{count_line};
+ghost use Rattle.poad_files.specs.Counts.{count_line};
 ghost use Rattle.poad_load.specs.Counts.{lines_of, sum_line};
 ghost use Rattle.poad_load.specs.Played.{Tells};
 

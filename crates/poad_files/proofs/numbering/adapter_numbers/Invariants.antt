@@ -1,8 +1,8 @@
 use Rattle.std.proofs.Common.{◌≡◌, ◌≤◌, ◌+◌, drop}
 use Rattle.std.specs.BTreeMap as tree
 use Rattle.poa_base.specs.Store.{path_cmp}
-use Rattle.conf_print.specs.Numbers.{numbered, numbers_of}
-use Rattle.conf_print.proofs.numbering.adapter_numbers.Given as goal
+use Rattle.poad_files.specs.Numbers.{numbered, numbers_of}
+use Rattle.poad_files.proofs.numbering.adapter_numbers.Given as goal
 
 abbrev pub invariant-loop-adapter : goal.invariant-loop-adapter
 invariant-loop-adapter l = record {

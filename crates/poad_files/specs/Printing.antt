@@ -4,10 +4,10 @@ use Rattle.poa_base.specs.declared.Config.{Config}
 use Rattle.conf_fields.specs.declared.ConfFault.{ConfFault}
 use Rattle.conf_fields.specs.declared.ConfFault.TheVariants.{WantMemory}
 use Rattle.conf_toml.specs.Configuration.{ReadAs}
-use Rattle.conf_print.specs.Counts.{counts_text}
-use Rattle.conf_print.specs.Objects.{references_text}
-use Rattle.conf_print.specs.declared.printing.Asked.{Asked}
-use Rattle.conf_print.specs.declared.printing.Asked.TheVariants.{Counts, References}
+use Rattle.poad_files.specs.Counts.{counts_text}
+use Rattle.poad_files.specs.Objects.{references_text}
+use Rattle.poad_files.specs.declared.printing.Asked.{Asked}
+use Rattle.poad_files.specs.declared.printing.Asked.TheVariants.{Counts, References}
 
 abbrev pub text_of : Asked → Config → List ℕ
 text_of Counts c = counts_text c

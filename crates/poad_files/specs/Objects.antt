@@ -9,7 +9,7 @@ use Rattle.poa_base.specs.declared.ServantConf.{ServantConf}
 use Rattle.servant_kinds.specs.Object.{type_id_of}
 use Rattle.text_words.specs.Path.{path_text}
 use Rattle.ior_text.specs.Reference.{reference_text}
-use Rattle.conf_print.specs.Numbers.{Numbers, numbers_of}
+use Rattle.poad_files.specs.Numbers.{Numbers, numbers_of}
 
 -- a system-made id: the run and the ordinal (CORBA 3.3 Part 1, chapter 15, "SYSTEM_ID")
 abbrev pub id_of : ℕ → ℕ → Option (List ℕ) → List ℕ

@@ -2,7 +2,7 @@
 ghost use Rattle.std.specs.Prelude.{◌≡◌, Ok, IfOk, IfErr};
 ghost use Rattle.poa_policy.specs.Kept.{KeepsRules};
 ghost use Rattle.conf_toml.specs.declared.ConfFault.TheVariants as fault;
-ghost use Rattle.conf_print.specs.Printing.{ConfPrints, text_of};
+ghost use Rattle.poad_files.specs.Printing.{ConfPrints, text_of};
 
 use crate::counting::counts;
 use crate::objects::references;

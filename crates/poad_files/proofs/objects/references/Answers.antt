@@ -1,9 +1,9 @@
 use Rattle.std.proofs.Common.{arith}
 use Rattle.std.specs.BTreeMap as tree
 use Rattle.poa_base.specs.Store.{path_cmp}
-use Rattle.conf_print.specs.Objects.{references_text}
-use Rattle.conf_print.proofs.Lines.{lines_more}
-use Rattle.conf_print.proofs.objects.references.Goals as goal
+use Rattle.poad_files.specs.Objects.{references_text}
+use Rattle.poad_files.proofs.Lines.{lines_more}
+use Rattle.poad_files.proofs.objects.references.Goals as goal
 
 pub loop-object-preserved : goal.loop-object-preserved
 loop-object-preserved c =

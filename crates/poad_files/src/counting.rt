@@ -1,7 +1,7 @@
 //! How many there are of each kind.
 ghost use Rattle.std.specs.Prelude.{◌≡◌, ◌++◌, ◌≤◌, ◌<◌, ◌^◌, length, IfOk, OnOk};
 ghost use Rattle.poa_policy.specs.Kept.{KeepsRules};
-ghost use Rattle.conf_print.specs.Counts.{count_line, counts_text, below_root as the_below_root};
+ghost use Rattle.poad_files.specs.Counts.{count_line, counts_text, below_root as the_below_root};
 
 use poa_base::{AdapterConf, Bytes, Config, WantMemory};
 use std::alloc::Global;

@@ -1,6 +1,6 @@
 use Rattle.std.proofs.Common.{◌≡◌, ◌≤◌, ◌+◌, drop}
-use Rattle.conf_print.specs.Counts.{below_root}
-use Rattle.conf_print.proofs.counting.below_root.Given as goal
+use Rattle.poad_files.specs.Counts.{below_root}
+use Rattle.poad_files.proofs.counting.below_root.Given as goal
 
 abbrev pub invariant-loop-adapter : goal.invariant-loop-adapter
 invariant-loop-adapter l = record {

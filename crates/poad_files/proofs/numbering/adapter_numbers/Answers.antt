@@ -4,8 +4,8 @@ use Rattle.std.specs.Map.{lookup}
 use Rattle.std.specs.BTreeMap as tree
 use Rattle.std.specs.BTreeMap.{is_at}
 use Rattle.poa_base.specs.Store.{path_cmp}
-use Rattle.conf_print.specs.Numbers.{Numbers, no_numbers, numbered, with_number}
-use Rattle.conf_print.proofs.numbering.adapter_numbers.Goals as goal
+use Rattle.poad_files.specs.Numbers.{Numbers, no_numbers, numbered, with_number}
+use Rattle.poad_files.proofs.numbering.adapter_numbers.Goals as goal
 
 pub loop-adapter-init : goal.loop-adapter-init
 loop-adapter-init c =

@@ -1,5 +1,5 @@
 use Rattle.std.proofs.Common.{arith}
-use Rattle.conf_print.proofs.counting.counts.Goals as goal
+use Rattle.poad_files.proofs.counting.counts.Goals as goal
 
 pub overflow_add-len : goal.overflow_add-len
 overflow_add-len c = omega (arith, c.requires.few.managers)

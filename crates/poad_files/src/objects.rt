@@ -7,8 +7,8 @@ ghost use Rattle.ior_text.specs.Reference.{reference_text};
 ghost use Rattle.std.specs.BTreeMap as tree;
 ghost use Rattle.poa_base.specs.Store.{path_cmp};
 ghost use Rattle.poa_policy.specs.Kept.{KeepsRules};
-ghost use Rattle.conf_print.specs.Objects as spec;
-ghost use Rattle.conf_print.specs.Objects.{references_text};
+ghost use Rattle.poad_files.specs.Objects as spec;
+ghost use Rattle.poad_files.specs.Objects.{references_text};
 
 use crate::numbering::{Numbers, adapter_numbers};
 use ior_text::write_reference;

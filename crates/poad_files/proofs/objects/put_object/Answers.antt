@@ -1,9 +1,9 @@
 use Rattle.std.proofs.Common.{◌≡◌, ◌++◌, ℕ, List, OnOk, subst, ◌∙◌}
 use Rattle.std.specs.BTreeMap as tree
 use Rattle.poa_base.specs.Store.{path_cmp}
-use Rattle.conf_print.specs.Objects.{id_of}
-use Rattle.conf_print.proofs.Lines.{line_of}
-use Rattle.conf_print.proofs.objects.put_object.Goals as goal
+use Rattle.poad_files.specs.Objects.{id_of}
+use Rattle.poad_files.proofs.Lines.{line_of}
+use Rattle.poad_files.proofs.objects.put_object.Goals as goal
 
 pub returns : goal.returns
 returns c =

@@ -1,8 +1,8 @@
 use Rattle.std.proofs.Common.{◌≡◌, ◌≤◌, ◌++◌, drop}
 use Rattle.std.specs.BTreeMap as tree
 use Rattle.poa_base.specs.Store.{path_cmp}
-use Rattle.conf_print.specs.Objects.{lines, references_text}
-use Rattle.conf_print.proofs.objects.references.Given as goal
+use Rattle.poad_files.specs.Objects.{lines, references_text}
+use Rattle.poad_files.proofs.objects.references.Given as goal
 
 abbrev pub invariant-loop-object : goal.invariant-loop-object
 invariant-loop-object l = record {

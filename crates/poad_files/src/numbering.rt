@@ -2,7 +2,7 @@
 ghost use Rattle.std.specs.Prelude.{◌≡◌, ◌≤◌, length, IfOk, OnOk};
 ghost use Rattle.std.specs.BTreeMap as tree;
 ghost use Rattle.poa_base.specs.Store.{path_cmp};
-ghost use Rattle.conf_print.specs.Numbers.{no_numbers, numbers_of, with_adapter, with_number};
+ghost use Rattle.poad_files.specs.Numbers.{no_numbers, numbers_of, with_adapter, with_number};
 
 use poa_base::{AdapterConf, Path, TryClone, WantMemory};
 use std::alloc::Global;

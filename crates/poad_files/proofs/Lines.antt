@@ -5,8 +5,8 @@ use Rattle.poa_base.specs.declared.Config.{Config}
 use Rattle.poa_base.specs.declared.Key.{Key}
 use Rattle.poa_base.specs.declared.ObjectConf.{ObjectConf}
 use Rattle.ior_text.specs.Reference.{reference_text}
-use Rattle.conf_print.specs.Numbers.{Numbers}
-use Rattle.conf_print.specs.Objects.{id_of, key_of, line, lines, made_with, object_line, type_in}
+use Rattle.poad_files.specs.Numbers.{Numbers}
+use Rattle.poad_files.specs.Objects.{id_of, key_of, line, lines, made_with, object_line, type_in}
 
 -- the line of an object, by its parts
 pub line_of : (c : Config) (numbers : Numbers) (path : List (List ℕ)) (oid made : List ℕ) (n : ℕ) (number : Option ℕ) (key : Key) (type_id ref : List ℕ)
