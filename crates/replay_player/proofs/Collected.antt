@@ -10,7 +10,7 @@ use Rattle.poa_core.specs.Answers.{Steps, Collects, head_of}
 use Rattle.poa_core.specs.declared.StepOut.TheVariants as step_out
 use Rattle.poa_core.specs.declared.Collected.TheVariants as collected
 use Rattle.replay_player.specs.declared.player.Player.{Player}
-use Rattle.replay_lines.specs.Lines.{reply_line}
+use Rattle.replay_player.specs.Lines.{reply_line}
 use Rattle.replay_player.specs.Working.{Makes}
 use Rattle.replay_player.specs.Collecting.{CollectsAll, none_left, collects_on}
 use Rattle.replay_player.specs.Effects.{Works, CollectsOne, CollectsNext}

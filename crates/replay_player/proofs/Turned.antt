@@ -3,7 +3,7 @@ use Rattle.std.proofs.Common.{◌≡◌, ℕ, suc, ◌+◌, ◌<◌, ◌≤◌, 
 use Rattle.std.proofs.lemmas.Bool.Decides.{nat_tests}
 use Rattle.poa_history.specs.Life.{Life}
 use Rattle.replay_player.specs.declared.player.Player.{Player}
-use Rattle.replay_lines.specs.Lines.{entry_line, idle_line}
+use Rattle.replay_player.specs.Lines.{entry_line, idle_line}
 use Rattle.replay_player.specs.Working.{Turns, makes, idles, Runs, runs_out, runs_on, RunsBelow, Rests, rested, settles_on, IsIdle, AllIdle, ByWorker, Either, is_worker, Stays}
 use Rattle.replay_player.specs.Effects.{Works, MakesOne, Moved, Takes}
 use Rattle.replay_player.proofs.Onward.{Onward, works_join, works_end, works_still, works_onward}

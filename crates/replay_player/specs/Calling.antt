@@ -4,7 +4,7 @@ use Rattle.poa_base.specs.declared.Call.{Call}
 use Rattle.poa_base.specs.declared.Entry.TheVariants.{Arrive}
 use Rattle.poa_history.specs.Life.{Life, with_entry}
 use Rattle.poa_core.specs.Answers.{is_taken, filled_by}
-use Rattle.replay_lines.specs.Lines.{limit_line}
+use Rattle.replay_player.specs.Lines.{limit_line}
 
 -- a call of this size comes: it arrives, or the run is full
 abbrev pub after_call : ℕ → Call → ℕ → Life → Life

@@ -4,7 +4,7 @@ use Rattle.poa_base.specs.declared.Entry.{Entry}
 use Rattle.history_standing.specs.Stages.{is_abandoned}
 use Rattle.poa_history.specs.Turns.{turn}
 use Rattle.poa_history.specs.Life.{Life, with_entry}
-use Rattle.replay_lines.specs.Lines.{entry_line, idle_line}
+use Rattle.replay_player.specs.Lines.{entry_line, idle_line}
 
 -- the worker's next entry
 pub record Makes (life : Life) (w : ℕ) (e : Entry) : Type 0 where

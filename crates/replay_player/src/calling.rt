@@ -6,9 +6,9 @@ ghost use Rattle.replay_player.specs.Effects.{KnowsFilled};
 
 use crate::full::Full;
 use crate::player::Player;
+use crate::printing::print_limit;
 use poa_base::{Call, WantMemory};
 use poa_core::ArriveFault;
-use replay_lines::print_limit;
 
 impl Player {
     /// A call of this size comes over a connection. Where it is refused for the limits of the run, that is

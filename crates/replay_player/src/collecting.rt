@@ -2,15 +2,15 @@
 ghost use Rattle.std.specs.Prelude.{◌≡◌, ◌<◌, ◌++◌, IfOk, OnOk};
 ghost use Rattle.giop_replies.specs.Calls.{Each, IsGivenTo, IsSaid};
 ghost use Rattle.history_standing.specs.Arrivals.{connections};
-ghost use Rattle.replay_lines.specs.Lines.{reply_line};
+ghost use Rattle.replay_player.specs.Lines.{reply_line};
 ghost use Rattle.replay_player.specs.Collecting.{CollectsAll};
 ghost use Rattle.replay_player.specs.Effects.{CollectsNext, Works};
 
 use crate::player::Player;
+use crate::printing::{print_answer, print_bytes};
 use giop_answer::write_reply;
 use poa_base::{Head, Reply, WantMemory};
 use poa_core::Collected;
-use replay_lines::{print_answer, print_bytes};
 use std::alloc::Global;
 
 impl Player {

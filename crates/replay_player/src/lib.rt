@@ -7,10 +7,13 @@ mod asking;
 mod calling;
 mod collecting;
 mod full;
+mod mark;
 mod player;
+mod printing;
 mod showing;
 mod working;
 
 pub use asking::request;
 pub use full::Full;
 pub use player::Player;
+pub use printing::{print_answer, print_bad, print_bytes, print_entry, print_idle, print_limit};

@@ -1,14 +1,14 @@
 //! The turns of workers.
 ghost use Rattle.std.specs.Prelude.{◌≡◌, ◌<◌, ◌++◌, ◌∷◌, List, IfOk, OnOk};
 ghost use Rattle.poa_base.specs.declared.Entry.{Entry as EntryData};
-ghost use Rattle.replay_lines.specs.Lines.{entry_line};
+ghost use Rattle.replay_player.specs.Lines.{entry_line};
 ghost use Rattle.replay_player.specs.Working.{AllIdle, ByWorker, IsIdle, Runs, RunsBelow, Rests, Turns};
 ghost use Rattle.replay_player.specs.Effects.{Moved, Takes, Works};
 
 use crate::player::Player;
+use crate::printing::{print_entry, print_idle};
 use poa_base::WantMemory;
 use poa_core::StepOut;
-use replay_lines::{print_entry, print_idle};
 
 /// How many workers there are.
 pub(crate) const WORKERS: u32 = 16;

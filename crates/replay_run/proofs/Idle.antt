@@ -12,7 +12,7 @@ use Rattle.history_standing.specs.Stages.{is_abandoned}
 use Rattle.poa_history.specs.Turns.{turn}
 use Rattle.poa_history.specs.Life.{Life, with_entry}
 use Rattle.replay_run.specs.declared.channel.Channel.{Channel}
-use Rattle.replay_lines.specs.Lines.{reply_line}
+use Rattle.replay_player.specs.Lines.{reply_line}
 use Rattle.replay_player.specs.Working.{AllIdle, Rests, rested, settles_on, Then, Stays}
 use Rattle.replay_player.specs.Collecting.{CollectsAll, none_left, collects_on}
 use Rattle.replay_run.specs.Playing.{CollectsOf, CollectsEach}

@@ -8,7 +8,7 @@ use Rattle.replay_run.specs.declared.channel.Channel.{Channel}
 use Rattle.replay_player.specs.declared.full.Full.{Full}
 use Rattle.replay_player.specs.declared.player.Player.{Player}
 use Rattle.replay_run.specs.World.{World, Talk}
-use Rattle.replay_lines.specs.Lines.{limit_line}
+use Rattle.replay_player.specs.Lines.{limit_line}
 use Rattle.replay_run.specs.Talking.{Enters, OnChannel, OnPlace, OnLine, entered, turned_away, numbered, has_room, Carries}
 use Rattle.replay_run.specs.Keeping.{Keeps, Meets, knows, enters, refuses, Shows, Tells, talk, world}
 use Rattle.replay_player.proofs.Same.{Still, still_life}

@@ -15,7 +15,7 @@ use Rattle.giop_frame.specs.Framer.{FramerAnswers}
 use Rattle.giop_frame.specs.Framing.{Framing}
 use Rattle.giop_frame.specs.Stream.{Framed}
 use Rattle.poa_core.specs.Answers.{filled_at}
-use Rattle.replay_lines.specs.Lines.{bad_line}
+use Rattle.replay_player.specs.Lines.{bad_line}
 use Rattle.replay_player.specs.Effects.{numbers, KnowsFilled}
 use Rattle.replay_run.specs.Reading.{ReadsOn, waits, fails, stops, reads_on, Handles, ReadsBytes, Feeds, with_fed}
 use Rattle.replay_player.specs.Calling.{after_call, call_text}

@@ -23,7 +23,7 @@ use Rattle.replay_run.specs.declared.line.Line.{Line as LineData}
 use Rattle.replay_run.specs.declared.line.Line.TheVariants as line
 use Rattle.replay_player.specs.declared.player.Player.{Player}
 use Rattle.replay_run.specs.World.{Talk}
-use Rattle.replay_lines.specs.Lines.{reply_line}
+use Rattle.replay_player.specs.Lines.{reply_line}
 use Rattle.replay_player.specs.Working.{Either, Stays}
 use Rattle.replay_player.specs.Calling.{after_call}
 use Rattle.replay_run.specs.Reading.{did, dropped, with_stream, with_fed, Handles, ReadsOn, waits, fails, stops, reads_on, Feeds, ReadsBytes}

@@ -1,7 +1,7 @@
 -- The line of a connection that collects.
 use Rattle.std.proofs.Common.{ℕ, option_map, refl, sym, ap, ◌∙◌}
 use Rattle.replay_player.specs.declared.player.Player.{Player}
-use Rattle.replay_lines.specs.Lines.{reply_line}
+use Rattle.replay_player.specs.Lines.{reply_line}
 use Rattle.replay_player.specs.Collecting.{CollectsAll}
 use Rattle.replay_run.specs.Talking.{Collects as Collecting}
 use Rattle.replay_player.specs.Effects.{numbers, Works}

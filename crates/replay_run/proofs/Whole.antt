@@ -21,7 +21,7 @@ use Rattle.replay_run.specs.declared.channel.Channel.{Channel}
 use Rattle.replay_player.specs.declared.full.Full.{Full}
 use Rattle.replay_run.specs.declared.played.Played.{Played}
 use Rattle.replay_player.specs.declared.player.Player.{Player}
-use Rattle.replay_lines.specs.Lines.{reply_line}
+use Rattle.replay_player.specs.Lines.{reply_line}
 use Rattle.replay_run.specs.World.{World, Talk}
 use Rattle.replay_player.specs.Working.{Then, Rests}
 use Rattle.replay_run.specs.Talking.{OnLine, entered, turned_away, Carries, Collects}

@@ -13,7 +13,7 @@ use Rattle.giop_replies.specs.Calls.{Each, IsSaid}
 use Rattle.replay_run.specs.declared.channel.Channel.{Channel}
 use Rattle.replay_player.specs.declared.player.Player.{Player}
 use Rattle.replay_run.specs.World.{World, Talk}
-use Rattle.replay_lines.specs.Lines.{limit_line}
+use Rattle.replay_player.specs.Lines.{limit_line}
 use Rattle.replay_run.specs.Reading.{ReadsOn, Handles, Grows, with_stream}
 use Rattle.replay_run.specs.Talking.{has_room, numbered}
 use Rattle.replay_player.specs.Opening.{life_at_first}

@@ -17,7 +17,7 @@ use Rattle.replay_run.specs.declared.channel.Channel.{Channel}
 use Rattle.replay_player.specs.declared.full.Full.{Full}
 use Rattle.replay_run.specs.declared.played.Played.{Played}
 use Rattle.replay_run.specs.World.{World}
-use Rattle.replay_lines.specs.Lines.{reply_line}
+use Rattle.replay_player.specs.Lines.{reply_line}
 use Rattle.replay_player.specs.Working.{Turns, Runs, ByWorker, Then, Stays, Rests}
 use Rattle.replay_run.specs.Reading.{Feeds}
 use Rattle.replay_player.specs.Asking.{asked}

@@ -11,7 +11,7 @@ use Rattle.replay_run.specs.declared.line.Line.{Line as LineData}
 use Rattle.replay_run.specs.declared.line.Line.TheVariants as line
 use Rattle.replay_player.specs.declared.full.Full.{Full}
 use Rattle.replay_run.specs.World.{World, Talk}
-use Rattle.replay_lines.specs.Lines.{limit_line, reply_line}
+use Rattle.replay_player.specs.Lines.{limit_line, reply_line}
 use Rattle.replay_player.specs.Working.{Either, Stays}
 use Rattle.replay_player.specs.Calling.{after_call, call_text}
 use Rattle.replay_run.specs.Reading.{Feeds}

@@ -9,8 +9,7 @@ use crate::channel::Channel;
 use giop_frame::{Message, Next};
 use giop_msg::{Incoming, MsgFault, read_call};
 use poa_base::WantMemory;
-use replay_lines::print_bad;
-use replay_player::Player;
+use replay_player::{Player, print_bad};
 use std::alloc::Global;
 
 impl Channel {

@@ -11,8 +11,7 @@ use crate::line::Line;
 use admin_line::read_line;
 use poa_base::{Call, WantMemory};
 use poa_core::EnterFault;
-use replay_lines::print_limit;
-use replay_player::{Full, Player};
+use replay_player::{Full, Player, print_limit};
 use std::alloc::Global;
 
 /// The most bytes that an administrator's line has.

@@ -1,5 +1,5 @@
 use Rattle.std.proofs.Common.{true, false}
-use Rattle.replay_lines.specs.Lines.{reply_line}
+use Rattle.replay_player.specs.Lines.{reply_line}
 use Rattle.replay_player.specs.Collecting.{CollectsAll}
 use Rattle.replay_player.proofs.Onward.{works_onward}
 use Rattle.replay_player.proofs.Collected.{next_is, replies_end, reply_onward}

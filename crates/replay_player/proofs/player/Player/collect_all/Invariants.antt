@@ -1,7 +1,7 @@
 use Rattle.std.proofs.Common.{◌<◌}
 use Rattle.giop_replies.specs.Calls.{Each, IsSaid}
 use Rattle.history_standing.specs.Arrivals.{connections}
-use Rattle.replay_lines.specs.Lines.{reply_line}
+use Rattle.replay_player.specs.Lines.{reply_line}
 use Rattle.replay_player.specs.Collecting.{CollectsAll}
 use Rattle.replay_player.specs.Effects.{Works}
 use Rattle.replay_player.proofs.Onward.{Onward}

@@ -1,5 +1,5 @@
 use Rattle.std.proofs.Common.{List, ℕ, subst}
-use Rattle.replay_lines.specs.Lines.{reply_line}
+use Rattle.replay_player.specs.Lines.{reply_line}
 use Rattle.replay_player.specs.Collecting.{CollectsAll}
 use Rattle.replay_player.specs.Effects.{Works}
 use Rattle.replay_run.proofs.Told.{collects_told}

@@ -1,6 +1,6 @@
 //! The lines that are printed.
 ghost use Rattle.std.specs.Prelude.{◌≡◌, ◌++◌, OnOk};
-ghost use Rattle.replay_lines.specs.Lines.{entry_line, idle_line, limit_line, bad_line, answer_line, bytes_line};
+ghost use Rattle.replay_player.specs.Lines.{entry_line, idle_line, limit_line, bad_line, answer_line, bytes_line};
 
 use crate::mark::Mark;
 use admin_line::put_answer;

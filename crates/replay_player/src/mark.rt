@@ -18,7 +18,7 @@ pub(crate) enum Mark {
 }
 
 impl Worded for Mark {
-    ghost use Rattle.replay_lines.specs.Lines.{mark_word};
+    ghost use Rattle.replay_player.specs.Lines.{mark_word};
 
     ghost text = { mark_word };
 

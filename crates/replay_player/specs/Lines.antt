@@ -9,8 +9,8 @@ use Rattle.text_words.specs.Token.{Token, keyword, named, octets, spelled}
 use Rattle.poa_journal.specs.Entry.{entry_tokens, n64}
 use Rattle.admin_line.specs.Answer.{answer_tokens}
 use Rattle.giop_answer.specs.Reply.{reply_bytes}
-use Rattle.replay_lines.specs.declared.mark.Mark.{Mark}
-use Rattle.replay_lines.specs.declared.mark.Mark.TheVariants as mark
+use Rattle.replay_player.specs.declared.mark.Mark.{Mark}
+use Rattle.replay_player.specs.declared.mark.Mark.TheVariants as mark
 
 unfoldable pub mark_word : Mark → List ℕ
 mark_word mark.Limit = codes "limit"
