@@ -6,3 +6,7 @@ pub mod Taking
 mod Firsts
 mod Asking
 mod FreesAs
+pub mod Flags
+pub mod Staying
+pub mod Bounds
+pub mod Follows

@@ -5,3 +5,7 @@ pub mod Queued
 pub mod Begun
 pub mod Told
 pub mod Answered
+pub mod Limits
+pub mod Leaving
+pub mod Phases
+pub mod Tallies

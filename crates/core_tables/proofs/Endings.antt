@@ -13,7 +13,7 @@ use Rattle.poa_history.proofs.StagesFrom.{maker, stage_other}
 use Rattle.core_standing.specs.Entries.{stage_at}
 use Rattle.core_arrivals.specs.declared.workers.Workers.{Workers}
 use Rattle.core_arrivals.specs.Begun.{KnowsWorkers, only_ends}
-use Rattle.run_tally.proofs.Staying.{count_few, count_same, count_less, count_near}
+use Rattle.core_arrivals.proofs.Staying.{count_few, count_same, count_less, count_near}
 use Rattle.core_state.specs.State.{is_turn, only_ends as only_ends_by}
 use Rattle.core_tables.specs.ToCome.{by_workers, is_conn, is_ending}
 

@@ -6,7 +6,7 @@ use Rattle.core_arrivals.specs.Placed.{KnowsCalls}
 use Rattle.core_arrivals.specs.Queued.{IsQueue}
 use Rattle.core_arrivals.specs.Begun.{KnowsWorkers}
 use Rattle.held_queue.specs.Held.{AreHeld}
-use Rattle.run_tally.specs.Tallies.{IsTally}
+use Rattle.core_arrivals.specs.Tallies.{IsTally}
 use Rattle.core_tables.specs.declared.tables.Tables.{Tables}
 
 pub record KnowsTables (c : Config) (run : ℕ) (h : List Entry) (t : Tables) : Type 0 where

@@ -6,8 +6,8 @@ use Rattle.history_standing.specs.declared.stage.Stage.TheVariants.{Free}
 use Rattle.history_standing.specs.Searches.{count_below}
 use Rattle.core_arrivals.specs.declared.workers.Workers.{Workers}
 use Rattle.core_arrivals.specs.Begun.{only_ends}
-use Rattle.run_tally.specs.declared.Tally.{Tally}
-use Rattle.run_tally.specs.Tallies.{flag_of}
+use Rattle.core_arrivals.specs.declared.Tally.{Tally}
+use Rattle.core_arrivals.specs.Tallies.{flag_of}
 use Rattle.core_tables.specs.declared.tables.Tables.{Tables}
 
 abbrev pub unless : Bool → ℕ

@@ -9,15 +9,14 @@ ghost use Rattle.core_arrivals.specs.Queued.{HasPlace};
 ghost use Rattle.held_queue.specs.Frees.{freed_by};
 ghost use Rattle.held_queue.specs.Numbers.{HasRoom};
 ghost use Rattle.held_queue.specs.Waiting.{may_queue};
-ghost use Rattle.run_tally.specs.Tallies.{HasRoomFor, HasRoomForOne};
+ghost use Rattle.core_arrivals.specs.Tallies.{HasRoomFor, HasRoomForOne};
 ghost use Rattle.core_tables.specs.Known.{KnowsTables};
 
-use core_arrivals::{Calls, Queue, Workers, calls, queue, workers};
+use core_arrivals::{Calls, Queue, Tally, Workers, calls, queue, workers};
 use held_queue::{Freed, HeldQueue};
 use history_standing::Stage;
 use journal_entries::Entries;
 use poa_base::{Entry, WantMemory};
-use run_tally::Tally;
 use std::alloc::Global;
 
 /// Where each call arrived, which calls wait and what holds them, what each worker has begun, and what was counted.
@@ -40,7 +39,7 @@ impl Tables {
             queue: queue::empty(alloc),
             held: HeldQueue::empty(alloc),
             workers: workers::all_free(alloc)?,
-            tally: run_tally::none(alloc),
+            tally: core_arrivals::none(alloc),
         })
     }
 
@@ -55,7 +54,7 @@ impl Tables {
         calls::reserve(&mut self.calls)?;
         queue::reserve(&mut self.queue)?;
         self.held.reserve()?;
-        run_tally::reserve(&mut self.tally)
+        core_arrivals::reserve(&mut self.tally)
     }
 
     /// An entry comes behind the journal's, for which there is room. It is given what the entry's worker had begun, and
@@ -72,7 +71,7 @@ impl Tables {
     {
         let arrivals = self.tally.arrivals;
         let admitted = calls::call_admitted(entries, &self.calls, entry);
-        run_tally::advance(entry, admitted, &mut self.tally);
+        core_arrivals::advance(entry, admitted, &mut self.tally);
         let tried = calls::call_tried(entries, &self.calls, entry, stage);
         queue::advance(entry, arrivals, stage, tried, &mut self.queue);
         self.held.advance(entry, arrivals, stage, freed);

@@ -7,7 +7,7 @@ use Rattle.history_standing.specs.Arrivals.{connections}
 use Rattle.poa_history.specs.Legal.{IsOpen}
 use Rattle.core_arrivals.specs.Placed.{arrives}
 use Rattle.held_queue.specs.Waiting.{may_queue}
-use Rattle.run_tally.specs.Tallies.{HasRoomFor as HasRoomForTally}
+use Rattle.core_arrivals.specs.Tallies.{HasRoomFor as HasRoomForTally}
 use Rattle.journal_entries.specs.Rows.{is_brief}
 use Rattle.poa_core.specs.declared.inside.Inside.{Inside}
 use Rattle.poa_core.specs.Agrees.{history}

@@ -5,11 +5,11 @@ use Rattle.poa_base.specs.declared.Entry.{Entry}
 use Rattle.poa_base.specs.declared.Entry.TheVariants.{Filled}
 use Rattle.history_standing.specs.Arrivals.{arrivals, arrived_bytes}
 use Rattle.poa_history.specs.Legal.{IsOpen, IsSize, is_filled}
-use Rattle.run_tally.specs.declared.Full.{Full}
-use Rattle.run_tally.specs.declared.Tally.{Tally}
-use Rattle.run_tally.specs.Limits.{has_room, filled_at}
-use Rattle.run_tally.specs.Tallies.{IsTally}
-use Rattle.run_tally.proofs.Follows.{unfilled_is}
+use Rattle.core_arrivals.specs.declared.Full.{Full}
+use Rattle.core_arrivals.specs.declared.Tally.{Tally}
+use Rattle.core_arrivals.specs.Limits.{has_room, filled_at}
+use Rattle.core_arrivals.specs.Tallies.{IsTally}
+use Rattle.core_arrivals.proofs.Follows.{unfilled_is}
 use Rattle.poa_core.specs.declared.inside.Inside.{Inside}
 use Rattle.poa_history.specs.Life.{Life, with_entry}
 use Rattle.poa_core.specs.Answers.{filled_by}

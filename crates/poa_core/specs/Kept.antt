@@ -2,7 +2,7 @@
 use Rattle.std.specs.Prelude.{◌≡◌, ℕ, ◌+◌, ◌<◌, ◌≤◌, false, if◌then◌else◌, List, ◌∷◌, length, vec_len, vec_capacity}
 use Rattle.poa_base.specs.declared.Entry.{Entry}
 use Rattle.poa_history.specs.Runs.{IsRun}
-use Rattle.run_tally.specs.Tallies.{HasRoomForOne as HasRoomForConnection}
+use Rattle.core_arrivals.specs.Tallies.{HasRoomForOne as HasRoomForConnection}
 use Rattle.core_outboxes.specs.Desk.{AreLeft, HasFiled}
 use Rattle.core_arrivals.specs.Queued.{HasPlace}
 use Rattle.held_queue.specs.Numbers.{HasRoom as HasRoomForCall}

@@ -12,7 +12,7 @@ use Rattle.core_arrivals.specs.Placed.{arrives}
 use Rattle.core_arrivals.specs.Queued.{HasPlace}
 use Rattle.held_queue.specs.Numbers.{HasRoom as HasRoomForCall}
 use Rattle.held_queue.specs.Waiting.{may_queue}
-use Rattle.run_tally.specs.Tallies.{HasRoomFor as HasRoomForTally}
+use Rattle.core_arrivals.specs.Tallies.{HasRoomFor as HasRoomForTally}
 use Rattle.journal_entries.specs.Rows.{HasRoomFor}
 use Rattle.core_state.specs.State.{IsState}
 use Rattle.poa_core.specs.declared.inside.Inside.{Inside}

@@ -1,6 +1,6 @@
 //! The core of the adapter.
 ghost use Rattle.std.specs.Prelude.{◌≡◌, ℕ, ◌≤◌, ◌<◌, List, option_map, reverse, IfOk};
-ghost use Rattle.run_tally.specs.Phases.{phase_of};
+ghost use Rattle.core_arrivals.specs.Phases.{phase_of};
 ghost use Rattle.poa_base.specs.Store.{stored as stored_in};
 ghost use Rattle.poa_policy.specs.Kept.{KeepsRules};
 ghost use Rattle.history_laws.specs.Lasting.{KeepsUpdates, LeavesNothing};
@@ -26,7 +26,7 @@ use crate::enter_fault::EnterFault;
 use crate::inside::Inside;
 use crate::step_out::StepOut;
 use crate::{abandoning, arriving, beginning, collecting, connecting, stepping};
-use core_arrivals::queue;
+use core_arrivals::{Full, Phase, queue};
 use core_outboxes::{Desk, Fresh};
 use core_state::State;
 use core_tables::Tables;
@@ -35,7 +35,6 @@ use history_standing::nodes;
 use journal_entries::Entries;
 use poa_base::{Call, Config, Entry, Path, Store, WantMemory};
 use poa_history::Givens;
-use run_tally::{Full, Phase};
 use seat_lock::Chronicle;
 use std::alloc::Global;
 use std::marker::Model;
@@ -154,14 +153,14 @@ impl Core {
     pub fn phase(&self) -> Phase
         ensures { result ≡ phase_of self.now.history }
     {
-        run_tally::phase_of(&self.tables().tally)
+        core_arrivals::phase_of(&self.tables().tally)
     }
 
     /// How many calls, and bytes of calls, stood when the run took no more, if it came to that.
     pub fn filled(&self) -> Option<Full>
         ensures { option_map (λ f. (f.arrivals, f.bytes)) result ≡ answers.filled_at self.now.history }
     {
-        run_tally::filled(&self.tables().tally)
+        core_arrivals::filled(&self.tables().tally)
     }
 
     /// To whom the last entry gave replies: whom to wake.

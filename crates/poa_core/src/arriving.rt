@@ -1,7 +1,7 @@
 //! Calls arrive.
 ghost use Rattle.std.specs.Prelude.{◌≡◌, Option, Some, None, true, false};
 ghost use Rattle.poa_history.specs.Legal.{IsOpen, IsSize};
-ghost use Rattle.run_tally.specs.Limits as limits;
+ghost use Rattle.core_arrivals.specs.Limits as limits;
 ghost use Rattle.core_outboxes.specs.Desk.{HasRoomForOne};
 ghost use Rattle.poa_core.specs.Agrees.{history};
 ghost use Rattle.poa_core.specs.Answers as answers;
@@ -81,7 +81,7 @@ pub fn arrive(inside: &mut Inside, conn: u32, call: Call, size: u64) -> Result<u
     ensures kept { IsKept inside.new }
     ensures arrived { answers.Arrives conn call size (life inside.old) result (life inside.new) }
 {
-    if !run_tally::is_taken(inside.limit, &call, size, &inside.tables.tally) {
+    if !core_arrivals::is_taken(inside.limit, &call, size, &inside.tables.tally) {
         drop(call);
         return Err(refuse(inside, conn, size));
     }

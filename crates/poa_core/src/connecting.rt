@@ -4,7 +4,7 @@ ghost use Rattle.poa_base.specs.declared.Entry.{Entry as EntryOf};
 ghost use Rattle.poa_base.specs.declared.Entry.TheVariants.{Left};
 ghost use Rattle.history_standing.specs.Arrivals.{connections};
 ghost use Rattle.poa_history.specs.Legal.{IsOpen};
-ghost use Rattle.run_tally.specs.Tallies.{IsTally};
+ghost use Rattle.core_arrivals.specs.Tallies.{IsTally};
 ghost use Rattle.poa_history.specs.Life.{with_entry};
 ghost use Rattle.poa_core.specs.Agrees.{history};
 ghost use Rattle.poa_core.specs.Answers.{Enters};
@@ -14,8 +14,8 @@ use crate::enter_fault::EnterFault;
 use crate::inside::Inside;
 use crate::quieting::quiet;
 use crate::room::make_room;
+use core_arrivals::Tally;
 use poa_base::Entry;
-use run_tally::Tally;
 
 /// How many connections a run has at most.
 const CONNECTIONS: u64 = 4_000_000;
@@ -24,7 +24,7 @@ const CONNECTIONS: u64 = 4_000_000;
 fn next_number(tally: &Tally) -> Option<u32>
     ensures { (h : List EntryOf) → IsTally h tally.now → result ≡ (if nat_lt (connections h) 4000000 then Some (connections h) else None) }
 {
-    let conns = run_tally::connections(tally);
+    let conns = core_arrivals::connections(tally);
     if conns < CONNECTIONS {
         u32::try_from(conns).ok()
     } else {
@@ -40,7 +40,7 @@ pub fn enter(inside: &mut Inside) -> Result<u32, EnterFault>
 {
     let Some(conn) = next_number(&inside.tables.tally) else {
         return Err(EnterFault::Limit {
-            conns: run_tally::connections(&inside.tables.tally),
+            conns: core_arrivals::connections(&inside.tables.tally),
             arrivals: inside.tables.tally.arrivals,
             bytes: inside.tables.tally.bytes,
         });

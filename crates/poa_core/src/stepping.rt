@@ -66,7 +66,7 @@ pub fn step(inside: &mut Inside, worker: u32) -> Result<StepOut, WantMemory>
     let Some(entry) = next(inside, worker)? else {
         let unadmitted = queue::count(&inside.tables.queue);
         return Ok(StepOut::Idle {
-            over: run_tally::is_run_over(&inside.tables.tally, unadmitted),
+            over: core_arrivals::is_run_over(&inside.tables.tally, unadmitted),
         });
     };
     let stage = workers::stage(&inside.tables.workers, worker);

@@ -3,8 +3,8 @@ ghost use Rattle.std.specs.Prelude.{◌≡◌, ◌-◌, ◌^◌, reverse, min};
 ghost use Rattle.history_standing.specs.Arrivals as calls;
 ghost use Rattle.poa_history.specs.Legal as legal;
 
+use core_arrivals::is_shutdown;
 use poa_base::Entry;
-use run_tally::is_shutdown;
 
 /// Whether the connection has left.
 pub fn has_left(history: &[Entry], conn: u32) -> bool

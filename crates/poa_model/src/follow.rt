@@ -11,11 +11,11 @@ use crate::arriving::{arrived_bytes, had_shutdown, has_left, is_filled};
 use crate::next_reply::slow_next_reply;
 use crate::same::is_that;
 use crate::turns::slow_next;
+use core_arrivals::is_shutdown;
 use core_standing::calls::{arrivals, connections};
 use core_standing::workers::is_abandoned;
 use poa_base::limits::CONNECTIONS;
 use poa_base::{Call, Config, Entry, Store, WantMemory};
-use run_tally::is_shutdown;
 use std::alloc::Global;
 
 /// How many workers a run has.

@@ -2,10 +2,10 @@
 ghost use Rattle.std.specs.Prelude.{◌≡◌};
 ghost use Rattle.poad_cmd.specs.Ending as spec;
 
+use core_arrivals::Full;
 use outside::Put;
 use poa_base::WantMemory;
 use poad_files::Status;
-use run_tally::Full;
 use serve_run::{Outcome, Want};
 
 /// The status of a run by how it came off, what came of putting its journal, and when it took no more calls. Of

@@ -4,7 +4,7 @@ ghost use Rattle.serve_run.specs.Outcomes as outcomes;
 
 use crate::ran::PieceEnd;
 use crate::refusing::earlier;
-use run_tally::Full;
+use core_arrivals::Full;
 
 /// For want of what a piece wasn't started.
 #[derive(Clone, Copy, Drop)]

@@ -1,6 +1,6 @@
 //! What comes of a piece.
+use core_arrivals::{Full, Phase};
 use poa_shared::{Aid, Seat, WorkEnd};
-use run_tally::{Full, Phase};
 
 /// How a piece ended.
 #[derive(Clone, Copy, Drop)]

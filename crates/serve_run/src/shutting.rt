@@ -7,10 +7,10 @@ ghost use Rattle.seat_lock.specs.Seats.{view};
 ghost use Rattle.serve_run.specs.Shutting.{Says};
 ghost use Rattle.serve_run.specs.Starting.{IsSameSeat};
 
+use core_arrivals::Phase;
 use poa_base::{Call, Command};
 use poa_core::ArriveFault;
 use poa_shared::{Seat, Shared};
-use run_tally::Phase;
 use std::sync::Wait;
 
 /// The workers that were started: from this one to before that one.

@@ -2,7 +2,7 @@
 use Rattle.std.proofs.Common.{◌≡◌, ℕ, ◌<◌, ◌≤◌, zero, suc, Bool, true, false, ◌||◌, ◌==◌, List, [], ◌∷◌, ◌++◌, length, refl, sym, ap, ◌∙◌, slice_set}
 use Rattle.std.proofs.lemmas.Bool.{eqb-true, eqb-false}
 use Rattle.std.proofs.lemmas.List.{get_or-set_same, get_or-set_other, get_or_past}
-use Rattle.run_tally.specs.Tallies.{flag_of}
+use Rattle.core_arrivals.specs.Tallies.{flag_of}
 
 -- a flag that is put behind the others as false changes none
 pub flag_more : (flags : List Bool) (k : ℕ) → flag_of (flags ++ false ∷ []) k ≡ flag_of flags k

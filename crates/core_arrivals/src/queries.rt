@@ -3,10 +3,10 @@ ghost use Rattle.std.specs.Prelude.{◌≡◌, ◌↔◌, ◌+◌, ◌^◌, ◌&
 ghost use Rattle.poa_base.specs.declared.Entry.{Entry};
 ghost use Rattle.history_standing.specs.Arrivals as calls;
 ghost use Rattle.poa_history.specs.Legal as legal;
-ghost use Rattle.run_tally.specs.Limits as limits;
-ghost use Rattle.run_tally.specs.Leaving as leaving;
-ghost use Rattle.run_tally.specs.Phases as phases;
-ghost use Rattle.run_tally.specs.Tallies.{IsTally, flag_of};
+ghost use Rattle.core_arrivals.specs.Limits as limits;
+ghost use Rattle.core_arrivals.specs.Leaving as leaving;
+ghost use Rattle.core_arrivals.specs.Phases as phases;
+ghost use Rattle.core_arrivals.specs.Tallies.{IsTally, flag_of};
 
 use crate::full::Full;
 use crate::moves::is_shutdown;

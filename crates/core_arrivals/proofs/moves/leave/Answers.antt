@@ -1,6 +1,6 @@
 use Rattle.std.proofs.Common.{refl}
-use Rattle.run_tally.proofs.Follows.{left_is}
-use Rattle.run_tally.proofs.moves.leave.Goals as goal
+use Rattle.core_arrivals.proofs.Follows.{left_is}
+use Rattle.core_arrivals.proofs.moves.leave.Goals as goal
 
 pub returns : goal.returns
 returns c =

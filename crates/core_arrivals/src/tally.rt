@@ -1,7 +1,7 @@
 //! The tally of a run.
 ghost use Rattle.std.specs.Prelude.{◌≡◌, [], List, OnOk};
 ghost use Rattle.poa_base.specs.declared.Entry.{Entry};
-ghost use Rattle.run_tally.specs.Tallies.{IsTally, HasRoomForOne};
+ghost use Rattle.core_arrivals.specs.Tallies.{IsTally, HasRoomForOne};
 
 use crate::full::Full;
 use poa_base::WantMemory;

@@ -5,12 +5,12 @@ use Rattle.poa_base.specs.declared.Entry.{Entry}
 use Rattle.poa_base.specs.declared.Entry.TheVariants.{Entered, Left}
 use Rattle.history_standing.specs.Arrivals.{connections}
 use Rattle.poa_history.specs.Legal.{IsOpen, is_filled, has_left}
-use Rattle.run_tally.specs.declared.tally.Tally.{Tally}
-use Rattle.run_tally.specs.declared.full.Full.{Full}
-use Rattle.run_tally.specs.Tallies.{IsTally, flag_of}
-use Rattle.run_tally.proofs.Bounds.{filled_is}
-use Rattle.run_tally.proofs.Flags.{flag_more, flag_set, flag_past}
-use Rattle.run_tally.proofs.Staying.{staying_more, staying_less}
+use Rattle.core_arrivals.specs.declared.tally.Tally.{Tally}
+use Rattle.core_arrivals.specs.declared.full.Full.{Full}
+use Rattle.core_arrivals.specs.Tallies.{IsTally, flag_of}
+use Rattle.core_arrivals.proofs.Bounds.{filled_is}
+use Rattle.core_arrivals.proofs.Flags.{flag_more, flag_set, flag_past}
+use Rattle.core_arrivals.proofs.Staying.{staying_more, staying_less}
 
 -- all but the connections is as it was
 pub record IsSameBut (t u : Tally) : Type 0 where

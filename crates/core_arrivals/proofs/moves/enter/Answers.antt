@@ -1,6 +1,6 @@
 use Rattle.std.proofs.Common.{refl}
-use Rattle.run_tally.proofs.Follows.{entered_is}
-use Rattle.run_tally.proofs.moves.enter.Goals as goal
+use Rattle.core_arrivals.proofs.Follows.{entered_is}
+use Rattle.core_arrivals.proofs.moves.enter.Goals as goal
 
 pub returns : goal.returns
 returns c =

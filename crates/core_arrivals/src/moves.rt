@@ -5,9 +5,9 @@ ghost use Rattle.poa_base.specs.declared.Entry.{Entry as EntryOf};
 ghost use Rattle.poa_base.specs.declared.Entry.TheVariants.{Entered, Arrive, Filled, Left, Admit, Abandon};
 ghost use Rattle.history_standing.specs.Arrivals as calls;
 ghost use Rattle.poa_history.specs.Legal as legal;
-ghost use Rattle.run_tally.specs.Leaving as leaving;
-ghost use Rattle.run_tally.specs.Tallies as tallies;
-ghost use Rattle.run_tally.specs.Tallies.{IsTally, HasRoomFor, HasRoomForOne};
+ghost use Rattle.core_arrivals.specs.Leaving as leaving;
+ghost use Rattle.core_arrivals.specs.Tallies as tallies;
+ghost use Rattle.core_arrivals.specs.Tallies.{IsTally, HasRoomFor, HasRoomForOne};
 
 use crate::full::Full;
 use crate::tally::Tally;

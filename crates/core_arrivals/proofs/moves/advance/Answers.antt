@@ -1,7 +1,7 @@
 use Rattle.std.proofs.Common.{◌∷◌, sym, subst}
-use Rattle.run_tally.specs.Tallies.{IsTally, AreFew}
-use Rattle.run_tally.proofs.Bounds.{are_few}
-use Rattle.run_tally.proofs.moves.advance.Goals as goal
+use Rattle.core_arrivals.specs.Tallies.{IsTally, AreFew}
+use Rattle.core_arrivals.proofs.Bounds.{are_few}
+use Rattle.core_arrivals.proofs.moves.advance.Goals as goal
 
 pub returns-in-Arrive : goal.returns-in-Arrive
 returns-in-Arrive c =

@@ -1,4 +1,0 @@
-pub mod Flags
-pub mod Staying
-pub mod Bounds
-pub mod Follows

@@ -1,4 +1,0 @@
-pub mod Limits
-pub mod Leaving
-pub mod Phases
-pub mod Tallies
