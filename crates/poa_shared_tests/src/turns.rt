@@ -1,7 +1,7 @@
 //! Two writers that take turns, and sleep at bells while it is the other's.
 ghost use Rattle.std.specs.Prelude.{◌≡◌, ◌<◌, ℕ};
 ghost use Rattle.seat_lock.specs.Seats.{view, IsFree, IsSeatOf};
-ghost use Rattle.seat_lock_tests.specs.Notes.{IsWriter};
+ghost use Rattle.poa_shared_tests.specs.Notes.{IsWriter};
 
 use crate::diary::{Diary, Note};
 use crate::shared::{count, enter, write};

@@ -1,7 +1,7 @@
 use Rattle.std.proofs.Common.{rules}
-use Rattle.seat_lock_tests.proofs.Notes.{may_enter, new_writer}
+use Rattle.poa_shared_tests.proofs.Notes.{may_enter, new_writer}
 use Rattle.seat_lock.proofs.Calls.{put_taken}
-use Rattle.seat_lock_tests.proofs.shared.enter.Goals as goal
+use Rattle.poa_shared_tests.proofs.shared.enter.Goals as goal
 
 pub put-requires-clause-history : goal.put-requires-clause-history
 put-requires-clause-history g c = put_taken _ c.args.seat.now.me.0 _ _ c.take-diary.result.notes.items _ c.take-diary.ensures.view.1

@@ -12,8 +12,8 @@ use Rattle.seat_lock.specs.Histories.{In, entering, MayPut}
 use Rattle.seat_lock.specs.Steps.{Knows}
 use Rattle.seat_lock.specs.Views.{turned_to, passed_on}
 use Rattle.seat_lock.proofs.Totals.{at_push, in_last}
-use Rattle.seat_lock_tests.specs.declared.diary.Note.{Note}
-use Rattle.seat_lock_tests.specs.Notes.{note, writer_of, HasWriters, IsNew, IsWriter}
+use Rattle.poa_shared_tests.specs.declared.diary.Note.{Note}
+use Rattle.poa_shared_tests.specs.Notes.{note, writer_of, HasWriters, IsNew, IsWriter}
 
 pub has_push : (notes new : List Note) (n m : ℕ) (e : Note) → new ≡ notes ++ e ∷ [] → HasWriters notes n → n ≤ m → e.writer < m → HasWriters new m
 has_push notes new n m e is h le low x f at = ⊎_elim

@@ -4,7 +4,7 @@ use mathlib.Core.Option.{some}
 use lib.ListN.{get_elem?}
 use Rattle.seat_lock.specs.Histories.{In, IsPrefix, Belongs}
 use Rattle.seat_lock.specs.declared.view.View.{View}
-use Rattle.seat_lock_tests.specs.declared.diary.Note.{Note}
+use Rattle.poa_shared_tests.specs.declared.diary.Note.{Note}
 
 abbrev pub note : ℕ → ℕ → Note
 note w n = record { writer = w; number = n }

@@ -1,6 +1,6 @@
 use Rattle.std.proofs.Common.{rules}
-use Rattle.seat_lock_tests.proofs.Notes.{has_after}
-use Rattle.seat_lock_tests.proofs.diary.Diary.add.Goals as goal
+use Rattle.poa_shared_tests.proofs.Notes.{has_after}
+use Rattle.poa_shared_tests.proofs.diary.Diary.add.Goals as goal
 
 pub invariant_of-self : goal.invariant_of-self
 invariant_of-self c = record {

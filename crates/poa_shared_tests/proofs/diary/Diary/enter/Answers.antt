@@ -1,7 +1,7 @@
 use Rattle.std.proofs.Common.{rules, arith}
-use Rattle.seat_lock_tests.specs.Notes.{note}
-use Rattle.seat_lock_tests.proofs.Notes.{has_push}
-use Rattle.seat_lock_tests.proofs.diary.Diary.enter.Goals as goal
+use Rattle.poa_shared_tests.specs.Notes.{note}
+use Rattle.poa_shared_tests.proofs.Notes.{has_push}
+use Rattle.poa_shared_tests.proofs.diary.Diary.enter.Goals as goal
 
 pub invariant_of-self-2 : goal.invariant_of-self-2
 invariant_of-self-2 c = record {

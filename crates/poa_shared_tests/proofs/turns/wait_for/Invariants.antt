@@ -1,7 +1,7 @@
 use Rattle.std.proofs.Common.{ℕ}
 use Rattle.seat_lock.specs.Seats.{view, IsFree, IsSeatOf}
-use Rattle.seat_lock_tests.specs.Notes.{IsWriter}
-use Rattle.seat_lock_tests.proofs.turns.wait_for.Given as goal
+use Rattle.poa_shared_tests.specs.Notes.{IsWriter}
+use Rattle.poa_shared_tests.proofs.turns.wait_for.Given as goal
 
 abbrev pub invariant-loop : goal.invariant-loop
 invariant-loop g l = record {

@@ -1,7 +1,7 @@
 //! A diary under the lock. Each call takes it once and puts it back once.
 ghost use Rattle.std.specs.Prelude.{◌≡◌, IfOk, OnErr, length, ℕ};
 ghost use Rattle.seat_lock.specs.Seats.{view, IsFree, IsSeatOf};
-ghost use Rattle.seat_lock_tests.specs.Notes.{note, IsWriter, Makes};
+ghost use Rattle.poa_shared_tests.specs.Notes.{note, IsWriter, Makes};
 
 use crate::diary::{Diary, Note};
 use seat_lock::{Seat, SeatLock, WantMemory};

@@ -1,7 +1,7 @@
 use Rattle.std.proofs.Common.{◌≡◌, ◌++◌}
 use Rattle.seat_lock.specs.Seats.{view, IsFree, IsSeatOf}
-use Rattle.seat_lock_tests.specs.Notes.{IsWriter}
-use Rattle.seat_lock_tests.proofs.writers.write_one.Given as goal
+use Rattle.poa_shared_tests.specs.Notes.{IsWriter}
+use Rattle.poa_shared_tests.proofs.writers.write_one.Given as goal
 
 -- the positions kept are those that the seat made here
 abbrev pub invariant-loop-number : goal.invariant-loop-number

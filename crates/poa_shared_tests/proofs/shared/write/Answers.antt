@@ -1,7 +1,7 @@
 use Rattle.std.proofs.Common.{rules, arith}
-use Rattle.seat_lock_tests.proofs.Notes.{may_add, still_writer, writer_low}
+use Rattle.poa_shared_tests.proofs.Notes.{may_add, still_writer, writer_low}
 use Rattle.seat_lock.proofs.Calls.{entered, put_taken}
-use Rattle.seat_lock_tests.proofs.shared.write.Goals as goal
+use Rattle.poa_shared_tests.proofs.shared.write.Goals as goal
 
 pub add-added-requires : goal.add-added-requires
 add-added-requires g c =

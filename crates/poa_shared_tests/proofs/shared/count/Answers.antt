@@ -1,6 +1,6 @@
 use Rattle.std.proofs.Common.{rules, refl, inl}
-use Rattle.seat_lock_tests.proofs.Notes.{still_writer}
-use Rattle.seat_lock_tests.proofs.shared.count.Goals as goal
+use Rattle.poa_shared_tests.proofs.Notes.{still_writer}
+use Rattle.poa_shared_tests.proofs.shared.count.Goals as goal
 
 pub returns-clause-writer : goal.returns-clause-writer
 returns-clause-writer g c =

@@ -1,5 +1,5 @@
 use Rattle.std.proofs.Common.{◌-◌, ◌*◌}
-use Rattle.seat_lock_tests.proofs.writers.+fn-write_all-join+arg3+write_all.Given as goal
+use Rattle.poa_shared_tests.proofs.writers.+fn-write_all-join+arg3+write_all.Given as goal
 
 abbrev pub decreases-join+arg3 : goal.decreases-join+arg3
 decreases-join+arg3 g l = 2 * l.writers - 1

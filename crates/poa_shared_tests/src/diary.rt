@@ -1,6 +1,6 @@
 //! A diary of many writers.
 ghost use Rattle.std.specs.Prelude.{◌≡◌, ◌<◌, ◌≤◌, length};
-ghost use Rattle.seat_lock_tests.specs.Notes.{HasWriters};
+ghost use Rattle.poa_shared_tests.specs.Notes.{HasWriters};
 
 use seat_lock::{Chronicle, WantMemory};
 use std::alloc::Global;
@@ -37,7 +37,7 @@ impl Chronicle for Diary {
 
 impl Diary {
     ghost use Rattle.std.specs.Prelude.{[], ◌∷◌, ◌++◌, IfOk, OnOk, OnErr};
-    ghost use Rattle.seat_lock_tests.specs.Notes.{note, IsNew};
+    ghost use Rattle.poa_shared_tests.specs.Notes.{note, IsNew};
 
     /// A diary with no entry.
     pub fn new(alloc: Global) -> Diary
