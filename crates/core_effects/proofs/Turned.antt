@@ -21,8 +21,8 @@ use Rattle.core_standing.specs.Seen.{seen}
 use Rattle.core_standing.specs.Entries.{stage_at}
 use Rattle.core_settings.specs.declared.settings.Settings.{Settings}
 use Rattle.core_settings.specs.Told.{Tells as SettingsTell}
-use Rattle.core_servants.specs.Comes.{outcome_told}
-use Rattle.core_servants.proofs.RunsHave.{serving_has}
+use Rattle.core_state.specs.Comes.{outcome_told}
+use Rattle.core_state.proofs.RunsHave.{serving_has}
 use Rattle.core_outboxes.specs.Comes.{Comes, HasOutcome, call_at}
 use Rattle.core_state.specs.declared.coming.Coming.{Coming}
 use Rattle.core_state.specs.State.{IsNext, call_spoken, is_turn, outcome_of}

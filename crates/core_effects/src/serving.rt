@@ -9,8 +9,8 @@ ghost use Rattle.core_standing.specs.Seen.{seen};
 ghost use Rattle.core_arrivals.specs.Begun.{only_ends};
 ghost use Rattle.core_effects.specs.Turning as turning;
 
-use core_servants::servant_by;
 use core_standing::Standing;
+use core_state::servant_by;
 use history_standing::Stage;
 use journal_entries::{Entries, EntryView, Row};
 use poa_base::{Config, Entry, Sid, Verdict, WantMemory};

@@ -24,10 +24,10 @@ use Rattle.core_standing.specs.Entries.{stage_at, call_admitted}
 use Rattle.core_state.proofs.Answering.{answers}
 use Rattle.core_settings.specs.declared.settings.Settings.{Settings}
 use Rattle.core_settings.specs.Told.{Tells, may_grow}
-use Rattle.core_servants.specs.Holds.{Holds}
-use Rattle.core_servants.specs.Kept.{kept_in}
-use Rattle.core_servants.specs.Comes.{Comes, worker_of}
-use Rattle.core_servants.proofs.QuietHolds.{quiet_holds, is_quiet}
+use Rattle.core_state.specs.Holds.{Holds}
+use Rattle.core_state.specs.Kept.{kept_in}
+use Rattle.core_state.specs.Comes.{Comes, worker_of}
+use Rattle.core_state.proofs.QuietHolds.{quiet_holds, is_quiet}
 use Rattle.core_state.specs.declared.coming.Coming.{Coming}
 use Rattle.core_state.specs.declared.state.State.{State}
 use Rattle.core_state.specs.State.{IsState, IsNext, call_spoken, serves}

@@ -12,9 +12,9 @@ use Rattle.core_standing.specs.Kept.{KeepsNoneOver, StandsAfter}
 use Rattle.core_standing.specs.Seen.{seen}
 use Rattle.core_standing.specs.Entries.{stage_at}
 use Rattle.core_settings.specs.Told.{Tells}
-use Rattle.core_servants.specs.Holds.{Holds}
-use Rattle.core_servants.specs.Kept.{kept_in}
-use Rattle.core_servants.specs.Comes.{outcome_told}
+use Rattle.core_state.specs.Holds.{Holds}
+use Rattle.core_state.specs.Kept.{kept_in}
+use Rattle.core_state.specs.Comes.{outcome_told}
 use Rattle.core_state.specs.declared.coming.Coming.{Coming}
 use Rattle.core_state.specs.declared.state.State.{State}
 

@@ -5,7 +5,7 @@ ghost use Rattle.history_standing.specs.Logs as logs;
 ghost use Rattle.poa_history.specs.States.{Stored};
 ghost use Rattle.core_settings.specs.Told.{may_grow};
 ghost use Rattle.poa_base.specs.declared.Attempt.{Attempt};
-ghost use Rattle.core_servants.specs.Comes.{may_want};
+ghost use Rattle.core_state.specs.Comes.{may_want};
 ghost use Rattle.core_state.specs.State.{IsNext, IsState, only_ends, outcome_of, serves};
 
 use crate::coming::Coming;
@@ -111,7 +111,7 @@ fn served(
         → OnErr result (IsState config.now run opened past state.new) }
     ensures ends { OnErr result (may_want coming.now.entry.now ≡ true) }
 {
-    let outcome = core_servants::advance(
+    let outcome = crate::servants_follow::advance(
         alloc,
         config,
         coming.entry,

@@ -3,7 +3,7 @@ ghost use Rattle.std.specs.Prelude.{[], IfOk};
 ghost use Rattle.poa_base.specs.Store.{stored as stored_in};
 ghost use Rattle.core_state.specs.State.{IsState};
 
-use core_servants::Servants;
+use crate::servants::Servants;
 use core_settings::Settings;
 use core_standing::Standing;
 use poa_base::{Config, Store, WantMemory};
@@ -27,6 +27,6 @@ pub fn opening(alloc: Global, config: &Config, run: u32, store: &Store) -> Resul
     Ok(State {
         standing: core_standing::opening(alloc, config, run)?,
         settings: core_settings::opening(alloc, config)?,
-        servants: core_servants::opening(alloc, config, store)?,
+        servants: crate::starting::opening(alloc, config, store)?,
     })
 }

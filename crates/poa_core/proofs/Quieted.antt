@@ -14,8 +14,8 @@ use Rattle.core_standing.specs.Entries.{stage_at, changes_nothing}
 use Rattle.core_standing.proofs.Settled.{nothing_changed}
 use Rattle.core_settings.specs.declared.settings.Settings.{Settings}
 use Rattle.core_settings.specs.Told.{Tells}
-use Rattle.core_servants.specs.Kept.{kept_in}
-use Rattle.core_servants.proofs.QuietHolds.{quiet_holds, is_quiet}
+use Rattle.core_state.specs.Kept.{kept_in}
+use Rattle.core_state.proofs.QuietHolds.{quiet_holds, is_quiet}
 use Rattle.core_outboxes.specs.Decided.{Decides}
 use Rattle.core_outboxes.specs.Desk.{WaitIs}
 use Rattle.core_outboxes.specs.Waits.{ordered_by}

@@ -1,5 +1,5 @@
 //! The state in which a fresh servant begins.
-use core_servants::restored;
+use core_state::restored;
 use poa_base::{Items, Kind, State, WantMemory};
 use std::alloc::Global;
 use std::test::Fail;

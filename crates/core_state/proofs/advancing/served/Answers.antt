@@ -1,5 +1,5 @@
-use Rattle.core_servants.specs.Kept.{kept_in}
-use Rattle.core_servants.proofs.Writes.{at_error, unchanged_holds}
+use Rattle.core_state.specs.Kept.{kept_in}
+use Rattle.core_state.proofs.Writes.{at_error, unchanged_holds}
 use Rattle.core_standing.proofs.Overs.{kept_none}
 use Rattle.core_state.proofs.Stated.{comes, serves_no_command, serves_no_call}
 use Rattle.core_state.proofs.advancing.served.Goals as goal

@@ -1,7 +1,0 @@
-use Rattle.std.proofs.Common.{◌≡◌, map, drop}
-use Rattle.poa_base.specs.Rows.{row_seen}
-use Rattle.core_servants.proofs.RowsCopied.{with_rows}
-use Rattle.core_servants.proofs.starting.copied.Given as goal
-
-abbrev pub invariant-loop-row : goal.invariant-loop-row
-invariant-loop-row l = with_rows (map row_seen (drop l.row-index l.row-items)) l.copy ≡ with_rows (map row_seen l.row-items) l.initial.copy

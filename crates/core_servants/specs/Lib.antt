@@ -1,5 +1,0 @@
-pub mod Kept
-pub mod Steps
-pub mod Holds
-pub mod Comes
-pub mod Runs
