@@ -3,11 +3,11 @@ use crate::messages::CALLS;
 use crate::worked_link::WorkedLink;
 use conf_toml::read_config;
 use journal_entries::Row;
-use outside_memory::MemLink;
 use poa_base::{Entry, Session, Store, WantMemory};
 use poa_core::Core;
 use poa_session::serve_link;
 use poa_shared::{Aid, Shared};
+use poad_cases::MemLink;
 use std::alloc::Global;
 use std::sync::{Arc, Wait};
 

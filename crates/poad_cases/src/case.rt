@@ -3,8 +3,9 @@ ghost use Rattle.std.specs.Prelude.{◌≡◌, IfOk, vec_len};
 
 use crate::door_case::DoorCase;
 use crate::link_case::LinkCase;
+use crate::memory_door::MemDoor;
+use crate::signal::Signal;
 use anyhow::{Context, Result};
-use outside_memory::{MemDoor, Signal};
 use poad_cmd::Doors;
 use std::alloc::Global;
 

@@ -1,7 +1,8 @@
 //! What is asked of a door.
 use crate::link_case::LinkCase;
+use crate::memory_door::MemDoor;
+use crate::signal::Signal;
 use anyhow::Result;
-use outside_memory::{MemDoor, Signal};
 use std::alloc::Global;
 
 /// The links that come in at a door, and which calls of it fail.

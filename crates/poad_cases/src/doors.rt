@@ -2,9 +2,10 @@
 use crate::case::Case;
 use crate::door_case::DoorCase;
 use crate::link_case::LinkCase;
+use crate::memory_door::MemDoor;
+use crate::memory_link::MemLink;
 use crate::report::Report;
 use anyhow::Result;
-use outside_memory::{MemDoor, MemLink};
 use poa_base::Session;
 use poad_cmd::Doors;
 use session_laws::Peer;

@@ -1,7 +1,8 @@
 //! What is asked of a link, or of standard input and output.
+use crate::memory_link::MemLink;
+use crate::signal::Signal;
 use anyhow::Result;
 use outside::{MemSink, MemSource};
-use outside_memory::{MemLink, Signal};
 use poa_base::SessionEnd;
 use std::alloc::Global;
 

@@ -1,11 +1,13 @@
 //! The server is run.
 use crate::case::Case;
 use crate::files::File;
+use crate::hold_gate::HoldGate;
 use crate::host::host_of;
+use crate::memory_door::MemDoor;
+use crate::signal::Signal;
 use anyhow::{Result, bail};
 use command_words::plan_of;
 use outside::{Gate, MemFiles, OpenGate, ThreadCrew};
-use outside_memory::{HoldGate, MemDoor, Signal};
 use poad_cmd::{Served, run_serve};
 use std::alloc::Global;
 use std::sync::{Arc, Wait};

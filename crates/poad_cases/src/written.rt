@@ -1,8 +1,8 @@
 //! What is printed of the bytes that were written to links.
+use crate::memory_door::MemDoor;
 use crate::report::Report;
 use anyhow::Result;
 use giop_frame::{Next, frame};
-use outside_memory::MemDoor;
 use poad_cmd::Doors;
 use std::alloc::Global;
 use text_words::{parts, put_octets};

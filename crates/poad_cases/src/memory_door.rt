@@ -22,7 +22,7 @@ pub struct MemDoor {
 
 impl Model for MemDoor {
     ghost use Rattle.std.specs.Prelude.{◌+◌, ◌≤◌, length, vec_len, vec_capacity};
-    ghost use Rattle.outside_memory.specs.Porch.{Porch};
+    ghost use Rattle.poad_cases.specs.Porch.{Porch};
 
     ghost Value = { Porch };
 
