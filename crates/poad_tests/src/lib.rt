@@ -3,6 +3,8 @@
 #![tactic(auto)]
 
 #[cfg(test)]
+mod alarms;
+#[cfg(test)]
 mod fields;
 #[cfg(test)]
 mod journals;
@@ -13,8 +15,14 @@ mod lent;
 #[cfg(test)]
 mod replies;
 #[cfg(test)]
+mod sockets;
+#[cfg(test)]
 mod states;
 #[cfg(test)]
 mod statuses;
 #[cfg(test)]
 mod streams;
+#[cfg(test)]
+mod waiting;
+#[cfg(test)]
+mod worlds;
