@@ -6,7 +6,7 @@ use Rattle.poa_base.specs.declared.Entry.TheVariants.{Entered, Arrive, Filled, L
 use Rattle.history_standing.specs.Arrivals.{arrived_bytes}
 use Rattle.poa_history.specs.Legal.{IsLegal, MayArrive, had_shutdown, is_filled, is_shutdown}
 use Rattle.poa_history.proofs.IdsFew.{few_ids}
-use Rattle.core_arrivals.specs.Limits.{filled_at}
+use Rattle.poa_history.specs.Limits.{filled_at}
 use Rattle.core_arrivals.specs.Tallies.{AreFew}
 
 -- the first `shutdown` passes the limit

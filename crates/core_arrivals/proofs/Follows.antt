@@ -6,7 +6,7 @@ use Rattle.poa_base.specs.declared.Entry.TheVariants.{Entered, Left}
 use Rattle.history_standing.specs.Arrivals.{connections}
 use Rattle.poa_history.specs.Legal.{IsOpen, is_filled, has_left}
 use Rattle.core_arrivals.specs.declared.tally.Tally.{Tally}
-use Rattle.core_arrivals.specs.declared.full.Full.{Full}
+use Rattle.poa_history.specs.declared.full.Full.{Full}
 use Rattle.core_arrivals.specs.Tallies.{IsTally, flag_of}
 use Rattle.core_arrivals.proofs.Bounds.{filled_is}
 use Rattle.core_arrivals.proofs.Flags.{flag_more, flag_set, flag_past}

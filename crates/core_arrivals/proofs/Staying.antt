@@ -6,7 +6,7 @@ use Rattle.poa_base.specs.declared.Entry.TheVariants.{Entered, Left}
 use Rattle.history_standing.specs.Arrivals.{connections}
 use Rattle.poa_history.specs.Legal.{has_left}
 use Rattle.history_standing.specs.Searches.{count_below}
-use Rattle.core_arrivals.specs.Leaving.{is_staying, staying}
+use Rattle.poa_history.specs.Leaving.{is_staying, staying}
 
 -- at most all pass
 pub count_few : (p : ℕ → Bool) (n : ℕ) → count_below p n ≤ n

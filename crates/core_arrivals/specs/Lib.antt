@@ -5,7 +5,4 @@ pub mod Queued
 pub mod Begun
 pub mod Told
 pub mod Answered
-pub mod Limits
-pub mod Leaving
-pub mod Phases
 pub mod Tallies

@@ -6,9 +6,9 @@ use Rattle.poa_base.specs.declared.Entry.TheVariants.{Entered, Admit}
 use Rattle.history_standing.specs.Arrivals.{arrivals, arrived_bytes, call_of, connections}
 use Rattle.poa_history.specs.Legal.{has_left, had_shutdown}
 use Rattle.core_arrivals.specs.declared.tally.Tally.{Tally}
-use Rattle.core_arrivals.specs.Leaving.{is_shut, staying}
-use Rattle.core_arrivals.specs.Limits.{filled_at}
-use Rattle.core_arrivals.specs.Phases.{first_abandoned}
+use Rattle.poa_history.specs.Leaving.{is_shut, staying}
+use Rattle.poa_history.specs.Limits.{filled_at}
+use Rattle.poa_history.specs.Phases.{first_abandoned}
 
 -- the flag of a number; those behind the list are false
 abbrev pub flag_of : List Bool → ℕ → Bool

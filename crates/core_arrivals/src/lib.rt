@@ -5,11 +5,9 @@
 
 pub mod calls;
 mod freeing;
-mod full;
 mod known;
 mod moves;
 mod ordered;
-mod phase;
 mod queries;
 pub mod queue;
 mod tally;
@@ -17,10 +15,8 @@ pub mod workers;
 
 pub use calls::Calls;
 pub use freeing::freed_by;
-pub use full::Full;
 pub use known::Known;
 pub use moves::{advance, is_shutdown};
-pub use phase::Phase;
 pub use queries::{connections, filled, is_open, is_run_over, is_taken, phase_of};
 pub use queue::Queue;
 pub use tally::{Tally, none, reserve};

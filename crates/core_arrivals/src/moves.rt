@@ -5,13 +5,13 @@ ghost use Rattle.poa_base.specs.declared.Entry.{Entry as EntryOf};
 ghost use Rattle.poa_base.specs.declared.Entry.TheVariants.{Entered, Arrive, Filled, Left, Admit, Abandon};
 ghost use Rattle.history_standing.specs.Arrivals as calls;
 ghost use Rattle.poa_history.specs.Legal as legal;
-ghost use Rattle.core_arrivals.specs.Leaving as leaving;
+ghost use Rattle.poa_history.specs.Leaving as leaving;
 ghost use Rattle.core_arrivals.specs.Tallies as tallies;
 ghost use Rattle.core_arrivals.specs.Tallies.{IsTally, HasRoomFor, HasRoomForOne};
 
-use crate::full::Full;
 use crate::tally::Tally;
 use poa_base::{Call, Command, Entry, Verdict};
+use poa_history::Full;
 
 /// Whether a call is the administrator's `shutdown`.
 pub fn is_shutdown(call: &Call) -> bool

@@ -3,16 +3,15 @@ ghost use Rattle.std.specs.Prelude.{◌≡◌, ◌↔◌, ◌+◌, ◌^◌, ◌&
 ghost use Rattle.poa_base.specs.declared.Entry.{Entry};
 ghost use Rattle.history_standing.specs.Arrivals as calls;
 ghost use Rattle.poa_history.specs.Legal as legal;
-ghost use Rattle.core_arrivals.specs.Limits as limits;
-ghost use Rattle.core_arrivals.specs.Leaving as leaving;
-ghost use Rattle.core_arrivals.specs.Phases as phases;
+ghost use Rattle.poa_history.specs.Limits as limits;
+ghost use Rattle.poa_history.specs.Leaving as leaving;
+ghost use Rattle.poa_history.specs.Phases as phases;
 ghost use Rattle.core_arrivals.specs.Tallies.{IsTally, flag_of};
 
-use crate::full::Full;
 use crate::moves::is_shutdown;
-use crate::phase::Phase;
 use crate::tally::Tally;
 use poa_base::Call;
+use poa_history::{Full, Phase};
 
 /// How many bytes a run takes.
 const BYTES: u64 = 1_073_741_824;

@@ -3,8 +3,8 @@ ghost use Rattle.std.specs.Prelude.{◌≡◌, [], List, OnOk};
 ghost use Rattle.poa_base.specs.declared.Entry.{Entry};
 ghost use Rattle.core_arrivals.specs.Tallies.{IsTally, HasRoomForOne};
 
-use crate::full::Full;
 use poa_base::WantMemory;
+use poa_history::Full;
 use std::alloc::Global;
 
 /// What is counted of a run.

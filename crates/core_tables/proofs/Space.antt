@@ -9,9 +9,9 @@ use Rattle.poa_history.specs.Legal.{MayFollow, has_left, is_filled, IsOpen}
 use Rattle.history_standing.specs.Searches.{count_below}
 use Rattle.history_standing.specs.Stages.{is_abandoned}
 use Rattle.core_arrivals.specs.declared.Tally.{Tally}
-use Rattle.core_arrivals.specs.declared.Full.{Full}
+use Rattle.poa_history.specs.declared.Full.{Full}
 use Rattle.core_arrivals.specs.Tallies.{IsTally}
-use Rattle.core_arrivals.specs.Leaving.{staying, is_staying}
+use Rattle.poa_history.specs.Leaving.{staying, is_staying}
 use Rattle.core_arrivals.proofs.Staying.{staying_less}
 use Rattle.core_arrivals.proofs.Follows.{unfilled_is}
 use Rattle.core_state.specs.State.{is_turn}

@@ -33,7 +33,7 @@ use Rattle.history_laws.proofs.RootStays.{root_since}
 use Rattle.history_laws.proofs.Shut.{dying_over}
 use Rattle.history_laws.proofs.Since.{destroyed_since, legal_before}
 use Rattle.history_laws.proofs.Opened.{alone, given, within}
-use Rattle.core_arrivals.specs.Leaving.{is_shut, is_shut_by}
+use Rattle.poa_history.specs.Leaving.{is_shut, is_shut_by}
 use Rattle.poa_history.specs.declared.givens.Givens.{Givens}
 use Rattle.poa_history.specs.GivenRuns.{IsHistory}
 

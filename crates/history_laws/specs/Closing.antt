@@ -10,7 +10,7 @@ use Rattle.history_standing.specs.Stages.{is_abandoned, is_unadmitted}
 use Rattle.poa_history.specs.Turns.{turn}
 use Rattle.history_standing.specs.declared.activation.Activation.{Activation}
 use Rattle.history_standing.specs.Trees.{In}
-use Rattle.core_arrivals.specs.Leaving.{is_shut}
+use Rattle.poa_history.specs.Leaving.{is_shut}
 use Rattle.poa_history.specs.declared.givens.Givens.{Givens}
 use Rattle.poa_history.specs.Owners.{worker_of}
 

@@ -6,7 +6,7 @@ ghost use Rattle.history_standing.specs.Stages.{stage};
 ghost use Rattle.poa_history.specs.Turns.{turn};
 ghost use Rattle.history_standing.specs.declared.stage.Stage.TheVariants.{Free};
 ghost use Rattle.history_laws.specs.Undone.{AreIdle, IsAllOver};
-ghost use Rattle.core_arrivals.specs.Leaving.{is_shut};
+ghost use Rattle.poa_history.specs.Leaving.{is_shut};
 ghost use Rattle.poa_history.specs.declared.givens.Givens.{Givens};
 ghost use Rattle.poa_history.specs.GivenRuns.{IsHistory};
 ghost use Rattle.history_laws.specs.Closing.{HasNoTurn, IsClosed, IsOver};

@@ -7,7 +7,7 @@ use Rattle.poa_base.specs.declared.Entry.TheVariants.{Arrive}
 use Rattle.history_standing.specs.Arrivals.{arrivals, arrived_bytes}
 use Rattle.poa_history.specs.Legal.{IsOpen, IsSize, HasRoom, is_filled, is_shutdown, had_shutdown}
 use Rattle.poa_history.specs.Replies.{asks, number_of}
-use Rattle.core_arrivals.specs.Limits.{has_room, is_taken}
+use Rattle.poa_history.specs.Limits.{has_room, is_taken}
 use Rattle.core_outboxes.specs.declared.desk.Desk.{Desk}
 use Rattle.core_outboxes.specs.declared.owing.Owing.{Owing}
 use Rattle.core_outboxes.specs.Owed.{AreOwed, head_of}

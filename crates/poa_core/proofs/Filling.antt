@@ -5,9 +5,9 @@ use Rattle.poa_base.specs.declared.Entry.{Entry}
 use Rattle.poa_base.specs.declared.Entry.TheVariants.{Filled}
 use Rattle.history_standing.specs.Arrivals.{arrivals, arrived_bytes}
 use Rattle.poa_history.specs.Legal.{IsOpen, IsSize, is_filled}
-use Rattle.core_arrivals.specs.declared.Full.{Full}
+use Rattle.poa_history.specs.declared.Full.{Full}
 use Rattle.core_arrivals.specs.declared.Tally.{Tally}
-use Rattle.core_arrivals.specs.Limits.{has_room, filled_at}
+use Rattle.poa_history.specs.Limits.{has_room, filled_at}
 use Rattle.core_arrivals.specs.Tallies.{IsTally}
 use Rattle.core_arrivals.proofs.Follows.{unfilled_is}
 use Rattle.poa_core.specs.declared.inside.Inside.{Inside}

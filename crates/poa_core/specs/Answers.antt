@@ -14,8 +14,8 @@ use Rattle.history_standing.specs.Searches.{count_below}
 use Rattle.history_standing.specs.Stages.{stage, is_unadmitted, is_abandoned}
 use Rattle.poa_history.specs.Turns.{turn}
 use Rattle.core_arrivals.specs.Begun.{only_ends}
-use Rattle.core_arrivals.specs.Leaving.{is_shut, are_gone}
-pub use Rattle.core_arrivals.specs.Limits.{is_taken, filled_at}
+use Rattle.poa_history.specs.Leaving.{is_shut, are_gone}
+pub use Rattle.poa_history.specs.Limits.{is_taken, filled_at}
 pub use Rattle.core_outboxes.specs.Owed.{head_of}
 use Rattle.poa_history.specs.Life.{Life, with_entry, opened}
 use Rattle.poa_core.specs.declared.enter_fault.EnterFault.{EnterFault}

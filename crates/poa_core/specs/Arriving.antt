@@ -2,7 +2,7 @@
 use Rattle.std.specs.Prelude.{◌≡◌, ℕ, if◌then◌else◌, Option, Some, None}
 use Rattle.poa_base.specs.declared.Call.{Call}
 use Rattle.poa_history.specs.Replies.{asks, number_of}
-use Rattle.core_arrivals.specs.Limits.{filled_at}
+use Rattle.poa_history.specs.Limits.{filled_at}
 use Rattle.core_outboxes.specs.declared.owing.Owing.{Owing}
 use Rattle.core_outboxes.specs.Owed.{head_of}
 use Rattle.poa_history.specs.Life.{Life}

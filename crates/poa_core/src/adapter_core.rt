@@ -1,6 +1,6 @@
 //! The core of the adapter.
 ghost use Rattle.std.specs.Prelude.{◌≡◌, ℕ, ◌≤◌, ◌<◌, List, option_map, reverse, IfOk};
-ghost use Rattle.core_arrivals.specs.Phases.{phase_of};
+ghost use Rattle.poa_history.specs.Phases.{phase_of};
 ghost use Rattle.poa_base.specs.Store.{stored as stored_in};
 ghost use Rattle.poa_policy.specs.Kept.{KeepsRules};
 ghost use Rattle.history_laws.specs.Lasting.{KeepsUpdates, LeavesNothing};
@@ -26,7 +26,7 @@ use crate::enter_fault::EnterFault;
 use crate::inside::Inside;
 use crate::step_out::StepOut;
 use crate::{abandoning, arriving, beginning, collecting, connecting, stepping};
-use core_arrivals::{Full, Phase, queue};
+use core_arrivals::queue;
 use core_outboxes::{Desk, Fresh};
 use core_state::State;
 use core_tables::Tables;
@@ -34,7 +34,7 @@ use history_laws::opening_laws::{lifetimes_are_kept, runs_last};
 use history_standing::nodes;
 use journal_entries::Entries;
 use poa_base::{Call, Config, Entry, Path, Store, WantMemory};
-use poa_history::Givens;
+use poa_history::{Full, Givens, Phase};
 use seat_lock::Chronicle;
 use std::alloc::Global;
 use std::marker::Model;

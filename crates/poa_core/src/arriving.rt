@@ -1,7 +1,7 @@
 //! Calls arrive.
 ghost use Rattle.std.specs.Prelude.{◌≡◌, Option, Some, None, true, false};
 ghost use Rattle.poa_history.specs.Legal.{IsOpen, IsSize};
-ghost use Rattle.core_arrivals.specs.Limits as limits;
+ghost use Rattle.poa_history.specs.Limits as limits;
 ghost use Rattle.core_outboxes.specs.Desk.{HasRoomForOne};
 ghost use Rattle.poa_core.specs.Agrees.{history};
 ghost use Rattle.poa_core.specs.Answers as answers;

@@ -23,6 +23,6 @@ mod taking;
 pub use adapter_core::Core;
 pub use arrive_fault::ArriveFault;
 pub use collected::Collected;
-pub use core_arrivals::Phase;
 pub use enter_fault::EnterFault;
+pub use poa_history::Phase;
 pub use step_out::StepOut;

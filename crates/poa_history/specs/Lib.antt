@@ -19,3 +19,6 @@ pub mod Runs
 pub mod GivenRuns
 pub mod Owners
 pub mod Life
+pub mod Limits
+pub mod Leaving
+pub mod Phases

@@ -3,8 +3,12 @@
 //! The definitions are in `specs/`, over those of `history_standing`.
 #![tactic(auto)]
 
+mod full;
 mod givens;
 pub mod laws;
+mod phase;
 pub mod run_laws;
 
+pub use full::Full;
 pub use givens::Givens;
+pub use phase::Phase;

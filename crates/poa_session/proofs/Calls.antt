@@ -8,7 +8,7 @@ use Rattle.poa_base.specs.declared.SessionEnd.TheVariants.{Limit, WantMemory}
 use Rattle.poa_history.specs.Legal.{is_filled}
 use Rattle.seat_lock.specs.declared.view.View.{View}
 use Rattle.poa_history.specs.declared.Givens.{Givens}
-use Rattle.core_arrivals.specs.Limits.{filled_at}
+use Rattle.poa_history.specs.Limits.{filled_at}
 use Rattle.poa_core.specs.Answers as answers
 use Rattle.poa_history.specs.Life.{Life, life_at, with_entry}
 use Rattle.poa_core.specs.declared.ArriveFault.TheVariants as fault

@@ -10,10 +10,10 @@ use Rattle.poa_history.specs.Legal.{is_filled}
 use Rattle.history_standing.specs.Stages.{is_abandoned}
 use Rattle.seat_lock.specs.declared.view.View.{View}
 use Rattle.poa_history.specs.declared.Givens.{Givens}
-use Rattle.core_arrivals.specs.Leaving.{is_shut}
-use Rattle.core_arrivals.specs.Phases.{first_abandoned, phase_by, phase_of}
-use Rattle.core_arrivals.specs.declared.Phase.{Phase}
-use Rattle.core_arrivals.specs.declared.Phase.TheVariants as phase
+use Rattle.poa_history.specs.Leaving.{is_shut}
+use Rattle.poa_history.specs.Phases.{first_abandoned, phase_by, phase_of}
+use Rattle.poa_history.specs.declared.Phase.{Phase}
+use Rattle.poa_history.specs.declared.Phase.TheVariants as phase
 use Rattle.poa_shared.specs.Seen.{Turns, past}
 use Rattle.poa_session.specs.Stopping.{Looks, Stops}
 

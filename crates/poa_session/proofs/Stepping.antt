@@ -9,7 +9,7 @@ use Rattle.seat_lock.specs.declared.view.View.{View}
 use Rattle.outside.specs.Link.{Shown, Moves}
 use Rattle.outside.proofs.Moving.{moves_in, moves_none}
 use Rattle.poa_history.specs.declared.Givens.{Givens}
-use Rattle.core_arrivals.specs.Leaving.{is_shut}
+use Rattle.poa_history.specs.Leaving.{is_shut}
 use Rattle.poa_shared.specs.Seen.{Owns, past}
 use Rattle.session_laws.specs.declared.Peer.{Peer}
 use Rattle.session_laws.specs.Hearing.{Heard, over}

@@ -6,7 +6,7 @@ use Rattle.poa_base.specs.declared.SessionEnd.TheVariants.{Shut, Abandoned}
 use Rattle.history_standing.specs.Stages.{is_abandoned}
 use Rattle.seat_lock.specs.declared.view.View.{View}
 use Rattle.poa_history.specs.declared.Givens.{Givens}
-use Rattle.core_arrivals.specs.Leaving.{is_shut}
+use Rattle.poa_history.specs.Leaving.{is_shut}
 use Rattle.poa_shared.specs.Seen.{Turns, past}
 use Rattle.session_laws.specs.declared.Peer.{Peer}
 use Rattle.session_laws.specs.Records.{arrived_by, filling_by}

@@ -12,7 +12,7 @@ use Rattle.poa_history.specs.Legal.{has_left}
 use Rattle.history_standing.specs.Searches.{count_below}
 use Rattle.history_standing.specs.Stages.{is_abandoned, is_unadmitted, stage}
 use Rattle.poa_history.specs.Turns.{turn}
-use Rattle.core_arrivals.specs.Leaving.{is_shut, is_staying, are_gone, staying}
+use Rattle.poa_history.specs.Leaving.{is_shut, is_staying, are_gone, staying}
 use Rattle.history_laws.specs.Closing.{IsClosed}
 use Rattle.poa_history.specs.declared.givens.Givens.{Givens}
 use Rattle.poa_core.specs.Answers.{Abandons, Steps, point_of, unadmitted, is_run_over}

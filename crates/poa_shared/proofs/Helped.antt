@@ -13,8 +13,8 @@ use Rattle.poa_shared.proofs.Making.{call_none, call_one, makes_none, makes_thro
 use Rattle.poa_shared.proofs.Seeing.{seen_one}
 use Rattle.poa_shared.proofs.Steps.{turn_own, IsOf}
 use Rattle.poa_history.specs.declared.givens.Givens.{Givens}
-use Rattle.core_arrivals.specs.Phases.{phase_of}
-use Rattle.core_arrivals.specs.declared.phase.Phase.TheVariants.{Running}
+use Rattle.poa_history.specs.Phases.{phase_of}
+use Rattle.poa_history.specs.declared.phase.Phase.TheVariants.{Running}
 use Rattle.seat_lock.specs.Histories.{IsPrefix}
 use Rattle.seat_lock.specs.Seats.{view}
 use Rattle.seat_lock.specs.declared.view.View.{View}

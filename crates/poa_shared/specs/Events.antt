@@ -10,8 +10,8 @@ use Rattle.poa_core.specs.Fits.{FitsItsCall}
 use Rattle.poa_history.specs.Life.{Life, life_at}
 use Rattle.poa_core.specs.declared.collected.Collected.{Collected}
 use Rattle.poa_core.specs.declared.step_out.StepOut.{StepOut}
-use Rattle.core_arrivals.specs.Phases.{phase_of}
-use Rattle.core_arrivals.specs.declared.phase.Phase.TheVariants.{Running}
+use Rattle.poa_history.specs.Phases.{phase_of}
+use Rattle.poa_history.specs.declared.phase.Phase.TheVariants.{Running}
 use Rattle.poa_shared.specs.Seen.{past, Turns}
 
 -- the call found the run as it stood at some history that goes on from what the seat had seen, and did to it what P says

@@ -8,8 +8,8 @@ use Rattle.poa_shared.specs.Making.{Makes}
 use Rattle.poa_history.specs.Life.{Life}
 use Rattle.poa_history.specs.Owners.{worker_of}
 use Rattle.poa_history.specs.declared.givens.Givens.{Givens}
-use Rattle.core_arrivals.specs.Phases.{phase_of}
-use Rattle.core_arrivals.specs.declared.phase.Phase.TheVariants.{Running}
+use Rattle.poa_history.specs.Phases.{phase_of}
+use Rattle.poa_history.specs.declared.phase.Phase.TheVariants.{Running}
 use Rattle.seat_lock.specs.Histories.{IsPrefix}
 use Rattle.seat_lock.specs.Seats.{Seat, view}
 use Rattle.seat_lock.specs.declared.view.View.{View}

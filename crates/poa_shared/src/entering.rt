@@ -2,7 +2,7 @@
 ghost use Rattle.std.specs.Prelude.{◌≡◌, ◌<◌, ℕ, IfOk};
 ghost use Rattle.poa_base.specs.declared.Entry.TheVariants.{Left};
 ghost use Rattle.seat_lock.specs.Seats.{view};
-ghost use Rattle.core_arrivals.specs.Phases.{phase_of};
+ghost use Rattle.poa_history.specs.Phases.{phase_of};
 ghost use Rattle.poa_core.specs.Answers as answers;
 ghost use Rattle.poa_history.specs.Life.{with_entry};
 ghost use Rattle.poa_shared.specs.Events.{Event};

@@ -5,7 +5,7 @@ use Rattle.std.proofs.lemmas.Bool.{true≢false}
 use Rattle.poad_files.specs.declared.status.Status.TheVariants.{Ok as Fine, WantMemory, NoThread, FileFault, ListenFault, Limit}
 use Rattle.std.specs.Option.{is_some, option_or}
 use Rattle.poad_cmd.specs.Ending.{IsLimit, is_for_memory, status_by}
-use Rattle.core_arrivals.specs.declared.full.Full.{Full}
+use Rattle.poa_history.specs.declared.full.Full.{Full}
 use Rattle.serve_run.specs.declared.outcome.Want.{Want}
 use Rattle.serve_run.specs.declared.outcome.Want.TheVariants.{Memory, Thread}
 

@@ -21,8 +21,8 @@ use Rattle.poad_cmd.specs.Serving.{Ends, ServesOn, Tells}
 use Rattle.poad_cmd.proofs.Statuses.{fine_told, limit_is, limit_told, listen_told, no_memory_wanted, none_full, none_short, not_lost, not_short, thread_short, thread_told}
 use Rattle.poa_history.specs.Life.{Life}
 use Rattle.poa_history.specs.declared.givens.Givens.{Givens}
-use Rattle.core_arrivals.specs.Limits.{filled_at}
-use Rattle.core_arrivals.specs.declared.full.Full.{Full}
+use Rattle.poa_history.specs.Limits.{filled_at}
+use Rattle.poa_history.specs.declared.full.Full.{Full}
 use Rattle.serve_run.specs.declared.ran.PieceEnd.{PieceEnd}
 use Rattle.serve_run.specs.declared.ran.PieceEnd.TheVariants.{DoorEnd, DoorFailed, NotRunning, Worked}
 use Rattle.serve_run.specs.Outcomes.{any_failed, is_failed, least_in}

@@ -8,7 +8,7 @@ use Rattle.outside.specs.declared.keeping.Put.{Put}
 use Rattle.outside.specs.declared.keeping.Put.TheVariants as put
 use Rattle.poad_files.specs.declared.status.Status.{Status}
 use Rattle.poad_files.specs.declared.status.Status.TheVariants.{Ok as Fine, WantMemory, NoThread, FileFault, ListenFault, Limit}
-use Rattle.core_arrivals.specs.declared.full.Full.{Full}
+use Rattle.poa_history.specs.declared.full.Full.{Full}
 use Rattle.serve_run.specs.Tours.{Tour}
 use Rattle.serve_run.specs.declared.outcome.Outcome.{Outcome}
 use Rattle.serve_run.specs.declared.outcome.Want.{Want}

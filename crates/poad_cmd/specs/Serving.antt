@@ -16,8 +16,8 @@ use Rattle.poad_cmd.specs.Ending.{AnyRose, EachSteady, IsLimit, status_of}
 use Rattle.poad_cmd.specs.Putting.{PutsJournal}
 use Rattle.poa_history.specs.Life.{Life, givens_of}
 use Rattle.poa_history.specs.declared.givens.Givens.{Givens}
-use Rattle.core_arrivals.specs.Limits.{filled_at}
-use Rattle.core_arrivals.specs.declared.full.Full.{Full}
+use Rattle.poa_history.specs.Limits.{filled_at}
+use Rattle.poa_history.specs.declared.full.Full.{Full}
 use Rattle.serve_run.specs.Outcomes.{least_in}
 use Rattle.serve_run.specs.Running.{IsKeptRun, IsServedRun, IsWholeRun}
 use Rattle.serve_run.specs.Tours.{Tour}

@@ -2,9 +2,9 @@
 ghost use Rattle.std.specs.Prelude.{◌≡◌};
 ghost use Rattle.poad_cmd.specs.Ending as spec;
 
-use core_arrivals::Full;
 use outside::Put;
 use poa_base::WantMemory;
+use poa_history::Full;
 use poad_files::Status;
 use serve_run::{Outcome, Want};
 

@@ -11,7 +11,7 @@ use Rattle.poa_shared.specs.declared.work_end.WorkEnd.{WorkEnd}
 use Rattle.poa_shared.specs.declared.work_end.WorkEnd.TheVariants.{Closed, Stopped, WantMemory}
 use Rattle.poa_shared.proofs.Making.{in_either}
 use Rattle.poa_history.specs.declared.givens.Givens.{Givens}
-use Rattle.core_arrivals.specs.declared.full.Full.{Full}
+use Rattle.poa_history.specs.declared.full.Full.{Full}
 use Rattle.seat_lock.specs.declared.view.View.{View}
 use Rattle.seat_lock.specs.Histories.{In}
 use Rattle.session_laws.specs.declared.peer.Peer.TheVariants.{Administrator}

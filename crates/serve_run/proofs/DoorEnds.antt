@@ -13,10 +13,10 @@ use Rattle.poa_history.specs.Legal.{is_filled}
 use Rattle.history_standing.specs.Stages.{is_abandoned, is_at}
 use Rattle.poa_history.proofs.SettledKept.{or_first, or_second}
 use Rattle.poa_history.specs.declared.givens.Givens.{Givens}
-use Rattle.core_arrivals.specs.Leaving.{is_shut, is_shut_by}
-use Rattle.core_arrivals.specs.Phases.{first_abandoned, phase_by, phase_of}
-use Rattle.core_arrivals.specs.declared.phase.Phase.{Phase}
-use Rattle.core_arrivals.specs.declared.phase.Phase.TheVariants.{Running}
+use Rattle.poa_history.specs.Leaving.{is_shut, is_shut_by}
+use Rattle.poa_history.specs.Phases.{first_abandoned, phase_by, phase_of}
+use Rattle.poa_history.specs.declared.phase.Phase.{Phase}
+use Rattle.poa_history.specs.declared.phase.Phase.TheVariants.{Running}
 use Rattle.std.specs.Option.{option_or}
 use Rattle.seat_lock.specs.declared.view.View.{View}
 use Rattle.seat_lock.specs.Histories.{IsPrefix}

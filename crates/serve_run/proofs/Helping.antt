@@ -12,9 +12,9 @@ use Rattle.poa_shared.proofs.Helped.{help_stays}
 use Rattle.poa_shared.proofs.Making.{makes_all}
 use Rattle.poa_history.specs.declared.givens.Givens.{Givens}
 use Rattle.poa_history.specs.Owners.{worker_of}
-use Rattle.core_arrivals.specs.Leaving.{is_shut}
-use Rattle.core_arrivals.specs.Phases.{first_abandoned, phase_by}
-use Rattle.core_arrivals.specs.declared.phase.Phase.TheVariants.{Running, Shut, Abandoned}
+use Rattle.poa_history.specs.Leaving.{is_shut}
+use Rattle.poa_history.specs.Phases.{first_abandoned, phase_by}
+use Rattle.poa_history.specs.declared.phase.Phase.TheVariants.{Running, Shut, Abandoned}
 use Rattle.seat_lock.specs.declared.view.View.{View}
 use Rattle.seat_lock.specs.Histories.{In, IsPrefix}
 use Rattle.seat_lock.proofs.Calls.{at_prefix}

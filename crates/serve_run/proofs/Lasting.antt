@@ -16,7 +16,7 @@ use Rattle.poa_history.proofs.SettledKept.{or_second}
 use Rattle.poa_history.proofs.StagesFrom.{maker, stage_other}
 use Rattle.history_laws.specs.Closing.{HasNoTurn}
 use Rattle.poa_history.specs.Owners.{worker_of}
-use Rattle.core_arrivals.specs.Leaving.{is_shut, is_shut_by}
+use Rattle.poa_history.specs.Leaving.{is_shut, is_shut_by}
 use Rattle.seat_lock.specs.Histories.{IsPrefix}
 use Rattle.seat_lock.proofs.Histories.{prefix_shorter}
 use Rattle.seat_lock.proofs.Lists.{at_last, at_longer}

@@ -5,10 +5,10 @@ use Rattle.outside.specs.Link.{Shown}
 use Rattle.poa_base.specs.declared.Entry.{Entry}
 use Rattle.poa_shared.specs.Events.{Event}
 use Rattle.poa_history.specs.declared.givens.Givens.{Givens}
-use Rattle.core_arrivals.specs.Phases.{phase_of}
-use Rattle.core_arrivals.specs.declared.phase.Phase.{Phase}
-use Rattle.core_arrivals.specs.declared.phase.Phase.TheVariants.{Running, Full, Shut, Abandoned}
-use Rattle.core_arrivals.specs.declared.full.Full.{Full as FullNumbers}
+use Rattle.poa_history.specs.Phases.{phase_of}
+use Rattle.poa_history.specs.declared.phase.Phase.{Phase}
+use Rattle.poa_history.specs.declared.phase.Phase.TheVariants.{Running, Full, Shut, Abandoned}
+use Rattle.poa_history.specs.declared.full.Full.{Full as FullNumbers}
 use Rattle.seat_lock.specs.declared.view.View.{View}
 use Rattle.session_laws.specs.declared.peer.Peer.{Peer}
 use Rattle.serve_run.specs.Doors.{AsReceived, Attending, DoorServed, ending_of, stop_of}

@@ -6,7 +6,7 @@ use Rattle.outside.specs.Accepting.{Standing}
 use Rattle.outside.specs.Link.{Shown}
 use Rattle.poa_base.specs.declared.Entry.{Entry}
 use Rattle.poa_history.specs.declared.givens.Givens.{Givens}
-use Rattle.core_arrivals.specs.declared.full.Full.{Full}
+use Rattle.poa_history.specs.declared.full.Full.{Full}
 use Rattle.seat_lock.specs.declared.view.View.{View}
 use Rattle.seat_lock.specs.Histories.{IsPrefix}
 use Rattle.session_laws.specs.declared.peer.Peer.{Peer}

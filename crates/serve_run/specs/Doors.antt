@@ -6,10 +6,10 @@ use Rattle.outside.specs.Link.{Shown}
 use Rattle.outside.specs.Told.{IfTold}
 use Rattle.poa_base.specs.declared.Entry.{Entry}
 use Rattle.poa_history.specs.declared.givens.Givens.{Givens}
-use Rattle.core_arrivals.specs.Phases.{phase_of}
-use Rattle.core_arrivals.specs.declared.phase.Phase.{Phase}
-use Rattle.core_arrivals.specs.declared.phase.Phase.TheVariants.{Running}
-use Rattle.core_arrivals.specs.declared.full.Full.{Full}
+use Rattle.poa_history.specs.Phases.{phase_of}
+use Rattle.poa_history.specs.declared.phase.Phase.{Phase}
+use Rattle.poa_history.specs.declared.phase.Phase.TheVariants.{Running}
+use Rattle.poa_history.specs.declared.full.Full.{Full}
 use Rattle.poa_shared.specs.Seen.{past}
 use Rattle.seat_lock.specs.declared.view.View.{View}
 use Rattle.seat_lock.specs.Histories.{IsPrefix}

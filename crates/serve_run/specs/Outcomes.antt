@@ -1,6 +1,6 @@
 -- How a run came off, as its doors and workers tell.
 use Rattle.std.specs.Prelude.{Bool, true, false, ◌||◌, List, [], ◌∷◌, Option, Some, None}
-use Rattle.core_arrivals.specs.declared.full.Full.{Full}
+use Rattle.poa_history.specs.declared.full.Full.{Full}
 use Rattle.serve_run.specs.Refusals.{earlier}
 use Rattle.serve_run.specs.declared.ran.PieceEnd.{PieceEnd}
 use Rattle.poa_shared.specs.declared.work_end.WorkEnd.TheVariants.{Closed}

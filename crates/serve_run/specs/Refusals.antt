@@ -3,7 +3,7 @@ use Rattle.std.specs.Prelude.{ℕ, Bool, ◌&&◌, ◌||◌, ◌==◌, nat_lt, i
 use Rattle.poa_base.specs.declared.Session.{Session}
 use Rattle.poa_base.specs.declared.SessionEnd.{SessionEnd}
 use Rattle.poa_base.specs.declared.SessionEnd.TheVariants.{Limit}
-use Rattle.core_arrivals.specs.declared.full.Full.{Full}
+use Rattle.poa_history.specs.declared.full.Full.{Full}
 use Rattle.serve_run.specs.declared.received.Received.{Received}
 use Rattle.serve_run.specs.declared.received.Received.TheVariants as received
 use Rattle.serve_run.specs.Visits.{Visit}

@@ -22,7 +22,7 @@ use Rattle.history_standing.specs.Trees.{In as IsAmong}
 use Rattle.poa_history.specs.declared.givens.Givens.{Givens}
 use Rattle.poa_history.specs.Owners.{owner_of, worker_of}
 use Rattle.seat_lock.specs.Histories.{times, Belongs, In, IsPrefix}
-use Rattle.core_arrivals.specs.Leaving.{is_shut_by}
+use Rattle.poa_history.specs.Leaving.{is_shut_by}
 use Rattle.session_laws.specs.declared.peer.Peer.{Peer}
 use Rattle.session_laws.specs.Sessions.{Cause, Session}
 use Rattle.serve_run.specs.Visits.{Visit, Passes}

@@ -7,7 +7,7 @@ use Rattle.poa_base.specs.declared.Entry.{Entry}
 use Rattle.poa_shared.specs.declared.shared.Shared.{Shared}
 use Rattle.poa_shared.specs.Helping.{SeatOf}
 use Rattle.poa_history.specs.declared.givens.Givens.{Givens}
-use Rattle.core_arrivals.specs.declared.full.Full.{Full}
+use Rattle.poa_history.specs.declared.full.Full.{Full}
 use Rattle.seat_lock.specs.declared.view.View.{View}
 use Rattle.seat_lock.specs.Steps.{Unites}
 use Rattle.seat_lock.specs.Views.{joined_view}

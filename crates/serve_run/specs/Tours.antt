@@ -9,7 +9,7 @@ use Rattle.poa_base.specs.declared.Entry.{Entry}
 use Rattle.poa_history.specs.declared.givens.Givens.{Givens}
 use Rattle.poa_history.specs.Owners.{worker_of}
 use Rattle.history_laws.specs.Closing.{IsClosed}
-use Rattle.core_arrivals.specs.declared.full.Full.{Full}
+use Rattle.poa_history.specs.declared.full.Full.{Full}
 use Rattle.seat_lock.specs.declared.view.View.{View}
 use Rattle.seat_lock.specs.Histories.{In, IsPrefix}
 use Rattle.session_laws.specs.declared.peer.Peer.{Peer}

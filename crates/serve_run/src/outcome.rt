@@ -4,7 +4,7 @@ ghost use Rattle.serve_run.specs.Outcomes as outcomes;
 
 use crate::ran::PieceEnd;
 use crate::refusing::earlier;
-use core_arrivals::Full;
+use poa_history::Full;
 
 /// For want of what a piece wasn't started.
 #[derive(Clone, Copy, Drop)]

@@ -1,5 +1,5 @@
 //! What comes of a piece.
-use core_arrivals::{Full, Phase};
+use poa_history::{Full, Phase};
 use poa_shared::{Aid, Seat, WorkEnd};
 
 /// How a piece ended.

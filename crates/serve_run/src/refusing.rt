@@ -3,8 +3,8 @@ ghost use Rattle.std.specs.Prelude.{◌≡◌};
 ghost use Rattle.serve_run.specs.Refusals as refusals;
 
 use crate::received::Received;
-use core_arrivals::Full;
 use poa_base::{Session, SessionEnd};
+use poa_history::Full;
 
 /// The numbers with which a connection couldn't enter.
 fn refusal_of(session: &Session) -> Option<Full>

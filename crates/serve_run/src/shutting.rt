@@ -7,9 +7,9 @@ ghost use Rattle.seat_lock.specs.Seats.{view};
 ghost use Rattle.serve_run.specs.Shutting.{Says};
 ghost use Rattle.serve_run.specs.Starting.{IsSameSeat};
 
-use core_arrivals::Phase;
 use poa_base::{Call, Command};
 use poa_core::ArriveFault;
+use poa_history::Phase;
 use poa_shared::{Seat, Shared};
 use std::sync::Wait;
 

@@ -8,8 +8,8 @@ use Rattle.poa_base.specs.declared.SessionEnd.TheVariants.{Shut, Limit, Abandone
 use Rattle.history_standing.specs.Arrivals.{call_of}
 use Rattle.poa_history.specs.Legal.{IsLegal, MayFollow, is_filled}
 use Rattle.history_standing.specs.Stages.{is_abandoned}
-use Rattle.core_arrivals.specs.Leaving.{is_shut, is_shut_by}
-use Rattle.core_arrivals.specs.Limits.{filled_at}
+use Rattle.poa_history.specs.Leaving.{is_shut, is_shut_by}
+use Rattle.poa_history.specs.Limits.{filled_at}
 use Rattle.session_laws.specs.declared.peer.Peer.{Peer}
 use Rattle.session_laws.specs.Hearing.{Heard}
 use Rattle.session_laws.specs.Sessions.{CauseBy}

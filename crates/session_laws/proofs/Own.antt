@@ -5,7 +5,7 @@ use Rattle.poa_base.specs.declared.Entry.{Entry}
 use Rattle.poa_base.specs.declared.Entry.TheVariants.{Entered, Arrive, Filled, Collect}
 use Rattle.poa_history.specs.declared.Givens.{Givens}
 use Rattle.poa_history.specs.Owners.{owner_of}
-use Rattle.core_arrivals.specs.Leaving.{is_shut}
+use Rattle.poa_history.specs.Leaving.{is_shut}
 use Rattle.session_laws.specs.Records.{arrived_by, joined_by, reply_told, places_by, filling_by, is_late_by}
 
 module _ (c : ℕ) (past : List Entry) where

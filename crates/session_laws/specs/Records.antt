@@ -12,7 +12,7 @@ use Rattle.history_standing.specs.Stages.{is_at}
 use Rattle.poa_history.specs.declared.Givens.{Givens}
 use Rattle.poa_history.specs.GivenRuns.{opened}
 use Rattle.poa_history.specs.Owners.{owner_of}
-use Rattle.core_arrivals.specs.Leaving.{is_shut}
+use Rattle.poa_history.specs.Leaving.{is_shut}
 use Rattle.core_outboxes.specs.Owed.{head_of}
 use Rattle.giop_answer.specs.Reply.{reply_bytes}
 use Rattle.text_words.specs.Token.{number, spelled}

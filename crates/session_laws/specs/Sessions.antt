@@ -7,8 +7,8 @@ use Rattle.poa_base.specs.declared.SessionEnd.{SessionEnd}
 use Rattle.poa_base.specs.declared.SessionEnd.TheVariants.{Ended, Shut, ReadFault, WriteFault, Malformed, Truncated, InputLimit, Limit, Abandoned, WantMemory}
 use Rattle.history_standing.specs.Stages.{is_abandoned}
 use Rattle.poa_history.specs.declared.Givens.{Givens}
-use Rattle.core_arrivals.specs.Leaving.{is_shut}
-use Rattle.core_arrivals.specs.Limits.{filled_at}
+use Rattle.poa_history.specs.Leaving.{is_shut}
+use Rattle.poa_history.specs.Limits.{filled_at}
 use Rattle.seat_lock.specs.Histories.{IsPrefix}
 use Rattle.giop_answer.specs.Outgoing.{framed}
 use Rattle.session_laws.specs.declared.peer.Peer.{Peer}

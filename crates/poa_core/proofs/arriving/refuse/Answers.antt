@@ -2,7 +2,7 @@ use Rattle.poa_core.specs.Agrees.{history}
 use Rattle.poa_core.specs.Kept.{life}
 use Rattle.poa_core.proofs.Filling.{was_filled, was_unfilled, filled_then, filled_same, filled_more, filled_now, filled_quiet, filled_room, filled_kept}
 use Rattle.std.proofs.Common.{◌∙◌, ap}
-use Rattle.core_arrivals.specs.Limits.{filled_at}
+use Rattle.poa_history.specs.Limits.{filled_at}
 use Rattle.poa_history.specs.Life.{Life}
 use Rattle.poa_core.proofs.arriving.refuse.Goals as goal
 

@@ -1,6 +1,6 @@
 use Rattle.std.proofs.Common.{ap}
 use Rattle.seat_lock.specs.Seats.{view}
-use Rattle.core_arrivals.specs.declared.Phase.TheVariants.{Abandoned}
+use Rattle.poa_history.specs.declared.Phase.TheVariants.{Abandoned}
 use Rattle.poa_history.specs.Life.{Life}
 use Rattle.poa_session.proofs.Phases.{looks_at}
 use Rattle.poa_session.proofs.paying.look_within.Goals as goal

@@ -1,5 +1,5 @@
 use Rattle.std.proofs.Common.{◌≡◌, inl, refl}
-use Rattle.core_arrivals.specs.Phases.{phase_of}
+use Rattle.poa_history.specs.Phases.{phase_of}
 use Rattle.poa_base.specs.declared.Entry.TheVariants.{Left}
 use Rattle.poa_shared.proofs.Made.{not_longer}
 use Rattle.poa_shared.proofs.Taking.{event, holds_after}

@@ -4,9 +4,9 @@ use Rattle.std.specs.Option.{option_or}
 use Rattle.poa_base.specs.declared.Entry.{Entry}
 use Rattle.poa_base.specs.declared.Entry.TheVariants.{Abandon}
 use Rattle.poa_history.specs.Legal.{is_filled}
-use Rattle.core_arrivals.specs.declared.phase.Phase.{Phase}
-use Rattle.core_arrivals.specs.declared.phase.Phase.TheVariants.{Running, Full, Shut, Abandoned}
-use Rattle.core_arrivals.specs.Leaving.{is_shut}
+use Rattle.poa_history.specs.declared.phase.Phase.{Phase}
+use Rattle.poa_history.specs.declared.phase.Phase.TheVariants.{Running, Full, Shut, Abandoned}
+use Rattle.poa_history.specs.Leaving.{is_shut}
 
 -- the worker that gave the run up first
 abbrev pub first_abandoned : List Entry → Option ℕ
