@@ -14,7 +14,8 @@ use Rattle.core_outboxes.specs.declared.wait.Wait.{Wait}
 use Rattle.core_outboxes.specs.declared.wait.Ordered.{Ordered}
 use Rattle.core_standing.specs.Numbers.{below}
 use Rattle.core_outboxes.specs.Waits.{wait_in, has_come}
-use Rattle.core_outboxes.specs.Owed.{is_owed, head_of}
+use Rattle.core_outboxes.specs.Owed.{is_owed}
+use Rattle.poa_history.specs.Heads.{head_of}
 use Rattle.core_outboxes.specs.Decided.{is_answered_by}
 use Rattle.core_outboxes.specs.Desk.{is_decided}
 use Rattle.core_standing.proofs.Numbers.{filter_twice, in_below}

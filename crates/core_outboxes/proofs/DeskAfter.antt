@@ -25,7 +25,8 @@ use Rattle.core_outboxes.specs.declared.filed.Filed.{Filed as FiledRow}
 use Rattle.core_outboxes.specs.declared.owing.Owing.{Owing}
 use Rattle.core_standing.specs.Numbers.{below, Ascends}
 use Rattle.core_outboxes.specs.Waits.{wait_of, wait_in, ordered_by}
-use Rattle.core_outboxes.specs.Owed.{is_owed, head_of, AreOwed, Owes, IsCurrent, arrivals_of}
+use Rattle.core_outboxes.specs.Owed.{is_owed, AreOwed, Owes, IsCurrent, arrivals_of}
+use Rattle.poa_history.specs.Heads.{head_of}
 use Rattle.core_outboxes.specs.Decided.{answered, AreFiled, IsFiled}
 use Rattle.core_outboxes.specs.Desk.{is_decided, file, waited, IsAlone}
 use Rattle.core_standing.proofs.Numbers.{in_below, ascending}

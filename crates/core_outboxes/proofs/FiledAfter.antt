@@ -22,7 +22,8 @@ use Rattle.core_outboxes.specs.declared.wait.Wait.TheVariants.{Nothing, Quiet, O
 use Rattle.core_outboxes.specs.declared.wait.Ordered.{Ordered}
 use Rattle.core_standing.specs.Numbers.{below}
 use Rattle.core_outboxes.specs.Waits.{is_overtaking, has_come}
-use Rattle.core_outboxes.specs.Owed.{head_of, Owes, IsCurrent}
+use Rattle.core_outboxes.specs.Owed.{Owes, IsCurrent}
+use Rattle.poa_history.specs.Heads.{head_of}
 use Rattle.core_outboxes.specs.Decided.{is_answered_by, answered, IsFiled}
 use Rattle.core_outboxes.specs.Desk.{is_decided, file}
 use Rattle.core_standing.proofs.Numbers.{in_below}

@@ -18,7 +18,8 @@ use Rattle.core_outboxes.specs.declared.owing.Owing.{Owing}
 use Rattle.core_outboxes.specs.declared.wait.Wait.{Wait}
 use Rattle.core_outboxes.specs.declared.wait.Wait.TheVariants.{Nothing, Quiet, Off, Gone}
 use Rattle.core_outboxes.specs.Waits.{wait_of, is_overtaking, manager_ordered, ordered_by, wait_begun}
-use Rattle.core_outboxes.specs.Owed.{head_of, Owes, AreOwed, IsCurrent}
+use Rattle.core_outboxes.specs.Owed.{Owes, AreOwed, IsCurrent}
+use Rattle.poa_history.specs.Heads.{head_of}
 use Rattle.core_outboxes.specs.Desk.{set_wait, waited}
 use Rattle.core_outboxes.proofs.Waiting.{IsOvertaken, overtaken_now}
 use Rattle.core_outboxes.proofs.Deciding.{IsNext, AreRows}

@@ -13,7 +13,7 @@ use Rattle.history_standing.specs.Trees.{In}
 use Rattle.core_outboxes.specs.declared.decision.Decision.{Decision}
 use Rattle.core_outboxes.specs.declared.filed.Filed.{Filed}
 use Rattle.core_standing.specs.Numbers.{below}
-use Rattle.core_outboxes.specs.Owed.{head_of}
+use Rattle.poa_history.specs.Heads.{head_of}
 
 -- the entry decides the arrival, which asks a reply
 abbrev pub is_answered_by : Config → ℕ → Entry → List Entry → ℕ → Bool

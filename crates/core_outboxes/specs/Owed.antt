@@ -1,30 +1,17 @@
 -- The calls that are owed a reply: each asks one, and no entry has decided it.
 use Rattle.std.specs.Prelude.{◌≡◌, ℕ, Bool, false, not, ◌&&◌, List, map, filter, Option, Some, None, is_some}
 use Rattle.poa_base.specs.declared.Config.{Config}
-use Rattle.poa_base.specs.declared.Call.{Call}
-use Rattle.poa_base.specs.declared.Call.TheVariants.{Request, Locate, Line}
-use Rattle.poa_base.specs.declared.Head.{Head}
 use Rattle.poa_base.specs.declared.Entry.{Entry}
 use Rattle.history_standing.specs.Arrivals.{arrivals, call_of, conn_of}
 use Rattle.poa_history.specs.Replies.{asks, decided, number_of}
 use Rattle.poa_history.specs.Settling.{is_overtaken}
 use Rattle.history_standing.specs.Trees.{In}
+use Rattle.poa_history.specs.Heads.{head_of}
 use Rattle.core_outboxes.specs.declared.owing.Owing.{Owing}
 use Rattle.core_outboxes.specs.declared.wait.Wait.{Wait}
 use Rattle.core_outboxes.specs.declared.wait.Wait.TheVariants.{Quiet}
 use Rattle.core_standing.specs.Numbers.{below}
 use Rattle.core_outboxes.specs.Waits.{wait_in}
-
--- a line of an administrator has none
-abbrev pub no_head : Head
-no_head = record { id = 0; minor = 0; little = false; flags = 0; locate = false }
-
--- what the reply needs of the message that it answers
-abbrev pub head_of : Option Call → Head
-head_of (Some (Request head target operation body)) = head
-head_of (Some (Locate head target)) = head
-head_of (Some (Line number command)) = no_head
-head_of None = no_head
 
 abbrev pub is_owed : Config → ℕ → List Entry → ℕ → Bool
 is_owed c run h r = asks (call_of h r) && not (decided c run h r)

@@ -1,6 +1,6 @@
 //! Which calls ask a reply, and what the reply needs of them.
 ghost use Rattle.std.specs.Prelude.{◌≡◌, Some};
-ghost use Rattle.core_outboxes.specs.Owed as owed;
+ghost use Rattle.poa_history.specs.Heads as heads;
 ghost use Rattle.poa_history.specs.Replies as replies;
 
 use poa_base::{Call, Head};
@@ -17,7 +17,7 @@ pub fn asks(call: &Call) -> bool
 
 /// What the reply needs of the message that it answers; the line of an administrator has none.
 pub fn head_of(call: &Call) -> Head
-    ensures { result ≡ owed.head_of (Some call.now) }
+    ensures { result ≡ heads.head_of (Some call.now) }
 {
     match call {
         Call::Request { head, .. } | Call::Locate { head, .. } => *head,

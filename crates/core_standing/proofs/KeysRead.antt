@@ -1,6 +1,7 @@
 -- The key that a target spells is the one that is seen in it.
-use Rattle.std.proofs.Common.{◌≡◌, ◌≢◌, ℕ, List, Option, Some, None, refl, sym, subst}
-use Rattle.std.specs.Prelude.{IfSome, IfNone}
+use Rattle.std.proofs.Common.{◌≡◌, ◌≢◌, ℕ, List, Option, Some, None, Result, Ok, Err, refl, sym, subst}
+use Rattle.std.specs.Prelude.{IfOk, IfErr}
+use Rattle.core.specs.Result.{result_ok}
 use Rattle.poa_base.specs.declared.Key.{Key}
 use Rattle.object_key.specs.Spelling.{key_spelling, IsKey}
 use Rattle.history_standing.specs.Keys.{key_of}
@@ -19,7 +20,7 @@ no_key_is_read bytes none =
     ] refl
 
 -- what is seen is the key that the bytes spell, if there is one
-pub key_is_seen : (view : Option Key) (bytes : List ℕ) → IfSome view (λ key. IsKey key × (key_spelling key ≡ bytes))
-    → IfNone view ((key : Key) → IsKey key → key_spelling key ≢ bytes) → view ≡ key_of bytes
-key_is_seen (Some key) bytes spelled bad = sym (key_is_read key bytes spelled.0 spelled.1)
-key_is_seen None bytes spelled bad = sym (no_key_is_read bytes bad)
+pub key_is_seen : {E : Type 0} (view : Result Key E) (bytes : List ℕ) → IfOk view (λ key. IsKey key × (key_spelling key ≡ bytes))
+    → IfErr view (λ _. (key : Key) → IsKey key → key_spelling key ≢ bytes) → result_ok view ≡ key_of bytes
+key_is_seen (Ok key) bytes spelled bad = sym (key_is_read key bytes spelled.0 spelled.1)
+key_is_seen (Err fault) bytes spelled bad = sym (no_key_is_read bytes bad)

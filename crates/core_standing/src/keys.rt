@@ -15,7 +15,7 @@ use std::alloc::Global;
 pub fn key_of(bytes: &[u8]) -> Option<KeyView<'_>>
     ensures { result ≡ keys.key_of bytes.now }
 {
-    view_key(bytes)
+    view_key(bytes).ok()
 }
 
 /// The key of a call; none where its target gives none, or no spelling of one. Takes no memory.

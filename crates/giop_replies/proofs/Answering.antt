@@ -9,8 +9,8 @@ use Rattle.poa_base.specs.declared.Reply.TheVariants.{Outcome, Forward, Addressi
 use Rattle.giop_msg.specs.declared.Incoming.TheVariants as incoming
 use Rattle.giop_msg.specs.Call.{CallOf}
 use Rattle.giop_answer.specs.Reply.{AnswersHead}
-use Rattle.poa_core.specs.Answers.{head_of}
-use Rattle.poa_core.specs.Fits.{FitsCall, fits_request, fits_locate}
+use Rattle.poa_history.specs.Heads.{head_of}
+use Rattle.poa_history.specs.Fits.{FitsCall, fits_request, fits_locate}
 use Rattle.giop_replies.specs.Calls.{IsHeaded, IsSaid, IsReplyTo}
 
 request_answers : (head : Head) (reply : Reply) → head.locate ≡ false → fits_request reply ≡ true → AnswersHead head reply

@@ -11,8 +11,8 @@ use Rattle.poa_base.specs.declared.Head.{Head}
 use Rattle.poa_base.specs.declared.Reply.{Reply}
 use Rattle.poa_base.specs.declared.Reply.TheVariants.{Outcome, Forward, Addressing, Here, UnknownObject, Answer}
 use Rattle.history_standing.specs.Arrivals.{arrivals, call_of}
-use Rattle.poa_core.specs.Answers.{head_of}
-use Rattle.poa_core.specs.Fits.{FitsCall, fits_line}
+use Rattle.poa_history.specs.Heads.{head_of}
+use Rattle.poa_history.specs.Fits.{FitsCall, fits_line}
 use Rattle.giop_replies.specs.Calls.{Each, IsGivenTo, IsHeaded, IsReplyTo, IsSaid}
 use Rattle.giop_replies.proofs.Answering.{reply_answers}
 

@@ -10,8 +10,8 @@ use Rattle.giop_msg.specs.declared.Incoming.TheVariants as incoming
 use Rattle.giop_msg.specs.Call.{CallOf}
 use Rattle.giop_answer.specs.Reply.{AnswersHead}
 use Rattle.history_standing.specs.Arrivals.{call_of}
-use Rattle.poa_core.specs.Answers.{head_of}
-use Rattle.poa_core.specs.Fits.{FitsCall}
+use Rattle.poa_history.specs.Heads.{head_of}
+use Rattle.poa_history.specs.Fits.{FitsCall}
 
 -- a call of a message: its head has a minor version that a reply can have, and says whether it is a locate
 abbrev pub IsHeaded : Call → Type 0

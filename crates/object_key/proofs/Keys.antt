@@ -46,7 +46,5 @@ nothing_left oid found text left whole read =
     sym (one_oid oid found [] left short_whole short_read (sym whole.begins ∙ read.begins)).1
 
 -- what is seen where a key spells the bytes is that key
-pub seen_back : (seen : Option Key) (bytes : List ℕ) → IfSome seen (λ key. IsKey key × (key_spelling key ≡ bytes))
-    → IfNone seen ((key : Key) → IsKey key → key_spelling key ≢ bytes) → (key : Key) → IsKey key → key_spelling key ≡ bytes → seen ≡ Some key
-seen_back (Some found) bytes spelled bad key fits is = ap (λ k. Some k) (one_key found key spelled.0 fits (spelled.1 ∙ sym is))
-seen_back None bytes spelled bad key fits is = absurd (bad key fits is)
+pub seen_back : (seen : Key) (bytes : List ℕ) → IsKey seen × (key_spelling seen ≡ bytes) → (key : Key) → IsKey key → key_spelling key ≡ bytes → seen ≡ key
+seen_back seen bytes spelled key fits is = one_key seen key spelled.0 fits (spelled.1 ∙ sym is)

@@ -62,10 +62,6 @@ oid_lies key bytes spelled =
     length-append (before key ++ names) len ∙ ap (λ n. n + 2) (length-append (before key) names ∙ ap (λ n. n + length names) (before_names key)) in
     ap (λ b. drop (oid_at key) b) split ∙ drop_at ((before key ++ names) ++ len) key.oid (oid_at key) at
 
-key_lends : (key : Key) (bytes : List ℕ) → key_spelling key ≡ bytes → LendsKey bytes key
+pub key_lends : (key : Key) (bytes : List ℕ) → key_spelling key ≡ bytes → LendsKey bytes key
 key_lends key bytes spelled = record { name = name_lies key bytes spelled; oid = oid_lies key bytes spelled }
 
--- the parts of what is seen lie in the bytes
-pub parts_lie : (seen : Option Key) (bytes : List ℕ) → IfSome seen (λ key. IsKey key × (key_spelling key ≡ bytes)) → IfSome seen (λ key. LendsKey bytes key)
-parts_lie (Some key) bytes spelled = key_lends key bytes spelled.1
-parts_lie None bytes spelled = tt

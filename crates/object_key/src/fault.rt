@@ -4,6 +4,10 @@ ghost use Rattle.object_key.specs.declared.fault.KeyFault.TheVariants.{WantMemor
 
 use std::alloc::{AllocError, AllocFailed};
 
+/// No key has these bytes as its spelling.
+#[derive(Clone, Copy)]
+pub struct BadKey;
+
 /// Why `read_key` gives no key.
 #[derive(Clone, Copy)]
 pub enum KeyFault {

@@ -13,7 +13,7 @@ mod unread;
 mod viewing;
 mod writing;
 
-pub use fault::KeyFault;
+pub use fault::{BadKey, KeyFault};
 pub use key_view::KeyView;
 pub use law::one_spelling;
 pub use path_view::PathView;

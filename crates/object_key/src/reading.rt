@@ -18,7 +18,7 @@ pub fn read_key(alloc: Global, bytes: &[u8]) -> Result<Key, KeyFault>
     ensures back { (key : Key) → IsKey key → key_spelling key ≡ bytes.now
         → MatchResult result (λ found. found ≡ key) (λ fault. fault ≡ KeyFault.WantMemory) }
 {
-    let Some(view) = view_key(bytes) else {
+    let Ok(view) = view_key(bytes) else {
         return Err(KeyFault::BadKey);
     };
     Ok(view.to_key(alloc)?)

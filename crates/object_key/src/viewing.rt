@@ -1,28 +1,32 @@
 //! From octets to a key that is seen where it lies.
-ghost use Rattle.std.specs.Prelude.{◌≡◌, ◌≢◌, ◌++◌, ℕ, List, Some, IfSome, IfNone};
+ghost use Rattle.std.specs.Prelude.{◌≡◌, ◌≢◌, ◌++◌, ℕ, List, Ok, IfOk, IfErr, IfSome, IfNone};
 ghost use Rattle.poa_base.specs.declared.Key.{Key};
 ghost use Rattle.poa_base.specs.Limits.{IsOid, IsName};
 ghost use Rattle.object_key.specs.Spelling.{key_mark, stamp_bytes, name_bytes, path_bytes, oid_bytes, key_spelling, IsStamp, ArePathNames, IsKey};
 ghost use Rattle.object_key.specs.Reading.{KeyReads, ReadsNone, AreNames, names_bytes, names_of};
 ghost use Rattle.object_key.specs.Lent.{LendsKey};
 
+use crate::fault::BadKey;
 use crate::key_view::KeyView;
 use crate::path_view::PathView;
 use crate::unread::Unread;
 use poa_base::Stamp;
 
-/// The key that the bytes spell, seen where it lies: its names and its object id are slices of the bytes. None
-/// where no key is spelled so. Takes no memory.
-pub fn view_key(bytes: &[u8]) -> Option<KeyView<'_>>
+/// The key that the bytes spell, seen where it lies: its names and its object id are slices of the bytes.
+/// `BadKey`: no key is spelled so. Takes no memory.
+pub fn view_key(bytes: &[u8]) -> Result<KeyView<'_>, BadKey>
     // What is seen is a key, and the bytes are its spelling, to the last one.
-    ensures spelled { IfSome result (λ key. IsKey key × (key_spelling key ≡ bytes.now)) }
-    ensures bad { IfNone result ((key : Key) → IsKey key → key_spelling key ≢ bytes.now) }
+    ensures spelled { IfOk result (λ key. IsKey key × (key_spelling key ≡ bytes.now)) }
+    ensures bad { IfErr result (λ _. (key : Key) → IsKey key → key_spelling key ≢ bytes.now) }
     // The spelling of a key is seen as that key.
-    ensures back { (key : Key) → IsKey key → key_spelling key ≡ bytes.now → result ≡ Some key }
+    ensures back { (key : Key) → IsKey key → key_spelling key ≡ bytes.now → result ≡ Ok key }
     // Each part is the slice of the bytes at the place that the spelling gives it.
-    ensures lent { IfSome result (λ key. LendsKey bytes.now key) }
+    ensures lent { IfOk result (λ key. LendsKey bytes.now key) }
 {
-    view_whole(bytes)
+    match view_whole(bytes) {
+        Some(key) => Ok(key),
+        None => Err(BadKey),
+    }
 }
 
 // A key, and nothing behind it.

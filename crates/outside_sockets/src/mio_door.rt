@@ -77,10 +77,13 @@ impl Acceptor for MioDoor {
 
     ghost quiets = { λ d. d.quiets };
 
+    ghost ends = { λ _. 0 };
+
     fn next(&mut self) -> Door<MioLink>
         ensures failed { HasCause self.old.faults self.new.faults (result ≡ Door.Failed) }
         ensures counted { result ≢ Door.Failed → self.new.faults ≡ self.old.faults }
         ensures quiet { HasCause self.old.quiets self.new.quiets (result ≡ Door.Quiet) }
+        ensures ended { HasCause 0 0 (result ≡ Door.End) }
         ensures endless { result ≢ Door.End }
     {
         match self.link() {

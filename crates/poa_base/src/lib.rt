@@ -55,7 +55,7 @@ pub use reference::{Ior, Profile};
 pub use script::ScriptLine;
 pub use servant::{Sid, State};
 pub use session::{Session, SessionEnd};
-pub use stage::{Cause, Point, Waiting};
+pub use stage::{Cause, Point};
 pub use std::alloc::AllocError as WantMemory;
 pub use store::{Row, Store, stores_change_one_place};
 pub use verdict::Verdict;

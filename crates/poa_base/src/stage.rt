@@ -1,4 +1,4 @@
-//! What a worker is at, what an administrator waits for, and what a call is held by.
+//! What a worker is at, and what a call is held by.
 
 /// What a worker is at between two of its turns.
 #[derive(Clone, Copy, Drop)]
@@ -12,17 +12,6 @@ pub enum Point {
     /// This activation was taken out, and its servant is etherealized.
     Etherealizing { activation: u32 },
     Free,
-}
-
-/// What a command with `wait` waits for.
-#[derive(Clone, Copy, Drop)]
-pub enum Waiting {
-    /// Nothing is in flight in the adapters of this manager.
-    Quiet { manager: u32 },
-    /// The same; where it etherealizes, its activations have ended too.
-    Off { manager: u32, etherealize: bool },
-    /// This adapter is gone.
-    Gone { adapter: u32 },
 }
 
 /// What holds a call, so that it is looked at again when that changes.

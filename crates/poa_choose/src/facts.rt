@@ -1,5 +1,5 @@
 //! What the verdict on a request or a locate asks, and what it gives.
-use poa_base::{Cause, Endpoint, Items, ManagerState, Name, PolicySet, SysExc, Verdict};
+use poa_base::{Cause, Endpoint, ManagerState, Name, PolicySet, SysExc, Verdict};
 
 /// What stands about a request or a locate, in the order in which the table of verdicts asks it.
 #[derive(Drop)]
@@ -91,15 +91,4 @@ pub enum Choice {
     Go(Verdict),
     /// The call is held, until its cause changes.
     Held { cause: Option<Cause> },
-}
-
-/// What the waiting commands ask.
-#[derive(Drop)]
-pub struct WaitFacts {
-    /// The managers in whose adapters nothing is in flight.
-    pub quiet: Items<u32>,
-    /// The managers all of whose activations that their deactivation ends are void or finished.
-    pub ended: Items<u32>,
-    /// The adapters that are gone.
-    pub gone: Items<u32>,
 }

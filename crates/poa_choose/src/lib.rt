@@ -9,6 +9,6 @@ mod missing;
 mod refusals;
 mod table;
 
-pub use facts::{Choice, Facts, KeyFact, Located, MapFact, WaitFacts, WalkFact};
+pub use facts::{Choice, Facts, KeyFact, Located, MapFact, WalkFact};
 pub use laws::{locates_run_nothing, servants_run_where_active};
 pub use table::choose;

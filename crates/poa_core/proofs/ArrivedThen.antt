@@ -10,7 +10,8 @@ use Rattle.poa_history.specs.Replies.{asks, number_of}
 use Rattle.poa_history.specs.Limits.{has_room, is_taken}
 use Rattle.core_outboxes.specs.declared.desk.Desk.{Desk}
 use Rattle.core_outboxes.specs.declared.owing.Owing.{Owing}
-use Rattle.core_outboxes.specs.Owed.{AreOwed, head_of}
+use Rattle.core_outboxes.specs.Owed.{AreOwed}
+use Rattle.poa_history.specs.Heads.{head_of}
 use Rattle.core_outboxes.specs.declared.filed.Filed.{Filed}
 use Rattle.core_outboxes.specs.Desk.{Files}
 use Rattle.core_outboxes.proofs.DeskAfter.{new_owes, owed_with, owed_without}

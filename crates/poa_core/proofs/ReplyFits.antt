@@ -40,7 +40,7 @@ use Rattle.poa_history.specs.Verdicts.{verdict_on}
 use Rattle.poa_history.proofs.StepMoves.{chosen_go}
 use Rattle.poa_history.proofs.TurnTells.{IsAdmission, admission_is, trial_is, incarnation_is, run_is}
 use Rattle.poa_history.specs.Runs.{IsRun}
-use Rattle.poa_core.specs.Fits.{FitsCall}
+use Rattle.poa_history.specs.Fits.{FitsCall}
 use Rattle.poa_core.proofs.CommandFits.{for_line, command_fits}
 use Rattle.poa_core.proofs.TableFits.{for_request, for_locate, is_for, row_fits}
 use Rattle.core_effects.proofs.Turned.{manned_before}

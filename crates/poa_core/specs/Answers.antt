@@ -16,7 +16,7 @@ use Rattle.poa_history.specs.Turns.{turn}
 use Rattle.core_arrivals.specs.Begun.{only_ends}
 use Rattle.poa_history.specs.Leaving.{is_shut, are_gone}
 pub use Rattle.poa_history.specs.Limits.{is_taken, filled_at}
-pub use Rattle.core_outboxes.specs.Owed.{head_of}
+use Rattle.poa_history.specs.Heads.{head_of}
 use Rattle.poa_history.specs.Life.{Life, with_entry, opened}
 use Rattle.poa_core.specs.declared.enter_fault.EnterFault.{EnterFault}
 use Rattle.poa_core.specs.declared.enter_fault.EnterFault.TheVariants as enter_fault

@@ -4,7 +4,7 @@ use Rattle.poa_base.specs.declared.Call.{Call}
 use Rattle.poa_history.specs.Replies.{asks, number_of}
 use Rattle.poa_history.specs.Limits.{filled_at}
 use Rattle.core_outboxes.specs.declared.owing.Owing.{Owing}
-use Rattle.core_outboxes.specs.Owed.{head_of}
+use Rattle.poa_history.specs.Heads.{head_of}
 use Rattle.poa_history.specs.Life.{Life}
 use Rattle.poa_core.specs.Answers.{filled_by}
 use Rattle.poa_core.specs.declared.arrive_fault.ArriveFault.{ArriveFault}

@@ -22,3 +22,5 @@ pub mod Life
 pub mod Limits
 pub mod Leaving
 pub mod Phases
+pub mod Fits
+pub mod Heads

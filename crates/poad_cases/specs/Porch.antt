@@ -7,3 +7,4 @@ use Rattle.outside.specs.Accepting.{Standing}
 pub record Porch : Type 0 where
   pub standing : Standing Shown
   pub faults : ℕ
+  pub ends : ℕ

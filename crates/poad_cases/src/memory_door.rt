@@ -16,6 +16,7 @@ pub struct MemDoor {
     failing: Vec<u64>,
     calls: u64,
     faults: u64,
+    ends: u64,
     out: usize,
     back: Vec<(MemLink, Session)>,
 }
@@ -29,6 +30,7 @@ impl Model for MemDoor {
     ghost view = { λ d. record {
       standing = record { left = d.links.items; out = d.out; back = d.back.items };
       faults = d.faults;
+      ends = d.ends;
     } };
 
     ghost invariant = { λ d. length d.links.items + d.out + vec_len d.back ≤ vec_capacity d.back };
@@ -38,7 +40,7 @@ impl MemDoor {
     /// A door to these links. `failing` lists the calls of `next` that fail, counted from 0. `WantMemory` where no
     /// memory was left for those that are given back.
     pub fn new(alloc: Global, links: Vec<MemLink>, failing: Vec<u64>) -> Result<Self, WantMemory>
-        ensures { IfOk result (λ d. d ≡ record { standing = record { left = links.items; out = 0; back = [] }; faults = 0 }) }
+        ensures { IfOk result (λ d. d ≡ record { standing = record { left = links.items; out = 0; back = [] }; faults = 0; ends = 0 }) }
     {
         let back = Vec::with_capacity(alloc, links.len())?;
         Ok(MemDoor {
@@ -46,6 +48,7 @@ impl MemDoor {
             failing,
             calls: 0,
             faults: 0,
+            ends: 0,
             out: 0,
             back,
         })
@@ -68,6 +71,8 @@ impl Acceptor for MemDoor {
 
     ghost quiets = { λ _. 0 };
 
+    ghost ends = { λ d. d.ends };
+
     fn next(&mut self) -> Door<MemLink> {
         let call = self.calls;
         self.calls = call.saturating_add(1);
@@ -76,6 +81,7 @@ impl Acceptor for MemDoor {
             return Door::Failed;
         }
         let Some(link) = self.links.pop_front() else {
+            self.ends = self.ends.saturating_add(1);
             return Door::End;
         };
         self.out += 1;

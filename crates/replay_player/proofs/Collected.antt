@@ -6,7 +6,8 @@ use Rattle.poa_base.specs.declared.Point.{Point}
 use Rattle.poa_base.specs.declared.Reply.{Reply}
 use Rattle.history_standing.specs.Arrivals.{call_of}
 use Rattle.poa_history.specs.Life.{Life, with_entry}
-use Rattle.poa_core.specs.Answers.{Steps, Collects, head_of}
+use Rattle.poa_core.specs.Answers.{Steps, Collects}
+use Rattle.poa_history.specs.Heads.{head_of}
 use Rattle.poa_core.specs.declared.StepOut.TheVariants as step_out
 use Rattle.poa_core.specs.declared.Collected.TheVariants as collected
 use Rattle.replay_player.specs.declared.player.Player.{Player}

@@ -6,7 +6,7 @@ use Rattle.poa_base.specs.declared.Reply.{Reply}
 use Rattle.history_standing.specs.Arrivals.{call_of}
 use Rattle.poa_history.specs.Replies.{next_reply, reply_of}
 use Rattle.poa_history.specs.Life.{Life, with_entry, opened}
-use Rattle.poa_core.specs.Answers.{head_of}
+use Rattle.poa_history.specs.Heads.{head_of}
 
 -- the replies that the connection is owed are collected, and told so, until none is decided
 pub data CollectsAll (say : Head → Reply → List ℕ) (conn : ℕ) : Life → List ℕ → Life → Type 0 where

@@ -6,7 +6,8 @@ use Rattle.poa_base.specs.declared.Reply.{Reply}
 use Rattle.history_standing.specs.Arrivals.{call_of}
 use Rattle.poa_history.specs.Replies.{next_reply, reply_of}
 use Rattle.poa_history.specs.Life.{Life, with_entry, opened}
-use Rattle.poa_core.specs.Answers.{filled_at, head_of}
+use Rattle.poa_core.specs.Answers.{filled_at}
+use Rattle.poa_history.specs.Heads.{head_of}
 use Rattle.replay_player.specs.Lines.{entry_line, reply_line}
 use Rattle.replay_player.specs.declared.full.Full.{Full}
 use Rattle.replay_player.specs.declared.player.Player.{Player}

@@ -13,7 +13,7 @@ use Rattle.poa_history.specs.declared.Givens.{Givens}
 use Rattle.poa_history.specs.GivenRuns.{opened}
 use Rattle.poa_history.specs.Owners.{owner_of}
 use Rattle.poa_history.specs.Leaving.{is_shut}
-use Rattle.core_outboxes.specs.Owed.{head_of}
+use Rattle.poa_history.specs.Heads.{head_of}
 use Rattle.giop_answer.specs.Reply.{reply_bytes}
 use Rattle.text_words.specs.Token.{number, spelled}
 use Rattle.admin_line.specs.Answer.{answer_tokens}

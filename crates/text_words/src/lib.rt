@@ -25,7 +25,7 @@ pub use line_end::{
     alone, last_endpoint, last_long_number, last_name, last_number, nothing, put_endpoint,
 };
 pub use names::{host, is_host, is_name, name};
-pub use object_id::{any_identity, identity, identity_text};
+pub use object_id::{any_identity, identity};
 pub use writing::{
     put_identity, put_minor, put_number, put_octets, put_path, put_signed, put_word,
 };

@@ -1,14 +1,13 @@
 ghost use Rattle.std.specs.Prelude.{◌≡◌, IfOk};
 ghost use Rattle.text_words.specs.WordGives.{WordGives};
 ghost use Rattle.text_words.specs.Identity.{id_of, printed_id_of, short_enough};
-ghost use Rattle.text_words.specs.Token.{Token, spell};
 ghost use Rattle.text_words.specs.Name.{name_of};
 
 use crate::fault::WordFault;
 use crate::hexadecimal::{any_hex, octets, text_behind};
 use crate::names::name;
 use poa_base::{Bytes, Oid};
-use std::alloc::{AllocError, Global};
+use std::alloc::Global;
 
 fn short(bytes: Bytes) -> Result<Oid, WordFault>
     ensures value { WordGives result (short_enough bytes) }
@@ -43,14 +42,4 @@ fn named(alloc: Global, text: &[u8]) -> Result<Oid, WordFault>
 {
     let id = name(alloc, text)?;
     Oid::from_vec(id.into_vec()).ok_or(WordFault::OutOfForm)
-}
-
-/// The text of an object id, as poad prints it.
-pub fn identity_text(alloc: Global, id: &Oid) -> Result<Bytes, AllocError>
-    ensures { IfOk result (λ text. text ≡ spell (Token.identity id.now)) }
-{
-    let digits = hex::encode(alloc, id.as_slice())?;
-    let mut text = Vec::from_slice(alloc, b"h:")?;
-    text.extend_from_slice(digits.as_bytes())?;
-    Ok(Bytes::from_vec(text))
 }

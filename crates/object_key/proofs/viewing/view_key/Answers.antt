@@ -1,9 +1,10 @@
+use Rattle.std.proofs.Common.{Ok, ap}
 use Rattle.object_key.proofs.Keys.{seen_back}
-use Rattle.object_key.proofs.Lent.{parts_lie}
+use Rattle.object_key.proofs.Lent.{key_lends}
 use Rattle.object_key.proofs.viewing.view_key.Goals as goal
 
-pub returns-clause-back : goal.returns-clause-back
-returns-clause-back c = seen_back _ _ c.view_whole.ensures.spelled c.view_whole.ensures.bad
+pub returns-in-Some-clause-back : goal.returns-in-Some-clause-back
+returns-in-Some-clause-back c = λ key fits is. ap (λ k. Ok k) (seen_back c.in-Some.key _ c.in-Some.ensures.spelled key fits is)
 
-pub returns-clause-lent : goal.returns-clause-lent
-returns-clause-lent c = parts_lie _ _ c.view_whole.ensures.spelled
+pub returns-in-Some-clause-lent : goal.returns-in-Some-clause-lent
+returns-in-Some-clause-lent c = key_lends c.in-Some.key _ c.in-Some.ensures.spelled.1
