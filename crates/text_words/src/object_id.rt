@@ -1,6 +1,7 @@
 ghost use Rattle.std.specs.Prelude.{◌≡◌, IfOk};
 ghost use Rattle.text_words.specs.WordGives.{WordGives};
 ghost use Rattle.text_words.specs.Identity.{id_of, printed_id_of, short_enough};
+ghost use Rattle.text_words.specs.Token.{Token, spell};
 ghost use Rattle.text_words.specs.Name.{name_of};
 
 use crate::fault::WordFault;
