@@ -64,4 +64,3 @@ oid_lies key bytes spelled =
 
 pub key_lends : (key : Key) (bytes : List ℕ) → key_spelling key ≡ bytes → LendsKey bytes key
 key_lends key bytes spelled = record { name = name_lies key bytes spelled; oid = oid_lies key bytes spelled }
-
