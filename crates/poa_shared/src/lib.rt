@@ -9,6 +9,7 @@ mod belfry;
 mod bell;
 mod collecting;
 mod entering;
+mod front;
 mod helping;
 mod news;
 mod pause;
@@ -22,8 +23,9 @@ mod working;
 
 pub use aid::Aid;
 pub use bell::Bell;
+pub use front::Front;
 pub use news::News;
 pub use poa_base::WantMemory;
-pub use shared::{Front, Seat, Shared};
+pub use shared::{Seat, Shared};
 pub use work_end::WorkEnd;
 pub use working::work;

@@ -9,29 +9,21 @@ ghost use Rattle.poa_history.specs.Life.{givens_of};
 ghost use Rattle.poa_shared.specs.Seats.{IsIdle};
 
 use crate::belfry::Belfry;
+use crate::front::{Front, Place};
 use poa_base::WantMemory;
 use poa_core::Core;
 use seat_lock::SeatLock;
 use std::alloc::Global;
-use std::hint::spin_loop;
-use std::sync::{Mutex, MutexGuard, Wait};
+use std::sync::Wait;
 
 /// What a thread knows of the one history, and by which it takes part in it. It has no bytes.
 pub type Seat = seat_lock::Seat<Core>;
-
-/// The place before the lock, held. Who holds it finds the lock free, so that many calls of one thread cost one hand-over.
-/// It is let go before a bell is rung, a gate is passed, or bytes are read or written.
-pub type Front<'a> = MutexGuard<'a, ()>;
-
-/// How often one looks for the place before the lock until one sleeps for it. A hold takes a few microseconds, which is less
-/// than it takes to fall asleep and to be woken, so a few callers that wait for each other do so awake.
-const TRIES: u32 = 700;
 
 /// An adapter that many threads share, each through a seat of its own.
 #[derive(Drop)]
 pub struct Shared {
     pub(crate) lock: SeatLock<Core>,
-    pub(crate) front: Mutex<()>,
+    pub(crate) place: Place,
     pub(crate) belfry: Belfry,
 }
 
@@ -45,7 +37,7 @@ impl Shared {
         let (lock, seat) = SeatLock::new(alloc, core)?;
         let shared = Shared {
             lock,
-            front: Mutex::new(()),
+            place: Place::new(),
             belfry,
         };
         Ok((shared, seat))
@@ -53,13 +45,7 @@ impl Shared {
 
     /// Waits for the place before the lock. No clause speaks of it.
     pub fn front<R: Wait>(&self, rt: &R) -> Front<'_> {
-        for _ in 0..TRIES {
-            if let Some(front) = self.front.try_lock() {
-                return front;
-            }
-            spin_loop();
-        }
-        self.front.lock(rt)
+        self.place.hold(rt)
     }
 
     /// A new seat that knows as much and made nothing. It takes one from the room.
