@@ -1,5 +1,5 @@
-//! The configuration of a TOML text, or the fault with the path of the wrong key. docs/FORMATS.md has the
-//! keys, with their defaults and ranges.
+//! The configuration of a TOML text, or the fault with the path of the wrong key: table by table, entry by entry, with
+//! the numbers of their names. docs/FORMATS.md has the keys, with their defaults and ranges.
 #![tactic(auto)]
 
 mod adapter;

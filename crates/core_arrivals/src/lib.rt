@@ -1,6 +1,6 @@
 //! What a journal says of arrivals and workers, kept as tables in place of walks over it: where each call
-//! arrived, which arrivals wait to be admitted and which came when too many waited, and what each worker has
-//! begun; and by them a worker's next entry. Each table takes in the journal's entries one by one.
+//! arrived, which arrivals wait to be admitted and which came when too many waited, what each worker has
+//! begun, and what was counted; and by them a worker's next entry. Each table takes in the journal's entries one by one.
 #![tactic(auto)]
 
 pub mod calls;

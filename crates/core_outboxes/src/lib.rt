@@ -1,5 +1,6 @@
 //! The tables that the adapter's core keeps of calls: those that are owed a reply, with what each command that
-//! waits is waiting for, and the decided replies that aren't collected, in an outbox of each connection.
+//! waits is waiting for, and the decided replies that aren't collected, in an outbox of each connection; and the reply that
+//! an entry fixes for the arrival that it decides.
 #![tactic(auto)]
 
 mod advancing;

@@ -1,5 +1,6 @@
-//! What stands after a history: the adapters, the requests and trials in flight, and the activations. One entry
-//! at a time changes it in place, all of it or nothing, and an entry with which something ends takes no memory.
+//! What stands after a history: the adapters, the requests and trials in flight, and the activations, which stand in the
+//! active object map. One entry at a time changes it in place, all of it or nothing, and an entry with which something ends
+//! takes no memory. What is asked of a history, and of what stands, is here too.
 #![tactic(auto)]
 
 pub mod asked_commands;

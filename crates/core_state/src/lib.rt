@@ -1,5 +1,8 @@
 //! What stands, what is set, and the servants: changed together by an entry of a worker, all of it or nothing. What is
 //! kept of what stands, where activations that are over are forgotten, answers as what stands by the history.
+//!
+//! The servants stand in their states: those of the configuration, and the fresh ones that a servant activator brought; what
+//! is etherealized of these is stored.
 #![tactic(auto)]
 
 mod acting;

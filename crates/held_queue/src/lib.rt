@@ -1,5 +1,7 @@
 //! The requests and locates that wait, by what holds them. A call is asked again only after an entry that may free
 //! what holds it; of the requests that take their turn in an adapter only the first is asked.
+//!
+//! The laws say why that is enough: what holds a call, which entries can end that, and that it stays held else.
 #![tactic(auto)]
 
 mod freed;

@@ -1,5 +1,6 @@
-//! The long laws of histories. What was begun is ended, but for what a manager holds back; and the updates of an
-//! object that a servant activator incarnates are those of one servant that is never taken down.
+//! The long laws of histories, for every run of an accepted configuration: what stands at its start is sound; what was
+//! begun is ended, but for what a manager holds back; the updates of an object that a servant activator incarnates are those
+//! of one servant that is never taken down; and after a `shutdown`, or where a worker has nothing left to do, how a run ends.
 #![tactic(auto)]
 
 pub mod ending_laws;

@@ -1,6 +1,7 @@
 //! What is read off a list of journal entries, and of what stands behind it: arrivals, what each worker has begun, what a
 //! command has set, which adapters and activations have ended, the rule that serves an id, and what a command is answered.
-//! The definitions are in `specs/`; the code here has the data that they speak of.
+//! The adapters that stand are a tree, in one list of nodes in the order of their creation. The definitions are in `specs/`;
+//! the code here has the data that they speak of, and the walk along the path of a key.
 #![tactic(auto)]
 
 mod activation;

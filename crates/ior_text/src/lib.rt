@@ -1,6 +1,7 @@
-//! Interoperable object references as text: `IOR:` and the hexadecimal of an encapsulation (CORBA 3.3
-//! Part 2, 7.6.9), read with a fault that has its place, and written in one form; and the reference of an object
-//! of this server: its type id, and one IIOP profile with the server's endpoint and the object's key (9.7.2).
+//! Interoperable object references and their IIOP profiles (CORBA 3.3 Part 2, 7.6.2 and 9.7.2): read from fields, or seen
+//! where they lie in a message; and as text, `IOR:` and the hexadecimal of an encapsulation (7.6.9), read with a fault that
+//! has its place, and written in one form. The reference of an object of this server has its type id, and one profile with
+//! the server's endpoint and the object's key.
 #![tactic(auto)]
 
 mod body;

@@ -1,7 +1,7 @@
 //! The outside world, as the server sees it: a source of bytes, a sink for bytes, named files, links and where
-//! they come in, each with counts of its faults; jobs, the threads that do them and the gate between their
-//! stages; of sources, sinks and files their forms in memory, for tests; standard input and output; and the
-//! files of the operating system.
+//! they come in, each with counts of its faults; alarms, which end the wait of one who reads; jobs, the threads that do them
+//! and the gate between their stages; of sources, sinks and files their forms in memory, for tests; standard input and
+//! output; and the files of the operating system.
 //!
 //! Each object may tell what it has left or holds, as a meaning for contracts alone. The forms in
 //! memory tell it, and those over the operating system tell nothing.

@@ -1,5 +1,5 @@
-//! The data types of the adapter: what stands in a message, a command, a history and a configuration, the limits of
-//! a run, and the minor codes. Those of `poa_names`, which they are made of, go by their names here too.
+//! The data types of the adapter: names, object ids, paths and keys, endpoints and references, policies, and what stands in
+//! a message, a command, a history and a configuration; the limits of a run, and the minor codes.
 #![tactic(auto)]
 
 mod answer;

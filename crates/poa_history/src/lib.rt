@@ -1,6 +1,6 @@
 //! What a history of journal entries means: which adapters and activations stand after it, which requests
-//! are in flight, what a worker's next entry is, which reply an arrival gets, and when a history is legal.
-//! The definitions are in `specs/`, over those of `history_standing`.
+//! are in flight, what a worker's next entry is, which reply an arrival gets, when a history is legal, what a run was given,
+//! and whose each entry is. The definitions are in `specs/`, over those of `history_standing`.
 #![tactic(auto)]
 
 mod full;

@@ -1,8 +1,9 @@
 //! The text of a run's history, and that of a store: print them, read them.
 //!
 //! A journal is a head line with the number of the run, a line for each row of the opening store, and a line for each
-//! entry; the text of a store, as a state file has it, is the rows alone. `specs/Journal.antt` says what is printed, `specs/Whole.antt` what a text gives: what is printed reads back,
-//! and the first line outside the grammar is told.
+//! entry; the text of a store, as a state file has it, is the rows alone. `specs/Entry.antt` and `specs/Row.antt` say which
+//! words each line has, `specs/Journal.antt` what is printed, `specs/Whole.antt` what a text gives: what is printed reads
+//! back, and the first line outside the grammar is told.
 #![tactic(auto)]
 
 mod entry;

@@ -1,8 +1,10 @@
 //! What the session of a connection is: which calls its peer's bytes hold, which of them the history says arrived, which
-//! replies it says were given, and what was written, by the way in which the session ended.
+//! replies it says were given, and what was written, by the way in which the session ended. A history is taken in the
+//! journal's order here, the oldest entry first. These definitions are no code's: they say the same of every way to read, to
+//! wait and to write.
 //!
-//! A history is taken in the journal's order here, the oldest entry first. The definitions are no code's: they say the
-//! same of every way to read, to wait and to write.
+//! By them a peer is heard piece by piece: the calls that stand whole, however its bytes are cut, and where its input stops.
+//! A client sends messages of GIOP, an administrator lines.
 #![tactic(auto)]
 
 mod ear;
