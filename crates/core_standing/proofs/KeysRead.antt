@@ -1,7 +1,7 @@
 -- The key that a target spells is the one that is seen in it.
-use Rattle.std.proofs.Common.{◌≡◌, ◌≢◌, ℕ, List, Option, Some, None, Result, Ok, Err, refl, sym, subst}
+use Rattle.std.proofs.Common.{◌≡◌, ◌≢◌, ℕ, List, Some, None, Result, Ok, Err, refl, sym, subst}
 use Rattle.std.specs.Prelude.{IfOk, IfErr}
-use Rattle.core.specs.Result.{result_ok}
+use Rattle.std.specs.Result.{result_ok}
 use Rattle.poa_base.specs.declared.Key.{Key}
 use Rattle.object_key.specs.Spelling.{key_spelling, IsKey}
 use Rattle.history_standing.specs.Keys.{key_of}
