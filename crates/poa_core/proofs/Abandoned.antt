@@ -5,10 +5,10 @@ use Rattle.history_standing.specs.Stages.{is_abandoned}
 use Rattle.poa_core.specs.declared.inside.Inside.{Inside}
 use Rattle.poa_core.specs.Agrees.{history}
 use Rattle.poa_core.specs.Noting.{HasRoomForEntry, IsNoted}
-use Rattle.core_tables.specs.ToCome.{stay}
+use Rattle.core_run.specs.ToCome.{stay}
 use Rattle.poa_core.specs.Kept.{IsKept}
 use Rattle.poa_core.proofs.Connected.{brief_room, some_room, less_one}
-use Rattle.core_tables.proofs.Space.{stay_abandoned, stay_going}
+use Rattle.core_run.proofs.Space.{stay_abandoned, stay_going}
 use Rattle.poa_core.proofs.Keeping.{kept_then}
 
 module _ (w : ℕ) (i : Inside) (kept : IsKept i) (low : w < 16) (going : is_abandoned (history i) w ≡ false) where

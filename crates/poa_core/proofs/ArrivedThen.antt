@@ -19,9 +19,9 @@ use Rattle.poa_core.specs.declared.inside.Inside.{Inside}
 use Rattle.poa_core.specs.Arriving.{row_of}
 use Rattle.poa_core.specs.Agrees.{Agrees, history}
 use Rattle.poa_core.specs.Noting.{IsNoted}
-use Rattle.core_tables.specs.ToCome.{stay}
+use Rattle.core_run.specs.ToCome.{stay}
 use Rattle.poa_core.specs.Kept.{IsKept, IsReady, IsQuiet}
-use Rattle.core_tables.proofs.Space.{stay_after}
+use Rattle.core_run.proofs.Space.{stay_after}
 use Rattle.poa_core.proofs.Keeping.{longer}
 use Rattle.poa_core.proofs.Filed.{filed_as, filed_in}
 

@@ -5,12 +5,12 @@ use Rattle.core_outboxes.specs.Owed.{AreOwed}
 use Rattle.core_outboxes.specs.Desk.{Files}
 use Rattle.core_state.specs.State.{IsState}
 use Rattle.poa_core.specs.declared.inside.Inside.{Inside}
-use Rattle.core_tables.specs.Known.{KnowsTables}
+use Rattle.core_run.specs.Known.{KnowsTables}
 use Rattle.poa_core.specs.Agrees.{Agrees, opened_in}
-use Rattle.core_tables.specs.ToCome.{stay}
+use Rattle.core_run.specs.ToCome.{stay}
 use Rattle.poa_core.specs.Kept.{IsKept}
-use Rattle.core_tables.proofs.Endings.{none_begun}
-use Rattle.core_tables.proofs.Space.{stay_is}
+use Rattle.core_run.proofs.Endings.{none_begun}
+use Rattle.core_run.proofs.Space.{stay_is}
 
 -- what is known of what was made
 pub record IsNew (i : Inside) : Type 0 where

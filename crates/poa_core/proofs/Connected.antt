@@ -12,9 +12,9 @@ use Rattle.journal_entries.specs.Rows.{is_brief}
 use Rattle.poa_core.specs.declared.inside.Inside.{Inside}
 use Rattle.poa_core.specs.Agrees.{history}
 use Rattle.poa_core.specs.Noting.{HasRoomForEntry, IsNoted}
-use Rattle.core_tables.specs.ToCome.{stay}
+use Rattle.core_run.specs.ToCome.{stay}
 use Rattle.poa_core.specs.Kept.{IsKept, IsReady, IsQuiet}
-use Rattle.core_tables.proofs.Space.{stay_entered, stay_left, stay_open}
+use Rattle.core_run.proofs.Space.{stay_entered, stay_left, stay_open}
 use Rattle.poa_core.proofs.Filed.{filed_as}
 use Rattle.poa_core.proofs.Keeping.{kept_then}
 

@@ -15,9 +15,9 @@ use Rattle.poa_history.specs.Life.{Life, with_entry}
 use Rattle.poa_core.specs.Answers.{filled_by}
 use Rattle.poa_core.specs.Agrees.{history}
 use Rattle.poa_core.specs.Noting.{HasRoomForEntry, IsNoted}
-use Rattle.core_tables.specs.ToCome.{stay}
+use Rattle.core_run.specs.ToCome.{stay}
 use Rattle.poa_core.specs.Kept.{IsKept, IsQuiet}
-use Rattle.core_tables.proofs.Space.{stay_filled, stay_unfilled}
+use Rattle.core_run.proofs.Space.{stay_filled, stay_unfilled}
 use Rattle.poa_core.proofs.Connected.{brief_room, some_room, less_one}
 use Rattle.poa_core.proofs.Keeping.{kept_then}
 use Rattle.poa_core.proofs.Filed.{filed_as}

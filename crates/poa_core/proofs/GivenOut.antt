@@ -13,10 +13,10 @@ use Rattle.core_outboxes.proofs.Removed.{left_which, left_in}
 use Rattle.poa_core.specs.declared.inside.Inside.{Inside}
 use Rattle.poa_core.specs.Agrees.{history, opened_in}
 use Rattle.poa_core.specs.Noting.{HasRoomForEntry, IsNoted}
-use Rattle.core_tables.specs.ToCome.{stay}
+use Rattle.core_run.specs.ToCome.{stay}
 use Rattle.poa_core.specs.Kept.{IsKept, HasSpace, IsQuiet}
 use Rattle.poa_core.proofs.Connected.{brief_room}
-use Rattle.core_tables.proofs.Space.{stay_after}
+use Rattle.core_run.proofs.Space.{stay_after}
 use Rattle.poa_core.proofs.Keeping.{kept_then, at_most}
 use Rattle.poa_core.proofs.Ready.{desk_kept}
 use Rattle.core_outboxes.proofs.Taken.{none_taken, one_taken}

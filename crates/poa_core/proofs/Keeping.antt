@@ -20,14 +20,14 @@ use Rattle.core_state.specs.declared.coming.Coming.{Coming}
 use Rattle.core_state.specs.State.{is_turn}
 use Rattle.poa_core.specs.declared.inside.Inside.{Inside}
 use Rattle.poa_history.specs.Life.{Life}
-use Rattle.core_tables.specs.Known.{KnowsTables}
+use Rattle.core_run.specs.Known.{KnowsTables}
 use Rattle.poa_core.specs.Agrees.{Agrees, history, opened_in}
-use Rattle.core_tables.specs.ToCome.{is_ending, stay}
-use Rattle.core_effects.specs.Turning.{IsAsked}
+use Rattle.core_run.specs.ToCome.{is_ending, stay}
+use Rattle.core_run.specs.Turning.{IsAsked}
 use Rattle.poa_core.specs.Noting.{IsNoted}
 use Rattle.poa_core.specs.Kept.{IsKept, HasSpace, life, needed}
 use Rattle.core_state.proofs.Stated.{answers_state}
-use Rattle.core_tables.proofs.Space.{stay_turned, stay_ended, turns_arrive_none}
+use Rattle.core_run.proofs.Space.{stay_turned, stay_ended, turns_arrive_none}
 
 -- the history goes on by the entry
 pub longer : (e : Entry) (old new : Inside) → IsNoted e old new → history new ≡ e ∷ history old

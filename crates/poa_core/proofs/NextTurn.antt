@@ -20,7 +20,7 @@ use Rattle.core_standing.specs.Entries.{stage_at}
 use Rattle.core_arrivals.specs.Begun.{worker_of, only_ends}
 use Rattle.core_arrivals.proofs.Staging.{worker_stage}
 use Rattle.core_state.specs.State.{is_turn}
-use Rattle.core_tables.specs.ToCome.{is_ending}
+use Rattle.core_run.specs.ToCome.{is_ending}
 use Rattle.poa_history.specs.Life.{Life}
 use Rattle.poa_core.specs.Answers.{Steps}
 use Rattle.poa_core.specs.declared.step_out.StepOut.{StepOut}

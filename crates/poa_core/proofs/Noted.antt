@@ -9,11 +9,11 @@ use Rattle.core_standing.specs.Seen.{seen}
 use Rattle.core_outboxes.specs.Desk.{Comes}
 use Rattle.core_state.proofs.Stated.{answers_state}
 use Rattle.poa_core.specs.declared.inside.Inside.{Inside}
-use Rattle.core_effects.specs.declared.brought.Brought.{Brought}
+use Rattle.core_run.specs.declared.brought.Brought.{Brought}
 use Rattle.poa_history.specs.Life.{Life, with_entry}
 use Rattle.poa_core.specs.Agrees.{opened_in}
 use Rattle.poa_core.specs.Noting.{IsHalfway}
-use Rattle.core_effects.proofs.Turned.{manned_before}
+use Rattle.core_run.proofs.Turned.{manned_before}
 
 abbrev pub desk_comes : (h : List Entry) (e : Entry) (begun : Stage) (b : Brought) (i : Inside) → IsHalfway h e begun b i
     → Comes i.config e (seen i.state.standing) b.decision b.wait b.ordered i.desk.owing.items

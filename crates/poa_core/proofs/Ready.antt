@@ -8,16 +8,16 @@ use Rattle.core_outboxes.specs.declared.desk.Desk.{Desk}
 use Rattle.core_outboxes.specs.declared.filed.Filed.{Filed}
 use Rattle.core_outboxes.specs.Desk.{Files}
 use Rattle.core_outboxes.specs.Owed.{AreOwed}
-use Rattle.core_tables.specs.declared.tables.Tables.{Tables}
-use Rattle.core_tables.specs.Known.{KnowsTables}
+use Rattle.core_run.specs.declared.tables.Tables.{Tables}
+use Rattle.core_run.specs.Known.{KnowsTables}
 use Rattle.poa_core.specs.Agrees.{Agrees, history}
 use Rattle.poa_core.specs.Noting.{HasRoomForEntry}
 use Rattle.journal_entries.specs.Rows.{HasRoomFor}
-use Rattle.core_tables.specs.ToCome.{is_ending, stay}
+use Rattle.core_run.specs.ToCome.{is_ending, stay}
 use Rattle.poa_core.specs.Kept.{IsKept, HasSpace, needed, to_come}
 use Rattle.poa_core.proofs.Connected.{brief_room, some_room}
-use Rattle.core_tables.proofs.Endings.{by_ending}
-use Rattle.core_tables.proofs.Space.{stay_is, stay_ending}
+use Rattle.core_run.proofs.Endings.{by_ending}
+use Rattle.core_run.proofs.Space.{stay_is, stay_ending}
 use Rattle.poa_core.proofs.Filed.{due_same, filed_in}
 
 -- one that only ends what was begun has had its room since then

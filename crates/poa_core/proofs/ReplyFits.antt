@@ -43,7 +43,7 @@ use Rattle.poa_history.specs.Runs.{IsRun}
 use Rattle.poa_history.specs.Fits.{FitsCall}
 use Rattle.poa_core.proofs.CommandFits.{for_line, command_fits}
 use Rattle.poa_core.proofs.TableFits.{for_request, for_locate, is_for, row_fits}
-use Rattle.core_effects.proofs.Turned.{manned_before}
+use Rattle.core_run.proofs.Turned.{manned_before}
 use Rattle.history_standing.proofs.CallsKept.{arrivals_kept, call_kept}
 
 -- a verdict that a call may get

@@ -11,7 +11,7 @@ use Rattle.held_queue.specs.Held.{AreHeld}
 use Rattle.held_queue.specs.Waiting.{is_waiting}
 use Rattle.core_arrivals.specs.Queued.{is_waiting_line}
 use Rattle.core_state.specs.declared.state.State.{State}
-use Rattle.core_tables.specs.declared.tables.Tables.{Tables}
+use Rattle.core_run.specs.declared.tables.Tables.{Tables}
 use Rattle.poa_history.specs.Life.{Life}
 
 -- what stands after the history of the run

@@ -8,7 +8,7 @@ use Rattle.core_outboxes.specs.Owed.{AreOwed}
 use Rattle.core_outboxes.specs.Decided.{AreFiled}
 use Rattle.core_outboxes.specs.Desk.{HasFiled}
 use Rattle.core_state.specs.State.{IsState}
-use Rattle.core_tables.specs.Known.{KnowsTables}
+use Rattle.core_run.specs.Known.{KnowsTables}
 use Rattle.poa_core.specs.declared.inside.Inside.{Inside}
 
 abbrev pub opened_in : Inside → Stored

@@ -10,8 +10,8 @@ use Rattle.poa_core.specs.declared.inside.Inside.{Inside}
 use Rattle.poa_history.specs.Life.{Life}
 use Rattle.core_outboxes.specs.Owed.{AreOwed}
 use Rattle.core_state.specs.State.{IsState, is_turn}
-use Rattle.core_tables.specs.Known.{KnowsTables}
-use Rattle.core_tables.specs.ToCome.{is_ending, stay}
+use Rattle.core_run.specs.Known.{KnowsTables}
+use Rattle.core_run.specs.ToCome.{is_ending, stay}
 use Rattle.poa_core.specs.Agrees.{Agrees, history, opened_in}
 
 -- how many entries may still come that take no memory: a Collect of each reply, a Left of each connection, one Filled,

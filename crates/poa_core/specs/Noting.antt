@@ -16,12 +16,12 @@ use Rattle.core_arrivals.specs.Tallies.{HasRoomFor as HasRoomForTally}
 use Rattle.journal_entries.specs.Rows.{HasRoomFor}
 use Rattle.core_state.specs.State.{IsState}
 use Rattle.poa_core.specs.declared.inside.Inside.{Inside}
-use Rattle.core_effects.specs.declared.brought.Brought.{Brought}
+use Rattle.core_run.specs.declared.brought.Brought.{Brought}
 use Rattle.poa_history.specs.Life.{with_entry}
-use Rattle.core_tables.specs.Known.{KnowsTables}
+use Rattle.core_run.specs.Known.{KnowsTables}
 use Rattle.poa_core.specs.Agrees.{opened_in, history}
 use Rattle.poa_core.specs.Kept.{life}
-use Rattle.core_effects.specs.Turning.{IsBrought}
+use Rattle.core_run.specs.Turning.{IsBrought}
 
 -- there is room for the entry
 pub record HasRoomForEntry (e : Entry) (i : Inside) : Type 0 where

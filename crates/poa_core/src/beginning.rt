@@ -3,14 +3,14 @@ ghost use Rattle.std.specs.Prelude.{◌≡◌, ◌≤◌, [], IfOk};
 ghost use Rattle.poa_base.specs.Store.{stored as stored_in};
 ghost use Rattle.poa_policy.specs.Kept.{KeepsRules};
 ghost use Rattle.core_state.specs.State.{IsState};
-ghost use Rattle.core_tables.specs.Known.{KnowsTables};
+ghost use Rattle.core_run.specs.Known.{KnowsTables};
 ghost use Rattle.poa_history.specs.Life as lives;
 ghost use Rattle.poa_core.specs.Kept.{IsKept, life};
 
 use crate::inside::Inside;
 use core_outboxes::Desk;
+use core_run::Tables;
 use core_state::State;
-use core_tables::Tables;
 use journal_entries::Entries;
 use poa_base::{Config, Store, WantMemory};
 use std::alloc::Global;

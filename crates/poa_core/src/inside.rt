@@ -1,7 +1,7 @@
 //! What the core keeps of its run.
 use core_outboxes::Desk;
+use core_run::Tables;
 use core_state::State;
-use core_tables::Tables;
 use journal_entries::Entries;
 use poa_base::{Config, Store};
 use std::alloc::Global;

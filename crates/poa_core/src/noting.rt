@@ -3,7 +3,7 @@ ghost use Rattle.poa_core.specs.Agrees.{history};
 ghost use Rattle.poa_core.specs.Noting.{HasRoomForEntry, IsHalfway, IsNoted};
 
 use crate::inside::Inside;
-use core_effects::Brought;
+use core_run::Brought;
 use history_standing::Stage;
 use poa_base::Entry;
 

@@ -5,7 +5,7 @@ ghost use Rattle.poa_core.specs.Kept.{IsQuiet};
 
 use crate::inside::Inside;
 use crate::noting::note;
-use core_effects::Brought;
+use core_run::Brought;
 use held_queue::Freed;
 use history_standing::Stage;
 use poa_base::Entry;

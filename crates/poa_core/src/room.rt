@@ -6,7 +6,7 @@ ghost use Rattle.core_outboxes.specs.Desk.{HasRoomForOne};
 ghost use Rattle.poa_core.specs.Agrees.{history};
 ghost use Rattle.poa_core.specs.Kept.{HasSpace, IsKept, IsReady, life, needed, to_come};
 ghost use Rattle.poa_core.specs.Noting.{HasRoomForEntry};
-ghost use Rattle.core_tables.specs.ToCome as coming;
+ghost use Rattle.core_run.specs.ToCome as coming;
 
 use crate::inside::Inside;
 use poa_base::{Entry, WantMemory};
@@ -16,7 +16,7 @@ use poa_base::{Entry, WantMemory};
 const WORKERS: usize = 32;
 
 /// How many entries may still come that take no memory, and some more; none where that is too many to count.
-#[tactic(auto, using(core_tables::proofs::Endings::workers_few))]
+#[tactic(auto, using(core_run::proofs::Endings::workers_few))]
 fn most(inside: &Inside) -> Option<usize>
     ensures { IsSomeAnd result (λ n. to_come inside.now + 2 ≤ n) ⊎ (result ≡ None) }
 {

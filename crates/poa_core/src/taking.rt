@@ -6,12 +6,12 @@ ghost use Rattle.core_state.specs.State.{is_turn};
 ghost use Rattle.poa_history.specs.Life.{with_entry};
 ghost use Rattle.poa_core.specs.Agrees.{history};
 ghost use Rattle.poa_core.specs.Kept.{IsKept, life};
-ghost use Rattle.core_tables.specs.ToCome.{is_ending};
+ghost use Rattle.core_run.specs.ToCome.{is_ending};
 
 use crate::inside::Inside;
 use crate::noting::note;
 use crate::room::make_room_for;
-use core_effects::{bring, call_at, servant_in};
+use core_run::{bring, call_at, servant_in};
 use core_state::Coming;
 use history_standing::Stage;
 use poa_base::{Entry, WantMemory};

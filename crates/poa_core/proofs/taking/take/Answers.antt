@@ -1,7 +1,7 @@
 use Rattle.std.proofs.Common.{◌≡◌, true, false, ap, ◌∙◌}
 use Rattle.core_arrivals.specs.Begun.{only_ends}
 use Rattle.poa_core.specs.Agrees.{history, opened_in}
-use Rattle.core_tables.proofs.Endings.{ending_stage, ends_only}
+use Rattle.core_run.proofs.Endings.{ending_stage, ends_only}
 use Rattle.poa_core.proofs.Keeping.{asked_then, runs_still, begun_still, left_still, turn_kept}
 use Rattle.poa_core.proofs.Filed.{filed_as}
 use Rattle.poa_core.proofs.taking.take.Goals as goal

@@ -1,5 +1,5 @@
 use Rattle.std.proofs.Common.{subst, sym}
-use Rattle.core_tables.specs.Known.{KnowsTables}
+use Rattle.core_run.specs.Known.{KnowsTables}
 use Rattle.poa_history.specs.Life.{Life}
 use Rattle.poa_core.specs.declared.inside.Inside.{Inside}
 use Rattle.poa_core.specs.Agreeing.{QueuesAgree}

@@ -1,6 +1,0 @@
-use Rattle.std.proofs.Common.{◌≡◌, take, reverse}
-use Rattle.core_effects.specs.Turning as turning
-use Rattle.core_effects.proofs.serving.last_admit.Given as goal
-
-abbrev pub invariant-loop-place : goal.invariant-loop-place
-invariant-loop-place l = turning.last_verdict (reverse (take l.place l.entries.items)) l.arrival ≡ turning.last_verdict (reverse l.entries.items) l.arrival

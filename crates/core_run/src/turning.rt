@@ -1,0 +1,182 @@
+//! The entries that workers make.
+ghost use Rattle.std.specs.Prelude.{◌≡◌, ◌∷◌, ℕ, true, false, List, reverse, option_copied, IfOk, IsOk, OnOk, OnErr};
+ghost use Rattle.poa_history.specs.States.{Stored};
+ghost use Rattle.core_standing.specs.Entries.{stage_at};
+ghost use Rattle.core_arrivals.specs.Placed.{KnowsCalls};
+ghost use Rattle.core_outboxes.specs.Comes.{call_at as the_call_at};
+ghost use Rattle.core_state.specs.State.{IsState, only_ends};
+ghost use Rattle.poa_base.specs.declared.Entry.{Entry as EntryOf};
+ghost use Rattle.core_outboxes.specs.Decided.{Decides};
+ghost use Rattle.core_outboxes.specs.Waits.{call_told};
+ghost use Rattle.core_run.specs.Turning as turning;
+ghost use Rattle.core_run.specs.Turning.{IsAsked, IsBrought};
+
+use crate::brought::Brought;
+use core_arrivals::{Calls, calls, freed_by};
+use core_outboxes::{Decision, decision_of, ordered_by, wait_by};
+use core_standing::workers::arrival_in;
+use core_state::{Coming, State};
+use history_standing::Stage;
+use journal_entries::Entries;
+use poa_base::{Call, Config, Entry, WantMemory};
+use std::alloc::Global;
+
+/// The call of which an entry speaks: that of the arrival that it admits, or that its worker is at.
+pub fn call_at<'a>(
+    entries: &'a Entries,
+    known: &Calls,
+    entry: &Entry,
+    stage: Stage,
+) -> Option<&'a Call>
+    ensures { KnowsCalls (reverse entries.now.items) known.now.places.items → stage ≡ stage_at (reverse entries.now.items) entry.now
+        → option_copied result ≡ the_call_at (reverse entries.now.items) entry.now }
+{
+    let arrival = match entry {
+        Entry::Admit { arrival, .. } => Some(*arrival),
+        _ => arrival_in(stage),
+    };
+    calls::call(entries, known, arrival?)
+}
+
+/// The call that an entry admits or runs.
+fn call_in<'a>(coming: &Coming<'a>) -> Option<&'a Call>
+    ensures { option_copied result ≡ turning.call_in coming.now.entry.now (option_copied coming.now.call) }
+{
+    match coming.entry {
+        Entry::Admit { .. } | Entry::Run { .. } => coming.call,
+        _ => None,
+    }
+}
+
+/// The call that an entry admits.
+fn call_admitted<'a>(coming: &Coming<'a>) -> Option<&'a Call>
+    ensures { (past : List EntryOf) → option_copied coming.now.call ≡ the_call_at past coming.now.entry.now
+        → option_copied result ≡ call_told past coming.now.entry.now }
+{
+    match coming.entry {
+        Entry::Admit { .. } => coming.call,
+        _ => None,
+    }
+}
+
+/// A request runs: its servant acts, and the outcome decides it.
+fn ran(
+    alloc: Global,
+    config: &Config,
+    run: u32,
+    coming: &Coming<'_>,
+    state: &mut State,
+) -> Result<Option<Decision>, WantMemory>
+    requires asked { (limit : ℕ) × (opened : Stored) × (past : List EntryOf)
+        × IsAsked config.now run limit opened past coming.now state.old }
+    requires kind { (w : ℕ) × (coming.now.entry.now ≡ EntryOf.Run w) }
+    ensures ok { (limit : ℕ) (opened : Stored) (past : List EntryOf) → IsAsked config.now run limit opened past coming.now state.old
+        → OnOk result (IsState config.now run opened (coming.now.entry.now ∷ past) state.new) }
+    ensures decides { (limit : ℕ) (opened : Stored) (past : List EntryOf) → IsAsked config.now run limit opened past coming.now state.old
+        → IfOk result (Decides config.now run opened past coming.now.entry.now) }
+    ensures err { (opened : Stored) (past : List EntryOf) → IsState config.now run opened past state.old
+        → OnErr result (IsState config.now run opened past state.new) }
+{
+    let outcome = core_state::advance(alloc, config, run, coming, state)?;
+    decision_of(
+        alloc,
+        config,
+        coming.entry,
+        coming.stage,
+        coming.call,
+        &state.settings,
+        outcome,
+    )
+}
+
+/// Any other entry: what it decides is told by what stood before it.
+#[tactic(auto, using(crate::proofs::Ends::wants_none))]
+fn told(
+    alloc: Global,
+    config: &Config,
+    run: u32,
+    coming: &Coming<'_>,
+    state: &mut State,
+) -> Result<Option<Decision>, WantMemory>
+    requires asked { (limit : ℕ) × (opened : Stored) × (past : List EntryOf)
+        × IsAsked config.now run limit opened past coming.now state.old }
+    requires kind { turning.is_run coming.now.entry.now ≡ false }
+    ensures ok { (limit : ℕ) (opened : Stored) (past : List EntryOf) → IsAsked config.now run limit opened past coming.now state.old
+        → OnOk result (IsState config.now run opened (coming.now.entry.now ∷ past) state.new) }
+    ensures decides { (limit : ℕ) (opened : Stored) (past : List EntryOf) → IsAsked config.now run limit opened past coming.now state.old
+        → IfOk result (Decides config.now run opened past coming.now.entry.now) }
+    ensures err { (opened : Stored) (past : List EntryOf) → IsState config.now run opened past state.old
+        → OnErr result (IsState config.now run opened past state.new) }
+    ensures ends { only_ends coming.now.entry.now ≡ true → IsOk result }
+{
+    let decision = decision_of(
+        alloc,
+        config,
+        coming.entry,
+        coming.stage,
+        coming.call,
+        &state.settings,
+        None,
+    )?;
+    let changing = Coming {
+        call: call_in(coming),
+        ..*coming
+    };
+    core_state::advance(alloc, config, run, &changing, state)?;
+    Ok(decision)
+}
+
+/// An entry of a worker changes what stands, and what it decides is told; or nothing changes.
+fn decide(
+    alloc: Global,
+    config: &Config,
+    run: u32,
+    coming: &Coming<'_>,
+    state: &mut State,
+) -> Result<Option<Decision>, WantMemory>
+    requires { (limit : ℕ) × (opened : Stored) × (past : List EntryOf) × IsAsked config.now run limit opened past coming.now state.old }
+    ensures ok { (limit : ℕ) (opened : Stored) (past : List EntryOf) → IsAsked config.now run limit opened past coming.now state.old
+        → OnOk result (IsState config.now run opened (coming.now.entry.now ∷ past) state.new) }
+    ensures decides { (limit : ℕ) (opened : Stored) (past : List EntryOf) → IsAsked config.now run limit opened past coming.now state.old
+        → IfOk result (Decides config.now run opened past coming.now.entry.now) }
+    ensures err { (opened : Stored) (past : List EntryOf) → IsState config.now run opened past state.old
+        → OnErr result (IsState config.now run opened past state.new) }
+    ensures ends { only_ends coming.now.entry.now ≡ true → IsOk result }
+{
+    match coming.entry {
+        Entry::Run { .. } => ran(alloc, config, run, coming, state),
+        _ => told(alloc, config, run, coming, state),
+    }
+}
+
+/// An entry of a worker changes what stands, and what it brings is told; or nothing changes. One with which what was
+/// begun only ends takes no memory.
+#[tactic(auto, using(crate::proofs::Ends::admits_none))]
+pub fn bring(
+    alloc: Global,
+    config: &Config,
+    run: u32,
+    coming: &Coming<'_>,
+    state: &mut State,
+) -> Result<Brought, WantMemory>
+    requires { (limit : ℕ) × (opened : Stored) × (past : List EntryOf) × IsAsked config.now run limit opened past coming.now state.old }
+    ensures ok { (limit : ℕ) (opened : Stored) (past : List EntryOf) → IsAsked config.now run limit opened past coming.now state.old
+        → OnOk result (IsState config.now run opened (coming.now.entry.now ∷ past) state.new) }
+    ensures brought { (limit : ℕ) (opened : Stored) (past : List EntryOf) → IsAsked config.now run limit opened past coming.now state.old
+        → IfOk result (λ b. IsBrought config.now run opened past coming.now.entry.now b) }
+    ensures err { (opened : Stored) (past : List EntryOf) → IsState config.now run opened past state.old
+        → OnErr result (IsState config.now run opened past state.new) }
+    ensures ends { only_ends coming.now.entry.now ≡ true → IsOk result }
+{
+    let admits = call_admitted(coming);
+    let wait = wait_by(config, &state.standing, coming.entry, admits)?;
+    let ordered = ordered_by(config, coming.entry, admits)?;
+    let freed = freed_by(&state.standing, coming.stage, coming.entry);
+    let decision = decide(alloc, config, run, coming, state)?;
+    Ok(Brought {
+        decision,
+        wait,
+        ordered,
+        freed,
+    })
+}
