@@ -1,3 +1,9 @@
 pub mod Turning
 pub mod Known
 pub mod ToCome
+pub mod Agreeing
+pub mod Agrees
+pub mod Noting
+pub mod Kept
+pub mod Arriving
+pub mod Gives

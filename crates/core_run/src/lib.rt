@@ -1,13 +1,25 @@
-//! An entry of a worker takes effect: the servant of a request that runs is told, what stands, what is set and the
-//! servants change, and what the entry decides, waits for, orders and frees is told. All of it, or nothing.
+//! A run of the adapter: `Run` takes each entry that may follow what has happened, with all that it brings or not at
+//! all, and says which may follow. What it keeps beside its journal agrees with it: what stands, what is set and the
+//! servants; where each call arrived, which calls wait and what holds them, what each worker has begun, and what was
+//! counted; who is owed a reply, and which are decided.
 #![tactic(auto)]
 
+mod abandoning;
+mod arriving;
+mod beginning;
 mod brought;
+mod collecting;
+mod connecting;
+mod inside;
+mod noting;
+mod quieting;
+mod room;
+mod run;
 mod serving;
+mod stepping;
 mod tables;
+mod taking;
 mod turning;
 
-pub use brought::Brought;
-pub use serving::servant_in;
+pub use run::Run;
 pub use tables::Tables;
-pub use turning::{bring, call_at};

@@ -1,16 +1,3 @@
-pub mod Noted
-pub mod Quieted
-pub mod Connected
-pub mod Abandoned
-pub mod Ready
-pub mod Keeping
-pub mod Filed
-pub mod GivenOut
 pub mod NextTurn
-pub mod Filling
-pub mod ArrivedThen
-pub mod Begun
-pub mod Agreed
-pub mod TableFits
-pub mod CommandFits
-pub mod ReplyFits
+mod Filling
+mod Taken

@@ -1,22 +1,16 @@
 //! Workers give the run up.
-ghost use Rattle.std.specs.Prelude.{◌≡◌, ◌<◌};
+ghost use Rattle.std.specs.Prelude.{◌<◌};
 ghost use Rattle.poa_core.specs.Answers as answers;
-ghost use Rattle.poa_core.specs.Kept.{IsKept, life};
 
-use crate::inside::Inside;
-use crate::quieting::quiet;
-use core_arrivals::workers;
-use poa_base::Entry;
+use core_run::Run;
 
 /// A worker below 16 gives the run up; one that did before changes nothing. Takes no memory.
-pub fn abandon(inside: &mut Inside, worker: u32)
-    requires kept { IsKept inside.old }
-    requires worker { worker < 16 }
-    ensures kept { IsKept inside.new }
-    ensures abandoned { answers.Abandons worker (life inside.old) (life inside.new) }
+pub fn abandon(run: &mut Run, worker: u32)
+    requires { worker < 16 }
+    ensures { answers.Abandons worker run.old run.new }
 {
-    if workers::is_abandoned(&inside.tables.workers, worker) {
+    if run.is_abandoned(worker) {
         return;
     }
-    quiet(inside, Entry::Abandon { worker });
+    run.abandon(worker);
 }

@@ -16,22 +16,18 @@ ghost use Rattle.poa_history.specs.Life.{begun, opened, with_entry};
 ghost use Rattle.core_outboxes.specs.Owed.{AreOwed};
 ghost use Rattle.core_state.specs.State.{IsState};
 ghost use Rattle.core_run.specs.Known.{KnowsTables};
-ghost use Rattle.poa_core.specs.Agreeing.{CountsAgree, QueuesAgree, RemovalsAgree};
+ghost use Rattle.core_run.specs.Agreeing.{CountsAgree, QueuesAgree, RemovalsAgree};
 ghost use Rattle.poa_core.specs.Answers as answers;
 ghost use Rattle.poa_core.specs.Fits.{FitsItsCall};
 
 use crate::arrive_fault::ArriveFault;
 use crate::collected::Collected;
 use crate::enter_fault::EnterFault;
-use crate::inside::Inside;
 use crate::step_out::StepOut;
-use crate::{abandoning, arriving, beginning, collecting, connecting, stepping};
-use core_arrivals::queue;
+use crate::{abandoning, arriving, collecting, connecting, stepping};
 use core_outboxes::{Desk, Fresh};
-use core_run::Tables;
+use core_run::{Run, Tables};
 use core_state::State;
-use history_laws::opening_laws::{lifetimes_are_kept, runs_last};
-use history_standing::nodes;
 use journal_entries::Entries;
 use poa_base::{Call, Config, Entry, Path, Store, WantMemory};
 use poa_history::{Full, Givens, Phase};
@@ -39,26 +35,23 @@ use seat_lock::Chronicle;
 use std::alloc::Global;
 use std::marker::Model;
 
-/// The adapter: what a run was given, its journal, and what stands after it. Contracts see the givens and the
-/// history. It is as thin as a pointer, so that a lock hands it on at no cost.
+/// The adapter: its run. Contracts see what the run was given, and its history. It is as thin as a pointer, so that a
+/// lock hands it on at no cost.
 #[derive(Drop)]
 pub struct Core {
-    inside: Box<Inside>,
+    run: Box<Run>,
 }
 
 impl Model for Core {
     ghost use Rattle.std.specs.Coded.{codes};
     ghost use Rattle.poa_base.specs.contracts.store.Store as store;
     ghost use Rattle.poa_history.specs.Life.{Life};
-    ghost use Rattle.poa_core.specs.Kept.{IsKept, life};
 
     ghost Value = { Life };
 
     ghost coded = { Prim.hlevel (codes, store.the_row.coded) };
 
-    ghost view = { λ c. life c.inside.value };
-
-    ghost invariant = { λ c. IsKept c.inside.value };
+    ghost view = { λ c. c.run.value };
 }
 
 /// Under a lock the core stands for its history, in the journal's order.
@@ -92,9 +85,9 @@ impl Core {
         requires limit { (1 ≤ limit) × (limit ≤ 4000000) }
         ensures { IfOk result (λ core. core ≡ begun config run limit store) }
     {
-        let inside = beginning::begin(alloc, config, run, store, limit)?;
+        let run = Run::new(alloc, config, run, store, limit)?;
         Ok(Core {
-            inside: Box::new(alloc, inside)?,
+            run: Box::new(alloc, run)?,
         })
     }
 
@@ -102,7 +95,7 @@ impl Core {
     pub fn enter(&mut self) -> Result<u32, EnterFault>
         ensures { answers.Enters self.old result self.new }
     {
-        connecting::enter(&mut self.inside)
+        connecting::enter(&mut self.run)
     }
 
     /// A call of so many bytes arrives on a connection, and gets its number. `Limit` exactly where the run is
@@ -112,7 +105,7 @@ impl Core {
         requires size { IsSize size }
         ensures { answers.Arrives conn call size self.old result self.new }
     {
-        arriving::arrive(&mut self.inside, conn, call, size)
+        arriving::arrive(&mut self.run, conn, call, size)
     }
 
     /// A worker below 16 makes its next entry. Where it has only to end what it began, that takes no memory.
@@ -120,7 +113,7 @@ impl Core {
         requires { worker < 16 }
         ensures { answers.Steps worker self.old result self.new }
     {
-        stepping::step(&mut self.inside, worker)
+        stepping::step(&mut self.run, worker)
     }
 
     /// A connection that entered is given its next reply, which is one to a call of its kind. It may have left. Takes
@@ -130,7 +123,7 @@ impl Core {
         ensures collects { answers.Collects conn self.old result self.new }
         ensures fits { FitsItsCall self.old.history result }
     {
-        collecting::collect(&mut self.inside, conn)
+        collecting::collect(&mut self.run, conn)
     }
 
     /// A connection leaves; its undecided calls go on. Takes no memory.
@@ -138,7 +131,7 @@ impl Core {
         requires { IsOpen self.old.history conn }
         ensures { self.new ≡ with_entry (Left conn) self.old }
     {
-        connecting::leave(&mut self.inside, conn);
+        self.run.leave(conn);
     }
 
     /// A worker below 16 gives the run up; one that did before changes nothing. Takes no memory.
@@ -146,33 +139,33 @@ impl Core {
         requires { worker < 16 }
         ensures { answers.Abandons worker self.old self.new }
     {
-        abandoning::abandon(&mut self.inside, worker);
+        abandoning::abandon(&mut self.run, worker);
     }
 
     /// How far the run has come.
     pub fn phase(&self) -> Phase
         ensures { result ≡ phase_of self.now.history }
     {
-        core_arrivals::phase_of(&self.tables().tally)
+        self.run.phase()
     }
 
     /// How many calls, and bytes of calls, stood when the run took no more, if it came to that.
     pub fn filled(&self) -> Option<Full>
         ensures { option_map (λ f. (f.arrivals, f.bytes)) result ≡ answers.filled_at self.now.history }
     {
-        core_arrivals::filled(&self.tables().tally)
+        self.run.filled()
     }
 
     /// To whom the last entry gave replies: whom to wake.
     pub fn fresh(&self) -> Fresh {
-        self.desk().outboxes.fresh
+        self.run.fresh()
     }
 
     /// For proofs: the history is that of a run of an accepted configuration, and legal.
     pub fn is_legal(&self)
         ensures { IsRun self.now.config self.now.run self.now.limit self.now.history }
     {
-        let _inside = &self.inside;
+        self.run.keeps_laws();
     }
 
     /// For proofs: the history is legal, keeps the lifetime of every activation, leaves nothing undone, and keeps the
@@ -184,9 +177,7 @@ impl Core {
         ensures undone { LeavesNothing self.now.config self.now.run self.now.history }
         ensures updates { KeepsUpdates self.now.config self.now.run (opened self.now) self.now.history }
     {
-        lifetimes_are_kept();
-        runs_last();
-        let _inside = &self.inside;
+        self.run.keeps_laws();
     }
 
     /// The journal's entries, the oldest first. They are a legal history of a run of an accepted configuration, which keeps
@@ -201,7 +192,7 @@ impl Core {
         ensures updates { KeepsUpdates self.now.config self.now.run (opened self.now) self.now.history }
     {
         self.keeps_laws();
-        &self.inside.entries
+        self.run.entries()
     }
 
     /// What stands, what is set and the servants, as they are kept beside the journal. The requests and trials in
@@ -212,7 +203,7 @@ impl Core {
         ensures removals { RemovalsAgree self.now result.now }
         ensures state { IsState self.now.config self.now.run (opened self.now) self.now.history result.now }
     {
-        &self.inside.state
+        self.run.state()
     }
 
     /// The tables that are kept beside the journal: where each call arrived, which wait, what each worker has begun,
@@ -222,7 +213,7 @@ impl Core {
         ensures queues { QueuesAgree self.now result.now }
         ensures tables { KnowsTables self.now.config self.now.run self.now.history result.now }
     {
-        &self.inside.tables
+        self.run.tables()
     }
 
     /// The desk of replies, as it is kept beside the journal. It has a row for each call that is owed a reply: one that
@@ -230,28 +221,28 @@ impl Core {
     pub fn desk(&self) -> &Desk
         ensures { AreOwed self.now.config self.now.run self.now.history result.now.owing.items }
     {
-        &self.inside.desk
+        self.run.desk()
     }
 
     /// The number of the run.
     pub fn run(&self) -> u32
         ensures { result ≡ self.now.run }
     {
-        self.inside.run
+        self.run.run()
     }
 
     /// The configuration.
     pub fn config(&self) -> &Config
         ensures { result.now ≡ self.now.config }
     {
-        &self.inside.config
+        self.run.config()
     }
 
     /// What was stored when the run began.
     pub fn opening(&self) -> &Store
         ensures { result.now ≡ self.now.opening }
     {
-        &self.inside.opening
+        self.run.opening()
     }
 
     /// What is stored.
@@ -259,21 +250,20 @@ impl Core {
         ensures { (path : List (List ℕ)) (oid : List ℕ)
             → stored_in result.now path oid ≡ stored self.now.config self.now.run (opened self.now) self.now.history path oid }
     {
-        &self.state().servants.store
+        self.run.store()
     }
 
     /// The number of the adapter at a path, also while it is being destroyed; none where there is none.
     pub fn adapter_number(&self, path: &Path) -> Option<u32>
         ensures { result ≡ option_map (λ n. n.number) (node_at (standing self.now.config self.now.run self.now.history).nodes path.now) }
     {
-        let node = nodes::node_at(&self.state().standing.nodes, path.as_slice())?;
-        Some(node.number)
+        self.run.adapter_number(path)
     }
 
     /// How many arrivals are unadmitted.
     pub fn unadmitted(&self) -> u64
         ensures { result ≡ answers.unadmitted self.now.history }
     {
-        queue::count(&self.tables().queue)
+        self.run.unadmitted()
     }
 }

@@ -1,30 +1,22 @@
 //! Connections are given their replies.
-ghost use Rattle.poa_core.specs.Agrees.{history};
-ghost use Rattle.poa_core.specs.Answers.{Collects};
+ghost use Rattle.poa_core.specs.Answers as answers;
 ghost use Rattle.poa_core.specs.Fits.{FitsItsCall};
-ghost use Rattle.poa_core.specs.Kept.{IsKept, life};
 
 use crate::collected::Collected;
-use crate::inside::Inside;
-use crate::quieting::quiet;
-use poa_base::Entry;
+use core_run::Run;
 
-/// A connection is given its next reply. Takes no memory.
-pub fn collect(inside: &mut Inside, conn: u32) -> Collected
-    requires { IsKept inside.old }
-    ensures kept { IsKept inside.new }
-    ensures collected { Collects conn (life inside.old) result (life inside.new) }
-    ensures fits { FitsItsCall (history inside.old) result }
+/// A connection is given its next reply, which is one to a call of its kind. Takes no memory.
+pub fn collect(run: &mut Run, conn: u32) -> Collected
+    ensures collected { answers.Collects conn run.old result run.new }
+    ensures fits { FitsItsCall run.old.history result }
 {
-    let Some(filed) = inside.desk.collect(conn) else {
+    let Some(filed) = run.collect(conn) else {
         return Collected::Nothing {
-            owed: inside.desk.owed(conn),
+            owed: run.owed(conn),
         };
     };
-    let arrival = filed.arrival;
-    quiet(inside, Entry::Collect { conn, arrival });
     Collected::Reply {
-        arrival,
+        arrival: filed.arrival,
         head: filed.head,
         reply: filed.reply,
     }

@@ -1,64 +1,23 @@
-//! Connections enter and leave.
-ghost use Rattle.std.specs.Prelude.{◌≡◌, List, if◌then◌else◌, nat_lt, Some, None};
-ghost use Rattle.poa_base.specs.declared.Entry.{Entry as EntryOf};
-ghost use Rattle.poa_base.specs.declared.Entry.TheVariants.{Left};
-ghost use Rattle.history_standing.specs.Arrivals.{connections};
-ghost use Rattle.poa_history.specs.Legal.{IsOpen};
-ghost use Rattle.core_arrivals.specs.Tallies.{IsTally};
-ghost use Rattle.poa_history.specs.Life.{with_entry};
-ghost use Rattle.poa_core.specs.Agrees.{history};
-ghost use Rattle.poa_core.specs.Answers.{Enters};
-ghost use Rattle.poa_core.specs.Kept.{IsKept, life};
+//! Connections enter.
+ghost use Rattle.poa_core.specs.Answers as answers;
 
 use crate::enter_fault::EnterFault;
-use crate::inside::Inside;
-use crate::quieting::quiet;
-use crate::room::make_room;
-use core_arrivals::Tally;
-use poa_base::Entry;
-
-/// How many connections a run has at most.
-const CONNECTIONS: u64 = 4_000_000;
-
-/// The number of the next connection; none where the run had all that it may.
-fn next_number(tally: &Tally) -> Option<u32>
-    ensures { (h : List EntryOf) → IsTally h tally.now → result ≡ (if nat_lt (connections h) 4000000 then Some (connections h) else None) }
-{
-    let conns = core_arrivals::connections(tally);
-    if conns < CONNECTIONS {
-        u32::try_from(conns).ok()
-    } else {
-        None
-    }
-}
+use core_run::Run;
 
 /// A connection enters, and gets its number; or nothing changes.
-pub fn enter(inside: &mut Inside) -> Result<u32, EnterFault>
-    requires { IsKept inside.old }
-    ensures kept { IsKept inside.new }
-    ensures entered { Enters (life inside.old) result (life inside.new) }
+pub fn enter(run: &mut Run) -> Result<u32, EnterFault>
+    ensures { answers.Enters run.old result run.new }
 {
-    let Some(conn) = next_number(&inside.tables.tally) else {
+    let Some(conn) = run.next_connection() else {
+        let tally = &run.tables().tally;
         return Err(EnterFault::Limit {
-            conns: core_arrivals::connections(&inside.tables.tally),
-            arrivals: inside.tables.tally.arrivals,
-            bytes: inside.tables.tally.bytes,
+            conns: core_arrivals::connections(tally),
+            arrivals: tally.arrivals,
+            bytes: tally.bytes,
         });
     };
-    if make_room(inside).is_err() {
+    if run.enter(conn).is_err() {
         return Err(EnterFault::WantMemory);
     }
-    quiet(inside, Entry::Entered { conn });
     Ok(conn)
-}
-
-/// A connection leaves. Takes no memory.
-pub fn leave(inside: &mut Inside, conn: u32)
-    requires kept { IsKept inside.old }
-    requires conn { IsOpen (history inside.old) conn }
-    ensures kept { IsKept inside.new }
-    ensures left { life inside.new ≡ with_entry (Left conn) (life inside.old) }
-{
-    quiet(inside, Entry::Left { conn });
-    inside.desk.leave(conn);
 }

@@ -1,24 +1,17 @@
-//! The adapter in one thread: `Core` takes what connections and workers do, keeps its journal with the tables that
-//! follow it, and gives each connection its replies. What each call answers, and the entry that it makes, is in
-//! `specs/Answers.antt`. CORBA 3.3 Part 1, chapter 15.
+//! The adapter in one thread: `Core` takes what connections and workers do, answers each of them, and hands its run the
+//! entry that it makes. What each call answers, and the entry, is in `specs/Answers.antt`. CORBA 3.3 Part 1, chapter 15.
 #![tactic(auto)]
 
 mod abandoning;
 mod adapter_core;
 mod arrive_fault;
 mod arriving;
-mod beginning;
 mod collected;
 mod collecting;
 mod connecting;
 mod enter_fault;
-mod inside;
-mod noting;
-mod quieting;
-mod room;
 mod step_out;
 mod stepping;
-mod taking;
 
 pub use adapter_core::Core;
 pub use arrive_fault::ArriveFault;

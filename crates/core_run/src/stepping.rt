@@ -1,0 +1,37 @@
+//! The next entry of a worker.
+ghost use Rattle.std.specs.Prelude.{◌≡◌, ◌<◌, true, IfOk, IsOk};
+ghost use Rattle.history_standing.specs.Stages as begun;
+ghost use Rattle.poa_history.specs.Turns.{turn};
+ghost use Rattle.core_arrivals.specs.Begun.{only_ends};
+ghost use Rattle.core_run.specs.Agrees.{history};
+ghost use Rattle.core_run.specs.Kept.{IsKept, life};
+
+use crate::inside::Inside;
+use core_arrivals::Known;
+use poa_base::{Entry, WantMemory};
+
+/// The entry that a worker makes next. That it has only to end what it began can always be told.
+pub fn next(inside: &mut Inside, worker: u32) -> Result<Option<Entry>, WantMemory>
+    requires kept { IsKept inside.old }
+    requires worker { worker < 16 }
+    ensures next { IfOk result (λ entry. entry ≡ turn inside.new.config inside.new.run (history inside.new) worker) }
+    ensures ends { only_ends (begun.stage (history inside.new) worker) ≡ true → IsOk result }
+    ensures kept { IsKept inside.new }
+    ensures same { life inside.new ≡ life inside.old }
+{
+    let known = Known {
+        config: &inside.config,
+        run: inside.run,
+        entries: &inside.entries,
+        calls: &inside.tables.calls,
+        queue: &inside.tables.queue,
+        standing: &inside.state.standing,
+        settings: &inside.state.settings,
+    };
+    known.next(
+        inside.alloc,
+        &inside.tables.workers,
+        worker,
+        &mut inside.tables.held,
+    )
+}
