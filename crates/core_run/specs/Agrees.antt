@@ -4,10 +4,10 @@ use Rattle.poa_base.specs.Store.{stored as stored_in}
 use Rattle.poa_base.specs.declared.Entry.{Entry}
 use Rattle.poa_history.specs.States.{Stored}
 use Rattle.poa_history.specs.Runs.{IsRun}
-use Rattle.core_outboxes.specs.Owed.{AreOwed}
+pub use Rattle.core_outboxes.specs.Owed.{AreOwed}
 use Rattle.core_outboxes.specs.Decided.{AreFiled}
 use Rattle.core_outboxes.specs.Desk.{HasFiled}
-use Rattle.core_state.specs.State.{IsState}
+pub use Rattle.core_state.specs.State.{IsState}
 use Rattle.core_run.specs.Known.{KnowsTables}
 use Rattle.core_run.specs.declared.inside.Inside.{Inside}
 

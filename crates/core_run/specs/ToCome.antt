@@ -5,7 +5,7 @@ use Rattle.poa_base.specs.declared.Entry.TheVariants.{Entered, Arrive, Filled, L
 use Rattle.history_standing.specs.declared.stage.Stage.TheVariants.{Free}
 use Rattle.history_standing.specs.Searches.{count_below}
 use Rattle.core_arrivals.specs.declared.workers.Workers.{Workers}
-use Rattle.core_arrivals.specs.Begun.{only_ends}
+pub use Rattle.core_arrivals.specs.Begun.{only_ends}
 use Rattle.core_arrivals.specs.declared.Tally.{Tally}
 use Rattle.core_arrivals.specs.Tallies.{flag_of}
 use Rattle.core_run.specs.declared.tables.Tables.{Tables}

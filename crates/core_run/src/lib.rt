@@ -21,5 +21,8 @@ mod tables;
 mod taking;
 mod turning;
 
+pub use core_outboxes::{Desk, Filed, Fresh};
+pub use core_state::State;
+pub use journal_entries::Entries;
 pub use run::Run;
 pub use tables::Tables;

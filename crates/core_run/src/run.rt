@@ -1,15 +1,15 @@
 //! A run.
-ghost use Rattle.std.specs.Prelude.{◌≡◌, ◌×◌, ◌+◌, ◌≤◌, ◌<◌, ℕ, ◌&&◌, ◌==◌, true, false, if◌then◌else◌, nat_lt, List, Some, None, option_map, reverse, IfOk, IsOk, OnOk, OnErr};
+ghost use Rattle.std.specs.Prelude.{◌≡◌, ◌×◌, ◌+◌, ◌≤◌, ◌<◌, ℕ, ◌&&◌, ◌==◌, true, false, if◌then◌else◌, nat_lt, List, Some, None, is_none, not, option_map, reverse, IfOk, IsOk, OnOk, OnErr};
 ghost use Rattle.poa_base.specs.Store.{stored as stored_in};
 ghost use Rattle.poa_base.specs.declared.Entry.TheVariants.{Entered, Arrive, Filled, Left, Abandon};
 ghost use Rattle.poa_policy.specs.Kept.{KeepsRules};
-ghost use Rattle.history_standing.specs.Arrivals.{arrivals, connections};
+ghost use Rattle.history_standing.specs.Arrivals.{arrivals, arrived_bytes, connections};
 ghost use Rattle.history_standing.specs.Nodes.{node_at};
 ghost use Rattle.history_standing.specs.Searches.{count_below};
 ghost use Rattle.history_standing.specs.Stages as begun;
 ghost use Rattle.poa_history.specs.Changes.{standing};
 ghost use Rattle.poa_history.specs.Leaving.{is_shut, are_gone};
-ghost use Rattle.poa_history.specs.Legal.{IsLegal, IsOpen, MayArrive, MayFill, MayFollow};
+ghost use Rattle.poa_history.specs.Legal.{IsLegal, IsOpen, MayArrive, MayFill, MayFollow, is_filled};
 ghost use Rattle.poa_history.specs.Life as lives;
 ghost use Rattle.poa_history.specs.Life.{opened, with_entry};
 ghost use Rattle.poa_history.specs.Lifetime.{HasLifetime};
@@ -160,6 +160,27 @@ impl Run {
         connecting::next_number(&self.tables().tally)
     }
 
+    /// How many connections entered.
+    pub fn connections(&self) -> u64
+        ensures { result ≡ connections self.now.history }
+    {
+        core_arrivals::connections(&self.tables().tally)
+    }
+
+    /// How many calls arrived.
+    pub fn arrivals(&self) -> u64
+        ensures { result ≡ arrivals self.now.history }
+    {
+        self.tables().tally.arrivals
+    }
+
+    /// How many bytes the calls that arrived had.
+    pub fn bytes(&self) -> u64
+        ensures { result ≡ arrived_bytes self.now.history }
+    {
+        self.tables().tally.bytes
+    }
+
     /// Whether a call of so many bytes is taken: the run has room for it, or it is the first `shutdown`.
     pub fn is_taken(&self, call: &Call, size: u64) -> bool
         ensures { result ≡ limits.is_taken self.now.limit self.now.history size call.now }
@@ -215,7 +236,8 @@ impl Run {
 
     /// How many calls, and bytes of calls, stood when the run took no more, if it came to that.
     pub fn filled(&self) -> Option<Full>
-        ensures { option_map (λ f. (f.arrivals, f.bytes)) result ≡ limits.filled_at self.now.history }
+        ensures counts { option_map (λ f. (f.arrivals, f.bytes)) result ≡ limits.filled_at self.now.history }
+        ensures unfilled { is_none result ≡ not (is_filled self.now.history) }
     {
         core_arrivals::filled(&self.tables().tally)
     }

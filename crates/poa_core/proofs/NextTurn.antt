@@ -2,7 +2,7 @@
 use Rattle.std.specs.Prelude.{◌≡◌, ℕ, Result, Ok, Err, IsErr, true, false}
 use Rattle.std.specs.declared.alloc.AllocError.{AllocError}
 use Rattle.history_standing.specs.Stages.{stage, is_abandoned}
-use Rattle.core_arrivals.specs.Begun.{only_ends}
+use Rattle.core_run.specs.ToCome.{only_ends}
 use Rattle.poa_history.specs.Life.{Life}
 pub use Rattle.core_run.proofs.NextTurn.{made}
 use Rattle.poa_core.specs.Answers.{Steps}

@@ -13,7 +13,7 @@ use Rattle.poa_history.specs.Replies.{next_reply, reply_of, owed}
 use Rattle.history_standing.specs.Searches.{count_below}
 use Rattle.history_standing.specs.Stages.{stage, is_unadmitted, is_abandoned}
 use Rattle.poa_history.specs.Turns.{turn}
-use Rattle.core_arrivals.specs.Begun.{only_ends}
+use Rattle.core_run.specs.ToCome.{only_ends}
 use Rattle.poa_history.specs.Leaving.{is_shut, are_gone}
 pub use Rattle.poa_history.specs.Limits.{is_taken, filled_at}
 use Rattle.poa_history.specs.Heads.{head_of}

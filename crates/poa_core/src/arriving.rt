@@ -17,14 +17,14 @@ fn refuse(run: &mut Run, conn: u32, size: u64) -> ArriveFault
     requires refused { (call : CallOf) × (limits.is_taken run.old.limit run.old.history size call ≡ false) }
     ensures { arriving.Refuses conn size run.old result run.new }
 {
-    let tally = &run.tables().tally;
-    if let Some(full) = tally.filled {
+    if let Some(full) = run.filled() {
         return ArriveFault::Limit {
             arrivals: full.arrivals,
             bytes: full.bytes,
         };
     }
-    let (arrivals, bytes) = (tally.arrivals, tally.bytes);
+    let arrivals = run.arrivals();
+    let bytes = run.bytes();
     run.fill(conn, size);
     ArriveFault::Limit { arrivals, bytes }
 }
@@ -40,7 +40,7 @@ pub fn arrive(run: &mut Run, conn: u32, call: Call, size: u64) -> Result<u64, Ar
         drop(call);
         return Err(refuse(run, conn, size));
     }
-    let arrival = run.tables().tally.arrivals;
+    let arrival = run.arrivals();
     if run.arrive(conn, call, size).is_err() {
         return Err(ArriveFault::WantMemory);
     }

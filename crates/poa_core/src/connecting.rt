@@ -9,11 +9,10 @@ pub fn enter(run: &mut Run) -> Result<u32, EnterFault>
     ensures { answers.Enters run.old result run.new }
 {
     let Some(conn) = run.next_connection() else {
-        let tally = &run.tables().tally;
         return Err(EnterFault::Limit {
-            conns: core_arrivals::connections(tally),
-            arrivals: tally.arrivals,
-            bytes: tally.bytes,
+            conns: run.connections(),
+            arrivals: run.arrivals(),
+            bytes: run.bytes(),
         });
     };
     if run.enter(conn).is_err() {
