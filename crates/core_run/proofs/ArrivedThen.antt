@@ -4,7 +4,6 @@ use Rattle.poa_base.specs.declared.Call.{Call}
 use Rattle.poa_base.specs.declared.Entry.{Entry}
 use Rattle.poa_base.specs.declared.Entry.TheVariants.{Arrive}
 use Rattle.history_standing.specs.Arrivals.{arrivals}
-use Rattle.poa_history.specs.Legal.{MayArrive}
 use Rattle.poa_history.specs.Replies.{asks, number_of}
 use Rattle.core_outboxes.specs.declared.desk.Desk.{Desk}
 use Rattle.core_outboxes.specs.declared.owing.Owing.{Owing}
@@ -18,22 +17,10 @@ use Rattle.core_run.specs.Arriving.{row_of}
 use Rattle.core_run.specs.Agrees.{Agrees, history}
 use Rattle.core_run.specs.Noting.{IsNoted}
 use Rattle.core_run.specs.ToCome.{stay}
-use Rattle.core_run.specs.Kept.{IsKept, IsReady, IsQuiet}
+use Rattle.core_run.specs.Kept.{IsKept, IsReady}
 use Rattle.core_run.proofs.Space.{stay_after}
 use Rattle.core_run.proofs.Keeping.{longer}
-use Rattle.core_run.proofs.Filed.{filed_as, filed_in}
-
-pub arrived_quiet : (conn size : ℕ) (call : Call) (i : Inside) → IsReady i → MayArrive i.limit (history i) conn size call
-    → IsQuiet (history i) (Arrive conn size call) i
-arrived_quiet conn size call i ready may =
-    (let agrees = ready.agrees in let runs = agrees.runs in record {
-      follows = record { accepted = runs.accepted; numbered = runs.numbered; limited = runs.limited; legal = (may, runs.legal) };
-      still = refl;
-      state = agrees.state;
-      tables = agrees.tables;
-      owed = agrees.owed;
-      left = filed_as i.desk (λ fs filed. record { which = filed.which; each = filed.each }) agrees.filed;
-    })
+use Rattle.core_run.proofs.Filed.{filed_in}
 
 module _ (conn size : ℕ) (call : Call) (old new : Inside) (ready : IsReady old) (noted : IsNoted (Arrive conn size call) old new) where
   abbrev e : Entry

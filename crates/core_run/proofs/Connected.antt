@@ -1,9 +1,7 @@
 -- A connection enters, or leaves.
 use Rattle.std.proofs.Common.{◌≡◌, ℕ, ◌+◌, ◌<◌, ◌≤◌, true, false, refl, sym, ◌∙◌, length, arith}
-use Rattle.std.specs.Prelude.{Result, Ok, Err, OnOk, is_err}
 use Rattle.poa_base.specs.declared.Entry.{Entry}
 use Rattle.poa_base.specs.declared.Entry.TheVariants.{Entered, Left}
-use Rattle.history_standing.specs.Arrivals.{connections}
 use Rattle.poa_history.specs.Legal.{IsOpen}
 use Rattle.core_arrivals.specs.Placed.{arrives}
 use Rattle.held_queue.specs.Waiting.{may_queue}
@@ -13,25 +11,9 @@ use Rattle.core_run.specs.declared.inside.Inside.{Inside}
 use Rattle.core_run.specs.Agrees.{history}
 use Rattle.core_run.specs.Noting.{HasRoomForEntry, IsNoted}
 use Rattle.core_run.specs.ToCome.{stay}
-use Rattle.core_run.specs.Kept.{IsKept, IsReady, IsQuiet}
+use Rattle.core_run.specs.Kept.{IsKept, IsReady}
 use Rattle.core_run.proofs.Space.{stay_entered, stay_left, stay_open}
-use Rattle.core_run.proofs.Filed.{filed_as}
 use Rattle.core_run.proofs.Keeping.{kept_then}
-
-pub entered_quiet : (conn : ℕ) (i : Inside) → IsReady i → conn ≡ connections (history i) → conn < 4000000 → IsQuiet (history i) (Entered conn) i
-entered_quiet conn i ready is few =
-    (let agrees = ready.agrees in let runs = agrees.runs in record {
-      follows = record { accepted = runs.accepted; numbered = runs.numbered; limited = runs.limited; legal = ((is, few), runs.legal) };
-      still = refl;
-      state = agrees.state;
-      tables = agrees.tables;
-      owed = agrees.owed;
-      left = filed_as i.desk (λ fs filed. record { which = filed.which; each = filed.each }) agrees.filed;
-    })
-
-pub ok_so : {T E : Type 0} {P : Type 0} (r : Result T E) → OnOk r P → false ≡ is_err r → P
-ok_so (Ok x) p is = p
-ok_so (Err e) p is = absurd (let x : false ≡ true = is in cc)
 
 entered_one : (s s' : ℕ) → s' ≤ s + 1 → s' + 1 ≤ s + 2
 entered_one s s' more = omega (arith, more)
@@ -40,17 +22,6 @@ pub entered_kept : (conn : ℕ) (old new : Inside) → IsReady old → IsNoted (
 entered_kept conn old new ready noted =
     kept_then 2 (Entered conn) old new noted refl
     (entered_one (stay old.tables) (stay new.tables) (stay_entered (history old) conn old.tables new.tables ready.agrees.tables noted.tables)) ready.space
-
-pub left_quiet : (conn : ℕ) (i : Inside) → IsKept i → IsOpen (history i) conn → IsQuiet (history i) (Left conn) i
-left_quiet conn i kept open_ =
-    (let agrees = kept.agrees in let runs = agrees.runs in record {
-      follows = record { accepted = runs.accepted; numbered = runs.numbered; limited = runs.limited; legal = (open_, runs.legal) };
-      still = refl;
-      state = agrees.state;
-      tables = agrees.tables;
-      owed = agrees.owed;
-      left = filed_as i.desk (λ fs filed. record { which = filed.which; each = filed.each }) agrees.filed;
-    })
 
 pub some_room : (l many s room : ℕ) → 1 ≤ s → l + (many + s) + 0 ≤ room → l < room
 some_room l many s room some fits = omega (arith, some, fits)

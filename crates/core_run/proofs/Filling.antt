@@ -1,29 +1,17 @@
 -- A call that isn't taken fills the run.
-use Rattle.std.proofs.Common.{◌≡◌, ℕ, refl, length}
+use Rattle.std.proofs.Common.{ℕ, refl, length}
 use Rattle.poa_base.specs.declared.Entry.TheVariants.{Filled}
 use Rattle.poa_history.specs.Legal.{MayFill}
 use Rattle.core_run.specs.declared.inside.Inside.{Inside}
 use Rattle.core_run.specs.Agrees.{history}
 use Rattle.core_run.specs.Noting.{HasRoomForEntry, IsNoted}
 use Rattle.core_run.specs.ToCome.{stay}
-use Rattle.core_run.specs.Kept.{IsKept, IsQuiet}
+use Rattle.core_run.specs.Kept.{IsKept}
 use Rattle.core_run.proofs.Space.{stay_filled, stay_unfilled}
 use Rattle.core_run.proofs.Connected.{brief_room, some_room, less_one}
 use Rattle.core_run.proofs.Keeping.{kept_then}
-use Rattle.core_run.proofs.Filed.{filed_as}
 
 module _ (conn size : ℕ) (i : Inside) (kept : IsKept i) (may : MayFill i.limit (history i) conn size) where
-  pub filled_quiet : IsQuiet (history i) (Filled conn size) i
-  filled_quiet =
-      (let agrees = kept.agrees in let runs = agrees.runs in record {
-        follows = record { accepted = runs.accepted; numbered = runs.numbered; limited = runs.limited; legal = (may, runs.legal) };
-        still = refl;
-        state = agrees.state;
-        tables = agrees.tables;
-        owed = agrees.owed;
-        left = filed_as i.desk (λ fs filed. record { which = filed.which; each = filed.each }) agrees.filed;
-      })
-
   pub filled_room : HasRoomForEntry (Filled conn size) i
   filled_room =
       brief_room (Filled conn size) i refl refl refl tt

@@ -6,6 +6,7 @@ use Rattle.poa_base.specs.declared.Entry.{Entry}
 use Rattle.poa_base.specs.declared.Entry.TheVariants.{Entered, Arrive, Filled, Left, Collect, Admit, Tried, Incarnated, Run, Done, TakeOut, Etherealized, Abandon}
 use Rattle.history_standing.specs.declared.stage.Stage.TheVariants.{Free}
 use Rattle.poa_history.specs.States.{Stored}
+use Rattle.poa_history.specs.Legal.{MayFollow}
 use Rattle.poa_history.specs.Runs.{IsRun}
 use Rattle.history_laws.proofs.Opened.{given, within}
 use Rattle.core_standing.specs.Seen.{seen}
@@ -16,16 +17,18 @@ use Rattle.core_settings.specs.declared.settings.Settings.{Settings}
 use Rattle.core_settings.specs.Told.{Tells}
 use Rattle.core_state.specs.Kept.{kept_in}
 use Rattle.core_state.proofs.QuietHolds.{quiet_holds, is_quiet}
-use Rattle.core_outboxes.specs.Decided.{Decides}
-use Rattle.core_outboxes.specs.Desk.{WaitIs}
+use Rattle.core_outboxes.specs.declared.filed.Filed.{Filed}
+use Rattle.core_outboxes.specs.Decided.{AreFiled, Decides}
+use Rattle.core_outboxes.specs.Desk.{AreLeft, WaitIs}
 use Rattle.core_outboxes.specs.Waits.{ordered_by}
 use Rattle.core_state.specs.declared.state.State.{State}
 use Rattle.core_state.specs.State.{IsState, is_turn}
 use Rattle.core_state.proofs.Stated.{kept_still}
 use Rattle.core_run.specs.declared.inside.Inside.{Inside}
-use Rattle.core_run.specs.Agrees.{opened_in}
+use Rattle.core_run.specs.Agrees.{Agrees, history, opened_in}
 use Rattle.core_run.specs.Noting.{IsHalfway}
 use Rattle.core_run.specs.Kept.{IsQuiet}
+use Rattle.core_run.proofs.Filed.{filed_as}
 
 -- what is so of each entry that is no turn
 by_still : (P : Entry → Type 0) → ((conn : ℕ) → P (Entered conn)) → ((conn size : ℕ) (call : Call) → P (Arrive conn size call))
@@ -109,3 +112,17 @@ quiet_halfway h e i quiet =
       owed = quiet.owed;
       left = quiet.left;
     }
+
+-- so it may be noted where it may follow, if it collects nothing
+pub quiet_where : (e : Entry) (i : Inside) → Agrees (history i) i → MayFollow i.config i.run i.limit (history i) e → is_turn e ≡ false
+    → ((fs : List Filed) → AreFiled i.config i.run (opened_in i) (history i) fs → AreLeft i.config i.run (opened_in i) (history i) e fs)
+    → IsQuiet (history i) e i
+quiet_where e i agrees may still left =
+    (let runs = agrees.runs in record {
+      follows = record { accepted = runs.accepted; numbered = runs.numbered; limited = runs.limited; legal = (may, runs.legal) };
+      still = still;
+      state = agrees.state;
+      tables = agrees.tables;
+      owed = agrees.owed;
+      left = filed_as i.desk left agrees.filed;
+    })

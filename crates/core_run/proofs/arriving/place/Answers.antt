@@ -1,10 +1,13 @@
-use Rattle.std.proofs.Common.{sym, ◌∙◌}
-use Rattle.core_run.proofs.ArrivedThen.{arrived_quiet, kept_asked, kept_unasked, has_row, has_none}
+use Rattle.std.proofs.Common.{refl, sym, ◌∙◌}
+use Rattle.poa_base.specs.declared.Entry.TheVariants.{Arrive}
+use Rattle.core_run.proofs.Quieted.{quiet_where}
+use Rattle.core_run.proofs.ArrivedThen.{kept_asked, kept_unasked, has_row, has_none}
 use Rattle.core_run.proofs.arriving.place.Goals as goal
 
 pub quiet-requires-clause-quiet : goal.quiet-requires-clause-quiet
 quiet-requires-clause-quiet c =
-    arrived_quiet c.args.conn c.args.size c.args.call c.args.inside.now c.requires.ready c.requires.may
+    quiet_where (Arrive c.args.conn c.args.size c.args.call) c.args.inside.now c.requires.ready.agrees c.requires.may refl
+    (λ fs filed. record { which = filed.which; each = filed.each })
 
 pub returns-in-Some-clause-kept : goal.returns-in-Some-clause-kept
 returns-in-Some-clause-kept c =
