@@ -21,7 +21,7 @@ mod tables;
 mod taking;
 mod turning;
 
-pub use core_outboxes::{Desk, Filed, Fresh};
+pub use core_outboxes::{Desk, Fresh};
 pub use core_state::State;
 pub use journal_entries::Entries;
 pub use run::Run;

@@ -1,5 +1,5 @@
 //! A run.
-ghost use Rattle.std.specs.Prelude.{◌≡◌, ◌×◌, ◌+◌, ◌≤◌, ◌<◌, ℕ, ◌&&◌, ◌==◌, true, false, if◌then◌else◌, nat_lt, List, Some, None, is_none, not, option_map, reverse, IfOk, IsOk, OnOk, OnErr};
+ghost use Rattle.std.specs.Prelude.{◌≡◌, ◌+◌, ◌≤◌, ◌<◌, ℕ, ◌&&◌, ◌==◌, true, false, if◌then◌else◌, nat_lt, List, Some, None, is_none, not, option_map, reverse, IfOk, IsOk, OnOk, OnErr};
 ghost use Rattle.poa_base.specs.Store.{stored as stored_in};
 ghost use Rattle.poa_base.specs.declared.Entry.TheVariants.{Entered, Arrive, Filled, Left, Abandon};
 ghost use Rattle.poa_policy.specs.Kept.{KeepsRules};

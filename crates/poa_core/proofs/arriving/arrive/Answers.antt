@@ -6,4 +6,4 @@ pub arrive-requires : goal.arrive-requires
 arrive-requires c =
     (let l = c.args.run.now in
     may_arrive l.limit l.history c.args.conn c.args.size c.args.call c.requires.conn c.requires.size
-    (sym c.is_taken.ensures ∙ c.if-is_taken.true))
+    (sym c.is_taken.ensures ∙ c.if-not-is_taken.false))

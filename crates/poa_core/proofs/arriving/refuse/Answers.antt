@@ -24,5 +24,5 @@ returns c =
     (let l = c.args.run.now in (
       c.fill.ensures
           ∙ filled_more c.args.conn c.args.size l (was_unfilled l.history c.filled.result c.filled.ensures.unfilled c.in_default.is),
-      ap (λ (x : Life). filled_at x.history) c.fill.ensures ∙ ap₂ (λ a b. Some (a, b)) (sym c.arrivals.ensures) (sym c.bytes.ensures),
+      ap (λ (x : Life). filled_at x.history) c.fill.ensures ∙ ap₂ (λ a b. Some (a, b)) (sym c.arrivals-arrivals.ensures) (sym c.bytes-bytes.ensures),
     ))

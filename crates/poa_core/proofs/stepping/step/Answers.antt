@@ -24,7 +24,7 @@ pub returns-in_err-turn : goal.returns-in_err-turn
 returns-in_err-turn c =
     (let l = c.args.run.now in
     let going = sym c.is_abandoned.ensures ∙ c.if-is_abandoned.false in
-    failed c.args.worker l c.turn.new.run c.from_residual-in_err-turn.result c.from_residual-in_err-turn.ensures.0 going
+    failed c.args.worker l c.turn.new.self c.from_residual-in_err-turn.result c.from_residual-in_err-turn.ensures.0 going
     (false_from_ne_true (only_ends (stage l.history c.args.worker)) (λ only.
     (let never : false ≡ true =
     c.in_err-turn.ensures.ends

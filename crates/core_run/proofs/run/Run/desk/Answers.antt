@@ -5,5 +5,5 @@ use Rattle.core_run.proofs.run.Run.desk.Goals as goal
 
 pub returns : goal.returns
 returns c =
-    (let i = c.self.inside in
+    (let i = c.self.inside.inside in
     subst (λ (l : Life). AreOwed l.config l.run l.history i.desk.owing.items) c.self.view_is c.self.invariant.agrees.owed)

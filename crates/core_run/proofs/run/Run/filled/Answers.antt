@@ -3,7 +3,10 @@ use Rattle.poa_history.specs.declared.Full.{Full}
 use Rattle.core_arrivals.proofs.Bounds.{filled_is}
 use Rattle.core_run.proofs.run.Run.filled.Goals as goal
 
-none_counted : (full : Option Full) → is_none full ≡ is_none (option_map (λ (f : Full). (f.arrivals, f.bytes)) full)
+abbrev counts : Full → ℕ × ℕ
+counts full = (full.arrivals, full.bytes)
+
+none_counted : (full : Option Full) → is_none full ≡ is_none (option_map counts full)
 none_counted None = refl
 none_counted (Some full) = refl
 
