@@ -4,7 +4,7 @@
 
 mod feeding;
 mod streams;
-mod table;
+mod framing;
 mod viewing;
 
 use anyhow::Result;
@@ -15,5 +15,5 @@ fn main(rt: HostRuntime) -> Result<()> {
     let measure = env::args(&rt)?
         .nth(1)
         .is_some_and(|word| word.as_str() == "measure");
-    table::print(&rt, alloc, measure)
+    framing::print(&rt, alloc, measure)
 }

@@ -1,6 +1,6 @@
 use Rattle.std.proofs.Common.{◌≡◌, length}
 use Rattle.giop_frame.specs.Framer.{reach}
-use Rattle.giop_frame_bench.proofs.feeding.take.Given as goal
+use Rattle.poad_bench.proofs.feeding.take.Given as goal
 
 abbrev pub invariant-loop-given : goal.invariant-loop-given
 invariant-loop-given l = reach l.framer ≡ reach l.fn.framer
