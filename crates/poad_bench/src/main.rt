@@ -3,8 +3,11 @@
 #![tactic(auto)]
 
 mod feeding;
-mod streams;
 mod framing;
+mod journal_text;
+mod journal_timing;
+mod journals;
+mod streams;
 mod viewing;
 
 use anyhow::Result;

@@ -1,6 +1,6 @@
 //! One journal read and printed, with the times.
 
-use crate::text::of_requests;
+use crate::journal_text::of_requests;
 use anyhow::{Result, anyhow};
 use poa_journal::{JournalFault, print, read};
 use std::alloc::Global;

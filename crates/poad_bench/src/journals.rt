@@ -1,23 +1,19 @@
 //! Times the reading and the printing of journals. With no argument it reads and prints a short one and says what it
 //! had; with `measure` it prints a table, with a number it reads and prints one journal of so many entries.
-#![tactic(auto)]
 
-mod text;
-mod timing;
-
+use crate::journal_timing::{Timing, quotient};
 use anyhow::{Context, Result};
 use std::alloc::Global;
 use std::env;
 use std::time::Clock;
-use timing::{Timing, quotient};
 
 /// The entries of the run without an argument.
-const SHORT: u64 = 1000;
+pub(crate) const SHORT: u64 = 1000;
 
 /// How many entries the rows of the table have, each twice as many as the one before.
-const ROWS: [u64; 4] = [250_000, 500_000, 1_000_000, 2_000_000];
+pub(crate) const ROWS: [u64; 4] = [250_000, 500_000, 1_000_000, 2_000_000];
 
-fn main(rt: HostRuntime) -> Result<()> {
+pub fn run(rt: HostRuntime) -> Result<()> {
     let alloc = rt.alloc();
     let Some(word) = env::args(&rt)?.nth(1) else {
         return once(&rt, alloc, SHORT);
@@ -31,7 +27,7 @@ fn main(rt: HostRuntime) -> Result<()> {
     once(&rt, alloc, entries)
 }
 
-fn once<R: Clock + Print>(rt: &R, alloc: Global, entries: u64) -> Result<()> {
+pub(crate) fn once<R: Clock + Print>(rt: &R, alloc: Global, entries: u64) -> Result<()> {
     let timing = Timing::of(rt, alloc, entries)?;
     println!(rt;
         "{} entries, {} bytes, printed as read: {}",
@@ -41,7 +37,7 @@ fn once<R: Clock + Print>(rt: &R, alloc: Global, entries: u64) -> Result<()> {
 }
 
 // A row for each size, with the ratio to the time of half the size.
-fn measure<R: Clock + Print>(rt: &R, alloc: Global) -> Result<()> {
+pub(crate) fn measure<R: Clock + Print>(rt: &R, alloc: Global) -> Result<()> {
     println!(rt; "entries | MB | read, ms (MB/s) | ratio | print, ms (MB/s) | ratio")?;
     let mut before = Timing::of(rt, alloc, ROWS[0] / 2)?;
     for entries in ROWS {
