@@ -2,11 +2,19 @@
 //! messages came; with `measure` it prints the table.
 #![tactic(auto)]
 
+mod asking;
+mod call_plan;
+mod call_table;
+mod calls;
+mod fault;
 mod feeding;
 mod framing;
+mod guarded;
 mod journal_text;
 mod journal_timing;
 mod journals;
+mod mutex_calls;
+mod shared_calls;
 mod streams;
 mod viewing;
 

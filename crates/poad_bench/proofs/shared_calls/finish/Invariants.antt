@@ -1,5 +1,5 @@
 use Rattle.poa_shared.specs.Seats.{IsIdle}
-use Rattle.poa_shared_bench.proofs.seated.finish.Given as goal
+use Rattle.poad_bench.proofs.shared_calls.finish.Given as goal
 
 abbrev pub invariant-loop : goal.invariant-loop
 invariant-loop g l = record {

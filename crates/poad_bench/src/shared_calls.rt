@@ -6,9 +6,9 @@ ghost use Rattle.poa_shared.specs.Seats.{IsIdle};
 ghost use Rattle.poa_shared.specs.Seen.{HoldsConnection};
 
 use crate::asking::{SIZE, add_one, core};
+use crate::call_plan::Plan;
 use crate::fault::Fault;
-use crate::mutexed::total;
-use crate::plan::Plan;
+use crate::mutex_calls::total;
 use poa_core::{Collected, StepOut};
 use poa_shared::{Seat, Shared};
 use std::alloc::Global;

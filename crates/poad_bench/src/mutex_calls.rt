@@ -2,9 +2,9 @@
 ghost use Rattle.std.specs.Prelude.{◌<◌};
 
 use crate::asking::{add_one, core};
+use crate::call_plan::Plan;
 use crate::fault::Fault;
 use crate::guarded::Guarded;
-use crate::plan::Plan;
 use std::alloc::Global;
 use std::sync::{Arc, Barrier, Mutex, Wait};
 use std::thread;

@@ -1,8 +1,8 @@
 //! The table of times.
 
+use crate::call_plan::Plan;
 use crate::fault::Fault;
-use crate::plan::Plan;
-use crate::{mutexed, seated};
+use crate::{mutex_calls as mutexed, shared_calls as seated};
 use std::alloc::Global;
 use std::sync::Wait;
 use std::thread::Threads;

@@ -1,7 +1,7 @@
 use Rattle.seat_lock.specs.Seats.{view}
 use Rattle.poa_shared.specs.Seats.{IsIdle}
 use Rattle.poa_shared.specs.Seen.{HoldsConnection}
-use Rattle.poa_shared_bench.proofs.seated.await_reply.Given as goal
+use Rattle.poad_bench.proofs.shared_calls.await_reply.Given as goal
 
 abbrev pub invariant-loop : goal.invariant-loop
 invariant-loop g l = record {

@@ -1,6 +1,6 @@
 use Rattle.std.proofs.Common.{arith}
-use Rattle.poa_shared_bench.proofs.Staying.{steps_stays}
-use Rattle.poa_shared_bench.proofs.guarded.Guarded.step.Goals as goal
+use Rattle.poad_bench.proofs.Staying.{steps_stays}
+use Rattle.poad_bench.proofs.guarded.Guarded.step.Goals as goal
 
 pub invariant_of-self : goal.invariant_of-self
 invariant_of-self c =
