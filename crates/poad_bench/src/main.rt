@@ -3,6 +3,7 @@
 #![tactic(auto)]
 
 mod asking;
+mod busy;
 mod call_plan;
 mod call_table;
 mod calls;
@@ -10,12 +11,19 @@ mod fault;
 mod feeding;
 mod framing;
 mod guarded;
+mod idle;
 mod journal_text;
 mod journal_timing;
 mod journals;
 mod mutex_calls;
+mod mutex_rounds;
+mod round_plan;
+mod round_table;
+mod rounds;
+mod seat_rounds;
 mod shared_calls;
 mod streams;
+mod tally;
 mod viewing;
 
 use anyhow::Result;

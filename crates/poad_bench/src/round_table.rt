@@ -1,8 +1,8 @@
 //! The table of times.
 
 use crate::busy::steps_a_millisecond;
-use crate::plan::Plan;
-use crate::{idle, mutexed, seated};
+use crate::round_plan::Plan;
+use crate::{idle, mutex_rounds as mutexed, seat_rounds as seated};
 use anyhow::Result;
 use std::alloc::{AllocError, Global};
 use std::fmt;

@@ -1,7 +1,7 @@
 //! The same rounds over std's `Mutex`.
 
 use crate::busy::busy;
-use crate::plan::Plan;
+use crate::round_plan::Plan;
 use crate::tally::Tally;
 use std::alloc::{AllocError, Global};
 use std::sync::{Arc, Barrier, Mutex, Wait};

@@ -4,7 +4,7 @@ ghost use Rattle.std.specs.Arc.{arc_value};
 ghost use Rattle.seat_lock.specs.Seats.{IsFree, IsSeatOf};
 
 use crate::busy::busy;
-use crate::plan::Plan;
+use crate::round_plan::Plan;
 use crate::tally::Tally;
 use seat_lock::{Seat, SeatLock};
 use std::alloc::{AllocError, Global};

@@ -1,7 +1,7 @@
 use Rattle.std.proofs.Common.{◌≡◌, ◌+◌, ◌≤◌}
 use Rattle.std.specs.Arc.{arc_value}
 use Rattle.seat_lock.specs.Seats.{view, IsFree, IsSeatOf}
-use Rattle.seat_lock_bench.proofs.seated.count.Given as goal
+use Rattle.poad_bench.proofs.seat_rounds.count.Given as goal
 
 -- each seat that was split off took one from the room
 abbrev pub invariant-loop : goal.invariant-loop

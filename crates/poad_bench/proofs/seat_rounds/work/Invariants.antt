@@ -1,7 +1,7 @@
 use Rattle.std.proofs.Common.{◌≡◌}
 use Rattle.std.specs.Arc.{arc_value}
 use Rattle.seat_lock.specs.Seats.{IsFree, IsSeatOf}
-use Rattle.seat_lock_bench.proofs.seated.work.Given as goal
+use Rattle.poad_bench.proofs.seat_rounds.work.Given as goal
 
 -- between two rounds the seat holds nothing
 abbrev pub invariant-loop : goal.invariant-loop
