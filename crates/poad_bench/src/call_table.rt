@@ -2,7 +2,7 @@
 
 use crate::call_plan::Plan;
 use crate::fault::Fault;
-use crate::{mutex_calls as mutexed, shared_calls as seated};
+use crate::{mutex_calls, shared_calls};
 use std::alloc::Global;
 use std::sync::Wait;
 use std::thread::Threads;
@@ -32,8 +32,8 @@ fn run<R: Threads + Wait + Sync>(
     plan: Plan,
 ) -> Result<u64, Fault> {
     match kind {
-        Kind::Shared => seated::count(rt, alloc, plan),
-        Kind::Mutex => mutexed::count(rt, alloc, plan),
+        Kind::Shared => shared_calls::count(rt, alloc, plan),
+        Kind::Mutex => mutex_calls::count(rt, alloc, plan),
     }
 }
 

@@ -1,44 +1,36 @@
-//! Times calls over one shared core beside a core under std's `Mutex`, both in the same run: each caller asks, makes
-//! the turns of a worker until it has its reply, and asks again. With no argument it runs both once, quickly, and prints
-//! how many calls were answered; with `measure` it prints the table.
+//! Calls over one shared core beside a core under std's `Mutex`: each caller asks, makes the turns of a worker until it has
+//! its reply, and asks again.
 
 use crate::call_plan::Plan;
-use crate::fault::Fault;
+use crate::{call_table, mutex_calls, shared_calls};
+use anyhow::{Context, Result};
 use std::alloc::Global;
-use std::env;
-use std::process::ExitCode;
 use std::sync::Wait;
 use std::thread::Threads;
+use std::time::{Clock, CpuClock};
 
 /// A run that takes no time, for the count.
-pub(crate) const QUICK: Plan = Plan {
+const QUICK: Plan = Plan {
     callers: 4,
     workers: 2,
     calls: 25,
 };
 
-pub fn run(rt: HostRuntime) -> ExitCode {
-    let alloc = rt.alloc();
-    let is_measured = match env::args(&rt) {
-        Ok(mut words) => words.nth(1).is_some_and(|word| word.as_str() == "measure"),
-        Err(_) => false,
-    };
-    let done = if is_measured {
-        crate::call_table::print(&rt, alloc)
-    } else {
-        count(&rt, alloc)
-    };
-    match done {
-        Ok(()) => ExitCode::SUCCESS,
-        Err(_) => ExitCode::FAILURE,
-    }
+/// Prints the table of their times.
+pub fn print<R>(rt: &R, alloc: Global) -> Result<()>
+where
+    R: Threads + Wait + Sync + Clock + CpuClock + Print,
+{
+    call_table::print(rt, alloc).ok().context("no table")
 }
 
-/// Runs both once, quickly.
-pub(crate) fn count<R: Threads + Wait + Sync + Print>(rt: &R, alloc: Global) -> Result<(), Fault> {
-    let seated = crate::shared_calls::count(rt, alloc, QUICK)?;
-    let mutexed = crate::mutex_calls::count(rt, alloc, QUICK)?;
-    println!(rt; "shared core: {seated} answered")?;
+/// Runs both once, quickly, and prints how many calls were answered.
+pub fn count<R: Threads + Wait + Sync + Print>(rt: &R, alloc: Global) -> Result<()> {
+    let shared = shared_calls::count(rt, alloc, QUICK).ok();
+    let shared = shared.context("the shared core isn't called")?;
+    let mutexed = mutex_calls::count(rt, alloc, QUICK).ok();
+    let mutexed = mutexed.context("the core under the Mutex isn't called")?;
+    println!(rt; "shared core: {shared} answered")?;
     println!(rt; "Mutex: {mutexed} answered")?;
     Ok(())
 }

@@ -4,8 +4,6 @@ use crate::journal_text::of_requests;
 use anyhow::{Result, anyhow};
 use poa_journal::{JournalFault, print, read};
 use std::alloc::Global;
-use std::fmt;
-use std::fmt::{Display, Formatter, Write};
 use std::time::{Clock, Duration, Instant};
 
 /// What one journal took; times are in microseconds.
@@ -52,19 +50,4 @@ fn refused(fault: JournalFault) -> anyhow::Error {
         JournalFault::BadLine { line } => anyhow!("line {line} is no entry"),
         JournalFault::WantMemory => anyhow!("want of memory"),
     }
-}
-
-/// A number of hundredths, printed with its point.
-#[derive(Clone, Copy)]
-pub struct Hundredths(u64);
-
-impl Display for Hundredths {
-    fn fmt<W: Write>(&self, f: &mut Formatter<W>) -> fmt::Result {
-        write!(f, "{}.{:02}", self.0 / 100, self.0 % 100)
-    }
-}
-
-/// The quotient of two numbers.
-pub fn quotient(a: u64, b: u64) -> Hundredths {
-    Hundredths(a.saturating_mul(100) / b.max(1))
 }

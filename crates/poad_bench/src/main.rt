@@ -1,5 +1,8 @@
-//! Times the framing of streams and the viewing of a request. With no argument it frames each stream once and prints how many
-//! messages came; with `measure` it prints the table.
+//! Figures, and the first word says of what: the `framing` of streams and the viewing of a request; `journals`, read and
+//! printed; `calls` over the shared core, and `rounds` of its lock, each beside std's `Mutex` in the same run. Its table is
+//! printed. A number may follow `journals`: then one journal of so many entries is read and printed.
+//!
+//! With no word each is run once, quickly, and what it counted is printed, which is the same everywhere.
 #![tactic(auto)]
 
 mod asking;
@@ -11,6 +14,7 @@ mod fault;
 mod feeding;
 mod framing;
 mod guarded;
+mod hundredths;
 mod idle;
 mod journal_text;
 mod journal_timing;
@@ -26,13 +30,35 @@ mod streams;
 mod tally;
 mod viewing;
 
-use anyhow::Result;
+use anyhow::{Result, anyhow};
+use std::alloc::Global;
 use std::env;
+use std::sync::Wait;
+use std::thread::Threads;
+use std::time::{Clock, CpuClock};
 
 fn main(rt: HostRuntime) -> Result<()> {
     let alloc = rt.alloc();
-    let measure = env::args(&rt)?
-        .nth(1)
-        .is_some_and(|word| word.as_str() == "measure");
-    framing::print(&rt, alloc, measure)
+    let mut words = env::args(&rt)?.skip(1);
+    let Some(word) = words.next() else {
+        return count_all(&rt, alloc);
+    };
+    match word.as_str() {
+        "framing" => framing::print(&rt, alloc, true),
+        "journals" => journals::print(&rt, alloc, words.next()),
+        "calls" => calls::print(&rt, alloc),
+        "rounds" => round_table::print(&rt, alloc),
+        _ => Err(anyhow!("framing, journals, calls or rounds")),
+    }
+}
+
+/// Runs each once, quickly.
+fn count_all<R>(rt: &R, alloc: Global) -> Result<()>
+where
+    R: Threads + Wait + Sync + Clock + CpuClock + Print,
+{
+    framing::print(rt, alloc, false)?;
+    journals::count(rt, alloc)?;
+    calls::count(rt, alloc)?;
+    rounds::count(rt, alloc)
 }

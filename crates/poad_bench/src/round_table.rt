@@ -1,12 +1,11 @@
 //! The table of times.
 
 use crate::busy::steps_a_millisecond;
+use crate::hundredths::Hundredths;
 use crate::round_plan::Plan;
-use crate::{idle, mutex_rounds as mutexed, seat_rounds as seated};
+use crate::{idle, mutex_rounds, seat_rounds};
 use anyhow::Result;
 use std::alloc::{AllocError, Global};
-use std::fmt;
-use std::fmt::{Display, Formatter, Write};
 use std::sync::Wait;
 use std::thread::Threads;
 use std::time::{Clock, CpuClock, Duration, Instant};
@@ -19,20 +18,6 @@ const TIMES: u32 = 5;
 struct Reading {
     wall: u64,
     cpu: u64,
-}
-
-/// A number of hundredths, printed with its point.
-#[derive(Clone, Copy)]
-struct Hundredths(u64);
-
-impl Display for Hundredths {
-    fn fmt<W: Write>(&self, f: &mut Formatter<W>) -> fmt::Result {
-        write!(f, "{}.{:02}", self.0 / 100, self.0 % 100)
-    }
-}
-
-fn ratio(a: u64, b: u64) -> Hundredths {
-    Hundredths(a.saturating_mul(100) / b.max(1))
 }
 
 /// Which lock is timed.
@@ -49,8 +34,8 @@ fn run<R: Threads + Wait + Sync>(
     plan: Plan,
 ) -> Result<u64, AllocError> {
     match kind {
-        Kind::Seat => seated::count(rt, alloc, plan),
-        Kind::Mutex => mutexed::count(rt, alloc, plan),
+        Kind::Seat => seat_rounds::count(rt, alloc, plan),
+        Kind::Mutex => mutex_rounds::count(rt, alloc, plan),
     }
 }
 
@@ -130,8 +115,8 @@ pub fn print<R: Threads + Wait + Sync + Clock + CpuClock + Print>(
         };
         let (seat, mutex) = both(rt, alloc, plan)?;
         let work = if inside == 0 { "none" } else { "0.2/1 us" };
-        let wall = ratio(seat.wall, mutex.wall);
-        let cpu = ratio(seat.cpu, mutex.cpu);
+        let wall = Hundredths::of_quotient(seat.wall, mutex.wall);
+        let cpu = Hundredths::of_quotient(seat.cpu, mutex.cpu);
         println!(rt;
             "{threads} | {work} | {} ({}) | {} ({}) | {wall} ({cpu})",
             Hundredths(seat.wall),
