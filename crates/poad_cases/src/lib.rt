@@ -28,6 +28,8 @@
 //!
 //! What `answer` writes is printed in hexadecimal, a message a line; what was written to a client too, and of equal ones in
 //! succession how many.
+//!
+//! And a session of three calls, played on one thread and judged by how it ended: also where an allocation fails.
 #![tactic(auto)]
 
 mod asking;
@@ -45,10 +47,14 @@ mod memory_door;
 mod memory_link;
 mod report;
 mod serving;
+mod session_judging;
+mod session_messages;
+mod session_playing;
 mod signal;
 mod streams;
 mod table;
 mod words;
+mod worked_link;
 mod written;
 
 use anyhow::{Context, Result};
@@ -59,6 +65,8 @@ pub use memory_door::MemDoor;
 pub use memory_link::MemLink;
 pub use report::Report;
 use serving::serve;
+pub use session_judging::{Judgement, judge};
+pub use session_playing::{Played, play_session};
 pub use signal::Signal;
 use std::alloc::Global;
 use std::sync::Wait;

@@ -1,5 +1,5 @@
 use Rattle.poa_shared.specs.Seats.{IsIdle}
-use Rattle.poa_session_rows.proofs.worked_link.make_turns.Given as goal
+use Rattle.poad_cases.proofs.worked_link.make_turns.Given as goal
 
 -- the seat holds nothing between two turns
 abbrev pub invariant-loop : goal.invariant-loop

@@ -1,5 +1,5 @@
 use Rattle.std.proofs.Common.{rules}
-use Rattle.poa_session_rows.proofs.worked_link.make_turns.Goals as goal
+use Rattle.poad_cases.proofs.worked_link.make_turns.Goals as goal
 
 pub loop-init : goal.loop-init
 loop-init g c = record { ends = (tt, tt); seat = search rules }

@@ -1,6 +1,6 @@
 //! What is asked of a session.
-use crate::messages::{CALLS, REPLIES};
-use crate::playing::Played;
+use crate::session_messages::{CALLS, REPLIES};
+use crate::session_playing::Played;
 use journal_entries::{Entries, Row};
 use poa_base::{Call, Entry, SessionEnd};
 

@@ -3,11 +3,11 @@ ghost use Rattle.std.specs.Prelude.{◌≡◌};
 ghost use Rattle.std.specs.Arc.{arc_value};
 ghost use Rattle.poa_shared.specs.Seats.{IsIdle};
 
+use crate::memory_link::MemLink;
 use outside::{Alarm, Link, Took, Wrote};
 use poa_base::WantMemory;
 use poa_core::StepOut;
 use poa_shared::{Seat, Shared};
-use poad_cases::MemLink;
 use std::alloc::Global;
 use std::sync::{Arc, Wait};
 

@@ -1,5 +1,6 @@
 //! A session from its beginning to its end.
-use crate::messages::CALLS;
+use crate::memory_link::MemLink;
+use crate::session_messages::CALLS;
 use crate::worked_link::WorkedLink;
 use conf_toml::read_config;
 use journal_entries::Row;
@@ -7,7 +8,6 @@ use poa_base::{Entry, Session, Store, WantMemory};
 use poa_core::Core;
 use poa_session::serve_link;
 use poa_shared::{Aid, Shared};
-use poad_cases::MemLink;
 use std::alloc::Global;
 use std::sync::{Arc, Wait};
 
@@ -79,7 +79,7 @@ fn core_of_object(alloc: Global) -> Result<Core, WantMemory> {
 }
 
 /// Plays the session.
-pub fn play<R: Wait + Copy + Drop>(rt: &R, alloc: Global) -> Result<Played, WantMemory> {
+pub fn play_session<R: Wait + Copy + Drop>(rt: &R, alloc: Global) -> Result<Played, WantMemory> {
     let client = client_link(alloc)?;
     let (shared, mut seat) = Shared::new(alloc, core_of_object(alloc)?)?;
     let shared = Arc::new(alloc, shared)?;
