@@ -13,15 +13,13 @@ mod job;
 mod lock_tests;
 #[cfg(test)]
 mod playing;
+#[cfg(test)]
 mod shared;
 #[cfg(test)]
 mod task;
 #[cfg(test)]
 mod tests;
+#[cfg(test)]
 mod turns;
+#[cfg(test)]
 mod writers;
-
-pub use diary::{Diary, Note};
-pub use shared::{count, enter, write};
-pub use turns::{take_turns, wait_for};
-pub use writers::{Made, write_all, write_one};

@@ -2,3 +2,4 @@ pub mod Serving
 pub mod Pieces
 pub mod Worked
 pub mod Running
+pub mod BuiltIn

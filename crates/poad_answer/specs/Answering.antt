@@ -5,12 +5,12 @@ use Rattle.outside.specs.Keeping.{Contents}
 use Rattle.poa_base.specs.declared.Config.{Config}
 use Rattle.poad_files.specs.declared.status.Status.{Status}
 use Rattle.poad_answer.specs.declared.naming.TheConstants.{BUILT_IN}
-use Rattle.poad_files.specs.Taking.{ReadsConfig, TakesConfig}
+use Rattle.poad_files.specs.Taking.{ReadsAccepted, TakesConfig}
 use Rattle.poad_answer.specs.Run.{RunAnswers}
 
 -- the configuration in the file of this name, or the built-in one
 abbrev pub NamesConfig : Option (List ℕ) → Result Config Status → Option Contents → Option Contents → Type 0
-NamesConfig None result old new = ReadsConfig BUILT_IN.now result
+NamesConfig None result old new = ReadsAccepted BUILT_IN.now result
 NamesConfig (Some name) result old new = TakesConfig name result old new
 
 -- without a configuration nothing is read of the source or written

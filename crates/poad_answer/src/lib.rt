@@ -8,4 +8,4 @@ mod service;
 mod stop;
 mod turns;
 
-pub use naming::{BUILT_IN, answer_by};
+pub use naming::{BUILT_IN, answer_by, the_built_in_text_is_accepted};

@@ -3,8 +3,9 @@ ghost use Rattle.std.specs.Prelude.{◌≡◌, Err, IfOk, false, option_map};
 ghost use Rattle.outside.specs.Cause.{HasCause};
 ghost use Rattle.outside.specs.Told.{IfTold};
 ghost use Rattle.poa_policy.specs.Kept.{KeepsRules};
-ghost use Rattle.poad_files.specs.Taking.{HoldsStill};
+ghost use Rattle.poad_files.specs.Taking.{HoldsStill, IsAccepted, ReadsAccepted};
 ghost use Rattle.poad_answer.specs.Answering.{AnswersBy, NamesConfig};
+ghost use Rattle.poad_answer.specs.declared.naming.TheConstants.{BUILT_IN};
 
 use crate::answering::answer;
 use outside::{Files, Sink, Source};
@@ -46,7 +47,7 @@ pub fn answer_by<S: Source, K: Sink, F: Files>(
     }
 }
 
-// The configuration in the file of this name, or the built-in one.
+/// The configuration in the file of this name, or the built-in one.
 fn named_config<F: Files>(
     alloc: Global,
     name: Option<&str>,
@@ -61,6 +62,19 @@ fn named_config<F: Files>(
 {
     match name {
         Some(name) => take_config(alloc, name, files),
-        None => config_of(alloc, BUILT_IN),
+        None => built_in(alloc),
     }
+}
+
+/// The built-in text is a configuration.
+pub fn the_built_in_text_is_accepted()
+    ensures { IsAccepted BUILT_IN.now }
+{}
+
+/// The built-in configuration.
+fn built_in(alloc: Global) -> Result<Config, Status>
+    ensures read { ReadsAccepted BUILT_IN.now result }
+    ensures rules { IfOk result KeepsRules }
+{
+    config_of(alloc, BUILT_IN)
 }

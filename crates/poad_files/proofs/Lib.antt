@@ -4,3 +4,4 @@ pub mod Told
 pub mod Causes
 pub mod Delivered
 pub mod Files
+pub mod Accepted

@@ -9,3 +9,4 @@ pub mod Taking
 pub mod Delivery
 pub mod Showing
 pub mod Filing
+pub mod Statuses

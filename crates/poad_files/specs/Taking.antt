@@ -43,6 +43,16 @@ ReadsConfig content (Err (ConfigRefused fault)) = ReadAs content (Err fault) × 
 ReadsConfig content (Err WantMemory) = ⊤
 ReadsConfig content (Err status) = ⊥
 
+-- the text is a configuration
+abbrev pub IsAccepted : List ℕ → Type 0
+IsAccepted content = (config : Config) × ReadAs content (Ok config)
+
+-- the configuration of a text that is one
+abbrev pub ReadsAccepted : List ℕ → Result Config Status → Type 0
+ReadsAccepted content (Ok config) = ReadAs content (Ok config)
+ReadsAccepted content (Err WantMemory) = ⊤
+ReadsAccepted content (Err status) = ⊥
+
 -- the script of a text
 abbrev pub ReadsScript : List ℕ → Result Script Status → Type 0
 ReadsScript content (Ok script) = script_of content ≡ Ok script

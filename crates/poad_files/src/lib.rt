@@ -19,15 +19,10 @@ mod showing;
 mod status;
 mod taking;
 
-pub use conf_toml::ConfFault;
-pub use counting::counts;
 pub use delivery::deliver;
 pub use filing::print_file;
 pub use host::Host;
-pub use objects::references;
-pub use poa_base::WantMemory;
-pub use printing::{Asked, print_config};
-pub use reference::show;
+pub use printing::Asked;
 pub use showing::show_text;
 pub use status::Status;
 pub use taking::{config_of, take_config, take_script};

@@ -1,4 +1,6 @@
 //! How a command ended.
+ghost use Rattle.std.specs.Prelude.{◌≡◌};
+ghost use Rattle.poad_files.specs.Statuses.{status_number};
 
 use crate::fault_line::write_fault;
 use conf_toml::ConfFault;
@@ -48,7 +50,9 @@ pub enum Status {
 
 impl Status {
     /// The number of the status, 0 for `Ok`.
-    pub fn number(&self) -> u8 {
+    pub fn number(&self) -> u8
+        ensures { result ≡ status_number self.now }
+    {
         match self {
             Status::Ok => 0,
             Status::BadWords => 2,

@@ -1,3 +1,4 @@
 pub mod Counted
 pub mod Parts
 pub mod Summed
+pub mod Configured

@@ -1,11 +1,11 @@
 -- What `load` writes, and its status.
-use Rattle.std.specs.Prelude.{◌≡◌, ℕ, List, ◌++◌, Option, Ok as OkResult, Err, take}
+use Rattle.std.specs.Prelude.{◌≡◌, ℕ, List, ◌++◌, Option, Ok as OkResult, take}
 use Rattle.outside.specs.Told.{IfTold}
 use Rattle.poa_base.specs.declared.Config.{Config}
 use Rattle.poad_files.specs.Showing.{GainsNothing}
-use Rattle.poad_files.specs.Taking.{ReadsConfig}
+use Rattle.poad_files.specs.Taking.{ReadsAccepted}
 use Rattle.poad_files.specs.declared.status.Status.{Status}
-use Rattle.poad_files.specs.declared.status.Status.TheVariants.{Ok, ConfigRefused, WriteFault, WantMemory}
+use Rattle.poad_files.specs.declared.status.Status.TheVariants.{Ok, WriteFault, WantMemory}
 use Rattle.poad_load.specs.declared.loading.TheConstants.{CONFIGURATION}
 use Rattle.poad_load.specs.Counts.{IsLoaded}
 
@@ -13,7 +13,7 @@ use Rattle.poad_load.specs.Counts.{IsLoaded}
 pub record WritesLoad (n start : ℕ) (Gains : List ℕ → List ℕ → List ℕ → Type 0) (held_old held_new : Option (List ℕ)) : Type 0 where
   pub config : Config
   pub text : List ℕ
-  pub read : ReadsConfig CONFIGURATION.now (OkResult config)
+  pub read : ReadsAccepted CONFIGURATION.now (OkResult config)
   pub loaded : IsLoaded config n start text
   pub gave : IfTold held_old held_new (Gains text)
 
@@ -22,5 +22,4 @@ abbrev pub LoadGives : ℕ → ℕ → Status → Option (List ℕ) → Option (
 LoadGives n start Ok old new = WritesLoad n start (λ bytes before after. after ≡ before ++ bytes) old new
 LoadGives n start WriteFault old new = WritesLoad n start (λ bytes before after. (k : ℕ) × (after ≡ before ++ take k bytes)) old new
 LoadGives n start WantMemory old new = GainsNothing old new
-LoadGives n start (ConfigRefused fault) old new = ReadsConfig CONFIGURATION.now (Err (ConfigRefused fault)) × GainsNothing old new
 LoadGives n start status old new = ⊥

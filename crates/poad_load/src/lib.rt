@@ -13,4 +13,4 @@ mod steps;
 mod sum;
 mod tally;
 
-pub use loading::{CONFIGURATION, load};
+pub use loading::{CONFIGURATION, load, the_configuration_is_accepted};

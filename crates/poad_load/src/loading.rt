@@ -3,7 +3,9 @@ ghost use Rattle.std.specs.Prelude.{◌≡◌, ◌≤◌, IfOk};
 ghost use Rattle.poa_policy.specs.Kept.{KeepsRules};
 ghost use Rattle.outside.specs.Cause.{HasCause};
 ghost use Rattle.poad_load.specs.Counts.{IsLoaded};
+ghost use Rattle.poad_files.specs.Taking.{IsAccepted, ReadsAccepted};
 ghost use Rattle.poad_load.specs.Writing.{LoadGives};
+ghost use Rattle.poad_load.specs.declared.loading.TheConstants.{CONFIGURATION};
 
 use crate::playing::{end, enter, play_draws};
 use crate::printing::load_lines;
@@ -32,7 +34,7 @@ pub fn load<K: Sink>(alloc: Global, calls: u32, start: u64, sink: &mut K) -> Sta
     ensures gives { LoadGives calls start result (K.held sink.old) (K.held sink.new) }
     ensures written { HasCause (K.write_faults sink.old) (K.write_faults sink.new) (result ≡ Status.WriteFault) }
 {
-    let config = match config_of(alloc, CONFIGURATION) {
+    let config = match configuration(alloc) {
         Ok(config) => config,
         Err(status) => return status,
     };
@@ -46,7 +48,20 @@ pub fn load<K: Sink>(alloc: Global, calls: u32, start: u64, sink: &mut K) -> Sta
     }
 }
 
-// The lines of a load on this configuration.
+/// The text of the program's configuration is one.
+pub fn the_configuration_is_accepted()
+    ensures { IsAccepted CONFIGURATION.now }
+{}
+
+/// The configuration on which a load is played.
+fn configuration(alloc: Global) -> Result<Config, Status>
+    ensures read { ReadsAccepted CONFIGURATION.now result }
+    ensures rules { IfOk result KeepsRules }
+{
+    config_of(alloc, CONFIGURATION)
+}
+
+/// The lines of a load on this configuration.
 fn loaded(alloc: Global, config: Config, calls: u32, start: u64) -> Result<Vec<u8>, WantMemory>
     requires rules { KeepsRules config }
     requires few { calls ≤ 200000 }

@@ -16,4 +16,4 @@ mod working;
 pub use asking::request;
 pub use full::Full;
 pub use player::Player;
-pub use printing::{print_answer, print_bad, print_bytes, print_entry, print_idle, print_limit};
+pub use printing::{print_bad, print_limit};

@@ -1,0 +1,25 @@
+-- The number with which the program ends.
+use Rattle.std.specs.Prelude.{ℕ}
+use Rattle.poad_files.specs.declared.status.Status.{Status}
+use Rattle.poad_files.specs.declared.status.Status.TheVariants.{Ok, BadWords, ConfigRefused, ScriptRefused, TextRefused, ReadFault, WriteFault, FileFault, Malformed, Truncated, Held, Limit, ListenFault, NoThread, WantMemory, NoFile, FileTooLong, InputLimit}
+
+-- no two have the same
+abbrev pub status_number : Status → ℕ
+status_number Ok = 0
+status_number BadWords = 2
+status_number (ConfigRefused fault) = 3
+status_number (ScriptRefused line) = 4
+status_number (TextRefused fault) = 5
+status_number ReadFault = 6
+status_number WriteFault = 7
+status_number FileFault = 8
+status_number (Malformed at) = 9
+status_number (Truncated have) = 10
+status_number (Held count) = 11
+status_number (Limit arrivals bytes) = 12
+status_number ListenFault = 13
+status_number NoThread = 14
+status_number WantMemory = 15
+status_number NoFile = 16
+status_number FileTooLong = 17
+status_number (InputLimit taken) = 19
