@@ -1,6 +1,5 @@
 -- What a command reads of its files, over several takes.
-use Rattle.std.proofs.Common.{◌≡◌, ℕ, ◌≤◌, ◌<◌, List, length, Option, Result, Ok, Err, refl, sym, ◌∙◌, subst, arith}
-use Rattle.std.specs.Option.{IsSomeAnd}
+use Rattle.std.proofs.Common.{◌≡◌, ℕ, ◌≤◌, List, Option, Result, Ok, Err, refl, ◌∙◌, subst, arith}
 use Rattle.outside.specs.Cause.{HasCause}
 use Rattle.outside.specs.Keeping.{Contents}
 use Rattle.outside.specs.Told.{IfTold}
@@ -10,7 +9,7 @@ use Rattle.poad_files.specs.declared.status.Status.{Status}
 use Rattle.poad_files.specs.declared.status.Status.TheVariants as status
 use Rattle.poad_files.specs.declared.printing.Asked.{Asked}
 use Rattle.poad_files.specs.Filing.{Filed, Printed}
-use Rattle.poad_files.specs.Taking.{HoldsStill, config_limit, script_limit, IsHeld, OfContent, ReadsConfig, ReadsScript, Refused, TakesConfig, TakesScript}
+use Rattle.poad_files.specs.Taking.{HoldsStill, config_limit, script_limit, IsHeld, ReadsConfig, ReadsScript, Refused, TakesConfig, TakesScript}
 use Rattle.poad_files.specs.Showing.{GainsNothing}
 use Rattle.poad_files.proofs.Told.{told_then, told_here}
 use Rattle.poad_files.proofs.Causes.{cause_still, cause_from}
