@@ -1,4 +1,4 @@
-use Rattle.std.proofs.Common.{◌≡◌, ◌+◌, ◌≤◌}
+use Rattle.std.proofs.Common.{◌≡◌, ◌+◌}
 use Rattle.std.specs.Arc.{arc_value}
 use Rattle.seat_lock.specs.Seats.{view, IsFree, IsSeatOf}
 use Rattle.poad_bench.proofs.seat_rounds.count.Given as goal

@@ -1,4 +1,3 @@
-use Rattle.std.proofs.Common.{◌≡◌}
 use Rattle.std.specs.Arc.{arc_value}
 use Rattle.seat_lock.specs.Seats.{IsFree, IsSeatOf}
 use Rattle.poad_bench.proofs.seat_rounds.work.Given as goal
