@@ -27,8 +27,7 @@ use Rattle.serve_run.specs.declared.ran.PieceEnd.{PieceEnd}
 use Rattle.serve_run.specs.declared.ran.PieceEnd.TheVariants.{DoorEnd, DoorFailed, NotRunning, Worked}
 use Rattle.serve_run.specs.Outcomes.{any_failed, is_failed, least_in}
 use Rattle.serve_run.specs.Running.{IsKeptRun, IsServedRun, IsWholeRun}
-use Rattle.serve_run.specs.Served.{EachEnded}
-use Rattle.serve_run.specs.Tours.{Tour}
+use Rattle.serve_run.specs.Tours.{Tour, EachPassed}
 use Rattle.serve_run.specs.declared.doors.Doors.{Doors}
 use Rattle.serve_run.specs.declared.outcome.Outcome.{Outcome}
 use Rattle.serve_run.specs.declared.outcome.Want.TheVariants.{Thread}
@@ -46,25 +45,25 @@ both_false : (a b : Bool) → a || b ≡ false → (a ≡ false) × (b ≡ false
 both_false true b is = absurd (true≢false is)
 both_false false b is = (refl, is)
 
-module _ {A L : Type 0} (standing : A → Option (Standing L)) (faults : A → ℕ) (log : List Entry) where
-  pub any_rose : (tours : List (Tour A L)) → any_failed tours ≡ true → EachEnded {A = A} {L = L} standing faults log tours
+module _ {A L : Type 0} (standing : A → Option (Standing L)) (faults : A → ℕ) where
+  pub any_rose : (tours : List (Tour A L)) → any_failed tours ≡ true → EachPassed {A = A} {L = L} standing faults tours
       → AnyRose {A = A} {L = L} faults tours
-  any_rose [] is ended = absurd (true≢false (sym is))
-  any_rose (t ∷ more) is ended =
+  any_rose [] is passed = absurd (true≢false (sym is))
+  any_rose (t ∷ more) is passed =
       elim (or_cases (any_failed more) (is_failed t.end) is) [
-        | inl there ↦ inr (any_rose more there ended.1)
-        | inr here ↦ inl (ended.0.failed (failed_is t.end here))
+        | inl there ↦ inr (any_rose more there passed.1)
+        | inr here ↦ inl (passed.0.failed (failed_is t.end here))
       ]
 
-  pub each_steady : (tours : List (Tour A L)) → any_failed tours ≡ false → EachEnded {A = A} {L = L} standing faults log tours
+  pub each_steady : (tours : List (Tour A L)) → any_failed tours ≡ false → EachPassed {A = A} {L = L} standing faults tours
       → EachSteady {A = A} {L = L} faults tours
-  each_steady [] is ended = tt
-  each_steady (t ∷ more) is ended =
-      (let both = both_false (any_failed more) (is_failed t.end) is in (ended.0.steady (not_failed t.end both.1), each_steady more both.0 ended.1))
+  each_steady [] is passed = tt
+  each_steady (t ∷ more) is passed =
+      (let both = both_false (any_failed more) (is_failed t.end) is in (passed.0.steady (not_failed t.end both.1), each_steady more both.0 passed.1))
 
-module _ {A L : Type 0} (g : Givens) (shown : L → Shown) (standing : A → Option (Standing L)) (faults : A → ℕ) (workers : ℕ) (old new : Doors A)
+module _ {A L : Type 0} (g : Givens) (shown : L → Shown) (standing : A → Option (Standing L)) (faults ends : A → ℕ) (workers : ℕ) (old new : Doors A)
     (outcome : Outcome) (life : Life)
-    (ran : IsServedRun {A = A} {L = L} g shown standing faults workers old new outcome life)
+    (ran : IsServedRun {A = A} {L = L} g shown standing faults ends workers old new outcome life)
     (journal : Result Put AllocError) (filled : Option Full) (filled_is : option_map (λ f. (f.arrivals, f.bytes)) filled ≡ filled_at life.history)
     (status : Status) (status_is : status ≡ status_of outcome journal filled) where
   abbrev m : Bool
@@ -79,19 +78,19 @@ module _ {A L : Type 0} (g : Givens) (shown : L → Shown) (standing : A → Opt
   abbrev l : Option Full
   l = option_or filled outcome.refused
 
-  kept_run : m ≡ false → IsKeptRun {A = A} {L = L} g shown standing faults workers ran.tours ran.last (reverse life.history)
+  kept_run : m ≡ false → IsKeptRun {A = A} {L = L} g shown workers ran.tours ran.last (reverse life.history)
   kept_run none = ran.kept (not_lost outcome.lost outcome.short (is_err journal) none)
 
-  whole_run : m ≡ false → s ≡ false → IsWholeRun {A = A} {L = L} g shown standing faults ran.tours ran.last (reverse life.history)
+  whole_run : m ≡ false → s ≡ false → IsWholeRun {A = A} {L = L} g standing faults ends ran.tours ran.last (reverse life.history)
   whole_run none all = ran.calm (not_short outcome.short all) (not_lost outcome.lost outcome.short (is_err journal) none)
 
-  pub tells : Tells {A = A} {L = L} shown standing faults g workers ran.tours ran.last status life
+  pub tells : Tells {A = A} {L = L} shown standing faults ends g workers ran.tours ran.last status life
   tells = record {
     sessions = λ other. kept_run (no_memory_wanted m s u outcome.failed l (λ is. other (status_is ∙ is)));
     end = λ other more. whole_run (no_memory_wanted m s u outcome.failed l (λ is. other (status_is ∙ is)))
         (none_short m s u outcome.failed l (λ is. other (status_is ∙ is)) (λ is. more (status_is ∙ is)));
     listen_fault = λ is. (let told = listen_told m s u outcome.failed l (sym status_is ∙ is) in
-        any_rose standing faults (reverse life.history) ran.tours (sym ran.failed_is ∙ told.2) (whole_run told.0 told.1).ended);
+        any_rose standing faults ran.tours (sym ran.failed_is ∙ told.2) ran.passed);
     limit = λ calls bytes is. (let told = limit_told m s u outcome.failed l calls bytes (sym status_is ∙ is) in
         subst (λ at. IsLimit at (least_in ran.tours) calls bytes) filled_is
         (subst (λ r. IsLimit (option_map (λ f. (f.arrivals, f.bytes)) filled) r calls bytes) ran.refused_is
@@ -100,18 +99,18 @@ module _ {A L : Type 0} (g : Givens) (shown : L → Shown) (standing : A → Opt
         let none = none_full filled outcome.refused well.taken in (
           sym filled_is ∙ ap (option_map (λ f. (f.arrivals, f.bytes))) none.0,
           sym ran.refused_is ∙ none.1,
-          each_steady standing faults (reverse life.history) ran.tours (sym ran.failed_is ∙ well.doors) (whole_run well.memory well.started).ended,
+          each_steady standing faults ran.tours (sym ran.failed_is ∙ well.doors) ran.passed,
         ));
   }
 
   pub no_thread : status ≡ NoThread → outcome.short ≡ Some Thread
   no_thread is = (let told = thread_told m s u outcome.failed l (sym status_is ∙ is) in thread_short outcome.lost outcome.short (is_err journal) told.0 told.1)
 
-module _ {A L : Type 0} (shown : L → Shown) (standing : A → Option (Standing L)) (faults : A → ℕ) (asked : Option Serve) (serve : Serve) (begun : Life)
+module _ {A L : Type 0} (shown : L → Shown) (standing : A → Option (Standing L)) (faults ends : A → ℕ) (asked : Option Serve) (serve : Serve) (begun : Life)
     (status : Status) (old new : Doors A)
     (files between after : Option Contents) (asked_is : asked ≡ Some serve) (begins : IsBegun serve begun files between)
     (still : IfTold files between HoldsStill) where
-  pub ends : (core : Option Life) → ServesOn {A = A} {L = L} shown standing faults serve begun status old new core between after
-      → Ends {A = A} {L = L} shown standing faults asked status old new core files after
-  ends None is = (is.0, subst (λ now. IfTold files now HoldsStill) (sym is.2) still, inr is.1)
-  ends (Some life) is = (serve, asked_is, record { begun = begun; between = between; still = still; begins = begins; served = is })
+  pub run_ends : (core : Option Life) → ServesOn {A = A} {L = L} shown standing faults ends serve begun status old new core between after
+      → Ends {A = A} {L = L} shown standing faults ends asked status old new core files after
+  run_ends None is = (is.0, subst (λ now. IfTold files now HoldsStill) (sym is.2) still, inr is.1)
+  run_ends (Some life) is = (serve, asked_is, record { begun = begun; between = between; still = still; begins = begins; served = is })

@@ -24,16 +24,16 @@ use Rattle.serve_run.specs.Tours.{Tour}
 use Rattle.serve_run.specs.declared.doors.Doors.{Doors}
 use Rattle.serve_run.specs.declared.outcome.Outcome.{Outcome}
 
-module _ {A L : Type 0} (shown : L → Shown) (standing : A → Option (Standing L)) (faults : A → ℕ) where
+module _ {A L : Type 0} (shown : L → Shown) (standing : A → Option (Standing L)) (faults ends : A → ℕ) where
   -- What a status tells of a run with so many workers and these doors served, of which this came last on its own connection
   pub record Tells (g : Givens) (workers : ℕ) (tours : List (Tour A L)) (last : Option (ℕ × Entry)) (status : Status) (life : Life)
       : Type 0 where
     -- unless memory was wanting, nobody gave the run up, each connection but the first came by one link, and each link has
     -- its session by the whole journal
-    pub sessions : status ≢ WantMemory → IsKeptRun g shown standing faults workers tours last (reverse life.history)
+    pub sessions : status ≢ WantMemory → IsKeptRun g shown workers tours last (reverse life.history)
     -- unless a thread was, too, the run came to its end: every activation is over, every call of a client is decided, and
     -- each door ended for a cause
-    pub end : status ≢ WantMemory → status ≢ NoThread → IsWholeRun g shown standing faults tours last (reverse life.history)
+    pub end : status ≢ WantMemory → status ≢ NoThread → IsWholeRun g standing faults ends tours last (reverse life.history)
     pub listen_fault : status ≡ ListenFault → AnyRose faults tours
     pub limit : (calls bytes : ℕ) → status ≡ Limit calls bytes → IsLimit (filled_at life.history) (least_in tours) calls bytes
     pub fine : status ≡ Fine → (filled_at life.history ≡ None) × (least_in tours ≡ None) × EachSteady faults tours
@@ -42,7 +42,7 @@ module _ {A L : Type 0} (shown : L → Shown) (standing : A → Option (Standing
   pub record HasServed (serve : Serve) (begun : Life) (status : Status) (old new : Doors A) (life : Life)
       (files_old files_new : Option Contents) : Type 0 where
     pub outcome : Outcome
-    pub ran : IsServedRun (givens_of begun) shown standing faults serve.workers old new outcome life
+    pub ran : IsServedRun (givens_of begun) shown standing faults ends serve.workers old new outcome life
     pub journal : Result Put AllocError
     pub puts : PutsJournal serve.journal life journal files_old files_new
     pub filled : Option Full

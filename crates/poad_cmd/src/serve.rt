@@ -49,7 +49,7 @@ where
     A::Link: Send + 'static,
     G: Gate + Send + Sync + Drop + 'static,
     requires lanes { (serve : Serve) → serve_in words.now ≡ Some serve → vec_len doors.lanes ≡ serve.lanes }
-    ensures ends { Ends A.Link.shown A.standing A.faults (serve_in words.now) result.status doors result.doors result.core
+    ensures ends { Ends A.Link.shown A.standing A.faults A.ends (serve_in words.now) result.status doors result.doors result.core
         (F.contents host.old.files) (F.contents host.new.files) }
     ensures source { host.new.source ≡ host.old.source }
     ensures sink { host.new.sink ≡ host.old.sink }
@@ -89,7 +89,7 @@ where
     requires ranges { IsInRange beginning.words }
     requires lanes { vec_len doors.lanes ≡ beginning.words.lanes }
     requires fresh { beginning.core.history ≡ [] }
-    ensures serves { ServesOn A.Link.shown A.standing A.faults (seen_serve beginning.entry.words) beginning.entry.core result.status
+    ensures serves { ServesOn A.Link.shown A.standing A.faults A.ends (seen_serve beginning.entry.words) beginning.entry.core result.status
         doors result.doors result.core (F.contents files.old) (F.contents files.new) }
     ensures put { HasCause (F.put_faults files.old) (F.put_faults files.new) ((result.status ≡ Status.FileFault) × (result.core ≢ None)) }
     ensures all_put { result.status ≡ Status.Ok → F.put_faults files.new ≡ F.put_faults files.old }

@@ -56,7 +56,7 @@ none_lost : (a b : Bool) → (a || b) ≡ false → (a ≡ false) × (b ≡ fals
 none_lost false b is = (refl, is)
 none_lost true b is = absurd (let e : true ≡ false = is in cc)
 
-module _ {A L : Type 0} (g : Givens) (shown : L → Shown) (standing : A → Option (Standing L)) (faults : A → ℕ) where
+module _ {A L : Type 0} (g : Givens) (shown : L → Shown) (standing : A → Option (Standing L)) (faults ends : A → ℕ) where
   -- no door was served, as a piece wasn't started
   none_attended : (want : Want) (doors : Doors A) → Attended {A = A} {L = L} [] (Some want) doors doors
   none_attended want doors = record {
@@ -70,8 +70,8 @@ module _ {A L : Type 0} (g : Givens) (shown : L → Shown) (standing : A → Opt
   }
 
   pub doors_short : (old new : Doors A) (want : Want) (lost : Bool) (v w : View Givens Entry) → new.admin ≡ old.admin → new.lanes ≡ old.lanes
-      → AreServed {A = A} {L = L} g shown standing faults [] (short_of want lost) v w
-      → DoorsServed {A = A} {L = L} g shown standing faults old new (short_of want lost) v w
+      → AreServed {A = A} {L = L} g shown standing faults ends [] (short_of want lost) v w
+      → DoorsServed {A = A} {L = L} g shown standing faults ends old new (short_of want lost) v w
   doors_short old new want lost v w admin lanes served = record {
     tours = [];
     attended = record {
@@ -89,13 +89,13 @@ module _ {A L : Type 0} (g : Givens) (shown : L → Shown) (standing : A → Opt
   -- the administrators' door is joined
   module _ {G : Type 0} (task : Task A G) (old new : Doors A) (v v' w j : View Givens Entry) (outcome : Outcome) (kept : IsKept v v')
       (room : v'.room + 1 ≡ v.room)
-      (inner : LanesServed {A = A} {L = L} g shown standing faults old.lanes.items new.lanes.items outcome v' w)
+      (inner : LanesServed {A = A} {L = L} g shown standing faults ends old.lanes.items new.lanes.items outcome v' w)
       (first : View Givens Entry) (first_room : first.room ≡ 0) (door : Option A) (refused : Option Full) (end : PieceEnd)
-      (joined : IsJoined {A = A} {G = G} {L = L} shown standing faults task first w j door refused end)
-      (keeps : DoorKept {A = A} {L = L} g Administrator shown standing faults old.admin first joined.ran) (back : door ≡ Some new.admin) where
-    pub doors_more : DoorsServed {A = A} {L = L} g shown standing faults old new (with_door refused end outcome) v j
+      (joined : IsJoined {A = A} {G = G} {L = L} shown standing faults ends task first w j door refused end)
+      (keeps : DoorKept {A = A} {L = L} g Administrator shown standing faults ends old.admin first joined.ran) (back : door ≡ Some new.admin) where
+    pub doors_more : DoorsServed {A = A} {L = L} g shown standing faults ends old new (with_door refused end outcome) v j
     doors_more = record {
-      tours = tour_of g shown standing faults Administrator task old.admin inner.tours v v' w j outcome kept room inner.served first first_room door refused end
+      tours = tour_of g shown standing faults ends Administrator task old.admin inner.tours v v' w j outcome kept room inner.served first first_room door refused end
           joined keeps ∷ inner.tours;
       attended = record {
         lanes = inner.tours;
@@ -105,7 +105,7 @@ module _ {A L : Type 0} (g : Givens) (shown : L → Shown) (standing : A → Opt
         all = inner.all;
         clients = inner.clients;
         admin = inl (
-          tour_of g shown standing faults Administrator task old.admin inner.tours v v' w j outcome kept room inner.served first first_room door refused end
+          tour_of g shown standing faults ends Administrator task old.admin inner.tours v v' w j outcome kept room inner.served first first_room door refused end
               joined keeps,
           refl,
           refl,
@@ -114,19 +114,20 @@ module _ {A L : Type 0} (g : Givens) (shown : L → Shown) (standing : A → Opt
         );
       };
       served =
-          more_served g shown standing faults Administrator task old.admin inner.tours v v' w j outcome kept room inner.served first first_room door refused end
+          more_served g shown standing faults ends Administrator task old.admin inner.tours v v' w j outcome kept room inner.served first first_room door refused end
           joined keeps;
     }
 
   -- the doors were served, and a piece wasn't started
   pub all_short : (old new : Doors A) (outcome : Outcome) (v w : View Givens Entry) → (outcome.short ≡ None → ⊥)
-      → DoorsServed {A = A} {L = L} g shown standing faults old new outcome v w → AllServed {A = A} {L = L} g shown standing faults 0 old new outcome v w
+      → DoorsServed {A = A} {L = L} g shown standing faults ends old new outcome v w → AllServed {A = A} {L = L} g shown standing faults ends 0 old new outcome v w
   all_short old new outcome v w short served = record {
     same = served.served.same;
     tours = served.tours;
     attended = served.attended;
     failed_is = served.served.failed_is;
     refused_is = served.served.refused_is;
+    passed = served.served.passed;
     own = served.served.own;
     word = served.served.word;
     shifts = [];
@@ -138,25 +139,26 @@ module _ {A L : Type 0} (g : Givens) (shown : L → Shown) (standing : A → Opt
 
   -- the doors were served, all of them
   module _ (old new : Doors A) (outcome : Outcome) (v w : View Givens Entry) (given : v.givens ≡ Some g) (calm : outcome.short ≡ None)
-      (served : DoorsServed {A = A} {L = L} g shown standing faults old new outcome v w) where
-    held : Holds {A = A} {L = L} g shown standing faults None served.tours [] w
-    held = (let it = served.served.calm calm in subst (λ o. Holds {A = A} {L = L} g shown standing faults o served.tours [] w) it.0 (served.served.holds it.1))
+      (served : DoorsServed {A = A} {L = L} g shown standing faults ends old new outcome v w) where
+    held : Holds {A = A} {L = L} g shown standing faults ends None served.tours [] w
+    held = (let it = served.served.calm calm in subst (λ o. Holds {A = A} {L = L} g shown standing faults ends o served.tours [] w) it.0 (served.served.holds it.1))
 
     pub conn_held : HoldsConnection w 0
-    conn_held = connection_held g shown standing faults served.tours [] w held
+    conn_held = connection_held g shown standing faults ends served.tours [] w held
 
     module _ (x : View Givens Entry) (lost : Bool) (same : IsSameSeat w x) (says : lost ≡ false → Says w x) where
       same_all : IsSameSeat v x
       same_all =
           record { given = same.given ∙ served.served.same.given; base = same.base ∙ served.served.same.base; room = same.room ∙ served.served.same.room }
 
-      by_loss : (b : Bool) → lost ≡ b → AllServed {A = A} {L = L} g shown standing faults 0 old new (with_loss lost outcome) v x
+      by_loss : (b : Bool) → lost ≡ b → AllServed {A = A} {L = L} g shown standing faults ends 0 old new (with_loss lost outcome) v x
       by_loss true is = record {
         same = same_all;
         tours = served.tours;
         attended = served.attended;
         failed_is = served.served.failed_is;
         refused_is = served.served.refused_is;
+        passed = served.served.passed;
         own = None;
         word = tt;
         shifts = [];
@@ -166,14 +168,15 @@ module _ {A L : Type 0} (g : Givens) (shown : L → Shown) (standing : A → Opt
         worked = λ _ _ k low. absurd (omega arith);
       }
       by_loss false is =
-          let it : IsSaid {A = A} {L = L} g shown standing faults served.tours [] w held x =
-          says_shutdown g shown standing faults served.tours [] w x (served.served.same.given ∙ given) held (says is) in
+          let it : IsSaid {A = A} {L = L} g shown standing faults ends served.tours [] w held x =
+          says_shutdown g shown standing faults ends served.tours [] w x (served.served.same.given ∙ given) held (says is) in
           record {
             same = same_all;
             tours = served.tours;
             attended = served.attended;
             failed_is = served.served.failed_is;
             refused_is = served.served.refused_is;
+            passed = served.served.passed;
             own = it.own;
             word = it.word;
             shifts = [];
@@ -183,19 +186,20 @@ module _ {A L : Type 0} (g : Givens) (shown : L → Shown) (standing : A → Opt
             worked = λ _ _ k low. absurd (omega arith);
           }
 
-      pub all_shut : AllServed {A = A} {L = L} g shown standing faults 0 old new (with_loss lost outcome) v x
+      pub all_shut : AllServed {A = A} {L = L} g shown standing faults ends 0 old new (with_loss lost outcome) v x
       all_shut = by_loss lost refl
 
   -- a worker wasn't started
   pub workers_short : (count : ℕ) (doors : Doors A) (want : Want) (lost : Bool) (v w : View Givens Entry)
-      → AreServed {A = A} {L = L} g shown standing faults [] (short_of want lost) v w
-      → AllServed {A = A} {L = L} g shown standing faults count doors doors (short_of want lost) v w
+      → AreServed {A = A} {L = L} g shown standing faults ends [] (short_of want lost) v w
+      → AllServed {A = A} {L = L} g shown standing faults ends count doors doors (short_of want lost) v w
   workers_short count doors want lost v w served = record {
     same = served.same;
     tours = [];
     attended = none_attended want doors;
     failed_is = refl;
     refused_is = refl;
+    passed = tt;
     own = served.own;
     word = served.word;
     shifts = [];
@@ -208,9 +212,9 @@ module _ {A L : Type 0} (g : Givens) (shown : L → Shown) (standing : A → Opt
   -- a worker is joined
   module _ {G : Type 0} (task : Task A G) (fewer count : ℕ) (next : count ≡ fewer + 1) (old new : Doors A) (v v' w j : View Givens Entry) (outcome : Outcome)
       (kept : IsKept v v') (room : v'.room + 1 ≡ v.room)
-      (inner : AllServed {A = A} {L = L} g shown standing faults fewer old new outcome v' w)
+      (inner : AllServed {A = A} {L = L} g shown standing faults ends fewer old new outcome v' w)
       (first : View Givens Entry) (first_room : first.room ≡ 0) (fresh : first.mine ≡ []) (door : Option A) (refused : Option Full) (end : PieceEnd)
-      (joined : IsJoined {A = A} {G = G} {L = L} shown standing faults task first w j door refused end)
+      (joined : IsJoined {A = A} {G = G} {L = L} shown standing faults ends task first w j door refused end)
       (ended : WorkEnd) (end_is : joined.ran.end ≡ Worked ended) (worked : WorkedAs g fewer first joined.ran.seat.me.0 ended) where
     same_worker : IsSameSeat v j
     same_worker = record {
@@ -230,13 +234,14 @@ module _ {A L : Type 0} (g : Givens) (shown : L → Shown) (standing : A → Opt
         subst (λ e. WorkedAs g fewer first joined.ran.seat.me.0 e) is worked
 
     by_end : (b : Bool) → (outcome.lost || is_loss end) ≡ b
-        → AllServed {A = A} {L = L} g shown standing faults count old new (with_loss (is_loss end) outcome) v j
+        → AllServed {A = A} {L = L} g shown standing faults ends count old new (with_loss (is_loss end) outcome) v j
     by_end true is = record {
       same = same_worker;
       tours = inner.tours;
       attended = inner.attended;
       failed_is = inner.failed_is;
       refused_is = inner.refused_is;
+      passed = inner.passed;
       own = None;
       word = tt;
       shifts = [];
@@ -254,12 +259,13 @@ module _ {A L : Type 0} (g : Givens) (shown : L → Shown) (standing : A → Opt
           attended = inner.attended;
           failed_is = inner.failed_is;
           refused_is = inner.refused_is;
+          passed = inner.passed;
           own = inner.own;
           word = inner.word;
           shifts = record { worker = fewer; stood = joined.ran.seat.me.0.seen } ∷ inner.shifts;
-          holds = λ _. holds_worker g shown standing faults inner.own inner.tours inner.shifts w joined.ran.seat.me.0 j
+          holds = λ _. holds_worker g shown standing faults ends inner.own inner.tours inner.shifts w joined.ran.seat.me.0 j
               (inner.holds parts.0) fewer not_yet first fresh (closed parts.1) joined.unites mine;
-          last = λ none _. last_worker g shown standing faults inner.own inner.tours inner.shifts w joined.ran.seat.me.0 j
+          last = λ none _. last_worker g shown standing faults ends inner.own inner.tours inner.shifts w joined.ran.seat.me.0 j
               (inner.holds parts.0) fewer not_yet first fresh (closed parts.1) joined.unites mine (inner.last none parts.0);
           below = λ k there. ⊎_elim
               (λ (here : In k (fewer ∷ [])). (let same = one_in k fewer here in omega arith))
@@ -270,5 +276,5 @@ module _ {A L : Type 0} (g : Givens) (shown : L → Shown) (standing : A → Opt
               (λ (other : k ≡ fewer → ⊥). in_second k (fewer ∷ []) (workers_in inner.shifts) (inner.worked none parts.0 k (omega arith)));
         }
 
-    pub workers_more : AllServed {A = A} {L = L} g shown standing faults count old new (with_loss (is_loss end) outcome) v j
+    pub workers_more : AllServed {A = A} {L = L} g shown standing faults ends count old new (with_loss (is_loss end) outcome) v j
     workers_more = by_end (outcome.lost || is_loss end) refl

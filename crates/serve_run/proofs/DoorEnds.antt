@@ -25,7 +25,7 @@ use Rattle.serve_run.specs.declared.ran.PieceEnd.{PieceEnd}
 use Rattle.serve_run.specs.declared.ran.PieceEnd.TheVariants.{DoorEnd, DoorFailed, NotRunning, Worked}
 use Rattle.serve_run.proofs.Places.{earlier_stands}
 use Rattle.serve_run.specs.Holding.{AreBefore}
-use Rattle.serve_run.specs.Served.{EachEnded, EachPassed, IsEnded, NoneGaveUp, is_shut_by_others}
+use Rattle.serve_run.specs.Served.{EachEnded, HasEnded, NoneGaveUp, is_shut_by_others}
 use Rattle.serve_run.specs.Tours.{Tour, EachToured, HasToured}
 use Rattle.serve_run.proofs.Lasting.{arrived_at, reversed_more}
 use Rattle.serve_run.proofs.Whole.{abandoned_now, abandoned_still}
@@ -153,42 +153,32 @@ why_stopped h phase is other = by_facts (first_abandoned h) (is_shut h) (is_fill
     by_facts None false true gave shut filled at = by_filled filled
     by_facts None false false gave shut filled at = absurd (other at)
 
-module _ {A L : Type 0} (g : Givens) (shown : L → Shown) (standing_of : A → Option (Standing L)) (faults : A → ℕ) (v : View Givens Entry) (log : List Entry)
+module _ {A L : Type 0} (g : Givens) (shown : L → Shown) (standing_of : A → Option (Standing L)) (faults ends : A → ℕ) (v : View Givens Entry) (log : List Entry)
     (seen : log ≡ v.seen) (going : NoneGaveUp log) where
-  module _ (t : Tour A L) (none : NoneSaid (reverse t.stood)) (it : HasToured {A = A} {L = L} g shown standing_of faults t v) where
+  module _ (t : Tour A L) (none : NoneSaid (reverse t.stood)) (it : HasToured {A = A} {L = L} g shown standing_of faults ends t v) where
     p : IsPrefix t.stood log
     p = subst (IsPrefix t.stood) (sym seen) it.later
 
     whole_is : reverse log ≡ reverse p.0 ++ reverse t.stood
     whole_is = reversed_more t.stood log p.0 p.1
 
-    by_end : (end : PieceEnd) → t.end ≡ end → DoorHasCause end (standing_of t.served) (faults t.closed) (faults t.served) (reverse t.stood)
-        → IsEnded {A = A} {L = L} standing_of faults log t
-    by_end DoorEnd is cause =
-        record { why = inl cause.0; failed = λ other. absurd (let e : DoorEnd ≡ DoorFailed = sym is ∙ other in cc); steady = λ _. cause.1 }
-    by_end DoorFailed is cause = record { why = inr (inl cause); failed = λ _. cause; steady = λ other. absurd (other is) }
-    by_end (NotRunning phase) is cause = record {
-      why = elim (why_stopped (reverse t.stood) phase cause.0 cause.1) [
-        | by_abandon w gave ↦ absurd (true≢false (sym (ap (λ l. is_abandoned l w) whole_is ∙ abandoned_since w (reverse p.0) (reverse t.stood) gave) ∙ going w))
-        | by_shut shut ↦
-            inr (inr (inr (ap is_shut_by_others whole_is ∙ shut_since (reverse p.0) (reverse t.stood) (shut_by_others (reverse t.stood) none shut))))
-        | by_filled filled ↦ inr (inr (inl (ap is_filled whole_is ∙ filled_since (reverse p.0) (reverse t.stood) filled)))
-      ];
-      failed = λ other. absurd (let e : NotRunning phase ≡ DoorFailed = sym is ∙ other in cc);
-      steady = λ _. cause.2;
-    }
-    by_end (Worked end) is cause = absurd cause
+    by_end : (end : PieceEnd) → DoorHasCause {A = A} {L = L} standing_of faults ends end t.closed t.served (reverse t.stood)
+        → HasEnded {A = A} {L = L} standing_of faults ends end log t.closed t.served
+    by_end DoorEnd cause = cause.0
+    by_end DoorFailed cause = cause
+    by_end (NotRunning phase) cause =
+        elim (why_stopped (reverse t.stood) phase cause.0 cause.1) [
+          | by_abandon w gave ↦ absurd (true≢false (sym (ap (λ l. is_abandoned l w) whole_is ∙ abandoned_since w (reverse p.0) (reverse t.stood) gave) ∙ going w))
+          | by_shut shut ↦ inr (ap is_shut_by_others whole_is ∙ shut_since (reverse p.0) (reverse t.stood) (shut_by_others (reverse t.stood) none shut))
+          | by_filled filled ↦ inl (ap is_filled whole_is ∙ filled_since (reverse p.0) (reverse t.stood) filled)
+        ]
+    by_end (Worked end) cause = absurd cause
 
-    tour_ended : IsEnded {A = A} {L = L} standing_of faults log t
-    tour_ended = by_end t.end refl it.cause
+    tour_ended : HasEnded {A = A} {L = L} standing_of faults ends t.end log t.closed t.served
+    tour_ended = by_end t.end it.cause
 
   pub each_ended : (tours : List (Tour A L)) → (n : ℕ) → AreBefore {A = A} {L = L} n tours
       → ((t : Tour A L) → length t.stood ≤ n → IsPrefix t.stood v.seen → NoneSaid (reverse t.stood))
-      → EachToured {A = A} {L = L} g shown standing_of faults tours v → EachEnded {A = A} {L = L} standing_of faults log tours
+      → EachToured {A = A} {L = L} g shown standing_of faults ends tours v → EachEnded {A = A} {L = L} standing_of faults ends log tours
   each_ended [] n before none each = tt
   each_ended (t ∷ more) n before none each = (tour_ended t (none t before.0 each.0.later) each.0, each_ended more n before.1 none each.1)
-
-  pub each_passed : (tours : List (Tour A L)) → EachToured {A = A} {L = L} g shown standing_of faults tours v
-      → EachPassed {A = A} {L = L} standing_of faults tours
-  each_passed [] each = tt
-  each_passed (t ∷ more) each = (each.0.passes, each_passed more each.1)

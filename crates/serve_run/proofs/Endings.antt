@@ -77,7 +77,7 @@ module _ (g : Givens) (v : View Givens Entry) where
       (in_either w (s.worker ∷ []) (workers_in more) there)
 
 -- the visit by which a connection entered
-module _ {A L : Type 0} (g : Givens) (shown : L → Shown) (standing_of : A → Option (Standing L)) (faults : A → ℕ) (v : View Givens Entry) where
+module _ {A L : Type 0} (g : Givens) (shown : L → Shown) (standing_of : A → Option (Standing L)) (faults ends : A → ℕ) (v : View Givens Entry) where
   pub visit_of : (peer : Peer) (visits : List (Visit L)) (c : ℕ) → EachVisited g peer shown visits v → In c (conns_of visits) → (x : Visit L)
       × Visited g peer shown x v × (x.session.conn ≡ Some c)
   visit_of peer [] c each there = absurd (omega arith)
@@ -90,7 +90,7 @@ module _ {A L : Type 0} (g : Givens) (shown : L → Shown) (standing_of : A → 
       own_conn None here = absurd (omega arith)
       own_conn (Some d) here = ap Some (sym (one_in c d here))
 
-  pub tour_visit : (tours : List (Tour A L)) (c : ℕ) → EachToured {A = A} {L = L} g shown standing_of faults tours v → In c (conns_in tours) → (peer : Peer)
+  pub tour_visit : (tours : List (Tour A L)) (c : ℕ) → EachToured {A = A} {L = L} g shown standing_of faults ends tours v → In c (conns_in tours) → (peer : Peer)
       × (x : Visit L) × Visited g peer shown x v × (x.session.conn ≡ Some c)
   tour_visit [] c each there = absurd (omega arith)
   tour_visit (t ∷ more) c each there = ⊎_elim
@@ -98,9 +98,9 @@ module _ {A L : Type 0} (g : Givens) (shown : L → Shown) (standing_of : A → 
       (λ (later : In c (conns_in more)). tour_visit more c each.1 later)
       (in_either c (conns_of t.visits) (conns_in more) there)
 
-module _ {A L : Type 0} (g : Givens) (shown : L → Shown) (standing_of : A → Option (Standing L)) (faults : A → ℕ) (own : Option (ℕ × Entry))
+module _ {A L : Type 0} (g : Givens) (shown : L → Shown) (standing_of : A → Option (Standing L)) (faults ends : A → ℕ) (own : Option (ℕ × Entry))
     (tours : List (Tour A L)) (s : Shift) (others : List Shift) (v : View Givens Entry)
-    (holds : Holds {A = A} {L = L} g shown standing_of faults own tours (s ∷ others) v)
+    (holds : Holds {A = A} {L = L} g shown standing_of faults ends own tours (s ∷ others) v)
     (log : List Entry) (is_whole : IsWhole v log) (runs : IsLog g log) (first_one : In 0 (workers_in (s ∷ others))) where
   abbrev last : (r : Shift) × HasWorked g r v × AreShorter (length r.stood) (s ∷ others)
   last = longest g v s others holds.shifts_are
@@ -124,16 +124,16 @@ module _ {A L : Type 0} (g : Givens) (shown : L → Shown) (standing_of : A → 
   in_log x e at = subst (λ l. get_elem? l x ≡ some e) (sym grown) at
 
   seen_at : (x : ℕ) (e : Entry) → get_elem? log x ≡ some e → get_elem? v.seen x ≡ some e
-  seen_at x e at = in_seen {A = A} {L = L} g shown standing_of faults own tours (s ∷ others) v holds log is_whole runs x e at
+  seen_at x e at = in_seen {A = A} {L = L} g shown standing_of faults ends own tours (s ∷ others) v holds log is_whole runs x e at
 
   here : (w x : ℕ) (e : Entry) → get_elem? log x ≡ some e → worker_of e ≡ Some w → In w (workers_in (s ∷ others))
   here w x e at works = ⊎_elim
       (λ (i : In w (workers_in (s ∷ others))). i)
       (λ (help : IsHelpAt v.seen x). subst (λ k. In k (workers_in (s ∷ others))) (sym (help_first v.seen x help e w (seen_at x e at) works)) first_one)
-      (works_here {A = A} {L = L} g shown standing_of faults own tours (s ∷ others) v holds log is_whole runs w x e at works)
+      (works_here {A = A} {L = L} g shown standing_of faults ends own tours (s ∷ others) v holds log is_whole runs w x e at works)
 
   made_at : (x : ℕ) (e : Entry) → get_elem? log x ≡ some e → In x v.mine
-  made_at x e at = made {A = A} {L = L} g shown standing_of faults own tours (s ∷ others) v holds log is_whole runs x e at
+  made_at x e at = made {A = A} {L = L} g shown standing_of faults ends own tours (s ∷ others) v holds log is_whole runs x e at
 
   -- no worker made an entry behind the longest
   early : (w x : ℕ) (e : Entry) → get_elem? log x ≡ some e → worker_of e ≡ Some w → x < length stood
@@ -184,8 +184,8 @@ module _ {A L : Type 0} (g : Givens) (shown : L → Shown) (standing_of : A → 
   silent : (c x size : ℕ) (call : Call) → 0 < c → connections (reverse stood) ≤ c → get_elem? log x ≡ some (Arrive c size call) → ⊥
   silent c x size call above late_ at =
       let there =
-      came_by_door {A = A} {L = L} g shown standing_of faults own tours (s ∷ others) v holds log is_whole runs c x (Arrive c size call) at refl above in
-      let it = tour_visit {A = A} {L = L} g shown standing_of faults v tours c holds.tours_are there in
+      came_by_door {A = A} {L = L} g shown standing_of faults ends own tours (s ∷ others) v holds log is_whole runs c x (Arrive c size call) at refl above in
+      let it = tour_visit {A = A} {L = L} g shown standing_of faults ends v tours c holds.tours_are there in
       by_told it.0 it.1 it.2 it.3 (it.2.gone c it.3).quiet it.1.session.conn it.3 it.2.served.told
     where
       by_told : (peer : Peer) (y : Visit L) (visited : Visited g peer shown y v) → y.session.conn ≡ Some c

@@ -31,26 +31,26 @@ use Rattle.serve_run.specs.Served.{EachEnded, IsRunOver}
 use Rattle.serve_run.specs.Tours.{Tour, Shift, workers_in, EachToured}
 use Rattle.serve_run.specs.declared.doors.Doors.{Doors}
 use Rattle.serve_run.specs.declared.outcome.Outcome.{Outcome}
-use Rattle.serve_run.proofs.DoorEnds.{each_ended, each_passed}
+use Rattle.serve_run.proofs.DoorEnds.{each_ended}
 use Rattle.serve_run.proofs.Endings.{run_over}
 use Rattle.serve_run.proofs.Helping.{help_first}
 use Rattle.serve_run.proofs.Sessions.{came_by_door, connections_are, in_seen, made, none_abandoned, sessions_are, works_here, Stays}
 use Rattle.serve_run.proofs.Staying.{holds_looked, last_same, place_of, same_seen}
 use Rattle.serve_run.proofs.Whole.{whole, IsWhole}
 
-module _ {A L : Type 0} (g : Givens) (shown : L → Shown) (standing : A → Option (Standing L)) (faults : A → ℕ) where
-  all_before : (tours : List (Tour A L)) (v : View Givens Entry) → EachToured {A = A} {L = L} g shown standing faults tours v
+module _ {A L : Type 0} (g : Givens) (shown : L → Shown) (standing : A → Option (Standing L)) (faults ends : A → ℕ) where
+  all_before : (tours : List (Tour A L)) (v : View Givens Entry) → EachToured {A = A} {L = L} g shown standing faults ends tours v
       → AreBefore {A = A} {L = L} (length v.seen) tours
   all_before [] v each = tt
   all_before (t ∷ more) v each = (prefix_below t.stood v.seen each.0.later, all_before more v each.1)
 
   over_by : (own : Option (ℕ × Entry)) (tours : List (Tour A L)) (shifts : List Shift) (v : View Givens Entry) (log : List Entry)
-      → Holds {A = A} {L = L} g shown standing faults own tours shifts v → IsWhole v log → IsLog g log → In 0 (workers_in shifts) → IsRunOver g log
+      → Holds {A = A} {L = L} g shown standing faults ends own tours shifts v → IsWhole v log → IsLog g log → In 0 (workers_in shifts) → IsRunOver g log
   over_by own tours [] v log holds is_whole runs there = absurd (omega arith)
-  over_by own tours (s ∷ others) v log holds is_whole runs there = run_over g shown standing faults own tours s others v holds log is_whole runs there
+  over_by own tours (s ∷ others) v log holds is_whole runs there = run_over g shown standing faults ends own tours s others v holds log is_whole runs there
 
   module _ (own : Option (ℕ × Entry)) (tours : List (Tour A L)) (shifts : List Shift) (w : View Givens Entry)
-      (holds : Holds {A = A} {L = L} g shown standing faults own tours shifts w) (log : List Entry) (is_whole : IsWhole w log) (runs : IsLog g log) where
+      (holds : Holds {A = A} {L = L} g shown standing faults ends own tours shifts w) (log : List Entry) (is_whole : IsWhole w log) (runs : IsLog g log) where
     -- what stands of the first connection in what a door had seen at its end
     said_at : (t : Tour A L) → IsPrefix t.stood w.seen → (x size : ℕ) (call : Call) → get_elem? (reverse (reverse t.stood)) x ≡ some (Arrive 0 size call)
         → (x < length t.stood) × IsOwn own x (Arrive 0 size call)
@@ -61,16 +61,16 @@ module _ {A L : Type 0} (g : Givens) (shown : L → Shown) (standing : A → Opt
           holds.own_is x (Arrive 0 size call) (is_whole.all x (at_below w.seen x (Arrive 0 size call) seen)) seen refl,
         )
 
-    ends_by : (o : Option (ℕ × Entry)) → own ≡ o → IsLast {A = A} {L = L} own tours w → EachEnded {A = A} {L = L} standing faults log tours
+    ends_by : (o : Option (ℕ × Entry)) → own ≡ o → IsLast {A = A} {L = L} own tours w → EachEnded {A = A} {L = L} standing faults ends log tours
     ends_by None is last =
-        each_ended g shown standing faults w log is_whole.seen (none_abandoned g shown standing faults own tours shifts w holds log is_whole runs) tours
+        each_ended g shown standing faults ends w log is_whole.seen (none_abandoned g shown standing faults ends own tours shifts w holds log is_whole runs) tours
         (length w.seen) (all_before tours w holds.tours_are)
         (λ t far p x size call at. ⊎_elim
         (λ (first : Arrive 0 size call ≡ Entered 0). cc)
         (λ (same : own ≡ Some (x, Arrive 0 size call)). (let f : None ≡ Some (x, Arrive 0 size call) = sym is ∙ same in cc))
         (said_at t p x size call at).1) holds.tours_are
     ends_by (Some said) is last =
-        each_ended g shown standing faults w log is_whole.seen (none_abandoned g shown standing faults own tours shifts w holds log is_whole runs) tours said.0
+        each_ended g shown standing faults ends w log is_whole.seen (none_abandoned g shown standing faults ends own tours shifts w holds log is_whole runs) tours said.0
         (last.ended said.0 said.1 is)
         (λ t far p x size call at. ⊎_elim
         (λ (first : Arrive 0 size call ≡ Entered 0). cc)
@@ -80,40 +80,37 @@ module _ {A L : Type 0} (g : Givens) (shown : L → Shown) (standing : A → Opt
         (said_at t p x size call at).1) holds.tours_are
 
     pub kept_run : Stays g → (word : IsWord own) (workers : ℕ) → 0 < workers → ((w : ℕ) → In w (workers_in shifts) → w < workers)
-        → IsKeptRun {A = A} {L = L} g shown standing faults workers tours own log
+        → IsKeptRun {A = A} {L = L} g shown workers tours own log
     kept_run stays word workers some_workers below = record {
-      going = none_abandoned g shown standing faults own tours shifts w holds log is_whole runs;
+      going = none_abandoned g shown standing faults ends own tours shifts w holds log is_whole runs;
       worked = λ place k e at works. ⊎_elim
           (λ (i : In k (workers_in shifts)). below k i)
           (λ (help : IsHelpAt w.seen place).
-          (let zero_ = help_first w.seen place help e k (in_seen g shown standing faults own tours shifts w holds log is_whole runs place e at) works in
+          (let zero_ = help_first w.seen place help e k (in_seen g shown standing faults ends own tours shifts w holds log is_whole runs place e at) works in
           omega arith))
-          (works_here g shown standing faults own tours shifts w holds log is_whole runs k place e at works);
+          (works_here g shown standing faults ends own tours shifts w holds log is_whole runs k place e at works);
       first = record {
         word = word;
-        own = λ place e at of. holds.own_is place e (made g shown standing faults own tours shifts w holds log is_whole runs place e at)
-            (in_seen g shown standing faults own tours shifts w holds log is_whole runs place e at) of;
+        own = λ place e at of. holds.own_is place e (made g shown standing faults ends own tours shifts w holds log is_whole runs place e at)
+            (in_seen g shown standing faults ends own tours shifts w holds log is_whole runs place e at) of;
       };
-      connections = connections_are g shown standing faults own tours shifts w holds log is_whole runs;
-      sessions = sessions_are g shown standing faults own tours shifts w holds log is_whole runs stays tours holds.tours_are;
-      passed =
-          each_passed g shown standing faults w log is_whole.seen
-          (none_abandoned g shown standing faults own tours shifts w holds log is_whole runs) tours holds.tours_are;
+      connections = connections_are g shown standing faults ends own tours shifts w holds log is_whole runs;
+      sessions = sessions_are g shown standing faults ends own tours shifts w holds log is_whole runs stays tours holds.tours_are;
     }
 
-    pub whole_run : IsLast {A = A} {L = L} own tours w → In 0 (workers_in shifts) → IsWholeRun {A = A} {L = L} g shown standing faults tours own log
+    pub whole_run : IsLast {A = A} {L = L} own tours w → In 0 (workers_in shifts) → IsWholeRun {A = A} {L = L} g standing faults ends tours own log
     whole_run last there = record {
       last_word = λ place e is k c above b.
-          last.left place e is k c (made g shown standing faults own tours shifts w holds log is_whole runs k b.0 b.1)
-          (came_by_door g shown standing faults own tours shifts w holds log is_whole runs c k b.0 b.1 b.2 above)
-          (b.0, in_seen g shown standing faults own tours shifts w holds log is_whole runs k b.0 b.1, b.2);
+          last.left place e is k c (made g shown standing faults ends own tours shifts w holds log is_whole runs k b.0 b.1)
+          (came_by_door g shown standing faults ends own tours shifts w holds log is_whole runs c k b.0 b.1 b.2 above)
+          (b.0, in_seen g shown standing faults ends own tours shifts w holds log is_whole runs k b.0 b.1, b.2);
       over = over_by own tours shifts w log holds is_whole runs there;
       ended = ends_by own refl last;
     }
 
   -- a last look, and the core is taken out
   module _ (old new : Doors A) (outcome : Outcome) (first v w : View Givens Entry) (count : ℕ) (some_workers : 0 < count) (given : first.givens ≡ Some g)
-      (room : first.room ≡ 1024) (base : first.base ≡ 0) (served : AllServed {A = A} {L = L} g shown standing faults count old new outcome first v)
+      (room : first.room ≡ 1024) (base : first.base ≡ 0) (served : AllServed {A = A} {L = L} g shown standing faults ends count old new outcome first v)
       (looked : Event (λ x y. y ≡ x) v w) (life : Life) (given_life : w.givens ≡ Some (givens_of life)) (known : Knows owner_of w (reverse life.history))
       (stays : Stays g)
       (lifetimes : (c : Config) (run limit : ℕ) (h : List Entry) → IsRun c run limit h → HasLifetime c run h) where
@@ -129,10 +126,10 @@ module _ {A L : Type 0} (g : Givens) (shown : L → Shown) (standing : A → Opt
     runs : IsLog g (reverse life.history)
     runs = subst (IsHistory g) (sym (reverse-reverse life.history)) legal
 
-    holds_now : outcome.lost ≡ false → Holds {A = A} {L = L} g shown standing faults served.own served.tours served.shifts w
-    holds_now kept = holds_looked g shown standing faults served.tours served.shifts v w event.0 event.1 served.own event.2 (served.holds kept)
+    holds_now : outcome.lost ≡ false → Holds {A = A} {L = L} g shown standing faults ends served.own served.tours served.shifts w
+    holds_now kept = holds_looked g shown standing faults ends served.tours served.shifts v w event.0 event.1 served.own event.2 (served.holds kept)
 
-    pub served_run : IsServedRun {A = A} {L = L} g shown standing faults count old new outcome life
+    pub served_run : IsServedRun {A = A} {L = L} g shown standing faults ends count old new outcome life
     served_run = record {
       given = (let e : Some (givens_of life) ≡ Some g = sym given_life ∙ (event.1.given ∙ (served.same.given ∙ given)) in cc);
       legal = legal;
@@ -141,12 +138,13 @@ module _ {A L : Type 0} (g : Givens) (shown : L → Shown) (standing : A → Opt
       attended = served.attended;
       failed_is = served.failed_is;
       refused_is = served.refused_is;
+      passed = served.passed;
       last = served.own;
       kept = λ kept. kept_run served.own served.tours served.shifts w (holds_now kept)
           (reverse life.history) is_whole runs stays served.word count some_workers served.below;
       calm = λ calm kept. whole_run served.own served.tours served.shifts w (holds_now kept) (reverse life.history) is_whole runs
-          (last_same g shown standing faults served.tours served.shifts served.own v w
-          (same_seen g shown standing faults served.tours served.shifts v w event.0 event.1 event.2) (event.1.none_made event.2) (served.holds kept)
+          (last_same g shown standing faults ends served.tours served.shifts served.own v w
+          (same_seen g shown standing faults ends served.tours served.shifts v w event.0 event.1 event.2) (event.1.none_made event.2) (served.holds kept)
           (served.last calm kept))
           (served.worked calm kept 0 some_workers);
     }

@@ -28,9 +28,9 @@ use Rattle.serve_run.proofs.JoiningDoors.{each_toured}
 use Rattle.serve_run.proofs.Numbers.{here_in}
 use Rattle.serve_run.proofs.Uniting.{adds_other, ledger_both, other_apart}
 
-module _ {A L : Type 0} (g : Givens) (shown : L → Shown) (standing : A → Option (Standing L)) (faults : A → ℕ) (own : Option (ℕ × Entry))
+module _ {A L : Type 0} (g : Givens) (shown : L → Shown) (standing : A → Option (Standing L)) (faults ends : A → ℕ) (own : Option (ℕ × Entry))
     (tours : List (Tour A L))
-    (v u j : View Givens Entry) (holds : Holds {A = A} {L = L} g shown standing faults own tours [] v)
+    (v u j : View Givens Entry) (holds : Holds {A = A} {L = L} g shown standing faults ends own tours [] v)
     (first : View Givens Entry) (fresh : first.mine ≡ []) (helps : Helps first u) (unites : Unites v u j) (mine : j.mine ≡ v.mine ++ u.mine) where
   other : Ledger [] (0 ∷ []) u
   other = ledger_helped first u fresh helps
@@ -41,13 +41,13 @@ module _ {A L : Type 0} (g : Givens) (shown : L → Shown) (standing : A → Opt
   apart : (c : ℕ) → In c (0 ∷ conns_in tours) → (place : ℕ) → In place u.mine → Belongs owner_of j.seen place c → ⊥
   apart c i = other_apart v u j unites mine (0 ∷ conns_in tours) [] (0 ∷ []) (0 ∷ []) holds.ledger other c (holds.ledger.owned c i)
 
-  pub holds_aid : Holds {A = A} {L = L} g shown standing faults own tours [] j
+  pub holds_aid : Holds {A = A} {L = L} g shown standing faults ends own tours [] j
   holds_aid = record {
     ledger = ledger_both v u j unites mine (0 ∷ conns_in tours) [] (0 ∷ []) (0 ∷ []) holds.ledger other
         (0 ∷ conns_in tours) (0 ∷ []) (λ c. omega arith) (λ w i. i) (λ w i. i);
     turns_are = turns_more v j u.mine adds [] [] (λ w i. i)
         (λ place w there at. inr (help_stays u.seen j.seen place unites.second (help_at first u fresh helps place there))) holds.turns_are;
-    tours_are = each_toured v j u.mine adds g shown standing faults tours (λ c i. apart c (in_second c (0 ∷ []) (conns_in tours) i)) holds.tours_are;
+    tours_are = each_toured v j u.mine adds g shown standing faults ends tours (λ c i. apart c (in_second c (0 ∷ []) (conns_in tours) i)) holds.tours_are;
     shifts_are = tt;
     own_is = λ place e there stands is. ⊎_elim
         (λ (i : In place v.mine). holds.own_is place e i (stood_before v.seen j.seen place e unites.first (holds.ledger.within place i) stands) is)
@@ -101,11 +101,11 @@ aid_given v w (Some s) joined = ap (λ x. x.givens) joined.0
 aid_given v w None joined = ap (λ x. x.givens) joined
 
 -- lanes were served in between, and the aid made turns
-module _ {A L : Type 0} (g : Givens) (shown : L → Shown) (standing : A → Option (Standing L)) (faults : A → ℕ) (v w u j : View Givens Entry)
+module _ {A L : Type 0} (g : Givens) (shown : L → Shown) (standing : A → Option (Standing L)) (faults ends : A → ℕ) (v w u j : View Givens Entry)
     (given : v.givens ≡ Some g) (some_room : 0 < v.room)
-    (tours : List (Tour A L)) (outcome : Outcome) (served : AreServed {A = A} {L = L} g shown standing faults tours outcome w u) where
+    (tours : List (Tour A L)) (outcome : Outcome) (served : AreServed {A = A} {L = L} g shown standing faults ends tours outcome w u) where
   pub are_aided : (aid back : Option SeatOf) → IsSplit v aid w → Aids aid back → AidJoined u back j
-      → AreServed {A = A} {L = L} g shown standing faults tours outcome v j
+      → AreServed {A = A} {L = L} g shown standing faults ends tours outcome v j
   are_aided (Some s) (Some t) split aids joined =
       let helps : Helps (view s) (view t) = aids g (ap (λ x. x.givens) split.1 ∙ given) in
       record {
@@ -120,28 +120,29 @@ module _ {A L : Type 0} (g : Givens) (shown : L → Shown) (standing : A → Opt
         };
         failed_is = served.failed_is;
         refused_is = served.refused_is;
+        passed = served.passed;
         own = served.own;
         word = served.word;
-        holds = λ kept. holds_aid g shown standing faults served.own tours u (view t) j (served.holds kept) (view s) (ap (λ x. x.mine) split.1) helps joined.1
+        holds = λ kept. holds_aid g shown standing faults ends served.own tours u (view t) j (served.holds kept) (view s) (ap (λ x. x.mine) split.1) helps joined.1
             (ap (λ x. x.mine) joined.0);
         calm = served.calm;
       }
-  are_aided None None split aids joined = subst (λ x. AreServed {A = A} {L = L} g shown standing faults tours outcome x j) split
-      (subst (λ x. AreServed {A = A} {L = L} g shown standing faults tours outcome w x) (sym joined) served)
+  are_aided None None split aids joined = subst (λ x. AreServed {A = A} {L = L} g shown standing faults ends tours outcome x j) split
+      (subst (λ x. AreServed {A = A} {L = L} g shown standing faults ends tours outcome w x) (sym joined) served)
   are_aided (Some s) None split aids joined = absurd aids
   are_aided None (Some t) split aids joined = absurd aids
 
-pub lanes_aided : {A L : Type 0} (g : Givens) (shown : L → Shown) (standing : A → Option (Standing L)) (faults : A → ℕ) (v w u j : View Givens Entry)
+pub lanes_aided : {A L : Type 0} (g : Givens) (shown : L → Shown) (standing : A → Option (Standing L)) (faults ends : A → ℕ) (v w u j : View Givens Entry)
     → v.givens ≡ Some g → 0 < v.room
-    → (lanes lanes' : List A) (outcome : Outcome) → LanesServed {A = A} {L = L} g shown standing faults lanes lanes' outcome w u
+    → (lanes lanes' : List A) (outcome : Outcome) → LanesServed {A = A} {L = L} g shown standing faults ends lanes lanes' outcome w u
     → (aid back : Option SeatOf) → IsSplit v aid w → Aids aid back → AidJoined u back j
-    → LanesServed {A = A} {L = L} g shown standing faults lanes lanes' outcome v j
-lanes_aided g shown standing faults v w u j given some_room lanes lanes' outcome served aid back split aids joined = record {
+    → LanesServed {A = A} {L = L} g shown standing faults ends lanes lanes' outcome v j
+lanes_aided g shown standing faults ends v w u j given some_room lanes lanes' outcome served aid back split aids joined = record {
   tours = served.tours;
   rest = served.rest;
   before = served.before;
   after = served.after;
   all = served.all;
   clients = served.clients;
-  served = are_aided g shown standing faults v w u j given some_room served.tours outcome served.served aid back split aids joined;
+  served = are_aided g shown standing faults ends v w u j given some_room served.tours outcome served.served aid back split aids joined;
 }

@@ -47,32 +47,30 @@ module _ (v j : View Givens Entry) (made : List ℕ) (adds : Adds v j made) wher
     each_worked g more (λ w i. apart w (in_second w (s.worker ∷ []) (workers_in more) i)) each.1,
   )
 
-  module _ {A L : Type 0} (g : Givens) (shown : L → Shown) (standing : A → Option (Standing L)) (faults : A → ℕ) where
+  module _ {A L : Type 0} (g : Givens) (shown : L → Shown) (standing : A → Option (Standing L)) (faults ends : A → ℕ) where
     pub toured_later : (t : Tour A L) → ((c : ℕ) → In c (conns_of t.visits) → (place : ℕ) → In place made → Belongs owner_of j.seen place c → ⊥)
-        → HasToured g shown standing faults t v → HasToured g shown standing faults t j
+        → HasToured g shown standing faults ends t v → HasToured g shown standing faults ends t j
     toured_later t apart it = record {
       each = each_later v j made adds g t.peer shown t.visits apart it.each;
-      passes = it.passes;
-      refused_is = it.refused_is;
       later = prefix_through t.stood v.seen j.seen it.later adds.grows;
       cause = it.cause;
     }
 
     pub each_toured : (tours : List (Tour A L)) → ((c : ℕ) → In c (conns_in tours) → (place : ℕ) → In place made → Belongs owner_of j.seen place c → ⊥)
-        → EachToured g shown standing faults tours v → EachToured g shown standing faults tours j
+        → EachToured g shown standing faults ends tours v → EachToured g shown standing faults ends tours j
     each_toured [] apart each = tt
     each_toured (t ∷ more) apart each = (
       toured_later t (λ c i. apart c (in_first c (conns_of t.visits) (conns_in more) i)) each.0,
       each_toured more (λ c i. apart c (in_second c (conns_of t.visits) (conns_in more) i)) each.1,
     )
 
-module _ {A L : Type 0} (g : Givens) (shown : L → Shown) (standing : A → Option (Standing L)) (faults : A → ℕ) (own : Option (ℕ × Entry))
-    (tours : List (Tour A L)) (shifts : List Shift) (v u j : View Givens Entry) (holds : Holds {A = A} {L = L} g shown standing faults own tours shifts v)
+module _ {A L : Type 0} (g : Givens) (shown : L → Shown) (standing : A → Option (Standing L)) (faults ends : A → ℕ) (own : Option (ℕ × Entry))
+    (tours : List (Tour A L)) (shifts : List Shift) (v u j : View Givens Entry) (holds : Holds {A = A} {L = L} g shown standing faults ends own tours shifts v)
     (peer : Peer) (closed door : A) (refused : Option Full) (end : PieceEnd) (first : View Givens Entry)
-    (served : DoorServed {A = A} {L = L} g peer shown standing faults first u closed door refused end) (unites : Unites v u j)
+    (served : DoorServed {A = A} {L = L} g peer shown standing faults ends first u closed door refused end) (unites : Unites v u j)
     (mine : j.mine ≡ v.mine ++ u.mine) where
   abbrev pub tour : Tour A L
-  tour = record { peer = peer; closed = closed; served = door; visits = served.visits; refused = refused; end = end; stood = u.seen }
+  tour = record { peer = peer; closed = closed; served = door; visits = served.visits; end = end; stood = u.seen }
 
   adds : Adds v j u.mine
   adds = adds_other v u j unites mine (0 ∷ conns_in tours) (conns_of served.visits) (0 ∷ workers_in shifts) [] holds.ledger served.attends.ledger
@@ -103,16 +101,16 @@ module _ {A L : Type 0} (g : Givens) (shown : L → Shown) (standing : A → Opt
   ledger_count : (c : ℕ) → times c (0 ∷ (conns_of served.visits ++ conns_in tours)) ≡ times c (0 ∷ conns_in tours) + times c (conns_of served.visits)
   ledger_count c = (let t = times_both c (conns_of served.visits) (conns_in tours) in omega arith)
 
-  pub holds_door : Holds {A = A} {L = L} g shown standing faults own (tour ∷ tours) shifts j
+  pub holds_door : Holds {A = A} {L = L} g shown standing faults ends own (tour ∷ tours) shifts j
   holds_door = record {
     ledger = ledger_both v u j unites mine (0 ∷ conns_in tours) (conns_of served.visits) (0 ∷ workers_in shifts) [] holds.ledger served.attends.ledger
         (0 ∷ conns_in (tour ∷ tours)) (0 ∷ workers_in shifts) ledger_count (λ w i. i) (λ w i. absurd (omega arith));
     turns_are =
         turns_more v j u.mine adds (workers_in shifts) (workers_in shifts) (λ w i. i) (λ place w i own. absurd (no_turns w place i own)) holds.turns_are;
     tours_are = (
-      toured_later u j v.mine adds' g shown standing faults tour apart'
-          (record { each = served.attends.each; passes = served.passes; refused_is = served.refused_is; later = prefix_self u.seen; cause = served.cause }),
-      each_toured v j u.mine adds g shown standing faults tours (λ c i. apart c (in_second c (0 ∷ []) (conns_in tours) i)) holds.tours_are,
+      toured_later u j v.mine adds' g shown standing faults ends tour apart'
+          (record { each = served.attends.each; later = prefix_self u.seen; cause = served.cause }),
+      each_toured v j u.mine adds g shown standing faults ends tours (λ c i. apart c (in_second c (0 ∷ []) (conns_in tours) i)) holds.tours_are,
     );
     shifts_are = each_worked v j u.mine adds g shifts (λ w i. no_turns w) holds.shifts_are;
     own_is = λ place e there stands is. ⊎_elim

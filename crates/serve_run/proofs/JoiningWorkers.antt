@@ -42,8 +42,8 @@ module _ (g : Givens) (worker : ℕ) (first u : View Givens Entry) (fresh : firs
     once = λ c. omega arith;
   }
 
-module _ {A L : Type 0} (g : Givens) (shown : L → Shown) (standing : A → Option (Standing L)) (faults : A → ℕ) (own : Option (ℕ × Entry))
-    (tours : List (Tour A L)) (shifts : List Shift) (v u j : View Givens Entry) (holds : Holds {A = A} {L = L} g shown standing faults own tours shifts v)
+module _ {A L : Type 0} (g : Givens) (shown : L → Shown) (standing : A → Option (Standing L)) (faults ends : A → ℕ) (own : Option (ℕ × Entry))
+    (tours : List (Tour A L)) (shifts : List Shift) (v u j : View Givens Entry) (holds : Holds {A = A} {L = L} g shown standing faults ends own tours shifts v)
     (worker : ℕ) (new_one : In worker (workers_in shifts) → ⊥) (first : View Givens Entry) (fresh : first.mine ≡ []) (worked : Worked g worker first u Closed)
     (unites : Unites v u j) (mine : j.mine ≡ v.mine ++ u.mine) where
   abbrev pub shift : Shift
@@ -97,14 +97,14 @@ module _ {A L : Type 0} (g : Givens) (shown : L → Shown) (standing : A → Opt
   own_worker : (w : ℕ) → In w (worker ∷ []) → In w (0 ∷ workers_in (shift ∷ shifts))
   own_worker w i = in_second w (0 ∷ []) (worker ∷ workers_in shifts) (in_first w (worker ∷ []) (workers_in shifts) i)
 
-  pub holds_worker : Holds {A = A} {L = L} g shown standing faults own tours (shift ∷ shifts) j
+  pub holds_worker : Holds {A = A} {L = L} g shown standing faults ends own tours (shift ∷ shifts) j
   holds_worker = record {
     ledger = ledger_both v u j unites mine (0 ∷ conns_in tours) [] (0 ∷ workers_in shifts) (worker ∷ []) holds.ledger other
         (0 ∷ conns_in tours) (0 ∷ workers_in (shift ∷ shifts)) (λ c. omega arith) more_workers own_worker;
     turns_are =
         turns_more v j u.mine adds (workers_in shifts) (workers_in (shift ∷ shifts)) (λ w i. in_second w (worker ∷ []) (workers_in shifts) i)
         (λ place w i at. inl (is_own place w i at)) holds.turns_are;
-    tours_are = each_toured v j u.mine adds g shown standing faults tours (λ c i. apart c (in_second c (0 ∷ []) (conns_in tours) i)) holds.tours_are;
+    tours_are = each_toured v j u.mine adds g shown standing faults ends tours (λ c i. apart c (in_second c (0 ∷ []) (conns_in tours) i)) holds.tours_are;
     shifts_are = (
       record {
         later = unites.second;

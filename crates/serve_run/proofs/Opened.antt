@@ -36,7 +36,7 @@ module _ (g : Givens) (v : View Givens Entry) (o : IsOpened g v) where
   pub opened_base : v.base ≡ 0
   opened_base = event.1.base
 
-  pub opened_holds : {A L : Type 0} (shown : L → Shown) (standing : A → Option (Standing L)) (faults : A → ℕ)
-      → Holds {A = A} {L = L} g shown standing faults None [] [] v
-  opened_holds shown standing faults =
-      holds_first g shown standing faults (first_view g []) v event.0 o.conn refl refl refl event.1 event.2.0 (ap (λ l. l.history) event.2.2)
+  pub opened_holds : {A L : Type 0} (shown : L → Shown) (standing : A → Option (Standing L)) (faults ends : A → ℕ)
+      → Holds {A = A} {L = L} g shown standing faults ends None [] [] v
+  opened_holds shown standing faults ends =
+      holds_first g shown standing faults ends (first_view g []) v event.0 o.conn refl refl refl event.1 event.2.0 (ap (λ l. l.history) event.2.2)

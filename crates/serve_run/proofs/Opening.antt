@@ -34,7 +34,7 @@ no_length : (h : List Entry) → length h ≡ 0 → h ≡ []
 no_length [] none = refl
 no_length (e ∷ h) none = absurd (omega arith)
 
-module _ {A L : Type 0} (g : Givens) (shown : L → Shown) (standing : A → Option (Standing L)) (faults : A → ℕ) where
+module _ {A L : Type 0} (g : Givens) (shown : L → Shown) (standing : A → Option (Standing L)) (faults ends : A → ℕ) where
   module _ (v w : View Givens Entry) (h : List Entry) (conn : ℕ) (fresh : v.mine ≡ []) (room : v.room ≡ 1024) (base : v.base ≡ 0) (t : Turns g v h w)
       (number : conn ≡ connections h) (is : past w ≡ Entered conn ∷ h) where
     mine : w.mine ≡ length h ∷ []
@@ -56,7 +56,7 @@ module _ {A L : Type 0} (g : Givens) (shown : L → Shown) (standing : A → Opt
     stands : get_elem? w.seen (length h) ≡ some (Entered 0)
     stands = subst (λ l. get_elem? l (length h) ≡ some (Entered 0)) (sym seen_one) (newest_stands (Entered conn) h ∙ ap (λ k. some (Entered k)) is_first)
 
-    pub holds_first : Holds {A = A} {L = L} g shown standing faults None [] [] w
+    pub holds_first : Holds {A = A} {L = L} g shown standing faults ends None [] [] w
     holds_first = record {
       ledger = record {
         explained = λ place there. (let at = one_in place (length h) (subst (In place) mine there) in
@@ -88,7 +88,7 @@ module _ {A L : Type 0} (g : Givens) (shown : L → Shown) (standing : A → Opt
             (λ (other : c ≡ 0 → ⊥). (let none = times_else c 0 other in omega arith))
 
   module _ (tours : List (Tour A L)) (shifts : List Shift) (v : View Givens Entry)
-      (holds : Holds {A = A} {L = L} g shown standing faults None tours shifts v) where
+      (holds : Holds {A = A} {L = L} g shown standing faults ends None tours shifts v) where
     -- its own connection is there
     pub connection_held : HoldsConnection v 0
     connection_held = record {
@@ -103,7 +103,7 @@ module _ {A L : Type 0} (g : Givens) (shown : L → Shown) (standing : A → Opt
     pub record IsSaid (w : View Givens Entry) : Type 0 where
       pub own : Option (ℕ × Entry)
       pub word : IsWord own
-      pub holds_it : Holds {A = A} {L = L} g shown standing faults own tours shifts w
+      pub holds_it : Holds {A = A} {L = L} g shown standing faults ends own tours shifts w
       pub last : IsLast {A = A} {L = L} own tours w
 
     module _ (w : View Givens Entry) (given : v.givens ≡ Some g) where
@@ -112,7 +112,7 @@ module _ {A L : Type 0} (g : Givens) (shown : L → Shown) (standing : A → Opt
           record {
             own = None;
             word = tt;
-            holds_it = holds_looked g shown standing faults tours shifts v w h t None is holds;
+            holds_it = holds_looked g shown standing faults ends tours shifts v w h t None is holds;
             last = record {
               ended = λ place e same. absurd (let f : None ≡ Some (place, e) = same in cc);
               left = λ place e same. absurd (let f : None ≡ Some (place, e) = same in cc);
@@ -126,8 +126,8 @@ module _ {A L : Type 0} (g : Givens) (shown : L → Shown) (standing : A → Opt
           record {
             own = Some (length it.0, Arrive 0 8 (Line 1 Shutdown));
             word = inl refl;
-            holds_it = holds_own g shown standing faults tours shifts v w it.0 it.1 (Arrive 0 8 (Line 1 Shutdown)) is refl holds;
-            last = last_own g shown standing faults tours shifts v w it.0 it.1 (Arrive 0 8 (Line 1 Shutdown)) is refl holds;
+            holds_it = holds_own g shown standing faults ends tours shifts v w it.0 it.1 (Arrive 0 8 (Line 1 Shutdown)) is refl holds;
+            last = last_own g shown standing faults ends tours shifts v w it.0 it.1 (Arrive 0 8 (Line 1 Shutdown)) is refl holds;
           })
       said (Err (arrive_fault.Limit calls bytes)) event =
           (let it = event g given in by_filled it.0 it.1 (is_filled it.0) it.2.1)
@@ -140,7 +140,7 @@ module _ {A L : Type 0} (g : Givens) (shown : L → Shown) (standing : A → Opt
               record {
                 own = Some (length h, Filled 0 8);
                 word = inr refl;
-                holds_it = holds_own g shown standing faults tours shifts v w h t (Filled 0 8) one refl holds;
-                last = last_own g shown standing faults tours shifts v w h t (Filled 0 8) one refl holds;
+                holds_it = holds_own g shown standing faults ends tours shifts v w h t (Filled 0 8) one refl holds;
+                last = last_own g shown standing faults ends tours shifts v w h t (Filled 0 8) one refl holds;
               })
       said (Err arrive_fault.WantMemory) event = (let it = event g given in nothing_said it.0 it.1 (ap (λ l. l.history) it.2.1))

@@ -1,9 +1,14 @@
 -- A door gives a link and is given it back: it has passed one link more.
-use Rattle.std.proofs.Common.{◌≡◌, ◌-◌, List, [], ◌∷◌, ◌++◌, Option, Some, None, refl, sym, ap, ◌∙◌, arith}
+use Rattle.std.proofs.Common.{◌≡◌, ℕ, ◌-◌, List, [], ◌∷◌, ◌++◌, Option, Some, None, refl, sym, ap, ◌∙◌, arith}
 use Rattle.outside.specs.Accepting.{Opens, Standing, TakesBack}
 use Rattle.outside.specs.Told.{IfTold}
 use Rattle.outside.specs.declared.accepting.Door.TheVariants as door
+use Rattle.poa_base.specs.declared.Entry.{Entry}
+use Rattle.serve_run.specs.Doors.{DoorHasCause}
+use Rattle.serve_run.specs.Tours.{Tour, HasPassed}
 use Rattle.serve_run.specs.Visits.{Visit, Passes, given}
+use Rattle.serve_run.specs.declared.ran.PieceEnd.{PieceEnd}
+use Rattle.serve_run.specs.declared.ran.PieceEnd.TheVariants.{DoorEnd, DoorFailed, NotRunning, Worked}
 
 module _ {L : Type 0} where
   pub passes_none : (s : Option (Standing L)) → IfTold s s (Passes [])
@@ -28,3 +33,15 @@ module _ {L : Type 0} where
   passed_on visits x None None (Some c) w p q r = absurd q
   passed_on visits x (Some a) (Some b) (Some c) None p q r = absurd r
   passed_on visits x None None None (Some d) p q r = absurd r
+
+-- a door that was served to its end counted a fault where it failed, and else none
+module _ {A L : Type 0} (standing : A → Option (Standing L)) (faults ends : A → ℕ) (t : Tour A L) (h : List Entry)
+    (passes : IfTold (standing t.closed) (standing t.served) (Passes t.visits)) where
+  pub has_passed : (end : PieceEnd) → t.end ≡ end → DoorHasCause {A = A} {L = L} standing faults ends end t.closed t.served h
+      → HasPassed {A = A} {L = L} standing faults t
+  has_passed DoorEnd is cause =
+      record { passes = passes; failed = λ other. absurd (let e : DoorEnd ≡ DoorFailed = sym is ∙ other in cc); steady = λ _. cause.1 }
+  has_passed DoorFailed is cause = record { passes = passes; failed = λ _. cause; steady = λ other. absurd (other is) }
+  has_passed (NotRunning phase) is cause =
+      record { passes = passes; failed = λ other. absurd (let e : NotRunning phase ≡ DoorFailed = sym is ∙ other in cc); steady = λ _. cause.2 }
+  has_passed (Worked end) is cause = absurd cause

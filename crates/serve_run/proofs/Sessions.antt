@@ -64,8 +64,8 @@ abbrev pub Stays : Givens → Type 0
 Stays g = (peer : Peer) (log more : List Entry) (c : ℕ) (text out : List ℕ) (end : SessionEnd) → IsLog g (log ++ more) → HasNone c more
     → Session g peer log c text out end → Session g peer (log ++ more) c text out end
 
-module _ {A L : Type 0} (g : Givens) (shown : L → Shown) (standing : A → Option (Standing L)) (faults : A → ℕ) (own : Option (ℕ × Entry))
-    (tours : List (Tour A L)) (shifts : List Shift) (v : View Givens Entry) (holds : Holds {A = A} {L = L} g shown standing faults own tours shifts v)
+module _ {A L : Type 0} (g : Givens) (shown : L → Shown) (standing : A → Option (Standing L)) (faults ends : A → ℕ) (own : Option (ℕ × Entry))
+    (tours : List (Tour A L)) (shifts : List Shift) (v : View Givens Entry) (holds : Holds {A = A} {L = L} g shown standing faults ends own tours shifts v)
     (log : List Entry) (is_whole : IsWhole v log) (runs : IsLog g log) where
   -- each place of the journal is explained
   pub made : (x : ℕ) (e : Entry) → get_elem? log x ≡ some e → In x v.mine
@@ -188,7 +188,7 @@ module _ {A L : Type 0} (g : Givens) (shown : L → Shown) (standing : A → Opt
     visits_are peer [] each = tt
     visits_are peer (x ∷ earlier) each = (visit_is peer x each.0, visits_are peer earlier each.1)
 
-    pub sessions_are : (some_tours : List (Tour A L)) → EachToured {A = A} {L = L} g shown standing faults some_tours v
+    pub sessions_are : (some_tours : List (Tour A L)) → EachToured {A = A} {L = L} g shown standing faults ends some_tours v
         → EachDoor {A = A} {L = L} g shown log some_tours
     sessions_are [] each = tt
     sessions_are (t ∷ more) each = (visits_are t.peer t.visits each.0.each, sessions_are more each.1)

@@ -30,10 +30,10 @@ some_pair k place e d p q = λ i. Some (p i, q i)
 pub place_of : (p q : ℕ × Entry) → Some p ≡ Some q → p.0 ≡ q.0
 place_of p q same = (let e : p ≡ q = cc in ap (λ r. r.0) e)
 
-module _ {A L : Type 0} (g : Givens) (shown : L → Shown) (standing : A → Option (Standing L)) (faults : A → ℕ) (tours : List (Tour A L))
+module _ {A L : Type 0} (g : Givens) (shown : L → Shown) (standing : A → Option (Standing L)) (faults ends : A → ℕ) (tours : List (Tour A L))
     (shifts : List Shift) where
   abbrev HoldsIt : Option (ℕ × Entry) → View Givens Entry → Type 0
-  HoldsIt own v = Holds {A = A} {L = L} g shown standing faults own tours shifts v
+  HoldsIt own v = Holds {A = A} {L = L} g shown standing faults ends own tours shifts v
 
   -- it made nothing
   pub holds_same : (own : Option (ℕ × Entry)) (v w : View Givens Entry) → IsPrefix v.seen w.seen → w.mine ≡ v.mine → HoldsIt own v → HoldsIt own w
@@ -51,7 +51,7 @@ module _ {A L : Type 0} (g : Givens) (shown : L → Shown) (standing : A → Opt
           once = holds.ledger.once;
         };
         turns_are = turns_more v w [] adds (workers_in shifts) (workers_in shifts) (λ k i. i) (λ place k there. absurd (omega arith)) holds.turns_are;
-        tours_are = each_toured v w [] adds g shown standing faults tours (λ c i place there b. omega arith) holds.tours_are;
+        tours_are = each_toured v w [] adds g shown standing faults ends tours (λ c i place there b. omega arith) holds.tours_are;
         shifts_are = each_worked v w [] adds g shifts (λ k i place there at. omega arith) holds.shifts_are;
         own_is =
             λ place e there stands is.
@@ -139,7 +139,7 @@ module _ {A L : Type 0} (g : Givens) (shown : L → Shown) (standing : A → Opt
         turns_are =
             turns_more v w (length h ∷ []) adds (workers_in shifts) (workers_in shifts) (λ k i. i)
             (λ place k there at. absurd (none_works k place there at)) holds.turns_are;
-        tours_are = each_toured v w (length h ∷ []) adds g shown standing faults tours not_other holds.tours_are;
+        tours_are = each_toured v w (length h ∷ []) adds g shown standing faults ends tours not_other holds.tours_are;
         shifts_are = each_worked v w (length h ∷ []) adds g shifts (λ k i. none_works k) holds.shifts_are;
         own_is = λ place d there stands is_own. ⊎_elim
             (λ (i : In place v.mine). own_before place d
@@ -152,7 +152,7 @@ module _ {A L : Type 0} (g : Givens) (shown : L → Shown) (standing : A → Opt
           own_before place d (inl first) = inl first
           own_before place d (inr none) = absurd (let f : None ≡ Some (place, d) = none in cc)
 
-      before : (n : ℕ) → length v.seen ≤ n → (some_tours : List (Tour A L)) → EachToured {A = A} {L = L} g shown standing faults some_tours v
+      before : (n : ℕ) → length v.seen ≤ n → (some_tours : List (Tour A L)) → EachToured {A = A} {L = L} g shown standing faults ends some_tours v
           → AreBefore {A = A} {L = L} n some_tours
       before n far [] each = tt
       before n far (t ∷ more) each = ((let low = prefix_below t.stood v.seen each.0.later in omega arith), before n far more each.1)

@@ -7,6 +7,7 @@ use Rattle.outside.specs.Link.{Shown}
 use Rattle.poa_base.specs.declared.Entry.{Entry}
 use Rattle.poa_history.specs.declared.givens.Givens.{Givens}
 use Rattle.poa_history.specs.declared.full.Full.{Full}
+use Rattle.poa_shared.specs.Seen.{past}
 use Rattle.seat_lock.specs.declared.view.View.{View}
 use Rattle.seat_lock.specs.Histories.{IsPrefix}
 use Rattle.session_laws.specs.declared.peer.Peer.{Peer}
@@ -25,6 +26,7 @@ use Rattle.serve_run.specs.declared.outcome.Outcome.{Outcome}
 use Rattle.serve_run.specs.declared.outcome.Want.{Want}
 use Rattle.serve_run.proofs.JoiningDoors.{holds_door}
 use Rattle.serve_run.proofs.Opening.{said, IsSaid}
+use Rattle.serve_run.proofs.Passing.{has_passed}
 use Rattle.serve_run.proofs.Staying.{holds_looked, holds_same}
 
 empty : {X : Type 0} (l : List X) → length l ≡ 0 → l ≡ []
@@ -44,17 +46,18 @@ some_door told given_ door same is = subst IsSome (sym (same ∙ is)) refl
 pub some_same : {A G : Type 0} (back task : Task A G) (door lane : A) → back ≡ task → task_door back ≡ Some door → task_door task ≡ Some lane → door ≡ lane
 some_same back task door lane same is was = (let e : Some door ≡ Some lane = sym is ∙ (ap task_door same ∙ was) in cc)
 
-module _ {A L : Type 0} (g : Givens) (shown : L → Shown) (standing : A → Option (Standing L)) (faults : A → ℕ) where
+module _ {A L : Type 0} (g : Givens) (shown : L → Shown) (standing : A → Option (Standing L)) (faults ends : A → ℕ) where
   pub holds_kept : (own : Option (ℕ × Entry)) (tours : List (Tour A L)) (shifts : List Shift) (v w : View Givens Entry) → IsKept v w
-      → Holds {A = A} {L = L} g shown standing faults own tours shifts v → Holds {A = A} {L = L} g shown standing faults own tours shifts w
-  holds_kept own tours shifts v w kept holds = holds_same g shown standing faults tours shifts own v w (same_prefix v w kept) kept.mine holds
+      → Holds {A = A} {L = L} g shown standing faults ends own tours shifts v → Holds {A = A} {L = L} g shown standing faults ends own tours shifts w
+  holds_kept own tours shifts v w kept holds = holds_same g shown standing faults ends tours shifts own v w (same_prefix v w kept) kept.mine holds
 
-  pub none_served : (v : View Givens Entry) → Holds {A = A} {L = L} g shown standing faults None [] [] v
-      → AreServed {A = A} {L = L} g shown standing faults [] good v v
+  pub none_served : (v : View Givens Entry) → Holds {A = A} {L = L} g shown standing faults ends None [] [] v
+      → AreServed {A = A} {L = L} g shown standing faults ends [] good v v
   none_served v holds = record {
     same = record { given = refl; base = refl; room = refl };
     failed_is = refl;
     refused_is = refl;
+    passed = tt;
     own = None;
     word = tt;
     holds = λ _. holds;
@@ -62,7 +65,7 @@ module _ {A L : Type 0} (g : Givens) (shown : L → Shown) (standing : A → Opt
   }
 
   pub no_lanes : (lanes lanes' : List A) (v : View Givens Entry) → lanes ≡ lanes' ++ [] → length lanes ≡ 0
-      → Holds {A = A} {L = L} g shown standing faults None [] [] v → LanesServed {A = A} {L = L} g shown standing faults lanes lanes' good v v
+      → Holds {A = A} {L = L} g shown standing faults ends None [] [] v → LanesServed {A = A} {L = L} g shown standing faults ends lanes lanes' good v v
   no_lanes lanes lanes' v same none holds = record {
     tours = [];
     rest = [];
@@ -75,27 +78,28 @@ module _ {A L : Type 0} (g : Givens) (shown : L → Shown) (standing : A → Opt
 
   -- the end of the run is called for
   module _ (tours : List (Tour A L)) (shifts : List Shift) (v w : View Givens Entry) (given : v.givens ≡ Some g)
-      (holds : Holds {A = A} {L = L} g shown standing faults None tours shifts v) where
-    pub says_shutdown : Says v w → IsSaid {A = A} {L = L} g shown standing faults tours shifts v holds w
+      (holds : Holds {A = A} {L = L} g shown standing faults ends None tours shifts v) where
+    pub says_shutdown : Says v w → IsSaid {A = A} {L = L} g shown standing faults ends tours shifts v holds w
     says_shutdown says = record { own = it.own; word = it.word; holds_it = it.holds_it; last = it.last }
       where
-        looked : Holds {A = A} {L = L} g shown standing faults None tours shifts says.between
+        looked : Holds {A = A} {L = L} g shown standing faults ends None tours shifts says.between
         looked =
             (let event = says.looked g given in
-            holds_looked g shown standing faults tours shifts v says.between event.0 event.1 None (ap (λ l. l.history) event.2) holds)
+            holds_looked g shown standing faults ends tours shifts v says.between event.0 event.1 None (ap (λ l. l.history) event.2) holds)
 
-        it : IsSaid {A = A} {L = L} g shown standing faults tours shifts says.between looked w
+        it : IsSaid {A = A} {L = L} g shown standing faults ends tours shifts says.between looked w
         it = (let event = says.looked g given in
-            said g shown standing faults tours shifts says.between looked w (event.1.given ∙ given) says.answer says.arrived)
+            said g shown standing faults ends tours shifts says.between looked w (event.1.given ∙ given) says.answer says.arrived)
 
   -- a piece isn't started, and the end of the run is called for at once
   module _ (v v' w : View Givens Entry) (given : v.givens ≡ Some g) (kept : IsKept v v') (room : v'.room ≡ v.room) (same : IsSameSeat v' w)
-      (holds : Holds {A = A} {L = L} g shown standing faults None [] [] v) (want : Want) (lost : Bool) (says : lost ≡ false → Says v' w) where
-    by_lost : (b : Bool) → lost ≡ b → AreServed {A = A} {L = L} g shown standing faults [] (short_of want lost) v w
+      (holds : Holds {A = A} {L = L} g shown standing faults ends None [] [] v) (want : Want) (lost : Bool) (says : lost ≡ false → Says v' w) where
+    by_lost : (b : Bool) → lost ≡ b → AreServed {A = A} {L = L} g shown standing faults ends [] (short_of want lost) v w
     by_lost true is = record {
       same = record { given = same.given ∙ kept.given; base = same.base ∙ kept.base; room = same.room ∙ room };
       failed_is = refl;
       refused_is = refl;
+      passed = tt;
       own = None;
       word = tt;
       holds = λ kept_. absurd (let e : true ≡ false = sym is ∙ kept_ in cc);
@@ -107,16 +111,17 @@ module _ {A L : Type 0} (g : Givens) (shown : L → Shown) (standing : A → Opt
           same = record { given = same.given ∙ kept.given; base = same.base ∙ kept.base; room = same.room ∙ room };
           failed_is = refl;
           refused_is = refl;
+          passed = tt;
           own = it.own;
           word = it.word;
           holds = λ _. it.holds_it;
           calm = λ none. absurd (let e : Some want ≡ None = none in cc);
         }
 
-    pub short_served : AreServed {A = A} {L = L} g shown standing faults [] (short_of want lost) v w
+    pub short_served : AreServed {A = A} {L = L} g shown standing faults ends [] (short_of want lost) v w
     short_served = by_lost lost refl
 
-    pub short_lanes : (lanes lanes' : List A) → lanes' ≡ lanes → LanesServed {A = A} {L = L} g shown standing faults lanes lanes' (short_of want lost) v w
+    pub short_lanes : (lanes lanes' : List A) → lanes' ≡ lanes → LanesServed {A = A} {L = L} g shown standing faults ends lanes lanes' (short_of want lost) v w
     short_lanes lanes lanes' back = record {
       tours = [];
       rest = lanes;
@@ -129,11 +134,11 @@ module _ {A L : Type 0} (g : Givens) (shown : L → Shown) (standing : A → Opt
 
   -- a door's piece is joined
   module _ {G : Type 0} (peer : Peer) (task : Task A G) (closed : A) (tours : List (Tour A L)) (v v' w j : View Givens Entry) (outcome : Outcome)
-      (kept : IsKept v v') (room : v'.room + 1 ≡ v.room) (inner : AreServed {A = A} {L = L} g shown standing faults tours outcome v' w)
+      (kept : IsKept v v') (room : v'.room + 1 ≡ v.room) (inner : AreServed {A = A} {L = L} g shown standing faults ends tours outcome v' w)
       (first : View Givens Entry) (first_room : first.room ≡ 0) (door : Option A) (refused : Option Full) (end : PieceEnd)
-      (joined : IsJoined {A = A} {G = G} {L = L} shown standing faults task first w j door refused end)
-      (keeps : DoorKept {A = A} {L = L} g peer shown standing faults closed first joined.ran) where
-    abbrev served : DoorServed {A = A} {L = L} g peer shown standing faults first joined.ran.seat.me.0 closed keeps.0 joined.ran.refused joined.ran.end
+      (joined : IsJoined {A = A} {G = G} {L = L} shown standing faults ends task first w j door refused end)
+      (keeps : DoorKept {A = A} {L = L} g peer shown standing faults ends closed first joined.ran) where
+    abbrev served : DoorServed {A = A} {L = L} g peer shown standing faults ends first joined.ran.seat.me.0 closed keeps.0 joined.ran.refused joined.ran.end
     served = keeps.2
 
     abbrev pub tour_of : Tour A L
@@ -143,7 +148,6 @@ module _ {A L : Type 0} (g : Givens) (shown : L → Shown) (standing : A → Opt
           closed = closed;
           served = keeps.0;
           visits = served.visits;
-          refused = joined.ran.refused;
           end = joined.ran.end;
           stood = joined.ran.seat.me.0.seen;
         }
@@ -156,14 +160,15 @@ module _ {A L : Type 0} (g : Givens) (shown : L → Shown) (standing : A → Opt
           let none : joined.ran.seat.me.0.room ≡ 0 = served.attends.room ∙ first_room in let same = inner.same.room in omega arith);
     }
 
-    pub more_served : AreServed {A = A} {L = L} g shown standing faults (tour_of ∷ tours) (with_door refused end outcome) v j
+    pub more_served : AreServed {A = A} {L = L} g shown standing faults ends (tour_of ∷ tours) (with_door refused end outcome) v j
     more_served = record {
       same = same_joined;
       failed_is = ap₂ (λ x y. x || y) inner.failed_is (ap is_failed joined.end_is);
-      refused_is = ap₂ earlier inner.refused_is joined.refused_is;
+      refused_is = ap₂ earlier inner.refused_is (joined.refused_is ∙ served.refused_is);
+      passed = (has_passed standing faults ends tour_of (past joined.ran.seat.me.0) served.passes joined.ran.end refl served.cause, inner.passed);
       own = inner.own;
       word = inner.word;
-      holds = λ lost. holds_door g shown standing faults inner.own tours [] w joined.ran.seat.me.0 j
+      holds = λ lost. holds_door g shown standing faults ends inner.own tours [] w joined.ran.seat.me.0 j
           (inner.holds lost) peer closed keeps.0 joined.ran.refused joined.ran.end first served joined.unites (ap (λ x. x.mine) joined.joined);
       calm = inner.calm;
     }
@@ -171,12 +176,12 @@ module _ {A L : Type 0} (g : Givens) (shown : L → Shown) (standing : A → Opt
   -- the lane's piece is joined
   module _ {G : Type 0} (task : Task A G) (lane : A) (lanes front front' lanes' : List A) (v v' w j : View Givens Entry) (outcome : Outcome)
       (kept : IsKept v v') (room : v'.room + 1 ≡ v.room) (popped : lanes ≡ front ++ lane ∷ [])
-      (inner : LanesServed {A = A} {L = L} g shown standing faults front front' outcome v' w)
+      (inner : LanesServed {A = A} {L = L} g shown standing faults ends front front' outcome v' w)
       (first : View Givens Entry) (first_room : first.room ≡ 0) (door : Option A) (refused : Option Full) (end : PieceEnd)
-      (joined : IsJoined {A = A} {G = G} {L = L} shown standing faults task first w j door refused end)
-      (keeps : DoorKept {A = A} {L = L} g Client shown standing faults lane first joined.ran) (back : A) (back_is_ : door ≡ Some back)
+      (joined : IsJoined {A = A} {G = G} {L = L} shown standing faults ends task first w j door refused end)
+      (keeps : DoorKept {A = A} {L = L} g Client shown standing faults ends lane first joined.ran) (back : A) (back_is_ : door ≡ Some back)
       (pushed : lanes' ≡ front' ++ back ∷ []) where
-    pub lanes_more : LanesServed {A = A} {L = L} g shown standing faults lanes lanes' (with_door refused end outcome) v j
+    pub lanes_more : LanesServed {A = A} {L = L} g shown standing faults ends lanes lanes' (with_door refused end outcome) v j
     lanes_more = record {
       tours = tour_of Client task lane inner.tours v v' w j outcome kept room inner.served first first_room door refused end joined keeps ∷ inner.tours;
       rest = inner.rest;

@@ -14,7 +14,7 @@ use Rattle.serve_run.specs.Holding.{Holds, IsLast, IsWord}
 use Rattle.serve_run.specs.Lanes.{AreOf, AreServed, closed_doors, served_doors}
 use Rattle.serve_run.specs.Outcomes.{any_failed, least_in}
 use Rattle.serve_run.specs.Starting.{IsSameSeat}
-use Rattle.serve_run.specs.Tours.{Tour, Shift, workers_in}
+use Rattle.serve_run.specs.Tours.{Tour, Shift, workers_in, EachPassed}
 
 -- the administrators' door was served, too
 abbrev pub IsAdminServed : {A L : Type 0} → List (Tour A L) → List (Tour A L) → Doors A → Doors A → Type 0
@@ -35,11 +35,11 @@ pub record Attended {A L : Type 0} (tours : List (Tour A L)) (short : Option Wan
   pub clients : AreOf Client lanes
   pub admin : IsAdminServed tours lanes old new ⊎ IsAdminLeft tours lanes short old new
 
-module _ {A L : Type 0} (g : Givens) (shown : L → Shown) (standing : A → Option (Standing L)) (faults : A → ℕ) where
+module _ {A L : Type 0} (g : Givens) (shown : L → Shown) (standing : A → Option (Standing L)) (faults ends : A → ℕ) where
   pub record DoorsServed (old_doors new_doors : Doors A) (outcome : Outcome) (old new : View Givens Entry) : Type 0 where
     pub tours : List (Tour A L)
     pub attended : Attended tours outcome.short old_doors new_doors
-    pub served : AreServed g shown standing faults tours outcome old new
+    pub served : AreServed g shown standing faults ends tours outcome old new
 
   -- the doors were served, then the run's end was called for, and then these workers closed, whose numbers are below a count
   pub record AllServed (count : ℕ) (old_doors new_doors : Doors A) (outcome : Outcome) (old new : View Givens Entry) : Type 0 where
@@ -48,10 +48,11 @@ module _ {A L : Type 0} (g : Givens) (shown : L → Shown) (standing : A → Opt
     pub attended : Attended tours outcome.short old_doors new_doors
     pub failed_is : outcome.failed ≡ any_failed tours
     pub refused_is : outcome.refused ≡ least_in tours
+    pub passed : EachPassed standing faults tours
     pub own : Option (ℕ × Entry)
     pub word : IsWord own
     pub shifts : List Shift
-    pub holds : outcome.lost ≡ false → Holds g shown standing faults own tours shifts new
+    pub holds : outcome.lost ≡ false → Holds g shown standing faults ends own tours shifts new
     pub last : outcome.short ≡ None → outcome.lost ≡ false → IsLast own tours new
     pub below : (w : ℕ) → In w (workers_in shifts) → w < count
     pub worked : outcome.short ≡ None → outcome.lost ≡ false → (w : ℕ) → w < count → In w (workers_in shifts)

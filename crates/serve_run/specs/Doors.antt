@@ -1,5 +1,5 @@
 -- How a door is served on a seat that had made nothing.
-use Rattle.std.specs.Prelude.{◌≡◌, ◌≢◌, ℕ, List, [], ◌∷◌, Option, Some, None, IfSome}
+use Rattle.std.specs.Prelude.{◌≡◌, ◌≢◌, ℕ, ◌≤◌, List, [], ◌∷◌, Option, Some, None, IfSome}
 use Rattle.outside.specs.Accepting.{Standing}
 use Rattle.outside.specs.Cause.{Rose}
 use Rattle.outside.specs.Link.{Shown}
@@ -44,26 +44,32 @@ abbrev pub stop_of : Phase → Option PieceEnd
 stop_of Running = None
 stop_of phase = Some (NotRunning phase)
 
--- a door ends where no link is left, fails where it counted that, and is left where the run isn't running
-abbrev pub DoorHasCause : {L : Type 0} → PieceEnd → Option (Standing L) → ℕ → ℕ → List Entry → Type 0
-DoorHasCause DoorEnd standing before now h = IfSome standing (λ s. s.left ≡ []) × (now ≡ before)
-DoorHasCause DoorFailed standing before now h = Rose before now
-DoorHasCause (NotRunning phase) standing before now h = (phase ≡ phase_of h) × (phase ≢ Running) × (now ≡ before)
-DoorHasCause (Worked end) standing before now h = ⊥
+-- the door counted that no link is left and none will come, and where it tells its links none is left
+abbrev pub HasSaidEnd : {A L : Type 0} → (A → Option (Standing L)) → (A → ℕ) → A → A → Type 0
+HasSaidEnd standing ends closed door = IfSome (standing door) (λ s. s.left ≡ []) × Rose (ends closed) (ends door)
 
-module _ {A L : Type 0} (g : Givens) (peer : Peer) (shown : L → Shown) (standing : A → Option (Standing L)) (faults : A → ℕ) where
+module _ {A L : Type 0} (standing : A → Option (Standing L)) (faults ends : A → ℕ) where
+  -- a door ends where it said so, fails where it counted that, and is left where the run isn't running
+  abbrev pub DoorHasCause : PieceEnd → A → A → List Entry → Type 0
+  DoorHasCause DoorEnd closed door h = HasSaidEnd standing ends closed door × (faults door ≡ faults closed)
+  DoorHasCause DoorFailed closed door h = Rose (faults closed) (faults door)
+  DoorHasCause (NotRunning phase) closed door h = (phase ≡ phase_of h) × (phase ≢ Running) × (faults door ≡ faults closed)
+  DoorHasCause (Worked end) closed door h = ⊥
+
+module _ {A L : Type 0} (g : Givens) (peer : Peer) (shown : L → Shown) (standing : A → Option (Standing L)) (faults ends : A → ℕ) where
   -- so far a door was served: these links came and went, and it counted no fault
   pub record Attending (first : View Givens Entry) (closed : A) (visits : List (Visit L)) (v : View Givens Entry) (door : A) : Type 0 where
     pub attends : Attends g peer shown visits first v
     pub passes : IfTold (standing closed) (standing door) (Passes visits)
     pub steady : faults door ≡ faults closed
+    pub later : ends closed ≤ ends door
 
   -- what comes of asking it once more
   abbrev pub AsReceived : View Givens Entry → A → List (Visit L) → Received → View Givens Entry → A → Type 0
   AsReceived first closed visits (received.Served session) v door = (x : Visit L) × (x.session ≡ session)
       × Attending first closed (x ∷ visits) v door
   AsReceived first closed visits received.Nothing v door = Attending first closed visits v door
-  AsReceived first closed visits received.End v door = Attending first closed visits v door × IfSome (standing door) (λ s. s.left ≡ [])
+  AsReceived first closed visits received.End v door = Attending first closed visits v door × HasSaidEnd standing ends closed door
   AsReceived first closed visits received.Failed v door =
       Attends g peer shown visits first v × IfTold (standing closed) (standing door) (Passes visits) × Rose (faults closed) (faults door)
 
@@ -73,7 +79,7 @@ module _ {A L : Type 0} (g : Givens) (peer : Peer) (shown : L → Shown) (standi
     pub attends : Attends g peer shown visits old new
     pub passes : IfTold (standing closed) (standing door) (Passes visits)
     pub refused_is : refused ≡ least_refusal visits
-    pub cause : DoorHasCause end (standing door) (faults closed) (faults door) (past new)
+    pub cause : DoorHasCause standing faults ends end closed door (past new)
 
   -- and is given back
   abbrev pub DoorKept : A → View Givens Entry → Ran A → Type 0

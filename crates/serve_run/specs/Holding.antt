@@ -24,13 +24,13 @@ IsOwn more place e = (e ≡ Entered 0) ⊎ (more ≡ Some (place, e))
 abbrev pub HasTurnsOf : List ℕ → View Givens Entry → Type 0
 HasTurnsOf workers v = (place w : ℕ) → In place v.mine → IsWorkersAt w v.seen place → In w workers ⊎ IsHelpAt v.seen place
 
-module _ {A L : Type 0} (g : Givens) (shown : L → Shown) (standing : A → Option (Standing L)) (faults : A → ℕ) where
+module _ {A L : Type 0} (g : Givens) (shown : L → Shown) (standing : A → Option (Standing L)) (faults ends : A → ℕ) where
   -- the seat made the entries of its own connection, of these doors, of these workers, and what lanes made in the first
   -- worker's stead, and no others
   pub record Holds (own : Option (ℕ × Entry)) (tours : List (Tour A L)) (shifts : List Shift) (v : View Givens Entry) : Type 0 where
     pub ledger : Ledger (0 ∷ conns_in tours) (0 ∷ workers_in shifts) v
     pub turns_are : HasTurnsOf (workers_in shifts) v
-    pub tours_are : EachToured g shown standing faults tours v
+    pub tours_are : EachToured g shown standing faults ends tours v
     pub shifts_are : EachWorked g shifts v
     pub own_is : (place : ℕ) (e : Entry) → In place v.mine → get_elem? v.seen place ≡ some e → owner_of e ≡ Some 0 → IsOwn own place e
 

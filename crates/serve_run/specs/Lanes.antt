@@ -11,7 +11,7 @@ use Rattle.serve_run.specs.declared.outcome.Outcome.{Outcome}
 use Rattle.serve_run.specs.Holding.{Holds, IsWord}
 use Rattle.serve_run.specs.Outcomes.{any_failed, least_in}
 use Rattle.serve_run.specs.Starting.{IsSameSeat}
-use Rattle.serve_run.specs.Tours.{Tour}
+use Rattle.serve_run.specs.Tours.{Tour, EachPassed}
 
 -- the doors of these tours as they were handed in, behind those that weren't served; of tours the first is that of the last door
 abbrev pub closed_doors : {A L : Type 0} → List A → List (Tour A L) → List A
@@ -31,15 +31,16 @@ AreOf peer (t ∷ more) = (t.peer ≡ peer) × AreOf peer more
 abbrev pub HasGivens : View Givens Entry → Type 0
 HasGivens v = (g : Givens) × (v.givens ≡ Some g)
 
-module _ {A L : Type 0} (g : Givens) (shown : L → Shown) (standing : A → Option (Standing L)) (faults : A → ℕ) where
+module _ {A L : Type 0} (g : Givens) (shown : L → Shown) (standing : A → Option (Standing L)) (faults ends : A → ℕ) where
   -- these doors were served, as the outcome tells. Where a piece wasn't started, the run's end was called for at once
   pub record AreServed (tours : List (Tour A L)) (outcome : Outcome) (old new : View Givens Entry) : Type 0 where
     pub same : IsSameSeat old new
     pub failed_is : outcome.failed ≡ any_failed tours
     pub refused_is : outcome.refused ≡ least_in tours
+    pub passed : EachPassed standing faults tours
     pub own : Option (ℕ × Entry)
     pub word : IsWord own
-    pub holds : outcome.lost ≡ false → Holds g shown standing faults own tours [] new
+    pub holds : outcome.lost ≡ false → Holds g shown standing faults ends own tours [] new
     pub calm : outcome.short ≡ None → (own ≡ None) × (outcome.lost ≡ false)
 
   -- these are lanes, and those in front of them weren't served

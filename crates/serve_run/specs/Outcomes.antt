@@ -1,7 +1,7 @@
 -- How a run came off, as its doors and workers tell.
 use Rattle.std.specs.Prelude.{Bool, true, false, ◌||◌, List, [], ◌∷◌, Option, Some, None}
 use Rattle.poa_history.specs.declared.full.Full.{Full}
-use Rattle.serve_run.specs.Refusals.{earlier}
+use Rattle.serve_run.specs.Refusals.{earlier, least_refusal}
 use Rattle.serve_run.specs.declared.ran.PieceEnd.{PieceEnd}
 use Rattle.poa_shared.specs.declared.work_end.WorkEnd.TheVariants.{Closed}
 use Rattle.serve_run.specs.declared.ran.PieceEnd.TheVariants.{DoorFailed, Worked}
@@ -30,10 +30,10 @@ abbrev pub any_failed : {A L : Type 0} → List (Tour A L) → Bool
 any_failed [] = false
 any_failed (t ∷ more) = any_failed more || is_failed t.end
 
--- the least refusal at any of the doors
+-- the least numbers with which a connection couldn't enter at any of the doors
 abbrev pub least_in : {A L : Type 0} → List (Tour A L) → Option Full
 least_in [] = None
-least_in (t ∷ more) = earlier (least_in more) t.refused
+least_in (t ∷ more) = earlier (least_in more) (least_refusal t.visits)
 
 -- whether a worker didn't come to the run's end
 abbrev pub is_loss : PieceEnd → Bool

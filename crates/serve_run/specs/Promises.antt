@@ -33,10 +33,10 @@ pub record IsFresh {A G : Type 0} (task : Task A G) (v : View Givens Entry) : Ty
   pub mine : v.mine ≡ []
   pub numbered : IsNumbered task
 
-module _ {A G L : Type 0} (g : Givens) (shown : L → Shown) (standing : A → Option (Standing L)) (faults : A → ℕ) where
+module _ {A G L : Type 0} (g : Givens) (shown : L → Shown) (standing : A → Option (Standing L)) (faults ends : A → ℕ) where
   -- a door was served to its end, or a worker worked, on the seat that was so when the piece was made
   abbrev pub Keeps : Task A G → View Givens Entry → Ran A → Type 0
-  Keeps (Lane door) old ran = DoorKept g Client shown standing faults door old ran
-  Keeps (Admin door) old ran = DoorKept g Administrator shown standing faults door old ran
+  Keeps (Lane door) old ran = DoorKept g Client shown standing faults ends door old ran
+  Keeps (Admin door) old ran = DoorKept g Administrator shown standing faults ends door old ran
   Keeps (Worker worker gate) old ran = (ran.door ≡ None) × (ran.refused ≡ None)
       × ((end : WorkEnd) × (ran.end ≡ Worked end) × WorkedAs g worker old ran.seat.me.0 end)

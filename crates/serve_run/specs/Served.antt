@@ -1,10 +1,9 @@
 -- What a run of the server comes to, read on the journal of the core that is given back. A place is an index into the journal.
-use Rattle.std.specs.Prelude.{◌≡◌, ℕ, ◌^◌, ◌<◌, ◌≤◌, ◌⊎◌, Bool, true, false, not, ◌&&◌, ◌||◌, List, [], ◌∷◌, ◌++◌, length, reverse, Option, Some, IfSome, MatchOption}
+use Rattle.std.specs.Prelude.{◌≡◌, ℕ, ◌^◌, ◌<◌, ◌≤◌, ◌⊎◌, Bool, true, false, not, ◌&&◌, ◌||◌, List, [], ◌∷◌, ◌++◌, length, reverse, Option, Some, MatchOption}
 use mathlib.Core.Option.{some}
 use lib.ListN.{get_elem?}
 use Rattle.outside.specs.Accepting.{Standing}
 use Rattle.outside.specs.Cause.{Rose}
-use Rattle.outside.specs.Told.{IfTold}
 use Rattle.outside.specs.Link.{Shown, Moves}
 use Rattle.poa_base.specs.declared.Entry.{Entry}
 use Rattle.poa_base.specs.declared.Entry.TheVariants.{Admit, Left}
@@ -25,8 +24,10 @@ use Rattle.seat_lock.specs.Histories.{times, Belongs, In, IsPrefix}
 use Rattle.poa_history.specs.Leaving.{is_shut_by}
 use Rattle.session_laws.specs.declared.peer.Peer.{Peer}
 use Rattle.session_laws.specs.Sessions.{Cause, Session}
-use Rattle.serve_run.specs.Visits.{Visit, Passes}
-use Rattle.serve_run.specs.declared.ran.PieceEnd.TheVariants.{DoorFailed}
+use Rattle.serve_run.specs.Doors.{HasSaidEnd}
+use Rattle.serve_run.specs.Visits.{Visit}
+use Rattle.serve_run.specs.declared.ran.PieceEnd.{PieceEnd}
+use Rattle.serve_run.specs.declared.ran.PieceEnd.TheVariants.{DoorEnd, DoorFailed, NotRunning, Worked}
 use Rattle.serve_run.specs.Holding.{IsOwn, IsWord}
 use Rattle.serve_run.specs.Tours.{Tour}
 
@@ -97,20 +98,15 @@ is_shut_by_others [] = false
 is_shut_by_others (Admit w r verdict ∷ past) = (is_shut_by (call_of past r) && not (is_at 0 (conn_of past r))) || is_shut_by_others past
 is_shut_by_others (e ∷ past) = is_shut_by_others past
 
-module _ {A L : Type 0} (standing_of : A → Option (Standing L)) (faults : A → ℕ) where
-  -- each door gave its links in their order and was given each back, with its session
-  abbrev pub EachPassed : List (Tour A L) → Type 0
-  EachPassed [] = Unit {0}
-  EachPassed (t ∷ more) = IfTold (standing_of t.closed) (standing_of t.served) (Passes t.visits) × EachPassed more
-
-  -- a door ended where no link was left, or it failed, and counted that; or a call was refused for the limits of the run, or
-  -- a connection but the first had it shut down. Where it didn't fail, it counted no fault
-  pub record IsEnded (log : List Entry) (t : Tour A L) : Type 0 where
-    pub why : IfSome (standing_of t.served) (λ s. s.left ≡ []) ⊎ Rose (faults t.closed) (faults t.served) ⊎ (is_filled (reverse log) ≡ true)
-        ⊎ (is_shut_by_others (reverse log) ≡ true)
-    pub failed : t.end ≡ DoorFailed → Rose (faults t.closed) (faults t.served)
-    pub steady : (t.end ≡ DoorFailed → ⊥) → faults t.served ≡ faults t.closed
+module _ {A L : Type 0} (standing_of : A → Option (Standing L)) (faults ends : A → ℕ) where
+  -- why a door ended so: it said that no link is left, or it failed, and counted that; or a call was refused for the limits
+  -- of the run, or a connection but the first had it shut down
+  abbrev pub HasEnded : PieceEnd → List Entry → A → A → Type 0
+  HasEnded DoorEnd log closed served = HasSaidEnd standing_of ends closed served
+  HasEnded DoorFailed log closed served = Rose (faults closed) (faults served)
+  HasEnded (NotRunning phase) log closed served = (is_filled (reverse log) ≡ true) ⊎ (is_shut_by_others (reverse log) ≡ true)
+  HasEnded (Worked end) log closed served = ⊥
 
   abbrev pub EachEnded : List Entry → List (Tour A L) → Type 0
   EachEnded log [] = Unit {0}
-  EachEnded log (t ∷ more) = IsEnded log t × EachEnded log more
+  EachEnded log (t ∷ more) = HasEnded t.end log t.closed t.served × EachEnded log more

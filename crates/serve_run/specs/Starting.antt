@@ -54,7 +54,7 @@ pub record IsSameSeat (old new : View Givens Entry) : Type 0 where
   pub room : new.room ≡ old.room
 
 -- a piece of the task, with the seat that was so when it was started, is joined, with what it gave back
-pub record IsJoined {A G L : Type 0} (shown : L → Shown) (standing : A → Option (Standing L)) (faults : A → ℕ) (task : Task A G)
+pub record IsJoined {A G L : Type 0} (shown : L → Shown) (standing : A → Option (Standing L)) (faults ends : A → ℕ) (task : Task A G)
     (first old new : View Givens Entry) (door : Option A) (refused : Option Full) (end : PieceEnd) : Type 0 where
   pub ran : Ran A
   pub door_is : door ≡ ran.door
@@ -62,4 +62,4 @@ pub record IsJoined {A G L : Type 0} (shown : L → Shown) (standing : A → Opt
   pub end_is : end ≡ ran.end
   pub joined : new ≡ joined_view old ran.seat.me.0
   pub unites : Unites old ran.seat.me.0 new
-  pub keeps : (g : Givens) → first.givens ≡ Some g → Keeps g shown standing faults task first ran
+  pub keeps : (g : Givens) → first.givens ≡ Some g → Keeps g shown standing faults ends task first ran

@@ -33,7 +33,7 @@ impl<R: Wait + Copy, A: Acceptor, G: Gate + Drop> Job for Piece<R, A, G> {
     ghost condition = { λ piece. AreIdle (arc_value piece.shared) piece.seat piece.aid.seat × IsFresh piece.task (view piece.seat) };
 
     ghost promise = { λ piece ran. AreIdle (arc_value piece.shared) ran.seat ran.aid.seat × Aids piece.aid.seat ran.aid.seat
-        × ((g : Givens) → (view piece.seat).givens ≡ Some g → Keeps g A.Link.shown A.standing A.faults piece.task (view piece.seat) ran) };
+        × ((g : Givens) → (view piece.seat).givens ≡ Some g → Keeps g A.Link.shown A.standing A.faults A.ends piece.task (view piece.seat) ran) };
 
     fn work(self) -> Ran<A> {
         let Piece {

@@ -60,8 +60,8 @@ pub fn receive<R: Wait, A: Acceptor>(
     ensures ready { IsReady shared.now aid.new.seat }
     ensures aids { Aids aid.old.seat aid.new.seat }
     ensures received { (g : Givens) (first : View Givens Entry) (closed : A) (visits : List (Visit A.Link)) → first.givens ≡ Some g
-        → Attending g peer A.Link.shown A.standing A.faults first closed visits (view seat.old) door.old
-        → AsReceived g peer A.Link.shown A.standing A.faults first closed visits result (view seat.new) door.new }
+        → Attending g peer A.Link.shown A.standing A.faults A.ends first closed visits (view seat.old) door.old
+        → AsReceived g peer A.Link.shown A.standing A.faults A.ends first closed visits result (view seat.new) door.new }
     ensures nobody { HasCause (A.quiets door.old) (A.quiets door.new) (result ≡ Received.Nothing) }
 {
     match door.next() {

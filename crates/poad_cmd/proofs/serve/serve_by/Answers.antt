@@ -11,7 +11,7 @@ returns-clause-serves g c =
     let ran =
     subst (λ r. IfSome r
     (λ run. IsServedRun {A = g.row.A.Denot} {L = g.row.A-Link.Denot}
-    (givens_of c.args.beginning.core) g.A.Link.Link.shown g.A.Acceptor.standing g.A.Acceptor.faults c.args.beginning.words.workers c.args.doors
+    (givens_of c.args.beginning.core) g.A.Link.Link.shown g.A.Acceptor.standing g.A.Acceptor.faults g.A.Acceptor.ends c.args.beginning.words.workers c.args.doors
     c.serve_core-doors.result.doors run.outcome run.core))
     c.in-Some.is c.serve_core-doors.ensures.served in
     record {
@@ -22,7 +22,7 @@ returns-clause-serves g c =
       filled = c.filled.result;
       filled_is = c.filled.ensures;
       status_is = c.status_of.ensures;
-      tells = tells (givens_of c.args.beginning.core) g.A.Link.Link.shown g.A.Acceptor.standing g.A.Acceptor.faults c.args.beginning.words.workers c.args.doors
+      tells = tells (givens_of c.args.beginning.core) g.A.Link.Link.shown g.A.Acceptor.standing g.A.Acceptor.faults g.A.Acceptor.ends c.args.beginning.words.workers c.args.doors
           c.serve_core-doors.result.doors c.in-Some.field-0.outcome c.in-Some.field-0.core ran
           c.put_journal-journal.result c.filled.result c.filled.ensures c.status_of.result c.status_of.ensures;
     }
@@ -32,13 +32,13 @@ returns-clause-no_thread g c =
     let ran =
     subst (λ r. IfSome r
     (λ run. IsServedRun {A = g.row.A.Denot} {L = g.row.A-Link.Denot}
-    (givens_of c.args.beginning.core) g.A.Link.Link.shown g.A.Acceptor.standing g.A.Acceptor.faults c.args.beginning.words.workers c.args.doors
+    (givens_of c.args.beginning.core) g.A.Link.Link.shown g.A.Acceptor.standing g.A.Acceptor.faults g.A.Acceptor.ends c.args.beginning.words.workers c.args.doors
     c.serve_core-doors.result.doors run.outcome run.core))
     c.in-Some.is c.serve_core-doors.ensures.served in
     let counts =
     subst (λ r. IfSome r (λ run. CountsThreads c.args.crew.now.faults c.serve_core-doors.new.crew.faults run.outcome.short)) c.in-Some.is
     c.serve_core-doors.ensures.threads in
     λ is. counts.rose
-    (no_thread (givens_of c.args.beginning.core) g.A.Link.Link.shown g.A.Acceptor.standing g.A.Acceptor.faults c.args.beginning.words.workers c.args.doors
+    (no_thread (givens_of c.args.beginning.core) g.A.Link.Link.shown g.A.Acceptor.standing g.A.Acceptor.faults g.A.Acceptor.ends c.args.beginning.words.workers c.args.doors
     c.serve_core-doors.result.doors c.in-Some.field-0.outcome c.in-Some.field-0.core ran
     c.put_journal-journal.result c.filled.result c.filled.ensures c.status_of.result c.status_of.ensures is)

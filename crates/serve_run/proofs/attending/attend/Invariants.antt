@@ -13,6 +13,6 @@ invariant-loop g l = record {
   ready : IsReady l.shared l.aid.seat;
   aids : Aids l.fn.aid.seat l.aid.seat;
   rounds : (k : Givens) → (view l.fn.seat).givens ≡ Some k
-      → Rounds {A = g.row.A.Denot} {L = g.row.A-Link.Denot} k l.peer g.A.Link.Link.shown g.A.Acceptor.standing g.A.Acceptor.faults (view l.fn.seat) l.fn.door
+      → Rounds {A = g.row.A.Denot} {L = g.row.A-Link.Denot} k l.peer g.A.Link.Link.shown g.A.Acceptor.standing g.A.Acceptor.faults g.A.Acceptor.ends (view l.fn.seat) l.fn.door
       (view l.seat) l.door l.refused;
 }

@@ -13,9 +13,9 @@ use Rattle.serve_run.proofs.lanes.+serve_lanes.Goals as goal
 pub returns-in_default-clause-served : goal.returns-in_default-clause-served
 returns-in_default-clause-served g t c = λ k given.
     subst (λ o. LanesServed {A = g.row.A.Denot}
-    {L = g.row.A-Link.Denot} k g.A.Link.Link.shown g.A.Acceptor.standing g.A.Acceptor.faults c.args.lanes.now.items c.pop.new.self.items o
+    {L = g.row.A-Link.Denot} k g.A.Link.Link.shown g.A.Acceptor.standing g.A.Acceptor.faults g.A.Acceptor.ends c.args.lanes.now.items c.pop.new.self.items o
     (view c.args.seat.now) (view c.args.seat.now)) (sym c.good.ensures)
-    (no_lanes k g.A.Link.Link.shown g.A.Acceptor.standing g.A.Acceptor.faults c.args.lanes.now.items c.pop.new.self.items
+    (no_lanes k g.A.Link.Link.shown g.A.Acceptor.standing g.A.Acceptor.faults g.A.Acceptor.ends c.args.lanes.now.items c.pop.new.self.items
     (view c.args.seat.now) c.in_default.ensures.items (search rules) (c.requires.begun k given))
 
 pub serve_lanes-outcome-requires-clause-given : goal.serve_lanes-outcome-requires-clause-given
@@ -27,7 +27,7 @@ pub serve_lanes-outcome-requires-clause-begun : goal.serve_lanes-outcome-require
 serve_lanes-outcome-requires-clause-begun g t c = λ κs bounds k given.
     let split = split_kept (view c.args.seat.now) (view c.split_aid-aid.new.seat) c.split_aid-aid.result.seat c.split_aid-aid.ensures.split in
     let kept = kept_both (view c.args.seat.now) (view c.split_aid-aid.new.seat) (view c.start.new.seat) split c.in-Ok.ensures.kept in
-    holds_kept k g.A.Link.Link.shown g.A.Acceptor.standing g.A.Acceptor.faults None [] [] (view c.args.seat.now) (view c.start.new.seat) kept
+    holds_kept k g.A.Link.Link.shown g.A.Acceptor.standing g.A.Acceptor.faults g.A.Acceptor.ends None [] [] (view c.args.seat.now) (view c.start.new.seat) kept
     (c.requires.begun k (sym kept.given ∙ given))
 
 pub door_back-requires : goal.door_back-requires
@@ -36,7 +36,7 @@ door_back-requires g t c =
     let given = c.in-Ok.ensures.started.given ∙ (split.given ∙ c.requires.given.1) in
     let keeps = c.join-joined.ensures.joined.keeps c.requires.given.0 given in
     let kept =
-    subst (λ x. Keeps c.requires.given.0 g.A.Link.Link.shown g.A.Acceptor.standing g.A.Acceptor.faults x
+    subst (λ x. Keeps c.requires.given.0 g.A.Link.Link.shown g.A.Acceptor.standing g.A.Acceptor.faults g.A.Acceptor.ends x
     (view c.in-Ok.ticket.promise.job.value.seat) c.join-joined.ensures.joined.ran) c.in-Ok.ensures.started.task_is keeps in
     some_door c.join-joined.result.door c.join-joined.ensures.joined.ran.door kept.0 c.join-joined.ensures.joined.door_is kept.1
 
@@ -50,8 +50,8 @@ shut_down-lost-requires-clause-conn g t c =
     let again =
     rejoined (view c.args.seat.now) (view c.split_aid-aid.new.seat) (view c.start.new.seat)
     (view c.join_aid-in-Err.new.seat) c.in-Err.ensures.kept c.in-Err.ensures.same some_room c.split_aid-aid.result.seat c.split_aid-aid.ensures.split back in
-    connection_held k.0 g.A.Link.Link.shown g.A.Acceptor.standing g.A.Acceptor.faults [] [] (view c.join_aid-in-Err.new.seat)
-    (holds_kept k.0 g.A.Link.Link.shown g.A.Acceptor.standing g.A.Acceptor.faults None [] [] (view c.args.seat.now) (view c.join_aid-in-Err.new.seat) again.0
+    connection_held k.0 g.A.Link.Link.shown g.A.Acceptor.standing g.A.Acceptor.faults g.A.Acceptor.ends [] [] (view c.join_aid-in-Err.new.seat)
+    (holds_kept k.0 g.A.Link.Link.shown g.A.Acceptor.standing g.A.Acceptor.faults g.A.Acceptor.ends None [] [] (view c.args.seat.now) (view c.join_aid-in-Err.new.seat) again.0
     (c.requires.begun k.0 k.1))
 
 pub returns-in-Ok-clause-given : goal.returns-in-Ok-clause-given
@@ -67,18 +67,18 @@ returns-in-Ok-clause-served g t c = λ k given.
     let started = c.in-Ok.ensures.started in
     let keeps = c.join-joined.ensures.joined.keeps k (started.given ∙ (split.given ∙ given)) in
     let kept =
-    subst (λ x. Keeps k g.A.Link.Link.shown g.A.Acceptor.standing g.A.Acceptor.faults x
+    subst (λ x. Keeps k g.A.Link.Link.shown g.A.Acceptor.standing g.A.Acceptor.faults g.A.Acceptor.ends x
     (view c.in-Ok.ticket.promise.job.value.seat) c.join-joined.ensures.joined.ran) started.task_is keeps in
     let aids = subst (λ a. Aids a c.join-joined.result.aid.seat) started.aid_is c.join-joined.ensures.aids in
     let some_room =
     some_last c.args.lanes.now.items c.pop.new.self.items c.in-Some.lane c.args.lanes.now.len
     (view c.args.seat.now) c.args.lanes.now.ok.0 c.in-Some.ensures.items c.requires.room in
     subst (λ o. LanesServed {A = g.row.A.Denot}
-    {L = g.row.A-Link.Denot} k g.A.Link.Link.shown g.A.Acceptor.standing g.A.Acceptor.faults c.args.lanes.now.items c.push_reserved.new.self.items o
+    {L = g.row.A-Link.Denot} k g.A.Link.Link.shown g.A.Acceptor.standing g.A.Acceptor.faults g.A.Acceptor.ends c.args.lanes.now.items c.push_reserved.new.self.items o
     (view c.args.seat.now) (view c.join_aid.new.seat)) (sym c.with_door.ensures)
-    (lanes_aided k g.A.Link.Link.shown g.A.Acceptor.standing g.A.Acceptor.faults (view c.args.seat.now) (view c.split_aid-aid.new.seat)
+    (lanes_aided k g.A.Link.Link.shown g.A.Acceptor.standing g.A.Acceptor.faults g.A.Acceptor.ends (view c.args.seat.now) (view c.split_aid-aid.new.seat)
     (view c.join-joined.new.seat) (view c.join_aid.new.seat) given some_room c.args.lanes.now.items c.push_reserved.new.self.items _
-    (lanes_more k g.A.Link.Link.shown g.A.Acceptor.standing g.A.Acceptor.faults c.in-Ok.ticket.promise.job.value.task c.in-Some.lane c.args.lanes.now.items
+    (lanes_more k g.A.Link.Link.shown g.A.Acceptor.standing g.A.Acceptor.faults g.A.Acceptor.ends c.in-Ok.ticket.promise.job.value.task c.in-Some.lane c.args.lanes.now.items
     c.pop.new.self.items c.serve_lanes-outcome.new.lanes.items c.push_reserved.new.self.items (view c.split_aid-aid.new.seat) (view c.start.new.seat)
     (view c.serve_lanes-outcome.new.seat) (view c.join-joined.new.seat) c.serve_lanes-outcome.result c.in-Ok.ensures.kept c.in-Ok.ensures.taken
     c.in-Some.ensures.items
@@ -105,9 +105,9 @@ returns-in-Err-clause-served g t c = λ k given.
     rejoined (view c.args.seat.now) (view c.split_aid-aid.new.seat) (view c.start.new.seat)
     (view c.join_aid-in-Err.new.seat) c.in-Err.ensures.kept c.in-Err.ensures.same some_room c.split_aid-aid.result.seat c.split_aid-aid.ensures.split back in
     subst (λ o. LanesServed {A = g.row.A.Denot}
-    {L = g.row.A-Link.Denot} k g.A.Link.Link.shown g.A.Acceptor.standing g.A.Acceptor.faults c.args.lanes.now.items c.push_reserved-in-Err.new.self.items o
+    {L = g.row.A-Link.Denot} k g.A.Link.Link.shown g.A.Acceptor.standing g.A.Acceptor.faults g.A.Acceptor.ends c.args.lanes.now.items c.push_reserved-in-Err.new.self.items o
     (view c.args.seat.now) (view c.shut_down-lost.new.seat)) (sym c.short_of.ensures)
-    (short_lanes k g.A.Link.Link.shown g.A.Acceptor.standing g.A.Acceptor.faults (view c.args.seat.now) (view c.join_aid-in-Err.new.seat)
+    (short_lanes k g.A.Link.Link.shown g.A.Acceptor.standing g.A.Acceptor.faults g.A.Acceptor.ends (view c.args.seat.now) (view c.join_aid-in-Err.new.seat)
     (view c.shut_down-lost.new.seat) given again.0 again.1
     (c.shut_down-lost.ensures.same k (again.0.given ∙ given))
     (c.requires.begun k given) c.in-Err.unstarted.want c.shut_down-lost.result c.shut_down-lost.ensures.said

@@ -1,4 +1,4 @@
-use Rattle.std.proofs.Common.{◌≡◌, refl, ◌∙◌}
+use Rattle.std.proofs.Common.{◌≡◌, refl, ◌∙◌, subst, sym, arith}
 use Rattle.outside.specs.declared.accepting.Door.TheVariants as door
 use Rattle.poa_shared.proofs.Helped.{aids_none}
 use Rattle.seat_lock.specs.Seats.{view}
@@ -20,6 +20,7 @@ returns-in-Link-clause-received g c = λ k first closed visits given so_far.
             passed_on visits x (g.A.Acceptor.standing closed) (g.A.Acceptor.standing c.args.door.now) (g.A.Acceptor.standing c.next.new.self)
             (g.A.Acceptor.standing c.give_back.new.self) so_far.passes c.in-Link.ensures.standing c.give_back.ensures.standing;
         steady = c.give_back.ensures.faults ∙ (c.in-Link.ensures.counted (λ (q : door.Link c.in-Link.link ≡ door.Failed). cc) ∙ so_far.steady);
+        later = (let before = so_far.later in let after = c.in-Link.ensures.ended.later in let back = c.give_back.ensures.ends in omega arith);
       },
     )
 

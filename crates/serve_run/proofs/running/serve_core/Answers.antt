@@ -19,9 +19,9 @@ pub serve_workers-doors-requires-clause-begun : goal.serve_workers-doors-require
 serve_workers-doors-requires-clause-begun g c = λ κs bounds k given.
     let own = opened_given (givens_of c.args.core) (view c.in-Some.seat) c.in-Some.ensures.opened in
     let same : givens_of c.args.core ≡ k = (let e : Some (givens_of c.args.core) ≡ Some k = sym own ∙ given in cc) in
-    subst (λ x. Holds {A = g.row.A.Denot} {L = g.row.A-Link.Denot} x g.A.Link.Link.shown g.A.Acceptor.standing g.A.Acceptor.faults None [] []
+    subst (λ x. Holds {A = g.row.A.Denot} {L = g.row.A-Link.Denot} x g.A.Link.Link.shown g.A.Acceptor.standing g.A.Acceptor.faults g.A.Acceptor.ends None [] []
     (view c.in-Some.seat)) same
-    (opened_holds (givens_of c.args.core) (view c.in-Some.seat) c.in-Some.ensures.opened g.A.Link.Link.shown g.A.Acceptor.standing g.A.Acceptor.faults)
+    (opened_holds (givens_of c.args.core) (view c.in-Some.seat) c.in-Some.ensures.opened g.A.Link.Link.shown g.A.Acceptor.standing g.A.Acceptor.faults g.A.Acceptor.ends)
 
 pub returns-clause-served : goal.returns-clause-served
 returns-clause-served g c =
@@ -29,7 +29,7 @@ returns-clause-served g c =
     let opened = c.in-Some.ensures.opened in
     let given = opened_given k (view c.in-Some.seat) opened in
     let served = c.serve_workers-doors.ensures.served k given in
-    served_run k g.A.Link.Link.shown g.A.Acceptor.standing g.A.Acceptor.faults c.args.doors c.serve_workers-doors.result.0 c.serve_workers-doors.result.1
+    served_run k g.A.Link.Link.shown g.A.Acceptor.standing g.A.Acceptor.faults g.A.Acceptor.ends c.args.doors c.serve_workers-doors.result.0 c.serve_workers-doors.result.1
     (view c.in-Some.seat) (view c.serve_workers-doors.new.seat) (view c.phase.new.seat) c.args.workers
     (let some = c.requires.workers.0 in omega arith) given (opened_room k (view c.in-Some.seat) opened) (opened_base k (view c.in-Some.seat) opened) served
     (λ x given'. (let e = c.phase.ensures.phase x given' in (e.0, e.1, e.2.0)))

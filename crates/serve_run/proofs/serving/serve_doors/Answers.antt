@@ -13,7 +13,7 @@ serve_lanes-outcome-requires-clause-given g c = λ κs bounds. (c.requires.given
 
 pub serve_lanes-outcome-requires-clause-begun : goal.serve_lanes-outcome-requires-clause-begun
 serve_lanes-outcome-requires-clause-begun g c = λ κs bounds k given.
-    holds_kept k g.A.Link.Link.shown g.A.Acceptor.standing g.A.Acceptor.faults None [] [] (view c.args.seat.now) (view c.start.new.seat) c.in-Ok.ensures.kept
+    holds_kept k g.A.Link.Link.shown g.A.Acceptor.standing g.A.Acceptor.faults g.A.Acceptor.ends None [] [] (view c.args.seat.now) (view c.start.new.seat) c.in-Ok.ensures.kept
     (c.requires.begun k (sym c.in-Ok.ensures.kept.given ∙ given))
 
 pub door_back-admin-requires : goal.door_back-admin-requires
@@ -21,15 +21,15 @@ door_back-admin-requires g c =
     let given = c.in-Ok.ensures.started.given ∙ c.requires.given.1 in
     let keeps = c.join-joined.ensures.joined.keeps c.requires.given.0 given in
     let kept =
-    subst (λ x. Keeps c.requires.given.0 g.A.Link.Link.shown g.A.Acceptor.standing g.A.Acceptor.faults x
+    subst (λ x. Keeps c.requires.given.0 g.A.Link.Link.shown g.A.Acceptor.standing g.A.Acceptor.faults g.A.Acceptor.ends x
     (view c.in-Ok.ticket.promise.job.value.seat) c.join-joined.ensures.joined.ran) c.in-Ok.ensures.started.task_is keeps in
     some_door c.join-joined.result.door c.join-joined.ensures.joined.ran.door kept.0 c.join-joined.ensures.joined.door_is kept.1
 
 pub shut_down-lost-requires-clause-conn : goal.shut_down-lost-requires-clause-conn
 shut_down-lost-requires-clause-conn g c =
     let k = c.requires.given in
-    connection_held k.0 g.A.Link.Link.shown g.A.Acceptor.standing g.A.Acceptor.faults [] [] (view c.start.new.seat)
-    (holds_kept k.0 g.A.Link.Link.shown g.A.Acceptor.standing g.A.Acceptor.faults None [] [] (view c.args.seat.now)
+    connection_held k.0 g.A.Link.Link.shown g.A.Acceptor.standing g.A.Acceptor.faults g.A.Acceptor.ends [] [] (view c.start.new.seat)
+    (holds_kept k.0 g.A.Link.Link.shown g.A.Acceptor.standing g.A.Acceptor.faults g.A.Acceptor.ends None [] [] (view c.args.seat.now)
     (view c.start.new.seat) c.in-Err.ensures.kept (c.requires.begun k.0 k.1))
 
 pub returns-in-Ok-clause-given : goal.returns-in-Ok-clause-given
@@ -41,12 +41,12 @@ returns-in-Ok-clause-served g c = λ k given.
     let started = c.in-Ok.ensures.started in
     let keeps = c.join-joined.ensures.joined.keeps k (started.given ∙ given) in
     let kept =
-    subst (λ x. Keeps k g.A.Link.Link.shown g.A.Acceptor.standing g.A.Acceptor.faults x
+    subst (λ x. Keeps k g.A.Link.Link.shown g.A.Acceptor.standing g.A.Acceptor.faults g.A.Acceptor.ends x
     (view c.in-Ok.ticket.promise.job.value.seat) c.join-joined.ensures.joined.ran) started.task_is keeps in
-    subst (λ o. DoorsServed {A = g.row.A.Denot} {L = g.row.A-Link.Denot} k g.A.Link.Link.shown g.A.Acceptor.standing g.A.Acceptor.faults c.args.doors
+    subst (λ o. DoorsServed {A = g.row.A.Denot} {L = g.row.A-Link.Denot} k g.A.Link.Link.shown g.A.Acceptor.standing g.A.Acceptor.faults g.A.Acceptor.ends c.args.doors
     (record { admin = c.door_back-admin.result; lanes = c.serve_lanes-outcome.new.lanes }) o (view c.args.seat.now) (view c.join-joined.new.seat))
     (sym c.with_door.ensures)
-    (doors_more k g.A.Link.Link.shown g.A.Acceptor.standing g.A.Acceptor.faults c.in-Ok.ticket.promise.job.value.task c.args.doors
+    (doors_more k g.A.Link.Link.shown g.A.Acceptor.standing g.A.Acceptor.faults g.A.Acceptor.ends c.in-Ok.ticket.promise.job.value.task c.args.doors
     (record { admin = c.door_back-admin.result; lanes = c.serve_lanes-outcome.new.lanes }) (view c.args.seat.now) (view c.start.new.seat)
     (view c.serve_lanes-outcome.new.seat) (view c.join-joined.new.seat) c.serve_lanes-outcome.result c.in-Ok.ensures.kept c.in-Ok.ensures.taken
     (c.serve_lanes-outcome.ensures.served k (c.in-Ok.ensures.kept.given ∙ given))
@@ -60,14 +60,14 @@ returns-in-Err-clause-given g c =
 
 pub returns-in-Err-clause-served : goal.returns-in-Err-clause-served
 returns-in-Err-clause-served g c = λ k given.
-    subst (λ o. DoorsServed {A = g.row.A.Denot} {L = g.row.A-Link.Denot} k g.A.Link.Link.shown g.A.Acceptor.standing g.A.Acceptor.faults c.args.doors
+    subst (λ o. DoorsServed {A = g.row.A.Denot} {L = g.row.A-Link.Denot} k g.A.Link.Link.shown g.A.Acceptor.standing g.A.Acceptor.faults g.A.Acceptor.ends c.args.doors
     (record { admin = c.door_in-admin.result; lanes = c.args.doors.lanes }) o (view c.args.seat.now) (view c.shut_down-lost.new.seat)) (sym c.short_of.ensures)
-    (doors_short k g.A.Link.Link.shown g.A.Acceptor.standing g.A.Acceptor.faults c.args.doors
+    (doors_short k g.A.Link.Link.shown g.A.Acceptor.standing g.A.Acceptor.faults g.A.Acceptor.ends c.args.doors
     (record { admin = c.door_in-admin.result; lanes = c.args.doors.lanes }) c.in-Err.unstarted.want c.shut_down-lost.result (view c.args.seat.now)
     (view c.shut_down-lost.new.seat)
     (some_same c.in-Err.unstarted.task (Admin c.args.doors.admin) c.door_in-admin.result c.args.doors.admin c.in-Err.ensures.back c.door_in-admin.ensures refl)
     refl
-    (short_served k g.A.Link.Link.shown g.A.Acceptor.standing g.A.Acceptor.faults (view c.args.seat.now) (view c.start.new.seat)
+    (short_served k g.A.Link.Link.shown g.A.Acceptor.standing g.A.Acceptor.faults g.A.Acceptor.ends (view c.args.seat.now) (view c.start.new.seat)
     (view c.shut_down-lost.new.seat) given c.in-Err.ensures.kept c.in-Err.ensures.same
     (c.shut_down-lost.ensures.same k (c.in-Err.ensures.kept.given ∙ given))
     (c.requires.begun k given) c.in-Err.unstarted.want c.shut_down-lost.result c.shut_down-lost.ensures.said))

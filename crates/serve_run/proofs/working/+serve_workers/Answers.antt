@@ -13,7 +13,7 @@ pub returns-then-count-eq0-clause-served : goal.returns-then-count-eq0-clause-se
 returns-then-count-eq0-clause-served g t c = λ k given.
     let none : c.args.count ≡ 0 = omega arith in
     subst (λ n. AllServed {A = g.row.A.Denot}
-    {L = g.row.A-Link.Denot} k g.A.Link.Link.shown g.A.Acceptor.standing g.A.Acceptor.faults n c.args.doors c.serve_and_shut.result.0 c.serve_and_shut.result.1
+    {L = g.row.A-Link.Denot} k g.A.Link.Link.shown g.A.Acceptor.standing g.A.Acceptor.faults g.A.Acceptor.ends n c.args.doors c.serve_and_shut.result.0 c.serve_and_shut.result.1
     (view c.args.seat.now) (view c.serve_and_shut.new.seat)) (sym none) (c.serve_and_shut.ensures.served k given)
 
 pub returns-in_default-clause-given : goal.returns-in_default-clause-given
@@ -22,16 +22,16 @@ returns-in_default-clause-given g t c = (let k = c.requires.given in (k.0, (c.sh
 pub shut_down-lost-requires-clause-conn : goal.shut_down-lost-requires-clause-conn
 shut_down-lost-requires-clause-conn g t c =
     (let k = c.requires.given in
-    connection_held k.0 g.A.Link.Link.shown g.A.Acceptor.standing g.A.Acceptor.faults [] [] (view c.args.seat.now) (c.requires.begun k.0 k.1))
+    connection_held k.0 g.A.Link.Link.shown g.A.Acceptor.standing g.A.Acceptor.faults g.A.Acceptor.ends [] [] (view c.args.seat.now) (c.requires.begun k.0 k.1))
 
 pub returns-in_default-clause-served : goal.returns-in_default-clause-served
 returns-in_default-clause-served g t c = λ k given.
     subst (λ o. AllServed {A = g.row.A.Denot}
-    {L = g.row.A-Link.Denot} k g.A.Link.Link.shown g.A.Acceptor.standing g.A.Acceptor.faults c.args.count c.args.doors c.args.doors o (view c.args.seat.now)
+    {L = g.row.A-Link.Denot} k g.A.Link.Link.shown g.A.Acceptor.standing g.A.Acceptor.faults g.A.Acceptor.ends c.args.count c.args.doors c.args.doors o (view c.args.seat.now)
     (view c.shut_down-lost.new.seat)) (sym c.short_of.ensures)
-    (workers_short k g.A.Link.Link.shown g.A.Acceptor.standing g.A.Acceptor.faults c.args.count c.args.doors Memory c.shut_down-lost.result
+    (workers_short k g.A.Link.Link.shown g.A.Acceptor.standing g.A.Acceptor.faults g.A.Acceptor.ends c.args.count c.args.doors Memory c.shut_down-lost.result
     (view c.args.seat.now) (view c.shut_down-lost.new.seat)
-    (short_served k g.A.Link.Link.shown g.A.Acceptor.standing g.A.Acceptor.faults (view c.args.seat.now) (view c.args.seat.now)
+    (short_served k g.A.Link.Link.shown g.A.Acceptor.standing g.A.Acceptor.faults g.A.Acceptor.ends (view c.args.seat.now) (view c.args.seat.now)
     (view c.shut_down-lost.new.seat) given (kept_itself (view c.args.seat.now)) refl
     (c.shut_down-lost.ensures.same k given) (c.requires.begun k given) Memory c.shut_down-lost.result c.shut_down-lost.ensures.said))
 
@@ -40,7 +40,7 @@ serve_workers-doors-requires-clause-given g t c = λ κs bounds. (c.requires.giv
 
 pub serve_workers-doors-requires-clause-begun : goal.serve_workers-doors-requires-clause-begun
 serve_workers-doors-requires-clause-begun g t c = λ κs bounds k given.
-    holds_kept k g.A.Link.Link.shown g.A.Acceptor.standing g.A.Acceptor.faults None [] [] (view c.args.seat.now)
+    holds_kept k g.A.Link.Link.shown g.A.Acceptor.standing g.A.Acceptor.faults g.A.Acceptor.ends None [] [] (view c.args.seat.now)
     (view c.start.new.seat) c.in-Ok-start.ensures.kept (c.requires.begun k (sym c.in-Ok-start.ensures.kept.given ∙ given))
 
 pub returns-in-Ok-start-clause-given : goal.returns-in-Ok-start-clause-given
@@ -52,15 +52,15 @@ returns-in-Ok-start-clause-served g t c = λ k given.
     let started = c.in-Ok-start.ensures.started in
     let keeps = c.join-joined.ensures.joined.keeps k (started.given ∙ given) in
     let kept =
-    subst (λ x. Keeps k g.A.Link.Link.shown g.A.Acceptor.standing g.A.Acceptor.faults x
+    subst (λ x. Keeps k g.A.Link.Link.shown g.A.Acceptor.standing g.A.Acceptor.faults g.A.Acceptor.ends x
     (view c.in-Ok-start.ticket.promise.job.value.seat) c.join-joined.ensures.joined.ran) started.task_is keeps in
     let next : c.args.count ≡ (c.args.count - 1) + 1 = omega arith in
     let total : c.with_loss.result ≡ with_loss (is_loss c.join-joined.result.end) c.serve_workers-doors.result.1 = c.with_loss.ensures
     ∙ ap (λ b. with_loss b c.serve_workers-doors.result.1) c.is_loss.ensures in
     subst (λ o. AllServed {A = g.row.A.Denot}
-    {L = g.row.A-Link.Denot} k g.A.Link.Link.shown g.A.Acceptor.standing g.A.Acceptor.faults c.args.count c.args.doors c.serve_workers-doors.result.0 o
+    {L = g.row.A-Link.Denot} k g.A.Link.Link.shown g.A.Acceptor.standing g.A.Acceptor.faults g.A.Acceptor.ends c.args.count c.args.doors c.serve_workers-doors.result.0 o
     (view c.args.seat.now) (view c.join-joined.new.seat)) (sym total)
-    (workers_more k g.A.Link.Link.shown g.A.Acceptor.standing g.A.Acceptor.faults c.in-Ok-start.ticket.promise.job.value.task
+    (workers_more k g.A.Link.Link.shown g.A.Acceptor.standing g.A.Acceptor.faults g.A.Acceptor.ends c.in-Ok-start.ticket.promise.job.value.task
     (c.args.count - 1) c.args.count next c.args.doors c.serve_workers-doors.result.0 (view c.args.seat.now) (view c.start.new.seat)
     (view c.serve_workers-doors.new.seat) (view c.join-joined.new.seat) c.serve_workers-doors.result.1 c.in-Ok-start.ensures.kept c.in-Ok-start.ensures.taken
     (c.serve_workers-doors.ensures.served k (c.in-Ok-start.ensures.kept.given ∙ given))
@@ -75,11 +75,11 @@ returns-in-Err-clause-given g t c =
 pub returns-in-Err-clause-served : goal.returns-in-Err-clause-served
 returns-in-Err-clause-served g t c = λ k given.
     subst (λ o. AllServed {A = g.row.A.Denot}
-    {L = g.row.A-Link.Denot} k g.A.Link.Link.shown g.A.Acceptor.standing g.A.Acceptor.faults c.args.count c.args.doors c.args.doors o (view c.args.seat.now)
+    {L = g.row.A-Link.Denot} k g.A.Link.Link.shown g.A.Acceptor.standing g.A.Acceptor.faults g.A.Acceptor.ends c.args.count c.args.doors c.args.doors o (view c.args.seat.now)
     (view c.shut_down-lost-in-Err.new.seat)) (sym c.short_of-in-Err.ensures)
-    (workers_short k g.A.Link.Link.shown g.A.Acceptor.standing g.A.Acceptor.faults c.args.count c.args.doors c.in-Err.unstarted.want
+    (workers_short k g.A.Link.Link.shown g.A.Acceptor.standing g.A.Acceptor.faults g.A.Acceptor.ends c.args.count c.args.doors c.in-Err.unstarted.want
     c.shut_down-lost-in-Err.result (view c.args.seat.now) (view c.shut_down-lost-in-Err.new.seat)
-    (short_served k g.A.Link.Link.shown g.A.Acceptor.standing g.A.Acceptor.faults (view c.args.seat.now) (view c.start.new.seat)
+    (short_served k g.A.Link.Link.shown g.A.Acceptor.standing g.A.Acceptor.faults g.A.Acceptor.ends (view c.args.seat.now) (view c.start.new.seat)
     (view c.shut_down-lost-in-Err.new.seat) given c.in-Err.ensures.kept c.in-Err.ensures.same
     (c.shut_down-lost-in-Err.ensures.same k (c.in-Err.ensures.kept.given ∙ given))
     (c.requires.begun k given) c.in-Err.unstarted.want c.shut_down-lost-in-Err.result c.shut_down-lost-in-Err.ensures.said))
