@@ -65,7 +65,7 @@ said_given (Request head target operation body) reply said fits = reply_is_given
 said_given (Locate head target) reply said fits = reply_is_given head reply (reply_answers (Locate head target) reply said fits)
 said_given (Line number command) reply said fits = line_given (head_of (Some (Line number command))) reply fits
 
-some_given : (call : Option Call) (reply : Reply) → ((c : Call) → call ≡ Some c → IsSaid c) → FitsCall call reply → IsGivenTo (head_of call) reply
+pub some_given : (call : Option Call) (reply : Reply) → ((c : Call) → call ≡ Some c → IsSaid c) → FitsCall call reply → IsGivenTo (head_of call) reply
 some_given None reply said fits = absurd (let f : false ≡ true = fits in cc)
 some_given (Some call) reply said fits = said_given call reply (said call refl) fits
 

@@ -29,6 +29,7 @@ module _ (g : Givens) (peer : Peer) (c : ℕ) (v : View Givens Entry) (i j : Int
       let heard : Heard = record { call = call; size = size } in
       record {
         calls = heard ∷ [];
+        said = (tells.2, tt);
         adds = arrived.0;
         heard = (
           arrived.1,
@@ -40,6 +41,7 @@ module _ (g : Givens) (peer : Peer) (c : ℕ) (v : View Givens Entry) (i j : Int
   hears_call w call size (progress.Waits have) tells arrived = absurd arrived
   hears_call w call size (progress.Ends end) tells arrived = record {
     calls = [];
+    said = tt;
     adds = arrived.0;
     heard = λ text unfilled expected. (
       arrived.1 peer text unfilled (expects_next peer (OfIntake i) (OfIntake j) text (arrived_by (past v) c) expected call size tells.0 (intake_goes_on j [])),
@@ -52,6 +54,7 @@ module _ (g : Givens) (peer : Peer) (c : ℕ) (v : View Givens Entry) (i j : Int
   pub hears_nothing : AsTold told.Nothing (OfIntake i) (OfIntake j) → Hears g peer c v i v j progress.On
   hears_nothing tells = record {
     calls = [];
+    said = tt;
     adds = adds_same g c v;
     heard = (refl, λ text expected. expects_same peer (OfIntake i) (OfIntake j) text (arrived_by (past v) c) expected tells);
     taken = taken;
@@ -61,6 +64,7 @@ module _ (g : Givens) (peer : Peer) (c : ℕ) (v : View Givens Entry) (i j : Int
   pub hears_more : (have : ℕ) → AsTold (told.More have) (OfIntake i) (OfIntake j) → Hears g peer c v i v j (progress.Waits have)
   hears_more have tells = record {
     calls = [];
+    said = tt;
     adds = adds_same g c v;
     heard = (refl, tells.1, λ text expected. expects_same peer (OfIntake i) (OfIntake j) text (arrived_by (past v) c) expected tells.0);
     taken = taken;
@@ -73,6 +77,7 @@ module _ (g : Givens) (peer : Peer) (c : ℕ) (v : View Givens Entry) (i j : Int
   pub hears_closed : AsTold told.Closed (OfIntake i) (OfIntake j) → Hears g peer c v i v j (progress.Ends Ended)
   hears_closed tells = record {
     calls = [];
+    said = tt;
     adds = adds_same g c v;
     heard = λ text unfilled expected.
         (let heard = expects_stop peer (OfIntake i) text (arrived_by (past v) c) expected closed tells in (
@@ -86,6 +91,7 @@ module _ (g : Givens) (peer : Peer) (c : ℕ) (v : View Givens Entry) (i j : Int
   pub hears_bad : (at : ℕ) → AsTold (told.Bad at) (OfIntake i) (OfIntake j) → Hears g peer c v i v j (progress.Ends (Malformed at))
   hears_bad at tells = record {
     calls = [];
+    said = tt;
     adds = adds_same g c v;
     heard = λ text unfilled expected. (
       record { input = expects_stop peer (OfIntake i) text (arrived_by (past v) c) expected (bad at) tells; cause = tt; filled = none_filled text unfilled },
@@ -98,6 +104,7 @@ module _ (g : Givens) (peer : Peer) (c : ℕ) (v : View Givens Entry) (i j : Int
   pub hears_lost : Hears g peer c v i v j (progress.Ends WantMemory)
   hears_lost = record {
     calls = [];
+    said = tt;
     adds = adds_same g c v;
     heard = λ text unfilled expected. (
       record {

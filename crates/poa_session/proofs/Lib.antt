@@ -12,4 +12,5 @@ pub mod Phases
 pub mod Stepping
 pub mod Exchanged
 pub mod Entering
+pub mod Saying
 pub mod Served

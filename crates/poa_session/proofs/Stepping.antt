@@ -20,6 +20,7 @@ use Rattle.session_laws.proofs.Causes.{shut_later}
 use Rattle.session_laws.proofs.Expected.{expects_begins, expects_fed, expects_front, expects_stop}
 use Rattle.session_laws.specs.HearingPieces.{Intake, OfIntake}
 use Rattle.session_laws.proofs.GoingOn.{intake_goes_on}
+use Rattle.session_laws.proofs.Said.{said_both}
 use Rattle.poa_session.specs.Growing.{Adds}
 use Rattle.poa_session.specs.Served.{DriesUp}
 use Rattle.poa_session.specs.Listening.{AsHeard, Hears, Listens}
@@ -34,7 +35,7 @@ use Rattle.poa_session.proofs.Adding.{adds_both, adds_none, adds_same, found_fil
 
 -- reading on
 pub hears_same : (g : Givens) (peer : Peer) (c : ℕ) (v : View Givens Entry) (i : Intake) → Hears g peer c v i v i progress.On
-hears_same g peer c v i = record { calls = []; adds = adds_same g c v; heard = (refl, λ text expected. expected); taken = refl }
+hears_same g peer c v i = record { calls = []; said = tt; adds = adds_same g c v; heard = (refl, λ text expected. expected); taken = refl }
 
 heard_then : (peer : Peer) (c : ℕ) (v w u : View Givens Entry) (i j k : Intake) (r : Progress) → AsHeard peer c v i w j progress.On → AsHeard peer c w j u k r
     → AsHeard peer c v i u k r
@@ -46,6 +47,7 @@ pub hears_then : (g : Givens) (peer : Peer) (c : ℕ) (v w u : View Givens Entry
     → Hears g peer c w j u k r → Hears g peer c v i u k r
 hears_then g peer c v w u i j k r x y = record {
   calls = x.calls ++ y.calls;
+  said = said_both x.calls y.calls x.said y.said;
   adds = adds_both g c v w u x.calls y.calls [] [] x.adds y.adds;
   heard = heard_then peer c v w u i j k r x.heard y.heard;
   taken = y.taken ∙ x.taken;
@@ -100,6 +102,7 @@ module _ (g : Givens) (peer : Peer) (c : ℕ) (v : View Givens Entry) (a : Shown
   rounds_stopped end looked = record {
     piece = [];
     calls = [];
+    said = tt;
     due = [];
     done = [];
     adds = look_adds (Some end) looked;
@@ -127,6 +130,7 @@ module _ (g : Givens) (peer : Peer) (c : ℕ) (v : View Givens Entry) (a : Shown
     rounds_heard end listened = record {
       piece = [];
       calls = listened.calls;
+      said = listened.said;
       due = [];
       done = [];
       adds = adds_both g c v u x [] listened.calls [] [] (look_adds None looked) listened.adds;
@@ -151,6 +155,7 @@ module _ (g : Givens) (peer : Peer) (c : ℕ) (v : View Givens Entry) (a : Shown
       rounds_broken w b end paid = record {
         piece = [];
         calls = listened.calls;
+        said = listened.said;
         due = paid.due;
         done = paid.done;
         adds = subst (λ cs. Adds g c v w cs paid.due) (append-nil listened.calls)
@@ -227,7 +232,11 @@ module _ (g : Givens) (peer : Peer) (c : ℕ) (v : View Givens Entry) (a : Shown
           tt,
         )
         takes_may text piece (InputLimit taken) counted took expected = (
-          expects_front peer (OfIntake j) text (arrived_by (past w) c) expected piece (intake_goes_on j piece),
+          (
+            have,
+            subst (λ p. HearsAll peer (text ++ p) (arrived_by (past w) c) (over have)) (sym took.0)
+                (nothing_behind (λ t. HearsAll peer t (arrived_by (past w) c) (over have)) text (stops_over text have expected refl)),
+          ),
           (took.2, length_read text piece counted took.0 ∙ sym took.1),
           tt,
         )
@@ -243,6 +252,7 @@ module _ (g : Givens) (peer : Peer) (c : ℕ) (v : View Givens Entry) (a : Shown
         rounds_ended end took = record {
           piece = took.piece;
           calls = listened.calls;
+          said = listened.said;
           due = paid.due;
           done = paid.done;
           adds = all_adds;
@@ -267,6 +277,7 @@ module _ (g : Givens) (peer : Peer) (c : ℕ) (v : View Givens Entry) (a : Shown
         rounds_on took = record {
           piece = took.piece;
           calls = listened.calls;
+          said = listened.said;
           due = paid.due;
           done = paid.done;
           adds = all_adds;

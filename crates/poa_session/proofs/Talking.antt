@@ -10,13 +10,14 @@ use Rattle.outside.proofs.Moving.{moves_both, moves_none}
 use Rattle.poa_history.specs.declared.Givens.{Givens}
 use Rattle.poa_shared.specs.Seen.{past}
 use Rattle.session_laws.specs.declared.Peer.{Peer}
-use Rattle.session_laws.specs.Hearing.{Heard}
+use Rattle.session_laws.specs.Hearing.{Heard, AreSaid}
 use Rattle.session_laws.specs.Records.{arrived_by, joined_by, filling_by, is_late_by}
 use Rattle.session_laws.specs.Sessions.{IsNext}
 use Rattle.session_laws.specs.Expecting.{Expects}
 use Rattle.session_laws.proofs.Expected.{expects_begins}
 use Rattle.session_laws.specs.HearingPieces.{Intake, OfIntake}
 use Rattle.session_laws.proofs.GoingOn.{intake_goes_on}
+use Rattle.session_laws.proofs.Said.{said_both}
 use Rattle.poa_session.specs.Growing.{Adds}
 use Rattle.poa_session.specs.Rounding.{Rounds}
 use Rattle.poa_session.specs.Settling.{Converses, Settled, Settles}
@@ -34,6 +35,7 @@ pub record Knows (g : Givens) (peer : Peer) (c : ℕ) (v w : View Givens Entry) 
 pub record Sits (g : Givens) (peer : Peer) (c : ℕ) (v : View Givens Entry) (a : Shown) (w : View Givens Entry) (b : Shown) (i : Intake) : Type 0 where
   pub text : List ℕ
   pub calls : List Heard
+  pub said : AreSaid calls
   pub replies : List ℕ
   pub adds : Adds g c v w calls replies
   pub moved : Moves a b text replies
@@ -47,6 +49,7 @@ pub sits_new : (g : Givens) (peer : Peer) (c : ℕ) (v : View Givens Entry) (a :
 sits_new g peer c v a i expects none = record {
   text = [];
   calls = [];
+  said = tt;
   replies = [];
   adds = adds_same g c v;
   moved = moves_none a;
@@ -94,6 +97,7 @@ module _ (g : Givens) (peer : Peer) (c : ℕ) (v : View Givens Entry) (a : Shown
     sits_on y = record {
       text = x.text ++ y.piece;
       calls = x.calls ++ y.calls;
+      said = said_both x.calls y.calls x.said y.said;
       replies = x.replies ++ y.due;
       adds = adds_both g c v w u x.calls y.calls x.replies y.due x.adds y.adds;
       moved = subst (λ ds. Moves a z (x.text ++ y.piece) (x.replies ++ ds)) y.goes_on.0 (moves_both a b z x.text x.replies y.piece y.done x.moved y.moved);

@@ -1,4 +1,5 @@
 pub mod Growing
+pub mod Saying
 pub mod Served
 pub mod Writing
 pub mod Stopping

@@ -8,7 +8,7 @@ use Rattle.outside.specs.Link.{Shown}
 use Rattle.poa_history.specs.declared.Givens.{Givens}
 use Rattle.poa_shared.specs.Seen.{past}
 use Rattle.session_laws.specs.declared.Peer.{Peer}
-use Rattle.session_laws.specs.Hearing.{Heard, over}
+use Rattle.session_laws.specs.Hearing.{Heard, AreSaid, over}
 use Rattle.session_laws.specs.Records.{arrived_by, filling_by}
 use Rattle.session_laws.specs.Sessions.{IsNext}
 use Rattle.session_laws.specs.Expecting.{Expects}
@@ -31,6 +31,7 @@ AsListened peer c v i w j (Err end) =
 pub record Listens (g : Givens) (peer : Peer) (c : ℕ) (v : View Givens Entry) (i : Intake) (w : View Givens Entry) (j : Intake)
     (result : Result ℕ SessionEnd) : Type 0 where
   pub calls : List Heard
+  pub said : AreSaid calls
   pub adds : Adds g c v w calls []
   pub heard : AsListened peer c v i w j result
   pub taken : j.taken ≡ i.taken
@@ -57,6 +58,7 @@ AsHeard peer c v i w j (progress.Ends end) = AsListened peer c v i w j (Err end)
 pub record Hears (g : Givens) (peer : Peer) (c : ℕ) (v : View Givens Entry) (i : Intake) (w : View Givens Entry) (j : Intake)
     (result : Progress) : Type 0 where
   pub calls : List Heard
+  pub said : AreSaid calls
   pub adds : Adds g c v w calls []
   pub heard : AsHeard peer c v i w j result
   pub taken : j.taken ≡ i.taken

@@ -6,7 +6,7 @@ use Rattle.outside.specs.Link.{Shown, Moves}
 use Rattle.poa_history.specs.declared.Givens.{Givens}
 use Rattle.poa_shared.specs.Seen.{past}
 use Rattle.session_laws.specs.declared.Peer.{Peer}
-use Rattle.session_laws.specs.Hearing.{Heard}
+use Rattle.session_laws.specs.Hearing.{Heard, AreSaid}
 use Rattle.session_laws.specs.Records.{arrived_by, filling_by, is_late_by}
 use Rattle.session_laws.specs.Sessions.{Begins}
 use Rattle.session_laws.specs.Expecting.{Expects}
@@ -36,6 +36,7 @@ pub record Rounds (g : Givens) (peer : Peer) (c : ℕ) (v : View Givens Entry) (
     (j : Intake) (flow : Flow) : Type 0 where
   pub piece : List ℕ
   pub calls : List Heard
+  pub said : AreSaid calls
   pub due : List ℕ
   pub done : List ℕ
   pub adds : Adds g c v w calls due

@@ -6,6 +6,7 @@ ghost use Rattle.poa_history.specs.declared.Givens.{Givens};
 ghost use Rattle.session_laws.specs.Sessions.{closing, closing_message, is_settling as is_settling_end};
 ghost use Rattle.poa_shared.specs.Seats.{IsIdle};
 ghost use Rattle.poa_shared.specs.Seen.{HoldsConnection};
+ghost use Rattle.poa_session.specs.Saying.{HasSaid};
 ghost use Rattle.poa_session.specs.Settling.{Settles};
 ghost use Rattle.poa_session.specs.Writing.{Writes};
 
@@ -33,6 +34,7 @@ pub(crate) fn settle<R: Wait, L: Link>(
 ) -> SessionEnd
     requires seat { IsIdle shared.now seat.old }
     requires conn { HoldsConnection (view seat.old) conn }
+    requires said { HasSaid conn (view seat.old) }
     requires end { end ≢ SessionEnd.WriteFault }
     ensures seat { IsIdle shared.now seat.new }
     ensures conn { HoldsConnection (view seat.new) conn }

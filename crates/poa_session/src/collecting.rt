@@ -1,17 +1,18 @@
 //! Replies that are given and written.
-ghost use Rattle.std.specs.Prelude.{◌≡◌, ◌≢◌, ◌≤◌, ◌++◌, Some, Err, IfOk, OnOk, IsTrue};
+ghost use Rattle.std.specs.Prelude.{◌≡◌, ◌≢◌, ◌++◌, Some, Err, OnOk};
 ghost use Rattle.seat_lock.specs.Seats.{view};
 ghost use Rattle.outside.specs.Cause.{HasCause};
 ghost use Rattle.poa_history.specs.declared.Givens.{Givens};
-ghost use Rattle.giop_answer.specs.Reply.{AnswersHead};
+ghost use Rattle.giop_replies.specs.Calls.{IsGivenTo};
 ghost use Rattle.session_laws.specs.Records.{told};
 ghost use Rattle.poa_shared.specs.Seats.{IsIdle};
 ghost use Rattle.poa_shared.specs.Seen.{HoldsConnection, Owns};
 ghost use Rattle.poa_session.specs.Paying.{Gathers, NextGathered, Pays, PutsOn};
+ghost use Rattle.poa_session.specs.Saying.{HasSaid, IsGiven};
 
 use crate::writing::write_all;
 use admin_line::write_answer;
-use giop_answer::put_reply;
+use giop_replies::put_reply;
 use outside::Link;
 use poa_base::{Head, Reply, SessionEnd, WantMemory};
 use poa_core::Collected;
@@ -31,6 +32,7 @@ pub(crate) fn collect_all<R: Wait, L: Link>(
 ) -> Result<u64, SessionEnd>
     requires seat { IsIdle shared.now seat.old }
     requires conn { HoldsConnection (view seat.old) conn }
+    requires said { HasSaid conn (view seat.old) }
     ensures seat { IsIdle shared.now seat.new }
     ensures conn { HoldsConnection (view seat.new) conn }
     ensures pays { (g : Givens) → (view seat.old).givens ≡ Some g
@@ -59,6 +61,7 @@ fn gather<R: Wait>(
 ) -> Result<u64, WantMemory>
     requires seat { IsIdle shared.now seat.old }
     requires conn { HoldsConnection (view seat.old) conn }
+    requires said { HasSaid conn (view seat.old) }
     ensures seat { IsIdle shared.now seat.new }
     ensures conn { HoldsConnection (view seat.new) conn }
     ensures gathers { (g : Givens) → (view seat.old).givens ≡ Some g
@@ -81,6 +84,7 @@ pub(crate) fn gather_within<R: Wait>(
 ) -> Result<u64, WantMemory>
     requires seat { IsIdle shared.now seat.old }
     requires conn { HoldsConnection (view seat.old) conn }
+    requires said { HasSaid conn (view seat.old) }
     ensures seat { IsIdle shared.now seat.new }
     ensures conn { HoldsConnection (view seat.new) conn }
     ensures gathers { (g : Givens) → (view seat.old).givens ≡ Some g
@@ -109,6 +113,7 @@ fn collect_next<R: Wait>(
 ) -> Result<Option<u64>, WantMemory>
     requires seat { IsIdle shared.now seat.old }
     requires conn { HoldsConnection (view seat.old) conn }
+    requires said { HasSaid conn (view seat.old) }
     ensures seat { IsIdle shared.now seat.new }
     ensures conn { HoldsConnection (view seat.new) conn }
     ensures next { (g : Givens) → (view seat.old).givens ≡ Some g
@@ -124,6 +129,7 @@ fn put_collected(
     replies: &mut Vec<u8>,
     collected: &Collected,
 ) -> Result<Option<u64>, WantMemory>
+    requires { IsGiven collected.now }
     ensures { PutsOn collected.now replies.old.items replies.new.items result }
 {
     match collected {
@@ -137,6 +143,7 @@ fn put_collected(
 
 // Puts what a reply is told by behind the others.
 fn tell(alloc: Global, replies: &mut Vec<u8>, head: &Head, reply: &Reply) -> Result<(), WantMemory>
+    requires { IsGivenTo head.now reply.now }
     ensures { OnOk result (replies.new.items ≡ replies.old.items ++ told head.now reply.now) }
 {
     if let Reply::Answer { number, answer } = reply {
@@ -144,22 +151,5 @@ fn tell(alloc: Global, replies: &mut Vec<u8>, head: &Head, reply: &Reply) -> Res
         replies.extend_from_slice(line.as_slice())?;
         return replies.extend_from_slice(b"\n");
     }
-    // Each message is answered by a reply to it.
-    if !answers(head, reply) {
-        return Err(WantMemory);
-    }
     put_reply(alloc, replies, head, reply)
-}
-
-// Whether a reply answers a message with this head.
-fn answers(head: &Head, reply: &Reply) -> bool
-    ensures { IsTrue result → (head.now.minor ≤ 2) × AnswersHead head.now reply.now }
-{
-    head.minor <= 2
-        && match reply {
-            Reply::Outcome(_) => !head.locate,
-            Reply::Forward { .. } | Reply::Addressing => true,
-            Reply::Here | Reply::UnknownObject => head.locate,
-            Reply::Answer { .. } => false,
-        }
 }

@@ -8,6 +8,7 @@ ghost use Rattle.poa_shared.specs.Seen.{HoldsConnection};
 ghost use Rattle.poa_shared.specs.Helping.{Aids, IsReady};
 ghost use Rattle.session_laws.specs.Expecting.{Expects};
 ghost use Rattle.session_laws.specs.HearingPieces.{OfIntake};
+ghost use Rattle.poa_session.specs.Saying.{HasSaid};
 ghost use Rattle.poa_session.specs.Settling.{Converses};
 
 use crate::buffers::Buffers;
@@ -35,6 +36,7 @@ pub(crate) fn converse<R: Wait, L: Link>(
     requires seat { IsIdle shared.now seat.old }
     requires aid { IsReady shared.now aid.old.seat }
     requires conn { HoldsConnection (view seat.old) conn }
+    requires said { HasSaid conn (view seat.old) }
     ensures seat { IsIdle shared.now seat.new }
     ensures ready { IsReady shared.now aid.new.seat }
     ensures aids { Aids aid.old.seat aid.new.seat }
@@ -82,6 +84,7 @@ fn talk<R: Wait, L: Link>(
     requires seat { IsIdle shared.now seat.old }
     requires aid { IsReady shared.now aid.old.seat }
     requires conn { HoldsConnection (view seat.old) conn }
+    requires said { HasSaid conn (view seat.old) }
     requires fresh { Expects peer (OfIntake input.old) [] [] }
     requires taken { input.old.taken ≡ 0 }
     requires room { 0 < length buffers.old.piece.items }

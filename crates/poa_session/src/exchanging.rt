@@ -7,6 +7,7 @@ ghost use Rattle.session_laws.specs.declared.Peer.{Peer};
 ghost use Rattle.poa_shared.specs.Seats.{IsIdle};
 ghost use Rattle.poa_shared.specs.Seen.{HoldsConnection};
 ghost use Rattle.poa_shared.specs.Helping.{Aids, IsReady};
+ghost use Rattle.poa_session.specs.Saying.{HasSaid};
 ghost use Rattle.poa_session.specs.Exchanging.{Exchanges};
 
 use crate::collecting::gather_within;
@@ -35,6 +36,7 @@ pub(crate) fn exchange<R: Wait>(
     requires seat { IsIdle shared.now seat.old }
     requires aid { IsReady shared.now aid.old.seat }
     requires conn { HoldsConnection (view seat.old) conn }
+    requires said { HasSaid conn (view seat.old) }
     ensures seat { IsIdle shared.now seat.new }
     ensures ready { IsReady shared.now aid.new.seat }
     ensures aids { Aids aid.old.seat aid.new.seat }
@@ -70,6 +72,7 @@ fn exchange_within<R: Wait>(
     requires seat { IsIdle shared.now seat.old }
     requires aid { IsReady shared.now aid.old.seat }
     requires conn { HoldsConnection (view seat.old) conn }
+    requires said { HasSaid conn (view seat.old) }
     ensures seat { IsIdle shared.now seat.new }
     ensures ready { IsReady shared.now aid.new.seat }
     ensures aids { Aids aid.old.seat aid.new.seat }

@@ -5,6 +5,7 @@ ghost use Rattle.outside.specs.Cause.{HasCause};
 ghost use Rattle.poa_history.specs.declared.Givens.{Givens};
 ghost use Rattle.poa_shared.specs.Seats.{IsIdle};
 ghost use Rattle.poa_shared.specs.Seen.{HoldsConnection};
+ghost use Rattle.poa_session.specs.Saying.{HasSaid};
 ghost use Rattle.poa_session.specs.Paying.{PaysAll};
 ghost use Rattle.poa_session.specs.Stopping.{Looks};
 
@@ -27,6 +28,7 @@ pub(crate) fn pay<R: Wait, L: Link>(
 ) -> Result<(), SessionEnd>
     requires seat { IsIdle shared.now seat.old }
     requires conn { HoldsConnection (view seat.old) conn }
+    requires said { HasSaid conn (view seat.old) }
     ensures seat { IsIdle shared.now seat.new }
     ensures conn { HoldsConnection (view seat.new) conn }
     ensures pays { (g : Givens) → (view seat.old).givens ≡ Some g

@@ -8,6 +8,7 @@ ghost use Rattle.session_laws.specs.declared.Peer.{Peer};
 ghost use Rattle.poa_shared.specs.Seats.{IsIdle};
 ghost use Rattle.poa_shared.specs.Seen.{HoldsConnection};
 ghost use Rattle.poa_shared.specs.Helping.{Aids, IsReady};
+ghost use Rattle.poa_session.specs.Saying.{HasSaid};
 ghost use Rattle.poa_session.specs.Rounding.{Rounds};
 
 use crate::buffers::Buffers;
@@ -38,6 +39,7 @@ pub(crate) fn round<R: Wait, L: Link>(
     requires seat { IsIdle shared.now seat.old }
     requires aid { IsReady shared.now aid.old.seat }
     requires conn { HoldsConnection (view seat.old) conn }
+    requires said { HasSaid conn (view seat.old) }
     requires room { 0 < length buffers.old.piece.items }
     ensures seat { IsIdle shared.now seat.new }
     ensures ready { IsReady shared.now aid.new.seat }

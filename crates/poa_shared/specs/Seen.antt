@@ -1,5 +1,5 @@
 -- What a seat knows of the one history, and which connections are its own. What is seen, and positions, are in the journal's order.
-use Rattle.std.specs.Prelude.{◌≡◌, ℕ, List, [], ◌∷◌, ◌++◌, length, reverse}
+use Rattle.std.specs.Prelude.{◌≡◌, ℕ, List, [], ◌∷◌, ◌++◌, length, reverse, Some}
 use mathlib.Core.Option.{some}
 use lib.ListN.{get_elem?}
 use Rattle.poa_base.specs.declared.Entry.{Entry}
@@ -14,6 +14,10 @@ use Rattle.poa_history.specs.GivenRuns.{IsHistory}
 -- the history as the seat saw it last, the newest entry first
 abbrev pub past : View Givens Entry → List Entry
 past v = reverse v.seen
+
+-- the seat knows what the run was given
+abbrev pub HasGivens : View Givens Entry → Type 0
+HasGivens v = (g : Givens) × (v.givens ≡ Some g)
 
 -- the connection entered by the seat
 pub record Owns (v : View Givens Entry) (c : ℕ) : Type 0 where

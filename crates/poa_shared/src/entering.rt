@@ -7,7 +7,7 @@ ghost use Rattle.poa_core.specs.Answers as answers;
 ghost use Rattle.poa_history.specs.Life.{with_entry};
 ghost use Rattle.poa_shared.specs.Events.{Event};
 ghost use Rattle.poa_shared.specs.Seats.{IsIdle};
-ghost use Rattle.poa_shared.specs.Seen.{HoldsConnection};
+ghost use Rattle.poa_shared.specs.Seen.{HasGivens, HoldsConnection};
 
 use crate::shared::{Front, Seat, Shared};
 use poa_core::{EnterFault, Phase};
@@ -18,6 +18,7 @@ impl Shared {
     pub fn enter<R: Wait>(&self, rt: &R, seat: &mut Seat) -> Result<u32, EnterFault>
         requires seat { IsIdle self.now seat.old }
         ensures seat { IsIdle self.now seat.new }
+        ensures given { HasGivens (view seat.old) }
         ensures entered { Event (λ old new. answers.Enters old result new) (view seat.old) (view seat.new) }
         ensures holds { IfOk result (HoldsConnection (view seat.new)) }
     {

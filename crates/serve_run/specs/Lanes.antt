@@ -27,10 +27,6 @@ abbrev pub AreOf : {A L : Type 0} → Peer → List (Tour A L) → Type 0
 AreOf peer [] = Unit {0}
 AreOf peer (t ∷ more) = (t.peer ≡ peer) × AreOf peer more
 
--- the seat has what the run was given
-abbrev pub HasGivens : View Givens Entry → Type 0
-HasGivens v = (g : Givens) × (v.givens ≡ Some g)
-
 module _ {A L : Type 0} (g : Givens) (shown : L → Shown) (standing : A → Option (Standing L)) (faults ends : A → ℕ) where
   -- these doors were served, as the outcome tells. Where a piece wasn't started, the run's end was called for at once
   pub record AreServed (tours : List (Tour A L)) (outcome : Outcome) (old new : View Givens Entry) : Type 0 where

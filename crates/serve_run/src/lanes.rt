@@ -2,10 +2,11 @@
 ghost use Rattle.std.specs.Prelude.{◌≡◌, ◌≤◌, ◌+◌, None, Some, vec_len, vec_capacity, []};
 ghost use Rattle.std.specs.Arc.{arc_value};
 ghost use Rattle.poa_shared.specs.Seats.{IsIdle};
+ghost use Rattle.poa_shared.specs.Seen.{HasGivens};
 ghost use Rattle.poa_history.specs.declared.givens.Givens.{Givens};
 ghost use Rattle.seat_lock.specs.Seats.{view};
 ghost use Rattle.serve_run.specs.Holding.{Holds};
-ghost use Rattle.serve_run.specs.Lanes.{HasGivens, LanesServed};
+ghost use Rattle.serve_run.specs.Lanes.{LanesServed};
 ghost use Rattle.serve_run.specs.Threads.{CountsThreads};
 
 use crate::aiding::{join_aid, split_aid};

@@ -2,11 +2,11 @@
 ghost use Rattle.std.specs.Prelude.{◌≡◌, ◌≤◌, ◌+◌, None, Some, vec_len, []};
 ghost use Rattle.std.specs.Arc.{arc_value};
 ghost use Rattle.poa_shared.specs.Seats.{IsIdle};
+ghost use Rattle.poa_shared.specs.Seen.{HasGivens};
 ghost use Rattle.poa_history.specs.declared.givens.Givens.{Givens};
 ghost use Rattle.seat_lock.specs.Seats.{view};
 ghost use Rattle.serve_run.specs.Attending.{DoorsServed, AllServed};
 ghost use Rattle.serve_run.specs.Holding.{Holds};
-ghost use Rattle.serve_run.specs.Lanes.{HasGivens};
 ghost use Rattle.serve_run.specs.Threads.{CountsThreads};
 
 use crate::doors::Doors;

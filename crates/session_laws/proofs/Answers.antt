@@ -5,6 +5,8 @@ use Rattle.giop_frame.specs.Stream.{Framed, left_over}
 use Rattle.giop_frame.specs.Framing.{Framing}
 use Rattle.giop_frame.specs.Framer.{FramerAnswers}
 use Rattle.giop_frame.proofs.GoingOn.{framer_goes_on as some_given}
+use Rattle.giop_replies.proofs.Answering.{message_headed}
+use Rattle.giop_replies.proofs.Calls.{headed_said}
 use Rattle.std.proofs.Math.Seq.{drop-append-add}
 use Rattle.text_words.specs.Cuts.{lacks}
 use Rattle.session_laws.specs.Hearing.{bad, over}
@@ -12,6 +14,7 @@ use Rattle.session_laws.specs.Lines.{is_long, without_return}
 use Rattle.session_laws.specs.Expecting.{Cutting, OfFramer, OfLines}
 use Rattle.session_laws.proofs.Messages.{framer_call, framer_cancel, framer_closing, framer_malformed, framer_same, FramerGoesOn}
 use Rattle.session_laws.proofs.Lines.{behind_line, front_long, line_long, line_read, lines_over}
+use Rattle.session_laws.proofs.Said.{spoken_said}
 use Rattle.session_laws.specs.declared.told.Told.{Told}
 use Rattle.session_laws.specs.declared.told.Told.TheVariants as told
 use Rattle.session_laws.specs.HearingPieces.{Asks, AsTold, Speaks}
@@ -25,6 +28,7 @@ told_message f g m (told.Call call size) answers asks = (
   (λ text more stop w. subst (λ (n : ℕ). OfFramer f text (record { call = call; size = n } ∷ more) stop) (sym asks.1)
       (framer_call f g text more stop w m call answers asks.0)),
   asks.2,
+  headed_said call (message_headed m.bytes call asks.0),
 )
 told_message f g m told.Nothing answers asks = λ text more stop w. framer_cancel f g text more stop w m asks.0 answers asks.1
 told_message f g m (told.More have) answers asks = absurd asks
@@ -43,7 +47,11 @@ told_more f g have answers = (
 pub told_line : (l : Cutting) (raw rest : List ℕ) (t : Told) → l.unread ≡ raw ++ 10 ∷ rest → lacks 10 raw ≡ true → is_long raw ≡ false
     → Speaks l.number (without_return raw) t → AsTold t (OfLines l) (OfLines (behind_line l raw rest))
 told_line l raw rest (told.Call call size) stands clear short speaks =
-    ((λ text more stop heard. subst (λ hs. OfLines l text (hs ++ more) stop) speaks.0 (line_read l raw rest text stands clear more stop short heard)), speaks.1)
+    (
+      (λ text more stop heard. subst (λ hs. OfLines l text (hs ++ more) stop) speaks.0 (line_read l raw rest text stands clear more stop short heard)),
+      speaks.1,
+      spoken_said l.number (without_return raw) call size speaks.0,
+    )
 told_line l raw rest told.Nothing stands clear short speaks =
     λ text more stop heard. subst (λ hs. OfLines l text (hs ++ more) stop) speaks (line_read l raw rest text stands clear more stop short heard)
 told_line l raw rest (told.More have) stands clear short speaks = absurd speaks

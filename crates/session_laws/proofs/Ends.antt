@@ -15,6 +15,7 @@ input_begins peer text calls Ended (inl heard) = hears_begins peer text calls cl
 input_begins peer text calls Ended (inr heard) = hears_begins peer text calls (over 0) heard
 input_begins peer text calls (Malformed at) heard = hears_begins peer text calls (bad at) heard
 input_begins peer text calls (Truncated have) heard = hears_begins peer text calls (over have) heard.0
+input_begins peer text calls (InputLimit taken) heard = hears_begins peer text calls (over heard.0) heard.1
 input_begins peer text calls end heard = heard
 
 closing_none : (peer : Peer) (end : SessionEnd) → is_settling end ≡ false → closing peer end ≡ []

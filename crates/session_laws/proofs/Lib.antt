@@ -1,6 +1,7 @@
 pub mod Expected
 pub mod Messages
 pub mod Lines
+pub mod Said
 pub mod Others
 pub mod Own
 pub mod Paying

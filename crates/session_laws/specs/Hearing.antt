@@ -6,11 +6,17 @@ use Rattle.giop_msg.specs.declared.Incoming.{Incoming}
 use Rattle.giop_msg.specs.declared.Incoming.TheVariants as incoming
 use Rattle.giop_msg.specs.declared.MsgFault.{MsgFault}
 use Rattle.giop_msg.specs.Call.{CallOf}
+use Rattle.giop_replies.specs.Calls.{IsSaid}
 
 -- a call that a peer sends, and the bytes of its message or line
 pub record Heard : Type 0 where
   pub call : Call
   pub size : ℕ
+
+-- each of these is the call of a message, or an administrator's line
+abbrev pub AreSaid : List Heard → Type 0
+AreSaid [] = Unit {0}
+AreSaid (heard ∷ more) = IsSaid heard.call × AreSaid more
 
 -- where an input stops: at a CloseConnection; at its end, where so many bytes belong to no message or line; or at a bad place
 pub data Stop : Type 0 where

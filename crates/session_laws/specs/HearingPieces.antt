@@ -4,6 +4,7 @@ use Rattle.giop_frame.specs.Stream.{Framed}
 use Rattle.giop_msg.specs.declared.Incoming.TheVariants as incoming
 use Rattle.giop_msg.specs.declared.MsgFault.{MsgFault}
 use Rattle.giop_msg.specs.Call.{CallOf}
+use Rattle.giop_replies.specs.Calls.{IsSaid}
 use Rattle.session_laws.specs.Lines.{spoken}
 use Rattle.giop_frame.specs.Framer.{reach}
 use Rattle.poa_history.specs.Legal.{IsSize}
@@ -51,7 +52,7 @@ StillHears P Q = (next : List ℕ) (more : List Heard) (stop : Stop) → Q next 
 abbrev pub AsTold : Told → Hearing → Hearing → Type 0
 AsTold (told.Call call size) P Q =
     ((next : List ℕ) (more : List Heard) (stop : Stop) → Q next more stop → P next (record { call = call; size = size } ∷ more) stop)
-    × IsSize size
+    × IsSize size × IsSaid call
 AsTold told.Nothing P Q = StillHears P Q
 AsTold (told.More have) P Q = StillHears P Q × Q [] [] (over have)
 AsTold told.Closed P Q = P [] [] closed

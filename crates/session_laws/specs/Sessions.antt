@@ -37,11 +37,13 @@ pub record IsNext (peer : Peer) (text : List ℕ) (calls : List Heard) (size : �
 abbrev pub HasClosing : Peer → List ℕ → Type 0
 HasClosing peer text = (calls : List Heard) × Hears peer text calls closed
 
--- the calls that arrived are all of them, or the first of them
+-- the calls that arrived are all of them, or the first of them. At the limit of the input they are all of what was read, and
+-- nothing of that ends the input earlier
 abbrev pub Input : Peer → List ℕ → List Heard → SessionEnd → Type 0
 Input peer text calls Ended = Hears peer text calls closed ⊎ Hears peer text calls (over 0)
 Input peer text calls (Malformed at) = Hears peer text calls (bad at)
 Input peer text calls (Truncated have) = Hears peer text calls (over have) × (0 < have)
+Input peer text calls (InputLimit taken) = (have : ℕ) × Hears peer text calls (over have)
 Input peer text calls end = Begins peer text calls
 
 -- why a session ended, by what stood as its connection left, the calls that had arrived on it then, and what was read. A

@@ -1,8 +1,9 @@
-use Rattle.std.proofs.Common.{◌∙◌, rules, subst}
+use Rattle.std.proofs.Common.{[], ◌∙◌, rules, subst}
 use Rattle.std.specs.Prelude.{Ok}
 use Rattle.seat_lock.specs.Seats.{view}
 use Rattle.poa_session.specs.Paying.{NextGathered}
 use Rattle.poa_session.proofs.Replies.{gathers_all, gathers_lost, gathers_none, gathers_one}
+use Rattle.poa_session.proofs.Saying.{said_on}
 use Rattle.poa_session.proofs.collecting.gather_within.Goals as goal
 
 pub loop-init : goal.loop-init
@@ -44,3 +45,9 @@ loop-preserved g c = record {
       gathers_one givens c.args.conn (view c.args.seat.now) (view c.loop.seat)
       (view c.collect_next.new.seat) c.args.replies.now.items c.loop.replies.items before next.0 c.collect_next.new.replies.items next.1 next.2);
 }
+
+pub collect_next-requires-clause-said : goal.collect_next-requires-clause-said
+collect_next-requires-clause-said g c =
+    (let said = c.requires.said in
+    let before = c.loop.invariant.gathers said.givens said.given in
+    said_on c.args.conn (view c.args.seat.now) (view c.loop.seat) said [] before.due before.adds tt)

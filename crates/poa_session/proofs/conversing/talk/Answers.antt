@@ -4,6 +4,7 @@ use Rattle.poa_shared.proofs.Helped.{aids_none, aids_through}
 use Rattle.poa_session.specs.declared.flow.Flow.TheVariants.{Broke, Ends}
 use Rattle.poa_session.proofs.Counted.{rose_after, rose_before}
 use Rattle.poa_session.proofs.Talking.{sits_broken, sits_ended, sits_new, sits_on}
+use Rattle.poa_session.proofs.Saying.{said_on}
 use Rattle.poa_session.proofs.conversing.talk.Goals as goal
 
 pub loop-init : goal.loop-init
@@ -86,3 +87,18 @@ returns-in-Ends-clause-aids g c = aids_through c.args.aid.now.seat c.loop.aid.se
 
 pub returns-in-Broke-clause-aids : goal.returns-in-Broke-clause-aids
 returns-in-Broke-clause-aids g c = aids_through c.args.aid.now.seat c.loop.aid.seat c.round.new.aid.seat c.loop.invariant.aids c.in-Broke.ensures.aids
+
+pub round-requires-clause-said : goal.round-requires-clause-said
+round-requires-clause-said g c =
+    (let said = c.requires.said in
+    let before = c.loop.invariant.sits said.givens said.given in
+    said_on c.args.conn (view c.args.seat.now) (view c.loop.seat) said before.calls before.replies before.adds before.said)
+
+pub settle-requires-clause-said : goal.settle-requires-clause-said
+settle-requires-clause-said g c =
+    (let said = c.requires.said in
+    let before = c.loop.invariant.sits said.givens said.given in
+    let went = c.in-Ends.ensures.rounds said.givens (before.adds.given ∙ said.given) c.args.peer in
+    said_on c.args.conn (view c.loop.seat) (view c.round.new.seat)
+    (said_on c.args.conn (view c.args.seat.now) (view c.loop.seat) said before.calls before.replies before.adds before.said)
+    went.calls went.due went.adds went.said)

@@ -31,7 +31,7 @@ returns-in-Waits-clause-listens g c = λ givens given peer.
     hears_then givens peer c.args.conn (view c.args.seat.now) (view c.loop.seat) (view c.hear.new.seat) c.args.input.now c.loop.input c.hear.new.input
     (Waits c.in-Waits.have) before
     (c.in-Waits.ensures.hears givens (before.adds.given ∙ given) peer) in
-    record { calls = all.calls; adds = all.adds; heard = all.heard; taken = all.taken })
+    record { calls = all.calls; said = all.said; adds = all.adds; heard = all.heard; taken = all.taken })
 
 pub returns-in-Ends-clause-listens : goal.returns-in-Ends-clause-listens
 returns-in-Ends-clause-listens g c = λ givens given peer.
@@ -40,4 +40,4 @@ returns-in-Ends-clause-listens g c = λ givens given peer.
     hears_then givens peer c.args.conn (view c.args.seat.now) (view c.loop.seat) (view c.hear.new.seat) c.args.input.now c.loop.input c.hear.new.input
     (Ends c.in-Ends.end) before
     (c.in-Ends.ensures.hears givens (before.adds.given ∙ given) peer) in
-    record { calls = all.calls; adds = all.adds; heard = all.heard; taken = all.taken })
+    record { calls = all.calls; said = all.said; adds = all.adds; heard = all.heard; taken = all.taken })

@@ -1,9 +1,11 @@
-use Rattle.std.proofs.Common.{arith, ap, rules, subst, ◌∙◌}
+use Rattle.std.proofs.Common.{[], arith, ap, rules, subst, sym, ◌∙◌}
 use Rattle.std.specs.Prelude.{Ok, Err}
 use Rattle.seat_lock.specs.Seats.{view}
 use Rattle.poa_session.specs.Paying.{Pays}
 use Rattle.poa_session.specs.Stopping.{Looks}
 use Rattle.poa_session.proofs.Owed.{pays_abandoned, pays_all, pays_broken, pays_none, pays_on}
+use Rattle.poa_session.specs.Saying.{HasSaid}
+use Rattle.poa_session.proofs.Saying.{said_on}
 use Rattle.poa_session.proofs.paying.pay.Goals as goal
 
 pub loop-init : goal.loop-init
@@ -72,3 +74,10 @@ loop-preserved g c = record {
       (c.look-end.ensures.looks givens (paid.adds.given ∙ (before.adds.given ∙ given))));
   counts = (let was = c.loop.invariant.counts in let more = c.in-Ok.ensures.failed.later in omega (arith, was, more));
 }
+
+pub collect_all-requires-clause-said : goal.collect_all-requires-clause-said
+collect_all-requires-clause-said g c =
+    (let said = c.requires.said in
+    let before = c.loop.invariant.pays said.givens said.given in
+    subst (HasSaid c.args.conn) (sym (ap (λ m. m.0) c.listen-heard.ensures.same.2))
+    (said_on c.args.conn (view c.args.seat.now) (view c.loop.seat) said [] before.due before.adds tt))

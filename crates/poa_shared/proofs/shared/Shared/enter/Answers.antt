@@ -1,4 +1,5 @@
 use Rattle.poa_core.specs.Answers.{Enters}
+use Rattle.poa_history.specs.Life.{givens_of}
 use Rattle.poa_shared.proofs.Made.{enters_made}
 use Rattle.poa_shared.proofs.Taking.{event, put_history, enters_hold}
 use Rattle.poa_shared.proofs.shared.Shared.enter.Goals as goal
@@ -23,3 +24,6 @@ returns-clause-holds g c =
     (enters_made c.args.seat.now.me.0 c.take-core.result c.enter-result.new.self c.take-core.ensures.taken.1 c.enter-result.result c.is_legal.ensures
     c.enter-result.ensures)
     c.put.new.seat.me.0 c.put.ensures.view c.enter-result.result c.take-core.ensures.taken.1 c.is_legal.ensures c.enter-result.ensures
+
+pub returns-clause-given : goal.returns-clause-given
+returns-clause-given g c = (givens_of c.take-core.result, c.take-core.ensures.taken.0)
