@@ -16,7 +16,7 @@ use Rattle.poa_history.specs.declared.givens.Givens.{Givens}
 use Rattle.poa_history.specs.Leaving.{is_shut, is_shut_by}
 use Rattle.poa_history.specs.Phases.{first_abandoned, phase_by, phase_of}
 use Rattle.poa_history.specs.declared.phase.Phase.{Phase}
-use Rattle.poa_history.specs.declared.phase.Phase.TheVariants.{Running}
+use Rattle.poa_history.specs.declared.phase.Phase.TheVariants.{Running, Full, Shut, Abandoned}
 use Rattle.std.specs.Option.{option_or}
 use Rattle.seat_lock.specs.declared.view.View.{View}
 use Rattle.seat_lock.specs.Histories.{IsPrefix}
@@ -138,20 +138,21 @@ abandoned_since : (w : ℕ) (more past : List Entry) → is_abandoned past w ≡
 abandoned_since w [] past was = was
 abandoned_since w (e ∷ more) past was = abandoned_still w e (more ++ past) (abandoned_since w more past was)
 
--- why a run isn't running
-data Stopped (h : List Entry) : Type 0 where
-  by_abandon : (w : ℕ) → is_abandoned h w ≡ true → Stopped h
-  by_shut : is_shut h ≡ true → Stopped h
-  by_filled : is_filled h ≡ true → Stopped h
+-- what the phase of a run tells of its history
+abbrev PhaseTells : Phase → List Entry → Type 0
+PhaseTells Running h = Unit {0}
+PhaseTells Full h = is_filled h ≡ true
+PhaseTells Shut h = is_shut h ≡ true
+PhaseTells (Abandoned w) h = is_abandoned h w ≡ true
 
-why_stopped : (h : List Entry) (phase : Phase) → phase ≡ phase_of h → (phase ≡ Running → ⊥) → Stopped h
-why_stopped h phase is other = by_facts (first_abandoned h) (is_shut h) (is_filled h) refl refl refl is
+phase_tells : (h : List Entry) → PhaseTells (phase_of h) h
+phase_tells h = by_facts (first_abandoned h) (is_shut h) (is_filled h) refl refl refl
   where
-    by_facts : (o : Option ℕ) (s f : Bool) → first_abandoned h ≡ o → is_shut h ≡ s → is_filled h ≡ f → phase ≡ phase_by o s f → Stopped h
-    by_facts (Some w) s f gave shut filled at = by_abandon w (first_gave h w gave)
-    by_facts None true f gave shut filled at = by_shut shut
-    by_facts None false true gave shut filled at = by_filled filled
-    by_facts None false false gave shut filled at = absurd (other at)
+    by_facts : (o : Option ℕ) (s f : Bool) → first_abandoned h ≡ o → is_shut h ≡ s → is_filled h ≡ f → PhaseTells (phase_by o s f) h
+    by_facts (Some w) s f gave shut filled = first_gave h w gave
+    by_facts None true f gave shut filled = shut
+    by_facts None false true gave shut filled = filled
+    by_facts None false false gave shut filled = tt
 
 module _ {A L : Type 0} (g : Givens) (shown : L → Shown) (standing_of : A → Option (Standing L)) (faults ends : A → ℕ) (v : View Givens Entry) (log : List Entry)
     (seen : log ≡ v.seen) (going : NoneGaveUp log) where
@@ -162,16 +163,19 @@ module _ {A L : Type 0} (g : Givens) (shown : L → Shown) (standing_of : A → 
     whole_is : reverse log ≡ reverse p.0 ++ reverse t.stood
     whole_is = reversed_more t.stood log p.0 p.1
 
+    told : (phase : Phase) → phase ≡ phase_of (reverse t.stood) → PhaseTells phase (reverse t.stood)
+    told phase is = subst (λ k. PhaseTells k (reverse t.stood)) (sym is) (phase_tells (reverse t.stood))
+
     by_end : (end : PieceEnd) → DoorHasCause {A = A} {L = L} standing_of faults ends end t.closed t.served (reverse t.stood)
         → HasEnded {A = A} {L = L} standing_of faults ends end log t.closed t.served
     by_end DoorEnd cause = cause.0
     by_end DoorFailed cause = cause
-    by_end (NotRunning phase) cause =
-        elim (why_stopped (reverse t.stood) phase cause.0 cause.1) [
-          | by_abandon w gave ↦ absurd (true≢false (sym (ap (λ l. is_abandoned l w) whole_is ∙ abandoned_since w (reverse p.0) (reverse t.stood) gave) ∙ going w))
-          | by_shut shut ↦ inr (ap is_shut_by_others whole_is ∙ shut_since (reverse p.0) (reverse t.stood) (shut_by_others (reverse t.stood) none shut))
-          | by_filled filled ↦ inl (ap is_filled whole_is ∙ filled_since (reverse p.0) (reverse t.stood) filled)
-        ]
+    by_end (NotRunning Full) cause = ap is_filled whole_is ∙ filled_since (reverse p.0) (reverse t.stood) (told Full cause.0)
+    by_end (NotRunning Shut) cause =
+        ap is_shut_by_others whole_is ∙ shut_since (reverse p.0) (reverse t.stood) (shut_by_others (reverse t.stood) none (told Shut cause.0))
+    by_end (NotRunning (Abandoned w)) cause =
+        absurd (true≢false (sym (ap (λ l. is_abandoned l w) whole_is ∙ abandoned_since w (reverse p.0) (reverse t.stood) (told (Abandoned w) cause.0)) ∙ going w))
+    by_end (NotRunning Running) cause = absurd (cause.1 refl)
     by_end (Worked end) cause = absurd cause
 
     tour_ended : HasEnded {A = A} {L = L} standing_of faults ends t.end log t.closed t.served

@@ -19,6 +19,7 @@ use Rattle.history_standing.specs.declared.activation.Activation.{Activation}
 use Rattle.poa_session.specs.Served.{DriesUp, TurnedAway}
 use Rattle.history_standing.specs.Trees.{In as IsAmong}
 use Rattle.poa_history.specs.declared.givens.Givens.{Givens}
+use Rattle.poa_history.specs.declared.phase.Phase.TheVariants.{Full, Shut}
 use Rattle.poa_history.specs.Owners.{owner_of, worker_of}
 use Rattle.seat_lock.specs.Histories.{times, Belongs, In, IsPrefix}
 use Rattle.poa_history.specs.Leaving.{is_shut_by}
@@ -27,7 +28,7 @@ use Rattle.session_laws.specs.Sessions.{Cause, Session}
 use Rattle.serve_run.specs.Doors.{HasSaidEnd}
 use Rattle.serve_run.specs.Visits.{Visit}
 use Rattle.serve_run.specs.declared.ran.PieceEnd.{PieceEnd}
-use Rattle.serve_run.specs.declared.ran.PieceEnd.TheVariants.{DoorEnd, DoorFailed, NotRunning, Worked}
+use Rattle.serve_run.specs.declared.ran.PieceEnd.TheVariants.{DoorEnd, DoorFailed, NotRunning}
 use Rattle.serve_run.specs.Holding.{IsOwn, IsWord}
 use Rattle.serve_run.specs.Tours.{Tour}
 
@@ -104,8 +105,9 @@ module _ {A L : Type 0} (standing_of : A → Option (Standing L)) (faults ends :
   abbrev pub HasEnded : PieceEnd → List Entry → A → A → Type 0
   HasEnded DoorEnd log closed served = HasSaidEnd standing_of ends closed served
   HasEnded DoorFailed log closed served = Rose (faults closed) (faults served)
-  HasEnded (NotRunning phase) log closed served = (is_filled (reverse log) ≡ true) ⊎ (is_shut_by_others (reverse log) ≡ true)
-  HasEnded (Worked end) log closed served = ⊥
+  HasEnded (NotRunning Full) log closed served = is_filled (reverse log) ≡ true
+  HasEnded (NotRunning Shut) log closed served = is_shut_by_others (reverse log) ≡ true
+  HasEnded end log closed served = ⊥
 
   abbrev pub EachEnded : List Entry → List (Tour A L) → Type 0
   EachEnded log [] = Unit {0}
