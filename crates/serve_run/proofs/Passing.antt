@@ -1,5 +1,6 @@
 -- A door gives a link and is given it back: it has passed one link more.
-use Rattle.std.proofs.Common.{◌≡◌, ℕ, ◌-◌, List, [], ◌∷◌, ◌++◌, Option, Some, None, refl, sym, ap, ◌∙◌, arith}
+use Rattle.std.proofs.Common.{◌≡◌, ℕ, ◌-◌, List, [], ◌∷◌, ◌++◌, Option, Some, None, refl, sym, ap, ◌∙◌, subst, arith}
+use Rattle.std.specs.Prelude.{IfSome}
 use Rattle.outside.specs.Accepting.{Opens, Standing, TakesBack}
 use Rattle.outside.specs.Told.{IfTold}
 use Rattle.outside.specs.declared.accepting.Door.TheVariants as door
@@ -33,6 +34,31 @@ module _ {L : Type 0} where
   passed_on visits x None None (Some c) w p q r = absurd q
   passed_on visits x (Some a) (Some b) (Some c) None p q r = absurd r
   passed_on visits x None None None (Some d) p q r = absurd r
+
+-- a door that gives no link passes none
+module _ {L : Type 0} (visits : List (Visit L)) where
+  pub passed_still : (s t u : Option (Standing L)) → IfTold s t (Passes visits) → IfTold t u (Opens door.Quiet) → IfTold s u (Passes visits)
+  passed_still None None None so_far same = tt
+  passed_still (Some a) (Some b) (Some c) so_far same = subst (Passes visits a) (sym same) so_far
+  passed_still (Some a) None u so_far same = absurd so_far
+  passed_still None (Some b) u so_far same = absurd so_far
+  passed_still None None (Some c) so_far same = absurd same
+  passed_still (Some a) (Some b) None so_far same = absurd same
+
+  pub passed_end : (s t u : Option (Standing L)) → IfTold s t (Passes visits) → IfTold t u (Opens door.End) → IfTold s u (Passes visits)
+  passed_end None None None so_far same = tt
+  passed_end (Some a) (Some b) (Some c) so_far same = subst (Passes visits a) (sym same.1) so_far
+  passed_end (Some a) None u so_far same = absurd so_far
+  passed_end None (Some b) u so_far same = absurd so_far
+  passed_end None None (Some c) so_far same = absurd same
+  passed_end (Some a) (Some b) None so_far same = absurd same
+
+-- a door that says that it ends has no link left
+pub none_left : {L : Type 0} (s t : Option (Standing L)) → IfTold s t (Opens door.End) → IfSome t (λ x. x.left ≡ [])
+none_left None None ends = tt
+none_left (Some a) (Some b) ends = ap (λ x. x.left) ends.1 ∙ ends.0
+none_left None (Some b) ends = absurd ends
+none_left (Some a) None ends = absurd ends
 
 -- a door that was served to its end counted a fault where it failed, and else none
 module _ {A L : Type 0} (standing : A → Option (Standing L)) (faults ends : A → ℕ) (t : Tour A L) (h : List Entry)

@@ -1,9 +1,10 @@
-use Rattle.std.proofs.Common.{◌≡◌, refl, ◌∙◌, subst, sym, arith}
+use Rattle.std.proofs.Common.{◌≡◌, refl, ◌∙◌, le_trans, arith}
 use Rattle.outside.specs.declared.accepting.Door.TheVariants as door
+use Rattle.poa_session.proofs.Counted.{rose_before}
 use Rattle.poa_shared.proofs.Helped.{aids_none}
 use Rattle.seat_lock.specs.Seats.{view}
 use Rattle.serve_run.specs.Visits.{Visit}
-use Rattle.serve_run.proofs.Passing.{passed_on}
+use Rattle.serve_run.proofs.Passing.{none_left, passed_end, passed_on, passed_still}
 use Rattle.serve_run.proofs.Served.{attends_more}
 use Rattle.serve_run.proofs.receiving.receive.Goals as goal
 
@@ -23,6 +24,32 @@ returns-in-Link-clause-received g c = λ k first closed visits given so_far.
         later = (let before = so_far.later in let after = c.in-Link.ensures.ended.later in let back = c.give_back.ensures.ends in omega arith);
       },
     )
+
+pub returns-in-Quiet-clause-received : goal.returns-in-Quiet-clause-received
+returns-in-Quiet-clause-received g c = λ k first closed visits given so_far. record {
+  attends = so_far.attends;
+  passes =
+      passed_still visits (g.A.Acceptor.standing closed) (g.A.Acceptor.standing c.args.door.now) (g.A.Acceptor.standing c.next.new.self) so_far.passes
+      c.in-Quiet.ensures.standing;
+  steady = c.in-Quiet.ensures.counted (λ (q : door.Quiet ≡ door.Failed). cc) ∙ so_far.steady;
+  later = le_trans so_far.later c.in-Quiet.ensures.ended.later;
+}
+
+pub returns-in-End-clause-received : goal.returns-in-End-clause-received
+returns-in-End-clause-received g c = λ k first closed visits given so_far. (
+  record {
+    attends = so_far.attends;
+    passes =
+        passed_end visits (g.A.Acceptor.standing closed) (g.A.Acceptor.standing c.args.door.now) (g.A.Acceptor.standing c.next.new.self) so_far.passes
+        c.in-End.ensures.standing;
+    steady = c.in-End.ensures.counted (λ (q : door.End ≡ door.Failed). cc) ∙ so_far.steady;
+    later = le_trans so_far.later c.in-End.ensures.ended.later;
+  },
+  (
+    none_left (g.A.Acceptor.standing c.args.door.now) (g.A.Acceptor.standing c.next.new.self) c.in-End.ensures.standing,
+    rose_before _ _ _ so_far.later (c.in-End.ensures.ended.rose refl),
+  ),
+)
 
 pub returns-in-Quiet-clause-aids : goal.returns-in-Quiet-clause-aids
 returns-in-Quiet-clause-aids g c = aids_none c.args.aid.now.seat
