@@ -53,14 +53,15 @@ module _ (c : ℕ) where
 
   pub said_arrived : (h : List Entry) → AreSaid (arrived_by h c) → (r : ℕ) (call : Call) → conn_of h r ≡ Some c → call_of h r ≡ Some call → IsSaid call
   said_arrived [] said r call on is = absurd (let e : None ≡ Some call = is in cc)
-  said_arrived (Arrive conn size there ∷ past) said r call =
+  said_arrived (Arrive conn size there ∷ past) said r call on is =
       let parts = arrived_more conn size there past said in
       elim (r == arrivals past) as (λ b. (if b then Some conn else conn_of past r) ≡ Some c → (if b then Some there else call_of past r) ≡ Some call
           → IsSaid call) [
-        | true ↦ (λ on is. subst IsSaid (let e : Some there ≡ Some call = is in let same : there ≡ call = cc in same)
-              (parts.1 (let e : Some conn ≡ Some c = on in let same : conn ≡ c = cc in same)))
-        | false ↦ (λ on is. said_arrived past parts.0 r call on is)
-      ]
+        | true ↦
+            (λ here now. subst IsSaid (let e : Some there ≡ Some call = now in let same : there ≡ call = cc in same)
+            (parts.1 (let e : Some conn ≡ Some c = here in let same : conn ≡ c = cc in same)))
+        | false ↦ (λ before was. said_arrived past parts.0 r call before was)
+      ] on is
   said_arrived (Entered conn ∷ past) said r call on is = said_arrived past said r call on is
   said_arrived (Filled conn size ∷ past) said r call on is = said_arrived past said r call on is
   said_arrived (Left conn ∷ past) said r call on is = said_arrived past said r call on is
