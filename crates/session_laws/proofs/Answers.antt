@@ -46,12 +46,11 @@ told_more f g have answers = (
 -- a line that is read
 pub told_line : (l : Cutting) (raw rest : List ℕ) (t : Told) → l.unread ≡ raw ++ 10 ∷ rest → lacks 10 raw ≡ true → is_long raw ≡ false
     → Speaks l.number (without_return raw) t → AsTold t (OfLines l) (OfLines (behind_line l raw rest))
-told_line l raw rest (told.Call call size) stands clear short speaks =
-    (
-      (λ text more stop heard. subst (λ hs. OfLines l text (hs ++ more) stop) speaks.0 (line_read l raw rest text stands clear more stop short heard)),
-      speaks.1,
-      spoken_said l.number (without_return raw) call size speaks.0,
-    )
+told_line l raw rest (told.Call call size) stands clear short speaks = (
+  (λ text more stop heard. subst (λ hs. OfLines l text (hs ++ more) stop) speaks.0 (line_read l raw rest text stands clear more stop short heard)),
+  speaks.1,
+  spoken_said l.number (without_return raw) call size speaks.0,
+)
 told_line l raw rest told.Nothing stands clear short speaks =
     λ text more stop heard. subst (λ hs. OfLines l text (hs ++ more) stop) speaks (line_read l raw rest text stands clear more stop short heard)
 told_line l raw rest (told.More have) stands clear short speaks = absurd speaks

@@ -1,5 +1,5 @@
 -- Each call that a peer sent is one of a message, or an administrator's line.
-use Rattle.std.proofs.Common.{◌≡◌, ℕ, Bool, true, false, ◌&&◌, not, ◌==◌, if◌then◌else◌, List, [], ◌∷◌, ◌++◌, length, Option, Some, None, find, refl, sym, ap, ◌∙◌, subst, inl, inr}
+use Rattle.std.proofs.Common.{◌≡◌, ℕ, Bool, true, false, ◌&&◌, not, ◌==◌, if◌then◌else◌, List, [], ◌∷◌, ◌++◌, length, Option, Some, None, find, refl, sym, ap, ◌∙◌, subst}
 use Rattle.std.proofs.lemmas.Bool.{eqb-true, eqb-false}
 use Rattle.poa_base.specs.declared.Call.{Call}
 use Rattle.poa_base.specs.declared.Call.TheVariants.{Line}
@@ -46,7 +46,7 @@ module _ (c : ℕ) where
   arrived_more conn size call past =
       let heard : Heard = record { call = call; size = size } in
       elim (conn == c) as (λ b. (conn == c) ≡ b → AreSaid (if b then arrived_by past c ++ heard ∷ [] else arrived_by past c)
-          → AreSaid (arrived_by past c) × (conn ≡ c → IsSaid call)) [
+      → AreSaid (arrived_by past c) × (conn ≡ c → IsSaid call)) [
         | true ↦ (λ same said. (first_said (arrived_by past c) (heard ∷ []) said, λ _. last_said (arrived_by past c) heard said))
         | false ↦ (λ other said. (said, λ same. absurd (eqb-false conn c other same)))
       ] refl
@@ -56,7 +56,7 @@ module _ (c : ℕ) where
   said_arrived (Arrive conn size there ∷ past) said r call on is =
       let parts = arrived_more conn size there past said in
       elim (r == arrivals past) as (λ b. (if b then Some conn else conn_of past r) ≡ Some c → (if b then Some there else call_of past r) ≡ Some call
-          → IsSaid call) [
+      → IsSaid call) [
         | true ↦
             (λ here now. subst IsSaid (let e : Some there ≡ Some call = now in let same : there ≡ call = cc in same)
             (parts.1 (let e : Some conn ≡ Some c = here in let same : conn ≡ c = cc in same)))
