@@ -7,7 +7,8 @@ ghost use Rattle.poa_shared.specs.Events.{Event};
 ghost use Rattle.poa_shared.specs.Seats.{IsIdle};
 ghost use Rattle.poa_shared.specs.Seen.{HoldsConnection};
 
-use crate::shared::{Front, Seat, Shared};
+use crate::front::Front;
+use crate::shared::{Seat, Shared};
 use poa_base::Call;
 use poa_core::ArriveFault;
 use std::sync::Wait;

@@ -6,7 +6,8 @@ ghost use Rattle.poa_shared.specs.Events.{CollectsFitting, Event};
 ghost use Rattle.poa_shared.specs.Seats.{IsIdle};
 ghost use Rattle.poa_shared.specs.Seen.{HoldsConnection, Owns};
 
-use crate::shared::{Front, Seat, Shared};
+use crate::front::Front;
+use crate::shared::{Seat, Shared};
 use poa_core::Collected;
 use std::sync::Wait;
 

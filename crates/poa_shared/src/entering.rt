@@ -9,7 +9,8 @@ ghost use Rattle.poa_shared.specs.Events.{Event};
 ghost use Rattle.poa_shared.specs.Seats.{IsIdle};
 ghost use Rattle.poa_shared.specs.Seen.{HasGivens, HoldsConnection};
 
-use crate::shared::{Front, Seat, Shared};
+use crate::front::Front;
+use crate::shared::{Seat, Shared};
 use poa_core::{EnterFault, Phase};
 use std::sync::Wait;
 

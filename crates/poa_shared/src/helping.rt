@@ -6,8 +6,9 @@ ghost use Rattle.poa_shared.specs.Seats.{IsIdle};
 ghost use Rattle.poa_shared.specs.Helping.{Aids, Helps, IsReady};
 
 use crate::aid::Aid;
+use crate::front::Front;
 use crate::news::News;
-use crate::shared::{Front, Seat, Shared};
+use crate::shared::{Seat, Shared};
 use poa_core::StepOut;
 use std::sync::Wait;
 

@@ -5,8 +5,9 @@ ghost use Rattle.poa_core.specs.Answers as answers;
 ghost use Rattle.poa_shared.specs.Events.{Event, StepsRunning};
 ghost use Rattle.poa_shared.specs.Seats.{IsIdle};
 
+use crate::front::Front;
 use crate::news::News;
-use crate::shared::{Front, Seat, Shared};
+use crate::shared::{Seat, Shared};
 use poa_base::WantMemory;
 use poa_core::{Core, Phase, StepOut};
 use std::sync::Wait;

@@ -5,9 +5,10 @@ ghost use Rattle.poa_history.specs.declared.givens.Givens.{Givens};
 ghost use Rattle.poa_shared.specs.Seats.{IsIdle};
 ghost use Rattle.poa_shared.specs.Pauses.{Pauses};
 
+use crate::front::Front;
 use crate::news::News;
 use crate::pause::Pause;
-use crate::shared::{Front, Seat, Shared};
+use crate::shared::{Seat, Shared};
 use poa_base::{Point, WantMemory};
 use poa_core::StepOut;
 use std::sync::Wait;
