@@ -1,6 +1,7 @@
-//! The verdict on an arrival and the next entry of a worker, computed plainly and slowly from their
-//! definitions, and whether the condition of a command that waits holds. They keep nothing: each asks the
-//! whole history again. Tests and the audit of journals compare with them.
+//! The definitions of histories, computed plainly and slowly: the verdict on an arrival, the next entry of a worker, whether
+//! the condition of a command that waits holds; which arrivals are decided, their replies, and the next of a connection; and
+//! the first entry of a history that isn't legal. They keep nothing: each asks the whole history again. Tests compare with
+//! them.
 #![tactic(auto)]
 
 mod acting;

@@ -1,6 +1,8 @@
 //! One adapter for many threads. Each call through a seat takes the core out of its lock, has it make at most one entry,
 //! and puts it back: it is one event of the one history. What a seat knows of that history, and which connections are its
-//! own, is in `specs/Seen.antt`. Beside them stand bells, on which no clause rests.
+//! own, is in `specs/Seen.antt`. A worker makes its turns so, one entry after another, until the run is over; who serves
+//! connections may make turns of the first worker himself, by an aid. Beside them stand bells, and the place before the
+//! lock, on which no clause rests.
 #![tactic(auto)]
 
 mod aid;

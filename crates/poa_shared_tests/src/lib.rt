@@ -1,5 +1,6 @@
 //! Real threads over one shared core: callers, workers, and one that gives up. The tests ask whether the journal that they
-//! made together is a legal history, and whether every call was decided once. It is tests alone.
+//! made together is a legal history, and whether every call was decided once. And a diary under the lock alone, which many
+//! threads write. It is tests alone.
 #![tactic(auto)]
 
 #[cfg(test)]

@@ -1,7 +1,10 @@
 //! The commands of the program: `run_words` does what the words of a command line say, over a source, a
 //! sink and files, and answers how it ended. `answer` serves the GIOP messages of the source, in order, by the
-//! adapter of a configuration. `replay` plays a script on one, and `load` a drawn one. `show` prints a reference, and `check` and `iors`
-//! print what a configuration has.
+//! adapter of a configuration. `replay` plays a script on one, and `load` a drawn one. `show` prints a reference, and `check`
+//! and `iors` print what a configuration has.
+//!
+//! `run_serve` does `serve`: it runs the server on the doors that it is handed, and puts the journal where the words ask for
+//! it.
 #![tactic(auto)]
 
 mod beginning;

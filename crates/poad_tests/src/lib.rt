@@ -1,5 +1,6 @@
 //! What the tables of cases don't reach: the texts of faults, journals that are read, what a view lends, streams of millions
-//! of parts, and what is said of an illegal history. It is tests alone.
+//! of parts, what is said of an illegal history, and the outside world over standard streams, files, threads and sockets. It
+//! is tests alone.
 #![tactic(auto)]
 
 #[cfg(test)]

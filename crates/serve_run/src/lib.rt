@@ -1,5 +1,7 @@
-//! The run of the server on a core: its workers and doors are started as pieces, each in a thread of its own, joined, and put
-//! together. What a run comes to is said on the journal of the core that it gives back, in `specs/Served.antt`.
+//! The run of the server on a core: its pieces are started, each in a thread of its own, joined, and put together. A piece is a
+//! lane that serves the links of its door, the administrators' door, or a worker; what it promises is said on its seat, so
+//! that the promises can be put together once the seats are joined. What a run comes to is said on the journal of the core
+//! that it gives back, in `specs/Served.antt`.
 #![tactic(auto)]
 
 mod aiding;
