@@ -1,5 +1,5 @@
 -- What a connection let arrive is calls of messages and lines, and so each reply that it is given can be written.
-use Rattle.std.proofs.Common.{◌≡◌, ℕ, List, Some, sym, subst, ◌∙◌}
+use Rattle.std.proofs.Common.{◌≡◌, ℕ, List, ◌++◌, Some, sym, subst, ◌∙◌}
 use Rattle.std.specs.Prelude.{Ok}
 use Rattle.poa_base.specs.declared.Entry.{Entry}
 use Rattle.poa_base.specs.declared.Head.{Head}
@@ -19,7 +19,7 @@ use Rattle.session_laws.specs.Records.{arrived_by}
 use Rattle.session_laws.proofs.Said.{next_on, said_arrived, said_both}
 use Rattle.poa_session.specs.Growing.{Adds}
 use Rattle.poa_session.specs.Saying.{HasSaid, IsGiven}
-use Rattle.poa_session.proofs.Adding.{found_arrived}
+use Rattle.poa_session.proofs.Adding.{adds_both, found_arrived}
 use Rattle.poa_session.proofs.Entering.{begun}
 
 -- more of them arrive
@@ -30,6 +30,11 @@ said_on c v w said calls replies adds more = record {
   given = adds.given ∙ said.given;
   said = subst AreSaid (sym adds.arrived_is) (said_both (arrived_by (past v) c) calls said.said more);
 }
+
+pub said_twice : (c : ℕ) (v w u : View Givens Entry) (said : HasSaid c v) (calls later : List Heard) (replies after : List ℕ)
+    → Adds said.givens c v w calls replies → AreSaid calls → Adds said.givens c w u later after → AreSaid later → HasSaid c u
+said_twice c v w u said calls later replies after adds some more rest =
+    said_on c v u said (calls ++ later) (replies ++ after) (adds_both said.givens c v w u calls later replies after adds more) (said_both calls later some rest)
 
 module _ (g : Givens) (c : ℕ) (v : View Givens Entry) (h : List Entry) (w : View Givens Entry) (turns : Turns g v h w) where
   -- none arrived on a connection that has just entered

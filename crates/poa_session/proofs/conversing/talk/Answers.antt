@@ -4,7 +4,7 @@ use Rattle.poa_shared.proofs.Helped.{aids_none, aids_through}
 use Rattle.poa_session.specs.declared.flow.Flow.TheVariants.{Broke, Ends}
 use Rattle.poa_session.proofs.Counted.{rose_after, rose_before}
 use Rattle.poa_session.proofs.Talking.{sits_broken, sits_ended, sits_new, sits_on}
-use Rattle.poa_session.proofs.Saying.{said_on}
+use Rattle.poa_session.proofs.Saying.{said_on, said_twice}
 use Rattle.poa_session.proofs.conversing.talk.Goals as goal
 
 pub loop-init : goal.loop-init
@@ -99,6 +99,5 @@ settle-requires-clause-said g c =
     (let said = c.requires.said in
     let before = c.loop.invariant.sits said.givens said.given in
     let went = c.in-Ends.ensures.rounds said.givens (before.adds.given ∙ said.given) c.args.peer in
-    said_on c.args.conn (view c.loop.seat) (view c.round.new.seat)
-    (said_on c.args.conn (view c.args.seat.now) (view c.loop.seat) said before.calls before.replies before.adds before.said)
-    went.calls went.due went.adds went.said)
+    said_twice c.args.conn (view c.args.seat.now) (view c.loop.seat) (view c.round.new.seat) said before.calls went.calls before.replies went.due
+    before.adds before.said went.adds went.said)

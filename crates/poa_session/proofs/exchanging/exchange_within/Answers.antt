@@ -4,7 +4,7 @@ use Rattle.poa_shared.proofs.Helped.{aids_none}
 use Rattle.session_laws.specs.declared.Peer.TheVariants.{Client}
 use Rattle.poa_shared.specs.Seen.{past}
 use Rattle.poa_session.proofs.Adding.{adds_none}
-use Rattle.poa_session.proofs.Saying.{said_on}
+use Rattle.poa_session.proofs.Saying.{said_twice}
 use Rattle.poa_session.proofs.exchanging.exchange_within.Goals as goal
 
 pub returns-in-Some-clause-conn : goal.returns-in-Some-clause-conn
@@ -64,8 +64,6 @@ gather_within-requires-clause-said g c =
     (let said = c.requires.said in
     let looked = c.in_default.ensures.looks said.givens said.given in
     let listened = c.in-Ok.ensures.listens said.givens (looked.turns.given ∙ said.given) Client in
-    let before =
-    said_on c.args.conn (view c.args.seat.now) (view c.look_within.new.seat) said [] []
+    said_twice c.args.conn (view c.args.seat.now) (view c.look_within.new.seat) (view c.listen_within.new.seat) said [] listened.calls [] []
     (adds_none said.givens c.args.conn (view c.args.seat.now) (past (view c.look_within.new.seat)) (view c.look_within.new.seat) looked.turns
-    c.requires.conn.owns refl) tt in
-    said_on c.args.conn (view c.look_within.new.seat) (view c.listen_within.new.seat) before listened.calls [] listened.adds listened.said)
+    c.requires.conn.owns refl) tt listened.adds listened.said)

@@ -26,8 +26,8 @@ returns-clause-served g c = λ givens given.
 pub returns-in-Err-clause-aids : goal.returns-in-Err-clause-aids
 returns-in-Err-clause-aids g c = aids_none c.args.aid.now.seat
 
-pub converse-requires-clause-said : goal.converse-requires-clause-said
-converse-requires-clause-said g c =
+pub converse-end-requires-clause-said : goal.converse-end-requires-clause-said
+converse-end-requires-clause-said g c =
     (let given = c.in-Ok.ensures.given in
     let e = c.in-Ok.ensures.entered given.0 given.1 in
     said_none given.0 c.in-Ok.conn (view c.args.seat.now) e.0 (view c.enter.new.seat) e.1 given.1 e.2)
