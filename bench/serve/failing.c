@@ -3,6 +3,8 @@
 #include <errno.h>
 #include <stdio.h>
 #include <stdlib.h>
+#include <sys/syscall.h>
+#include <unistd.h>
 
 extern void *__libc_malloc(size_t size);
 extern void *__libc_realloc(void *old, size_t size);
@@ -21,6 +23,14 @@ __attribute__((destructor)) static void end(void)
 {
     if (failing == 0)
         dprintf(2, "%lu\n", calls);
+}
+
+// So a program ends that runs no destructors.
+void _exit(int status)
+{
+    end();
+    syscall(SYS_exit_group, status);
+    __builtin_unreachable();
 }
 
 static int is_failing(void)
