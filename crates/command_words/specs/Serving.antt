@@ -1,5 +1,5 @@
 -- The words behind `serve`: the file of a configuration, and options in any place.
-use Rattle.std.specs.Prelude.{◌≡◌, ℕ, ◌==◌, nat_lt, Bool, true, false, if◌then◌else◌, List, [], ◌∷◌, ◌++◌, length, Option, Some, None, option_map, codes, String, string_bytes, map}
+use Rattle.std.specs.Prelude.{◌≡◌, ◌≢◌, ℕ, ◌==◌, nat_lt, Bool, not, IfSome, true, false, if◌then◌else◌, List, [], ◌∷◌, ◌++◌, length, Option, Some, None, option_map, codes, String, string_bytes, map}
 use Rattle.std.specs.List.{after_first, before_first, position_or_len}
 use Rattle.std.specs.Option.{IsSomeAnd}
 use Rattle.std.specs.Str.{bytes_eq}
@@ -32,7 +32,8 @@ pub data Place : Type 0 where
 -- the names of the options
 abbrev pub is_option : List ℕ → Bool
 is_option name = if bytes_eq name (codes "--lanes") then true else (if bytes_eq name (codes "--workers") then true else (
-    if bytes_eq name (codes "--run") then true else bytes_eq name (codes "--journal")))
+    if bytes_eq name (codes "--run") then true else (if bytes_eq name (codes "--state") then true else (
+    if bytes_eq name (codes "--journal") then true else bytes_eq name (codes "--limit")))))
 
 -- `=` has the code 61
 abbrev pub is_equals : ℕ → Bool
@@ -94,20 +95,49 @@ pub record Serve : Type 0 where
   pub lanes : ℕ  -- how many clients are served at once
   pub workers : ℕ
   pub run : ℕ  -- the number of the run
+  pub state : Option (List ℕ)  -- the name of the file with the store that it opens with, and for its own
   pub journal : Option (List ℕ)  -- the name of the file for its journal
+  pub limit : ℕ  -- how many calls it takes
 
 abbrev pub only : List ℕ → List Setting → Option (List ℕ)
 only name settings = exactly_one (Some (values_of name settings))
 
--- one file, each option once but `--journal`, which may be absent
+-- the values of an option that may be absent
+abbrev pub perhaps : List ℕ → List Setting → Option (Option (List ℕ))
+perhaps name settings = at_most_one (Some (values_of name settings))
+
+-- a run takes 4,000,000 calls at most, and so where the words say nothing of it
+abbrev pub limit_of : Option (List ℕ) → Option ℕ
+limit_of None = Some 4000000
+limit_of (Some word) = number_in 1 4000000 word
+
+-- a state and a journal, where both are asked for, have two names
+abbrev pub are_apart : Option (List ℕ) → Option (List ℕ) → Bool
+are_apart (Some state) (Some journal) = not (bytes_eq state journal)
+are_apart state journal = true
+
+abbrev pub AreApart : Option (List ℕ) → Option (List ℕ) → Type 0
+AreApart state journal = IfSome state (λ s. IfSome journal (λ j. s ≢ j))
+
+-- one file, each option once but `--state`, `--journal` and `--limit`, which may be absent
 abbrev pub serve_of : List Setting → Option Serve
 serve_of settings =
     only [] settings >>= (λ file.
     (only (codes "--lanes") settings >>= number_in 1 64) >>= (λ lanes.
     (only (codes "--workers") settings >>= number_in 1 16) >>= (λ workers.
     (only (codes "--run") settings >>= number_in 0 4294967295) >>= (λ run.
-    at_most_one (Some (values_of (codes "--journal") settings)) >>= (λ journal.
-    Some (record { file = file; lanes = lanes; workers = workers; run = run; journal = journal }))))))
+    perhaps (codes "--state") settings >>= (λ state.
+    perhaps (codes "--journal") settings >>= (λ journal.
+    (perhaps (codes "--limit") settings >>= limit_of) >>= (λ limit.
+    if are_apart state journal then Some (record {
+      file = file;
+      lanes = lanes;
+      workers = workers;
+      run = run;
+      state = state;
+      journal = journal;
+      limit = limit;
+    }) else None)))))))
 
 -- the run of a server that all the words of a command line ask for
 abbrev pub serve_among : List (List ℕ) → Option Serve
@@ -130,7 +160,15 @@ abbrev pub seen_step : Option SettingAsRead × PlaceOfReader → Option Setting 
 seen_step step = (option_map seen_setting step.0, seen_place step.1)
 
 abbrev pub seen_serve : ServeWords → Serve
-seen_serve s = record { file = s.file.now; lanes = s.lanes; workers = s.workers; run = s.run; journal = option_map (λ n. n.now) s.journal }
+seen_serve s = record {
+  file = s.file.now;
+  lanes = s.lanes;
+  workers = s.workers;
+  run = s.run;
+  state = option_map (λ n. n.now) s.state;
+  journal = option_map (λ n. n.now) s.journal;
+  limit = s.limit;
+}
 
 -- the plan of these words
 abbrev pub IsPlan : Option Serve → Option Plan → Type 0

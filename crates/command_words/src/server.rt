@@ -11,6 +11,10 @@ pub struct ServeWords<'a> {
     pub workers: u32,
     /// The number of the run.
     pub run: u32,
+    /// The name of the file with the store that the run opens with, into which its own is to be written.
+    pub state: Option<&'a str>,
     /// The name of the file into which the journal is to be written.
     pub journal: Option<&'a str>,
+    /// How many calls it takes: 1 to 4,000,000.
+    pub limit: u32,
 }

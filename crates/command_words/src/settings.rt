@@ -120,7 +120,10 @@ fn setting_of<'a>(name: &'a str, word: &'a str, is_behind: bool) -> Option<Setti
 fn is_option(name: &str) -> bool
     ensures { result ≡ spec.is_option name.now }
 {
-    matches!(name, "--lanes" | "--workers" | "--run" | "--journal")
+    matches!(
+        name,
+        "--lanes" | "--workers" | "--run" | "--state" | "--journal" | "--limit"
+    )
 }
 
 // What a word says in front of its first `=`, and behind it where it has one.
