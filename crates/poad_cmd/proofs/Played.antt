@@ -21,7 +21,7 @@ held_on name limit Reads a b c o still = record {
   reads = o.reads;
 }
 
-held_before : (name : List ℕ) (limit : ℕ) (Reads : List ℕ → Type 0) (a b c : Option Contents) → IfTold a b HoldsStill → OfContent name limit Reads b c
+pub held_before : (name : List ℕ) (limit : ℕ) (Reads : List ℕ → Type 0) (a b c : Option Contents) → IfTold a b HoldsStill → OfContent name limit Reads b c
     → OfContent name limit Reads a c
 held_before name limit Reads a b c still o = record {
   content = o.content;
@@ -29,7 +29,7 @@ held_before name limit Reads a b c still o = record {
   reads = o.reads;
 }
 
-config_on : (name : List ℕ) (config : Config) (a b c : Option Contents) → TakesConfig name (Ok config) a b → IfTold b c HoldsStill
+pub config_on : (name : List ℕ) (config : Config) (a b c : Option Contents) → TakesConfig name (Ok config) a b → IfTold b c HoldsStill
     → TakesConfig name (Ok config) a c
 config_on name config a b c t still = held_on name config_limit (λ content. ReadsConfig content (Ok config)) a b c t still
 

@@ -41,7 +41,7 @@ failed_is (Worked end) is = absurd (true≢false (sym is))
 not_failed : (end : PieceEnd) → is_failed end ≡ false → end ≢ DoorFailed
 not_failed end is at = true≢false (sym (ap is_failed at) ∙ is)
 
-both_false : (a b : Bool) → a || b ≡ false → (a ≡ false) × (b ≡ false)
+pub both_false : (a b : Bool) → a || b ≡ false → (a ≡ false) × (b ≡ false)
 both_false true b is = absurd (true≢false is)
 both_false false b is = (refl, is)
 

@@ -24,7 +24,7 @@ is_for_memory (Some Thread) = false
 abbrev pub wants_memory : Outcome → Bool
 wants_memory outcome = outcome.lost || is_for_memory outcome.short
 
--- the journal couldn't be put
+-- a file couldn't be put
 abbrev pub is_unput : Result Put AllocError → Bool
 is_unput (Ok put.Failed) = true
 is_unput (Ok put.Done) = false
@@ -35,7 +35,7 @@ abbrev pub limit_at : Option Full → Status
 limit_at None = Fine
 limit_at (Some full) = Limit full.arrivals full.bytes
 
--- the status where memory was wanting, a piece wasn't started, the journal couldn't be put, a door failed, or calls were refused
+-- the status where memory was wanting, a piece wasn't started, a file couldn't be put, a door failed, or calls were refused
 abbrev pub status_by : Bool → Bool → Bool → Bool → Option Full → Status
 status_by true short unput failed full = WantMemory
 status_by false true unput failed full = NoThread
@@ -44,8 +44,8 @@ status_by false false false true full = ListenFault
 status_by false false false false full = limit_at full
 
 abbrev pub status_of : Outcome → Result Put AllocError → Option Full → Status
-status_of outcome journal filled =
-    status_by (wants_memory outcome || is_err journal) (is_some outcome.short) (is_unput journal) outcome.failed
+status_of outcome came filled =
+    status_by (wants_memory outcome || is_err came) (is_some outcome.short) (is_unput came) outcome.failed
     (option_or filled outcome.refused)
 
 -- the limit's numbers: those that stood when the run was filled, or else the least with which a connection couldn't enter

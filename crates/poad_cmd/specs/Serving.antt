@@ -13,7 +13,7 @@ use Rattle.poad_files.specs.declared.status.Status.{Status}
 use Rattle.poad_files.specs.declared.status.Status.TheVariants.{Ok as Fine, WantMemory, NoThread, ListenFault, Limit}
 use Rattle.poad_cmd.specs.Beginning.{IsBegun, IsRefused}
 use Rattle.poad_cmd.specs.Ending.{AnyRose, EachSteady, IsLimit, status_of}
-use Rattle.poad_cmd.specs.Putting.{PutsJournal}
+use Rattle.poad_cmd.specs.Putting.{PutsFiles}
 use Rattle.poa_history.specs.Life.{Life, givens_of}
 use Rattle.poa_history.specs.declared.givens.Givens.{Givens}
 use Rattle.poa_history.specs.Limits.{filled_at}
@@ -38,16 +38,16 @@ module _ {A L : Type 0} (shown : L → Shown) (standing : A → Option (Standing
     pub limit : (calls bytes : ℕ) → status ≡ Limit calls bytes → IsLimit (filled_at life.history) (least_in tours) calls bytes
     pub fine : status ≡ Fine → (filled_at life.history ≡ None) × (least_in tours ≡ None) × EachSteady faults tours
 
-  -- a run that was begun so was served over these doors, its journal was put, and it ended with this status
+  -- a run that was begun so was served over these doors, its store and its journal were put, and it ended with this status
   pub record HasServed (serve : Serve) (begun : Life) (status : Status) (old new : Doors A) (life : Life)
       (files_old files_new : Option Contents) : Type 0 where
     pub outcome : Outcome
     pub ran : IsServedRun (givens_of begun) shown standing faults ends serve.workers old new outcome life
-    pub journal : Result Put AllocError
-    pub puts : PutsJournal serve.journal life journal files_old files_new
+    pub put : Result Put AllocError
+    pub puts : PutsFiles serve life put files_old files_new
     pub filled : Option Full
     pub filled_is : option_map (λ f. (f.arrivals, f.bytes)) filled ≡ filled_at life.history
-    pub status_is : status ≡ status_of outcome journal filled
+    pub status_is : status ≡ status_of outcome put filled
     pub tells : Tells (givens_of begun) serve.workers ran.tours ran.last status life
 
   -- the same; without a core memory was wanting before the first piece was started
@@ -60,7 +60,7 @@ module _ {A L : Type 0} (shown : L → Shown) (standing : A → Option (Standing
       (files_old files_new : Option Contents) : Type 0 where
     pub begun : Life
     pub between : Option Contents
-    -- reading the configuration changed no file
+    -- reading the configuration and the state changed no file
     pub still : IfTold files_old between HoldsStill
     pub begins : IsBegun serve begun files_old between
     pub served : HasServed serve begun status old new life between files_new

@@ -8,22 +8,22 @@ use poa_history::Full;
 use poad_files::Status;
 use serve_run::{Outcome, Want};
 
-/// The status of a run by how it came off, what came of putting its journal, and when it took no more calls. Of
+/// The status of a run by how it came off, what came of putting its files, and when it took no more calls. Of
 /// several the first of want of memory, of a thread, a fault of the files, of a door, and the limit is told.
 pub(crate) fn status_of(
     outcome: &Outcome,
-    journal: &Result<Put, WantMemory>,
+    put: &Result<Put, WantMemory>,
     filled: Option<Full>,
 ) -> Status
-    ensures { result ≡ spec.status_of outcome.now journal.now filled }
+    ensures { result ≡ spec.status_of outcome.now put.now filled }
 {
-    if wants_memory(outcome) || journal.is_err() {
+    if wants_memory(outcome) || put.is_err() {
         return Status::WantMemory;
     }
     if outcome.short.is_some() {
         return Status::NoThread;
     }
-    if is_unput(journal) {
+    if is_unput(put) {
         return Status::FileFault;
     }
     if outcome.failed {
@@ -39,10 +39,10 @@ fn wants_memory(outcome: &Outcome) -> bool
     outcome.lost || matches!(outcome.short, Some(Want::Memory))
 }
 
-fn is_unput(journal: &Result<Put, WantMemory>) -> bool
-    ensures { result ≡ spec.is_unput journal.now }
+fn is_unput(put: &Result<Put, WantMemory>) -> bool
+    ensures { result ≡ spec.is_unput put.now }
 {
-    matches!(journal, Ok(Put::Failed))
+    matches!(put, Ok(Put::Failed))
 }
 
 // The status of a run that took all calls, or no more than so many.

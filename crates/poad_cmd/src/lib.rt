@@ -3,8 +3,8 @@
 //! adapter of a configuration. `replay` plays a script on one, and `load` a drawn one. `show` prints a reference, and `check`
 //! and `iors` print what a configuration has.
 //!
-//! `run_serve` does `serve`: it runs the server on the doors that it is handed, and puts the journal where the words ask for
-//! it.
+//! `run_serve` does `serve`: it runs the server on the doors that it is handed, and puts what is stored and the
+//! journal where the words ask for it.
 #![tactic(auto)]
 
 mod beginning;

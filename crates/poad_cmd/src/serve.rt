@@ -2,12 +2,15 @@
 ghost use Rattle.std.specs.Prelude.{◌≡◌, ◌≢◌, [], Some, None, vec_len};
 ghost use Rattle.command_words.specs.Serving.{Serve, seen_serve, serve_in};
 ghost use Rattle.outside.specs.Cause.{HasCause, Rose};
+ghost use Rattle.outside.specs.Told.{IfTold};
+ghost use Rattle.poa_history.specs.Life.{Life};
+ghost use Rattle.poad_cmd.specs.Putting.{Keeps};
 ghost use Rattle.poad_cmd.specs.Serving.{Ends, ServesOn};
 ghost use Rattle.poad_cmd.specs.Beginning.{IsInRange};
 
 use crate::beginning::{Beginning, begin};
 use crate::ending::status_of;
-use crate::putting::put_journal;
+use crate::putting::put_files;
 use crate::served::Served;
 use outside::{Acceptor, Files, Gate, ThreadCrew};
 use poad_files::{Host, Status};
@@ -17,16 +20,20 @@ use std::sync::{Arc, Wait};
 use std::thread::Threads;
 
 /// Serves clients and administrators over these doors, by the words `serve FILE --lanes L --workers W --run N
-/// [--journal NAME]`: the configuration is the one in FILE, and there are as many doors for clients as the words say.
-/// When the run is over, its journal is put into the file NAME.
+/// [--state NAME] [--journal NAME] [--limit N]`: the configuration is the one in FILE, and there are as many doors for
+/// clients as the words say. The run opens with the store in the state file, and with none where there is no such file.
+/// It takes as many calls as the limit says, or else 4,000,000. When it is over, what is stored is put into the state
+/// file, and then the journal into its file, also where the first put failed.
 ///
 /// How it ends, the first of these that is so:
 /// - `BadWords`: the words are none of `serve`. Nothing was begun.
 /// - `NoFile`, `FileTooLong`, `FileFault`, `ConfigRefused`: FILE isn't there, is longer than a configuration may be, couldn't
 ///   be read, or holds none. Nothing was begun.
+/// - `StateRefused`, `FileTooLong`, `FileFault`: the state file has a line that is none of a state file, is longer than it may
+///   be, or couldn't be read. Nothing was begun.
 /// - `WantMemory`: no memory was left.
 /// - `NoThread`: a thread couldn't be started; what ran by then came to its end.
-/// - `FileFault`: the journal couldn't be put.
+/// - `FileFault`: the store or the journal couldn't be put.
 /// - `ListenFault`: a door failed.
 /// - `Limit`: a call or a connection was refused for the limits of the run.
 /// - `Ok`: an administrator said `shutdown`, or each door ended.
@@ -51,6 +58,9 @@ where
     requires lanes { (serve : Serve) → serve_in words.now ≡ Some serve → vec_len doors.lanes ≡ serve.lanes }
     ensures ends { Ends A.Link.shown A.standing A.faults A.ends (serve_in words.now) result.status doors result.doors result.core
         (F.contents host.old.files) (F.contents host.new.files) }
+    ensures kept { (serve : Serve) (life : Life) → serve_in words.now ≡ Some serve → result.core ≡ Some life
+        → result.status ≢ Status.WantMemory → (Rose (F.put_faults host.old.files) (F.put_faults host.new.files) → ⊥)
+        → IfTold (F.contents host.old.files) (F.contents host.new.files) (Keeps serve life) }
     ensures source { host.new.source ≡ host.old.source }
     ensures sink { host.new.sink ≡ host.old.sink }
     ensures no_file { HasCause (F.absents host.old.files) (F.absents host.new.files) (result.status ≡ Status.NoFile) }
@@ -69,7 +79,7 @@ where
     }
 }
 
-// Serves on the core, and puts its journal.
+// Serves on the core, and puts its store and its journal.
 fn serve_by<T, R, F, A, G>(
     rt: &R,
     alloc: Global,
@@ -91,6 +101,9 @@ where
     requires fresh { beginning.core.history ≡ [] }
     ensures serves { ServesOn A.Link.shown A.standing A.faults A.ends (seen_serve beginning.entry.words) beginning.entry.core result.status
         doors result.doors result.core (F.contents files.old) (F.contents files.new) }
+    ensures kept { (life : Life) → result.core ≡ Some life → result.status ≢ Status.WantMemory
+        → (Rose (F.put_faults files.old) (F.put_faults files.new) → ⊥)
+        → IfTold (F.contents files.old) (F.contents files.new) (Keeps (seen_serve beginning.entry.words) life) }
     ensures put { HasCause (F.put_faults files.old) (F.put_faults files.new) ((result.status ≡ Status.FileFault) × (result.core ≢ None)) }
     ensures all_put { result.status ≡ Status.Ok → F.put_faults files.new ≡ F.put_faults files.old }
     ensures no_thread { result.status ≡ Status.NoThread → Rose crew.old.faults crew.new.faults }
@@ -104,9 +117,9 @@ where
     let Some(Run { core, outcome }) = run else {
         return Served::refused(Status::WantMemory, doors);
     };
-    let journal = put_journal(alloc, words.journal, &core, files);
+    let put = put_files(alloc, &words, &core, files);
     Served {
-        status: status_of(&outcome, &journal, core.filled()),
+        status: status_of(&outcome, &put, core.filled()),
         doors,
         core: Some(core),
     }

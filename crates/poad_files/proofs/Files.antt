@@ -1,14 +1,17 @@
 -- What a command reads of its files, over several takes.
-use Rattle.std.proofs.Common.{◌≡◌, ℕ, ◌≤◌, List, Option, Result, Ok, Err, refl, ◌∙◌, subst, arith}
+use Rattle.std.proofs.Common.{◌≡◌, ℕ, ◌≤◌, List, Option, Result, Ok, Err, refl, ◌∙◌, subst, inl, arith}
+use Rattle.std.specs.Prelude.{◌≢◌}
 use Rattle.outside.specs.Cause.{HasCause}
 use Rattle.outside.specs.Keeping.{Contents}
 use Rattle.outside.specs.Told.{IfTold}
 use Rattle.poa_base.specs.declared.Config.{Config}
+use Rattle.poa_base.specs.Store.{Slots}
 use Rattle.replay_script.specs.declared.Script.{Script}
 use Rattle.poad_files.specs.declared.status.Status.{Status}
 use Rattle.poad_files.specs.declared.status.Status.TheVariants as status
 use Rattle.poad_files.specs.declared.printing.Asked.{Asked}
 use Rattle.poad_files.specs.Filing.{Filed, Printed}
+use Rattle.poad_files.specs.StateFile.{state_limit, ReadsState, TakesState}
 use Rattle.poad_files.specs.Taking.{HoldsStill, config_limit, script_limit, IsHeld, ReadsConfig, ReadsScript, Refused, TakesConfig, TakesScript}
 use Rattle.poad_files.specs.Showing.{GainsNothing}
 use Rattle.poad_files.proofs.Told.{told_then, told_here}
@@ -36,6 +39,22 @@ script_taken name content (Err _) old new held reads = absurd reads
 pub script_untaken : (name : List ℕ) (s : Status) (old new : Option Contents) → Refused name script_limit s old new → TakesScript name (Err s) old new
 script_untaken name (status.ScriptRefused line) old new r = absurd r
 script_untaken name _ old new r = r
+
+pub state_taken : (name content : List ℕ) (r : Result Slots Status) (old new : Option Contents) → IsHeld name state_limit content old new
+    → ReadsState content r → TakesState name r old new
+state_taken name content (Ok slots) old new held reads = inl (record { content = content; held = held; reads = reads })
+state_taken name content (Err (status.StateRefused line)) old new held reads = record { content = content; held = held; reads = reads }
+state_taken name content (Err status.WantMemory) old new held reads = tt
+state_taken name content (Err _) old new held reads = absurd reads
+
+pub state_untaken : (name : List ℕ) (s : Status) (old new : Option Contents) → s ≢ status.NoFile → Refused name state_limit s old new
+    → TakesState name (Err s) old new
+state_untaken name (status.StateRefused line) old new other r = absurd r
+state_untaken name status.NoFile old new other r = absurd (other refl)
+state_untaken name _ old new other r = r
+
+pub never_state : (content : List ℕ) (r : Result Slots Status) (s : Status) → (ReadsState content (Err s) → ⊥) → ReadsState content r → r ≡ Err s → ⊥
+never_state content r s never reads same = never (subst (λ (x : Result Slots Status). ReadsState content x) same reads)
 
 -- a status that reading a text never gives
 pub never_config : (content : List ℕ) (r : Result Config Status) (s : Status) → (ReadsConfig content (Err s) → ⊥) → ReadsConfig content r → r ≡ Err s → ⊥

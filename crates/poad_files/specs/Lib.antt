@@ -6,6 +6,7 @@ pub mod Printed
 pub mod KeyLine
 pub mod Shown
 pub mod Taking
+pub mod StateFile
 pub mod Delivery
 pub mod Showing
 pub mod Filing

@@ -1,5 +1,5 @@
 //! What every command of the program has: its source, sink and files (`Host`), how it ended (`Status`), the contents,
-//! configurations and scripts that it takes of files, and the bytes that it hands to a sink. And the commands that need
+//! configurations, scripts and stores that it takes of files, and the bytes that it hands to a sink. And the commands that need
 //! no adapter: `show` prints a reference, and `check` and `iors` print what a configuration has.
 #![tactic(auto)]
 
@@ -16,6 +16,7 @@ mod printing;
 mod profile;
 mod reference;
 mod showing;
+mod state_file;
 mod status;
 mod taking;
 
@@ -24,5 +25,6 @@ pub use filing::print_file;
 pub use host::Host;
 pub use printing::Asked;
 pub use showing::show_text;
+pub use state_file::take_state;
 pub use status::Status;
 pub use taking::{config_of, take_config, take_script};

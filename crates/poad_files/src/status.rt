@@ -44,6 +44,8 @@ pub enum Status {
     NoFile,
     /// The file is longer than its limit.
     FileTooLong,
+    /// This line of the state file is no line of a state file.
+    StateRefused { line: u64 },
     /// So many bytes were read, as many as a run reads.
     InputLimit { taken: u64 },
 }
@@ -71,6 +73,7 @@ impl Status {
             Status::WantMemory => 15,
             Status::NoFile => 16,
             Status::FileTooLong => 17,
+            Status::StateRefused { .. } => 18,
             Status::InputLimit { .. } => 19,
         }
     }
@@ -96,6 +99,7 @@ impl fmt::Display for Status {
             Status::WantMemory => write!(f, "want of memory"),
             Status::NoFile => write!(f, "no file"),
             Status::FileTooLong => write!(f, "file too long"),
+            Status::StateRefused { line } => write!(f, "state: line {line}"),
             Status::InputLimit { taken } => write!(f, "input limit {taken}"),
         }
     }
