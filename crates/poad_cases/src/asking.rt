@@ -16,7 +16,9 @@ impl Case {
             [b"fails", kind, calls @ ..] => self.add_failures(kind, calls)?,
             [b"holds", length] => self.held_for = Some(number(length)? as usize),
             [b"takes", count] => self.limit = Some(number(count)?),
-            [b"together" | b"store" | b"order" | b"entries", ..] => self.ask_printed(words)?,
+            [b"together" | b"store" | b"content" | b"order" | b"entries", ..] => {
+                self.ask_printed(words)?
+            }
             _ => self.link()?.ask(messages, line, words)?,
         }
         Ok(())
@@ -27,6 +29,7 @@ impl Case {
         match words {
             [b"together"] => self.is_together = true,
             [b"store"] => self.has_store = true,
+            [b"content", names @ ..] => self.contents = texts(self.alloc, names)?,
             [b"order", kinds @ ..] => self.ordered = texts(self.alloc, kinds)?,
             [b"entries", kinds @ ..] => self.counted = Some(texts(self.alloc, kinds)?),
             _ => bail!("no such line"),

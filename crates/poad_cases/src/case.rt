@@ -36,6 +36,8 @@ pub struct Case {
     pub ordered: Vec<String>,
     /// Whether what is stored is printed.
     pub has_store: bool,
+    /// The files whose contents are printed.
+    pub contents: Vec<String>,
 }
 
 impl Case {
@@ -58,6 +60,7 @@ impl Case {
             counted: None,
             ordered: Vec::new(alloc),
             has_store: false,
+            contents: Vec::new(alloc),
         }
     }
 

@@ -1,9 +1,9 @@
 //! What is printed of a journal.
 use crate::case::Case;
 use crate::report::Report;
-use anyhow::Result;
+use anyhow::{Context, Result};
+use command_words::serve_words;
 use outside::MemFiles;
-use poa_base::limits::CALLS;
 use poa_core::Core;
 use poa_journal::{print_parts, print_store, read};
 use poa_model::first_illegal;
@@ -17,7 +17,7 @@ impl Report {
     /// asks of it.
     pub fn put_journal(&mut self, case: &Case, core: &Core, files: &MemFiles) -> Result<()> {
         let text = print_parts(self.alloc, core.run(), core.opening(), core.entries())?;
-        self.put_judged(core, files, text.as_slice())?;
+        self.put_judged(case, core, files, text.as_slice())?;
         self.put_kinds(case, text.as_slice())?;
         if case.has_store {
             self.put(print_store(self.alloc, core.store())?.as_slice())?;
@@ -26,7 +26,13 @@ impl Report {
     }
 
     /// Prints what is said of a journal with this text.
-    fn put_judged(&mut self, core: &Core, files: &MemFiles, text: &[u8]) -> Result<()> {
+    fn put_judged(
+        &mut self,
+        case: &Case,
+        core: &Core,
+        files: &MemFiles,
+        text: &[u8],
+    ) -> Result<()> {
         let read = if is_read(self.alloc, core, text)? {
             "read"
         } else {
@@ -34,7 +40,8 @@ impl Report {
         };
         let is_put = files.content("journal") == Some(text);
         let put = if is_put { "put" } else { "unput" };
-        let judged = judgement(self.alloc, core)?;
+        let limit = limit_of(self.alloc, &case.words)?;
+        let judged = judgement(self.alloc, core, limit)?;
         let line = format!(in self.alloc; "journal {read} {put} {judged}")?;
         self.put_line(line.as_bytes())
     }
@@ -51,14 +58,20 @@ fn is_read(alloc: Global, core: &Core, text: &[u8]) -> Result<bool> {
     })
 }
 
-/// Whether a journal is legal, where it isn't too long to be looked over.
-fn judgement(alloc: Global, core: &Core) -> Result<String> {
+/// How many calls a run by these words takes.
+fn limit_of(alloc: Global, words: &[String]) -> Result<u64> {
+    let serve = serve_words(alloc, words).ok().context("no run")?;
+    Ok(u64::from(serve.limit))
+}
+
+/// Whether a journal of a run that takes so many calls is legal, where it isn't too long to be looked over.
+fn judgement(alloc: Global, core: &Core, limit: u64) -> Result<String> {
     if core.entries().len() > LOOKED_OVER {
         return Ok(String::from_str(alloc, "long")?);
     }
     let entries = core.entries().to_vec(alloc)?;
     let (config, opening) = (core.config(), core.opening());
-    match first_illegal(alloc, config, core.run(), CALLS, opening, &entries)? {
+    match first_illegal(alloc, config, core.run(), limit, opening, &entries)? {
         Some(place) => Ok(format!(in alloc; "illegal {place}")?),
         None => Ok(String::from_str(alloc, "legal")?),
     }

@@ -22,7 +22,9 @@
 //! - `loose`: it isn't determined how the session ends, and not printed;
 //! - `together`: what was written to all lanes is printed together, in the order of the bytes;
 //! - `entries KIND ..`: how many entries of these kinds the journal has, or of each kind where none is named;
-//!   `order KIND ..`: its entries of these kinds, in their order; `store`: what is stored at the end;
+//!   `order KIND ..`: its entries of these kinds, in their order; `store`: what is stored at the end; of a store that
+//!   the run opens with each row counts as an entry `store`;
+//! - `content NAME ..`: what the files hold under these names at the end, or that they hold nothing there;
 //! - `run`, which does the command; `serve`, which runs the server by its words;
 //! - empty lines, and lines that begin with `#`.
 //!

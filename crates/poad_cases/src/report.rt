@@ -2,6 +2,7 @@
 use crate::case::Case;
 use crate::serving::Ran;
 use anyhow::Result;
+use outside::MemFiles;
 use poad_files::Status;
 use std::alloc::Global;
 
@@ -33,7 +34,7 @@ impl Report {
         self.put(b"\n")
     }
 
-    /// Prints what came of a run of the server: its doors, its journal and its status.
+    /// Prints what came of a run of the server: its doors, its journal, the files that are asked for, and its status.
     pub fn put_server(&mut self, case: &Case, (served, files): &Ran) -> Result<()> {
         self.put_line(&case.title)?;
         self.put_doors(case, &served.doors)?;
@@ -41,7 +42,22 @@ impl Report {
             Some(core) => self.put_journal(case, core, files)?,
             None => self.put_line(b"not begun")?,
         }
+        self.put_contents(case, files)?;
         self.put_status(&served.status)
+    }
+
+    /// Prints what the files hold under the names that a case asks.
+    fn put_contents(&mut self, case: &Case, files: &MemFiles) -> Result<()> {
+        for name in &case.contents {
+            let (said, content) = match files.content(name) {
+                Some(content) => ("content", content),
+                None => ("no", b"".as_slice()),
+            };
+            let line = format!(in self.alloc; "{said} {name}")?;
+            self.put_line(line.as_bytes())?;
+            self.put(content)?;
+        }
+        Ok(())
     }
 
     /// Prints the number of a status, and its line where the program writes that.

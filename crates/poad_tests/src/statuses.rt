@@ -30,6 +30,7 @@ const STATUSES: [(Status, u8, &str); 15] = [
     (Status::WantMemory, 15, "want of memory"),
     (Status::NoFile, 16, "no file"),
     (Status::FileTooLong, 17, "file too long"),
+    (Status::StateRefused { line: 2 }, 18, "state: line 2"),
 ];
 
 /// Whether a status has this number and this line.
