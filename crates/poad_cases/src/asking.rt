@@ -16,9 +16,10 @@ impl Case {
             [b"fails", kind, calls @ ..] => self.add_failures(kind, calls)?,
             [b"holds", length] => self.held_for = Some(number(length)? as usize),
             [b"takes", count] => self.limit = Some(number(count)?),
-            [b"together" | b"store" | b"content" | b"order" | b"entries", ..] => {
-                self.ask_printed(words)?
-            }
+            [
+                b"together" | b"store" | b"content" | b"order" | b"entries",
+                ..
+            ] => { self.ask_printed(words)? }
             _ => self.link()?.ask(messages, line, words)?,
         }
         Ok(())
