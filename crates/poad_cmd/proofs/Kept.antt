@@ -1,6 +1,6 @@
 -- What the files hold where both puts are done.
-use Rattle.std.proofs.Common.{◌≡◌, ℕ, ◌||◌, true, false, List, Option, Some, None, Result, Ok, Err, refl, sym, ◌∙◌, subst}
-use Rattle.std.specs.Prelude.{◌≢◌, ◌⊎◌, inl, inr}
+use Rattle.std.proofs.Common.{◌≡◌, ◌⊎◌, ℕ, ◌||◌, true, false, List, Option, Some, None, Result, Ok, Err, refl, sym, ◌∙◌, subst, inl, inr}
+use Rattle.std.specs.Prelude.{◌≢◌}
 use Rattle.std.proofs.lemmas.Bool.{true≢false}
 use Rattle.std.specs.Option.{is_some, option_or}
 use Rattle.std.specs.declared.alloc.AllocError.{AllocError}
