@@ -5,12 +5,14 @@ use Rattle.std.proofs.lemmas.Bool.{true≢false}
 use Rattle.std.specs.Option.{is_some, option_or}
 use Rattle.std.specs.declared.alloc.AllocError.{AllocError}
 use Rattle.command_words.specs.Serving.{AreApart, Serve}
-use Rattle.outside.specs.Keeping.{Contents}
+use Rattle.outside.specs.Keeping.{Contents, Stores}
 use Rattle.outside.specs.Told.{IfTold}
 use Rattle.outside.specs.declared.keeping.Put.{Put}
 use Rattle.outside.specs.declared.keeping.Put.TheVariants as put
+use Rattle.poa_base.specs.Store.{Slots}
 use Rattle.poa_history.specs.Life.{Life}
 use Rattle.poa_history.specs.declared.full.Full.{Full}
+use Rattle.poa_journal.specs.Journal.{store_text}
 use Rattle.poad_files.specs.Taking.{HoldsStill}
 use Rattle.poad_files.specs.declared.status.Status.{Status}
 use Rattle.poad_files.specs.declared.status.Status.TheVariants.{WantMemory}
@@ -19,6 +21,7 @@ use Rattle.poad_cmd.specs.Ending.{status_of, wants_memory}
 use Rattle.poad_cmd.specs.Putting.{both, HoldsJournal, HoldsState, Keeps, PutsJournal, PutsState}
 use Rattle.poad_cmd.proofs.Statuses.{no_memory_wanted}
 use Rattle.poad_cmd.proofs.Telling.{both_false}
+use Rattle.replay_player.specs.Showing.{Stores as StoresOf}
 use Rattle.serve_run.specs.declared.outcome.Outcome.{Outcome}
 
 pub both_done : (first second : Result Put AllocError) → both first second ≡ Ok put.Done → (first ≡ Ok put.Done) × (second ≡ Ok put.Done)
@@ -36,6 +39,10 @@ both_failed (Ok put.Done) (Err f) is = absurd (let e : Err f ≡ Ok put.Failed =
 both_failed (Ok put.Failed) (Ok p) is = inl refl
 both_failed (Ok put.Failed) (Err f) is = absurd (let e : Err f ≡ Ok put.Failed = is in cc)
 both_failed (Err f) second is = absurd (let e : Err f ≡ Ok put.Failed = is in cc)
+
+pub puts_state : (name : List ℕ) (life : Life) (slots : Slots) (rows content : List ℕ) (came : Put) (a b : Option Contents) → StoresOf life slots
+    → rows ≡ store_text slots → content ≡ rows → IfTold a b (Stores came name content) → PutsState (Some name) life (Ok came) a b
+puts_state name life slots rows content came a b stores is same told = (content, record { slots = slots; stores = stores; told = same ∙ is }, told)
 
 state_held : (name : Option (List ℕ)) (life : Life) (a b : Option Contents) → PutsState name life (Ok put.Done) a b
     → IfTold a b (λ before now. HoldsState name life now)

@@ -105,8 +105,8 @@ fn begin_with<'a>(
     requires ranges { IsInRange words }
     requires rules { KeepsRules config }
     ensures ranges { IfOk result (λ it. IsInRange it.words) }
-    ensures words { IfOk result (λ it. it.words ≡ words) }
-    ensures core { IfOk result (λ it. it.core ≡ begun config words.run words.limit store) }
+    ensures words { IfOk result (λ it. it.words ≡ words.entry) }
+    ensures core { IfOk result (λ it. it.core ≡ begun config words.entry.run words.entry.limit store) }
     ensures memory { IfErr result (λ status. status ≡ Status.WantMemory) }
 {
     match Core::new(alloc, config, words.run, store, u64::from(words.limit)) {
