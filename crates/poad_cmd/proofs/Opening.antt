@@ -15,7 +15,7 @@ use Rattle.poad_files.specs.declared.status.Status.{Status}
 use Rattle.poad_files.specs.declared.status.Status.TheVariants as status
 use Rattle.poad_files.proofs.Told.{told_then}
 use Rattle.poad_cmd.specs.declared.beginning.Beginning.{Beginning}
-use Rattle.poad_cmd.specs.Beginning.{BeginsBy, HasNoState, IsBegun, IsUnbegun, OpensWith}
+use Rattle.poad_cmd.specs.Beginning.{BeginsBy, IsBegun, IsUnbegun, OpensWith}
 use Rattle.poad_cmd.proofs.Played.{config_on, held_before}
 
 state_before : (name : Option (List ℕ)) (slots : Slots) (a b c : Option Contents) → IfTold a b HoldsStill → OpensWith name (Ok slots) b c

@@ -9,7 +9,6 @@ use Rattle.outside.specs.Keeping.{Contents}
 use Rattle.outside.specs.Link.{Shown}
 use Rattle.outside.specs.Told.{IfTold}
 use Rattle.outside.specs.declared.keeping.Put.{Put}
-use Rattle.poa_base.specs.declared.Entry.{Entry}
 use Rattle.poad_files.specs.Taking.{HoldsStill}
 use Rattle.poad_files.specs.declared.status.Status.{Status}
 use Rattle.poad_files.specs.declared.status.Status.TheVariants.{NoThread}

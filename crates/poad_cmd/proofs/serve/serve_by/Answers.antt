@@ -1,4 +1,4 @@
-use Rattle.std.proofs.Common.{sym, subst}
+use Rattle.std.proofs.Common.{subst}
 use Rattle.std.specs.Prelude.{IfSome}
 use Rattle.command_words.specs.Serving.{seen_serve}
 use Rattle.outside.specs.Told.{IfTold}
