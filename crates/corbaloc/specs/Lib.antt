@@ -1,0 +1,9 @@
+pub mod Cut
+pub mod Gives
+pub mod Address
+pub mod Seen
+pub mod AddressText
+pub mod KeyString
+pub mod Text
+pub mod Profile
+pub mod Reference
