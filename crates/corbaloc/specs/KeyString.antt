@@ -1,5 +1,5 @@
 -- A key string (CORBA 3.3 Part 2, 7.6.10.1), which writes the bytes of an object key.
-use Rattle.std.specs.Prelude.{ℕ, ◌+◌, ◌==◌, ◌||◌, Bool, List, [], ◌∷◌, ◌++◌, codes, Option, Some, None, Result, Ok, Err, if◌then◌else◌}
+use Rattle.std.specs.Prelude.{◌≡◌, ℕ, ◌+◌, ◌-◌, ◌<◌, ◌==◌, ◌||◌, Bool, List, [], ◌∷◌, ◌++◌, length, codes, Result, Ok, Err, if◌then◌else◌}
 use Rattle.std.specs.List.{list_any}
 use Rattle.std.specs.Char.{is_ascii_alphanumeric}
 use Rattle.hex.specs.Hex.{decode_of, encode_lower}
@@ -33,6 +33,15 @@ key_at at (c ∷ a ∷ b ∷ rest) =
     if c == 37 then onto_escaped at (decode_of (a ∷ b ∷ [])) (key_at (at + 3) rest)
     else onto_plain at c (key_at (at + 1) (a ∷ b ∷ rest))
 key_at at (c ∷ few) = onto_plain at c (key_at (at + 1) few)
+
+-- the key string begins with this byte, and goes on with the rest
+pub record BeginsWith (byte : ℕ) (rest text : List ℕ) : Type 0 where
+  pub shorter : length rest < length text
+  pub reads : (at : ℕ) → key_at at text ≡ onto (byte ∷ []) (key_at (at + (length text - length rest)) rest)
+
+-- the first byte of the key string is wrong
+abbrev pub IsWrong : List ℕ → Type 0
+IsWrong text = (at : ℕ) → key_at at text ≡ Err (BadKey at)
 
 -- a byte as it is written: as itself, or by `%` and two small digits
 abbrev pub byte_text : ℕ → List ℕ

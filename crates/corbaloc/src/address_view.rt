@@ -88,7 +88,13 @@ fn view_endpoint(text: &[u8]) -> Option<EndpointView<'_>>
 pub(crate) fn is_host(word: &[u8]) -> bool
     ensures { result ≡ is_host_of word.now }
 {
-    !word.is_empty() && word.len() <= 255 && word.iter().all(|c| is_host_byte(*c))
+    !word.is_empty() && word.len() <= 255 && has_host_bytes(word)
+}
+
+fn has_host_bytes(word: &[u8]) -> bool
+    ensures { result ≡ list_all is_host_byte_of word.now }
+{
+    word.iter().all(|c| is_host_byte(*c))
 }
 
 fn is_host_byte(c: u8) -> bool
@@ -101,11 +107,17 @@ fn is_host_byte(c: u8) -> bool
 fn port(word: &[u8]) -> Option<u16>
     ensures { result ≡ port_of word.now }
 {
-    if word.len() > 5 || !word.iter().all(|c| c.is_ascii_digit()) {
+    if word.len() > 5 || !has_digits(word) {
         return None;
     }
     let port = number(word)?;
     if port == 0 { None } else { Some(port) }
+}
+
+fn has_digits(word: &[u8]) -> bool
+    ensures { result ≡ list_all is_ascii_digit word.now }
+{
+    word.iter().all(|c| c.is_ascii_digit())
 }
 
 // The number below 2^16 that digits write.

@@ -1,8 +1,9 @@
 //! From a key string to an object key.
-ghost use Rattle.std.specs.Prelude.{◌≡◌, ℕ, ◌+◌, ◌-◌, ◌<◌, ◌≤◌, [], ◌∷◌, length, Err, Some, option_map, result_ok, IfSome, IfNone};
+ghost use Rattle.std.specs.Prelude.{◌≡◌, ◌≢◌, ◌-◌, ◌<◌, ◌≤◌, [], ◌∷◌, length, option_map, MatchOption};
+ghost use Rattle.std.specs.Result.{result_ok};
 ghost use Rattle.hex.specs.Hex.{decode_of};
 ghost use Rattle.corbaloc.specs.Gives.{Gives};
-ghost use Rattle.corbaloc.specs.KeyString.{key_at, onto, stands_for_itself as stands_for_itself_of};
+ghost use Rattle.corbaloc.specs.KeyString.{BeginsWith, IsWrong, key_at, stands_for_itself as stands_for_itself_of};
 
 use crate::fault::LocFault;
 use poa_base::Bytes;
@@ -30,19 +31,31 @@ pub(crate) fn read_key(alloc: Global, text: &[u8], key_string: &[u8]) -> Result<
 // The byte that a key string begins with, and what stands behind it.
 fn first_byte(text: &[u8]) -> Option<(u8, &[u8])>
     requires { 0 < length text.now }
-    ensures shorter { IfSome result (λ x. length x.1.now < length text.now) }
-    ensures byte { IfSome result (λ x. (at : ℕ) →
-        key_at at text.now ≡ onto (x.0 ∷ []) (key_at (at + (length text.now - length x.1.now)) x.1.now)) }
-    ensures wrong { IfNone result ((at : ℕ) → key_at at text.now ≡ Err (LocFault.BadKey at)) }
+    ensures { MatchOption result (IsWrong text.now) (λ x. BeginsWith x.0 x.1.now text.now) }
 {
     match text {
-        [b'%', high, low, behind @ ..] => Some((escaped(*high, *low)?, behind)),
+        [b'%', behind @ ..] => escaped(behind),
         [byte, behind @ ..] => plain(*byte, behind),
         [] => None,
     }
 }
 
-fn plain(byte: u8, behind: &[u8]) -> Option<(u8, &[u8])> {
+// The byte whose digits stand in front, which stand behind a `%`.
+fn escaped(text: &[u8]) -> Option<(u8, &[u8])>
+    ensures { MatchOption result (IsWrong (37 ∷ text.now)) (λ x. BeginsWith x.0 x.1.now (37 ∷ text.now)) }
+{
+    let [high, low, behind @ ..] = text else {
+        return None;
+    };
+    let byte = pair(*high, *low)?;
+    Some((byte, behind))
+}
+
+// The byte in front, where it stands for itself.
+fn plain(byte: u8, behind: &[u8]) -> Option<(u8, &[u8])>
+    requires { byte ≢ 37 }
+    ensures { MatchOption result (IsWrong (byte ∷ behind.now)) (λ x. BeginsWith x.0 x.1.now (byte ∷ behind.now)) }
+{
     if stands_for_itself(byte) {
         Some((byte, behind))
     } else {
@@ -51,7 +64,7 @@ fn plain(byte: u8, behind: &[u8]) -> Option<(u8, &[u8])> {
 }
 
 // The byte of two hexadecimal digits.
-fn escaped(high: u8, low: u8) -> Option<u8>
+fn pair(high: u8, low: u8) -> Option<u8>
     ensures { option_map (λ byte. byte ∷ []) result ≡ result_ok (decode_of (high ∷ low ∷ [])) }
 {
     let mut byte = [0];
