@@ -5,3 +5,5 @@ pub mod Numbers
 pub mod Profiles
 pub mod Locations
 pub mod Texts
+pub mod AddressTexts
+pub mod ReadingBack

@@ -35,13 +35,13 @@ wrong_first : (at : ℕ) (list : List ℕ) → address_of (before 44 list) ≡ N
 wrong_first at list none = let first = first_part 44 list in rw (first.1, none) refl
 
 -- a list of one address
-one_listed :
+pub one_listed :
     (at : ℕ) (list : List ℕ) (address : Address) → address_of (before 44 list) ≡ Some address → behind 44 list ≡ None →
     listed_at at list ≡ Ok (address ∷ [])
 one_listed at list address is none = rw (one_part 44 list none, is) refl
 
 -- a list of an address and others
-more_listed :
+pub more_listed :
     (at : ℕ) (list rest : List ℕ) (address : Address) → address_of (before 44 list) ≡ Some address →
     behind 44 list ≡ Some rest →
     listed_at at list ≡ found_before (address ∷ []) (listed_at (at + length (before 44 list) + 1) rest)

@@ -1,5 +1,6 @@
 //! From an object key to its key string.
 ghost use Rattle.std.specs.Prelude.{◌≡◌, ◌++◌, OnOk};
+ghost use Rattle.hex.specs.Hex.{IsBytes};
 ghost use Rattle.corbaloc.specs.KeyString.{byte_text, key_text};
 
 use crate::key_reading::stands_for_itself;
@@ -7,7 +8,8 @@ use poa_base::WantMemory;
 
 /// Adds the key string of a key.
 pub(crate) fn put_key(text: &mut Vec<u8>, key: &[u8]) -> Result<(), WantMemory>
-    ensures { OnOk result (text.new.items ≡ text.old.items ++ key_text key.now) }
+    ensures added { OnOk result (text.new.items ≡ text.old.items ++ key_text key.now) }
+    ensures bytes { IsBytes key.now }
 {
     for byte in key {
         put_byte(text, *byte)?;

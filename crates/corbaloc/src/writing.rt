@@ -1,5 +1,6 @@
 //! From a reference to its text.
 ghost use Rattle.std.specs.Prelude.{◌≡◌, ℕ, ◌++◌, List, decimal, IfOk, IfSome, OnOk, MatchOption};
+ghost use Rattle.hex.specs.Hex.{IsBytes};
 ghost use Rattle.corbaloc.specs.AddressText.{address_text};
 ghost use Rattle.corbaloc.specs.Text.{behind_commas, list_text, location_text as text_of};
 ghost use Rattle.corbaloc.specs.Reference.{HasText, LeadsBack};
@@ -27,7 +28,8 @@ pub fn write_corbaloc(alloc: Global, ior: &Ior) -> Result<Option<Bytes>, WantMem
 }
 
 fn location_text(alloc: Global, location: &Location) -> Result<Bytes, WantMemory>
-    ensures { IfOk result (λ text. text ≡ text_of location.now) }
+    ensures text { IfOk result (λ text. text ≡ text_of location.now) }
+    ensures bytes { OnOk result (IsBytes location.now.key) }
 {
     let mut text = Vec::from_slice(alloc, b"corbaloc:")?;
     put_list(alloc, &mut text, location.addresses.as_slice())?;
