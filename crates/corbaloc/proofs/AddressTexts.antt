@@ -7,7 +7,8 @@ use Rattle.std.specs.List.{list_all}
 use Rattle.std.proofs.lemmas.Bool.{and_parts, and_from, leb-true, ne_eqb, not_from_false, false≢true}
 use Rattle.poa_base.specs.declared.Endpoint.{Endpoint}
 use Rattle.corbaloc.specs.declared.address.Address.{Address}
-use Rattle.corbaloc.specs.Address.{is_host_byte, is_host, is_port, endpoint_of, address_of}
+use Rattle.corbaloc.specs.Endpoint.{is_host_byte, is_host, is_port, endpoint_of}
+use Rattle.corbaloc.specs.Address.{address_of}
 use Rattle.corbaloc.specs.AddressText.{is_address, address_text}
 use Rattle.corbaloc.proofs.Cutting.{lacks, cut_before, cut_behind, lacks-append, lacks_by}
 use Rattle.corbaloc.proofs.Numbers.{port_below, port_back, digits_of}
@@ -58,9 +59,9 @@ address_lacks s address h no_host no_digit front at colon =
     let host : List ℕ = address.endpoint.host in
     let minor : address.minor < 2 ^ 16 = omega (arith, parts.minor) in
     let port : lacks s (58 ∷ decimal address.endpoint.port) ≡ true =
-      and_from _ _ colon (decimal_lacks s address.endpoint.port no_digit (port_below address.endpoint.port parts.port)) in
+    and_from _ _ colon (decimal_lacks s address.endpoint.port no_digit (port_below address.endpoint.port parts.port)) in
     let endpoint : lacks s (64 ∷ (host ++ 58 ∷ decimal address.endpoint.port)) ≡ true =
-      and_from _ _ at (lacks-append s host (58 ∷ decimal address.endpoint.port) (host_lacks s host no_host parts.host_bytes) port) in
+    and_from _ _ at (lacks-append s host (58 ∷ decimal address.endpoint.port) (host_lacks s host no_host parts.host_bytes) port) in
     lacks-append s (codes "iiop:1.") _ front
     (lacks-append s (decimal address.minor) _ (decimal_lacks s address.minor no_digit minor) endpoint)
 
@@ -68,8 +69,12 @@ endpoint_back : (endpoint : Endpoint) → is_host endpoint.host ≡ true → lis
     → is_port endpoint.port ≡ true → endpoint_of (endpoint.host ++ 58 ∷ decimal endpoint.port) ≡ Some endpoint
 endpoint_back endpoint host bytes port =
     let clear = host_lacks 58 endpoint.host refl bytes in
-    rw (cut_before 58 endpoint.host (decimal endpoint.port) clear, cut_behind 58 endpoint.host (decimal endpoint.port) clear, host,
-    port_back endpoint.port port) refl
+    rw (
+      cut_before 58 endpoint.host (decimal endpoint.port) clear,
+      cut_behind 58 endpoint.host (decimal endpoint.port) clear,
+      host,
+      port_back endpoint.port port,
+    ) refl
 
 -- behind the version stands the endpoint
 versioned_back :

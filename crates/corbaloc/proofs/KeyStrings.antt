@@ -29,8 +29,8 @@ pub begins_plain : (c : ℕ) (rest : List ℕ) → c ≢ 37 → stands_for_itsel
 begins_plain c rest other stands = record {
   shorter = omega arith;
   reads = λ at.
-    let place : at + 1 ≡ at + (length (c ∷ rest) - length rest) = omega arith in
-    plain_at at c rest other ∙ rw stands (ap (λ (p : ℕ). onto (c ∷ []) (key_at p rest)) place);
+      let place : at + 1 ≡ at + (length (c ∷ rest) - length rest) = omega arith in
+      plain_at at c rest other ∙ rw stands (ap (λ (p : ℕ). onto (c ∷ []) (key_at p rest)) place);
 }
 
 pub wrong_plain : (c : ℕ) (rest : List ℕ) → c ≢ 37 → stands_for_itself c ≡ false → IsWrong (c ∷ rest)
@@ -42,8 +42,8 @@ begins_escaped :
 begins_escaped a b byte rest digits = record {
   shorter = omega arith;
   reads = λ at.
-    let place : at + 3 ≡ at + (length (37 ∷ a ∷ b ∷ rest) - length rest) = omega arith in
-    rw digits (ap (λ (p : ℕ). onto (byte ∷ []) (key_at p rest)) place);
+      let place : at + 3 ≡ at + (length (37 ∷ a ∷ b ∷ rest) - length rest) = omega arith in
+      rw digits (ap (λ (p : ℕ). onto (byte ∷ []) (key_at p rest)) place);
 }
 
 wrong_escaped : (a b : ℕ) (rest : List ℕ) (fault : FromHexError) → decode_of (a ∷ b ∷ []) ≡ Err fault → IsWrong (37 ∷ a ∷ b ∷ rest)
@@ -107,8 +107,8 @@ read_more end key_string rest behind key byte some begins =
     record {
       inside = omega arith;
       so_far = some.so_far ∙ ap (onto key) (begins.reads (end - length rest))
-        ∙ onto-onto key (byte ∷ []) (key_at (end - length rest + (length rest - length behind)) behind)
-        ∙ ap (λ (at : ℕ). onto (key ++ byte ∷ []) (key_at at behind)) place;
+          ∙ onto-onto key (byte ∷ []) (key_at (end - length rest + (length rest - length behind)) behind)
+          ∙ ap (λ (at : ℕ). onto (key ++ byte ∷ []) (key_at at behind)) place;
     }
 
 pub read_wrong :

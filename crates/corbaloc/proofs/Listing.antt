@@ -80,6 +80,6 @@ found_more end list rest after found address some is more =
     record {
       inside = omega arith;
       so_far = some.so_far ∙ ap (found_before found) (more_listed (end - length rest) rest after address is more)
-        ∙ found_before-append found address (listed_at (end - length rest + length (before 44 rest) + 1) after)
-        ∙ ap (λ (at : ℕ). found_before (found ++ address ∷ []) (listed_at at after)) place;
+          ∙ found_before-append found address (listed_at (end - length rest + length (before 44 rest) + 1) after)
+          ∙ ap (λ (at : ℕ). found_before (found ++ address ∷ []) (listed_at at after)) place;
     }

@@ -119,8 +119,8 @@ one_location : (ior : Ior) (l m : Location) → IsLocated ior l → IsLocated io
 one_location ior l m r s =
     let key : l.key ≡ m.key = one_key ior 0 l.key m.key (located_key ior l r) (located_key ior m s) in
     let addresses : l.addresses ≡ m.addresses =
-      same_addresses m.key l.addresses m.addresses ior.profiles
-      (subst (λ (k : List ℕ). AreAt k l.addresses ior.profiles) key r.profiles) s.profiles in
+    same_addresses m.key l.addresses m.addresses ior.profiles
+    (subst (λ (k : List ℕ). AreAt k l.addresses ior.profiles) key r.profiles) s.profiles in
     ap₂ location_with addresses key
 
 pub one_text : (ior : Ior) (a b : List ℕ) → HasText ior a → HasText ior b → a ≡ b

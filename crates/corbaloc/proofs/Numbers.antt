@@ -6,7 +6,7 @@ use Rattle.std.specs.Char.{is_ascii_digit}
 use Rattle.std.proofs.lemmas.Bool.{and_parts, leb-true, ltb-true, le-leb}
 use Rattle.std.proofs.lemmas.Str.Parse.{IsNumeralModel, numerals_by_fold}
 use Rattle.std.proofs.lemmas.Fmt.{digits_decimal, digits_value-decimal, length-decimal-le}
-use Rattle.corbaloc.specs.Address.{read_on, is_port, port_of}
+use Rattle.corbaloc.specs.Endpoint.{read_on, is_port, port_of}
 
 -- a number is no less with more digits
 grown : (n : ℕ) (cs : List ℕ) → n ≤ read_on n cs
@@ -20,9 +20,9 @@ pub overflowed :
     read_on n (drop i word) ≡ read_on 0 word → read_on 0 word < 2 ^ 16 → ⊥
 overflowed n i word within large so_far small =
     let at : read_on n (drop i word) ≡ read_on (n * 10 + (get_or word i 0 - 48)) (drop (suc i) word) =
-      ap (read_on n) (drop-cons word i 0 within) in
+    ap (read_on n) (drop-cons word i 0 within) in
     let more : n * 10 + (get_or word i 0 - 48) ≤ read_on (n * 10 + (get_or word i 0 - 48)) (drop (suc i) word) =
-      grown (n * 10 + (get_or word i 0 - 48)) (drop (suc i) word) in
+    grown (n * 10 + (get_or word i 0 - 48)) (drop (suc i) word) in
     large (omega arith)
 
 own : IsNumeralModel (λ ds. list_all is_ascii_digit ds ≡ true) (read_on 0)

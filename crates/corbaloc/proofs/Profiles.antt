@@ -24,15 +24,15 @@ body_with major minor host port key = record { major = major; minor = minor; hos
 one_body_read : (a b : ProfileBody) (c : Cursor) → ReadsBody a c → ReadsBody b c → a ≡ b
 one_body_read a b c r s =
     let v : Versioned c b.major b.minor s.behind_minor =
-      record { behind_major = s.behind_major; major_read = s.major; minor_read = s.minor } in
+    record { behind_major = s.behind_major; major_read = s.major; minor_read = s.minor } in
     let version = same_version a c s.behind_minor b.major b.minor r v in
     let host = one_text_read a.host b.host s.behind_minor r.behind_host s.behind_host (host_at a c s.behind_minor b.major b.minor r v) s.host in
     let port =
-      one_ushort_read a.port b.port s.behind_host r.behind_port s.behind_port
-      (port_at a c s.behind_minor s.behind_host b.major b.minor b.host r v s.host) s.port in
+    one_ushort_read a.port b.port s.behind_host r.behind_port s.behind_port
+    (port_at a c s.behind_minor s.behind_host b.major b.minor b.host r v s.host) s.port in
     let key =
-      one_octets_read a.key b.key s.behind_port r.behind_key s.behind_key
-      (key_at a c s.behind_minor s.behind_host s.behind_port b.major b.minor b.host b.port r v s.host s.port) s.key in
+    one_octets_read a.key b.key s.behind_port r.behind_key s.behind_key
+    (key_at a c s.behind_minor s.behind_host s.behind_port b.major b.minor b.host b.port r v s.host s.port) s.key in
     ap (λ x. body_with x a.minor a.host a.port a.key) version.0
     ∙ ap (λ x. body_with b.major x a.host a.port a.key) version.1.0
     ∙ ap (λ (x : List ℕ). body_with b.major b.minor x a.port a.key) host.0
@@ -69,7 +69,7 @@ first_read f fs d c fits ahead =
     let others = fields_grow fs (with_field f d) in
     let first : List ℕ = written d.little (d.base + length d.bytes) f in
     let rest : c.rest ≡ first ++ others.0 =
-      append_cancel_left d.bytes _ _ (sym ahead.whole ∙ others.1 ∙ append_assoc d.bytes first others.0) in
+    append_cancel_left d.bytes _ _ (sym ahead.whole ∙ others.1 ∙ append_assoc d.bytes first others.0) in
     let one = read_back f d c others.0 fits ahead.stands rest in
     record {
       after = one.after;

@@ -50,13 +50,13 @@ list_back address [] h all at =
     let alone = append-nil (address_text address) in
     ap (listed_at at) alone
     ∙ one_listed at (address_text address) address (ap address_of (all_before 44 (address_text address) clear) ∙ address_back address h)
-      (none_behind 44 (address_text address) clear)
+    (none_behind 44 (address_text address) clear)
 list_back address (next ∷ addresses) h all at =
     let clear = no_comma address h in
     let rest : List ℕ = list_text (next ∷ addresses) in
     let text : List ℕ = address_text address ++ 44 ∷ rest in
     more_listed at text rest address (ap address_of (cut_before 44 (address_text address) rest clear) ∙ address_back address h)
-      (cut_behind 44 (address_text address) rest clear)
+    (cut_behind 44 (address_text address) rest clear)
     ∙ ap (found_before (address ∷ [])) (list_back next addresses all.0 all.1 (at + length (before 44 text) + 1))
 
 abbrev location_with : List Address → List ℕ → Location

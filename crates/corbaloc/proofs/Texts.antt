@@ -72,8 +72,11 @@ pub key_refused :
     (fault ≡ WantMemory) ⊎ (location_of text ≡ Err fault)
 key_refused text list key_string back addresses fault parts is listed (inl memory) = inl memory
 key_refused text list key_string back addresses fault parts is listed (inr wrong) =
-    inr (rw (parts.starts, listed_here text list back (Ok addresses) parts listed,
-    key_read text list key_string back (Err fault) parts is wrong) refl)
+    inr (rw (
+      parts.starts,
+      listed_here text list back (Ok addresses) parts listed,
+      key_read text list key_string back (Err fault) parts is wrong,
+    ) refl)
 
 -- the addresses and the key are the text's location
 pub both_told :
@@ -82,8 +85,11 @@ pub both_told :
     listed_at (9 + length list - length list) list ≡ Ok addresses →
     key_at (length text - length key_string) key_string ≡ Ok key → location_of text ≡ Ok (location_with addresses key)
 both_told text list key_string back addresses key parts is listed told =
-    rw (parts.starts, listed_here text list back (Ok addresses) parts listed,
-    key_read text list key_string back (Ok key) parts is told) refl
+    rw (
+      parts.starts,
+      listed_here text list back (Ok addresses) parts listed,
+      key_read text list key_string back (Ok key) parts is told,
+    ) refl
 
 -- what is lent, or nothing
 pub lent :

@@ -1,7 +1,7 @@
 -- The one text that is written of an address.
 use Rattle.std.specs.Prelude.{ℕ, ◌&&◌, nat_le, Bool, List, ◌∷◌, ◌++◌, codes, decimal}
 use Rattle.corbaloc.specs.declared.address.Address.{Address}
-use Rattle.corbaloc.specs.Address.{is_host, is_port}
+use Rattle.corbaloc.specs.Endpoint.{is_host, is_port}
 
 -- GIOP 1.0 to 1.2, a host of the grammar and a port
 abbrev pub is_address : Address → Bool

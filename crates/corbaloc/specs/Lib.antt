@@ -1,5 +1,7 @@
 pub mod Cut
 pub mod Gives
+pub mod Chain
+pub mod Endpoint
 pub mod Address
 pub mod Seen
 pub mod AddressText

@@ -1,7 +1,7 @@
 -- What a view of an address sees.
 use Rattle.poa_base.specs.declared.Endpoint.{Endpoint}
 use Rattle.corbaloc.specs.declared.address.Address.{Address}
-use Rattle.corbaloc.specs.declared.address_view.EndpointView.{EndpointView}
+use Rattle.corbaloc.specs.declared.endpoint_view.EndpointView.{EndpointView}
 use Rattle.corbaloc.specs.declared.address_view.AddressView.{AddressView}
 
 abbrev pub seen_endpoint : EndpointView → Endpoint

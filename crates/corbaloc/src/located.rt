@@ -8,7 +8,7 @@ ghost use Rattle.corbaloc.specs.Profile.{body_of};
 ghost use Rattle.corbaloc.specs.Reference.{IsAt, AreAt, IsLocated};
 
 use crate::address::Address;
-use crate::address_view::is_host;
+use crate::endpoint_view::is_host;
 use crate::location::Location;
 use ior_text::{ProfileBody, key_of, read_body};
 use poa_base::{Endpoint, Ior, Items, Profile, WantMemory};
@@ -50,11 +50,7 @@ fn addresses_with(
 }
 
 // The address of a profile with this key.
-fn address_with(
-    alloc: Global,
-    profile: &Profile,
-    key: &[u8],
-) -> Result<Option<Address>, WantMemory>
+fn address_with(alloc: Global, profile: &Profile, key: &[u8]) -> Result<Option<Address>, WantMemory>
     ensures { IfOk result (λ found. MatchOption found
         ((address : Address) → IsAt key.now address profile.now → ⊥) (λ address. IsAt key.now address profile.now)) }
 {
@@ -91,7 +87,5 @@ fn address_in(body: ProfileBody, key: &[u8]) -> Option<Address>
 fn is_address(address: &Address) -> bool
     ensures { result ≡ is_address_of address.now }
 {
-    address.minor <= 2
-        && is_host(address.endpoint.host.as_slice())
-        && address.endpoint.port >= 1
+    address.minor <= 2 && is_host(address.endpoint.host.as_slice()) && address.endpoint.port >= 1
 }

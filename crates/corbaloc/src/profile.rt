@@ -13,7 +13,11 @@ const TAG_INTERNET_IOP: u32 = 0;
 
 /// The profile of the object with this key at this address. `WantMemory` is also the answer to a host or a key of 2^31
 /// bytes or more, which no CDR writer takes.
-pub(crate) fn write_profile(alloc: Global, address: &Address, key: &[u8]) -> Result<Profile, WantMemory>
+pub(crate) fn write_profile(
+    alloc: Global,
+    address: &Address,
+    key: &[u8],
+) -> Result<Profile, WantMemory>
     ensures { IfOk result (λ profile. profile ≡ profile_of address.now key.now) }
 {
     let bytes = profile_data(alloc, address, key)?;

@@ -1,6 +1,6 @@
 use Rattle.std.proofs.Common.{arith}
 use Rattle.corbaloc.proofs.Numbers.{overflowed}
-use Rattle.corbaloc.proofs.address_view.number.Goals as goal
+use Rattle.corbaloc.proofs.port.number.Goals as goal
 
 pub returns-in_err-n : goal.returns-in_err-n
 returns-in_err-n c =
