@@ -1,14 +1,13 @@
 -- Key strings, byte by byte.
-use Rattle.std.proofs.Common.{◌≡◌, ◌≢◌, ℕ, ◌+◌, ◌-◌, ◌<◌, ◌≤◌, ◌==◌, Bool, true, false, List, [], ◌∷◌, ◌++◌, length, zero, suc, Option, Some, None, Result, Ok, Err, take, drop, take_all, get_or, refl, sym, ◌∙◌, ap, subst, arith, append_assoc, cond}
+use Rattle.std.proofs.Common.{◌≡◌, ◌≢◌, ℕ, ◌+◌, ◌-◌, ◌<◌, ◌≤◌, Bool, true, false, List, [], ◌∷◌, ◌++◌, length, zero, suc, Some, None, Result, Ok, Err, take, drop, take_all, get_or, refl, sym, ◌∙◌, ap, subst, arith, append_assoc, cond}
 use Rattle.std.specs.Result.{result_ok}
-use Rattle.std.specs.Prelude.{option_map, MatchOption}
 use Rattle.std.proofs.lemmas.Bool.{ne_eqb, false≢true}
 use Rattle.hex.specs.Hex.{decode_of, encode_lower, encode_with, IsBytes}
 use Rattle.hex.specs.declared.error.FromHexError.{FromHexError}
 use Rattle.hex.proofs.HexLemmas.{decode_of-encode_lower}
 use Rattle.corbaloc.specs.declared.fault.LocFault.{LocFault}
 use Rattle.corbaloc.specs.declared.fault.LocFault.TheVariants.{BadKey}
-use Rattle.corbaloc.specs.KeyString.{stands_for_itself, onto, onto_plain, onto_escaped, key_at, BeginsWith, IsWrong, byte_text, key_text}
+use Rattle.corbaloc.specs.KeyString.{stands_for_itself, onto, onto_plain, key_at, BeginsWith, IsWrong, key_text}
 
 pub onto-nil : (more : Result (List ℕ) LocFault) → more ≡ onto [] more
 onto-nil (Ok key) = refl

@@ -1,5 +1,5 @@
 -- The addresses of a list, one behind the other.
-use Rattle.std.proofs.Common.{◌≡◌, ℕ, ◌+◌, ◌-◌, ◌≤◌, List, [], ◌∷◌, ◌++◌, length, Option, Some, None, Result, Ok, Err, refl, sym, ◌∙◌, ap, arith, append_assoc}
+use Rattle.std.proofs.Common.{◌≡◌, ℕ, ◌+◌, ◌-◌, ◌≤◌, List, [], ◌∷◌, ◌++◌, length, Some, None, Result, Ok, Err, refl, sym, ◌∙◌, ap, arith, append_assoc}
 use Rattle.corbaloc.specs.declared.address.Address.{Address}
 use Rattle.corbaloc.specs.declared.fault.LocFault.{LocFault}
 use Rattle.corbaloc.specs.declared.fault.LocFault.TheVariants.{BadAddress}

@@ -1,5 +1,5 @@
 -- The profile of an address, read back; and one reading of a profile.
-use Rattle.std.proofs.Common.{◌≡◌, ℕ, ◌+◌, ◌<◌, ◌^◌, ◌≤◌, Bool, true, false, List, [], ◌∷◌, ◌++◌, length, Some, refl, sym, ◌∙◌, ap, subst, arith, append_assoc, append-nil, cond}
+use Rattle.std.proofs.Common.{◌≡◌, ℕ, ◌+◌, ◌<◌, ◌^◌, Bool, true, false, List, [], ◌∷◌, ◌++◌, length, refl, sym, ◌∙◌, ap, subst, arith, append_assoc, append-nil, cond}
 use Rattle.std.specs.Prelude.{MatchBool, ⊤}
 use Rattle.std.proofs.lemmas.List.{append_cancel_left}
 use Rattle.cdr_core.specs.Field.{Field, octet, ushort, ulong, text, octets, Fits}
@@ -15,7 +15,7 @@ use Rattle.ior_text.specs.Body.{has_components, Counted, ReadsBody, HasBody}
 use Rattle.ior_text.proofs.Bodies.{Versioned, same_version, host_at, port_at, key_at}
 use Rattle.ior_text.proofs.ReadingBack.{Stands, read_back}
 use Rattle.corbaloc.specs.declared.address.Address.{Address}
-use Rattle.corbaloc.specs.Profile.{body_of, component_fields, profile_fields, profile_data, profile_of}
+use Rattle.corbaloc.specs.Profile.{body_of, component_fields, profile_of}
 
 abbrev body_with : ℕ → ℕ → List ℕ → ℕ → List ℕ → ProfileBody
 body_with major minor host port key = record { major = major; minor = minor; host = host; port = port; key = key }

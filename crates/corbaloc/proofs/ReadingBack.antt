@@ -1,12 +1,11 @@
 -- The text that is written of a reference gives a reference with its location.
-use Rattle.std.proofs.Common.{◌≡◌, ◌≢◌, ℕ, ◌+◌, ◌<◌, ◌≤◌, ◌^◌, true, List, [], ◌∷◌, ◌++◌, length, map, Some, Ok, refl, sym, ◌∙◌, ap, arith, append-nil}
-use Rattle.std.proofs.lemmas.Bool.{and_from}
+use Rattle.std.proofs.Common.{◌≡◌, ◌≢◌, ℕ, ◌+◌, ◌<◌, ◌^◌, true, List, [], ◌∷◌, ◌++◌, length, map, Ok, refl, ◌∙◌, ap, arith, append-nil}
 use Rattle.hex.specs.Hex.{IsBytes}
 use Rattle.poa_base.specs.declared.Ior.{Ior}
 use Rattle.poa_base.specs.declared.Profile.{Profile}
 use Rattle.corbaloc.specs.declared.address.Address.{Address}
 use Rattle.corbaloc.specs.declared.location.Location.{Location}
-use Rattle.corbaloc.specs.Cut.{before, behind}
+use Rattle.corbaloc.specs.Cut.{before}
 use Rattle.corbaloc.specs.Address.{address_of}
 use Rattle.corbaloc.specs.AddressText.{is_address, address_text}
 use Rattle.corbaloc.specs.KeyString.{key_at, key_text}

@@ -1,5 +1,5 @@
 -- What a text tells, part by part.
-use Rattle.std.proofs.Common.{◌≡◌, ℕ, ◌+◌, ◌-◌, ◌≤◌, true, List, [], ◌∷◌, take, drop, length, Option, Some, None, Result, Ok, Err, refl, sym, ◌∙◌, ap, ap₂, ◌⊎◌, inl, inr, arith, take_all, length-drop}
+use Rattle.std.proofs.Common.{◌≡◌, ℕ, ◌+◌, ◌-◌, ◌≤◌, true, List, [], take, drop, length, Option, Some, None, Result, Ok, Err, refl, sym, ◌∙◌, ap, ap₂, ◌⊎◌, inl, inr, arith, take_all, length-drop}
 use Rattle.std.specs.Prelude.{nat_eq, unwrap_or}
 use Rattle.std.specs.Option.{option_copied}
 use Rattle.std.specs.List.{starts_with}

@@ -1,6 +1,6 @@
 -- The IIOP profile of an address (CORBA 3.3 Part 2, 9.7.2): big-endian, and with no components in the versions that have
 -- them.
-use Rattle.std.specs.Prelude.{ℕ, List, [], ◌∷◌, ◌++◌, false, if◌then◌else◌}
+use Rattle.std.specs.Prelude.{ℕ, List, [], ◌∷◌, false, if◌then◌else◌}
 use Rattle.cdr_core.specs.Field.{Field, octet, ushort, ulong, text, octets}
 use Rattle.cdr_core.specs.Draft.{empty_draft}
 use Rattle.cdr_core.specs.Fields.{with_fields}

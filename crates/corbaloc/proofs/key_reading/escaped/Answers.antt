@@ -1,4 +1,3 @@
-use Rattle.std.proofs.Common.{arith}
 use Rattle.corbaloc.proofs.KeyStrings.{begins_front}
 use Rattle.corbaloc.proofs.key_reading.escaped.Goals as goal
 

@@ -1,4 +1,4 @@
-use Rattle.std.proofs.Common.{arith, sym}
+use Rattle.std.proofs.Common.{arith}
 use Rattle.corbaloc.proofs.Locations.{are_further, none_are}
 use Rattle.corbaloc.proofs.located.addresses_with.Goals as goal
 

@@ -1,7 +1,6 @@
-use Rattle.std.proofs.Common.{◌≡◌, Some, None, inr, sym, ◌∙◌, ap}
+use Rattle.std.proofs.Common.{inr, sym, ◌∙◌, ap}
 use Rattle.std.specs.Option.{option_copied}
 use Rattle.corbaloc.specs.Address.{address_of}
-use Rattle.corbaloc.specs.Cut.{before}
 use Rattle.corbaloc.proofs.Listing.{found_wrong, found_all, found_more}
 use Rattle.corbaloc.proofs.reading.read_addresses.Goals as goal
 

@@ -1,9 +1,6 @@
-use Rattle.std.proofs.Common.{◌≡◌, true, sym, ◌∙◌, refl}
-use Rattle.std.specs.Prelude.{nat_eq}
-use Rattle.std.specs.List.{starts_with}
+use Rattle.std.proofs.Common.{sym, ◌∙◌, refl}
 use Rattle.std.specs.Option.{option_copied}
 use Rattle.std.proofs.lemmas.Result.{err_from_is_err_and}
-use Rattle.corbaloc.specs.Text.{scheme}
 use Rattle.corbaloc.proofs.Texts.{CutAtSlash, list_refused, key_refused, both_told, lent}
 use Rattle.corbaloc.proofs.reading.read_location.Goals as goal
 use Rattle.corbaloc.proofs.reading.read_location.Goals.{After-cut}
