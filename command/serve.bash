@@ -35,7 +35,7 @@ shut_down() {
     # So ends a read whose time is up.
     if [ "$?" -gt 128 ]; then
         say 'shutdown waits until another administrator leaves'
-    elif [ "$signals" -gt 1 ]; then
+    elif [ "$signals" -gt 1 ] && kill -0 "$server" 2>/dev/null; then
         say 'shutdown was said; the server ends when its clients have their last replies, half a minute at most'
     fi
 }

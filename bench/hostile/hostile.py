@@ -1,13 +1,17 @@
-"""Abuses a server of desk.toml over its ports. After each abuse it looks whether a fresh client is served within a
-second, the descriptors are as before, and the memory has grown by no more than the journal, and a tenth beside it.
+"""Abuses a server of desk.toml over its ports. After each abuse it looks whether fresh clients are served as fast as
+before, the descriptors are as before, and the memory has grown by no more than the journal, and a tenth beside it.
 Then it says `shutdown` under load.
+
+How fast a client is served is told by the clock of the same moment: as a multiple of what a client of a bare server in
+this program waits. So a machine that is busy slows both.
 
 hostile.py PID LANES"""
 import os
+import socket
+import statistics
 import sys
 import threading
 import time
-import traceback
 
 import giop
 
@@ -39,12 +43,48 @@ def ask(link, count=1):
         assert giop.next_kind(link) == giop.REPLY
 
 
+# How many times as long as before a fresh client may wait, beside a client of the bare server.
+SLOWER = 10
+
+
+class Yardstick:
+    """A bare server: it answers each client's one byte, and closes."""
+
+    def __init__(self):
+        self.door = socket.create_server(("127.0.0.1", 0))
+        threading.Thread(target=self.serve, daemon=True).start()
+
+    def serve(self):
+        while True:
+            with self.door.accept()[0] as link:
+                link.sendall(link.recv(1))
+
+    def client(self):
+        with socket.create_connection(self.door.getsockname()) as link:
+            link.sendall(b"G")
+            giop.exactly(link, 1)
+
+
+YARDSTICK = Yardstick()
+
+
 def fresh_client():
-    """How long a new client waits for its first reply."""
-    start = time.time()
+    """A new client, which waits for its first reply."""
     with connect() as link:
         ask(link)
-    return time.time() - start
+
+
+def seconds(work):
+    start = time.perf_counter()
+    work()
+    return time.perf_counter() - start
+
+
+def slowness():
+    """How long a fresh client waits, and how many times as long as one of the bare server: medians, by turns."""
+    pairs = [(seconds(fresh_client), seconds(YARDSTICK.client)) for _ in range(9)]
+    fresh, bare = map(statistics.median, zip(*pairs))
+    return fresh, fresh / bare
 
 
 def is_silent(link, seconds):
@@ -61,12 +101,12 @@ def silent_links():
     """Links that send nothing. As long as a lane is left, it serves; who comes when all are taken waits until one goes."""
     links = [connect() for _ in range(LANES - 1)]
     time.sleep(1)
-    assert fresh_client() < 1
+    fresh_client()
     links.append(connect())
     time.sleep(1)
     with connect() as waiting:
         waiting.sendall(request(1))
-        assert is_silent(waiting, 2)
+        assert is_silent(waiting, 2), "who came while all lanes were taken was served"
         links.pop().close()
         assert giop.next_kind(waiting) == giop.REPLY
     for link in links:
@@ -125,7 +165,7 @@ def never_reads():
                 pass
             except OSError:
                 return
-    assert False, "the peer wasn't cut off"
+    raise AssertionError("the peer wasn't cut off")
 
 
 def hundred_lines():
@@ -205,32 +245,41 @@ def grown(work, count):
     return max(0, memory() - before)
 
 
-def is_as_meant(abuse):
-    """Abuses the server, and answers whether it did what it is to do meanwhile."""
+def fault_of(abuse):
+    """Abuses the server, and tells what it didn't do meanwhile that it is to do."""
     try:
         abuse()
-    except (AssertionError, EOFError, OSError):
-        traceback.print_exc()
-        return False
-    return True
+    except AssertionError as fault:
+        return str(fault) or "an answer is another than was due"
+    except TimeoutError:
+        return "no answer came for a minute"
+    except (EOFError, OSError) as fault:
+        return f"a link ended early: {str(fault) or 'the server closed it'}"
+    return None
 
 
-def look(abuse, kept_a_call, kept_a_connection):
-    """Abuses the server, and answers whether it came off well."""
+def faults_of(abuse, limit, kept_a_call, kept_a_connection):
+    """Abuses the server, tells what was seen in a line, and lists what is wrong."""
     Kept.calls = Kept.connections = Kept.octets = 0
     count, held, start = descriptors(), memory(), time.time()
-    fine = is_as_meant(abuse)
-    took, waited = time.time() - start, fresh_client()
+    faults = [fault_of(abuse)]
+    took, (waited, times) = time.time() - start, slowness()
     settle(count)
     kept = Kept.calls * kept_a_call + Kept.connections * kept_a_connection + Kept.octets
-    fine = fine and waited < 1 and descriptors() == count and memory() <= 1.1 * (held + kept)
+    if times > limit:
+        faults.append(f"a fresh client waits {times:.0f} times as long as one of a bare server, and {limit:.0f} at most")
+    if descriptors() != count:
+        faults.append(f"there were {count} descriptors")
+    if memory() > 1.1 * (held + kept):
+        faults.append("the memory grew by more than the journal")
+    faults = [it for it in faults if it]
     print(
-        f"{abuse.__name__}: {took:.1f} s; a fresh client waits {waited * 1000:.1f} ms; {descriptors()} descriptors;"
-        f" memory {held >> 10} KiB, then {memory() >> 10}, up to {int(kept) >> 10} of it for the journal:"
-        f" {'ok' if fine else 'FAILED'}",
+        f"{abuse.__name__}: {took:.1f} s; a fresh client waits {waited * 1000:.1f} ms, {times:.1f} times as long as one of"
+        f" a bare server; {descriptors()} descriptors; memory {held >> 10} KiB, then {memory() >> 10}, up to"
+        f" {int(kept) >> 10} of it for the journal: {'FAILED: ' + '; '.join(faults) if faults else 'ok'}",
         flush=True,
     )
-    return fine
+    return faults
 
 
 def send(link, message):
@@ -243,10 +292,14 @@ def send(link, message):
 
 def ask_until_closed(ends):
     """Asks without end, 16 calls ahead of the replies, and tells what comes behind the replies."""
-    with giop.connect() as link:
-        send(link, b"".join(map(giop.request, range(16))))
-        while (kind := giop.next_kind(link)) == giop.REPLY:
-            send(link, giop.request(16))
+    kind = None
+    try:
+        with giop.connect() as link:
+            send(link, b"".join(map(giop.request, range(16))))
+            while (kind := giop.next_kind(link)) == giop.REPLY:
+                send(link, giop.request(16))
+    except (EOFError, OSError):
+        pass
     ends.append(kind)
 
 
@@ -260,21 +313,25 @@ def shutdown_under_load():
     answer = giop.say("shutdown")
     for it in asking:
         it.join()
-    fine = answer == "1 ok" and ends == [giop.CLOSE_CONNECTION] * 8
-    print(f"shutdown_under_load: {answer}; {len(ends)} clients were closed: {'ok' if fine else 'FAILED'}", flush=True)
-    return fine
+    closed = ends.count(giop.CLOSE_CONNECTION)
+    assert answer == "1 ok" and closed == 8, f"the answer is '{answer}', and {closed} of 8 clients read CloseConnection"
 
 
 def main():
     count = descriptors()
     take_all_lanes()
     settle(count)
+    usual = slowness()[1]
     kept_a_call = grown(many_calls, count) / 20000
     kept_a_connection = grown(many_connections, count) / 2000
-    print(f"a call keeps {kept_a_call:.0f} bytes, a connection {kept_a_connection:.0f}; {count} descriptors")
-    fine = [look(abuse, kept_a_call, kept_a_connection) for abuse in ABUSES]
-    fine.append(shutdown_under_load())
-    return not all(fine)
+    print(
+        f"a call keeps {kept_a_call:.0f} bytes, a connection {kept_a_connection:.0f}; {count} descriptors; a fresh client"
+        f" waits {usual:.1f} times as long as one of a bare server, which may become {SLOWER * usual:.1f}"
+    )
+    faults = [faults_of(abuse, SLOWER * usual, kept_a_call, kept_a_connection) for abuse in ABUSES]
+    last = fault_of(shutdown_under_load)
+    print(f"shutdown_under_load: {f'FAILED: {last}' if last else 'ok'}", flush=True)
+    return bool(last or any(faults))
 
 
 sys.exit(main())
