@@ -1,0 +1,23 @@
+# Completes the words of ./poad in bash: source docs/completion.bash
+_poad() {
+    local commands='answer replay load check iors show serve build help --version' options word=${COMP_WORDS[COMP_CWORD]}
+    local before=${COMP_WORDS[COMP_CWORD - 1]}
+    case ${COMP_WORDS[1]} in
+        serve) options='--lanes --workers --run --journal --help' ;;
+        build) options='--unproved --jobs --help' ;;
+        *) options='--help' ;;
+    esac
+    if [ "$COMP_CWORD" = 1 ]; then
+        mapfile -t COMPREPLY < <(compgen -W "$commands --help" -- "$word")
+    elif [ "${COMP_WORDS[1]}" = help ]; then
+        mapfile -t COMPREPLY < <(compgen -W "$commands" -- "$word")
+    elif [[ $before = --lanes || $before = --workers || $before = --run || $before = --jobs ]]; then
+        COMPREPLY=()
+    elif [[ $word = -* && $before != --journal ]]; then
+        mapfile -t COMPREPLY < <(compgen -W "$options" -- "$word")
+    else
+        compopt -o filenames
+        mapfile -t COMPREPLY < <(compgen -f -- "$word")
+    fi
+}
+complete -F _poad poad ./poad
