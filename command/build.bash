@@ -24,8 +24,8 @@ crates() {
 is_stale() {
     local folders
     mapfile -t folders < <(crates | sed "s|[ :].*||; s|^|$top/crates/|")
-    [ -n "$(find "${folders[@]}" -name out -prune -o -type f \( -name '*.rt' -o -name '*.antt' \) -newer "$1" \
-        -print -quit)" ]
+    [ -n "$(find "$top/crates.txt" "${folders[@]}" -name out -prune -o -type f \
+        \( -name '*.rt' -o -name '*.antt' -o -name crates.txt \) -newer "$1" -print -quit)" ]
 }
 
 # As many as there are processors, and four gigabytes of memory for each.
@@ -114,12 +114,12 @@ build_unproved() {
 }
 
 build() {
-    local kind=build_proved jobs
+    local kind=build_proved made=$proved jobs
     jobs=$(how_many)
     shift
     while [ "$#" -gt 0 ]; do
         case $1 in
-            --unproved) kind=build_unproved ;;
+            --unproved) kind=build_unproved made=$unproved ;;
             --jobs=[1-9]*) jobs=${1#*=} ;;
             --jobs) jobs=${2-}; [ "$#" -lt 2 ] || shift ;;
             *) jobs='' ;;
@@ -127,5 +127,11 @@ build() {
         shift
     done
     [[ $jobs =~ ^[1-9][0-9]*$ ]] || { say 'bad words'; printf 'usage: ./poad %s\n' "${words[build]}" >&2; return 2; }
-    has_kit && "$kind" "$jobs"
+    has_kit || return
+    if [ -x "$made" ] && ! is_stale "$made" && [ ! "$(dirname "$(rt doc)")/KIT-ID" -nt "$made" ]; then
+        say "${made#"$top/"} is of these sources already"
+        touch "$made"
+    else
+        "$kind" "$jobs"
+    fi
 }

@@ -1,12 +1,17 @@
 # Runs the server. Part of ./poad.
 
-# Refuses, before a server starts, a file for its end that is FILE itself or that can't be written.
+# Refuses, before a server starts, a file for its end that is FILE itself or another such file, or that can't be written.
 refuse() {
-    local option name why
+    local option name why place
+    local -A taken=()
     while read -r option name; do
-        why=$(why_not_written "$name")
+        why=$(why_not_written "$name") place=$(realpath -m -- "$name")
         if [ "$name" -ef "${files[0]-}" ]; then
             say "$option $name is FILE itself"
+            say 'bad words'
+            return 2
+        elif [ -n "${taken[$place]-}" ] && [[ ! -e $place || -f $place ]]; then
+            say "$option $name is the file of ${taken[$place]}, too"
             say 'bad words'
             return 2
         elif [ -n "$why" ]; then
@@ -14,6 +19,7 @@ refuse() {
             say 'file fault'
             return 8
         fi
+        taken[$place]=$option
     done < <(written)
 }
 
