@@ -84,7 +84,7 @@ build_proved() {
 
 # Puts a program that was made into its place, with the time at which its build began.
 take() {
-    mkdir -p "${2%/*}" && cp "$1" "$2.new" && touch -r "$3" "$2.new" && mv "$2.new" "$2"
+    mkdir -p "${2%/*}" && install -m 755 "$1" "$2.new" && touch -r "$3" "$2.new" && mv "$2.new" "$2"
 }
 
 # `rt try` makes a program without proofs, with checks for bad accesses, runs it, and takes it away; a link keeps it.
@@ -95,14 +95,18 @@ build_unproved() {
     say 'builds without proofs, which takes some five minutes'
     SECONDS=0
     # What it is run on takes a while, so that the program is seen.
-    (cd "$top/crates/poad" && TMPDIR=$work exec rt try -- load 20000 7) </dev/null >"$work/said" 2>&1 &
+    (cd "$top/crates/poad" && TMPDIR=$work exec rt try -- load 200000 7) </dev/null >"$work/said" 2>&1 &
     try=$!
     trap 'kill "$try"' HUP INT TERM
+    # The folder in which it runs has what it writes, too.
     while [ -z "$made" ] && kill -0 "$try" 2>/dev/null; do
         sleep 0.1
-        made=$(find "$work" -name program -type f -perm -u+x -print -quit 2>/dev/null)
+        made=$(find "$work" -name stdout -type f -print -quit 2>/dev/null)
     done
-    if [ -n "$made" ] && ln "$made" "$work/program" && wait "$try"; then
+    [ -z "$made" ] || ln "${made%stdout}program" "$work/program"
+    kill "$try" 2>/dev/null
+    wait "$try" 2>/dev/null
+    if [ "$("$work/program" load 0 7 2>/dev/null | head -n 1)" = 'calls 0' ]; then
         take "$work/program" "$unproved" "$work/begun" && status=0
         say "built without proofs after $SECONDS s"
     else
