@@ -62,15 +62,19 @@ tell_progress() {
 # Proves the crates side by side and then builds the program, in a folder of their own, so that what is written here
 # meanwhile counts for the next build alone. The program of before stays until the new one is there.
 build_proved() {
-    local lines place log made status=0
+    local lines place log made said teller status=0
     place=${XDG_CACHE_HOME:-${HOME:-/tmp}/.cache}/poad/${top//\//-}
     made=$place/crates/poad/out/poad log=$place/log
     mapfile -t lines < <(crates)
     mkdir -p "$place" && : >"$log" && touch "$place/begun" && copy_sources "${lines[@]}" || return 1
     say "proves and builds ${#lines[@]} crates, $1 at a time, in $place"
     SECONDS=0
-    (cd "$place" && rt all check --jobs "$1" 2>&1) </dev/null | tell_progress "${#lines[@]}"
-    [ "${PIPESTATUS[0]}" = 0 ] || status=1
+    exec {said}> >(tell_progress "${#lines[@]}")
+    teller=$!
+    (cd "$place" && exec rt all check --jobs "$1") </dev/null >&"$said" 2>&1 &
+    exec {said}>&-
+    finish "$!" || status=1
+    wait "$teller"
     # `rt run` leaves the program, and runs it once without words, which ends as `bad words`.
     if [ "$status" = 0 ]; then
         rm -f "$made"
