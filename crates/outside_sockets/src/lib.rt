@@ -6,11 +6,16 @@ mod ears;
 mod listening;
 mod mio_door;
 mod mio_link;
+mod newcomer;
+mod owed;
+mod silent_ones;
 mod socket;
+mod traffic;
 mod waiting_gate;
 
 pub use ears::Ears;
 pub use listening::listen;
 pub use mio_door::MioDoor;
 pub use mio_link::MioLink;
+pub use traffic::Traffic;
 pub use waiting_gate::WaitingGate;

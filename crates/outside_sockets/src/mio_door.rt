@@ -4,9 +4,11 @@ ghost use Rattle.outside.specs.Cause.{HasCause};
 
 use crate::ears::Ears;
 use crate::mio_link::MioLink;
+use crate::newcomer::{Newcomer, is_passing};
+use crate::silent_ones::SilentOnes;
 use mio::net::TcpStream;
 use outside::{Acceptor, Door};
-use poa_base::Session;
+use poa_base::{Session, WantMemory};
 use std::alloc::Global;
 use std::io;
 use std::io::ErrorKind;
@@ -14,12 +16,13 @@ use std::net::TcpListener;
 use std::sync::Arc;
 
 /// One of the doors to a listening socket, which share it: each gives a link at a time, with the ears that came
-/// back with the last one. It tells no content, and never ends. Where nobody comes for a second it says `Quiet`. Where
-/// the port couldn't be had, or a link is out, each `next` fails.
+/// back with the last one. It tells no content, and never ends. Where nobody comes in the time of the socket it says
+/// `Quiet`. Where the port couldn't be had, or a link is out, each `next` fails.
 #[derive(Drop)]
 pub struct MioDoor {
     listener: Option<Arc<TcpListener, Global>>,
     ears: Option<Ears>,
+    silent_ones: Option<SilentOnes>,
     faults: u64,
     quiets: u64,
 }
@@ -30,23 +33,41 @@ impl MioDoor {
         MioDoor {
             listener,
             ears: Some(ears),
+            silent_ones: None,
             faults: 0,
             quiets: 0,
         }
     }
 
-    // The next connection, without delay of its small writes. One that was reset before it came in is told as aborted.
-    fn accept(&self) -> io::Result<TcpStream> {
-        let Some(listener) = &self.listener else {
-            return Err(io::Error::from(ErrorKind::NotConnected));
-        };
-        let (stream, _) = listener.accept()?;
-        if stream.take_error()?.is_some() {
-            return Err(io::Error::from(ErrorKind::ConnectionAborted));
+    /// The only door to this socket, which gives a link once its peer has said something. A link whose peer says nothing
+    /// for half a minute, and is owed no answer line, fails where another waits who has.
+    pub fn of_speakers(
+        alloc: Global,
+        listener: Arc<TcpListener, Global>,
+        ears: Ears,
+    ) -> Result<Self, WantMemory> {
+        let silent_ones = SilentOnes::new(alloc, listener)?;
+        Ok(MioDoor {
+            listener: None,
+            ears: Some(ears),
+            silent_ones: Some(silent_ones),
+            faults: 0,
+            quiets: 0,
+        })
+    }
+
+    // Who comes in next.
+    fn newcomer(&mut self) -> io::Result<Newcomer>
+        ensures faults { self.new.faults ≡ self.old.faults }
+        ensures quiets { self.new.quiets ≡ self.old.quiets }
+    {
+        if let Some(silent_ones) = &mut self.silent_ones {
+            return silent_ones.speaker();
         }
-        stream.set_nonblocking(true)?;
-        stream.set_nodelay(true)?;
-        Ok(TcpStream::from_std(stream))
+        match &self.listener {
+            Some(listener) => Newcomer::accept(listener),
+            None => Err(io::Error::from(ErrorKind::NotConnected)),
+        }
     }
 
     // The link over the next connection, with the ears that are here.
@@ -54,12 +75,13 @@ impl MioDoor {
         ensures faults { self.new.faults ≡ self.old.faults }
         ensures quiets { self.new.quiets ≡ self.old.quiets }
     {
-        let mut stream = self.accept()?;
+        let Newcomer { stream, peer } = self.newcomer()?;
+        let mut stream = TcpStream::from_std(stream);
         let Some(ears) = self.ears.take() else {
             return Err(io::Error::from(ErrorKind::ResourceBusy));
         };
         match ears.attach(&mut stream) {
-            Ok(()) => Ok(MioLink::new(stream, ears)),
+            Ok(()) => Ok(MioLink::new(stream, peer, ears, self.silent_ones.take())),
             Err(error) => {
                 self.ears = Some(ears);
                 Err(error)
@@ -100,14 +122,8 @@ impl Acceptor for MioDoor {
     }
 
     fn give_back(&mut self, link: MioLink, _session: Session) {
-        self.ears = Some(link.close());
+        let (ears, silent_ones) = link.close();
+        self.ears = Some(ears);
+        self.silent_ones = silent_ones;
     }
-}
-
-// An error of an accept after which the next may well succeed: nobody came, or who came is gone.
-fn is_passing(kind: ErrorKind) -> bool {
-    matches!(
-        kind,
-        ErrorKind::WouldBlock | ErrorKind::Interrupted | ErrorKind::ConnectionAborted
-    )
 }

@@ -2,34 +2,75 @@
 ghost use Rattle.std.specs.Prelude.{◌≡◌, None};
 
 use crate::ears::Ears;
+use crate::owed::Owed;
+use crate::silent_ones::SilentOnes;
 use crate::socket::Socket;
+use crate::traffic::Traffic;
 use mio::net::TcpStream;
 use outside::{Alarm, Link, Took, Wrote};
 use poa_base::WantMemory;
+use std::net::SocketAddr;
 
 /// A link over a connected socket. It tells no content. A read that finds nothing waits for input, its alarm or a
-/// second, and then says `Quiet`. A peer that takes nothing for half a minute is a fault of the write.
+/// second, and then says `Quiet`. A peer that takes nothing for half a minute is a fault of the write. Where the link
+/// knows who may wait for its end, a peer that keeps one waiting by its silence is a fault of the read.
 #[derive(Drop)]
 pub struct MioLink {
     socket: Socket,
+    silent_ones: Option<SilentOnes>,
+    owed: Owed,
+    traffic: Traffic,
     read_faults: u64,
     write_faults: u64,
     quiets: u64,
 }
 
 impl MioLink {
-    pub(crate) fn new(stream: TcpStream, ears: Ears) -> Self {
+    pub(crate) fn new(
+        stream: TcpStream,
+        peer: SocketAddr,
+        ears: Ears,
+        silent_ones: Option<SilentOnes>,
+    ) -> Self {
         MioLink {
             socket: Socket::new(stream, ears),
+            silent_ones,
+            owed: Owed::none(),
+            traffic: Traffic::none(peer),
             read_faults: 0,
             write_faults: 0,
             quiets: 0,
         }
     }
 
-    /// Closes the connection, and gives the ears back.
-    pub(crate) fn close(self) -> Ears {
-        self.socket.close()
+    /// Whose it is, and how much passed.
+    pub fn traffic(&self) -> Traffic {
+        self.traffic
+    }
+
+    /// Closes the connection, and gives the ears back, and those who said nothing.
+    pub(crate) fn close(self) -> (Ears, Option<SilentOnes>) {
+        let MioLink {
+            socket,
+            silent_ones,
+            ..
+        } = self;
+        (socket.close(), silent_ones)
+    }
+
+    // Whether its peer has nothing to say and nothing to wait for, while another waits.
+    fn is_in_the_way(&mut self) -> bool
+        ensures read_faults { self.new.read_faults ≡ self.old.read_faults }
+        ensures write_faults { self.new.write_faults ≡ self.old.write_faults }
+        ensures quiets { self.new.quiets ≡ self.old.quiets }
+    {
+        if !self.socket.is_silent() || self.owed.is_any() {
+            return false;
+        }
+        match &mut self.silent_ones {
+            Some(silent_ones) => silent_ones.has_speaker(),
+            None => false,
+        }
     }
 }
 
@@ -45,6 +86,10 @@ impl Link for MioLink {
     fn read(&mut self, buf: &mut [u8]) -> Took {
         match self.socket.receive(buf) {
             Took::Quiet => {
+                if self.is_in_the_way() {
+                    self.read_faults = self.read_faults.saturating_add(1);
+                    return Took::Failed;
+                }
                 self.quiets = self.quiets.saturating_add(1);
                 Took::Quiet
             }
@@ -52,13 +97,24 @@ impl Link for MioLink {
                 self.read_faults = self.read_faults.saturating_add(1);
                 Took::Failed
             }
-            took => took,
+            Took::End => Took::End,
+            Took::Got(count) => {
+                let piece = buf.get(..count).unwrap_or(&[]);
+                self.owed.heard(piece);
+                self.traffic.count_read(piece);
+                Took::Got(count)
+            }
         }
     }
 
     fn write(&mut self, piece: &[u8]) -> Wrote {
         match self.socket.send(piece) {
-            Some(count) => Wrote::Wrote(count),
+            Some(count) => {
+                let part = piece.get(..count).unwrap_or(&[]);
+                self.owed.said(part);
+                self.traffic.count_written(part);
+                Wrote::Wrote(count)
+            }
             None => {
                 self.write_faults = self.write_faults.saturating_add(1);
                 Wrote::Failed

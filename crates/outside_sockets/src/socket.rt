@@ -12,7 +12,7 @@ use std::time::Duration;
 // How many seconds a read waits, and a write before it looks again.
 const PATIENCE: u64 = 1;
 
-// For so many times this patience a peer may take nothing.
+// For so many times this patience a peer may take nothing, or say nothing while another waits.
 const SILENT_WAITS: u32 = 30;
 
 // How many pieces of input are thrown away at the end.
@@ -29,6 +29,8 @@ pub(crate) struct Socket {
     is_closing: bool,
     /// The alarm was heard, and no read ended for it.
     is_rung: bool,
+    /// So many waits of reads have heard nothing since anything was read or written.
+    silent_waits: u32,
 }
 
 impl Socket {
@@ -39,11 +41,17 @@ impl Socket {
             is_drained: true,
             is_closing: false,
             is_rung: false,
+            silent_waits: 0,
         }
     }
 
     pub(crate) fn ears(&self) -> &Ears {
         &self.ears
+    }
+
+    /// Whether nothing was read or written for half a minute of waiting.
+    pub(crate) fn is_silent(&self) -> bool {
+        self.silent_waits >= SILENT_WAITS
     }
 
     /// Reads what is there. Where nothing is, it waits for input, the alarm or a second.
@@ -52,8 +60,8 @@ impl Socket {
         ensures { IsWithin result (length buf.old) }
     {
         if self.is_drained {
-            if !self.is_rung {
-                self.wait();
+            if !self.is_rung && self.wait() {
+                self.silent_waits = self.silent_waits.saturating_add(1);
             }
             self.is_rung = false;
             if self.is_drained {
@@ -63,6 +71,7 @@ impl Socket {
         match self.stream.read(buf) {
             Ok(0) => Took::End,
             Ok(count) => {
+                self.silent_waits = 0;
                 self.is_drained = count < buf.len() && !self.is_closing;
                 Took::Got(count)
             }
@@ -95,7 +104,10 @@ impl Socket {
         for _ in 0..u64::MAX {
             match self.stream.write(piece) {
                 Ok(0) => return None,
-                Ok(count) => return Some(count),
+                Ok(count) => {
+                    self.silent_waits = 0;
+                    return Some(count);
+                }
                 Err(error) if error.kind() == ErrorKind::WouldBlock => {
                     if self.wait() {
                         silent = silent.saturating_add(1);

@@ -2,9 +2,14 @@
 //! to standard error, and ends with the status' number.
 #![tactic(auto)]
 
+mod kept_files;
+mod lanes;
 mod ports;
 mod serving;
+mod visit;
+mod watched_door;
 
+use crate::kept_files::KeptFiles;
 use crate::serving::serve;
 use outside::{StandardInput, StandardOutput, SystemFiles};
 use poad_cmd::run_words;
@@ -12,6 +17,7 @@ use poad_files::{Host, Status};
 use std::env;
 use std::io::ErrorKind;
 use std::process::ExitCode;
+use std::rt::{Stdin, Stdout};
 use std::sync::Wait;
 use std::thread::Threads;
 
@@ -37,20 +43,29 @@ fn words(rt: &HostRuntime) -> Result<Vec<String>, Status> {
     all.collect(rt.alloc()).map_err(|_| Status::WantMemory)
 }
 
-// Does what the words say over standard input and output, the files of the system, and its sockets.
+// Does what the words say over standard input and output, the files of the system, and its sockets. `serve` takes its
+// configuration twice.
 fn run<R: Threads + Wait + Copy + Send + Drop + 'static>(
     rt: &HostRuntime,
     threads: &R,
     words: &[String],
 ) -> Status {
     let alloc = rt.alloc();
-    let mut host = Host {
+    let files = SystemFiles::new(alloc, *rt);
+    match words {
+        [first, ..] if first.as_str() == "serve" => {
+            let mut host = host_of(rt, KeptFiles::new(alloc, files));
+            serve(rt, threads, words, &mut host)
+        }
+        _ => run_words(alloc, words, &mut host_of(rt, files)),
+    }
+}
+
+// Standard input and output, and these files.
+fn host_of<F>(rt: &HostRuntime, files: F) -> Host<StandardInput<Stdin>, StandardOutput<Stdout>, F> {
+    Host {
         source: StandardInput::new(rt.stdin()),
         sink: StandardOutput::new(rt.stdout()),
-        files: SystemFiles::new(alloc, *rt),
-    };
-    match words {
-        [first, ..] if first.as_str() == "serve" => serve(rt, threads, words, &mut host),
-        _ => run_words(alloc, words, &mut host),
+        files,
     }
 }

@@ -6,6 +6,8 @@ use outside_sockets::WaitingGate;
 use poa_base::Config;
 use poad_cmd::run_serve;
 use poad_files::{Host, Status, take_config};
+use std::env;
+use std::net::Ipv4Addr;
 use std::sync::{Arc, Wait};
 use std::thread::Threads;
 
@@ -33,7 +35,7 @@ where
         Some(plan) => plan.lanes,
         None => 0,
     };
-    let doors = match ports.doors(rt, lanes) {
+    let doors = match ports.doors(rt, lanes, is_logged(rt)) {
         Ok(doors) => doors,
         Err(status) => return status,
     };
@@ -42,6 +44,11 @@ where
     };
     let mut crew = ThreadCrew::new(alloc, *threads, Vec::new(alloc));
     run_serve(threads, alloc, words, host, doors, &mut crew, &gate).status
+}
+
+// Whether a line is to be written for each connection: the variable POAD_LOG says `connections`.
+fn is_logged(rt: &HostRuntime) -> bool {
+    matches!(env::var(rt, "POAD_LOG"), Ok(value) if value.as_str() == "connections")
 }
 
 // The ports of the plan, opened, and how long its gate takes, in milliseconds.
@@ -93,5 +100,15 @@ fn open(rt: &HostRuntime, plan: Option<Plan<'_>>, config: &Option<Config>) -> Po
         "poad: serving {host} {}, administrators {}, {} lanes, {} workers",
         config.port, config.admin_port, plan.lanes, plan.workers
     );
+    warn_of_any(rt, host);
     ports
+}
+
+// Says where the host that references carry is none that a client could connect to.
+fn warn_of_any(rt: &HostRuntime, host: &str) {
+    if matches!(host.parse::<Ipv4Addr>(), Ok(address) if address.is_unspecified()) {
+        let _ = eprintln!(rt;
+            "poad: references carry the host {host}, by which clients elsewhere don't reach this machine"
+        );
+    }
 }

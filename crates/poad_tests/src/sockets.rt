@@ -24,7 +24,7 @@ fn is_sent<T: Send>(value: T) -> T {
 
 /// A door at an address of this machine.
 fn open_door(rt: HostRuntime) -> Result<(MioDoor, SocketAddr), Fail> {
-    let listener = listen(&rt, "127.0.0.1", 0)?;
+    let listener = listen(&rt, "127.0.0.1", 0, Duration::from_secs(1))?;
     let address = listener.local_addr()?;
     let listener = Arc::new(rt.alloc(), listener)?;
     let door = MioDoor::new(Some(listener), Ears::new(rt.alloc(), &rt)?);
@@ -80,6 +80,43 @@ fn gives_links(rt: HostRuntime, door: &mut MioDoor, address: SocketAddr) -> Resu
 fn a_door_gives_links_over_sockets(rt: HostRuntime) -> Result<(), Fail> {
     let (door, address) = open_door(rt)?;
     assert!(rt; gives_links(rt, &mut is_sent(door), address)?);
+    Ok(())
+}
+
+/// A door at an address of this machine, for those who have said something.
+fn open_speakers_door(rt: HostRuntime) -> io::Result<(MioDoor, SocketAddr)> {
+    let listener = listen(&rt, "127.0.0.1", 0, Duration::from_millis(50))?;
+    let address = listener.local_addr()?;
+    let listener = Arc::new(rt.alloc(), listener)?;
+    let door = MioDoor::of_speakers(rt.alloc(), listener, Ears::new(rt.alloc(), &rt)?)?;
+    Ok((door, address))
+}
+
+/// Whether the next link is of one who says this.
+fn is_next(door: &mut MioDoor, byte: u8) -> Result<bool, Fail> {
+    let mut link = next_link(door)?;
+    let mut buf = [0; 8];
+    let is_said = link.read(&mut buf) == Took::Got(1) && buf[0] == byte;
+    let is_counted = link.traffic().read == 1;
+    door.give_back(link, ENDED);
+    Ok(is_said && is_counted)
+}
+
+/// Whether who says nothing is passed over for one who does, until it says something.
+fn gives_speakers(rt: HostRuntime, door: &mut MioDoor, address: SocketAddr) -> Result<bool, Fail> {
+    let mut first = TcpStream::connect(&rt, address)?;
+    let is_silent = matches!(door.next(), Door::Quiet);
+    let mut second = TcpStream::connect(&rt, address)?;
+    second.write_all(b"b")?;
+    let is_passed_over = is_next(door, b'b')?;
+    first.write_all(b"a")?;
+    Ok(is_silent && is_passed_over && is_next(door, b'a')?)
+}
+
+#[test]
+fn a_door_gives_those_who_have_said_something(rt: HostRuntime) -> Result<(), Fail> {
+    let (mut door, address) = open_speakers_door(rt)?;
+    assert!(rt; gives_speakers(rt, &mut door, address)?);
     Ok(())
 }
 
