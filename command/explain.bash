@@ -32,12 +32,14 @@ number_of() {
 
 # Which port of a configuration couldn't be had.
 explain_ports() {
-    local host port ports
+    local host port ports hosts i
     host=$(sed -n '/^[[:space:]]*\[/q; s/^[[:space:]]*host[[:space:]]*=[[:space:]]*"\([^"]*\)".*/\1/p' "$1")
     host=${host:-127.0.0.1}
     ports=("$(number_of "$1" port 2809)" "$(number_of "$1" admin_port 2810)")
     [ "${ports[0]}" != "${ports[1]}" ] || say "port and admin_port are both ${ports[0]}"
-    for port in "${ports[@]}"; do
+    hosts=("$host" 127.0.0.1)
+    for i in 0 1; do
+        host=${hosts[i]} port=${ports[i]}
         ! (exec 3<>"/dev/tcp/$host/$port") 2>/dev/null || say "port $port of $host is taken; \`ss -ltnp\` tells by whom"
     done
 }

@@ -25,7 +25,7 @@ refuse() {
 
 # The administrators' host and port, where the server said that it listens.
 administrators() {
-    sed -n 's/^poad: serving \([^ ]*\) [0-9]*, administrators \([0-9]*\),.*/\1 \2/p' "$said"
+    sed -n 's/^poad: serving [^ ]* [0-9]*, administrators \([0-9]*\),.*/127.0.0.1 \1/p' "$said"
 }
 
 # Says `shutdown` to the server as soon as it listens.
@@ -40,7 +40,7 @@ shut_down() {
     (exec 3<>"/dev/tcp/$host/$port" && printf 'shutdown\n' >&3 && read -r -t 10 -u 3 _) 2>/dev/null
     # So ends a read whose time is up.
     if [ "$?" -gt 128 ]; then
-        say 'shutdown waits until another administrator leaves'
+        say 'shutdown waits until another administrator leaves, or is silent for half a minute'
     elif [ "$signals" -gt 1 ] && kill -0 "$server" 2>/dev/null; then
         say 'shutdown was said; the server ends when its clients have their last replies, half a minute at most'
     fi
