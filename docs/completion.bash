@@ -3,7 +3,7 @@ _poad() {
     local commands='answer replay load check iors show serve build help --version' options word=${COMP_WORDS[COMP_CWORD]}
     local before=${COMP_WORDS[COMP_CWORD - 1]}
     case ${COMP_WORDS[1]} in
-        serve) options='--lanes --workers --run --journal --help' ;;
+        serve) options='--lanes --workers --run --state --journal --limit --help' ;;
         build) options='--unproved --jobs --help' ;;
         *) options='--help' ;;
     esac
@@ -13,7 +13,7 @@ _poad() {
         mapfile -t COMPREPLY < <(compgen -W "$commands" -- "$word")
     elif [[ $before = --lanes || $before = --workers || $before = --run || $before = --jobs ]]; then
         COMPREPLY=()
-    elif [[ $word = -* && $before != --journal ]]; then
+    elif [[ $word = -* && $before != --journal && $before != --state ]]; then
         mapfile -t COMPREPLY < <(compgen -W "$options" -- "$word")
     else
         compopt -o filenames
