@@ -6,7 +6,7 @@ use std::alloc::Global;
 use std::test::Fail;
 
 // Each status but those of a configuration, with its number and its line.
-const STATUSES: [(Status, u8, &str); 15] = [
+const STATUSES: [(Status, u8, &str); 16] = [
     (Status::BadWords, 2, "bad words"),
     (
         Status::ConfigRefused(ConfFault::NotToml),
