@@ -96,7 +96,7 @@ build_unproved() {
     local work made='' try status=1
     work=$(mktemp -d) || return 1
     touch "$work/begun"
-    say 'builds without proofs, which takes some five minutes'
+    say 'builds without proofs, which takes a minute or two'
     SECONDS=0
     # What it is run on takes a while, so that the program is seen.
     (cd "$top/crates/poad" && TMPDIR=$work exec rt try -- load 200000 7) </dev/null >"$work/said" 2>&1 &
