@@ -59,6 +59,10 @@ pub struct AdapterConf {
     pub preset: Option<u32>,
     /// The rules of its servant manager, of which the first that matches counts.
     pub rules: Items<RuleConf>,
+    /// The tag that its persistent references carry; 0 where they carry none.
+    pub tag: u16,
+    /// Whether it still serves persistent references without a tag.
+    pub old_keys: bool,
 }
 
 /// What an adapter activator does about a missing child.

@@ -18,12 +18,15 @@ pub struct Stamp {
     pub number: u32,
 }
 
-/// An object key: the path of its adapter and the object id, and for a transient one its stamp.
+/// An object key: the path of its adapter and the object id, for a transient one its stamp, and for a
+/// persistent one its tag.
 #[derive(Clone, Drop)]
 pub struct Key {
     pub stamp: Option<Stamp>,
     pub path: Path,
     pub oid: Oid,
+    /// The tag of the template that wrote it; 0 where there is none, and of a transient key.
+    pub tag: u16,
 }
 
 impl TryClone for Key {

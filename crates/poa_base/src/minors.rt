@@ -50,6 +50,9 @@ pub const BAD_ARGUMENTS: u32 = 0xFFFF_F008;
 /// UNKNOWN 9 of this server: a fault servant raised it. Of this minor alone the completion is MAYBE.
 pub const FAULT_SERVANT: u32 = 0xFFFF_F009;
 
+/// OBJECT_NOT_EXIST 10 of this server: the persistent key has another tag than its adapter's template.
+pub const OTHER_TAG: u32 = 0xFFFF_F00A;
+
 /// Whether the operation had ended when an exception of this minor code was raised.
 pub fn completion_of(minor: u32) -> Completion
     ensures { result ≡ told.completion_of minor }

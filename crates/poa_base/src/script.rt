@@ -19,6 +19,15 @@ pub enum ScriptLine {
         operation: Name,
         argument: Option<Datum>,
     },
+    /// As many requests of this connection, with the ids from 1 on.
+    Flood {
+        conn: Name,
+        count: u32,
+        path: Path,
+        oid: Oid,
+        operation: Name,
+        argument: Option<Datum>,
+    },
     /// Bytes that come over this connection.
     Feed {
         conn: Name,
