@@ -71,7 +71,8 @@ module _ (P : Choice → Type 0) (held : (cause : Option Cause) → P (Held caus
   by_walk : (worker : ℕ) (walk : WalkFact) → P (walk_rows f worker walk)
   by_walk worker Dying = refused _ _
   by_walk worker Missing = cond_both (is_transient f.key) _ _ P (λ _. refused _ _) (λ _. by_state f.state _ by_trial)
-  by_walk worker Found = cond_both f.differs _ _ P (λ _. refused _ _) (λ _. by_state f.state _ (by_thread worker))
+  by_walk worker Found = cond_both f.differs _ _ P (λ _. refused _ _) (λ _.
+      cond_both f.other_tag _ _ P (λ _. refused _ _) (λ _. by_state f.state _ (by_thread worker)))
 
   by_key : (worker : ℕ) (key : KeyFact) → P (key_rows f worker key)
   by_key worker Absent = addressing

@@ -13,7 +13,7 @@ use Rattle.poa_base.specs.declared.Policy.{Policy}
 use Rattle.poa_base.specs.declared.Policy.TheVariants.{DefaultServant, ServantManager}
 use Rattle.poa_base.specs.declared.Verdict.{Verdict}
 use Rattle.poa_base.specs.declared.Verdict.TheVariants.{Serve, Preset, Locator, Incarnate, Try, Refuse, Forward, Addressing, Here, Unknown}
-use Rattle.poa_base.specs.declared.minors.TheConstants.{DISCARDED, ADAPTER_DYING, NO_DEFAULT_SERVANT, NO_SERVANT_MANAGER, NO_ADAPTER, BAD_KEY, OTHER_LIFESPAN, NOT_ACTIVE, MANAGER_INACTIVE}
+use Rattle.poa_base.specs.declared.minors.TheConstants.{DISCARDED, ADAPTER_DYING, NO_DEFAULT_SERVANT, NO_SERVANT_MANAGER, NO_ADAPTER, BAD_KEY, OTHER_LIFESPAN, OTHER_TAG, NOT_ACTIVE, MANAGER_INACTIVE}
 use Rattle.poa_choose.specs.declared.facts.Choice.{Choice}
 use Rattle.poa_choose.specs.declared.facts.Choice.TheVariants.{Go, Held}
 use Rattle.poa_choose.specs.declared.facts.Facts.{Facts}
@@ -118,9 +118,13 @@ thread_rows f worker =
     else if awaits_main f worker then Held None
     else object_rows f
 
+-- the adapter is there, with the lifespan that the key says
+abbrev pub tag_rows : Facts → ℕ → Choice
+tag_rows f worker = if f.other_tag then refuse f ObjectNotExist OTHER_TAG else state_rule f f.state (thread_rows f worker)
+
 -- the adapter is there
 abbrev pub found_rows : Facts → ℕ → Choice
-found_rows f worker = if f.differs then refuse f ObjectNotExist OTHER_LIFESPAN else state_rule f f.state (thread_rows f worker)
+found_rows f worker = if f.differs then refuse f ObjectNotExist OTHER_LIFESPAN else tag_rows f worker
 
 -- a child is missing, and its parent's manager is ACTIVE
 abbrev pub trial_rows : Facts → Choice

@@ -24,6 +24,8 @@ pub struct Facts {
     pub entry: Option<Endpoint>,
     /// The lifespan differs, or the number of a transient key's adapter.
     pub differs: bool,
+    /// The key is persistent and has another tag than the adapter's template.
+    pub other_tag: bool,
     pub policies: PolicySet,
     /// A request is in flight in the adapter.
     pub running: bool,

@@ -1,11 +1,11 @@
 //! The rows of an adapter that was found.
 ghost use Rattle.std.specs.Prelude.{◌≡◌};
-ghost use Rattle.poa_choose.specs.Table.{found_rows, thread_rows, object_rows, processing_rows, default_rows, manager_rows, activator_rows, locator_rows, awaits_turn as the_awaits_turn, awaits_main as the_awaits_main, unmade as the_unmade};
+ghost use Rattle.poa_choose.specs.Table.{found_rows, tag_rows, thread_rows, object_rows, processing_rows, default_rows, manager_rows, activator_rows, locator_rows, awaits_turn as the_awaits_turn, awaits_main as the_awaits_main, unmade as the_unmade};
 
 use crate::refusals::{inactive, refuse, serve};
 use crate::{Choice, Facts, Located, MapFact};
 use poa_base::minors::{
-    DISCARDED, NO_DEFAULT_SERVANT, NO_SERVANT_MANAGER, NOT_ACTIVE, OTHER_LIFESPAN,
+    DISCARDED, NO_DEFAULT_SERVANT, NO_SERVANT_MANAGER, NOT_ACTIVE, OTHER_LIFESPAN, OTHER_TAG,
 };
 use poa_base::{Cause, ExcName, ManagerState, Policy, Verdict};
 
@@ -15,6 +15,16 @@ pub fn found(facts: Facts, worker: u32) -> Choice
 {
     if facts.differs {
         return refuse(&facts, ExcName::ObjectNotExist, OTHER_LIFESPAN);
+    }
+    tagged(facts, worker)
+}
+
+/// The adapter is there, with the lifespan that the key says.
+fn tagged(facts: Facts, worker: u32) -> Choice
+    ensures { result ≡ tag_rows facts worker }
+{
+    if facts.other_tag {
+        return refuse(&facts, ExcName::ObjectNotExist, OTHER_TAG);
     }
     match facts.state {
         ManagerState::Holding => Choice::Held {

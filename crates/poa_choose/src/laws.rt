@@ -12,8 +12,10 @@ pub fn locates_run_nothing()
     ensures raises { (facts : Facts) (worker : ℕ) → facts.locate ≡ true → raises (first_row facts worker) ≡ false }
 {}
 
-/// A servant runs only in an adapter that the walk found and whose manager is ACTIVE.
+/// A servant runs only in an adapter that the walk found and whose manager is ACTIVE, and for no persistent key of
+/// another tag.
 pub fn servants_run_where_active()
     ensures active { (facts : Facts) (worker : ℕ) → runs (first_row facts worker) ≡ true → facts.state ≡ Active }
     ensures found { (facts : Facts) (worker : ℕ) → runs (first_row facts worker) ≡ true → facts.walk ≡ Found }
+    ensures own_tag { (facts : Facts) (worker : ℕ) → runs (first_row facts worker) ≡ true → facts.other_tag ≡ false }
 {}
