@@ -5,7 +5,7 @@ use Rattle.std.proofs.lemmas.Grind.{flat_map-append}
 use Rattle.std.specs.Int.{w16, to_be_bytes}
 use Rattle.std.specs.Prelude.{Option, Some, None, IfSome}
 use Rattle.poa_base.specs.declared.Key.{Key}
-use Rattle.object_key.specs.Spelling.{key_mark, stamp_bytes, name_bytes, path_bytes, oid_bytes, key_spelling, IsKey}
+use Rattle.object_key.specs.Spelling.{key_mark, lifespan_bytes, name_bytes, path_bytes, oid_bytes, key_spelling, IsKey}
 use Rattle.object_key.specs.Reading.{names_bytes}
 use Rattle.object_key.specs.Lent.{names_at, name_at, oid_at, LendsKey}
 
@@ -24,15 +24,15 @@ names_bytes-at names i below =
 
 -- what stands before the names
 abbrev before : Key → List ℕ
-before key = (key_mark ++ stamp_bytes key.stamp) ++ (length key.path ∷ [])
+before key = (key_mark ++ lifespan_bytes key.stamp key.tag) ++ (length key.path ∷ [])
 
 spelled_so : (key : Key) → key_spelling key ≡ before key ++ (names_bytes key.path ++ oid_bytes key.oid)
 spelled_so key =
-    sym (append_assoc key_mark (stamp_bytes key.stamp) (path_bytes key.path ++ oid_bytes key.oid))
-    ∙ sym (append_assoc (key_mark ++ stamp_bytes key.stamp) (length key.path ∷ []) (names_bytes key.path ++ oid_bytes key.oid))
+    sym (append_assoc key_mark (lifespan_bytes key.stamp key.tag) (path_bytes key.path ++ oid_bytes key.oid))
+    ∙ sym (append_assoc (key_mark ++ lifespan_bytes key.stamp key.tag) (length key.path ∷ []) (names_bytes key.path ++ oid_bytes key.oid))
 
 before_names : (key : Key) → length (before key) ≡ names_at key
-before_names key = length-append (key_mark ++ stamp_bytes key.stamp) (length key.path ∷ []) ∙ ap (λ n. n + 1) (length-append key_mark (stamp_bytes key.stamp))
+before_names key = length-append (key_mark ++ lifespan_bytes key.stamp key.tag) (length key.path ∷ []) ∙ ap (λ n. n + 1) (length-append key_mark (lifespan_bytes key.stamp key.tag))
 
 name_lies : (key : Key) (bytes : List ℕ) → key_spelling key ≡ bytes → (i : ℕ) → i < length key.path
     → take (length (get_or key.path i [])) (drop (name_at key i) bytes) ≡ get_or key.path i []

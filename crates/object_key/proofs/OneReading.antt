@@ -1,9 +1,10 @@
 -- One reading: two values whose bytes begin one text are one value, and leave the same rest.
-use Rattle.std.proofs.Common.{◌≡◌, ℕ, ◌<◌, ◌^◌, List, [], ◌∷◌, ◌++◌, length, refl, sym, ◌∙◌, ap, ap₂, arith, append_assoc, Option, Some, None}
+use Rattle.std.proofs.Common.{◌≡◌, ℕ, zero, suc, ◌<◌, ◌^◌, List, [], ◌∷◌, ◌++◌, length, refl, sym, ◌∙◌, ap, ap₂, arith, append_assoc, Option, Some, None}
+use Rattle.std.specs.Prelude.{IfSome}
 use Rattle.std.specs.Int.{w16, w32, to_be_bytes, from_be_bytes}
 use Rattle.std.proofs.lemmas.Nat.{from_be_bytes-to_be_bytes_2, from_be_bytes-to_be_bytes_4}
 use Rattle.poa_base.specs.declared.Stamp.{Stamp}
-use Rattle.object_key.specs.Spelling.{stamp_bytes, name_bytes, path_bytes, oid_bytes, IsStamp}
+use Rattle.object_key.specs.Spelling.{tag_bytes, lifespan_bytes, name_bytes, path_bytes, oid_bytes, IsStamp}
 use Rattle.object_key.specs.Reading.{names_bytes}
 
 -- two lists of one length at the front of one list
@@ -28,14 +29,33 @@ one_ulong m n x y fits_m fits_n e =
     let both = same_front (to_be_bytes w32 m) (to_be_bytes w32 n) x y refl e in
     (sym (from_be_bytes-to_be_bytes_4 m fits_m) ∙ ap (from_be_bytes w32) both.0 ∙ from_be_bytes-to_be_bytes_4 n fits_n, both.1)
 
-pub one_stamp : (a b : Option Stamp) (x y : List ℕ) → IsStamp a → IsStamp b → stamp_bytes a ++ x ≡ stamp_bytes b ++ y → (a ≡ b) × (x ≡ y)
-one_stamp None None x y fits_a fits_b e = (refl, cc)
-one_stamp None (Some t) x y fits_a fits_b e = absurd (cc)
-one_stamp (Some s) None x y fits_a fits_b e = absurd (cc)
-one_stamp (Some s) (Some t) x y fits_a fits_b e =
-    let run = one_ulong s.run t.run (to_be_bytes w32 s.number ++ x) (to_be_bytes w32 t.number ++ y) fits_a.0 fits_b.0 (cc) in
-    let number = one_ulong s.number t.number x y fits_a.1 fits_b.1 run.1 in
-    (ap₂ (λ r n. let it : Stamp = record { run = r; number = n } in Some it) run.0 number.0, number.1)
+-- a persistent key is spelled as no transient one
+no_tag : (tag none : ℕ) (x : List ℕ) (t : Stamp) (y : List ℕ) → tag_bytes tag ++ x ≡ lifespan_bytes (Some t) none ++ y → ⊥
+no_tag zero none x t y e = cc
+no_tag (suc tag) none x t y e = cc
+
+-- a persistent key's tag, by the form and what is behind it
+pub one_tag : (m n : ℕ) (x y : List ℕ) → m < 2 ^ 16 → n < 2 ^ 16 → tag_bytes m ++ x ≡ tag_bytes n ++ y → (m ≡ n) × (x ≡ y)
+one_tag zero zero x y fits_m fits_n e = (refl, cc)
+one_tag zero (suc n) x y fits_m fits_n e = absurd (cc)
+one_tag (suc m) zero x y fits_m fits_n e = absurd (cc)
+one_tag (suc m) (suc n) x y fits_m fits_n e = one_ushort (suc m) (suc n) x y fits_m fits_n (cc)
+
+one_stamp : (s t : Stamp) (x y : List ℕ) → IsStamp (Some s) → IsStamp (Some t)
+    → (to_be_bytes w32 s.run ++ to_be_bytes w32 s.number) ++ x ≡ (to_be_bytes w32 t.run ++ to_be_bytes w32 t.number) ++ y → (s ≡ t) × (x ≡ y)
+one_stamp s t x y fits_s fits_t e =
+    let run = one_ulong s.run t.run (to_be_bytes w32 s.number ++ x) (to_be_bytes w32 t.number ++ y) fits_s.0 fits_t.0 (cc) in
+    let number = one_ulong s.number t.number x y fits_s.1 fits_t.1 run.1 in
+    (ap₂ (λ r n. let it : Stamp = record { run = r; number = n } in it) run.0 number.0, number.1)
+
+pub one_lifespan : (s t : Option Stamp) (m n : ℕ) (x y : List ℕ) → IsStamp s → IsStamp t → m < 2 ^ 16 → n < 2 ^ 16 → IfSome s (λ _. m ≡ 0)
+    → IfSome t (λ _. n ≡ 0) → lifespan_bytes s m ++ x ≡ lifespan_bytes t n ++ y → (s ≡ t) × (m ≡ n) × (x ≡ y)
+one_lifespan None None m n x y fits_s fits_t fits_m fits_n untagged_s untagged_t e =
+    let tag = one_tag m n x y fits_m fits_n e in (refl, tag.0, tag.1)
+one_lifespan None (Some t) m n x y fits_s fits_t fits_m fits_n untagged_s untagged_t e = absurd (no_tag m n x t y e)
+one_lifespan (Some s) None m n x y fits_s fits_t fits_m fits_n untagged_s untagged_t e = absurd (no_tag n m y s x (sym e))
+one_lifespan (Some s) (Some t) m n x y fits_s fits_t fits_m fits_n untagged_s untagged_t e =
+    let stamp = one_stamp s t x y fits_s fits_t (cc) in (ap (λ z. Some z) stamp.0, untagged_s ∙ sym untagged_t, stamp.1)
 
 pub one_name : (a b x y : List ℕ) → name_bytes a ++ x ≡ name_bytes b ++ y → (a ≡ b) × (x ≡ y)
 one_name a b x y e = let len : length a ≡ length b = cc in same_front a b x y len (cc)

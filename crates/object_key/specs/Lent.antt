@@ -1,7 +1,7 @@
 -- Where the parts of a key lie: each is the slice of the bytes at the place that the spelling gives it.
 use Rattle.std.specs.Prelude.{◌≡◌, ℕ, ◌+◌, ◌<◌, List, [], length, take, drop, get_or}
 use Rattle.poa_base.specs.declared.Key.{Key}
-use Rattle.object_key.specs.Spelling.{key_mark, stamp_bytes}
+use Rattle.object_key.specs.Spelling.{key_mark, lifespan_bytes}
 use Rattle.object_key.specs.Reading.{AreNames, names_bytes, names_of}
 
 -- the bytes spell so many names, one behind the other, and nothing else
@@ -9,9 +9,9 @@ pub record SpellsNames (count : ℕ) (bytes : List ℕ) : Type 0 where
   pub names : AreNames count (names_of count bytes)
   pub whole : names_bytes (names_of count bytes) ≡ bytes
 
--- the names lie behind the mark, the stamp and the octet that counts them
+-- the names lie behind the mark, the form and lifespan, and the octet that counts them
 abbrev pub names_at : Key → ℕ
-names_at key = length key_mark + length (stamp_bytes key.stamp) + 1
+names_at key = length key_mark + length (lifespan_bytes key.stamp key.tag) + 1
 
 -- a name lies behind the names before it and the octet of its length
 abbrev pub name_at : Key → ℕ → ℕ

@@ -2,6 +2,7 @@
 ghost use Rattle.std.specs.Prelude.{◌≡◌, [], None, IfOk};
 ghost use Rattle.poa_base.specs.Limits.{IsOid};
 
+use crate::key_lifespan::KeyLifespan;
 use crate::path_view::PathView;
 use poa_base::{Key, Oid, Stamp, WantMemory};
 use std::alloc::Global;
@@ -10,7 +11,7 @@ use std::marker::Model;
 /// An object key whose path and object id are lent from the bytes that spell it. Contracts see it as the key.
 #[derive(Drop)]
 pub struct KeyView<'a> {
-    stamp: Option<Stamp>,
+    lifespan: KeyLifespan,
     path: PathView<'a>,
     oid: &'a [u8],
 }
@@ -18,29 +19,35 @@ pub struct KeyView<'a> {
 impl<'a> Model for KeyView<'a> {
     ghost use Rattle.poa_base.specs.declared.Key.{Key};
     ghost use Rattle.poa_base.specs.Limits.{IsOid};
+    ghost use Rattle.object_key.specs.Lifespan.{stamp_in, tag_in};
 
     ghost Value = { Key };
 
-    ghost view = { λ k. record { stamp = k.stamp; path = k.path; oid = k.oid.now } };
+    ghost view = { λ k. record { stamp = stamp_in k.lifespan; path = k.path; oid = k.oid.now; tag = tag_in k.lifespan } };
 
     ghost invariant = { λ k. IsOid k.oid.now };
 }
 
 impl<'a> KeyView<'a> {
     // A key of these parts.
-    pub(crate) fn new(stamp: Option<Stamp>, path: PathView<'a>, oid: &'a [u8]) -> Self
+    pub(crate) fn new(lifespan: KeyLifespan, path: PathView<'a>, oid: &'a [u8]) -> Self
         requires { IsOid oid.now }
-        ensures { result ≡ record { stamp = stamp; path = path.entry; oid = oid.now } }
-    {
-        KeyView { stamp, path, oid }
-    }
-
-    /// A persistent key of the root with an empty object id.
-    pub fn empty() -> KeyView<'static>
-        ensures { result ≡ record { stamp = None; path = []; oid = [] } }
+        ensures { result
+            ≡ record { stamp = stamp_in lifespan; path = path.entry; oid = oid.now; tag = tag_in lifespan } }
     {
         KeyView {
-            stamp: None,
+            lifespan,
+            path,
+            oid,
+        }
+    }
+
+    /// A persistent key of the root without a tag, with an empty object id.
+    pub fn empty() -> KeyView<'static>
+        ensures { result ≡ record { stamp = None; path = []; oid = []; tag = 0 } }
+    {
+        KeyView {
+            lifespan: KeyLifespan::Persistent { tag: 0 },
             path: PathView::root(),
             oid: &[],
         }
@@ -50,7 +57,20 @@ impl<'a> KeyView<'a> {
     pub fn stamp(&self) -> Option<Stamp>
         ensures { result ≡ self.now.stamp }
     {
-        self.stamp
+        match self.lifespan {
+            KeyLifespan::Transient { stamp } => Some(stamp),
+            KeyLifespan::Persistent { .. } => None,
+        }
+    }
+
+    /// The tag; 0 where the key has none.
+    pub fn tag(&self) -> u16
+        ensures { result ≡ self.now.tag }
+    {
+        match self.lifespan {
+            KeyLifespan::Transient { .. } => 0,
+            KeyLifespan::Persistent { tag } => tag,
+        }
     }
 
     /// The path of the adapter.
@@ -75,9 +95,10 @@ impl<'a> KeyView<'a> {
         let path = self.path.to_path(alloc)?;
         let oid = Oid::from_vec(Vec::from_slice(alloc, self.oid)?).ok_or(WantMemory)?;
         Ok(Key {
-            stamp: self.stamp,
+            stamp: self.stamp(),
             path,
             oid,
+            tag: self.tag(),
         })
     }
 }

@@ -1,12 +1,14 @@
 //! From octets to a key that is seen where it lies.
-ghost use Rattle.std.specs.Prelude.{◌≡◌, ◌≢◌, ◌++◌, ℕ, List, Ok, IfOk, IfErr, IfSome, IfNone};
+ghost use Rattle.std.specs.Prelude.{◌≡◌, ◌≢◌, ◌++◌, ◌∷◌, ℕ, List, Ok, IfOk, IfErr, IfSome, IfNone};
 ghost use Rattle.poa_base.specs.declared.Key.{Key};
 ghost use Rattle.poa_base.specs.Limits.{IsOid, IsName};
-ghost use Rattle.object_key.specs.Spelling.{key_mark, stamp_bytes, name_bytes, path_bytes, oid_bytes, key_spelling, IsStamp, ArePathNames, IsKey};
+ghost use Rattle.object_key.specs.Spelling.{key_mark, name_bytes, path_bytes, oid_bytes, key_spelling, ArePathNames, IsKey};
+ghost use Rattle.object_key.specs.Lifespan.{spelled_lifespan, IsLifespan};
 ghost use Rattle.object_key.specs.Reading.{KeyReads, ReadsNone, AreNames, names_bytes, names_of};
 ghost use Rattle.object_key.specs.Lent.{LendsKey};
 
 use crate::fault::BadKey;
+use crate::key_lifespan::KeyLifespan;
 use crate::key_view::KeyView;
 use crate::path_view::PathView;
 use crate::unread::Unread;
@@ -36,13 +38,13 @@ fn view_whole(bytes: &[u8]) -> Option<KeyView<'_>>
 {
     let mut unread = Unread::new(bytes);
     pass_mark(&mut unread)?;
-    let stamp = read_stamp(&mut unread)?;
+    let lifespan = read_lifespan(&mut unread)?;
     let path = view_path(&mut unread)?;
     let oid = view_oid(&mut unread)?;
     if !unread.is_empty() {
         return None;
     }
-    Some(KeyView::new(stamp, path, oid))
+    Some(KeyView::new(lifespan, path, oid))
 }
 
 // The octets before every key.
@@ -50,26 +52,49 @@ fn pass_mark(unread: &mut Unread) -> Option<()>
     ensures some { IfSome result (λ _. unread.old ≡ key_mark ++ unread.new) }
     ensures none { IfNone result ((rest : List ℕ) → unread.old ≢ key_mark ++ rest) }
 {
-    match unread.part(4) {
-        Some([b'P', b'O', b'A', 1]) => Some(()),
+    match unread.part(3) {
+        Some([b'P', b'O', b'A']) => Some(()),
         _ => None,
     }
 }
 
-// The lifespan, and a transient key's stamp.
-fn read_stamp(unread: &mut Unread) -> Option<Option<Stamp>>
-    ensures some { IfSome result (λ stamp. KeyReads stamp_bytes IsStamp stamp unread.old unread.new) }
-    ensures none { IfNone result (ReadsNone stamp_bytes IsStamp unread.old) }
+// The form and the lifespan, with what goes with them.
+fn read_lifespan(unread: &mut Unread) -> Option<KeyLifespan>
+    ensures some { IfSome result (λ lifespan. KeyReads spelled_lifespan IsLifespan lifespan unread.old unread.new) }
+    ensures none { IfNone result (ReadsNone spelled_lifespan IsLifespan unread.old) }
 {
-    match unread.octet()? {
-        0 => {
-            let run = unread.ulong()?;
-            let number = unread.ulong()?;
-            Some(Some(Stamp { run, number }))
-        }
-        1 => Some(None),
+    match unread.part(2) {
+        Some([1, 0]) => read_stamp(unread),
+        Some([1, 1]) => Some(KeyLifespan::Persistent { tag: 0 }),
+        Some([2, 1]) => read_tag(unread),
         _ => None,
     }
+}
+
+// The stamp of a transient key.
+fn read_stamp(unread: &mut Unread) -> Option<KeyLifespan>
+    ensures some { IfSome result
+        (λ lifespan. KeyReads spelled_lifespan IsLifespan lifespan (1 ∷ 0 ∷ unread.old) unread.new) }
+    ensures none { IfNone result (ReadsNone spelled_lifespan IsLifespan (1 ∷ 0 ∷ unread.old)) }
+{
+    let run = unread.ulong()?;
+    let number = unread.ulong()?;
+    Some(KeyLifespan::Transient {
+        stamp: Stamp { run, number },
+    })
+}
+
+// The tag of a persistent key that has one.
+fn read_tag(unread: &mut Unread) -> Option<KeyLifespan>
+    ensures some { IfSome result
+        (λ lifespan. KeyReads spelled_lifespan IsLifespan lifespan (2 ∷ 1 ∷ unread.old) unread.new) }
+    ensures none { IfNone result (ReadsNone spelled_lifespan IsLifespan (2 ∷ 1 ∷ unread.old)) }
+{
+    let tag = unread.ushort()?;
+    if tag == 0 {
+        return None;
+    }
+    Some(KeyLifespan::Persistent { tag })
 }
 
 // The path of the adapter.

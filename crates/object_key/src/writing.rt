@@ -1,41 +1,54 @@
 //! From a key to its octets.
-ghost use Rattle.std.specs.Prelude.{◌≡◌, ◌++◌, IfOk, OnOk};
-ghost use Rattle.object_key.specs.Spelling.{stamp_bytes, name_bytes, path_bytes, oid_bytes, key_spelling, IsStamp, ArePathNames, IsKey};
+ghost use Rattle.std.specs.Prelude.{◌≡◌, ◌<◌, ◌^◌, ◌++◌, IfOk, OnOk};
+ghost use Rattle.object_key.specs.Spelling.{tag_bytes, lifespan_bytes, name_bytes, path_bytes, oid_bytes, key_spelling, IsStamp, TagsPersistent, ArePathNames, IsKey};
 ghost use Rattle.poa_base.specs.Limits.{IsOid, IsName};
 
 use poa_base::{Bytes, Key, Name, Oid, Path, Stamp, WantMemory};
 use std::alloc::Global;
 
-/// The octets that every key begins with: `POA`, and the number of this form.
-const MARK: [u8; 4] = [b'P', b'O', b'A', 1];
+/// The octets that every key begins with.
+const MARK: [u8; 3] = [b'P', b'O', b'A'];
 
-/// The spelling of a key.
+/// The spelling of a key: form 2 where it has a tag, else form 1.
 pub fn write_key(alloc: Global, key: &Key) -> Result<Bytes, WantMemory>
+    requires { TagsPersistent key.now }
     ensures spelling { IfOk result (λ bytes. bytes ≡ key_spelling key.now) }
     // Whatever is written is within the limits, so `read_key` gives it back.
     ensures key { OnOk result (IsKey key.now) }
 {
     let mut out = Vec::from_slice(alloc, &MARK)?;
-    write_stamp(&mut out, key.stamp)?;
+    write_lifespan(&mut out, key.stamp, key.tag)?;
     write_path(&mut out, &key.path)?;
     write_oid(&mut out, &key.oid)?;
     Ok(Bytes::from_vec(out))
 }
 
-/// The lifespan, and a transient key's stamp.
-fn write_stamp(out: &mut Vec<u8>, stamp: Option<Stamp>) -> Result<(), WantMemory>
-    ensures bytes { OnOk result (out.new.items ≡ out.old.items ++ stamp_bytes stamp) }
+/// The form and the lifespan, with a transient key's stamp or a persistent key's tag.
+fn write_lifespan(out: &mut Vec<u8>, stamp: Option<Stamp>, tag: u16) -> Result<(), WantMemory>
+    ensures bytes { OnOk result (out.new.items ≡ out.old.items ++ lifespan_bytes stamp tag) }
     ensures stamp { IsStamp stamp }
+    ensures tag { tag < 2 ^ 16 }
 {
     match stamp {
-        None => out.push(1)?,
+        None => write_tag(out, tag)?,
         Some(stamp) => {
-            out.push(0)?;
+            out.extend_from_slice(&[1, 0])?;
             out.extend_from_slice(&stamp.run.to_be_bytes())?;
             out.extend_from_slice(&stamp.number.to_be_bytes())?;
         }
     }
     Ok(())
+}
+
+/// The form and the lifespan of a persistent key, and its tag where it has one.
+fn write_tag(out: &mut Vec<u8>, tag: u16) -> Result<(), WantMemory>
+    ensures { OnOk result (out.new.items ≡ out.old.items ++ tag_bytes tag) }
+{
+    if tag == 0 {
+        return out.extend_from_slice(&[1, 1]);
+    }
+    out.extend_from_slice(&[2, 1])?;
+    out.extend_from_slice(&tag.to_be_bytes())
 }
 
 /// The count of the names, and each of them.
