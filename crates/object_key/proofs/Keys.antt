@@ -1,14 +1,15 @@
 -- What the bytes of a key say of its parts.
-use Rattle.std.proofs.Common.{◌≡◌, ◌≢◌, ℕ, ◌<◌, ◌^◌, List, [], ◌++◌, length, arith, append-nil, sym, ◌∙◌, ap, Option, Some, None}
+use Rattle.std.proofs.Common.{◌≡◌, ◌≢◌, ℕ, ◌<◌, ◌^◌, List, [], ◌++◌, length, arith, append-nil, refl, sym, ◌∙◌, ap, Option, Some, None}
 use Rattle.std.specs.Prelude.{IfSome, IfNone}
 use Rattle.std.proofs.lemmas.List.{append_cancel_left}
 use Rattle.poa_base.specs.declared.Key.{Key}
 use Rattle.poa_base.specs.declared.Stamp.{Stamp}
 use Rattle.poa_base.specs.Limits.{IsOid}
-use Rattle.object_key.specs.Spelling.{key_mark, lifespan_bytes, path_bytes, oid_bytes, key_spelling, ArePathNames, IsKey}
+use Rattle.object_key.specs.Spelling.{key_mark, lifespan_bytes, path_bytes, oid_bytes, key_spelling, IsStamp, ArePathNames, IsKey}
 use Rattle.object_key.specs.Lifespan.{stamp_in, tag_in, spelled_lifespan, IsLifespan}
 use Rattle.object_key.specs.declared.key_lifespan.KeyLifespan.{KeyLifespan}
-use Rattle.object_key.specs.Reading.{KeyReads}
+use Rattle.object_key.specs.declared.key_lifespan.KeyLifespan.TheVariants.{Transient, Persistent}
+use Rattle.object_key.specs.Reading.{KeyReads, ReadsNone}
 use Rattle.object_key.proofs.OneReading.{one_lifespan, one_path, one_oid}
 
 abbrev key_with : Option Stamp → List (List ℕ) → List ℕ → ℕ → Key
@@ -30,6 +31,19 @@ one_key a b fits_a fits_b e =
     let short_b : length b.oid < 2 ^ 16 = omega (arith, fits_b.oid) in
     let oid = one_oid a.oid b.oid [] [] short_a short_b (append-nil _ ∙ path.1 ∙ sym (append-nil _)) in
     same_key a b lifespan.0 path.0 oid.0 lifespan.1
+
+-- a key's lifespan stands at the front of what is behind its mark
+no_front : (stamp : Option Stamp) (tag : ℕ) (rest text : List ℕ) → IsStamp stamp → tag < 2 ^ 16 → ReadsNone spelled_lifespan IsLifespan text
+    → lifespan_bytes stamp tag ++ rest ≡ text → ⊥
+no_front None tag rest text fits small none is = none (Persistent tag) rest (record { begins = sym is; fits = (tt, small, tt) })
+no_front (Some stamp) tag rest text fits small none is =
+    none (Transient stamp) rest (record { begins = sym is; fits = (fits, omega arith, refl) })
+
+pub no_lifespan : (bytes unmarked : List ℕ) → bytes ≡ key_mark ++ unmarked → ReadsNone spelled_lifespan IsLifespan unmarked → (key : Key) → IsKey key
+    → key_spelling key ≡ bytes → ⊥
+no_lifespan bytes unmarked mark none key fits spelled =
+    no_front key.stamp key.tag (path_bytes key.path ++ oid_bytes key.oid) unmarked fits.stamp fits.tag none
+    (append_cancel_left key_mark _ _ (spelled ∙ mark))
 
 -- what is left of a key behind its mark, lifespan and path is its object id
 pub oid_is_left : (bytes unmarked behind left : List ℕ) (lifespan : KeyLifespan) (path : List (List ℕ)) → bytes ≡ key_mark ++ unmarked

@@ -1,7 +1,10 @@
 -- One reading: two values whose bytes begin one text are one value, and leave the same rest.
-use Rattle.std.proofs.Common.{◌≡◌, ℕ, zero, suc, ◌<◌, ◌^◌, List, [], ◌∷◌, ◌++◌, length, refl, sym, ◌∙◌, ap, ap₂, arith, append_assoc, Option, Some, None}
-use Rattle.std.specs.Prelude.{IfSome}
+use Rattle.std.proofs.Common.{◌≡◌, ℕ, ◌<◌, ◌^◌, List, [], ◌∷◌, ◌++◌, length, refl, sym, ◌∙◌, ap, ap₂, arith, append_assoc, Option, Some, None}
+use Rattle.std.specs.Prelude.{IfSome, Bool, true, false, ◌==◌, get_or}
+use Rattle.std.proofs.Common.{cond}
+use Rattle.std.proofs.lemmas.Bool.{eqb-true}
 use Rattle.std.specs.Int.{w16, w32, to_be_bytes, from_be_bytes}
+use Rattle.std.proofs.lemmas.List.{append_cancel_left}
 use Rattle.std.proofs.lemmas.Nat.{from_be_bytes-to_be_bytes_2, from_be_bytes-to_be_bytes_4}
 use Rattle.poa_base.specs.declared.Stamp.{Stamp}
 use Rattle.object_key.specs.Spelling.{tag_bytes, lifespan_bytes, name_bytes, path_bytes, oid_bytes, IsStamp}
@@ -29,17 +32,28 @@ one_ulong m n x y fits_m fits_n e =
     let both = same_front (to_be_bytes w32 m) (to_be_bytes w32 n) x y refl e in
     (sym (from_be_bytes-to_be_bytes_4 m fits_m) ∙ ap (from_be_bytes w32) both.0 ∙ from_be_bytes-to_be_bytes_4 n fits_n, both.1)
 
+-- the form of a persistent key, and what is behind it
+abbrev tag_form : (tag : ℕ) → Bool → List ℕ
+tag_form tag untagged = cond untagged (1 ∷ 1 ∷ []) (2 ∷ 1 ∷ to_be_bytes w16 tag)
+
 -- a persistent key is spelled as no transient one
+no_form : (tag : ℕ) (untagged : Bool) (x y : List ℕ) → tag_form tag untagged ++ x ≡ 1 ∷ 0 ∷ y → ⊥
+no_form tag true x y e = let second : 1 ≡ 0 = ap (λ l. get_or l 1 0) e in omega (arith, second)
+no_form tag false x y e = let first : 2 ≡ 1 = ap (λ l. get_or l 0 0) e in omega (arith, first)
+
 no_tag : (tag none : ℕ) (x : List ℕ) (t : Stamp) (y : List ℕ) → tag_bytes tag ++ x ≡ lifespan_bytes (Some t) none ++ y → ⊥
-no_tag zero none x t y e = cc
-no_tag (suc tag) none x t y e = cc
+no_tag tag none x t y e = no_form tag (tag == 0) x ((to_be_bytes w32 t.run ++ to_be_bytes w32 t.number) ++ y) e
+
+one_form : (m n : ℕ) (p q : Bool) (x y : List ℕ) → m == 0 ≡ p → n == 0 ≡ q → m < 2 ^ 16 → n < 2 ^ 16 → tag_form m p ++ x ≡ tag_form n q ++ y
+    → (m ≡ n) × (x ≡ y)
+one_form m n true true x y is_m is_n fits_m fits_n e = (omega (arith, eqb-true m 0 is_m, eqb-true n 0 is_n), append_cancel_left (1 ∷ 1 ∷ []) x y e)
+one_form m n true false x y is_m is_n fits_m fits_n e = absurd (let first : 1 ≡ 2 = ap (λ l. get_or l 0 0) e in omega (arith, first))
+one_form m n false true x y is_m is_n fits_m fits_n e = absurd (let first : 2 ≡ 1 = ap (λ l. get_or l 0 0) e in omega (arith, first))
+one_form m n false false x y is_m is_n fits_m fits_n e = one_ushort m n x y fits_m fits_n (append_cancel_left (2 ∷ 1 ∷ []) _ _ e)
 
 -- a persistent key's tag, by the form and what is behind it
 pub one_tag : (m n : ℕ) (x y : List ℕ) → m < 2 ^ 16 → n < 2 ^ 16 → tag_bytes m ++ x ≡ tag_bytes n ++ y → (m ≡ n) × (x ≡ y)
-one_tag zero zero x y fits_m fits_n e = (refl, cc)
-one_tag zero (suc n) x y fits_m fits_n e = absurd (cc)
-one_tag (suc m) zero x y fits_m fits_n e = absurd (cc)
-one_tag (suc m) (suc n) x y fits_m fits_n e = one_ushort (suc m) (suc n) x y fits_m fits_n (cc)
+one_tag m n x y fits_m fits_n e = one_form m n (m == 0) (n == 0) x y refl refl fits_m fits_n e
 
 one_stamp : (s t : Stamp) (x y : List ℕ) → IsStamp (Some s) → IsStamp (Some t)
     → (to_be_bytes w32 s.run ++ to_be_bytes w32 s.number) ++ x ≡ (to_be_bytes w32 t.run ++ to_be_bytes w32 t.number) ++ y → (s ≡ t) × (x ≡ y)

@@ -1,6 +1,7 @@
 //! A key that is seen where it lies.
 ghost use Rattle.std.specs.Prelude.{◌≡◌, [], None, IfOk};
 ghost use Rattle.poa_base.specs.Limits.{IsOid};
+ghost use Rattle.object_key.specs.Lifespan.{stamp_in, tag_in};
 
 use crate::key_lifespan::KeyLifespan;
 use crate::path_view::PathView;

@@ -1,7 +1,11 @@
 use Rattle.std.proofs.lemmas.Bool.{false≢true}
 use Rattle.std.proofs.Common.{sym, ◌∙◌}
-use Rattle.object_key.proofs.Keys.{oid_is_left, nothing_left}
+use Rattle.object_key.proofs.Keys.{no_lifespan, oid_is_left, nothing_left}
 use Rattle.object_key.proofs.viewing.view_whole.Goals as goal
+
+pub returns-in_err-lifespan-clause-bad : goal.returns-in_err-lifespan-clause-bad
+returns-in_err-lifespan-clause-bad c =
+    rw c.from_residual-in_err-lifespan.ensures (no_lifespan _ _ (sym c.new-unread.ensures ∙ c.in_ok-pass_mark.ensures.some) c.in_err-lifespan.ensures.none)
 
 pub returns-in_err-oid-clause-bad : goal.returns-in_err-oid-clause-bad
 returns-in_err-oid-clause-bad c =
