@@ -5,7 +5,7 @@ use Rattle.outside.specs.Told.{IfTold}
 use Rattle.outside.specs.Link.{Shown, Moves}
 
 -- two steps of what is told, and what they come to
-told_both : {A : Type 0} (P Q R : A → A → Type 0) (x y z : Option A) → ((a b c : A) → P a b → Q b c → R a c) → IfTold x y P → IfTold y z Q → IfTold x z R
+pub told_both : {A : Type 0} (P Q R : A → A → Type 0) (x y z : Option A) → ((a b c : A) → P a b → Q b c → R a c) → IfTold x y P → IfTold y z Q → IfTold x z R
 told_both P Q R None None None both p q = tt
 told_both P Q R None None (Some c) both p q = q
 told_both P Q R None (Some b) z both p q = absurd p

@@ -7,4 +7,5 @@ pub mod Keeping
 pub mod Memory
 pub mod Link
 pub mod Accepting
+pub mod Connecting
 pub mod Crew

@@ -1,5 +1,5 @@
-//! The outside world, as the server sees it: a source of bytes, a sink for bytes, named files, links and where
-//! they come in, each with counts of its faults; alarms, which end the wait of one who reads; jobs, the threads that do them
+//! The outside world, as the program sees it: a source of bytes, a sink for bytes, named files, links, where they come in and
+//! where they are opened, each with counts of its faults; alarms, which end the wait of one who reads; jobs, the threads that do them
 //! and the gate between their stages; of sources, sinks and files their forms in memory, for tests; standard input and
 //! output; and the files of the operating system.
 //!
@@ -9,6 +9,7 @@
 
 mod accepting;
 mod alarm;
+mod connecting;
 mod keeping;
 mod linking;
 mod memory_files;
@@ -26,6 +27,7 @@ mod writing;
 
 pub use accepting::{Acceptor, Door};
 pub use alarm::Alarm;
+pub use connecting::{Connector, Opened};
 pub use keeping::{Files, Put, Taken};
 pub use linking::Link;
 pub use memory_files::MemFiles;
