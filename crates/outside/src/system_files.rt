@@ -8,7 +8,8 @@ use std::io::{ErrorKind, Read};
 use std::{fs, io};
 
 /// The files of the operating system, by their paths. They tell no content. A file that can't be read, or
-/// not written whole, counts as a fault.
+/// not written whole, counts as a fault. What is put takes the place of what stands there when it is
+/// whole, and the file that it replaces stays as `NAME.old`.
 #[derive(Drop)]
 pub struct SystemFiles<R: fs::Files + Drop> {
     alloc: Global,
@@ -38,6 +39,39 @@ impl<R: fs::Files + Drop> SystemFiles<R> {
         let mut content = Vec::new(self.alloc);
         file.take(most).read_to_end(&mut content)?;
         Ok(content)
+    }
+
+    // Writes a file: beside the one that it replaces, so that a put that fails leaves that as it was. What is
+    // no regular file, as a pipe, a terminal or a symbolic link, is written where it is.
+    fn write(&self, name: &str, content: &[u8]) -> io::Result<()> {
+        let before = match fs::symlink_metadata(&self.system, name) {
+            Ok(before) if !before.is_file() => return fs::write(&self.system, name, content),
+            Ok(before) => Some(before),
+            Err(error) if error.kind() == ErrorKind::NotFound => None,
+            Err(error) => return Err(error),
+        };
+        let beside = format!(in self.alloc; "{name}.new")?;
+        fs::write(&self.system, beside.as_str(), content)?;
+        if let Some(before) = before {
+            fs::set_permissions(&self.system, beside.as_str(), before.permissions())?;
+            self.keep(name)?;
+        }
+        fs::rename(&self.system, beside.as_str(), name)
+    }
+
+    // Keeps a file as `NAME.old`: by a second name, so that it stands at its own all the while, or by that one
+    // alone where the file system gives no second names.
+    fn keep(&self, name: &str) -> io::Result<()> {
+        let old = format!(in self.alloc; "{name}.old")?;
+        match fs::remove_file(&self.system, old.as_str()) {
+            Err(error) if error.kind() != ErrorKind::NotFound => return Err(error),
+            _ => {}
+        }
+        fs::hard_link(&self.system, name, old.as_str()).or_else(|_| fs::rename(
+            &self.system,
+            name,
+            old.as_str(),
+        ))
     }
 }
 
@@ -75,7 +109,7 @@ impl<R: fs::Files + Drop> Files for SystemFiles<R> {
     }
 
     fn put(&mut self, name: &str, content: &[u8]) -> Put {
-        match fs::write(&self.system, name, content) {
+        match self.write(name, content) {
             Ok(()) => Put::Done,
             Err(_) => {
                 self.put_faults = self.put_faults.saturating_add(1);
