@@ -1,5 +1,5 @@
 -- One reading of the data of a profile: each field of a body stands where the fields before it end.
-use Rattle.std.proofs.Common.{◌≡◌, ◌≢◌, ℕ, Bool, true, List, Option, Some, None, Result, Ok, Err, sym, ◌∙◌, ap, subst, ◌⊎◌, inl, inr}
+use Rattle.std.proofs.Common.{◌≡◌, ◌≢◌, ℕ, Bool, true, false, List, [], Option, Some, None, Result, Ok, Err, sym, ◌∙◌, ap, subst, ◌⊎◌, inl, inr}
 use Rattle.std.specs.Prelude.{IfOk, OnOk, MatchOption, MatchBool, ⊤}
 use Rattle.cdr_core.specs.declared.CdrFault.{CdrFault}
 use Rattle.cdr_core.specs.declared.CdrFault.TheVariants.{WantMemory}
@@ -11,8 +11,11 @@ use Rattle.cdr_core.proofs.OneReading.{one_octet_read, one_ushort_read, one_text
 use Rattle.cdr_core.proofs.Refusals.{none_where_refused}
 use Rattle.poa_base.specs.declared.Profile.{Profile}
 use Rattle.ior_text.specs.declared.body.ProfileBody.{ProfileBody}
+use Rattle.ior_text.specs.declared.parts.ProfileParts.{ProfileParts}
 use Rattle.ior_text.specs.Encapsulated.{inside}
-use Rattle.ior_text.specs.Body.{has_components, Counted, ReadsBody, HasBody}
+use Rattle.ior_text.specs.Components.{ReadsComponents, HasComponents}
+use Rattle.ior_text.specs.Body.{has_components, ReadsBody, HasBody}
+use Rattle.ior_text.specs.Parts.{ReadsParts, HasParts}
 
 -- the version was read up to here
 pub record Versioned (c : Cursor) (major minor : ℕ) (at : Cursor) : Type 0 where
@@ -43,14 +46,14 @@ key_at b c at d behind m n h p r v host port =
     let one = one_ushort_read b.port p d r.behind_port behind (port_at b c at d m n h r v host) port in
     subst (λ (x : Cursor). Reads (octets b.key) x r.behind_key) one.1 r.key
 
--- where the count of components is wanted and isn't there, no body stands
-pub count_at : (b : ProfileBody) (c at d e behind : Cursor) (m n : ℕ) (h : List ℕ) (p : ℕ) (k : List ℕ) (r : ReadsBody b c) → Versioned c m n at
-    → Reads (text h) at d → Reads (ushort p) d e → Reads (octets k) e behind → has_components m n ≡ true → Counted behind
-count_at b c at d e behind m n h p k r v host port key has =
+-- the components of a body stand behind its key
+pub components_at : (b : ProfileBody) (c at d e behind : Cursor) (m n : ℕ) (h : List ℕ) (p : ℕ) (k : List ℕ) (r : ReadsBody b c) → Versioned c m n at
+    → Reads (text h) at d → Reads (ushort p) d e → Reads (octets k) e behind → has_components m n ≡ true → HasComponents behind
+components_at b c at d e behind m n h p k r v host port key has =
     let version = same_version b c at m n r v in
     let one = one_octets_read b.key k e r.behind_key behind (key_at b c at d e m n h p r v host port) key in
     let here : has_components b.major b.minor ≡ true = ap (λ x. has_components x b.minor) version.0 ∙ ap (λ y. has_components m y) version.1.0 ∙ has in
-    subst Counted one.1 (subst (λ (x : Bool). MatchBool x (Counted r.behind_key) ⊤) here r.components)
+    subst HasComponents one.1 (subst (λ (x : Bool). MatchBool x (HasComponents r.behind_key) ⊤) here r.components)
 
 -- where reading was refused, and memory didn't lack, there is no body
 pub no_body : {X E : Type 0} (P : Type 0) (Q : X → Type 0) (fault : CdrFault) (result : Result (Option X) E) → IfOk result (λ x. x ≡ None)
@@ -81,13 +84,13 @@ no_object_key c at d e m n h p fault v host port (inl memory) other b r = other 
 no_object_key c at d e m n h p fault v host port (inr refused) other b r =
     none_where_refused (octets b.key) e r.behind_key fault refused (key_at b c at d e m n h p r v host port)
 
-pub no_count : (c at d e behind : Cursor) (m n : ℕ) (h : List ℕ) (p : ℕ) (k : List ℕ) → Versioned c m n at → Reads (text h) at d → Reads (ushort p) d e
-    → Reads (octets k) e behind → ((has_components m n ≡ true) × (Counted behind → ⊥)) → (b : ProfileBody) → ReadsBody b c → ⊥
-no_count c at d e behind m n h p k v host port key missing b r = missing.1 (count_at b c at d e behind m n h p k r v host port key missing.0)
+pub no_components : (c at d e behind : Cursor) (m n : ℕ) (h : List ℕ) (p : ℕ) (k : List ℕ) → Versioned c m n at → Reads (text h) at d → Reads (ushort p) d e
+    → Reads (octets k) e behind → ((has_components m n ≡ true) × (HasComponents behind → ⊥)) → (b : ProfileBody) → ReadsBody b c → ⊥
+no_components c at d e behind m n h p k v host port key missing b r = missing.1 (components_at b c at d e behind m n h p k r v host port key missing.0)
 
 pub fields_read : (b : ProfileBody) (c at d e behind : Cursor) (h k : List ℕ) → Versioned c b.major b.minor at → Reads (text h) at d → b.host ≡ h
-    → Reads (ushort b.port) d e → Reads (octets k) e behind → b.key ≡ k → MatchBool (has_components b.major b.minor) (Counted behind) ⊤ → ReadsBody b c
-fields_read b c at d e behind h k v host same_host port key same_key count = record {
+    → Reads (ushort b.port) d e → Reads (octets k) e behind → b.key ≡ k → MatchBool (has_components b.major b.minor) (HasComponents behind) ⊤ → ReadsBody b c
+fields_read b c at d e behind h k v host same_host port key same_key components = record {
   behind_major = v.behind_major;
   behind_minor = at;
   behind_host = d;
@@ -98,5 +101,28 @@ fields_read b c at d e behind h k v host same_host port key same_key count = rec
   host = subst (λ (x : List ℕ). Reads (text x) at d) (sym same_host) host;
   port = port;
   key = subst (λ (x : List ℕ). Reads (octets x) e behind) (sym same_key) key;
-  components = count;
+  components = components;
+}
+
+-- components that were read stand there
+some_there : (has : Bool) (components : List Profile) (c : Cursor) → MatchBool has (ReadsComponents components c) (components ≡ [])
+    → MatchBool has (HasComponents c) ⊤
+some_there true components c read = (components, read)
+some_there false components c none = tt
+
+pub parts_read : (parts : ProfileParts) (c at d e behind : Cursor) (h k : List ℕ) → Versioned c parts.body.major parts.body.minor at → Reads (text h) at d
+    → parts.body.host ≡ h → Reads (ushort parts.body.port) d e → Reads (octets k) e behind → parts.body.key ≡ k
+    → MatchBool (has_components parts.body.major parts.body.minor) (ReadsComponents parts.components behind) (parts.components ≡ []) → ReadsParts parts c
+unfolding fields_read
+parts_read parts c at d e behind h k v host same_host port key same_key components = record {
+  fields = fields_read parts.body c at d e behind h k v host same_host port key same_key
+      (some_there (has_components parts.body.major parts.body.minor) parts.components behind components);
+  components = components;
+}
+
+-- what a profile says all of has the body
+pub body_in : (profile : Profile) (parts : ProfileParts) → HasParts profile parts → HasBody profile parts.body
+body_in profile parts has = record {
+  tag = has.tag;
+  encloses = record { start = has.start; opened = has.opened; read = has.read.fields };
 }

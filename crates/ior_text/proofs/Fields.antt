@@ -10,7 +10,8 @@ use Rattle.cdr_core.specs.Fault.{refusal}
 use Rattle.poa_base.specs.declared.Profile.{Profile}
 use Rattle.ior_text.specs.declared.profile.TheConstants.{TAG_INTERNET_IOP}
 use Rattle.ior_text.specs.Encapsulated.{inside}
-use Rattle.ior_text.specs.Body.{has_components, Counted}
+use Rattle.ior_text.specs.Components.{HasComponents}
+use Rattle.ior_text.specs.Body.{has_components}
 use Rattle.ior_text.specs.Key.{TellsKey}
 use Rattle.ior_text.proofs.Bodies.{Versioned, fields_read}
 use Rattle.ior_text.specs.Seen.{ReadsKey}
@@ -31,11 +32,11 @@ versioned c behind at major minor major_is minor_is =
 pub key_read :
     (c at d e behind : Cursor) (major minor : ℕ) (host : List ℕ) (port : ℕ) (key : List ℕ) →
     Versioned c major minor at → Reads (text host) at d → Reads (ushort port) d e → Reads (octets key) e behind →
-    MatchBool (has_components major minor) (Counted behind) ⊤ → ReadsKey key c
-key_read c at d e behind major minor host port key version host_is port_is key_is count = record {
+    MatchBool (has_components major minor) (HasComponents behind) ⊤ → ReadsKey key c
+key_read c at d e behind major minor host port key version host_is port_is key_is components = record {
   body = record { major = major; minor = minor; host = host; port = port; key = key };
   read = fields_read (record { major = major; minor = minor; host = host; port = port; key = key }) c at d e behind host key
-      version host_is refl port_is key_is refl count;
+      version host_is refl port_is key_is refl components;
   is_key = refl;
 }
 

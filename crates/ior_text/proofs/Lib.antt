@@ -12,3 +12,5 @@ pub mod Refused
 pub mod Lying
 pub mod Fields
 pub mod Lists
+pub mod CountedParts
+pub mod PartsBack

@@ -3,7 +3,9 @@ pub mod Breaking
 pub mod Encapsulated
 pub mod Tagged
 pub mod ReferenceFields
+pub mod Components
 pub mod Body
+pub mod Parts
 pub mod Key
 pub mod Encapsulation
 pub mod Reference

@@ -1,14 +1,17 @@
 //! Interoperable object references and their IIOP profiles (CORBA 3.3 Part 2, 7.6.2 and 9.7.2): read from fields, or seen
 //! where they lie in a message; and as text, `IOR:` and the hexadecimal of an encapsulation (7.6.9), read with a fault that
-//! has its place, and written in one form. The reference of an object of this server has its type id, and one profile with
+//! has its place, and written in one form. A profile is read whole, with its components, and written of what was read. The reference of an object of this server has its type id, and one profile with
 //! the server's endpoint and the object's key.
 #![tactic(auto)]
 
 mod body;
+mod components;
 mod encapsulation;
 mod fault;
 mod key;
 mod law;
+mod parts;
+mod parts_writing;
 mod profile;
 mod reading;
 mod reference;
@@ -25,6 +28,8 @@ pub use cdr_core::PartFault;
 pub use fault::IorFault;
 pub use key::{key_of, read_key};
 pub use law::one_answer;
+pub use parts::{ProfileParts, read_parts};
+pub use parts_writing::write_parts;
 pub use poa_base::WantMemory;
 pub use profile::write_profile;
 pub use reading::read_ior;

@@ -1,5 +1,6 @@
 //! The reference of an object.
 ghost use Rattle.std.specs.Prelude.{◌≡◌, IfOk};
+ghost use Rattle.object_key.specs.Spelling.{TagsPersistent};
 ghost use Rattle.ior_text.specs.Reference.{reference_of, reference_text};
 
 use crate::profile::write_profile;
@@ -15,6 +16,7 @@ pub fn write_reference(
     type_id: &[u8],
     key: &Key,
 ) -> Result<Bytes, WantMemory>
+    requires { TagsPersistent key.now }
     ensures { IfOk result (λ text. text ≡ reference_text endpoint.now type_id.now key.now) }
 {
     let reference = reference(alloc, endpoint, type_id, key)?;
@@ -27,6 +29,7 @@ fn reference(
     type_id: &[u8],
     key: &Key,
 ) -> Result<Ior, WantMemory>
+    requires { TagsPersistent key.now }
     ensures { IfOk result (λ ior. ior ≡ reference_of endpoint.now type_id.now key.now) }
 {
     let key = write_key(alloc, key)?;

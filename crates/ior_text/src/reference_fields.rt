@@ -32,7 +32,7 @@ pub fn read_profile(alloc: Global, reader: &mut Reader<'_>) -> Result<Profile, C
 }
 
 // So many profiles. Room is taken for each as it comes, and not for the count.
-fn read_profiles(
+pub(crate) fn read_profiles(
     alloc: Global,
     reader: &mut Reader<'_>,
     count: u32,

@@ -1,10 +1,11 @@
 //! The object key that a profile tells.
-ghost use Rattle.std.specs.Prelude.{◌≡◌, ⊤, true, option_map, IfOk, IfSome, OnOk, OnErr, MatchBool};
+ghost use Rattle.std.specs.Prelude.{option_map, IfOk, IfSome, OnErr};
 ghost use Rattle.ior_text.specs.declared.body.ProfileBody.{ProfileBody};
-ghost use Rattle.ior_text.specs.Body.{has_components, Counted, ReadsBody};
+ghost use Rattle.ior_text.specs.Body.{ReadsBody};
 ghost use Rattle.ior_text.specs.Key.{TellsKey, IsKeyOr};
 ghost use Rattle.ior_text.specs.Seen.{seen_profile, ReadsKey, KeyLies};
 
+use crate::components::pass_components;
 use crate::seen_encapsulation::enter;
 use crate::seen_profile::ProfileView;
 use cdr_core::{PartFault, View};
@@ -38,17 +39,6 @@ fn view_fields<'a>(view: &mut View<'a>) -> Result<&'a [u8], PartFault>
     view.text()?;
     view.ushort()?;
     let key = view.octets()?;
-    pass_count(view, major, minor)?;
+    pass_components(view, major, minor)?;
     Ok(key)
-}
-
-// The count of the components, in the versions that have them.
-fn pass_count(view: &mut View<'_>, major: u8, minor: u8) -> Result<(), PartFault>
-    ensures count { OnOk result (MatchBool (has_components major minor) (Counted view.old) ⊤) }
-    ensures bad { OnErr result ((has_components major minor ≡ true) × (Counted view.old → ⊥)) }
-{
-    if major > 1 || (major == 1 && minor >= 1) {
-        view.ulong()?;
-    }
-    Ok(())
 }

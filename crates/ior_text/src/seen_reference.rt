@@ -24,7 +24,7 @@ pub fn view_reference<'a>(
 }
 
 // Of so many profiles the one at an index.
-fn view_profiles<'a>(
+pub(crate) fn view_profiles<'a>(
     view: &mut View<'a>,
     count: u32,
     index: u32,

@@ -36,7 +36,7 @@ fn write_encapsulation(alloc: Global, ior: &Ior) -> Result<Vec<u8>, WantMemory>
 }
 
 /// The count of the profiles, and each of them.
-fn write_profiles(writer: &mut Writer, profiles: &[Profile]) -> Result<(), WantMemory>
+pub(crate) fn write_profiles(writer: &mut Writer, profiles: &[Profile]) -> Result<(), WantMemory>
     ensures written { OnOk result (writer.new ≡ with_profiles profiles.now (with_field (ulong (length profiles.now)) writer.old)) }
     ensures count { OnOk result (length profiles.now < 2 ^ 32) }
     ensures profiles { OnOk result (All IsProfile profiles.now) }
@@ -53,7 +53,7 @@ fn write_profiles(writer: &mut Writer, profiles: &[Profile]) -> Result<(), WantM
 }
 
 /// A string, where CDR can carry it.
-fn write_text(writer: &mut Writer, bytes: &[u8]) -> Result<(), WantMemory>
+pub(crate) fn write_text(writer: &mut Writer, bytes: &[u8]) -> Result<(), WantMemory>
     ensures written { OnOk result (writer.new ≡ with_field (text bytes.now) writer.old) }
     ensures fits { OnOk result (length bytes.now + 1 < 2 ^ 32) }
     ensures bytes { IsBytes bytes.now }
@@ -62,7 +62,7 @@ fn write_text(writer: &mut Writer, bytes: &[u8]) -> Result<(), WantMemory>
 }
 
 /// A sequence of octets, where CDR can carry it.
-fn write_octets(writer: &mut Writer, bytes: &[u8]) -> Result<(), WantMemory>
+pub(crate) fn write_octets(writer: &mut Writer, bytes: &[u8]) -> Result<(), WantMemory>
     ensures written { OnOk result (writer.new ≡ with_field (octets bytes.now) writer.old) }
     ensures fits { OnOk result (length bytes.now < 2 ^ 32) }
     ensures bytes { IsBytes bytes.now }

@@ -1,6 +1,6 @@
 use Rattle.std.proofs.lemmas.Result.{err_from_is_err_and}
-use Rattle.ior_text.proofs.Bodies.{Versioned, no_host, no_port, no_object_key, no_count, fields_read}
-use Rattle.ior_text.proofs.body.read_fields.Goals as goal
+use Rattle.ior_text.proofs.Bodies.{Versioned, no_host, no_port, no_object_key, no_components, parts_read}
+use Rattle.ior_text.proofs.parts.read_fields.Goals as goal
 
 pub returns-in_err-text-clause-bad : goal.returns-in_err-text-clause-bad
 returns-in_err-text-clause-bad c =
@@ -23,17 +23,18 @@ returns-in_err-octets-clause-bad c =
     let passed = err_from_is_err_and c.from_residual-in_err-octets.result c.from_residual-in_err-octets.ensures.1 in
     rw (passed.1, passed.2) (no_object_key _ _ _ _ _ _ _ _ _ version c.in_ok-text.ensures.ok c.in_ok-port.ensures.ok c.in_err-octets.ensures.refused)
 
-pub returns-in_err-read_count-clause-bad : goal.returns-in_err-read_count-clause-bad
-returns-in_err-read_count-clause-bad c =
+pub returns-in_err-components-clause-bad : goal.returns-in_err-components-clause-bad
+returns-in_err-components-clause-bad c =
     let version : Versioned c.args.reader.now c.in_ok-major.major c.in_ok-minor.minor c.octet-2.new.self =
     record { behind_major = c.octet.new.self; major_read = c.in_ok-major.ensures.ok; minor_read = c.in_ok-minor.ensures.ok } in
-    let passed = err_from_is_err_and c.from_residual-in_err-read_count.result c.from_residual-in_err-read_count.ensures.1 in
+    let passed = err_from_is_err_and c.from_residual-in_err-components.result c.from_residual-in_err-components.ensures.1 in
     rw (passed.1, passed.2)
-    (λ _. no_count _ _ _ _ _ _ _ _ _ _ version c.in_ok-text.ensures.ok c.in_ok-port.ensures.ok c.in_ok-octets.ensures.ok c.in_err-read_count.ensures.bad)
+    (λ other. no_components _ _ _ _ _ _ _ _ _ _ version c.in_ok-text.ensures.ok c.in_ok-port.ensures.ok c.in_ok-octets.ensures.ok
+    (c.in_err-components.ensures.bad other))
 
-pub returns-clause-body : goal.returns-clause-body
-returns-clause-body c =
+pub returns-clause-parts : goal.returns-clause-parts
+returns-clause-parts c =
     let version : Versioned c.args.reader.now c.in_ok-major.major c.in_ok-minor.minor c.octet-2.new.self =
     record { behind_major = c.octet.new.self; major_read = c.in_ok-major.ensures.ok; minor_read = c.in_ok-minor.ensures.ok } in
-    fields_read _ _ _ _ _ _ _ _ version c.in_ok-text.ensures.ok c.from_vec-host.ensures c.in_ok-port.ensures.ok c.in_ok-octets.ensures.ok c.from_vec-key.ensures
-    c.in_ok-read_count.ensures.count
+    parts_read _ _ _ _ _ _ _ _ version c.in_ok-text.ensures.ok c.from_vec-host.ensures c.in_ok-port.ensures.ok c.in_ok-octets.ensures.ok c.from_vec-key.ensures
+    c.in_ok-components.ensures.components
