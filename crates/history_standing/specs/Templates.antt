@@ -1,5 +1,5 @@
 -- What the configuration says of an adapter, a manager and a servant.
-use Rattle.std.specs.Prelude.{ℕ, suc, Bool, true, false, ◌&&◌, if◌then◌else◌, List, [], ◌∷◌, Option, Some, None, option_map, option_and_then, unwrap_or, find, position, slice_get, codes}
+use Rattle.std.specs.Prelude.{ℕ, suc, Bool, true, false, ◌&&◌, not, ◌==◌, if◌then◌else◌, List, [], ◌∷◌, Option, Some, None, option_map, option_and_then, unwrap_or, find, position, slice_get, codes}
 use Rattle.poa_base.specs.declared.Config.{Config}
 use Rattle.poa_base.specs.declared.AdapterConf.{AdapterConf}
 use Rattle.poa_base.specs.declared.RuleConf.{RuleConf}
@@ -29,7 +29,7 @@ entry_of c p = find (λ a. same_path a.path p) c.adapters
 -- the root's template; only its adapter activator is configured
 abbrev pub root_template : Option Children → AdapterConf
 root_template children =
-    record { path = []; policies = root_policies; manager = 0; boot = true; children = children; preset = None; rules = [] }
+    record { path = []; policies = root_policies; manager = 0; boot = true; children = children; preset = None; rules = []; tag = 0; old_keys = true }
 
 -- from which an adapter of this path is created
 abbrev pub template : Config → List (List ℕ) → Option AdapterConf
@@ -48,6 +48,14 @@ manager_at c p = (template_or_root c p).manager
 
 abbrev pub rules_at : Config → List (List ℕ) → List RuleConf
 rules_at c p = (template_or_root c p).rules
+
+-- the tag that persistent references of the path carry; 0 where they carry none
+abbrev pub tag_at : Config → List (List ℕ) → ℕ
+tag_at c p = (template_or_root c p).tag
+
+-- a persistent key's tag is another than the template's, and the key is no old one, without a tag, that the template still serves
+abbrev pub is_other_tag : AdapterConf → ℕ → Bool
+is_other_tag a tag = not (tag == a.tag) && not ((tag == 0) && a.old_keys)
 
 abbrev pub retains : PolicySet → Bool
 retains p = is_retain p.retention
