@@ -2,7 +2,7 @@
 use Rattle.std.specs.Prelude.{◌≡◌, ℕ, Bool, true, false, not, List, Option, Some, None, ◌⊎◌, refl}
 use Rattle.std.proofs.Common.{inl, inr, sym, ap, ◌∙◌}
 use Rattle.std.proofs.lemmas.Bool.{cond_both, true≢false}
-use Rattle.poa_base.specs.declared.minors.TheConstants.{DISCARDED, ADAPTER_DYING, NO_DEFAULT_SERVANT, NO_SERVANT_MANAGER, NO_ADAPTER, BAD_KEY, OTHER_LIFESPAN, NOT_ACTIVE, MANAGER_INACTIVE}
+use Rattle.poa_base.specs.declared.minors.TheConstants.{DISCARDED, ADAPTER_DYING, NO_DEFAULT_SERVANT, NO_SERVANT_MANAGER, NO_ADAPTER, BAD_KEY, OTHER_LIFESPAN, OTHER_TAG, NOT_ACTIVE, MANAGER_INACTIVE}
 use Rattle.poa_base.specs.Policies.{is_retain, is_servant_manager}
 use Rattle.poa_base.specs.declared.Endpoint.{Endpoint}
 use Rattle.poa_base.specs.declared.ExcName.{ExcName}
@@ -160,7 +160,8 @@ module _ (f : Facts) (v : Verdict) where
         (λ _. through_state f.state (trial_rows f) no_trial)
     by_walk worker Found at =
         cond_both f.differs _ _ (λ c. c ≡ Go v → RunsWhere worker) (λ _. refused ObjectNotExist OTHER_LIFESPAN)
-        (λ _. through_state f.state (thread_rows f worker) (by_thread worker at))
+        (λ _. cond_both f.other_tag _ _ (λ c. c ≡ Go v → RunsWhere worker) (λ _. refused ObjectNotExist OTHER_TAG)
+        (λ _. through_state f.state (thread_rows f worker) (by_thread worker at)))
 
     by_key : (worker : ℕ) (key : KeyFact) → key_rows f worker key ≡ Go v → RunsWhere worker
     by_key worker Absent = never Addressing refl

@@ -2,7 +2,7 @@
 use Rattle.std.specs.Prelude.{◌≡◌, ℕ, Bool, true, false, not, List, Option, Some, None, refl}
 use Rattle.std.proofs.Common.{sym, ◌∙◌}
 use Rattle.std.proofs.lemmas.Bool.{cond_both, true≢false}
-use Rattle.poa_base.specs.declared.minors.TheConstants.{DISCARDED, ADAPTER_DYING, NO_DEFAULT_SERVANT, NO_SERVANT_MANAGER, NO_ADAPTER, BAD_KEY, OTHER_LIFESPAN, NOT_ACTIVE}
+use Rattle.poa_base.specs.declared.minors.TheConstants.{DISCARDED, ADAPTER_DYING, NO_DEFAULT_SERVANT, NO_SERVANT_MANAGER, NO_ADAPTER, BAD_KEY, OTHER_LIFESPAN, OTHER_TAG, NOT_ACTIVE}
 use Rattle.poa_base.specs.Policies.{is_retain}
 use Rattle.poa_base.specs.declared.Endpoint.{Endpoint}
 use Rattle.poa_base.specs.declared.SysExc.{SysExc}
@@ -116,7 +116,8 @@ module _ (P : Choice → Bool) (alone : AsksAlone P) (f : Facts) where
 
   by_found : (worker : ℕ) → P (found_rows f worker) ≡ true → (f.slot ≡ Free) × AsksServant
   by_found worker = cond_both f.differs _ _ (λ c. P c ≡ true → (f.slot ≡ Free) × AsksServant) (λ _. never (refused ObjectNotExist OTHER_LIFESPAN))
-      (λ _. through_state f.state (thread_rows f worker) (by_thread worker))
+      (λ _. cond_both f.other_tag _ _ (λ c. P c ≡ true → (f.slot ≡ Free) × AsksServant) (λ _. never (refused ObjectNotExist OTHER_TAG))
+      (λ _. through_state f.state (thread_rows f worker) (by_thread worker)))
 
   -- the adapter activator is asked for a child that isn't tried yet
   by_trial : P (trial_rows f) ≡ true → (f.trial ≡ false) × (P (Go Try) ≡ true)

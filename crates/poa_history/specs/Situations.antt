@@ -15,7 +15,7 @@ use Rattle.poa_choose.specs.declared.MapFact.{MapFact}
 use Rattle.poa_choose.specs.declared.MapFact.TheVariants.{Active, Busy, Free}
 use Rattle.history_standing.specs.declared.activation.Activation.{Activation}
 use Rattle.history_standing.specs.Searches.{count_below}
-use Rattle.history_standing.specs.Templates.{template_or_root, policies_at, manager_at, rules_at, lasts}
+use Rattle.history_standing.specs.Templates.{template_or_root, policies_at, manager_at, rules_at, lasts, is_other_tag}
 use Rattle.history_standing.specs.Arrivals.{arrivals, call_of, is_message, is_locate, target_of}
 use Rattle.history_standing.specs.Stages.{is_unadmitted}
 use Rattle.history_standing.specs.Standings.{Standing, is_begun, is_active, is_of, is_running, is_tried}
@@ -63,6 +63,14 @@ differs c key k =
       | Some stamp ↦ lasts (policies_at c key.path) || not (stamp.number == k)
     ]
 
+-- the key is persistent and has another tag than the template of its path
+abbrev pub other_tag : Config → Key → Bool
+other_tag c key =
+    elim key.stamp [
+      | None ↦ is_other_tag (template_or_root c key.path) key.tag
+      | Some stamp ↦ false
+    ]
+
 -- the activation of the id that is active, or the one that is on its way in or out
 abbrev pub slot_of : Config → List Activation → ℕ → List ℕ → MapFact
 slot_of c activations k oid =
@@ -93,6 +101,7 @@ facts_met c run past s locate crowded fact key found =
       tries = is_some (template_or_root c (place_met found key.path)).children;
       entry = forward_of c past key.path;
       differs = differs c key (adapter_met found);
+      other_tag = other_tag c key;
       policies = policies_at c key.path;
       running = is_running s.flights (adapter_met found);
       slot = slot_of c s.activations (adapter_met found) key.oid;
@@ -106,7 +115,7 @@ facts_met c run past s locate crowded fact key found =
 
 -- where there is no key the table asks for none of what a key would tell
 abbrev pub no_key : Key
-no_key = record { stamp = None; path = []; oid = [] }
+no_key = record { stamp = None; path = []; oid = []; tag = 0 }
 
 abbrev pub key_or_none : Option Key → Key
 key_or_none None = no_key
