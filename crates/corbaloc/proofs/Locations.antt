@@ -8,13 +8,13 @@ use Rattle.ior_text.specs.declared.body.ProfileBody.{ProfileBody}
 use Rattle.ior_text.specs.Body.{HasBody}
 use Rattle.ior_text.specs.Key.{HasKey}
 use Rattle.ior_text.proofs.Keys.{one_key}
+use Rattle.ior_text.proofs.OneBody.{one_body}
 use Rattle.corbaloc.specs.declared.address.Address.{Address}
 use Rattle.corbaloc.specs.declared.location.Location.{Location}
 use Rattle.corbaloc.specs.AddressText.{is_address}
 use Rattle.corbaloc.specs.Profile.{body_of}
 use Rattle.corbaloc.specs.Text.{location_text}
 use Rattle.corbaloc.specs.Reference.{IsAt, AreAt, IsLocated, HasText}
-use Rattle.corbaloc.proofs.Profiles.{one_body}
 
 -- a profile without a body has no address
 pub none_at :

@@ -1,4 +1,4 @@
--- The profile of an address, read back; and one reading of a profile.
+-- The profile of an address, read back.
 use Rattle.std.proofs.Common.{◌≡◌, ℕ, ◌+◌, ◌<◌, ◌^◌, Bool, true, false, List, [], ◌∷◌, ◌++◌, length, refl, sym, ◌∙◌, ap, subst, arith, append_assoc, append-nil, cond}
 use Rattle.std.specs.Prelude.{MatchBool, ⊤}
 use Rattle.std.proofs.lemmas.List.{append_cancel_left}
@@ -7,43 +7,14 @@ use Rattle.cdr_core.specs.Spelling.{written}
 use Rattle.cdr_core.specs.Cursor.{Cursor, Reads}
 use Rattle.cdr_core.specs.Draft.{Draft, empty_draft, with_field}
 use Rattle.cdr_core.specs.Fields.{with_fields}
-use Rattle.cdr_core.proofs.OneReading.{one_ushort_read, one_text_read, one_octets_read}
 use Rattle.poa_base.specs.declared.Profile.{Profile}
 use Rattle.ior_text.specs.declared.body.ProfileBody.{ProfileBody}
 use Rattle.ior_text.specs.Encapsulated.{inside}
-use Rattle.ior_text.specs.Body.{has_components, Counted, ReadsBody, HasBody}
-use Rattle.ior_text.proofs.Bodies.{Versioned, same_version, host_at, port_at, key_at}
+use Rattle.ior_text.specs.Components.{HasComponents}
+use Rattle.ior_text.specs.Body.{has_components, ReadsBody, HasBody}
 use Rattle.ior_text.proofs.ReadingBack.{Stands, read_back}
 use Rattle.corbaloc.specs.declared.address.Address.{Address}
 use Rattle.corbaloc.specs.Profile.{body_of, component_fields, profile_of}
-
-abbrev body_with : ℕ → ℕ → List ℕ → ℕ → List ℕ → ProfileBody
-body_with major minor host port key = record { major = major; minor = minor; host = host; port = port; key = key }
-
--- one body stands at a cursor
-one_body_read : (a b : ProfileBody) (c : Cursor) → ReadsBody a c → ReadsBody b c → a ≡ b
-one_body_read a b c r s =
-    let v : Versioned c b.major b.minor s.behind_minor =
-    record { behind_major = s.behind_major; major_read = s.major; minor_read = s.minor } in
-    let version = same_version a c s.behind_minor b.major b.minor r v in
-    let host = one_text_read a.host b.host s.behind_minor r.behind_host s.behind_host (host_at a c s.behind_minor b.major b.minor r v) s.host in
-    let port =
-    one_ushort_read a.port b.port s.behind_host r.behind_port s.behind_port
-    (port_at a c s.behind_minor s.behind_host b.major b.minor b.host r v s.host) s.port in
-    let key =
-    one_octets_read a.key b.key s.behind_port r.behind_key s.behind_key
-    (key_at a c s.behind_minor s.behind_host s.behind_port b.major b.minor b.host b.port r v s.host s.port) s.key in
-    ap (λ x. body_with x a.minor a.host a.port a.key) version.0
-    ∙ ap (λ x. body_with b.major x a.host a.port a.key) version.1.0
-    ∙ ap (λ (x : List ℕ). body_with b.major b.minor x a.port a.key) host.0
-    ∙ ap (λ x. body_with b.major b.minor b.host x a.key) port.0
-    ∙ ap (λ (x : List ℕ). body_with b.major b.minor b.host b.port x) key.0
-
--- a profile has one body
-pub one_body : (profile : Profile) (a b : ProfileBody) → HasBody profile a → HasBody profile b → a ≡ b
-one_body profile a b r s =
-    let start : r.encloses.start ≡ s.encloses.start = cc (r.encloses.opened, s.encloses.opened) in
-    one_body_read a b s.encloses.start (subst (λ (x : Cursor). ReadsBody a x) start r.encloses.read) s.encloses.read
 
 -- fields are written behind what stood there
 fields_grow : (fields : List Field) (d : Draft) → (more : List ℕ) × ((with_fields fields d).bytes ≡ d.bytes ++ more)
@@ -81,11 +52,11 @@ first_read f fs d c fits ahead =
     }
 
 no_components :
-    (d : Draft) (c : Cursor) (counted : Bool) → Ahead (cond counted (ulong 0 ∷ []) []) d c → MatchBool counted (Counted c) ⊤
+    (d : Draft) (c : Cursor) (counted : Bool) → Ahead (cond counted (ulong 0 ∷ []) []) d c → MatchBool counted (HasComponents c) ⊤
 no_components d c false ahead = tt
 no_components d c true ahead =
     let count = first_read (ulong 0) [] d c (omega arith) ahead in
-    record { number = 0; after = count.after; count = count.read }
+    ([], record { counted = count.after; after = count.after; count = count.read; each = refl })
 
 -- the profile that is written of an address has its version, host, port and key
 pub profile_back :

@@ -6,6 +6,7 @@ use Rattle.cdr_core.proofs.OneReading.{one_ulong_read, one_text_read}
 use Rattle.poa_base.specs.declared.Ior.{Ior}
 use Rattle.poa_base.specs.declared.Profile.{Profile}
 use Rattle.ior_text.specs.ReferenceFields.{ReadsIor}
+use Rattle.ior_text.specs.Components.{HasComponents}
 use Rattle.ior_text.specs.Tagged.{ReadsProfile, ReadsProfiles}
 use Rattle.ior_text.proofs.OneReading.{one_profile}
 use Rattle.giop_msg.proofs.Deciding.{Decided, decided_as, decided_then, Stands, StandsThen}
@@ -49,10 +50,32 @@ profiles_decided (suc n) c =
     (decided_then Profile ReadsProfile (λ (p : Profile) (a : Cursor). HasProfiles n a) c (λ p q a b r s. one_profile p q c a b r s)
     (λ p a. profiles_decided n a) (profile_decided c))
 
--- a reference: a type id, a count and the profiles
+-- a count and so many profiles
 abbrev CountThen : Cursor → Type 0
 CountThen c = StandsThen ℕ (λ (n : ℕ). Reads (ulong n)) HasProfiles c
 
+count_then : (c : Cursor) → Decided (CountThen c)
+count_then c = decided_then ℕ (λ (n : ℕ). Reads (ulong n)) HasProfiles c (λ m n a b p q. one_ulong_read m n c a b p q) profiles_decided (ulong_decided c)
+
+-- components, which have the fields of profiles
+components_there : (c : Cursor) → CountThen c → HasComponents c
+components_there c s = (
+  s.3.0,
+  record {
+    counted = s.1;
+    after = s.3.1;
+    count = subst (λ (n : ℕ). Reads (ulong n) c s.1) (sym s.3.3) s.2;
+    each = s.3.2;
+  },
+)
+
+components_back : (c : Cursor) → HasComponents c → CountThen c
+components_back c has = (length has.0, has.1.counted, has.1.count, (has.0, has.1.after, has.1.each, refl))
+
+pub components_decided : (c : Cursor) → Decided (HasComponents c)
+components_decided c = decided_as (CountThen c) (HasComponents c) (components_there c) (components_back c) (count_then c)
+
+-- a reference: a type id, a count and the profiles
 abbrev NameThen : Cursor → Type 0
 NameThen c = StandsThen (List ℕ) (λ (xs : List ℕ). Reads (text xs)) (λ (xs : List ℕ) (a : Cursor). CountThen a) c
 
@@ -71,9 +94,6 @@ ior_there c s = (
 
 ior_back : (c : Cursor) → Stands Ior ReadsIor c → NameThen c
 ior_back c s = (s.0.type_id, s.2.named, s.2.type_id, (length s.0.profiles, s.2.counted, s.2.count, (s.0.profiles, s.1, s.2.profiles, refl)))
-
-count_then : (c : Cursor) → Decided (CountThen c)
-count_then c = decided_then ℕ (λ (n : ℕ). Reads (ulong n)) HasProfiles c (λ m n a b p q. one_ulong_read m n c a b p q) profiles_decided (ulong_decided c)
 
 pub ior_decided : (c : Cursor) → Decided (Stands Ior ReadsIor c)
 ior_decided c =

@@ -8,20 +8,22 @@ use Rattle.poa_base.specs.declared.Ior.{Ior}
 use Rattle.poa_base.specs.declared.Profile.{Profile}
 use Rattle.ior_text.specs.declared.body.ProfileBody.{ProfileBody}
 use Rattle.ior_text.specs.declared.profile.TheConstants.{TAG_INTERNET_IOP}
-use Rattle.ior_text.specs.Body.{has_components, Counted, ReadsBody}
+use Rattle.ior_text.specs.Components.{HasComponents}
+use Rattle.ior_text.specs.Body.{has_components, ReadsBody}
 use Rattle.ior_text.specs.Encapsulated.{inside}
 use Rattle.ior_text.specs.Key.{TellsKey, HasKey, IsKeyOr}
 use Rattle.ior_text.proofs.Keys.{found_at}
 use Rattle.giop_msg.proofs.Deciding.{Decided, decided_as, decided_then, is_decided, Stands, StandsThen}
-use Rattle.giop_msg.proofs.Numbers.{octet_decided, ushort_decided, ulong_decided}
+use Rattle.giop_msg.proofs.Numbers.{octet_decided, ushort_decided}
 use Rattle.giop_msg.proofs.Strings.{octets_decided, text_decided}
+use Rattle.giop_msg.proofs.Profiles.{components_decided}
 
 -- the fields of a profile's data, from the last one on
-abbrev CountedAs : ℕ → ℕ → Cursor → Type 0
-CountedAs major minor c = MatchBool (has_components major minor) (Counted c) ⊤
+abbrev ComponentsAs : ℕ → ℕ → Cursor → Type 0
+ComponentsAs major minor c = MatchBool (has_components major minor) (HasComponents c) ⊤
 
 abbrev KeyThen : ℕ → ℕ → Cursor → Type 0
-KeyThen major minor c = StandsThen (List ℕ) (λ (xs : List ℕ). Reads (octets xs)) (λ (xs : List ℕ) (a : Cursor). CountedAs major minor a) c
+KeyThen major minor c = StandsThen (List ℕ) (λ (xs : List ℕ). Reads (octets xs)) (λ (xs : List ℕ) (a : Cursor). ComponentsAs major minor a) c
 
 abbrev PortThen : ℕ → ℕ → Cursor → Type 0
 PortThen major minor c = StandsThen ℕ (λ (n : ℕ). Reads (ushort n)) (λ (n : ℕ) (a : Cursor). KeyThen major minor a) c
@@ -35,16 +37,14 @@ MinorThen major c = StandsThen ℕ (λ (n : ℕ). Reads (octet n)) (HostThen maj
 abbrev MajorThen : Cursor → Type 0
 MajorThen c = StandsThen ℕ (λ (n : ℕ). Reads (octet n)) MinorThen c
 
-counted_as : (has : Bool) (c : Cursor) → Decided (MatchBool has (Counted c) ⊤)
-counted_as false c = inl tt
-counted_as true c =
-    decided_as (Stands ℕ (λ (n : ℕ). Reads (ulong n)) c) (Counted c) (λ s. record { number = s.0; after = s.1; count = s.2 })
-    (λ k. (k.number, k.after, k.count)) (ulong_decided c)
+components_as : (has : Bool) (c : Cursor) → Decided (MatchBool has (HasComponents c) ⊤)
+components_as false c = inl tt
+components_as true c = components_decided c
 
 key_then : (major minor : ℕ) (c : Cursor) → Decided (KeyThen major minor c)
 key_then major minor c =
-    decided_then (List ℕ) (λ (xs : List ℕ). Reads (octets xs)) (λ (xs : List ℕ) (a : Cursor). CountedAs major minor a) c
-    (λ xs ys a b p q. one_octets_read xs ys c a b p q) (λ xs a. counted_as (has_components major minor) a) (octets_decided c)
+    decided_then (List ℕ) (λ (xs : List ℕ). Reads (octets xs)) (λ (xs : List ℕ) (a : Cursor). ComponentsAs major minor a) c
+    (λ xs ys a b p q. one_octets_read xs ys c a b p q) (λ xs a. components_as (has_components major minor) a) (octets_decided c)
 
 port_then : (major minor : ℕ) (c : Cursor) → Decided (PortThen major minor c)
 port_then major minor c =

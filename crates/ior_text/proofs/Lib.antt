@@ -2,6 +2,7 @@ pub mod OneReading
 pub mod Stopping
 pub mod PushingFields
 pub mod Bodies
+pub mod OneBody
 pub mod Keys
 pub mod OneText
 pub mod Pushing
