@@ -8,9 +8,11 @@ use Rattle.giop_frame.specs.declared.next.Next.TheVariants as answer
 use Rattle.giop_frame.specs.Rules.{look_at}
 use Rattle.giop_frame.specs.Stream.{Framed, End, bad_place, after, completed, StreamFrom}
 use Rattle.giop_frame.specs.Framing.{Framing}
-use Rattle.giop_frame.specs.Framer.{FramerGives, GiveTheSame, FramerAnswers, TakesPart, JoinsPart, reach}
+use Rattle.std.specs.Option.{option_or}
+use Rattle.giop_frame.specs.Framer.{FramerGives, GiveTheSame, FramerAnswers, TakesPart, JoinsPart, minor_among, reach}
 use Rattle.giop_frame.proofs.Looking.{whole_from_look, look_from_whole, whole_front}
 use Rattle.giop_frame.proofs.Streams.{stream_put, stream_behind, one_stream, bad_stream}
+use Rattle.giop_frame.proofs.First.{option_or-None}
 
 -- what a framer gives that hasn't met a bad place
 pub stream_given : (f : Framing) (text : List ℕ) (messages : List Framed) (end : End) → f.closed ≡ None
@@ -29,9 +31,9 @@ cancel : (xs ys zs : List Framed) → xs ++ ys ≡ xs ++ zs → ys ≡ zs
 cancel [] ys zs e = e
 cancel (x ∷ xs) ys zs e = let tail : xs ++ ys ≡ xs ++ zs = cc in cancel xs ys zs tail
 
--- the framer behind the part of this length
-pub behind : Framing → ℕ → Framing
-behind f n = record f { reading = after f.reading (take n f.unread); unread = drop n f.unread }
+-- the framer behind the part of this length, whatever was given first
+pub behind : Framing → ℕ → Option ℕ → Framing
+behind f n first = record f { reading = after f.reading (take n f.unread); unread = drop n f.unread; first = first }
 
 part_good : (f : Framing) (n : ℕ) → look_at f.limit f.reading.pending f.unread ≡ Whole n
     → look_at f.limit f.reading.pending (take n f.unread) ≡ Whole (length (take n f.unread))
@@ -43,23 +45,23 @@ part_good f n seen =
 pieces : (n : ℕ) (text more : List ℕ) → take n text ++ (drop n text ++ more) ≡ text ++ more
 pieces n text more = sym (append_assoc (take n text) (drop n text) more) ∙ ap (λ (t : List ℕ). t ++ more) (take-append-drop n text)
 
-behind_gives : (f : Framing) (n : ℕ) (text : List ℕ) (messages : List Framed) (end : End) → f.closed ≡ None
+behind_gives : (f : Framing) (n : ℕ) (first : Option ℕ) (text : List ℕ) (messages : List Framed) (end : End) → f.closed ≡ None
     → look_at f.limit f.reading.pending f.unread ≡ Whole n
-    → FramerGives (behind f n) text messages end ↔ FramerGives f text (completed f.reading (take n f.unread) ++ messages) end
+    → FramerGives (behind f n first) text messages end ↔ FramerGives f text (completed f.reading (take n f.unread) ++ messages) end
 unfolding behind
-behind_gives f n text messages end none seen =
+behind_gives f n first text messages end none seen =
     let p = take n f.unread in
     let rest = drop n f.unread ++ text in
     let good = part_good f n seen in (
       (λ g. gives_stream f text (completed f.reading p ++ messages) end none
           (subst (λ (t : List ℕ). StreamFrom f.limit f.reading t (completed f.reading p ++ messages) end) (pieces n f.unread text)
-          (stream_put f.limit f.reading p rest messages end good (stream_given (behind f n) text messages end none g)))),
+          (stream_put f.limit f.reading p rest messages end good (stream_given (behind f n first) text messages end none g)))),
       (λ g.
           let whole = subst (λ (t : List ℕ). StreamFrom f.limit f.reading t (completed f.reading p ++ messages) end) (sym (pieces n f.unread text))
           (stream_given f text (completed f.reading p ++ messages) end none g) in
           let b = stream_behind f.limit f.reading p rest (completed f.reading p ++ messages) end good whole in
           let same : b.others ≡ messages = sym (cancel (completed f.reading p) messages b.others b.all) in
-          gives_stream (behind f n) text messages end none
+          gives_stream (behind f n first) text messages end none
           (subst (λ (ms : List Framed). StreamFrom f.limit (after f.reading p) rest ms end) same b.stream)),
     )
 
@@ -68,9 +70,10 @@ pub taken_gives : (f g : Framing) (n : ℕ) (done : List Framed) → f.closed �
     → (text : List ℕ) (messages : List Framed) (end : End) → FramerGives g text messages end ↔ FramerGives f text (done ++ messages) end
 unfolding behind
 taken_gives f g n done none seen t text messages end =
+    let first : Option ℕ = option_or f.first (minor_among done) in
     subst (λ (k : Framing). FramerGives k text messages end ↔ FramerGives f text (done ++ messages) end) (sym t.goes_on)
-    (subst (λ (ms : List Framed). FramerGives (behind f n) text messages end ↔ FramerGives f text (ms ++ messages) end) (sym t.completes)
-    (behind_gives f n text messages end none seen))
+    (subst (λ (ms : List Framed). FramerGives (behind f n first) text messages end ↔ FramerGives f text (ms ++ messages) end) (sym t.completes)
+    (behind_gives f n first text messages end none seen))
 
 pub taken_reach : (f g : Framing) (n : ℕ) (done : List Framed) → look_at f.limit f.reading.pending f.unread ≡ Whole n → TakesPart f n done g → reach g ≡ reach f
 taken_reach f g n done seen t =
@@ -88,6 +91,7 @@ pub joins_part : (f g : Framing) (n : ℕ) → f.closed ≡ None → look_at f.l
 joins_part f g n none seen t =
     record {
       same = taken_gives f g n [] none seen t;
+      first = ap (λ (k : Framing). k.first) t.goes_on ∙ option_or-None f.first;
       unclosed = ap (λ (k : Framing). k.closed) t.goes_on ∙ none;
       shorter = taken_shorter f g n [] seen t;
     }

@@ -11,9 +11,9 @@ use Rattle.giop_frame.specs.declared.header.Header.{Header}
 use Rattle.giop_frame.specs.declared.rules.TheConstants.{OPEN_LIMIT}
 use Rattle.giop_frame.specs.Part.{header_of, id_of, opens, continues, id_end}
 use Rattle.giop_frame.specs.Open.{Open, Opens, at_id, find_open, opened_by, joined, open_bytes, taken_bytes}
-use Rattle.giop_frame.specs.Rules.{foreign_fault, size_fault, fragment_fault, id_fault}
+use Rattle.giop_frame.specs.Rules.{foreign_fault, size_fault, fragment_fault, id_fault, IsGood}
 use Rattle.giop_frame.specs.Stream.{Reading, open_after}
-use Rattle.giop_frame.proofs.Looking.{IsWhole, second_none}
+use Rattle.giop_frame.proofs.Looking.{IsWhole, second_none, whole_from_look}
 use Rattle.giop_frame.proofs.Sums.{weight-open, open_bytes-join, taken_bytes-join}
 
 fragment_sum : (limit : ℕ) (pending : Opens) (h : Header) (found : Option Open) → fragment_fault limit pending h found ≡ None
@@ -38,6 +38,30 @@ fragment_good limit pending part e more = grind (arith, nat_tests)
 
 id_seen : (h : Header) (n : ℕ) → continues h ≡ true → id_end h ≤ n → 16 ≤ n
 id_seen h n c e = grind (arith, nat_tests)
+
+id_opened : (h : Header) (n : ℕ) → opens h ≡ true → id_end h ≤ n → 16 ≤ n
+id_opened h n o e = grind (arith, nat_tests)
+
+-- a good part that opens a message
+pub record Starts (pending : Opens) (part : List ℕ) : Type 0 where
+  pub id : 16 ≤ length part
+  pub absent : find_open (id_of part) pending ≡ None
+  pub fits : open_bytes pending + length part ≤ OPEN_LIMIT
+
+pub starts : (pending : Opens) (part : List ℕ) → IsGood pending part → (header_of part).more ≡ true → continues (header_of part) ≡ false
+    → Starts pending part
+starts pending part good more first =
+    let limit = good.0 in
+    let h = header_of part in
+    let w = whole_from_look limit pending part (length part) good.1 in
+    let sound : size_fault limit pending h ≡ None = second_none (foreign_fault part) (size_fault limit pending h) w.sound in
+    let o = start_opens limit pending h sound more first in
+    let sum = start_sum limit pending h sound o in
+    record {
+      id = id_opened h (length part) o w.id;
+      absent = start_absent limit pending part w.placed first o;
+      fits = omega (arith, sum, w.size);
+    }
 
 -- what each kind of part does to the open messages
 pub record Keeps (pending left : Opens) (part : List ℕ) : Type 0 where

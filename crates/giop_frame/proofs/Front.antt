@@ -24,7 +24,7 @@ ulong_at-front little p q i h =
 pub header_of-front : (p q : List ℕ) → 12 ≤ length p → header_of (p ++ q) ≡ header_of p
 unfolding header_of
 header_of-front p q h =
-    rw (is_little-front p q h, at p q 6 (omega arith), at p q 7 (omega arith), ulong_at-front (is_little p) p q 8 (omega arith))
+    rw (is_little-front p q h, at p q 5 (omega arith), at p q 6 (omega arith), at p q 7 (omega arith), ulong_at-front (is_little p) p q 8 (omega arith))
 
 pub id_of-front : (p q : List ℕ) → 16 ≤ length p → id_of (p ++ q) ≡ id_of p
 unfolding id_of

@@ -9,4 +9,5 @@ pub mod Cutting
 pub mod Bounds
 pub mod Streams
 pub mod GoingOn
+pub mod First
 pub mod Sizes

@@ -1,5 +1,5 @@
 -- A whole part that is no Fragment is a message, or begins one.
-use Rattle.std.proofs.Common.{◌≡◌, ◌≢◌, ℕ, ◌≤◌, Bool, true, false, ◌&&◌, not, cond, Option, Some, None, List, take, slice_index, bytes_eq, codes, nat_eq, nat_lt, refl, ◌∙◌, arith}
+use Rattle.std.proofs.Common.{◌≡◌, ◌≢◌, ℕ, ◌≤◌, Bool, true, false, ◌&&◌, ◌||◌, not, cond, Option, Some, None, List, take, slice_index, bytes_eq, codes, nat_eq, nat_lt, refl, ◌∙◌, arith}
 use Rattle.std.proofs.lemmas.Bool.{eqb-true, eqb-false, ltb-false}
 use Rattle.std.proofs.lemmas.Slice.Eq.{bytes_eq-Decides}
 use Rattle.giop_frame.specs.declared.why.Why.{Why}
@@ -22,23 +22,30 @@ not_passed : (b : Bool) (why : Why) → cond b (Some why) None ≡ None → b �
 not_passed false why e = refl
 not_passed true why e = cc
 
-both : (a b : Bool) → (a && b) ≡ true → (a ≡ true) × (b ≡ true)
-both true b e = (refl, e)
-both false b e = cc
+-- a number is this, and another isn't too large
+none_of : (a b : Bool) (why : Why) (f : Option Why) → cond (not a || b) (Some why) f ≡ None → (a ≡ true) × (b ≡ false) × (f ≡ None)
+none_of true true why f e = cc
+none_of true false why f e = (refl, refl, e)
+none_of false b why f e = cc
+
+-- neither of two
+neither : (a b : Bool) → (a || b) ≡ false → a ≡ false
+neither true b e = cc
+neither false b e = refl
 
 pub message_from_whole : (limit : ℕ) (pending : Opens) (part : List ℕ) (n : ℕ) → IsWhole limit pending part n → continues (header_of part) ≡ false
     → IsMessage part
 message_from_whole limit pending part n w first =
     let clean : foreign_fault part ≡ None = first_none (foreign_fault part) (size_fault limit pending (header_of part)) w.sound in
     let magic = passed (bytes_eq (take 4 part) (codes "GIOP")) BadMagic _ clean in
-    let version = passed (nat_eq (slice_index part 4) 1 && nat_eq (slice_index part 5) 2) BadVersion _ magic.1 in
-    let numbers = both (nat_eq (slice_index part 4) 1) (nat_eq (slice_index part 5) 2) version.0 in
-    let known : slice_index part 7 ≤ 7 = ltb-false 7 (slice_index part 7) (not_passed (nat_lt 7 (slice_index part 7)) BadType version.1) in
+    let version = none_of (nat_eq (slice_index part 4) 1) (nat_lt 2 (slice_index part 5)) BadVersion _ magic.1 in
+    let typed = neither (nat_lt 7 (slice_index part 7)) _ (not_passed _ BadType version.2) in
+    let known : slice_index part 7 ≤ 7 = ltb-false 7 (slice_index part 7) typed in
     let other : slice_index part 7 ≢ 7 = λ (e : slice_index part 7 ≡ 7). eqb-false (header_of part).kind 7 first (kind_is part ∙ e) in
     record {
       header = w.header;
       magic = (bytes_eq-Decides (take 4 part) (codes "GIOP")).0 magic.0;
-      major = eqb-true (slice_index part 4) 1 numbers.0;
-      minor = eqb-true (slice_index part 5) 2 numbers.1;
+      major = eqb-true (slice_index part 4) 1 version.0;
+      minor = ltb-false 2 (slice_index part 5) version.1;
       kind = omega arith;
     }

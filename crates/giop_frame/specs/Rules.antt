@@ -2,36 +2,40 @@
 use Rattle.std.specs.Prelude.{ℕ, ◌+◌, ◌-◌, Bool, true, false, List, ◌≡◌, ◌==◌, ◌&&◌, ◌||◌, not, if◌then◌else◌, nat_lt, Option, Some, None, length, slice_index, take, bytes_eq, codes, is_some}
 use Rattle.std.specs.Option.{option_or}
 use Rattle.giop_frame.specs.declared.header.Header.{Header}
-use Rattle.giop_frame.specs.declared.header.TheConstants.{FRAGMENT, HEADER}
+use Rattle.giop_frame.specs.declared.header.TheConstants.{FRAGMENT, HEADER, NEWEST_MINOR}
 use Rattle.giop_frame.specs.declared.rules.TheConstants.{OPEN_LIMIT}
 use Rattle.giop_frame.specs.declared.rules.Look.{Look}
 use Rattle.giop_frame.specs.declared.rules.Look.TheVariants.{Unfinished, Whole, Bad}
 use Rattle.giop_frame.specs.declared.why.Why.{Why}
 use Rattle.giop_frame.specs.declared.why.Why.TheVariants.{BadMagic, BadVersion, BadType, TooLong, StrayFragment, BadFragment}
-use Rattle.giop_frame.specs.Part.{header_of, is_little, id_of, opens, continues, id_end}
+use Rattle.giop_frame.specs.Part.{header_of, is_little, minor_of, id_of, opens, continues, id_end}
 use Rattle.giop_frame.specs.Open.{Open, Opens, find_open, open_bytes, nothing_open}
 
--- no header of GIOP 1.2
+-- no version has a message of this type: version 1.0 has no Fragment
+abbrev pub is_bad_type : ℕ → ℕ → Bool
+is_bad_type minor kind = nat_lt FRAGMENT kind || (minor == 0 && kind == FRAGMENT)
+
+-- no header of GIOP 1.0, 1.1 or 1.2
 abbrev pub foreign_fault : List ℕ → Option Why
 foreign_fault text =
     if not (bytes_eq (take 4 text) (codes "GIOP")) then Some BadMagic
-    else if not (slice_index text 4 == 1 && slice_index text 5 == 2) then Some BadVersion
-    else if nat_lt FRAGMENT (slice_index text 7) then Some BadType
+    else if not (slice_index text 4 == 1) || nat_lt NEWEST_MINOR (minor_of text) then Some BadVersion
+    else if is_bad_type (minor_of text) (slice_index text 7) then Some BadType
     else None
 
 -- a part of this header is too long, whatever its id is: by itself, or by what it opens
 abbrev pub is_too_long : ℕ → Opens → Header → Bool
 is_too_long limit pending h = nat_lt limit h.size || (opens h && nat_lt OPEN_LIMIT (open_bytes pending + HEADER + h.size))
 
--- a Fragment that no id can save: it is too short for one, or nothing is open
+-- a Fragment that no id can save: it is of version 1.1, whose fragments have none; it is too short for one; or nothing is open
 abbrev pub is_stray : Opens → Header → Bool
-is_stray pending h = continues h && (nat_lt h.size 4 || nothing_open pending)
+is_stray pending h = continues h && (not (h.minor == NEWEST_MINOR) || (nat_lt h.size 4 || nothing_open pending))
 
--- bit 1 on a message that has no fragments, or on a first part that is too short for its id
+-- bit 1 on a message that has no fragments here, as one of version 1.1, or on a first part that is too short for its id
 abbrev pub is_bad_start : Header → Bool
 is_bad_start h = h.more && not (continues h) && (not (opens h) || nat_lt h.size 4)
 
--- the first rule that a header of GIOP 1.2 breaks, whatever id follows it
+-- the first rule that a header of GIOP breaks, whatever id follows it
 abbrev pub size_fault : ℕ → Opens → Header → Option Why
 size_fault limit pending h =
     if is_too_long limit pending h then Some TooLong

@@ -7,7 +7,8 @@ use Rattle.std.specs.BTreeMap.{insert_entry}
 use Rattle.std.specs.Map.{set_value, remove_entry}
 use Rattle.giop_frame.specs.declared.rules.Look.TheVariants.{Unfinished, Whole, Bad}
 use Rattle.giop_frame.specs.declared.why.Why.{Why}
-use Rattle.giop_frame.specs.Part.{header_of, id_of, continues}
+use Rattle.giop_frame.specs.declared.header.TheConstants.{NEWEST_MINOR}
+use Rattle.giop_frame.specs.Part.{header_of, id_of, minor_of, continues}
 use Rattle.giop_frame.specs.Open.{Open, Opens, at_id, find_open, opened_by, joined, taken_bytes}
 use Rattle.giop_frame.specs.Rules.{look_at}
 
@@ -95,3 +96,12 @@ pub record OneStream (limit : ℕ) (text : List ℕ) : Type 0 where
   pub end : End
   pub is_stream : Stream limit text messages end
   pub alone : (others : List Framed) (other : End) → Stream limit text others other → (others ≡ messages) × (other ≡ end)
+
+-- the minor version of the first of these messages, and the newest where there is none
+abbrev pub first_minor : List Framed → ℕ
+first_minor [] = NEWEST_MINOR
+first_minor (m ∷ messages) = minor_of m.bytes
+
+-- this is the minor version of the first message of the text, and the newest where it has none
+abbrev pub IsFirstMinor : ℕ → List ℕ → ℕ → Type 0
+IsFirstMinor limit text minor = (messages : List Framed) (end : End) → Stream limit text messages end → first_minor messages ≡ minor

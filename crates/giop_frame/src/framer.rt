@@ -1,11 +1,12 @@
 //! The framer.
-ghost use Rattle.std.specs.Prelude.{◌≡◌, ◌+◌, ◌<◌, ◌≤◌, ◌^◌, ◌++◌, ◌↔◌, List, ℕ, [], None, length, take, drop, option_to_list, IfOk, OnOk, OnErr, IsSome, MatchOption, ⊤};
+ghost use Rattle.std.specs.Prelude.{◌≡◌, ◌+◌, ◌<◌, ◌≤◌, ◌^◌, ◌++◌, ◌↔◌, List, ℕ, [], None, length, take, drop, option_to_list, IfOk, IfSome, OnOk, OnErr, IsSome, MatchOption, ⊤};
+ghost use Rattle.std.specs.Option.{option_or};
 ghost use Rattle.giop_frame.specs.Open.{taken_bytes};
 ghost use Rattle.giop_frame.specs.Rules.{look_at, IsGood};
-ghost use Rattle.giop_frame.specs.Stream.{Framed, End, Stream, after, open_after, completed};
-ghost use Rattle.giop_frame.specs.Framer.{FramerGives, HasGiven, GiveTheSame, FramerAnswers, TakesBytes, IsWithin, JoinsPart, TakesPart, reach};
+ghost use Rattle.giop_frame.specs.Stream.{Framed, End, Stream, IsFirstMinor, after, open_after, completed};
+ghost use Rattle.giop_frame.specs.Framer.{FramerGives, HasGiven, HasFirst, KeepsFirst, GiveTheSame, FramerAnswers, TakesBytes, IsWithin, JoinsPart, TakesPart, minor_among, reach};
 
-use crate::header::{Header, id_of};
+use crate::header::{Header, NEWEST_MINOR, id_of};
 use crate::message::Message;
 use crate::next::Next;
 use crate::open_messages::OpenMessages;
@@ -16,7 +17,7 @@ use poa_base::{Bytes, WantMemory};
 use std::alloc::Global;
 use std::marker::Model;
 
-/// Cuts a stream of GIOP 1.2 into its messages, fed in any pieces: CORBA 3.3 Part 2, 9.4.
+/// Cuts a stream of GIOP 1.0, 1.1 and 1.2 into its messages, fed in any pieces: CORBA 3.3 Part 2, 9.4.
 ///
 /// Whichever way the bytes are cut, the messages that `next` gives, and then its `NeedMore` or `Bad`,
 /// are the stream of all bytes fed.
@@ -28,10 +29,12 @@ pub struct Framer {
     pending: OpenMessages,
     unread: Unread,
     closed: Option<Why>,
+    /// The minor version of the first message that was given.
+    first: Option<u8>,
 }
 
 impl Model for Framer {
-    ghost use Rattle.std.specs.Prelude.{◌+◌, ◌<◌, ◌≤◌, ◌^◌, length};
+    ghost use Rattle.std.specs.Prelude.{◌+◌, ◌<◌, ◌≤◌, ◌^◌, length, IfSome};
     ghost use Rattle.giop_frame.specs.Open.{open_bytes, taken_bytes};
     ghost use Rattle.giop_frame.specs.Framing.{Framing};
     ghost use Rattle.giop_frame.specs.declared.rules.TheConstants.{OPEN_LIMIT};
@@ -43,10 +46,11 @@ impl Model for Framer {
       reading = record { place = f.place; pending = f.pending };
       unread = f.unread;
       closed = f.closed;
+      first = f.first;
     } };
 
     ghost invariant = { λ f. (open_bytes f.pending ≤ OPEN_LIMIT) × (taken_bytes f.pending ≤ f.place)
-        × (f.place + length f.unread < 2 ^ 62) };
+        × (f.place + length f.unread < 2 ^ 62) × IfSome f.first (λ minor. minor ≤ 2) };
 }
 
 impl Framer {
@@ -54,6 +58,7 @@ impl Framer {
     /// header. Takes no memory.
     pub fn new(alloc: Global, limit: u32) -> Self
         ensures stream { HasGiven limit [] [] result }
+        ensures first { HasFirst limit [] result }
         ensures nothing_fed { reach result ≡ 0 }
         ensures limited { result.limit ≡ limit }
     {
@@ -64,6 +69,7 @@ impl Framer {
             pending: OpenMessages::new(alloc),
             unread: Unread::new(alloc),
             closed: None,
+            first: None,
         }
     }
 
@@ -73,6 +79,8 @@ impl Framer {
         requires { reach self.old + length piece.now < 2 ^ 62 }
         ensures fed { OnOk result ((text : List ℕ) (messages : List Framed) (end : End)
             → FramerGives self.new text messages end ↔ FramerGives self.old (piece.now ++ text) messages end) }
+        ensures first { OnOk result ((limit : ℕ) (fed : List ℕ)
+            → HasFirst limit fed self.old → HasFirst limit (fed ++ piece.now) self.new) }
         ensures reached { reach self.new ≤ reach self.old + length piece.now }
         ensures closed { IsSome self.old.closed → self.new ≡ self.old }
         ensures limited { self.new.limit ≡ self.old.limit }
@@ -89,6 +97,7 @@ impl Framer {
     /// given.
     pub fn next(&mut self) -> Result<Next, WantMemory>
         ensures answer { IfOk result (λ n. FramerAnswers self.old n self.new) }
+        ensures first { (limit : ℕ) (fed : List ℕ) → HasFirst limit fed self.old → HasFirst limit fed self.new }
         ensures shorter { IfOk result (λ n. TakesBytes self.old n self.new) }
         ensures sized { IfOk result (IsWithin self.old.limit) }
         ensures reached { reach self.new ≡ reach self.old }
@@ -105,10 +114,30 @@ impl Framer {
         }
     }
 
+    /// The minor version of the first message of all that was fed, and 2 where that has none. Where no message was
+    /// given before, the next one is taken, and given no more. Where no memory is left for that, the framer gives what
+    /// it would have given.
+    pub fn first_minor(&mut self) -> Result<u8, WantMemory>
+        ensures first { IfOk result (λ minor. (limit : ℕ) (fed : List ℕ)
+            → HasFirst limit fed self.old → IsFirstMinor limit fed minor) }
+        ensures known { IfOk result (λ minor. minor ≤ 2) }
+        ensures refused { OnErr result (GiveTheSame self.old self.new) }
+    {
+        if let Some(minor) = self.first {
+            return Ok(minor);
+        }
+        match self.next()? {
+            Next::Message(message) => Ok(message.minor()),
+            Next::NeedMore { .. } => Ok(NEWEST_MINOR),
+            Next::Bad { .. } => Ok(NEWEST_MINOR),
+        }
+    }
+
     /// Reads the part in front, where there is one. None where it completed no message.
     fn step(&mut self) -> Result<Option<Next>, WantMemory>
         requires { self.old.closed ≡ None }
         ensures answer { IfOk result (λ n. MatchOption n (JoinsPart self.old self.new) (λ a. FramerAnswers self.old a self.new)) }
+        ensures first { IfOk result (λ n. MatchOption n ⊤ (λ a. KeepsFirst self.old a self.new)) }
         ensures shorter { IfOk result (λ n. MatchOption n ⊤ (λ a. TakesBytes self.old a self.new)) }
         ensures sized { IfOk result (λ n. MatchOption n ⊤ (IsWithin self.old.limit)) }
         ensures reached { reach self.new ≡ reach self.old }
@@ -151,7 +180,22 @@ impl Framer {
         let message = read_part(self.alloc, &mut self.pending, self.place, part)?;
         self.unread.skip(length);
         self.place += length as u64;
+        self.first = first_of(self.first, &message);
         Ok(message)
+    }
+}
+
+/// The minor version of the first message, where it was given before, or is this one.
+fn first_of(given: Option<u8>, message: &Option<Message>) -> Option<u8>
+    ensures value { result ≡ option_or given (minor_among (option_to_list message.now)) }
+    ensures known { IfSome given (λ minor. minor ≤ 2) → IfSome result (λ minor. minor ≤ 2) }
+{
+    if given.is_some() {
+        return given;
+    }
+    match message {
+        Some(message) => Some(message.minor()),
+        None => None,
     }
 }
 

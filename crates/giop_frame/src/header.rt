@@ -2,6 +2,8 @@
 ghost use Rattle.std.specs.Prelude.{◌≡◌, ◌+◌, ◌≤◌, length};
 ghost use Rattle.giop_frame.specs.Part.{header_of, id_of, ulong_at, id_end, opens, continues};
 
+/// The minor version of GIOP 1.2, the newest. Its fragments alone tell the message that they continue.
+pub(crate) const NEWEST_MINOR: u8 = 2;
 /// Type 0, which may be fragmented.
 pub(crate) const REQUEST: u8 = 0;
 /// Type 3, which may be fragmented.
@@ -13,12 +15,14 @@ pub(crate) const HEADER: usize = 12;
 /// The bytes of a header and the request id behind it.
 pub(crate) const HEADER_AND_ID: usize = 16;
 
-/// What a header says behind its magic and version: CORBA 3.3 Part 2, 9.4.1.
+/// What a header says behind its magic and major version: CORBA 3.3 Part 2, 9.4.1.
 #[derive(Clone, Copy)]
 pub(crate) struct Header {
+    /// The minor version.
+    pub(crate) minor: u8,
     /// Whether numbers are little-endian: bit 0 of the flags.
     pub(crate) little: bool,
-    /// Whether fragments follow: bit 1 of the flags.
+    /// Whether fragments follow: bit 1 of the flags, which version 1.0 hasn't.
     pub(crate) more: bool,
     /// The type of the message.
     pub(crate) kind: u8,
@@ -33,21 +37,25 @@ impl Header {
         requires { HEADER ≤ length part.now }
         ensures { result ≡ header_of part.now }
     {
+        let minor = part[5];
         let flags = part[6];
         let little = flags & 1 == 1;
         Header {
+            minor,
             little,
-            more: flags & 2 == 2,
+            more: minor != 0 && flags & 2 == 2,
             kind: part[7],
             size: ulong_at(part, 8, little),
         }
     }
 
-    /// Whether this part is the first of a fragmented message.
+    /// Whether this part is the first of a fragmented message, which is of version 1.2.
     pub(crate) fn opens(self) -> bool
         ensures { result ≡ opens self }
     {
-        self.more && (self.kind == REQUEST || self.kind == LOCATE_REQUEST)
+        self.more
+            && self.minor == NEWEST_MINOR
+            && (self.kind == REQUEST || self.kind == LOCATE_REQUEST)
     }
 
     /// Whether this part is a Fragment.

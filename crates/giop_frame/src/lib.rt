@@ -1,5 +1,5 @@
-//! The messages of a stream of GIOP 1.2, whichever way its bytes are cut into pieces: each message of
-//! one part as it stands, each fragmented one joined, then what is left over or the first bad place.
+//! The messages of a stream of GIOP 1.0, 1.1 and 1.2, whichever way its bytes are cut into pieces: each message of
+//! one part as it stands, each fragmented one of version 1.2 joined, then what is left over or the first bad place.
 #![tactic(auto)]
 
 mod framer;

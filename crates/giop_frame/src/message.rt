@@ -1,11 +1,12 @@
 //! A message of a stream.
-ghost use Rattle.std.specs.Prelude.{◌≡◌};
+ghost use Rattle.std.specs.Prelude.{◌≡◌, ◌≤◌};
 ghost use Rattle.giop_frame.specs.Message.{IsMessage};
+ghost use Rattle.giop_frame.specs.Part.{minor_of};
 
 use poa_base::Bytes;
 use std::marker::Model;
 
-/// A message of GIOP 1.2, joined where it came in fragments, and its place in the stream.
+/// A message of GIOP 1.0, 1.1 or 1.2, joined where it came in fragments, and its place in the stream.
 ///
 /// It begins with a header and is no Fragment. A joined message keeps the header of its first part,
 /// whose size and fragment bit say nothing of the joined one.
@@ -40,6 +41,14 @@ impl Message {
         ensures { result ≡ self.now.at }
     {
         self.at
+    }
+
+    /// The minor version.
+    pub fn minor(&self) -> u8
+        ensures value { result ≡ minor_of self.now.bytes }
+        ensures known { result ≤ 2 }
+    {
+        self.bytes.as_slice()[5]
     }
 
     /// The message, with its header.

@@ -2,9 +2,9 @@
 ghost use Rattle.std.specs.Prelude.{◌≡◌, ◌+◌, ◌<◌, ◌≤◌, ◌^◌, length, option_copied};
 ghost use Rattle.giop_frame.specs.Part.{header_of, id_end};
 ghost use Rattle.giop_frame.specs.Open.{open_bytes};
-ghost use Rattle.giop_frame.specs.Rules.{look_at, foreign_fault, is_too_long, is_stray, is_bad_start, header_fault, fragment_fault, id_fault};
+ghost use Rattle.giop_frame.specs.Rules.{look_at, foreign_fault, is_bad_type, is_too_long, is_stray, is_bad_start, header_fault, fragment_fault, id_fault};
 
-use crate::header::{FRAGMENT, HEADER, Header, id_of};
+use crate::header::{FRAGMENT, HEADER, Header, NEWEST_MINOR, id_of};
 use crate::open_messages::OpenMessages;
 use crate::opened::Opened;
 use crate::why::Why;
@@ -62,7 +62,7 @@ fn header_fault(limit: u32, pending: &OpenMessages, text: &[u8]) -> Option<Why>
     if is_too_long(limit, pending, header) {
         return Some(Why::TooLong);
     }
-    if header.continues() && (header.size < 4 || pending.is_empty()) {
+    if is_stray(pending, header) {
         return Some(Why::StrayFragment);
     }
     if header.more && !header.continues() && (!header.opens() || header.size < 4) {
@@ -71,7 +71,7 @@ fn header_fault(limit: u32, pending: &OpenMessages, text: &[u8]) -> Option<Why>
     None
 }
 
-/// The rule that a text breaks which begins with no header of GIOP 1.2.
+/// The rule that a text breaks which begins with no header of GIOP 1.0, 1.1 or 1.2.
 fn foreign_fault(text: &[u8]) -> Option<Why>
     requires { HEADER ≤ length text.now }
     ensures { result ≡ foreign_fault text.now }
@@ -79,14 +79,28 @@ fn foreign_fault(text: &[u8]) -> Option<Why>
     if &text[..4] != b"GIOP".as_slice() {
         return Some(Why::BadMagic);
     }
-    if text[4] != 1 || text[5] != 2 {
+    if text[4] != 1 || text[5] > NEWEST_MINOR {
         return Some(Why::BadVersion);
     }
-    if text[7] > FRAGMENT {
+    if is_bad_type(text[5], text[7]) {
         Some(Why::BadType)
     } else {
         None
     }
+}
+
+/// Whether the version has no message of this type: version 1.0 has no Fragment.
+fn is_bad_type(minor: u8, kind: u8) -> bool
+    ensures { result ≡ is_bad_type minor kind }
+{
+    kind > FRAGMENT || minor == 0 && kind == FRAGMENT
+}
+
+/// Whether this is the header of a Fragment that no id can save.
+fn is_stray(pending: &OpenMessages, header: Header) -> bool
+    ensures { result ≡ is_stray pending.now header }
+{
+    header.continues() && (header.minor != NEWEST_MINOR || header.size < 4 || pending.is_empty())
 }
 
 /// Whether a part of this header is too long, whatever its id is.

@@ -1,4 +1,4 @@
-use Rattle.std.proofs.Common.{◌≡◌, ℕ, ◌+◌, ◌≤◌, List, length, take, ap, subst, ◌∙◌, sym, arith, length-drop}
+use Rattle.std.proofs.Common.{◌≡◌, ℕ, ◌+◌, ◌≤◌, List, Option, length, take, drop, ap, subst, ◌∙◌, sym, arith, length-drop}
 use Rattle.std.proofs.lemmas.List.{length-take-le}
 use Rattle.std.specs.Option.{option_to_list}
 use Rattle.giop_frame.specs.declared.rules.Look.TheVariants.{Whole}
@@ -50,6 +50,7 @@ invariant_of-self-2 c =
       subst (λ (o : Opens). open_bytes o ≤ 16777216) (sym left) kept.bytes,
       omega (arith, ap taken_bytes left, kept.taken, long, c.self.invariant.1),
       omega (arith, ap length c.skip.ensures, length-drop n text, w.whole, c.self.invariant.2),
+      c.first_of-self-inside.ensures.known c.self.invariant.3,
     )
 
 pub returns-clause-taken : goal.returns-clause-taken
@@ -60,13 +61,14 @@ returns-clause-taken c =
     let long : length (take n text) ≡ n = length-take-le n text (whole_in_front _ _ c.args.length c.self.view_is c.requires.whole).whole in
     let left : c.read_part.new.pending ≡ open_after r (take n text) =
     c.in_ok-message.ensures.left ∙ ap (λ (t : List ℕ). open_after r (take n t)) c.as_slice.ensures in
-    let make : ℕ → Opens → List ℕ → Framing =
-    λ p o u. record { limit = c.self.inside.limit; reading = record { place = p; pending = o }; unread = u; closed = c.self.inside.closed } in
-    subst (λ (f : Framing). TakesPart f n (option_to_list c.in_ok-message.message) (make (c.self.inside.place + n) c.read_part.new.pending c.skip.new.self))
+    let make : ℕ → Opens → List ℕ → Option ℕ → Framing =
+    λ p o u first. record { limit = c.self.inside.limit; reading = record { place = p; pending = o }; unread = u; closed = c.self.inside.closed; first = first } in
+    subst (λ (f : Framing). TakesPart f n (option_to_list c.in_ok-message.message) (make (c.self.inside.place + n) c.read_part.new.pending c.skip.new.self c.first_of-self-inside.result))
     c.self.view_is
     (record {
       completes = c.in_ok-message.ensures.message ∙ ap (λ (t : List ℕ). completed r (take n t)) c.as_slice.ensures;
-      goes_on = ap (λ (k : ℕ). make (c.self.inside.place + k) c.read_part.new.pending c.skip.new.self) (sym long)
-          ∙ (ap (λ (o : Opens). make (c.self.inside.place + length (take n text)) o c.skip.new.self) left
-          ∙ ap (λ (u : List ℕ). make (c.self.inside.place + length (take n text)) (open_after r (take n text)) u) c.skip.ensures);
+      goes_on = ap (λ (k : ℕ). make (c.self.inside.place + k) c.read_part.new.pending c.skip.new.self c.first_of-self-inside.result) (sym long)
+          ∙ (ap (λ (o : Opens). make (c.self.inside.place + length (take n text)) o c.skip.new.self c.first_of-self-inside.result) left
+          ∙ (ap (λ (u : List ℕ). make (c.self.inside.place + length (take n text)) (open_after r (take n text)) u c.first_of-self-inside.result) c.skip.ensures
+          ∙ ap (λ (m : Option ℕ). make (c.self.inside.place + length (take n text)) (open_after r (take n text)) (drop n text) m) c.first_of-self-inside.ensures.value));
     })
