@@ -3,7 +3,7 @@
 /// The bytes of a header.
 pub const HEADER: u64 = 12;
 
-/// The minor version that is read, of GIOP 1.2.
+/// The newest minor version that is read and written, of GIOP 1.2. The others are 0 and 1.
 pub const MINOR: u8 = 2;
 
 /// The type of a Request, from a client.
