@@ -5,7 +5,7 @@ use Rattle.poa_base.specs.declared.Body.{Body}
 use Rattle.poa_base.specs.declared.Call.{Call}
 use Rattle.poa_base.specs.declared.Call.TheVariants.{Request, Locate, Line}
 use Rattle.poa_base.specs.declared.Head.{Head}
-use Rattle.giop_frame.specs.Part.{is_little}
+use Rattle.giop_frame.specs.Part.{is_little, minor_of}
 use Rattle.giop_msg.specs.declared.incoming.Incoming.{Incoming}
 use Rattle.giop_msg.specs.declared.incoming.Incoming.TheVariants as incoming
 use Rattle.giop_msg.specs.declared.fault.MsgFault.{MsgFault}
@@ -16,9 +16,10 @@ use Rattle.giop_msg.specs.Header.{message_type, IsForClient}
 use Rattle.giop_msg.specs.Request.{body_at, request_head, IsRequest}
 use Rattle.giop_msg.specs.Call.{HasId, MakesCall, Asks, CallOf}
 use Rattle.giop_msg.specs.Laws.{OneCall}
-use Rattle.giop_msg.proofs.Contexts.{one_closing}
-use Rattle.giop_msg.proofs.Targets.{one_target}
-use Rattle.giop_msg.proofs.Requests.{one_opening, target_at, closing_at}
+use Rattle.giop_msg.proofs.Closings.{one_closing}
+use Rattle.giop_msg.proofs.Targets.{one_addressed}
+use Rattle.giop_msg.proofs.Openings.{one_opening}
+use Rattle.giop_msg.proofs.Requests.{target_at, closing_at}
 use Rattle.giop_msg.proofs.Locates.{one_locate}
 
 -- the parts of a Request tell its call
@@ -28,16 +29,16 @@ same_call h k t u o p x y head target operation body = cc
 one_request : (bytes : List ℕ) (h k : Head) (t u : Option (List ℕ)) (o p : List ℕ) (x y : Body) → IsRequest bytes h t o x → IsRequest bytes k u p y
     → Request h t o x ≡ Request k u p y
 one_request bytes h k t u o p x y is has =
-    let opening = one_opening h.id k.id h.flags k.flags (fields_start bytes) is.behind_opening has.behind_opening is.opening has.opening in
+    let opening = one_opening (minor_of bytes) h.id k.id h.flags k.flags (fields_start bytes) is.behind_opening has.behind_opening is.opening has.opening in
     let target =
-    one_target t u has.behind_opening is.behind_target has.behind_target
+    one_addressed (minor_of bytes) t u has.behind_opening is.behind_target has.behind_target
     (target_at bytes h t o x k.id k.flags has.behind_opening has.opening is) has.addressed in
     let closing =
-    one_closing o p has.behind_target is.behind has.behind
+    one_closing (minor_of bytes) o p has.behind_target is.behind has.behind
     (closing_at bytes h t o x k.id k.flags u has.behind_opening has.behind_target has.opening has.addressed is) has.closing in
     same_call h k t u o p x y
-    (is.is_head ∙ (ap₂ (λ (i f : ℕ). request_head i f (is_little bytes)) opening.0 opening.1 ∙ sym has.is_head)) target.0 closing.0
-    (is.is_body ∙ (ap body_at closing.1 ∙ sym has.is_body))
+    (is.is_head ∙ (ap₂ (λ (i f : ℕ). request_head (minor_of bytes) i f (is_little bytes)) opening.0 opening.1 ∙ sym has.is_head)) target.0 closing.0
+    (is.is_body ∙ (ap (body_at (minor_of bytes)) closing.1 ∙ sym has.is_body))
 
 one_id : (bytes : List ℕ) (m n : ℕ) → HasId m bytes → HasId n bytes → m ≡ n
 one_id bytes m n here there = (one_ulong_read m n (fields_start bytes) here.behind there.behind here.read there.read).0

@@ -1,5 +1,5 @@
 -- The parts of a call lie in its message where its spelling puts them.
-use Rattle.std.proofs.Common.{◌≡◌, ℕ, ◌+◌, ◌≤◌, ◌<◌, List, [], ◌∷◌, Option, Some, None, length, take, drop, min, zero, suc, refl, sym, ap, ◌∙◌, subst, arith, ◌⊎◌, inl, inr}
+use Rattle.std.proofs.Common.{◌≡◌, ℕ, ◌+◌, ◌≤◌, ◌<◌, List, [], ◌∷◌, Option, Some, None, length, take, drop, min, zero, suc, true, false, refl, sym, ap, ◌∙◌, subst, arith, ◌⊎◌, inl, inr}
 use Rattle.std.specs.Prelude.{IfSome, slice_get}
 use Rattle.std.proofs.lemmas.List.{length-drop, drop-drop, take_all}
 use Rattle.std.proofs.Math.ListN.{drop_of_length-le}
@@ -21,12 +21,14 @@ use Rattle.giop_msg.specs.declared.incoming.Incoming.{Incoming}
 use Rattle.giop_msg.specs.declared.incoming.Incoming.TheVariants as incoming
 use Rattle.giop_answer.specs.declared.kind.TheConstants.{HEADER}
 use Rattle.giop_msg.specs.Fields.{fields_start}
-use Rattle.giop_msg.specs.Target.{Target, by_key, by_profile, by_reference, ReadsAddress, GivesKey, IsTarget}
-use Rattle.giop_msg.specs.Request.{opening_fields, IsRequest}
+use Rattle.giop_msg.specs.Target.{Target, by_key, by_profile, by_reference, ReadsAddress, GivesKey, IsTarget, IsKey, IsAddressed}
+use Rattle.giop_frame.specs.Part.{minor_of}
+use Rattle.giop_msg.specs.Version.{is_newest, ByVersion}
+use Rattle.giop_msg.specs.Request.{body_unit, IsNewestClosing, IsEarlierClosing, IsClosing, IsRequest}
 use Rattle.giop_msg.specs.Locate.{IsLocate}
 use Rattle.giop_msg.specs.Call.{Asks}
-use Rattle.giop_msg.specs.Lent.{LiesInProfile, LiesInReference, KeyLiesIn, TargetLies, LendsRequest, LendsLocate, LendsParts}
-use Rattle.giop_msg.proofs.Places.{IsWithin, start_within, field_within, fields_within, profiles_within, target_within}
+use Rattle.giop_msg.specs.Lent.{LiesInProfile, LiesInReference, KeyLiesIn, TargetLies, LiesBy, AddressedLies, LendsRequest, LendsLocate, LendsParts}
+use Rattle.giop_msg.proofs.Places.{IsWithin, start_within, field_within, profiles_within, opening_within, addressed_within}
 use Rattle.giop_msg.proofs.Requests.{within}
 
 -- a profile that stands in the message
@@ -98,6 +100,23 @@ target_lies bytes t a b within is =
     let within_address = field_within bytes (ushort is.disposition) a is.behind within is.told in
     key_lies_in bytes is.address.object t is.behind b within_address is.address.read is.address.gives
 
+-- by the version
+addressed_lies :
+    (bytes : List ℕ) (t : Option (List ℕ)) (a b : Cursor) → IsWithin bytes a → (is : IsAddressed (minor_of bytes) t a b) → AddressedLies bytes t a b is
+addressed_lies bytes t a b within =
+    elim (is_newest (minor_of bytes)) as (λ v. (is : ByVersion v (IsTarget t a b) (IsKey t a b)) → LiesBy v bytes t a b is) [
+      | true ↦ target_lies bytes t a b within
+      | false ↦ (λ is. lies_in_message bytes is.key (counted_at a.place) a within.stands (octets_lie is.key a b is.read))
+    ]
+
+-- the operation comes first of what stands behind the target
+name_lies : (bytes : List ℕ) (minor : ℕ) (o : List ℕ) (a b : Cursor) → IsWithin bytes a → IsClosing minor o a b → IsSlice (counted_at a.place) o bytes
+name_lies bytes minor o a b within =
+    elim (is_newest minor) as (λ v. ByVersion v (IsNewestClosing o a b) (IsEarlierClosing o a b) → IsSlice (counted_at a.place) o bytes) [
+      | true ↦ (λ is. lies_in_message bytes o (counted_at a.place) a within.stands (text_lies o a is.read.0 is.read.1.0))
+      | false ↦ (λ is. lies_in_message bytes o (counted_at a.place) a within.stands (text_lies o a is.read.0 is.read.1.0))
+    ]
+
 -- of two numbers one is no more than the other
 at_most : (a b : ℕ) → (a ≤ b) ⊎ (b < a)
 at_most zero b = inl (omega arith)
@@ -137,27 +156,25 @@ request_lends :
     (bytes : List ℕ) (h : Head) (t : Option (List ℕ)) (o : List ℕ) (body : Body) → HEADER ≤ length bytes →
     IsRequest bytes h t o body → LendsRequest bytes h t o body
 request_lends bytes h t o body whole is =
-    let opening = is.opening in
-    let fields = opening_fields h.id h.flags opening.a opening.b opening.c in
-    let start = start_within bytes whole in
-    let within_opening = fields_within bytes fields (fields_start bytes) is.behind_opening start opening.read in
-    let within_target = target_within bytes t is.behind_opening is.behind_target within_opening is.addressed in
+    let minor = minor_of bytes in
+    let within_opening = opening_within bytes minor h.id h.flags (fields_start bytes) is.behind_opening (start_within bytes whole) is.opening in
+    let within_target = addressed_within bytes minor t is.behind_opening is.behind_target within_opening is.addressed in
     let end = is.behind in
+    let unit = body_unit minor in
     let within_end = within bytes h.id h.flags t o is.behind_opening is.behind_target end whole is.opening is.addressed is.closing in
     record {
       is = is;
-      key = target_lies bytes t is.behind_opening is.behind_target within_opening is.addressed;
-      operation_lies = lies_in_message bytes o (counted_at is.behind_target.place) is.behind_target within_target.stands
-          (text_lies o is.behind_target is.closing.read.0 is.closing.read.1.0);
+      key = addressed_lies bytes t is.behind_opening is.behind_target within_opening is.addressed;
+      operation_lies = name_lies bytes minor o is.behind_target end within_target is.closing;
       body_lies = subst (λ (x : Body). IsSlice x.base x.bytes bytes) (sym is.is_body)
-          (body_lies bytes end.rest end.place (gap 8 end.place) within_end.stands.place within_end.stands.rest
-          (at_most (gap 8 end.place) (length end.rest)));
+          (body_lies bytes end.rest end.place (gap unit end.place) within_end.stands.place within_end.stands.rest
+          (at_most (gap unit end.place) (length end.rest)));
     }
 
 locate_lends : (bytes : List ℕ) (h : Head) (t : Option (List ℕ)) → HEADER ≤ length bytes → IsLocate bytes h t → LendsLocate bytes h t
 locate_lends bytes h t whole is =
     let within_id = field_within bytes (ulong h.id) (fields_start bytes) is.behind_id (start_within bytes whole) is.id in
-    record { is = is; key = target_lies bytes t is.behind_id is.behind within_id is.addressed }
+    record { is = is; key = addressed_lies bytes t is.behind_id is.behind within_id is.addressed }
 
 pub lends_parts : (bytes : List ℕ) (asked : Incoming) → HEADER ≤ length bytes → Asks bytes asked → LendsParts bytes asked
 lends_parts bytes (incoming.Call (Request h t o body)) whole asks = request_lends bytes h t o body whole asks.1

@@ -1,5 +1,7 @@
 pub mod Fields
 pub mod Contexts
+pub mod Openings
+pub mod Closings
 pub mod Targets
 pub mod Locates
 pub mod Places

@@ -1,5 +1,5 @@
 -- What is left of a message behind the fields that were read.
-use Rattle.std.proofs.Common.{◌≡◌, ℕ, ◌≤◌, List, [], ◌∷◌, Option, length, drop, refl, sym, ap, ◌∙◌, subst}
+use Rattle.std.proofs.Common.{◌≡◌, ℕ, zero, suc, ◌≤◌, true, false, List, [], ◌∷◌, Option, length, drop, refl, sym, ap, ◌∙◌, subst}
 use Rattle.cdr_core.specs.Field.{Field, ushort, ulong, text, octets}
 use Rattle.cdr_core.specs.Cursor.{Cursor, Reads}
 use Rattle.cdr_core.proofs.OneReading.{same_cursor}
@@ -10,7 +10,11 @@ use Rattle.giop_frame.specs.Part.{is_little}
 use Rattle.ior_text.specs.Tagged.{ReadsProfile, ReadsProfiles}
 use Rattle.giop_answer.specs.declared.kind.TheConstants.{HEADER}
 use Rattle.giop_msg.specs.Fields.{ReadsAll, fields_start}
-use Rattle.giop_msg.specs.Target.{Target, by_key, by_profile, by_reference, ReadsAddress, IsTarget}
+use Rattle.giop_msg.specs.Version.{is_newest, ByVersion}
+use Rattle.giop_msg.specs.Contexts.{counted_contexts}
+use Rattle.giop_msg.specs.Opening.{opening_fields, asked_fields, reserved_fields, IsReserved, IsNewestOpening, IsEarlierOpening, IsOpening}
+use Rattle.giop_msg.specs.Request.{closing_fields, principal_fields, IsNewestClosing, IsEarlierClosing, IsClosing}
+use Rattle.giop_msg.specs.Target.{Target, by_key, by_profile, by_reference, ReadsAddress, IsTarget, IsKey, IsAddressed}
 
 -- the cursor stands in the message, in its byte order
 pub record IsWithin (bytes : List ℕ) (c : Cursor) : Type 0 where
@@ -52,6 +56,38 @@ address_within bytes (by_reference index ior) a b within read =
 pub target_within : (bytes : List ℕ) (t : Option (List ℕ)) (a b : Cursor) → IsWithin bytes a → IsTarget t a b → IsWithin bytes b
 target_within bytes t a b within is =
     address_within bytes is.address.object is.behind b (field_within bytes (ushort is.disposition) a is.behind within is.told) is.address.read
+
+-- by the version: the target, and the fields in front of it and behind it
+pub addressed_within : (bytes : List ℕ) (minor : ℕ) (t : Option (List ℕ)) (a b : Cursor) → IsWithin bytes a → IsAddressed minor t a b → IsWithin bytes b
+addressed_within bytes minor t a b within =
+    elim (is_newest minor) as (λ v. ByVersion v (IsTarget t a b) (IsKey t a b) → IsWithin bytes b) [
+      | true ↦ target_within bytes t a b within
+      | false ↦ (λ is. field_within bytes (octets is.key) a b within is.read)
+    ]
+
+reserved_within : (bytes : List ℕ) (minor : ℕ) (a b : Cursor) → IsWithin bytes a → IsReserved minor a b → IsWithin bytes b
+reserved_within bytes zero a b within is = subst (IsWithin bytes) (sym is) within
+reserved_within bytes (suc minor) a b within is = fields_within bytes (reserved_fields is.0 is.1 is.2) a b within is.3
+
+earlier_within : (bytes : List ℕ) (minor i f : ℕ) (a b : Cursor) → IsWithin bytes a → IsEarlierOpening minor i f a b → IsWithin bytes b
+earlier_within bytes minor i f a b within is =
+    let contexts = fields_within bytes (counted_contexts is.contexts.contexts) a is.behind_contexts within is.contexts.read in
+    let asked = fields_within bytes (asked_fields i is.asked.asked) is.behind_contexts is.behind_asked contexts is.asked.read in
+    reserved_within bytes minor is.behind_asked b asked is.reserved
+
+pub opening_within : (bytes : List ℕ) (minor i f : ℕ) (a b : Cursor) → IsWithin bytes a → IsOpening minor i f a b → IsWithin bytes b
+opening_within bytes minor i f a b within =
+    elim (is_newest minor) as (λ v. ByVersion v (IsNewestOpening i f a b) (IsEarlierOpening minor i f a b) → IsWithin bytes b) [
+      | true ↦ (λ is. fields_within bytes (opening_fields i f is.a is.b is.c) a b within is.read)
+      | false ↦ earlier_within bytes minor i f a b within
+    ]
+
+pub closing_within : (bytes : List ℕ) (minor : ℕ) (o : List ℕ) (a b : Cursor) → IsWithin bytes a → IsClosing minor o a b → IsWithin bytes b
+closing_within bytes minor o a b within =
+    elim (is_newest minor) as (λ v. ByVersion v (IsNewestClosing o a b) (IsEarlierClosing o a b) → IsWithin bytes b) [
+      | true ↦ (λ is. fields_within bytes (closing_fields o is.contexts) a b within is.read)
+      | false ↦ (λ is. fields_within bytes (principal_fields o is.principal) a b within is.read)
+    ]
 
 -- a cursor of the message is told by its place
 pub by_place :

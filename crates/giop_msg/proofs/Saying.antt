@@ -5,7 +5,7 @@ use Rattle.cdr_core.specs.Cursor.{Cursor, Reads}
 use Rattle.cdr_core.proofs.OneReading.{one_ulong_read}
 use Rattle.poa_base.specs.declared.Call.{Call}
 use Rattle.poa_base.specs.declared.Call.TheVariants.{Request, Locate, Line}
-use Rattle.giop_frame.specs.Part.{is_little}
+use Rattle.giop_frame.specs.Part.{is_little, minor_of}
 use Rattle.giop_msg.specs.declared.incoming.Incoming.{Incoming}
 use Rattle.giop_msg.specs.declared.incoming.Incoming.TheVariants as incoming
 use Rattle.giop_msg.specs.declared.fault.MsgFault.{MsgFault}
@@ -17,39 +17,40 @@ use Rattle.giop_msg.specs.Header.{message_type, IsForClient}
 use Rattle.giop_msg.specs.Laws.{EachSays}
 use Rattle.giop_msg.specs.Locate.{locate_head}
 use Rattle.giop_msg.specs.Request.{body_at, request_head, IsClosing}
-use Rattle.giop_msg.specs.Target.{IsTarget}
-use Rattle.giop_msg.proofs.Addressing.{target_decided}
-use Rattle.giop_msg.proofs.Targets.{one_target}
+use Rattle.giop_msg.specs.Target.{IsAddressed}
+use Rattle.giop_msg.proofs.Targets.{one_addressed}
 use Rattle.giop_msg.proofs.Deciding.{Decided, decided_as, decided_then, is_decided, Stands, StandsThen}
 use Rattle.giop_msg.proofs.Numbers.{ulong_decided}
-use Rattle.giop_msg.proofs.Parts.{Opening, opened_once, opening_decided, closing_decided}
+use Rattle.giop_msg.proofs.Parts.{Opening, opened_once, opening_decided, addressed_decided, closing_decided}
 
 -- a Request: an opening, a target and a closing
-abbrev TargetThen : Cursor → Type 0
-TargetThen c = StandsThen (Option (List ℕ)) IsTarget (λ (t : Option (List ℕ)) (a : Cursor). Stands (List ℕ) IsClosing a) c
+abbrev TargetThen : ℕ → Cursor → Type 0
+TargetThen minor c = StandsThen (Option (List ℕ)) (IsAddressed minor) (λ (t : Option (List ℕ)) (a : Cursor). Stands (List ℕ) (IsClosing minor) a) c
 
-abbrev OpeningThen : Cursor → Type 0
-OpeningThen c = StandsThen (ℕ × ℕ) Opening (λ (v : ℕ × ℕ) (a : Cursor). TargetThen a) c
+abbrev OpeningThen : ℕ → Cursor → Type 0
+OpeningThen minor c = StandsThen (ℕ × ℕ) (Opening minor) (λ (v : ℕ × ℕ) (a : Cursor). TargetThen minor a) c
 
-target_then : (c : Cursor) → Decided (TargetThen c)
-target_then c =
-    decided_then (Option (List ℕ)) IsTarget (λ (t : Option (List ℕ)) (a : Cursor). Stands (List ℕ) IsClosing a) c (λ t u a b p q. one_target t u c a b p q)
-    (λ t a. closing_decided a) (target_decided c)
+target_then : (minor : ℕ) (c : Cursor) → Decided (TargetThen minor c)
+target_then minor c =
+    decided_then (Option (List ℕ)) (IsAddressed minor) (λ (t : Option (List ℕ)) (a : Cursor). Stands (List ℕ) (IsClosing minor) a) c
+    (λ t u a b p q. one_addressed minor t u c a b p q)
+    (λ t a. closing_decided minor a) (addressed_decided minor c)
 
-opening_then : (c : Cursor) → Decided (OpeningThen c)
-opening_then c =
-    decided_then (ℕ × ℕ) Opening (λ (v : ℕ × ℕ) (a : Cursor). TargetThen a) c (opened_once c) (λ v a. target_then a) (opening_decided c)
+opening_then : (minor : ℕ) (c : Cursor) → Decided (OpeningThen minor c)
+opening_then minor c =
+    decided_then (ℕ × ℕ) (Opening minor) (λ (v : ℕ × ℕ) (a : Cursor). TargetThen minor a) c (opened_once minor c) (λ v a. target_then minor a)
+    (opening_decided minor c)
 
 -- a call that the message makes
 abbrev SomeCall : List ℕ → Type 0
 SomeCall bytes = (call : Call) × MakesCall bytes call
 
-request_there : (bytes : List ℕ) → message_type bytes ≡ REQUEST → OpeningThen (fields_start bytes) → SomeCall bytes
+request_there : (bytes : List ℕ) → message_type bytes ≡ REQUEST → OpeningThen (minor_of bytes) (fields_start bytes) → SomeCall bytes
 request_there bytes kind s =
     let target = s.3 in
     let closing = target.3 in
-    let head = request_head s.0.0 s.0.1 (is_little bytes) in (
-      Request head target.0 closing.0 (body_at closing.1),
+    let head = request_head (minor_of bytes) s.0.0 s.0.1 (is_little bytes) in (
+      Request head target.0 closing.0 (body_at (minor_of bytes) closing.1),
       (
         kind,
         record {
@@ -65,7 +66,7 @@ request_there bytes kind s =
       ),
     )
 
-request_back : (bytes : List ℕ) (call : Call) → message_type bytes ≡ REQUEST → MakesCall bytes call → OpeningThen (fields_start bytes)
+request_back : (bytes : List ℕ) (call : Call) → message_type bytes ≡ REQUEST → MakesCall bytes call → OpeningThen (minor_of bytes) (fields_start bytes)
 request_back bytes (Request head t o body) kind makes =
     let is = makes.1 in
     ((head.id, head.flags), is.behind_opening, is.opening, (t, is.behind_target, is.addressed, (o, is.behind, is.closing)))
@@ -73,21 +74,22 @@ request_back bytes (Locate head t) kind makes = absurd (omega (arith, kind, make
 request_back bytes (Line number command) kind makes = absurd makes
 
 -- a LocateRequest: an id and a target
-abbrev LocateThen : Cursor → Type 0
-LocateThen c = StandsThen ℕ (λ (n : ℕ). Reads (ulong n)) (λ (n : ℕ) (a : Cursor). Stands (Option (List ℕ)) IsTarget a) c
+abbrev LocateThen : ℕ → Cursor → Type 0
+LocateThen minor c = StandsThen ℕ (λ (n : ℕ). Reads (ulong n)) (λ (n : ℕ) (a : Cursor). Stands (Option (List ℕ)) (IsAddressed minor) a) c
 
-locate_then : (c : Cursor) → Decided (LocateThen c)
-locate_then c =
-    decided_then ℕ (λ (n : ℕ). Reads (ulong n)) (λ (n : ℕ) (a : Cursor). Stands (Option (List ℕ)) IsTarget a) c (λ m n a b p q. one_ulong_read m n c a b p q)
-    (λ n a. target_decided a) (ulong_decided c)
+locate_then : (minor : ℕ) (c : Cursor) → Decided (LocateThen minor c)
+locate_then minor c =
+    decided_then ℕ (λ (n : ℕ). Reads (ulong n)) (λ (n : ℕ) (a : Cursor). Stands (Option (List ℕ)) (IsAddressed minor) a) c
+    (λ m n a b p q. one_ulong_read m n c a b p q)
+    (λ n a. addressed_decided minor a) (ulong_decided c)
 
-locate_there : (bytes : List ℕ) → message_type bytes ≡ LOCATE_REQUEST → LocateThen (fields_start bytes) → SomeCall bytes
+locate_there : (bytes : List ℕ) → message_type bytes ≡ LOCATE_REQUEST → LocateThen (minor_of bytes) (fields_start bytes) → SomeCall bytes
 locate_there bytes kind s = (
-  Locate (locate_head s.0 (is_little bytes)) s.3.0,
+  Locate (locate_head (minor_of bytes) s.0 (is_little bytes)) s.3.0,
   (kind, record { behind_id = s.1; behind = s.3.1; id = s.2; addressed = s.3.2; is_head = refl }),
 )
 
-locate_back : (bytes : List ℕ) (call : Call) → message_type bytes ≡ LOCATE_REQUEST → MakesCall bytes call → LocateThen (fields_start bytes)
+locate_back : (bytes : List ℕ) (call : Call) → message_type bytes ≡ LOCATE_REQUEST → MakesCall bytes call → LocateThen (minor_of bytes) (fields_start bytes)
 locate_back bytes (Request head t o body) kind makes = absurd (omega (arith, kind, makes.0))
 locate_back bytes (Locate head t) kind makes = let is = makes.1 in (head.id, is.behind_id, is.id, (t, is.behind, is.addressed))
 locate_back bytes (Line number command) kind makes = absurd makes
@@ -98,24 +100,24 @@ SomeAsked bytes = (asked : Incoming) × Asks bytes asked
 
 request_asked : (bytes : List ℕ) → message_type bytes ≡ REQUEST → Decided (SomeAsked bytes)
 request_asked bytes kind =
-    decided_as (OpeningThen (fields_start bytes)) (SomeAsked bytes)
+    decided_as (OpeningThen (minor_of bytes) (fields_start bytes)) (SomeAsked bytes)
     (λ s. let made = request_there bytes kind s in (incoming.Call made.0, made.1))
     (λ s. back s.0 s.1)
-    (opening_then (fields_start bytes))
+    (opening_then (minor_of bytes) (fields_start bytes))
   where
-    back : (asked : Incoming) → Asks bytes asked → OpeningThen (fields_start bytes)
+    back : (asked : Incoming) → Asks bytes asked → OpeningThen (minor_of bytes) (fields_start bytes)
     back (incoming.Call call) asks = request_back bytes call kind asks
     back (incoming.Cancel id) asks = absurd (omega (arith, kind, asks.0))
     back incoming.Closing asks = absurd (omega (arith, kind, asks))
 
 locate_asked : (bytes : List ℕ) → message_type bytes ≡ LOCATE_REQUEST → Decided (SomeAsked bytes)
 locate_asked bytes kind =
-    decided_as (LocateThen (fields_start bytes)) (SomeAsked bytes)
+    decided_as (LocateThen (minor_of bytes) (fields_start bytes)) (SomeAsked bytes)
     (λ s. let made = locate_there bytes kind s in (incoming.Call made.0, made.1))
     (λ s. back s.0 s.1)
-    (locate_then (fields_start bytes))
+    (locate_then (minor_of bytes) (fields_start bytes))
   where
-    back : (asked : Incoming) → Asks bytes asked → LocateThen (fields_start bytes)
+    back : (asked : Incoming) → Asks bytes asked → LocateThen (minor_of bytes) (fields_start bytes)
     back (incoming.Call call) asks = locate_back bytes call kind asks
     back (incoming.Cancel id) asks = absurd (omega (arith, kind, asks.0))
     back incoming.Closing asks = absurd (omega (arith, kind, asks))

@@ -1,5 +1,5 @@
 -- Why a target can't be read, and that it is read in one way.
-use Rattle.std.proofs.Common.{◌≡◌, ℕ, ◌≤◌, List, Option, Some, None, refl, sym, ap, ap₂, ◌∙◌, subst, arith}
+use Rattle.std.proofs.Common.{◌≡◌, ℕ, ◌≤◌, true, false, List, Option, Some, None, refl, sym, ap, ap₂, ◌∙◌, subst, arith}
 use Rattle.std.specs.Prelude.{option_map}
 use Rattle.cdr_core.specs.declared.CdrFault.{CdrFault}
 use Rattle.cdr_core.specs.Kind.{ULong, Octets}
@@ -17,7 +17,8 @@ use Rattle.ior_text.proofs.Keys.{one_told_key, one_key, one_found, found_at}
 use Rattle.ior_text.specs.declared.ProfileView.{ProfileView}
 use Rattle.ior_text.specs.Seen.{seen_profile, SeesProfile}
 use Rattle.giop_msg.specs.declared.target.TheConstants.{KEY_ADDRESS, PROFILE_ADDRESS, REFERENCE_ADDRESS}
-use Rattle.giop_msg.specs.Target.{Target, by_key, by_profile, by_reference, disposition_of, ReadsAddress, GivesKey, IsAddress, IsTarget}
+use Rattle.giop_msg.specs.Target.{Target, by_key, by_profile, by_reference, disposition_of, ReadsAddress, GivesKey, IsAddress, IsTarget, IsKey, IsAddressed}
+use Rattle.giop_msg.specs.Version.{is_newest, ByVersion}
 use Rattle.giop_msg.specs.Reading.{NoTarget, NoAddress}
 
 -- an address of a disposition is read in one way
@@ -60,6 +61,23 @@ address_at n t a b after told is =
 pub one_target : (t u : Option (List ℕ)) (a b c : Cursor) → IsTarget t a b → IsTarget u a c → (t ≡ u) × (b ≡ c)
 one_target t u a b c here there =
     one_address there.disposition t u there.behind b c (address_at there.disposition t a there.behind b there.told here) there.address
+
+one_key_read : (t u : Option (List ℕ)) (a b c : Cursor) → IsKey t a b → IsKey u a c → (t ≡ u) × (b ≡ c)
+one_key_read t u a b c here there =
+    let key = one_octets_read here.key there.key a b c here.read there.read in
+    (here.gives ∙ (ap (λ (k : List ℕ). Some k) key.0 ∙ sym there.gives), key.1)
+
+-- by the version
+pub one_addressed : (minor : ℕ) (t u : Option (List ℕ)) (a b c : Cursor) → IsAddressed minor t a b → IsAddressed minor u a c → (t ≡ u) × (b ≡ c)
+one_addressed minor t u a b c =
+    elim (is_newest minor) as (λ v. ByVersion v (IsTarget t a b) (IsKey t a b) → ByVersion v (IsTarget u a c) (IsKey u a c) → (t ≡ u) × (b ≡ c)) [
+      | true ↦ one_target t u a b c
+      | false ↦ one_key_read t u a b c
+    ]
+
+-- no key where there is no octets
+pub no_key_read : (a : Cursor) (fault : CdrFault) → Refuses Octets a fault → (t : Option (List ℕ)) (after : Cursor) → IsKey t a after → ⊥
+no_key_read a fault refused t after is = none_where_refused (octets is.key) a after fault refused is.read
 
 -- without an address there is no target
 pub no_target_behind : (n : ℕ) (a b : Cursor) → Reads (ushort n) a b → NoAddress n b → NoTarget a

@@ -1,7 +1,8 @@
 -- Laws of reading messages.
-use Rattle.std.specs.Prelude.{◌≡◌, ℕ, List, Result, Ok}
+use Rattle.std.specs.Prelude.{◌≡◌, ◌≤◌, ℕ, List, Result, Ok}
 use Rattle.poa_base.specs.declared.Ask.{Ask}
 use Rattle.giop_frame.specs.Message.{IsMessage}
+use Rattle.giop_answer.specs.declared.kind.TheConstants.{MINOR}
 use Rattle.giop_msg.specs.declared.incoming.Incoming.{Incoming}
 use Rattle.giop_msg.specs.declared.incoming.Incoming.TheVariants as incoming
 use Rattle.giop_msg.specs.declared.fault.MsgFault.{MsgFault}
@@ -18,7 +19,7 @@ EachSays = (bytes : List ℕ) → (said : Result Incoming MsgFault) × CallOf by
 
 -- a Request that is written is a message
 abbrev pub WrittenIsMessage : Type 0
-WrittenIsMessage = (ask : Ask) → IsMessage (request_bytes ask)
+WrittenIsMessage = (ask : Ask) → ask.head.minor ≤ MINOR → IsMessage (request_bytes ask)
 
 -- and asks the call that it was written for
 abbrev pub WrittenAsks : Type 0

@@ -1,5 +1,5 @@
 -- Where the parts of a call lie: each is the slice of the message at the place that the spelling gives it.
-use Rattle.std.specs.Prelude.{◌≡◌, ℕ, ◌+◌, List, Option, Some, IfSome, slice_get, take, ⊤}
+use Rattle.std.specs.Prelude.{◌≡◌, ℕ, ◌+◌, Bool, true, false, List, Option, Some, IfSome, slice_get, take, ⊤}
 use Rattle.cdr_core.specs.Field.{ulong}
 use Rattle.cdr_core.specs.Cursor.{Cursor, Reads}
 use Rattle.cdr_core.specs.Part.{IsSlice, counted_at}
@@ -13,7 +13,9 @@ use Rattle.ior_text.specs.ReferenceFields.{ReadsIor}
 use Rattle.ior_text.specs.Seen.{KeyLies}
 use Rattle.giop_msg.specs.declared.incoming.Incoming.{Incoming}
 use Rattle.giop_msg.specs.declared.incoming.Incoming.TheVariants as incoming
-use Rattle.giop_msg.specs.Target.{Target, by_key, by_profile, by_reference, IsTarget}
+use Rattle.giop_frame.specs.Part.{minor_of}
+use Rattle.giop_msg.specs.Version.{ByVersion, is_newest}
+use Rattle.giop_msg.specs.Target.{Target, by_key, by_profile, by_reference, IsKey, IsTarget, IsAddressed}
 use Rattle.giop_msg.specs.Request.{IsRequest}
 use Rattle.giop_msg.specs.Locate.{IsLocate}
 
@@ -46,16 +48,26 @@ KeyLiesIn bytes (by_reference index ior) c key = LiesInReference bytes key index
 abbrev pub TargetLies : (bytes : List ℕ) (given : Option (List ℕ)) (before after : Cursor) → IsTarget given before after → Type 0
 TargetLies bytes given before after is = IfSome given (KeyLiesIn bytes is.address.object is.behind)
 
+-- by the version: in those before 1.2 the key is the target
+abbrev pub LiesBy : (newest : Bool) (bytes : List ℕ) (given : Option (List ℕ)) (before after : Cursor)
+    → ByVersion newest (IsTarget given before after) (IsKey given before after) → Type 0
+LiesBy true bytes given before after is = TargetLies bytes given before after is
+LiesBy false bytes given before after is = IsSlice (counted_at before.place) is.key bytes
+
+abbrev pub AddressedLies : (bytes : List ℕ) (given : Option (List ℕ)) (before after : Cursor) → IsAddressed (minor_of bytes) given before after
+    → Type 0
+AddressedLies bytes given before after is = LiesBy (is_newest (minor_of bytes)) bytes given before after is
+
 -- the operation lies behind its length, and the body at its base
 pub record LendsRequest (bytes : List ℕ) (head : Head) (target : Option (List ℕ)) (operation : List ℕ) (body : Body) : Type 0 where
   pub is : IsRequest bytes head target operation body
-  pub key : TargetLies bytes target is.behind_opening is.behind_target is.addressed
+  pub key : AddressedLies bytes target is.behind_opening is.behind_target is.addressed
   pub operation_lies : IsSlice (counted_at is.behind_target.place) operation bytes
   pub body_lies : IsSlice body.base body.bytes bytes
 
 pub record LendsLocate (bytes : List ℕ) (head : Head) (target : Option (List ℕ)) : Type 0 where
   pub is : IsLocate bytes head target
-  pub key : TargetLies bytes target is.behind_id is.behind is.addressed
+  pub key : AddressedLies bytes target is.behind_id is.behind is.addressed
 
 -- a call's parts; a cancel and a closing have none
 abbrev pub LendsParts : List ℕ → Incoming → Type 0

@@ -1,5 +1,8 @@
 pub mod Fields
 pub mod Header
+pub mod Version
+pub mod Contexts
+pub mod Opening
 pub mod Target
 pub mod Request
 pub mod Locate

@@ -3,13 +3,16 @@ use Rattle.std.specs.Prelude.{◌≡◌, ℕ, List, [], ◌∷◌, Option, lengt
 use Rattle.cdr_core.specs.Cursor.{Cursor}
 use Rattle.poa_base.specs.declared.Call.{Call}
 use Rattle.giop_msg.specs.Fields.{ReadsAll}
-use Rattle.giop_msg.specs.Target.{IsTarget, IsAddress}
-use Rattle.giop_msg.specs.Request.{Context, context_fields}
+use Rattle.giop_msg.specs.Target.{IsTarget, IsAddress, IsAddressed}
+use Rattle.giop_msg.specs.Contexts.{Context, context_fields}
 use Rattle.giop_msg.specs.Call.{MakesCall}
 
 -- no target stands at the cursor, and no address of a disposition
 abbrev pub NoTarget : Cursor → Type 0
 NoTarget before = (target : Option (List ℕ)) (after : Cursor) → IsTarget target before after → ⊥
+
+abbrev pub NoneAddressed : ℕ → Cursor → Type 0
+NoneAddressed minor before = (target : Option (List ℕ)) (after : Cursor) → IsAddressed minor target before after → ⊥
 
 abbrev pub NoAddress : ℕ → Cursor → Type 0
 NoAddress disposition before = (target : Option (List ℕ)) (after : Cursor) → IsAddress disposition target before after → ⊥

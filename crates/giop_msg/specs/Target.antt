@@ -1,4 +1,5 @@
--- The target of a request or a locate: CORBA 3.3 Part 2, 9.4.2.1. A short, the disposition, tells how the object is addressed.
+-- The target of a request or a locate: CORBA 3.3 Part 2, 9.4.2.1. In version 1.2 a short, the disposition, tells how the
+-- object is addressed; in the versions before it the target is the key.
 use Rattle.std.specs.Prelude.{◌≡◌, ℕ, List, [], ◌∷◌, Option, Some}
 use Rattle.cdr_core.specs.Field.{Field, ushort, ulong, octets}
 use Rattle.cdr_core.specs.Cursor.{Cursor, Reads}
@@ -8,6 +9,7 @@ use Rattle.ior_text.specs.Tagged.{ReadsProfile}
 use Rattle.ior_text.specs.ReferenceFields.{ReadsIor}
 use Rattle.ior_text.specs.Key.{TellsKey, HasKey, IsKeyOr}
 use Rattle.giop_msg.specs.declared.target.TheConstants.{KEY_ADDRESS, PROFILE_ADDRESS, REFERENCE_ADDRESS}
+use Rattle.giop_msg.specs.Version.{ByVersion, is_newest}
 
 -- how an object is addressed
 pub data Target : Type 0 where
@@ -49,6 +51,16 @@ pub record IsTarget (given : Option (List ℕ)) (before after : Cursor) : Type 0
   pub told : Reads (ushort disposition) before behind
   pub address : IsAddress disposition given behind after
 
--- the fields of a target by its key, as it is written
+-- a target of the versions before 1.2: its key
+pub record IsKey (given : Option (List ℕ)) (before after : Cursor) : Type 0 where
+  pub key : List ℕ
+  pub read : Reads (octets key) before after
+  pub gives : given ≡ Some key
+
+-- by the version
+abbrev pub IsAddressed : ℕ → Option (List ℕ) → Cursor → Cursor → Type 0
+IsAddressed minor given before after = ByVersion (is_newest minor) (IsTarget given before after) (IsKey given before after)
+
+-- the fields of a target by its key in version 1.2, as it is written
 abbrev pub key_fields : List ℕ → List Field
 key_fields key = ushort KEY_ADDRESS ∷ octets key ∷ []

@@ -3,10 +3,12 @@
 #![tactic(auto)]
 
 mod ask;
+mod contexts;
 mod fault;
 mod incoming;
 pub mod laws;
 mod locate;
+mod opening;
 mod reading;
 mod request;
 mod seen;

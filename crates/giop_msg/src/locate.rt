@@ -6,10 +6,10 @@ ghost use Rattle.giop_msg.specs.Reading.{NoCall};
 ghost use Rattle.giop_msg.specs.Seen.{asked_by};
 
 use crate::seen::Seen;
-use crate::target::view_target;
+use crate::target::view_addressed;
 use crate::view_fault::Unreadable;
-use crate::viewing::{enter, is_little};
-use giop_answer::kind::{HEADER, LOCATE_REQUEST, MINOR};
+use crate::viewing::{enter, is_little, minor_of};
+use giop_answer::kind::{HEADER, LOCATE_REQUEST};
 use poa_base::Head;
 
 /// The call that a LocateRequest makes.
@@ -19,12 +19,13 @@ pub(crate) fn view_locate<'a>(bytes: &'a [u8]) -> Result<Seen<'a>, Unreadable>
     ensures ok { IfOk result (λ seen. Asks bytes.now (asked_by seen)) }
     ensures bad { OnErr result (NoCall bytes.now) }
 {
+    let minor = minor_of(bytes);
     let mut view = enter(bytes);
     let id = view.ulong()?;
-    let target = view_target(&mut view)?;
+    let target = view_addressed(&mut view, minor)?;
     let head = Head {
         id,
-        minor: MINOR,
+        minor,
         little: is_little(bytes),
         flags: 0,
         locate: true,

@@ -1,6 +1,6 @@
 //! The call of a message, read where it lies.
 ghost use Rattle.std.specs.Prelude.{◌≡◌, ◌≤◌, ℕ, Result, Ok, Err, IfOk, IfErr, OnErr, length};
-ghost use Rattle.giop_frame.specs.Part.{is_little as little_flag};
+ghost use Rattle.giop_frame.specs.Part.{is_little as little_flag, minor_of as version_of};
 ghost use Rattle.giop_frame.specs.Message.{IsMessage};
 ghost use Rattle.giop_msg.specs.declared.incoming.Incoming.{Incoming as IncomingData};
 ghost use Rattle.giop_msg.specs.declared.fault.MsgFault.{MsgFault as MsgFaultData};
@@ -17,12 +17,13 @@ use cdr_core::View;
 use giop_answer::kind::{CANCEL_REQUEST, CLOSE_CONNECTION, HEADER, LOCATE_REQUEST, REQUEST};
 use giop_frame::Message;
 
-/// What a message asks of a server: the call of a Request or a LocateRequest, the id of a CancelRequest, or a
-/// CloseConnection. A call whose target is told by a profile or by a reference from which no key can be read
+/// What a message of any version asks of a server: the call of a Request or a LocateRequest, the id of a CancelRequest,
+/// or a CloseConnection. A call whose target is told by a profile or by a reference from which no key can be read
 /// has no target. Takes no memory: the key, the operation and the body are slices of the message.
 ///
 /// `Malformed` where the fields of a Request, LocateRequest or CancelRequest can't be read: the id; of the two
-/// calls the target; and of a Request the response flags, the operation and the service contexts.
+/// calls the target; and of a Request the response flags (before version 1.2 whether a reply is asked, an octet 0 or
+/// 1), the operation, the service contexts and, before version 1.2, the principal, which is ignored.
 /// `NotForServer` for a Reply, a LocateReply or a MessageError. What stands behind the target of a
 /// LocateRequest, behind the id of a CancelRequest, or behind the header of a CloseConnection, is ignored.
 pub fn view_call(message: &Message) -> Result<Seen<'_>, ViewFault>
@@ -73,6 +74,14 @@ pub(crate) fn enter<'a>(bytes: &'a [u8]) -> View<'a>
 {
     let (_, fields) = bytes.split_at(HEADER as usize);
     View::new(fields, is_little(bytes), HEADER)
+}
+
+/// The minor version of the message.
+pub(crate) fn minor_of(bytes: &[u8]) -> u8
+    requires { HEADER ≤ length bytes.now }
+    ensures { result ≡ version_of bytes.now }
+{
+    bytes[5]
 }
 
 /// Whether the message is little-endian: bit 0 of its flags.

@@ -2,7 +2,7 @@
 use Rattle.std.proofs.Common.{ap, ◌∙◌}
 use Rattle.cdr_core.specs.Field.{octet, ulong}
 use Rattle.cdr_core.specs.Draft.{with_field}
-use Rattle.giop_msg.proofs.ask.opening.Goals as goal
+use Rattle.giop_msg.proofs.ask.newest_opening.Goals as goal
 
 pub returns-clause-fields : goal.returns-clause-fields
 returns-clause-fields c =

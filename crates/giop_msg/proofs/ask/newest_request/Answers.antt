@@ -2,7 +2,7 @@
 use Rattle.std.proofs.Common.{ℕ, List, length, ap, ◌∙◌, arith}
 use Rattle.cdr_core.specs.Field.{ushort, ulong, text, octets}
 use Rattle.cdr_core.specs.Draft.{Draft, with_field}
-use Rattle.giop_msg.proofs.ask.request_fields.Goals as goal
+use Rattle.giop_msg.proofs.ask.newest_request.Goals as goal
 
 pub returns-clause-bytes : goal.returns-clause-bytes
 returns-clause-bytes c =
@@ -15,10 +15,8 @@ returns-clause-bytes c =
     ∙ ap (with_field (octets c.args.ask.now.key)) (c.in_ok-ushort.ensures.ok
     ∙ ap (with_field (ushort 0)) c.in_ok-writer.ensures.fields))))))
 
-pub returns-clause-ask : goal.returns-clause-ask
-returns-clause-ask c = record {
-  minor = c.requires.minor;
-  no_locate = c.requires.request;
+pub returns-clause-fits : goal.returns-clause-fits
+returns-clause-fits c = record {
   id = c.in_ok-writer.ensures.id;
   flags = c.in_ok-writer.ensures.flags;
   key = omega (arith, c.in_ok-put_octets.ensures.fits, ap (λ (l : List ℕ). length l) c.as_slice.ensures);

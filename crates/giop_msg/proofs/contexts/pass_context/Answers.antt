@@ -2,7 +2,7 @@
 use Rattle.std.proofs.Common.{refl}
 use Rattle.ior_text.proofs.Refused.{on_err}
 use Rattle.giop_msg.proofs.Contexts.{no_data}
-use Rattle.giop_msg.proofs.request.pass_context.Goals as goal
+use Rattle.giop_msg.proofs.contexts.pass_context.Goals as goal
 
 pub returns-in_err-octets-clause-bad : goal.returns-in_err-octets-clause-bad
 returns-in_err-octets-clause-bad c = on_err _ (no_data _ _ _ _ c.in_ok-ulong.ensures.ok c.in_err-octets.ensures.refused)
