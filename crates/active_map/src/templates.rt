@@ -1,5 +1,5 @@
 //! What the configuration says of an adapter, a manager and a servant. A path is its names.
-ghost use Rattle.std.specs.Prelude.{◌≡◌, ◌<◌, ◌≤◌, ◌^◌, [], ◌∷◌, None, IfOk, IsOk, IfSome, codes, length, option_copied, is_some, position};
+ghost use Rattle.std.specs.Prelude.{◌≡◌, ◌==◌, ◌&&◌, not, ◌<◌, ◌≤◌, ◌^◌, [], ◌∷◌, None, IfOk, IsOk, IfSome, codes, length, option_copied, is_some, position};
 ghost use Rattle.history_standing.specs.Paths.{same_bytes};
 ghost use Rattle.history_standing.specs.Templates as configured;
 
@@ -74,6 +74,33 @@ pub fn rules_at<'a>(config: &'a Config, path: &[Name]) -> &'a [RuleConf]
     match own_entry(config, path) {
         Some(entry) => entry.rules.as_slice(),
         None => &[],
+    }
+}
+
+/// The tag that persistent references of a path carry; 0 where they carry none.
+pub fn tag_at(config: &Config, path: &[Name]) -> u16
+    ensures { result ≡ configured.tag_at config.now path.now }
+{
+    match own_entry(config, path) {
+        Some(entry) => entry.tag,
+        None => 0,
+    }
+}
+
+/// Whether a tag is another than its template's own, and not none where that still serves old keys.
+fn is_other(tag: u16, own: u16, old_keys: bool) -> bool
+    ensures { result ≡ (not (tag == own) && not ((tag == 0) && old_keys)) }
+{
+    tag != own && !(tag == 0 && old_keys)
+}
+
+/// Whether a persistent key of a path, with this tag, has another one than the template of the path.
+pub fn is_other_tag(config: &Config, path: &[Name], tag: u16) -> bool
+    ensures { result ≡ configured.is_other_tag (configured.template_or_root config.now path.now) tag }
+{
+    match own_entry(config, path) {
+        Some(entry) => is_other(tag, entry.tag, entry.old_keys),
+        None => is_other(tag, 0, true),
     }
 }
 
