@@ -13,8 +13,8 @@ use Rattle.poa_base.specs.declared.ExcName.TheVariants.{ObjectNotExist, Transien
 use Rattle.poa_base.specs.declared.ManagerState.{ManagerState}
 use Rattle.poa_base.specs.declared.ManagerState.TheVariants.{Active, Discarding, Holding, Inactive}
 use Rattle.poa_base.specs.declared.Verdict.TheVariants.{Addressing}
-use Rattle.poa_base.specs.declared.minors.TheConstants.{ADAPTER_DYING, BAD_KEY, DISCARDED, OTHER_LIFESPAN}
-use Rattle.poa_choose.specs.Table.{awaits_main, awaits_turn, first_row, inactive_rule, key_rows, missing_rows, object_rows, refuse, state_rule, thread_rows, walk_rows}
+use Rattle.poa_base.specs.declared.minors.TheConstants.{ADAPTER_DYING, BAD_KEY, DISCARDED, OTHER_LIFESPAN, OTHER_TAG}
+use Rattle.poa_choose.specs.Table.{awaits_main, awaits_turn, first_row, inactive_rule, key_rows, missing_rows, object_rows, refuse, state_rule, tag_rows, thread_rows, walk_rows}
 use Rattle.poa_choose.specs.declared.Choice.{Choice}
 use Rattle.poa_choose.specs.declared.Choice.TheVariants.{Go, Held}
 use Rattle.poa_choose.specs.declared.Facts.{Facts}
@@ -57,12 +57,17 @@ module _ (f : Facts) where
   by_state on all Discarding = for_all (refuse f Transiently DISCARDED)
   by_state on all Inactive = for_all (inactive_rule f)
 
+  by_tag : HeldFromAll (tag_rows f)
+  by_tag =
+      elim f.other_tag as (λ b. HeldFromAll (λ w. if b then refuse f ObjectNotExist OTHER_TAG else state_rule f f.state (thread_rows f w)))
+      [ true ↦ for_all (refuse f ObjectNotExist OTHER_TAG) | false ↦ by_state (thread_rows f) by_thread f.state ]
+
   by_walk : (walk : WalkFact) → HeldFromAll (λ w. walk_rows f w walk)
   by_walk MeetsDying = for_all (refuse f Transiently ADAPTER_DYING)
   by_walk MeetsMissing = for_all (missing_rows f)
   by_walk MeetsAdapter =
-      elim f.differs as (λ b. HeldFromAll (λ w. if b then refuse f ObjectNotExist OTHER_LIFESPAN else state_rule f f.state (thread_rows f w)))
-      [ true ↦ for_all (refuse f ObjectNotExist OTHER_LIFESPAN) | false ↦ by_state (thread_rows f) by_thread f.state ]
+      elim f.differs as (λ b. HeldFromAll (λ w. if b then refuse f ObjectNotExist OTHER_LIFESPAN else tag_rows f w))
+      [ true ↦ for_all (refuse f ObjectNotExist OTHER_LIFESPAN) | false ↦ by_tag ]
 
   by_key : (key : KeyFact) → HeldFromAll (λ w. key_rows f w key)
   by_key Absent = for_all (Go Addressing)

@@ -9,8 +9,8 @@ use Rattle.poa_base.specs.declared.ManagerState.TheVariants.{Active, Discarding,
 use Rattle.poa_base.specs.declared.Policy.{Policy}
 use Rattle.poa_base.specs.declared.Policy.TheVariants.{DefaultServant, ServantManager}
 use Rattle.poa_base.specs.declared.Verdict.TheVariants.{Addressing, Here, Incarnate, Try}
-use Rattle.poa_base.specs.declared.minors.TheConstants.{ADAPTER_DYING, BAD_KEY, DISCARDED, MANAGER_INACTIVE, NOT_ACTIVE, NO_ADAPTER, NO_SERVANT_MANAGER, OTHER_LIFESPAN}
-use Rattle.poa_choose.specs.Table.{activator_rows, awaits_main, awaits_turn, default_rows, first_row, forward_or, found_rows, inactive_rule, is_transient, key_rows, located_rows, locator_rows, manager_rows, map_rows, missing_rows, object_rows, processing_rows, refuse, state_rule, thread_rows, trial_rows, unmade, walk_rows}
+use Rattle.poa_base.specs.declared.minors.TheConstants.{ADAPTER_DYING, BAD_KEY, DISCARDED, MANAGER_INACTIVE, NOT_ACTIVE, NO_ADAPTER, NO_SERVANT_MANAGER, OTHER_LIFESPAN, OTHER_TAG}
+use Rattle.poa_choose.specs.Table.{activator_rows, awaits_main, awaits_turn, default_rows, first_row, forward_or, found_rows, inactive_rule, is_transient, key_rows, located_rows, locator_rows, manager_rows, map_rows, missing_rows, object_rows, processing_rows, refuse, state_rule, tag_rows, thread_rows, trial_rows, unmade, walk_rows}
 use Rattle.poa_choose.specs.declared.Choice.{Choice}
 use Rattle.poa_choose.specs.declared.Choice.TheVariants.{Go, Held}
 use Rattle.poa_choose.specs.declared.Facts.{Facts}
@@ -130,10 +130,15 @@ module _ (f : Facts) where
         elim (is_transient f.key) as (λ b. IsHeldAll (λ w. if b then refuse f ObjectNotExist OTHER_LIFESPAN else state_rule f f.state (trial_rows f)))
         [ true ↦ goes_on (λ w. refuse f ObjectNotExist OTHER_LIFESPAN) refl | false ↦ by_state (λ w. trial_rows f) trial_goes f.state refl ]
 
+    by_tag : IsHeldAll (tag_rows f)
+    by_tag =
+        elim f.other_tag as (λ b. IsHeldAll (λ w. if b then refuse f ObjectNotExist OTHER_TAG else state_rule f f.state (thread_rows f w)))
+        [ true ↦ goes_on (λ w. refuse f ObjectNotExist OTHER_TAG) refl | false ↦ by_state (thread_rows f) thread_goes f.state refl ]
+
     by_found : IsHeldAll (found_rows f)
     by_found =
-        elim f.differs as (λ b. IsHeldAll (λ w. if b then refuse f ObjectNotExist OTHER_LIFESPAN else state_rule f f.state (thread_rows f w)))
-        [ true ↦ goes_on (λ w. refuse f ObjectNotExist OTHER_LIFESPAN) refl | false ↦ by_state (thread_rows f) thread_goes f.state refl ]
+        elim f.differs as (λ b. IsHeldAll (λ w. if b then refuse f ObjectNotExist OTHER_LIFESPAN else tag_rows f w))
+        [ true ↦ goes_on (λ w. refuse f ObjectNotExist OTHER_LIFESPAN) refl | false ↦ by_tag ]
 
     by_walk : (walk : WalkFact) → IsHeldAll (λ w. walk_rows f w walk)
     by_walk MeetsDying = goes_on (λ w. refuse f Transiently ADAPTER_DYING) refl

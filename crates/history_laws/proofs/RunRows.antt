@@ -9,8 +9,8 @@ use Rattle.poa_base.specs.declared.ManagerState.TheVariants.{Active, Discarding,
 use Rattle.poa_base.specs.declared.Policy.{Policy}
 use Rattle.poa_base.specs.declared.Policy.TheVariants.{DefaultServant, ServantManager}
 use Rattle.poa_base.specs.declared.Verdict.TheVariants.{Here, Incarnate, Locator, Preset, Refuse, Serve, Try, Unknown}
-use Rattle.poa_base.specs.declared.minors.TheConstants.{ADAPTER_DYING, BAD_KEY, DISCARDED, MANAGER_INACTIVE, NOT_ACTIVE, NO_ADAPTER, NO_SERVANT_MANAGER, OTHER_LIFESPAN}
-use Rattle.poa_choose.specs.Table.{activator_rows, awaits_main, awaits_turn, first_row, forward_or, inactive_rule, is_transient, key_rows, locator_rows, manager_rows, map_rows, object_rows, processing_rows, refuse, state_rule, thread_rows, trial_rows, unmade, walk_rows}
+use Rattle.poa_base.specs.declared.minors.TheConstants.{ADAPTER_DYING, BAD_KEY, DISCARDED, MANAGER_INACTIVE, NOT_ACTIVE, NO_ADAPTER, NO_SERVANT_MANAGER, OTHER_LIFESPAN, OTHER_TAG}
+use Rattle.poa_choose.specs.Table.{activator_rows, awaits_main, awaits_turn, first_row, forward_or, inactive_rule, is_transient, key_rows, locator_rows, manager_rows, map_rows, object_rows, processing_rows, refuse, state_rule, tag_rows, thread_rows, trial_rows, unmade, walk_rows}
 use Rattle.poa_choose.specs.declared.Choice.{Choice}
 use Rattle.poa_choose.specs.declared.Choice.TheVariants.{Go, Held}
 use Rattle.poa_choose.specs.declared.Facts.{Facts}
@@ -93,14 +93,18 @@ module _ (f : Facts) (retains_ : is_retain f.policies.retention ≡ true) (manag
       (λ _. cond_both f.tries (Go Try) (forward_or f.entry (refuse f ObjectNotExist NO_ADAPTER)) Ties (λ _. refl)
       (λ _. forwarded f.entry ObjectNotExist NO_ADAPTER))
 
+  by_tag : (w : ℕ) → Ties (tag_rows f w)
+  by_tag w =
+      cond_both f.other_tag (refuse f ObjectNotExist OTHER_TAG) (state_rule f f.state (thread_rows f w)) Ties (λ _. refused ObjectNotExist OTHER_TAG)
+      (λ _. by_state f.state (thread_rows f w) (by_thread w))
+
   by_walk : (w : ℕ) (walk : WalkFact) → Ties (walk_rows f w walk)
   by_walk w MeetsDying = refused Transiently ADAPTER_DYING
   by_walk w MeetsMissing =
       cond_both (is_transient f.key) (refuse f ObjectNotExist OTHER_LIFESPAN) (state_rule f f.state (trial_rows f)) Ties
       (λ _. refused ObjectNotExist OTHER_LIFESPAN) (λ _. by_state f.state (trial_rows f) by_trial)
   by_walk w MeetsAdapter =
-      cond_both f.differs (refuse f ObjectNotExist OTHER_LIFESPAN) (state_rule f f.state (thread_rows f w)) Ties (λ _. refused ObjectNotExist OTHER_LIFESPAN)
-      (λ _. by_state f.state (thread_rows f w) (by_thread w))
+      cond_both f.differs (refuse f ObjectNotExist OTHER_LIFESPAN) (tag_rows f w) Ties (λ _. refused ObjectNotExist OTHER_LIFESPAN) (λ _. by_tag w)
 
   by_key : (w : ℕ) (key : KeyFact) → Ties (key_rows f w key)
   by_key w Absent = refl
