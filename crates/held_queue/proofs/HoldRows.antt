@@ -14,8 +14,8 @@ use Rattle.poa_base.specs.declared.Cause.{Cause}
 use Rattle.poa_base.specs.declared.Cause.TheVariants.{Adapter, Manager as ManagerCause, Trial as TrialCause, Id as IdCause}
 use Rattle.poa_base.specs.declared.Verdict.{Verdict}
 use Rattle.poa_base.specs.declared.Verdict.TheVariants.{Addressing, Here, Incarnate, Try, Serve, Preset}
-use Rattle.poa_base.specs.declared.minors.TheConstants.{ADAPTER_DYING, BAD_KEY, DISCARDED, MANAGER_INACTIVE, NOT_ACTIVE, NO_ADAPTER, NO_SERVANT_MANAGER, OTHER_LIFESPAN, NO_DEFAULT_SERVANT}
-use Rattle.poa_choose.specs.Table.{activator_rows, awaits_main, awaits_turn, default_rows, first_row, forward_or, found_rows, inactive_rule, is_transient, key_rows, located_rows, locator_rows, manager_rows, map_rows, missing_rows, object_rows, processing_rows, refuse, serve, state_rule, thread_rows, trial_rows, unmade, walk_rows}
+use Rattle.poa_base.specs.declared.minors.TheConstants.{ADAPTER_DYING, BAD_KEY, DISCARDED, MANAGER_INACTIVE, NOT_ACTIVE, NO_ADAPTER, NO_SERVANT_MANAGER, OTHER_LIFESPAN, OTHER_TAG, NO_DEFAULT_SERVANT}
+use Rattle.poa_choose.specs.Table.{activator_rows, awaits_main, awaits_turn, default_rows, first_row, forward_or, found_rows, inactive_rule, is_transient, key_rows, located_rows, locator_rows, manager_rows, map_rows, missing_rows, object_rows, processing_rows, refuse, serve, state_rule, tag_rows, thread_rows, trial_rows, unmade, walk_rows}
 use Rattle.poa_choose.specs.declared.Choice.{Choice}
 use Rattle.poa_choose.specs.declared.Choice.TheVariants.{Go, Held}
 use Rattle.poa_choose.specs.declared.Facts.{Facts}
@@ -149,10 +149,12 @@ module _ (f : Facts) (cause : Option Cause) where
         (λ lasting. (let lacks : LacksChild f = record { uncrowded = uncrowded; ours = ours; met = at; lasting = lasting } in
         through_state (inr lacks) f.state refl (trial_rows f) (by_trial lacks)))
     by_walk Met at =
-        cond_both f.differs (refuse f ObjectNotExist OTHER_LIFESPAN) (state_rule f f.state (thread_rows f worker)) Tells
+        cond_both f.differs (refuse f ObjectNotExist OTHER_LIFESPAN) (tag_rows f worker) Tells
         (λ _. refused ObjectNotExist OTHER_LIFESPAN)
-        (λ same. (let meets : MeetsAdapter f = record { uncrowded = uncrowded; ours = ours; met = at; same = same } in
-        through_state (inl meets) f.state refl (thread_rows f worker) (by_thread worker meets)))
+        (λ same. cond_both f.other_tag (refuse f ObjectNotExist OTHER_TAG) (state_rule f f.state (thread_rows f worker)) Tells
+        (λ _. refused ObjectNotExist OTHER_TAG)
+        (λ own_tag. (let meets : MeetsAdapter f = record { uncrowded = uncrowded; ours = ours; met = at; same = same; own_tag = own_tag } in
+        through_state (inl meets) f.state refl (thread_rows f worker) (by_thread worker meets))))
 
   by_key : f.crowded ≡ false → (worker : ℕ) (key : KeyFact) → f.key ≡ key → Tells (key_rows f worker key)
   by_key uncrowded worker Absent at = goes _
@@ -183,8 +185,9 @@ module _ (f : Facts) (worker : ℕ) where
   adapter_row meets =
       ap (λ b. if b then refuse f Transiently DISCARDED else key_rows f worker f.key) meets.uncrowded
       ∙ (ours_walks f.key meets.ours
-      ∙ (ap (walk_rows f worker) meets.met ∙ ap
-      (λ b. if b then refuse f ObjectNotExist OTHER_LIFESPAN else state_rule f f.state (thread_rows f worker)) meets.same))
+      ∙ (ap (walk_rows f worker) meets.met
+      ∙ (ap (λ b. if b then refuse f ObjectNotExist OTHER_LIFESPAN else tag_rows f worker) meets.same ∙ ap
+      (λ b. if b then refuse f ObjectNotExist OTHER_TAG else state_rule f f.state (thread_rows f worker)) meets.own_tag)))
 
   child_row : LacksChild f → first_row f worker ≡ state_rule f f.state (trial_rows f)
   unfolding first_row

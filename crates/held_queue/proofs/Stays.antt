@@ -114,7 +114,7 @@ module _ (c : Config) (run limit : ℕ) (past : List Entry) (e : Entry) (given :
         (smaller c run past e few).made
 
     meets_on : MeetsAdapter was → MeetsAdapter now
-    meets_on meets = record { uncrowded = meets.uncrowded; ours = meets.ours; met = meets.met; same = meets.same }
+    meets_on meets = record { uncrowded = meets.uncrowded; ours = meets.ours; met = meets.met; same = meets.same; own_tag = meets.own_tag }
 
     lacks_on : LacksChild was → LacksChild now
     lacks_on lacks = record { uncrowded = lacks.uncrowded; ours = lacks.ours; met = lacks.met; lasting = lacks.lasting }

@@ -26,6 +26,7 @@ pub record MeetsAdapter (f : Facts) : Type 0 where
   pub ours : is_ours f.key ≡ true
   pub met : f.walk ≡ Found
   pub same : f.differs ≡ false
+  pub own_tag : f.other_tag ≡ false
 
 -- the call meets an adapter whose child is missing
 pub record LacksChild (f : Facts) : Type 0 where
