@@ -4,3 +4,4 @@ pub mod GoingOn
 pub mod StillFacts
 pub mod Looking
 pub mod Due
+mod Referred

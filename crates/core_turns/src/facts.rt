@@ -15,7 +15,7 @@ use crate::commands::is_bad_id;
 use crate::rules::located;
 use active_map::Activations;
 use active_map::flights::{is_running, is_tried};
-use active_map::templates::{children_at, manager_at, policies_at, rules_at};
+use active_map::templates::{children_at, is_other_tag, manager_at, policies_at, rules_at};
 use core_settings::{Settings, forward_of, manager_state, preset_of};
 use core_standing::Standing;
 use core_standing::calls::{is_locate, target_of};
@@ -75,6 +75,16 @@ fn differs(config: &Config, key: &KeyView<'_>, path: &[Name], adapter: u32) -> b
     match key.stamp() {
         None => !lasts,
         Some(stamp) => lasts || stamp.number != adapter,
+    }
+}
+
+/// Whether the key is persistent and has another tag than the template of its path.
+fn other_tag(config: &Config, key: &KeyView<'_>, path: &[Name]) -> bool
+    ensures { path.now ≡ key.now.path → result ≡ situations.other_tag config.now key.now }
+{
+    match key.stamp() {
+        None => is_other_tag(config, path, key.tag()),
+        Some(_) => false,
     }
 }
 
@@ -188,6 +198,7 @@ fn facts_met(
         tries: children_at(config, place).is_some(),
         entry: set.entry,
         differs: differs(config, key, path, adapter),
+        other_tag: other_tag(config, key, path),
         policies: policies_at(config, path),
         running: is_running(&standing.flights, adapter),
         slot: slot_of(config, standing, adapter, oid),

@@ -2,11 +2,33 @@
 ghost use Rattle.std.specs.Prelude.{◌≡◌, IfOk};
 ghost use Rattle.history_standing.specs.References as references;
 
-use active_map::templates::policies_at;
+use active_map::templates::{policies_at, tag_at};
 use ior_text::write_reference;
-use poa_base::{Bytes, Config, Endpoint, Key, Oid, Path, Stamp, WantMemory};
+use poa_base::{Bytes, Config, Endpoint, Key, Name, Oid, Path, Stamp, WantMemory};
 use servant_kinds::type_id;
 use std::alloc::Global;
+
+/// The stamp of an object's key; none where the key is persistent.
+fn stamp_for(config: &Config, run: u32, number: u32, path: &[Name]) -> Option<Stamp>
+    ensures { result ≡ references.stamp_for config.now run number path.now }
+{
+    if policies_at(config, path).lasts() {
+        None
+    } else {
+        Some(Stamp { run, number })
+    }
+}
+
+/// The tag of an object's key; 0 where the key is transient, or its template has none.
+fn tag_for(config: &Config, path: &[Name]) -> u16
+    ensures { result ≡ references.tag_for config.now path.now }
+{
+    if policies_at(config, path).lasts() {
+        tag_at(config, path)
+    } else {
+        0
+    }
+}
 
 /// The key of an object.
 fn key_for(
@@ -18,15 +40,12 @@ fn key_for(
 ) -> Result<Key, WantMemory>
     ensures { IfOk result (λ key. key ≡ references.key_for config.now run number path.now oid.now) }
 {
-    let stamp = if policies_at(config, path.as_slice()).lasts() {
-        None
-    } else {
-        Some(Stamp { run, number })
-    };
+    let names = path.as_slice();
     Ok(Key {
-        stamp,
+        stamp: stamp_for(config, run, number, names),
         path: path.clone()?,
         oid: oid.clone()?,
+        tag: tag_for(config, names),
     })
 }
 

@@ -1,8 +1,15 @@
-use Rattle.std.proofs.Common.{◌≡◌, subst}
+use Rattle.std.proofs.Common.{◌≡◌, sym, subst}
 use Rattle.std.specs.Prelude.{IfOk}
+use Rattle.object_key.specs.Spelling.{TagsPersistent}
 use Rattle.ior_text.specs.Reference.{reference_text as reference_at}
 use Rattle.history_standing.specs.References as references
+use Rattle.core_turns.proofs.Referred.{tags_persistent}
 use Rattle.core_turns.proofs.references.reference_text.Goals as goal
+
+pub write_reference-requires : goal.write_reference-requires
+write_reference-requires c =
+    subst TagsPersistent (sym c.in_ok-key.ensures)
+    (tags_persistent c.args.config.now c.args.run c.args.number c.args.path.now c.args.oid.now)
 
 pub returns : goal.returns
 returns c =
