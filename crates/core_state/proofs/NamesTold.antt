@@ -1,7 +1,7 @@
 -- A servant that the table of verdicts names is the default servant that was told, or the one that was located.
 use Rattle.std.specs.Prelude.{◌≡◌, ℕ, not, List, Option, Some, None, refl}
 use Rattle.std.proofs.lemmas.Bool.{cond_both}
-use Rattle.poa_base.specs.declared.minors.TheConstants.{DISCARDED, ADAPTER_DYING, NO_DEFAULT_SERVANT, NO_SERVANT_MANAGER, NO_ADAPTER, BAD_KEY, OTHER_LIFESPAN, NOT_ACTIVE, MANAGER_INACTIVE}
+use Rattle.poa_base.specs.declared.minors.TheConstants.{DISCARDED, ADAPTER_DYING, NO_DEFAULT_SERVANT, NO_SERVANT_MANAGER, NO_ADAPTER, BAD_KEY, OTHER_LIFESPAN, OTHER_TAG, NOT_ACTIVE, MANAGER_INACTIVE}
 use Rattle.poa_base.specs.Policies.{is_retain}
 use Rattle.poa_base.specs.declared.Endpoint.{Endpoint}
 use Rattle.poa_base.specs.declared.ExcName.{ExcName}
@@ -22,7 +22,7 @@ use Rattle.poa_choose.specs.declared.MapFact.{MapFact}
 use Rattle.poa_choose.specs.declared.MapFact.TheVariants.{Active as ActiveAs, Busy, Free}
 use Rattle.poa_choose.specs.declared.WalkFact.{WalkFact}
 use Rattle.poa_choose.specs.declared.WalkFact.TheVariants.{Dying, Missing, Found}
-use Rattle.poa_choose.specs.Table.{refuse, is_transient, forward_or, inactive_rule, state_rule, located_rows, locator_rows, activator_rows, manager_rows, default_rows, unmade, processing_rows, map_rows, object_rows, awaits_turn, awaits_main, thread_rows, found_rows, trial_rows, missing_rows, walk_rows, key_rows, first_row}
+use Rattle.poa_choose.specs.Table.{refuse, is_transient, forward_or, inactive_rule, state_rule, located_rows, locator_rows, activator_rows, manager_rows, default_rows, unmade, processing_rows, map_rows, object_rows, awaits_turn, awaits_main, thread_rows, tag_rows, found_rows, trial_rows, missing_rows, walk_rows, key_rows, first_row}
 
 -- the name is one that the facts tell
 abbrev pub IsTold : Facts → Choice → Type 0
@@ -86,8 +86,11 @@ module _ (f : Facts) where
   by_thread : (worker : ℕ) → Told (thread_rows f worker)
   by_thread worker = cond_both (awaits_turn f) _ _ Told (λ _. tt) (λ _. cond_both (awaits_main f worker) _ _ Told (λ _. tt) (λ _. by_object))
 
+  by_tag : (worker : ℕ) → Told (tag_rows f worker)
+  by_tag worker = cond_both f.other_tag _ _ Told (λ _. refused ObjectNotExist OTHER_TAG) (λ _. by_state f.state (thread_rows f worker) (by_thread worker))
+
   by_found : (worker : ℕ) → Told (found_rows f worker)
-  by_found worker = cond_both f.differs _ _ Told (λ _. refused ObjectNotExist OTHER_LIFESPAN) (λ _. by_state f.state (thread_rows f worker) (by_thread worker))
+  by_found worker = cond_both f.differs _ _ Told (λ _. refused ObjectNotExist OTHER_LIFESPAN) (λ _. by_tag worker)
 
   by_trial : Told (trial_rows f)
   by_trial = cond_both f.trial _ _ Told (λ _. tt) (λ _. cond_both f.tries _ _ Told (λ _. tt) (λ _. forwarded f.entry _ (refused ObjectNotExist NO_ADAPTER)))
