@@ -121,7 +121,8 @@ module _ (f : Facts) where
   by_walk : (worker : ℕ) (walk : WalkFact) → Fits (walk_rows f worker walk)
   by_walk worker Dying = refused _ _
   by_walk worker Missing = cond_both (is_transient f.key) _ _ Fits (λ _. refused _ _) (λ _. by_state f.state _ by_trial)
-  by_walk worker Found = cond_both f.differs _ _ Fits (λ _. refused _ _) (λ _. by_state f.state _ (by_thread worker))
+  by_walk worker Found = cond_both f.differs _ _ Fits (λ _. refused _ _) (λ _.
+      cond_both f.other_tag _ _ Fits (λ _. refused _ _) (λ _. by_state f.state _ (by_thread worker)))
 
   by_key : (worker : ℕ) (key : KeyFact) → Fits (key_rows f worker key)
   by_key worker Absent = either Addressing refl refl
