@@ -29,8 +29,9 @@ is_transient c path = is_some (template c path) && not (lasts (policies_at c pat
 abbrev pub stamp_for : Life → List (List ℕ) → Option Stamp
 stamp_for life path = if is_transient life.config path then Some (record { run = life.run; number = number_of life path }) else None
 
+-- without a tag
 abbrev pub key_for : Life → List (List ℕ) → List ℕ → Key
-key_for life path oid = record { stamp = stamp_for life path; path = path; oid = oid }
+key_for life path oid = record { stamp = stamp_for life path; path = path; oid = oid; tag = 0 }
 
 -- little-endian, of GIOP 1.2, and it asks a reply
 abbrev pub head_for : ℕ → Head

@@ -76,7 +76,7 @@ fn head(id: u32) -> Head
     }
 }
 
-// The key of an object.
+// The key of an object, without a tag.
 fn key(core: &Core, path: &Path, oid: &Oid) -> Result<Key, WantMemory>
     ensures { IfOk result (λ key. key ≡ key_for core.now path.now oid.now) }
 {
@@ -84,6 +84,7 @@ fn key(core: &Core, path: &Path, oid: &Oid) -> Result<Key, WantMemory>
         stamp: stamp(core, path),
         path: path.clone()?,
         oid: oid.clone()?,
+        tag: 0,
     })
 }
 

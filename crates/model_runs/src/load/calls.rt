@@ -43,6 +43,7 @@ fn target(alloc: Global, object: u64) -> Result<Bytes, Fault> {
         stamp: None,
         path: path(alloc)?,
         oid: object_id(alloc, object)?,
+        tag: 0,
     };
     Ok(write_key(alloc, &key)?)
 }

@@ -159,6 +159,7 @@ impl Play {
             stamp: self.stamp(&path)?,
             path,
             oid: any_identity(self.alloc, oid)?,
+            tag: 0,
         };
         Ok(write_key(self.alloc, &key)?)
     }
