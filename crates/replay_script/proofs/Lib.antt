@@ -1,3 +1,4 @@
 mod Trimming
 mod Rows
 mod Lines
+mod Floods

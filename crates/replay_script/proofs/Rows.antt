@@ -8,7 +8,7 @@ use Rattle.replay_script.specs.declared.connections.Connection.{Connection}
 use Rattle.replay_script.specs.declared.role.Role.{Role}
 use Rattle.replay_script.specs.declared.role.Role.TheVariants.{Call, Command, End, Collect}
 use Rattle.replay_script.specs.declared.traffic.Traffic.{Traffic}
-use Rattle.replay_script.specs.Connections.{role_of, allows, leaves, is_open, is_open_to, may_stand, entered, entered_by, connections, place_in}
+use Rattle.replay_script.specs.Connections.{role_of, allows, leaves, is_open, is_open_to, may_stand, entered, entered_by, entered_by_line, connections, place_in}
 use Rattle.replay_script.specs.Traffic.{no_traffic, with_role, allowed, traffic_of, noted, noted_by, allowed_by, names}
 
 and_false : (b : Bool) → (b && false) ≡ false
@@ -36,16 +36,6 @@ allowed_none Call = refl
 allowed_none Command = refl
 allowed_none End = refl
 allowed_none Collect = refl
-
-names_by : (test : Bool) (name : List ℕ) (role : Role) (r : Connection) (rs : List Connection) → names (noted name role rs) ≡ entered name (names rs)
-    → names (cond test (record { name = r.name; traffic = with_role role r.traffic } ∷ rs) (r ∷ noted name role rs)) ≡ cond test (r.name ∷ names rs)
-    (r.name ∷ entered name (names rs))
-names_by true name role r rs h = refl
-names_by false name role r rs h = ap (λ ns. r.name ∷ ns) h
-
-names_noted : (name : List ℕ) (role : Role) (rows : List Connection) → names (noted name role rows) ≡ entered name (names rows)
-names_noted name role [] = refl
-names_noted name role (r ∷ rs) = names_by (bytes_eq r.name name) name role r rs (names_noted name role rs)
 
 changed_here : (test : Bool) (f : Traffic → Traffic) (x y : Traffic) → cond test (f x) y ≡ cond test (f (cond test x y)) (cond test x y)
 changed_here true f x y = refl
@@ -77,25 +67,23 @@ traffic_noted : (n name : List ℕ) (role : Role) (rows : List Connection)
 traffic_noted n name role [] = refl
 traffic_noted n name role (r ∷ rs) = traffic_by (bytes_eq r.name name) n name role r rs refl (traffic_noted n name role rs)
 
--- the rows tell the connections of the lines, and which lines each may have next
-pub record Known (rows : List Connection) (past : List ScriptLine) : Type 0 where
-  pub named : names rows ≡ connections past
+-- the names are the connections of the lines, and the rows tell which lines each may have next
+pub record Known (rows : List Connection) (entered : List (List ℕ)) (past : List ScriptLine) : Type 0 where
+  pub named : entered ≡ connections past
   pub left : (name : List ℕ) (later : Role) → allowed (traffic_of name rows) later ≡ is_open past name later
 
-pub known_none : Known [] []
+pub known_none : Known [] [] []
 known_none = record { named = refl; left = λ name later. allowed_none later }
 
-allowed_then : (rows : List Connection) (past : List ScriptLine) → Known rows past → (r : Option (List ℕ × Role)) → allowed_by rows r ≡ is_open_to past r
-allowed_then rows past known None = refl
-allowed_then rows past known (Some r) = known.left r.0 r.1
+allowed_then : (rows : List Connection) (names : List (List ℕ)) (past : List ScriptLine) → Known rows names past → (r : Option (List ℕ × Role))
+    → allowed_by rows r ≡ is_open_to past r
+allowed_then rows names past known None = refl
+allowed_then rows names past known (Some r) = known.left r.0 r.1
 
 -- the rows tell whether a line may stand
-pub stands : (rows : List Connection) (past : List ScriptLine) (l : ScriptLine) → Known rows past → allowed_by rows (role_of l) ≡ may_stand past l
-stands rows past l known = allowed_then rows past known (role_of l)
-
-named_then : (rows : List Connection) (cs : List (List ℕ)) (r : Option (List ℕ × Role)) → names rows ≡ cs → names (noted_by r rows) ≡ entered_by r cs
-named_then rows cs None h = h
-named_then rows cs (Some r) h = names_noted r.0 r.1 rows ∙ ap (entered r.0) h
+pub stands : (rows : List Connection) (names : List (List ℕ)) (past : List ScriptLine) (l : ScriptLine) → Known rows names past
+    → allowed_by rows (role_of l) ≡ may_stand past l
+stands rows names past l known = allowed_then rows names past known (role_of l)
 
 narrowed : (test : Bool) (earlier later : Role) (t : Traffic)
     → allowed (cond test (with_role earlier t) t) later ≡ ((not test || allows earlier later) && allowed t later)
@@ -109,12 +97,33 @@ left_then rows past (Some r) n later h =
     ap (λ t. allowed t later) (traffic_noted n r.0 r.1 rows) ∙ narrowed (bytes_eq r.0 n) r.1 later (traffic_of n rows)
     ∙ ap (λ b. (not (bytes_eq r.0 n) || allows r.1 later) && b) h
 
--- and the rows with one more line tell the same of it and those before
-pub known_further : (rows : List Connection) (past : List ScriptLine) (l : ScriptLine) → Known rows past → Known (noted_by (role_of l) rows) (l ∷ past)
-known_further rows past l known = record {
-  named = named_then rows (connections past) (role_of l) known.named;
+-- and with one more line they tell the same of it and those before
+pub known_further : (rows : List Connection) (names : List (List ℕ)) (past : List ScriptLine) (l : ScriptLine) → Known rows names past
+    → Known (noted_by (role_of l) rows) (entered_by (entered_by_line l) names) (l ∷ past)
+known_further rows names past l known = record {
+  named = ap (entered_by (entered_by_line l)) known.named;
   left = λ name later. left_then rows past (role_of l) name later (known.left name later);
 }
+
+there_by : (test : Bool) (name n : List ℕ) (ns : List (List ℕ)) → (place_in name ns < length ns → entered name ns ≡ ns)
+    → cond test 0 (suc (place_in name ns)) < length (n ∷ ns) → cond test (n ∷ ns) (n ∷ entered name ns) ≡ n ∷ ns
+there_by true name n ns more within = refl
+there_by false name n ns more within = ap (λ all. n ∷ all) (more (omega (arith, within)))
+
+-- a name that is there isn't entered again
+pub entered_there : (name : List ℕ) (names : List (List ℕ)) → place_in name names < length names → entered name names ≡ names
+entered_there name [] within = absurd (not-suc-le-zero within)
+entered_there name (n ∷ ns) within = there_by (bytes_eq n name) name n ns (entered_there name ns) within
+
+last_by : (test : Bool) (name n : List ℕ) (ns : List (List ℕ)) → ((place_in name ns < length ns → ⊥) → ns ++ name ∷ [] ≡ entered name ns)
+    → (cond test 0 (suc (place_in name ns)) < length (n ∷ ns) → ⊥) → (n ∷ ns) ++ name ∷ [] ≡ cond test (n ∷ ns) (n ∷ entered name ns)
+last_by true name n ns more beyond = absurd (beyond (omega arith))
+last_by false name n ns more beyond = ap (λ all. n ∷ all) (more (λ within. beyond (omega (arith, within))))
+
+-- and another one is the last
+pub entered_last : (name : List ℕ) (names : List (List ℕ)) → (place_in name names < length names → ⊥) → names ++ name ∷ [] ≡ entered name names
+entered_last name [] beyond = refl
+entered_last name (n ∷ ns) beyond = last_by (bytes_eq n name) name n ns (entered_last name ns) beyond
 
 at_by : (test : Bool) (name : List ℕ) (role : Role) (r : Connection) (rs : List Connection) (row : Connection)
     → (place_in name (names rs) < length rs → row ≡ slice_index_or rs (place_in name (names rs)) row

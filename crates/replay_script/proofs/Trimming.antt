@@ -1,5 +1,5 @@
 -- What trimming the end of a line leaves.
-use Rattle.std.proofs.Common.{◌≡◌, ℕ, Bool, true, false, cond, List, [], ◌∷◌, ◌++◌, reverse, refl, sym, ap, ◌∙◌, subst}
+use Rattle.std.proofs.Common.{◌≡◌, ℕ, Bool, true, false, cond, List, [], ◌∷◌, ◌++◌, reverse, sym, ap, ◌∙◌}
 use Rattle.std.proofs.lemmas.List.{reverse-append, reverse-reverse}
 use Rattle.replay_script.specs.declared.edges.Class.TheVariants.{Blank}
 use Rattle.replay_script.specs.Edges.{belongs, passed, end_trimmed}

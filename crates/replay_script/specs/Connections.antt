@@ -1,9 +1,10 @@
 -- Which lines may stand behind one another on one connection, and the order of connections. The lines before one are
 -- listed newest first.
-use Rattle.std.specs.Prelude.{ℕ, suc, ◌&&◌, ◌||◌, not, Bool, true, false, List, [], ◌∷◌, Option, Some, None, if◌then◌else◌}
+use Rattle.std.specs.Prelude.{ℕ, suc, ◌==◌, ◌&&◌, ◌||◌, not, Bool, true, false, List, [], ◌∷◌, Option, Some, None, if◌then◌else◌}
+use Rattle.std.specs.Option.{option_map}
 use Rattle.std.specs.Str.{bytes_eq}
 use Rattle.poa_base.specs.declared.ScriptLine.{ScriptLine}
-use Rattle.poa_base.specs.declared.ScriptLine.TheVariants.{Skipped, Ask, Feed, End, Admin, Step, Run, Collect, Store, Journal}
+use Rattle.poa_base.specs.declared.ScriptLine.TheVariants.{Skipped, Ask, Flood, Feed, End, Admin, Step, Run, Collect, Store, Journal}
 use Rattle.replay_script.specs.declared.role.Role.{Role}
 use Rattle.replay_script.specs.declared.role.Role.TheVariants as role
 
@@ -11,6 +12,7 @@ use Rattle.replay_script.specs.declared.role.Role.TheVariants as role
 abbrev pub role_of : ScriptLine → Option (List ℕ × Role)
 role_of Skipped = None
 role_of (Ask conn id path oid operation argument) = Some (conn, role.Call)
+role_of (Flood conn count path oid operation argument) = Some (conn, role.Call)
 role_of (Feed conn bytes) = Some (conn, role.Call)
 role_of (End conn) = Some (conn, role.End)
 role_of (Admin conn words) = Some (conn, role.Command)
@@ -68,14 +70,23 @@ abbrev pub entered : List ℕ → List (List ℕ) → List (List ℕ)
 entered name [] = name ∷ []
 entered name (n ∷ ns) = if bytes_eq n name then n ∷ ns else n ∷ entered name ns
 
-abbrev pub entered_by : Option (List ℕ × Role) → List (List ℕ) → List (List ℕ)
+-- a flood of no request stands for no line
+abbrev pub is_void : ScriptLine → Bool
+is_void (Flood conn count path oid operation argument) = count == 0
+is_void l = false
+
+-- the connection that a line enters
+abbrev pub entered_by_line : ScriptLine → Option (List ℕ)
+entered_by_line l = if is_void l then None else option_map (λ r. r.0) (role_of l)
+
+abbrev pub entered_by : Option (List ℕ) → List (List ℕ) → List (List ℕ)
 entered_by None names = names
-entered_by (Some r) names = entered r.0 names
+entered_by (Some name) names = entered name names
 
 -- the connections of lines, in the order of their first lines
 abbrev pub connections : List ScriptLine → List (List ℕ)
 connections [] = []
-connections (l ∷ past) = entered_by (role_of l) (connections past)
+connections (l ∷ past) = entered_by (entered_by_line l) (connections past)
 
 -- the place of a name, or how many names there are where it isn't among them
 abbrev pub place_in : List ℕ → List (List ℕ) → ℕ

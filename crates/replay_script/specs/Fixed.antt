@@ -8,6 +8,7 @@ use Rattle.replay_script.specs.declared.fixed.Form.TheVariants as form
 -- the first word of each kind of line
 unfoldable pub verb_word : Verb → List ℕ
 verb_word verb.Ask = codes "ask"
+verb_word verb.Flood = codes "flood"
 verb_word verb.Feed = codes "feed"
 verb_word verb.End = codes "end"
 verb_word verb.Admin = codes "admin"
@@ -18,7 +19,7 @@ verb_word verb.Store = codes "store"
 verb_word verb.Journal = codes "journal"
 
 abbrev pub verbs : List Verb
-verbs = verb.Ask ∷ verb.Feed ∷ verb.End ∷ verb.Admin ∷ verb.Step ∷ verb.Run ∷ verb.Collect ∷ verb.Store ∷ verb.Journal ∷ []
+verbs = verb.Ask ∷ verb.Flood ∷ verb.Feed ∷ verb.End ∷ verb.Admin ∷ verb.Step ∷ verb.Run ∷ verb.Collect ∷ verb.Store ∷ verb.Journal ∷ []
 
 -- the letter of each type of argument
 unfoldable pub form_word : Form → List ℕ

@@ -72,6 +72,26 @@ ask_of (c ∷ i ∷ p ∷ o ∷ f ∷ ws) = do
   Some (line.Ask conn id path oid operation argument)
 ask_of ws = None
 
+-- a flood stands for at most 100,000 requests
+abbrev pub flood_size : ℕ → Option ℕ
+flood_size n = if nat_lt 100000 n then None else Some n
+
+abbrev pub flood_count : List ℕ → Option ℕ
+flood_count word = do
+  n ← number_of (2 ^ 32) word
+  flood_size n
+
+abbrev pub flood_of : List (List ℕ) → Option ScriptLine
+flood_of (c ∷ n ∷ p ∷ o ∷ f ∷ ws) = do
+  conn ← name_of c
+  count ← flood_count n
+  path ← path_of p
+  oid ← id_of o
+  operation ← name_of f
+  argument ← argument_of ws
+  Some (line.Flood conn count path oid operation argument)
+flood_of ws = None
+
 abbrev pub feed_of : List (List ℕ) → Option ScriptLine
 feed_of (c ∷ b ∷ []) = do
   conn ← name_of c
@@ -106,6 +126,7 @@ verb_of w = named_in verb_word verbs w
 -- the line of a verb, the whole text and the words behind the verb
 abbrev pub behind_verb : Verb → List ℕ → List (List ℕ) → Option ScriptLine
 behind_verb verb.Ask text ws = ask_of ws
+behind_verb verb.Flood text ws = flood_of ws
 behind_verb verb.Feed text ws = feed_of ws
 behind_verb verb.End text ws = do
   c ← last_name ws

@@ -1,21 +1,31 @@
 -- The script of a text, or the number of its first line that is outside the grammar.
-use Rattle.std.specs.Prelude.{◌≡◌, ℕ, ◌+◌, ⊤, List, [], ◌∷◌, ◌++◌, Option, Some, None, Result, Ok, Err, if◌then◌else◌}
+use Rattle.std.specs.Prelude.{◌≡◌, ℕ, zero, suc, ◌+◌, ⊤, map, List, [], ◌∷◌, ◌++◌, Option, Some, None, Result, Ok, Err, if◌then◌else◌}
 use Rattle.poa_base.specs.declared.ScriptLine.{ScriptLine}
 use Rattle.poa_base.specs.declared.ScriptLine.TheVariants as line
 use Rattle.text_words.specs.Cuts.{lines_of}
 use Rattle.replay_script.specs.declared.fault.ScriptFault.{ScriptFault}
 use Rattle.replay_script.specs.declared.fault.ScriptFault.TheVariants.{BadLine, WantMemory}
 use Rattle.replay_script.specs.declared.script.Script.{Script}
+use Rattle.replay_script.specs.declared.step.Request.{Request}
 use Rattle.replay_script.specs.declared.step.Step.{Step}
 use Rattle.replay_script.specs.declared.step.Step.TheVariants as step
 use Rattle.replay_script.specs.declared.step.ScriptStep.{ScriptStep}
 use Rattle.replay_script.specs.Reading.{line_of}
 use Rattle.replay_script.specs.Connections.{connections, may_stand, place_in}
 
--- the step of a line, where these are the connections; none of a line that is skipped
+-- the requests of a flood, with the ids from 1 on
+abbrev pub asked : Request → ℕ → Step
+asked r id = step.Ask r.connection id r.path r.oid r.operation r.argument
+
+abbrev pub asks : Request → ℕ → List Step
+asks r zero = []
+asks r (suc n) = asks r n ++ asked r (suc n) ∷ []
+
+-- the step of a line, where these are the connections; none of a line that is skipped, nor of one that stands for others
 abbrev pub step_of : List (List ℕ) → ScriptLine → Option Step
 step_of names line.Skipped = None
 step_of names (line.Ask conn id path oid operation argument) = Some (step.Ask (place_in conn names) id path oid operation argument)
+step_of names (line.Flood conn count path oid operation argument) = None
 step_of names (line.Feed conn bytes) = Some (step.Feed (place_in conn names) bytes)
 step_of names (line.End conn) = Some (step.End (place_in conn names))
 step_of names (line.Admin conn words) = Some (step.Admin (place_in conn names) words)
@@ -25,10 +35,19 @@ step_of names (line.Collect conn) = Some (step.Collect (place_in conn names))
 step_of names line.Store = Some step.Store
 step_of names line.Journal = Some step.Journal
 
--- a step with the number of its line
-abbrev pub numbered : ℕ → Option Step → List ScriptStep
-numbered k None = []
-numbered k (Some s) = record { line = k; step = s } ∷ []
+abbrev pub one_or_none : Option Step → List Step
+one_or_none None = []
+one_or_none (Some s) = s ∷ []
+
+-- the steps of a line: a flood stands for its requests
+abbrev pub steps_of : List (List ℕ) → ScriptLine → List Step
+steps_of names (line.Flood conn count path oid operation argument) =
+    asks (record { connection = place_in conn names; path = path; oid = oid; operation = operation; argument = argument }) count
+steps_of names l = one_or_none (step_of names l)
+
+-- steps with the number of their line
+abbrev pub numbered : ℕ → List Step → List ScriptStep
+numbered k steps = map (λ s. record { line = k; step = s }) steps
 
 -- a script with steps in front
 abbrev pub behind_steps : List ScriptStep → Result Script ℕ → Result Script ℕ
@@ -44,7 +63,7 @@ line_at k (Some l) = Ok l
 abbrev pub with_line : List ScriptLine → ℕ → (ScriptLine → Result Script ℕ) → Result ScriptLine ℕ → Result Script ℕ
 with_line past k more (Err j) = Err j
 with_line past k more (Ok l) =
-    if may_stand past l then behind_steps (numbered k (step_of (connections (l ∷ past)) l)) (more l) else Err k
+    if may_stand past l then behind_steps (numbered k (steps_of (connections (l ∷ past)) l)) (more l) else Err k
 
 -- the script of lines that are numbered from k on, behind the lines `past`, which are listed newest first
 abbrev pub script_from : List ScriptLine → ℕ → List (List ℕ) → Result Script ℕ

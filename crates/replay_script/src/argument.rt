@@ -23,7 +23,8 @@ pub(crate) fn argument(alloc: Global, words: &[&[u8]]) -> Result<Option<Datum>, 
     }
 }
 
-fn datum(alloc: Global, word: &[u8]) -> Result<Datum, WordFault>
+/// The argument that a word is.
+pub fn datum(alloc: Global, word: &[u8]) -> Result<Datum, WordFault>
     ensures { WordGives result (datum_of word.now) }
 {
     let [letter, colon, text @ ..] = word else {

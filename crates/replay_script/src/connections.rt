@@ -1,9 +1,9 @@
 //! The connections that the lines so far speak of.
-ghost use Rattle.std.specs.Prelude.{◌≡◌, ◌++◌, ◌∷◌, [], IfOk, OnOk};
-ghost use Rattle.replay_script.specs.Connections.{place_in, role_of as the_role_of};
+ghost use Rattle.std.specs.Prelude.{◌≡◌, ◌++◌, ◌∷◌, [], OnOk};
+ghost use Rattle.replay_script.specs.Connections.{entered, entered_by, entered_by_line, place_in, role_of as the_role_of};
 ghost use Rattle.replay_script.specs.Traffic.{allowed_by, names as names_of, noted, noted_by, traffic_of};
 
-use crate::role::{Role, role_of};
+use crate::role::{Role, entering, role_of};
 use crate::traffic::Traffic;
 use poa_base::{Items, Name, ScriptLine, WantMemory};
 use std::alloc::Global;
@@ -15,26 +15,29 @@ pub(crate) struct Connection {
     pub(crate) traffic: Traffic,
 }
 
-/// The connections, in the order of their first lines.
+/// The connections that lines speak of, and the names of those that they entered, in the order of their first lines.
 #[derive(Drop)]
 pub(crate) struct Connections {
     pub(crate) rows: Vec<Connection>,
+    pub(crate) names: Vec<Name>,
 }
 
 impl Connections {
     pub(crate) fn new(alloc: Global) -> Self
-        ensures { result.rows.items ≡ [] }
+        ensures rows { result.rows.items ≡ [] }
+        ensures names { result.names.items ≡ [] }
     {
         Connections {
             rows: Vec::new(alloc),
+            names: Vec::new(alloc),
         }
     }
 
     /// The place of a name; how many connections there are, where it isn't among them.
     pub(crate) fn place(&self, name: &Name) -> usize
-        ensures { result ≡ place_in name.now (names_of self.now.rows.items) }
+        ensures { result ≡ place_in name.now self.now.names.items }
     {
-        place(self.rows.as_slice(), name)
+        place(self.names.as_slice(), name)
     }
 
     fn traffic(&self, name: &Name) -> Traffic
@@ -55,23 +58,54 @@ impl Connections {
 
     /// Takes a line in, whose connection is entered where this is its first.
     pub(crate) fn enter(&mut self, line: &ScriptLine) -> Result<(), WantMemory>
-        ensures { OnOk result (self.new.rows.items ≡ noted_by (the_role_of line.now) self.old.rows.items) }
+        ensures rows { OnOk result (self.new.rows.items ≡ noted_by (the_role_of line.now) self.old.rows.items) }
+        ensures names { OnOk result (self.new.names.items
+            ≡ entered_by (entered_by_line line.now) self.old.names.items) }
     {
-        match role_of(line) {
-            None => Ok(()),
-            Some((name, role)) => note(&mut self.rows, name, role),
-        }
+        note_line(&mut self.rows, line)?;
+        enter_line(&mut self.names, line)
     }
 
     /// The names of the connections.
-    pub(crate) fn names(&self, alloc: Global) -> Result<Items<Name>, WantMemory>
-        ensures { IfOk result (λ all. all ≡ names_of self.now.rows.items) }
+    pub(crate) fn into_names(self) -> Items<Name>
+        ensures { result ≡ self.names.items }
     {
-        names(alloc, self.rows.as_slice())
+        Items::from_vec(self.names)
     }
 }
 
-fn place(rows: &[Connection], name: &Name) -> usize
+fn place(names: &[Name], name: &Name) -> usize
+    ensures { result ≡ place_in name.now names.now }
+{
+    for (i, other) in names.iter().enumerate() {
+        if other.as_slice() == name.as_slice() {
+            return i;
+        }
+    }
+    names.len()
+}
+
+fn enter_line(names: &mut Vec<Name>, line: &ScriptLine) -> Result<(), WantMemory>
+    ensures { OnOk result (names.new.items ≡ entered_by (entered_by_line line.now) names.old.items) }
+{
+    match entering(line) {
+        None => Ok(()),
+        Some(name) => enter(names, name),
+    }
+}
+
+#[tactic(auto, using(crate::proofs::Rows::entered_there, crate::proofs::Rows::entered_last))]
+fn enter(names: &mut Vec<Name>, name: &Name) -> Result<(), WantMemory>
+    ensures { OnOk result (names.new.items ≡ entered name.now names.old.items) }
+{
+    if place(names.as_slice(), name) < names.len() {
+        return Ok(());
+    }
+    names.push(name.clone()?)?;
+    Ok(())
+}
+
+fn row_of(rows: &[Connection], name: &Name) -> usize
     ensures { result ≡ place_in name.now (names_of rows.now) }
 {
     for (i, row) in rows.iter().enumerate() {
@@ -93,10 +127,19 @@ fn traffic(rows: &[Connection], name: &Name) -> Traffic
     Traffic::none()
 }
 
+fn note_line(rows: &mut Vec<Connection>, line: &ScriptLine) -> Result<(), WantMemory>
+    ensures { OnOk result (rows.new.items ≡ noted_by (the_role_of line.now) rows.old.items) }
+{
+    match role_of(line) {
+        None => Ok(()),
+        Some((name, role)) => note(rows, name, role),
+    }
+}
+
 fn note(rows: &mut Vec<Connection>, name: &Name, role: Role) -> Result<(), WantMemory>
     ensures { OnOk result (rows.new.items ≡ noted name.now role rows.old.items) }
 {
-    let place = place(rows.as_slice(), name);
+    let place = row_of(rows.as_slice(), name);
     let Some(row) = rows.get_mut(place) else {
         add(rows, name, Traffic::none().with(role))?;
         return Ok(());
@@ -111,14 +154,4 @@ fn add(rows: &mut Vec<Connection>, name: &Name, traffic: Traffic) -> Result<(), 
     let name = name.clone()?;
     rows.push(Connection { name, traffic })?;
     Ok(())
-}
-
-fn names(alloc: Global, rows: &[Connection]) -> Result<Items<Name>, WantMemory>
-    ensures { IfOk result (λ all. all ≡ names_of rows.now) }
-{
-    let mut all = Vec::with_capacity(alloc, rows.len())?;
-    for row in rows {
-        all.push(row.name.clone()?)?;
-    }
-    Ok(Items::from_vec(all))
 }

@@ -5,6 +5,7 @@ use text_words::Worded;
 #[derive(Clone, Copy, Drop)]
 pub(crate) enum Verb {
     Ask,
+    Flood,
     Feed,
     End,
     Admin,
@@ -24,6 +25,7 @@ impl Worded for Verb {
     fn word(self) -> &'static [u8] {
         match self {
             Verb::Ask => b"ask",
+            Verb::Flood => b"flood",
             Verb::Feed => b"feed",
             Verb::End => b"end",
             Verb::Admin => b"admin",

@@ -15,6 +15,7 @@ mod script;
 mod step;
 mod traffic;
 
+pub use argument::datum;
 pub use fault::ScriptFault;
 pub use script::{Script, read_script};
 pub use step::{ScriptStep, Step};

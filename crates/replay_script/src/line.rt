@@ -1,7 +1,7 @@
 //! One line.
 ghost use Rattle.std.specs.Prelude.{◌≡◌, ◌∷◌, map};
 ghost use Rattle.text_words.specs.WordGives.{WordGives};
-ghost use Rattle.replay_script.specs.Reading.{admin_of, ask_of, behind_verb, command_of, feed_of, line_of, verb_of, worker_of, written_of};
+ghost use Rattle.replay_script.specs.Reading.{admin_of, ask_of, behind_verb, command_of, feed_of, flood_count as flood_count_of, flood_of, line_of, verb_of, worker_of, written_of};
 
 use crate::argument::argument;
 use crate::edges::{behind_word, is_skipped, trimmed};
@@ -15,6 +15,9 @@ use text_words::{
 
 /// The most bytes that an administrator's line has.
 const LONGEST_COMMAND: usize = 4096;
+
+/// The most requests that one line stands for.
+const LARGEST_FLOOD: u32 = 100_000;
 
 /// The line of its bytes, which end before the LF.
 pub(crate) fn read_line(alloc: Global, line: &[u8]) -> Result<ScriptLine, WordFault>
@@ -44,6 +47,7 @@ fn verb(word: &[u8]) -> Result<Verb, WordFault>
     find_word(
         &[
             Verb::Ask,
+            Verb::Flood,
             Verb::Feed,
             Verb::End,
             Verb::Admin,
@@ -64,6 +68,7 @@ fn behind(alloc: Global, verb: Verb, text: &[u8], words: &[&[u8]]) -> Result<Scr
 {
     match verb {
         Verb::Ask => ask(alloc, words),
+        Verb::Flood => flood(alloc, words),
         Verb::Feed => feed(alloc, words),
         Verb::End => {
             let conn = last_name(alloc, words)?;
@@ -122,6 +127,53 @@ fn request(
         operation,
         argument,
     })
+}
+
+fn flood(alloc: Global, words: &[&[u8]]) -> Result<ScriptLine, WordFault>
+    ensures { WordGives result (flood_of (map (λ w. w.now) words.now)) }
+{
+    let [conn, count, adapter, oid, operation, rest @ ..] = words else {
+        return Err(WordFault::OutOfForm);
+    };
+    requests(alloc, conn, count, adapter, oid, operation, rest)
+}
+
+fn requests(
+    alloc: Global,
+    conn: &[u8],
+    count: &[u8],
+    adapter: &[u8],
+    oid: &[u8],
+    operation: &[u8],
+    words: &[&[u8]],
+) -> Result<ScriptLine, WordFault>
+    ensures { WordGives result
+        (flood_of (conn.now ∷ count.now ∷ adapter.now ∷ oid.now ∷ operation.now ∷ map (λ w. w.now) words.now)) }
+{
+    let conn = name(alloc, conn)?;
+    let count = flood_count(count)?;
+    let path = path(alloc, adapter)?;
+    let oid = any_identity(alloc, oid)?;
+    let operation = name(alloc, operation)?;
+    let argument = argument(alloc, words)?;
+    Ok(ScriptLine::Flood {
+        conn,
+        count,
+        path,
+        oid,
+        operation,
+        argument,
+    })
+}
+
+fn flood_count(word: &[u8]) -> Result<u32, WordFault>
+    ensures { WordGives result (flood_count_of word.now) }
+{
+    let count = number32(word)?;
+    if count > LARGEST_FLOOD {
+        return Err(WordFault::OutOfForm);
+    }
+    Ok(count)
 }
 
 fn feed(alloc: Global, words: &[&[u8]]) -> Result<ScriptLine, WordFault>

@@ -1,4 +1,7 @@
 //! The steps of a script.
+ghost use Rattle.std.specs.Prelude.{◌≡◌};
+ghost use Rattle.replay_script.specs.Whole.{asked};
+
 use poa_base::{Bytes, Datum, Name, Oid, Path};
 
 /// What a line has done. A connection is the place of its name among the connections of the script.
@@ -44,6 +47,39 @@ pub enum Step {
     Store,
     /// The journal is printed.
     Journal,
+}
+
+/// A request but for its id.
+#[derive(Clone, Drop)]
+pub(crate) struct Request {
+    pub(crate) connection: usize,
+    pub(crate) path: Path,
+    pub(crate) oid: Oid,
+    pub(crate) operation: Name,
+    pub(crate) argument: Option<Datum>,
+}
+
+impl Request {
+    /// The step that asks it.
+    pub(crate) fn ask(self, id: u32) -> Step
+        ensures { result ≡ asked self id }
+    {
+        let Request {
+            connection,
+            path,
+            oid,
+            operation,
+            argument,
+        } = self;
+        Step::Ask {
+            connection,
+            id,
+            path,
+            oid,
+            operation,
+            argument,
+        }
+    }
 }
 
 /// A step and the number of its line, from 1 on.

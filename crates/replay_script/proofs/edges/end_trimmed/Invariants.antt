@@ -1,6 +1,5 @@
 use Rattle.std.proofs.Common.{◌≡◌, length}
 use Rattle.replay_script.specs.Edges.{end_trimmed as the_end_trimmed}
-use Rattle.replay_script.proofs.Trimming.{end_blank, end_kept}
 use Rattle.replay_script.proofs.edges.end_trimmed.Given as goal
 
 abbrev pub invariant-loop-last : goal.invariant-loop-last
