@@ -16,6 +16,8 @@ why_not_written() {
         echo 'is a folder'
     elif [ -e "$1" ]; then
         [ -w "$1" ] || echo "can't be written by $(id -un)"
+        # What takes its place is written beside.
+        [ ! -f "$1" ] || [ -L "$1" ] || [ -w "$folder" ] || echo "can't be replaced: $(id -un) can't write in $folder"
     elif [ ! -d "$folder" ]; then
         echo "can't be made: there is no folder $folder"
     else
