@@ -1,5 +1,5 @@
 -- A Request that is written is read as the call that it was written for.
-use Rattle.std.proofs.Common.{◌≡◌, ◌⊎◌, inl, inr, ℕ, zero, suc, ◌+◌, ◌==◌, if◌then◌else◌, Bool, true, false, List, [], ◌∷◌, ◌++◌, Option, Some, None, length, drop, replicate, refl, sym, ap, ap₂, ◌∙◌, subst, arith}
+use Rattle.std.proofs.Common.{◌≡◌, ◌⊎◌, inl, inr, ℕ, zero, suc, ◌+◌, ◌≤◌, ◌==◌, if◌then◌else◌, Bool, true, false, List, [], ◌∷◌, ◌++◌, Option, Some, None, length, drop, replicate, refl, sym, ap, ap₂, ◌∙◌, subst, arith}
 use Rattle.std.specs.Prelude.{min}
 use Rattle.std.proofs.lemmas.Bool.{eqb-true, eqb-false}
 use Rattle.std.proofs.lemmas.List.{length-replicate}
@@ -67,9 +67,17 @@ asked_low false = (omega arith, tt)
 
 earlier_fit : (ask : Ask) → IsAsk ask → AllFit (earlier_fields ask)
 earlier_fit ask is =
-    let fits = is.fits in
-    (omega arith, (fits.id, ((asked_low (ask.head.flags == 0)).0, both_fit (no_reserved ask.head.minor) (octets ask.key ∷ principal_fields ask.operation [])
-    (reserved_fit ask.head.minor) (fits.key, (fits.operation, (omega arith, tt))))))
+    let fits = is.fits in (
+      omega arith,
+      (
+        fits.id,
+        (
+          (asked_low (ask.head.flags == 0)).0,
+          both_fit (no_reserved ask.head.minor) (octets ask.key ∷ principal_fields ask.operation [])
+              (reserved_fit ask.head.minor) (fits.key, (fits.operation, (omega arith, tt))),
+        ),
+      ),
+    )
 
 fields_fit : (ask : Ask) → IsAsk ask → AllFit (ask_fields ask)
 fields_fit ask is =
@@ -202,6 +210,7 @@ written_asks ask is =
     (parts ask (fields_start bytes) (behind ask) is.carried (fields_read ask is)) in (
       framed-type ask.head.minor REQUEST ask.head.little (content ask),
       record {
+        known = subst (λ (n : ℕ). n ≤ MINOR) (sym version) is.minor;
         behind_opening = read.behind_opening;
         behind_target = read.behind_target;
         behind = behind ask;

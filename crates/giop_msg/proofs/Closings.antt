@@ -9,7 +9,7 @@ use Rattle.cdr_core.proofs.Refusals.{none_where_refused}
 use Rattle.giop_msg.specs.Request.{principal_fields, IsNewestClosing, IsEarlierClosing, IsClosing}
 use Rattle.giop_msg.specs.Version.{is_newest, ByVersion}
 use Rattle.giop_msg.proofs.Fields.{one_reading_of_all, stuck}
-use Rattle.giop_msg.proofs.Contexts.{one_newest_closing}
+use Rattle.giop_msg.proofs.ContextFields.{one_newest_closing}
 
 same_name : (o p x y : List ℕ) → principal_fields o x ≡ principal_fields p y → o ≡ p
 same_name o p x y fields = cc

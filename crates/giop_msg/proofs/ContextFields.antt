@@ -1,5 +1,5 @@
 -- Service contexts, one behind the other.
-use Rattle.std.proofs.Common.{◌≡◌, ℕ, ◌+◌, ◌<◌, List, [], ◌∷◌, ◌++◌, length, refl, sym, ap, ◌∙◌, subst, arith, length-append}
+use Rattle.std.proofs.Common.{◌≡◌, ℕ, ◌+◌, ◌<◌, List, [], ◌∷◌, ◌++◌, length, Result, Ok, Err, OnErr, refl, sym, ap, ◌∙◌, subst, arith, length-append}
 use Rattle.cdr_core.specs.declared.CdrFault.{CdrFault}
 use Rattle.cdr_core.specs.Kind.{Text, ULong, Octets}
 use Rattle.cdr_core.specs.Field.{Field, ulong, octets, text}
@@ -143,3 +143,8 @@ one_contexts a b c here there =
     let count = one_ulong_read (length here.contexts) (length there.contexts) a here.read.0 there.read.0 here.read.1.0 there.read.1.0 in
     ends_once here.contexts there.contexts here.read.0 b c count.0 here.read.1.1
     (subst (λ (z : Cursor). ReadsAll (context_fields there.contexts) z c) (sym count.1) there.read.1.1)
+
+-- what holds after a refusal holds of another statement that it gives
+pub on_err_then : {T E : Type 0} (r : Result T E) (P Q : Type 0) → (P → Q) → OnErr r P → OnErr r Q
+on_err_then (Ok x) P Q f p = tt
+on_err_then (Err e) P Q f p = f p

@@ -1,5 +1,5 @@
 pub mod Fields
-pub mod Contexts
+pub mod ContextFields
 pub mod Openings
 pub mod Closings
 pub mod Targets
@@ -21,3 +21,4 @@ pub mod Headers
 pub mod Asking
 pub mod Answering
 pub mod Lending
+pub mod Units

@@ -11,7 +11,7 @@ use Rattle.giop_msg.specs.Contexts.{IsContexts}
 use Rattle.giop_msg.specs.Opening.{opening_fields, asked_fields, reserved_fields, HasFlags, IsAsked, IsReserved, IsNewestOpening, IsEarlierOpening, IsOpening}
 use Rattle.giop_msg.specs.Version.{is_newest, ByVersion}
 use Rattle.giop_msg.proofs.Fields.{one_reading_of_all, stuck}
-use Rattle.giop_msg.proofs.Contexts.{one_contexts}
+use Rattle.giop_msg.proofs.ContextFields.{one_contexts}
 
 -- in version 1.2 they are read in one way
 one_newest : (i j f g : ℕ) (a b c : Cursor) → IsNewestOpening i f a b → IsNewestOpening j g a c → (i ≡ j) × (f ≡ g) × (b ≡ c)
@@ -32,7 +32,7 @@ one_flags o p f g same (inr here) (inl there) = absurd (omega (arith, same, here
 same_asked : (i j o p : ℕ) → asked_fields i o ≡ asked_fields j p → (i ≡ j) × (o ≡ p)
 same_asked i j o p fields = (cc, cc)
 
-one_asked : (i j f g : ℕ) (a b c : Cursor) → IsAsked i f a b → IsAsked j g a c → (i ≡ j) × (f ≡ g) × (b ≡ c)
+pub one_asked : (i j f g : ℕ) (a b c : Cursor) → IsAsked i f a b → IsAsked j g a c → (i ≡ j) × (f ≡ g) × (b ≡ c)
 one_asked i j f g a b c here there =
     let one = one_reading_of_all (asked_fields i here.asked) (asked_fields j there.asked) a b c refl here.read there.read in
     let same = same_asked i j here.asked there.asked one.0 in

@@ -10,7 +10,7 @@ use Rattle.giop_msg.specs.Opening.{HasFlags, IsAsked, IsReserved, IsNewestOpenin
 use Rattle.giop_msg.specs.Request.{IsNewestClosing, IsEarlierClosing, IsClosing}
 use Rattle.giop_msg.specs.Target.{IsTarget, IsKey, IsAddressed}
 use Rattle.giop_msg.proofs.Addressing.{target_decided}
-use Rattle.giop_msg.proofs.Contexts.{one_contexts}
+use Rattle.giop_msg.proofs.ContextFields.{one_contexts}
 use Rattle.giop_msg.proofs.Openings.{one_opening, one_asked}
 use Rattle.giop_msg.proofs.Deciding.{Decided, decided_as, decided_then, is_decided, Stands, StandsThen}
 use Rattle.giop_msg.proofs.Numbers.{octet_decided, ulong_decided}
@@ -138,10 +138,14 @@ Contexts u before after = IsContexts before after
 contexts_counted : (c : Cursor) → Decided (Stands (Unit {0}) Contexts c)
 contexts_counted c =
     decided_as (CountThen c) (Stands (Unit {0}) Contexts c)
-    (λ s. (tt, s.3.1, record {
-      contexts = s.3.0;
-      read = (s.1, (subst (λ (n : ℕ). Reads (ulong n) c s.1) (sym s.3.3) s.2, s.3.2));
-    }))
+    (λ s. (
+      tt,
+      s.3.1,
+      record {
+        contexts = s.3.0;
+        read = (s.1, (subst (λ (n : ℕ). Reads (ulong n) c s.1) (sym s.3.3) s.2, s.3.2));
+      },
+    ))
     (λ s. (length s.2.contexts, s.2.read.0, s.2.read.1.0, (s.2.contexts, s.1, s.2.read.1.1, refl)))
     (decided_then ℕ (λ (n : ℕ). Reads (ulong n)) HasContexts c (λ m n a b p q. one_ulong_read m n c a b p q) contexts_decided (ulong_decided c))
 

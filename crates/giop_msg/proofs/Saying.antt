@@ -1,5 +1,5 @@
 -- What a message says is decided: each says something.
-use Rattle.std.proofs.Common.{◌≡◌, ℕ, List, Option, Result, Ok, Err, refl, arith, inl, inr}
+use Rattle.std.proofs.Common.{◌≡◌, ◌≤◌, ℕ, List, Option, Result, Ok, Err, refl, arith, inl, inr}
 use Rattle.cdr_core.specs.Field.{ulong}
 use Rattle.cdr_core.specs.Cursor.{Cursor, Reads}
 use Rattle.cdr_core.proofs.OneReading.{one_ulong_read}
@@ -19,7 +19,7 @@ use Rattle.giop_msg.specs.Locate.{locate_head}
 use Rattle.giop_msg.specs.Request.{body_at, request_head, IsClosing}
 use Rattle.giop_msg.specs.Target.{IsAddressed}
 use Rattle.giop_msg.proofs.Targets.{one_addressed}
-use Rattle.giop_msg.proofs.Deciding.{Decided, decided_as, decided_then, is_decided, Stands, StandsThen}
+use Rattle.giop_msg.proofs.Deciding.{Decided, at_most_decided, decided_as, decided_both, decided_then, is_decided, Stands, StandsThen}
 use Rattle.giop_msg.proofs.Numbers.{ulong_decided}
 use Rattle.giop_msg.proofs.Parts.{Opening, opened_once, opening_decided, addressed_decided, closing_decided}
 
@@ -45,8 +45,12 @@ opening_then minor c =
 abbrev SomeCall : List ℕ → Type 0
 SomeCall bytes = (call : Call) × MakesCall bytes call
 
-request_there : (bytes : List ℕ) → message_type bytes ≡ REQUEST → OpeningThen (minor_of bytes) (fields_start bytes) → SomeCall bytes
-request_there bytes kind s =
+-- of a version that is known
+abbrev RequestThen : List ℕ → Type 0
+RequestThen bytes = (minor_of bytes ≤ 2) × OpeningThen (minor_of bytes) (fields_start bytes)
+
+request_there : (bytes : List ℕ) → message_type bytes ≡ REQUEST → minor_of bytes ≤ 2 → OpeningThen (minor_of bytes) (fields_start bytes) → SomeCall bytes
+request_there bytes kind known s =
     let target = s.3 in
     let closing = target.3 in
     let head = request_head (minor_of bytes) s.0.0 s.0.1 (is_little bytes) in (
@@ -54,6 +58,7 @@ request_there bytes kind s =
       (
         kind,
         record {
+          known = known;
           behind_opening = s.1;
           behind_target = target.1;
           behind = closing.1;
@@ -66,10 +71,10 @@ request_there bytes kind s =
       ),
     )
 
-request_back : (bytes : List ℕ) (call : Call) → message_type bytes ≡ REQUEST → MakesCall bytes call → OpeningThen (minor_of bytes) (fields_start bytes)
+request_back : (bytes : List ℕ) (call : Call) → message_type bytes ≡ REQUEST → MakesCall bytes call → RequestThen bytes
 request_back bytes (Request head t o body) kind makes =
     let is = makes.1 in
-    ((head.id, head.flags), is.behind_opening, is.opening, (t, is.behind_target, is.addressed, (o, is.behind, is.closing)))
+    (is.known, ((head.id, head.flags), is.behind_opening, is.opening, (t, is.behind_target, is.addressed, (o, is.behind, is.closing))))
 request_back bytes (Locate head t) kind makes = absurd (omega (arith, kind, makes.0))
 request_back bytes (Line number command) kind makes = absurd makes
 
@@ -83,15 +88,19 @@ locate_then minor c =
     (λ m n a b p q. one_ulong_read m n c a b p q)
     (λ n a. addressed_decided minor a) (ulong_decided c)
 
-locate_there : (bytes : List ℕ) → message_type bytes ≡ LOCATE_REQUEST → LocateThen (minor_of bytes) (fields_start bytes) → SomeCall bytes
-locate_there bytes kind s = (
+abbrev LocateRequestThen : List ℕ → Type 0
+LocateRequestThen bytes = (minor_of bytes ≤ 2) × LocateThen (minor_of bytes) (fields_start bytes)
+
+locate_there : (bytes : List ℕ) → message_type bytes ≡ LOCATE_REQUEST → minor_of bytes ≤ 2 → LocateThen (minor_of bytes) (fields_start bytes)
+    → SomeCall bytes
+locate_there bytes kind known s = (
   Locate (locate_head (minor_of bytes) s.0 (is_little bytes)) s.3.0,
-  (kind, record { behind_id = s.1; behind = s.3.1; id = s.2; addressed = s.3.2; is_head = refl }),
+  (kind, record { known = known; behind_id = s.1; behind = s.3.1; id = s.2; addressed = s.3.2; is_head = refl }),
 )
 
-locate_back : (bytes : List ℕ) (call : Call) → message_type bytes ≡ LOCATE_REQUEST → MakesCall bytes call → LocateThen (minor_of bytes) (fields_start bytes)
+locate_back : (bytes : List ℕ) (call : Call) → message_type bytes ≡ LOCATE_REQUEST → MakesCall bytes call → LocateRequestThen bytes
 locate_back bytes (Request head t o body) kind makes = absurd (omega (arith, kind, makes.0))
-locate_back bytes (Locate head t) kind makes = let is = makes.1 in (head.id, is.behind_id, is.id, (t, is.behind, is.addressed))
+locate_back bytes (Locate head t) kind makes = let is = makes.1 in (is.known, (head.id, is.behind_id, is.id, (t, is.behind, is.addressed)))
 locate_back bytes (Line number command) kind makes = absurd makes
 
 -- what the message asks
@@ -100,24 +109,26 @@ SomeAsked bytes = (asked : Incoming) × Asks bytes asked
 
 request_asked : (bytes : List ℕ) → message_type bytes ≡ REQUEST → Decided (SomeAsked bytes)
 request_asked bytes kind =
-    decided_as (OpeningThen (minor_of bytes) (fields_start bytes)) (SomeAsked bytes)
-    (λ s. let made = request_there bytes kind s in (incoming.Call made.0, made.1))
+    decided_as (RequestThen bytes) (SomeAsked bytes)
+    (λ s. let made = request_there bytes kind s.0 s.1 in (incoming.Call made.0, made.1))
     (λ s. back s.0 s.1)
-    (opening_then (minor_of bytes) (fields_start bytes))
+    (decided_both (minor_of bytes ≤ 2) (OpeningThen (minor_of bytes) (fields_start bytes)) (at_most_decided (minor_of bytes) 2)
+    (opening_then (minor_of bytes) (fields_start bytes)))
   where
-    back : (asked : Incoming) → Asks bytes asked → OpeningThen (minor_of bytes) (fields_start bytes)
+    back : (asked : Incoming) → Asks bytes asked → RequestThen bytes
     back (incoming.Call call) asks = request_back bytes call kind asks
     back (incoming.Cancel id) asks = absurd (omega (arith, kind, asks.0))
     back incoming.Closing asks = absurd (omega (arith, kind, asks))
 
 locate_asked : (bytes : List ℕ) → message_type bytes ≡ LOCATE_REQUEST → Decided (SomeAsked bytes)
 locate_asked bytes kind =
-    decided_as (LocateThen (minor_of bytes) (fields_start bytes)) (SomeAsked bytes)
-    (λ s. let made = locate_there bytes kind s in (incoming.Call made.0, made.1))
+    decided_as (LocateRequestThen bytes) (SomeAsked bytes)
+    (λ s. let made = locate_there bytes kind s.0 s.1 in (incoming.Call made.0, made.1))
     (λ s. back s.0 s.1)
-    (locate_then (minor_of bytes) (fields_start bytes))
+    (decided_both (minor_of bytes ≤ 2) (LocateThen (minor_of bytes) (fields_start bytes)) (at_most_decided (minor_of bytes) 2)
+    (locate_then (minor_of bytes) (fields_start bytes)))
   where
-    back : (asked : Incoming) → Asks bytes asked → LocateThen (minor_of bytes) (fields_start bytes)
+    back : (asked : Incoming) → Asks bytes asked → LocateRequestThen bytes
     back (incoming.Call call) asks = locate_back bytes call kind asks
     back (incoming.Cancel id) asks = absurd (omega (arith, kind, asks.0))
     back incoming.Closing asks = absurd (omega (arith, kind, asks))

@@ -1,6 +1,8 @@
 -- Why a target can't be read, and that it is read in one way.
-use Rattle.std.proofs.Common.{◌≡◌, ℕ, ◌≤◌, true, false, List, Option, Some, None, refl, sym, ap, ap₂, ◌∙◌, subst, arith}
+use Rattle.std.proofs.Common.{◌≡◌, ℕ, ◌≤◌, Bool, true, false, List, Option, Some, None, refl, sym, ap, ap₂, ◌∙◌, subst, arith}
 use Rattle.std.specs.Prelude.{option_map}
+use Rattle.std.proofs.lemmas.Bool.{eqb-true}
+use Rattle.giop_answer.specs.declared.kind.TheConstants.{MINOR}
 use Rattle.cdr_core.specs.declared.CdrFault.{CdrFault}
 use Rattle.cdr_core.specs.Kind.{ULong, Octets}
 use Rattle.cdr_core.specs.Field.{ushort, ulong, octets}
@@ -78,6 +80,19 @@ one_addressed minor t u a b c =
 -- no key where there is no octets
 pub no_key_read : (a : Cursor) (fault : CdrFault) → Refuses Octets a fault → (t : Option (List ℕ)) (after : Cursor) → IsKey t a after → ⊥
 no_key_read a fault refused t after is = none_where_refused (octets is.key) a after fault refused is.read
+
+-- another version than the newest
+not_newest : (minor : ℕ) → (minor ≡ MINOR → ⊥) → is_newest minor ≡ false
+not_newest minor other = by (is_newest minor) refl
+  where
+    by : (b : Bool) → is_newest minor ≡ b → is_newest minor ≡ false
+    by true is = absurd (other (eqb-true minor MINOR is))
+    by false is = is
+
+pub no_key_addressed : (minor : ℕ) (a : Cursor) (fault : CdrFault) → (minor ≡ MINOR → ⊥) → Refuses Octets a fault → (t : Option (List ℕ))
+    (after : Cursor) → IsAddressed minor t a after → ⊥
+no_key_addressed minor a fault other refused t after is =
+    no_key_read a fault refused t after (subst (λ v. ByVersion v (IsTarget t a after) (IsKey t a after)) (not_newest minor other) is)
 
 -- without an address there is no target
 pub no_target_behind : (n : ℕ) (a b : Cursor) → Reads (ushort n) a b → NoAddress n b → NoTarget a

@@ -1,11 +1,12 @@
 -- A Request: CORBA 3.3 Part 2, 9.4.2.
-use Rattle.std.specs.Prelude.{◌≡◌, ℕ, ◌+◌, Bool, false, if◌then◌else◌, List, [], ◌∷◌, Option, length, drop, min}
+use Rattle.std.specs.Prelude.{◌≡◌, ℕ, ◌+◌, ◌≤◌, Bool, false, if◌then◌else◌, List, [], ◌∷◌, Option, length, drop, min}
 use Rattle.cdr_core.specs.Field.{Field, ulong, text, octets}
 use Rattle.cdr_core.specs.Spelling.{gap}
 use Rattle.cdr_core.specs.Cursor.{Cursor}
 use Rattle.poa_base.specs.declared.Head.{Head}
 use Rattle.poa_base.specs.declared.Body.{Body}
 use Rattle.giop_frame.specs.Part.{is_little, minor_of}
+use Rattle.giop_answer.specs.declared.kind.TheConstants.{MINOR}
 use Rattle.giop_msg.specs.Version.{ByVersion, is_newest}
 use Rattle.giop_msg.specs.Fields.{ReadsAll, fields_start}
 use Rattle.giop_msg.specs.Contexts.{Context, context_fields}
@@ -59,6 +60,7 @@ pub record IsRequest (bytes : List ℕ) (head : Head) (target : Option (List ℕ
   pub behind_opening : Cursor
   pub behind_target : Cursor
   pub behind : Cursor
+  pub known : minor_of bytes ≤ MINOR
   pub opening : IsOpening (minor_of bytes) head.id head.flags (fields_start bytes) behind_opening
   pub addressed : IsAddressed (minor_of bytes) target behind_opening behind_target
   pub closing : IsClosing (minor_of bytes) operation behind_target behind

@@ -1,5 +1,5 @@
 //! Requests that are written: CORBA 3.3 Part 2, 9.4.2.
-ghost use Rattle.std.specs.Prelude.{◌≡◌, ◌≢◌, ◌≤◌, ◌<◌, ◌^◌, ◌⊎◌, ◌++◌, IfOk, OnOk, IsFalse};
+ghost use Rattle.std.specs.Prelude.{◌≡◌, ◌≢◌, ◌≤◌, ◌<◌, ◌^◌, ◌⊎◌, ◌++◌, [], IfOk, OnOk, IsFalse};
 ghost use Rattle.giop_frame.specs.Message.{IsMessage};
 ghost use Rattle.giop_answer.specs.Outgoing.{fields_draft};
 ghost use Rattle.cdr_core.specs.Fields.{with_fields};
@@ -66,12 +66,7 @@ fn newest_request(alloc: Global, ask: &Ask) -> Result<Vec<u8>, WantMemory>
 }
 
 // The id, the response flags and three octets that are reserved.
-fn newest_opening(
-    alloc: Global,
-    little: bool,
-    id: u32,
-    flags: u8,
-) -> Result<Writer, WantMemory>
+fn newest_opening(alloc: Global, little: bool, id: u32, flags: u8) -> Result<Writer, WantMemory>
     ensures fields { IfOk result (λ writer. writer ≡ fields_draft little (opening_fields id flags 0 0 0)) }
     ensures id { id < 2 ^ 32 }
     ensures flags { flags < 2 ^ 8 }
@@ -99,12 +94,7 @@ fn earlier_request(alloc: Global, ask: &Ask) -> Result<Vec<u8>, WantMemory>
 }
 
 // No service contexts, the id, and whether a reply is asked.
-fn earlier_opening(
-    alloc: Global,
-    little: bool,
-    id: u32,
-    flags: u8,
-) -> Result<Writer, WantMemory>
+fn earlier_opening(alloc: Global, little: bool, id: u32, flags: u8) -> Result<Writer, WantMemory>
     ensures fields { IfOk result (λ writer. writer ≡ fields_draft little (counted_contexts [] ++ asked_fields id (asked_of flags))) }
     ensures id { id < 2 ^ 32 }
     ensures flags { flags < 2 ^ 8 }

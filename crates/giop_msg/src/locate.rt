@@ -1,5 +1,6 @@
 //! The call of a LocateRequest: CORBA 3.3 Part 2, 9.4.5.
 ghost use Rattle.std.specs.Prelude.{◌≡◌, ◌≤◌, length, IfOk, OnErr};
+ghost use Rattle.giop_frame.specs.Part.{minor_of as version_of};
 ghost use Rattle.giop_msg.specs.Header.{message_type};
 ghost use Rattle.giop_msg.specs.Call.{Asks};
 ghost use Rattle.giop_msg.specs.Reading.{NoCall};
@@ -16,6 +17,7 @@ use poa_base::Head;
 pub(crate) fn view_locate<'a>(bytes: &'a [u8]) -> Result<Seen<'a>, Unreadable>
     requires whole { HEADER ≤ length bytes.now }
     requires locate { message_type bytes.now ≡ LOCATE_REQUEST }
+    requires known { version_of bytes.now ≤ 2 }
     ensures ok { IfOk result (λ seen. Asks bytes.now (asked_by seen)) }
     ensures bad { OnErr result (NoCall bytes.now) }
 {

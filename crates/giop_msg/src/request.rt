@@ -2,7 +2,7 @@
 ghost use Rattle.std.specs.Prelude.{◌≡◌, ◌≤◌, ◌⊎◌, ℕ, List, drop, length, IfOk, OnErr};
 ghost use Rattle.cdr_core.specs.Cursor.{Cursor};
 ghost use Rattle.poa_base.specs.declared.Body.{Body};
-ghost use Rattle.giop_frame.specs.Part.{is_little as little_flag};
+ghost use Rattle.giop_frame.specs.Part.{is_little as little_flag, minor_of as version_of};
 ghost use Rattle.giop_msg.specs.Header.{message_type};
 ghost use Rattle.giop_answer.specs.declared.kind.TheConstants.{REQUEST};
 ghost use Rattle.giop_msg.specs.Request.{body_from, body_unit as unit_of_body, IsClosing, IsEarlierClosing, IsNewestClosing};
@@ -31,6 +31,7 @@ struct BodyView<'a> {
 pub(crate) fn view_request<'a>(bytes: &'a [u8]) -> Result<Seen<'a>, Unreadable>
     requires whole { HEADER ≤ length bytes.now }
     requires request { message_type bytes.now ≡ REQUEST }
+    requires known { version_of bytes.now ≤ 2 }
     ensures ok { IfOk result (λ seen. Asks bytes.now (asked_by seen)) }
     ensures bad { OnErr result (NoCall bytes.now) }
 {

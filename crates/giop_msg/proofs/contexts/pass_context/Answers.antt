@@ -1,7 +1,7 @@
 -- An id and data were read.
 use Rattle.std.proofs.Common.{refl}
 use Rattle.ior_text.proofs.Refused.{on_err}
-use Rattle.giop_msg.proofs.Contexts.{no_data}
+use Rattle.giop_msg.proofs.ContextFields.{no_data}
 use Rattle.giop_msg.proofs.contexts.pass_context.Goals as goal
 
 pub returns-in_err-octets-clause-bad : goal.returns-in_err-octets-clause-bad

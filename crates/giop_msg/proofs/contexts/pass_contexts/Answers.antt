@@ -2,7 +2,7 @@
 use Rattle.std.proofs.Common.{◌≡◌, ℕ, subst, arith}
 use Rattle.giop_msg.specs.Reading.{HasContexts}
 use Rattle.ior_text.proofs.Refused.{on_err}
-use Rattle.giop_msg.proofs.Contexts.{no_contexts, more_contexts, no_more_contexts}
+use Rattle.giop_msg.proofs.ContextFields.{no_contexts, more_contexts, no_more_contexts}
 use Rattle.giop_msg.proofs.contexts.pass_contexts.Goals as goal
 
 pub loop-init : goal.loop-init

@@ -1,5 +1,6 @@
 -- The id was read, and the target behind it.
 use Rattle.std.proofs.Common.{◌≡◌, ℕ, Bool, ap, ap₂, subst}
+use Rattle.std.specs.Prelude.{option_map}
 use Rattle.cdr_core.specs.Field.{ulong}
 use Rattle.cdr_core.specs.Cursor.{Cursor, Reads}
 use Rattle.ior_text.proofs.Refused.{on_err}
@@ -20,10 +21,11 @@ pub returns-clause-ok : goal.returns-clause-ok
 returns-clause-ok c = (
   c.requires.locate,
   record {
+    known = c.requires.known;
     behind_id = c.ulong.new.self;
     behind = c.view_addressed.new.view;
     id = subst (λ (z : Cursor). Reads (ulong c.in_ok-id.id) z c.ulong.new.self) c.enter-view.ensures c.in_ok-id.ensures.ok;
-    addressed = subst (λ (n : ℕ). IsAddressed n _ c.ulong.new.self c.view_addressed.new.view) c.minor_of-minor.ensures c.in_ok-target.ensures.ok;
+    addressed = subst (λ (n : ℕ). IsAddressed n (option_map (λ k. k.now) c.in_ok-target.target) c.ulong.new.self c.view_addressed.new.view) c.minor_of-minor.ensures c.in_ok-target.ensures.ok;
     is_head = ap₂ (λ (n : ℕ) (little : Bool). locate_head n c.in_ok-id.id little) c.minor_of-minor.ensures c.is_little.ensures;
   },
 )

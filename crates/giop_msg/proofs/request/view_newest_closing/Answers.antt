@@ -1,6 +1,6 @@
 -- The operation, the count of the contexts and the contexts were read.
 use Rattle.ior_text.proofs.Refused.{on_err}
-use Rattle.giop_msg.proofs.Contexts.{no_operation, no_count, no_contexts_behind, closing_read}
+use Rattle.giop_msg.proofs.ContextFields.{no_operation, no_count, no_contexts_behind, closing_read}
 use Rattle.giop_msg.proofs.request.view_newest_closing.Goals as goal
 
 pub returns-in_err-operation-clause-bad : goal.returns-in_err-operation-clause-bad
