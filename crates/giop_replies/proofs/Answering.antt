@@ -1,6 +1,6 @@
 -- Replies that fit a call answer the head of its message.
 use Rattle.std.specs.Prelude.{◌≡◌, ℕ, ◌≤◌, Bool, true, false, List, Some, Ok}
-use Rattle.std.proofs.Common.{ap, ◌∙◌, subst, sym, arith}
+use Rattle.std.proofs.Common.{ap, ◌∙◌, subst, sym}
 use Rattle.poa_base.specs.declared.Call.{Call}
 use Rattle.poa_base.specs.declared.Call.TheVariants.{Request, Locate, Line}
 use Rattle.poa_base.specs.declared.Head.{Head}
@@ -36,7 +36,7 @@ reply_answers (Line number command) reply headed fits = absurd headed
 
 pub message_headed : (bytes : List ℕ) (call : Call) → CallOf bytes (Ok (incoming.Call call)) → IsHeaded call
 message_headed bytes (Request head target operation body) asks =
-    (subst (λ n. n ≤ 2) (sym (ap (λ (h : Head). h.minor) asks.1.is_head)) (omega arith), ap (λ (h : Head). h.locate) asks.1.is_head)
+    (subst (λ n. n ≤ 2) (sym (ap (λ (h : Head). h.minor) asks.1.is_head)) asks.1.known, ap (λ (h : Head). h.locate) asks.1.is_head)
 message_headed bytes (Locate head target) asks =
-    (subst (λ n. n ≤ 2) (sym (ap (λ (h : Head). h.minor) asks.1.is_head)) (omega arith), ap (λ (h : Head). h.locate) asks.1.is_head)
+    (subst (λ n. n ≤ 2) (sym (ap (λ (h : Head). h.minor) asks.1.is_head)) asks.1.known, ap (λ (h : Head). h.locate) asks.1.is_head)
 message_headed bytes (Line number command) asks = absurd asks
