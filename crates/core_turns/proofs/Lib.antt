@@ -1,4 +1,5 @@
 mod FactsAre
+mod FactsMet
 mod CommandsAre
 pub mod GoingOn
 pub mod StillFacts

@@ -1,10 +1,11 @@
 //! What stands about a request or a locate: the facts that the table of verdicts asks.
-ghost use Rattle.std.specs.Prelude.{◌≡◌, ◌==◌, ℕ, List, Some, None, if◌then◌else◌, option_and_then, option_copied, IfOk};
+ghost use Rattle.std.specs.Prelude.{◌≡◌, ◌==◌, ◌∷◌, [], ℕ, true, false, is_some, List, Some, None, if◌then◌else◌, option_and_then, option_copied, IfOk};
 ghost use Rattle.poa_base.specs.declared.Entry.{Entry};
 ghost use Rattle.poa_choose.specs.declared.KeyFact.TheVariants.{OtherRun, Persistent, Transient};
 ghost use Rattle.history_standing.specs.Arrivals as calls;
 ghost use Rattle.poa_history.specs.Situations as situations;
 ghost use Rattle.history_standing.specs.Keys as keys;
+ghost use Rattle.history_standing.specs.Templates as templates;
 ghost use Rattle.core_standing.specs.Answers.{AnswersAs};
 ghost use Rattle.core_standing.specs.Seen.{seen};
 ghost use Rattle.history_standing.specs.Walks.{place_met as place_is, walk as walk_along};
@@ -86,6 +87,20 @@ fn other_tag(config: &Config, key: &KeyView<'_>, path: &[Name]) -> bool
         None => is_other_tag(config, path, key.tag()),
         Some(_) => false,
     }
+}
+
+/// Whether the adapter of a path has an adapter activator.
+fn tries(config: &Config, path: &[Name]) -> bool
+    ensures { result ≡ is_some (templates.template_or_root config.now path.now).children }
+{
+    children_at(config, path).is_some()
+}
+
+/// Whether the adapter of a path has a servant manager.
+fn has_rules(config: &Config, path: &[Name]) -> bool
+    ensures { result ≡ elim (templates.rules_at config.now path.now) [ [] ↦ false | _ ∷ _ ↦ true ] }
+{
+    !rules_at(config, path).is_empty()
 }
 
 /// What they are for an id.
@@ -195,7 +210,7 @@ fn facts_met(
         manager: manager_at(config, place),
         state: set.state,
         trial: is_tried(&standing.flights, child_met(found, path)),
-        tries: children_at(config, place).is_some(),
+        tries: tries(config, place),
         entry: set.entry,
         differs: differs(config, key, path, adapter),
         other_tag: other_tag(config, key, path),
@@ -204,7 +219,7 @@ fn facts_met(
         slot: slot_of(config, standing, adapter, oid),
         bad_id: is_bad_id(config, run, standing.made, path, oid),
         preset: set.preset,
-        rules: !rules_at(config, path).is_empty(),
+        rules: has_rules(config, path),
         busy: is_changing(config, standing, adapter),
         next: standing.begun()?,
         located: located(config, path, oid)?,
