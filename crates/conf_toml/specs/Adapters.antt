@@ -18,10 +18,11 @@ use Rattle.conf_fields.specs.declared.Place.{Place}
 use Rattle.conf_fields.specs.declared.Place.TheVariants.{Top, Adapter}
 use Rattle.conf_toml.specs.Policies.{policies_at}
 use Rattle.conf_toml.specs.Rules.{has, rules_at}
+use Rattle.conf_toml.specs.Tags.{tag_at, old_keys_at}
 
 -- the keys of an adapter
 unfoldable pub adapter_keys : List (List ℕ)
-adapter_keys = codes "path" ∷ codes "policies" ∷ codes "manager" ∷ codes "boot" ∷ codes "children" ∷ codes "default" ∷ codes "rule" ∷ []
+adapter_keys = codes "path" ∷ codes "policies" ∷ codes "manager" ∷ codes "boot" ∷ codes "children" ∷ codes "default" ∷ codes "tag" ∷ codes "old_keys" ∷ codes "rule" ∷ []
 
 -- the text of a path before its last `/`: its parent's path, and nothing for a child of the root
 unfoldable pub parent_text : List ℕ → List ℕ
@@ -68,9 +69,9 @@ unfoldable pub root_at : Place → Members → Result AdapterConf ConfFault
 root_at at ms = do
   plain ← none_of (codes "policies" ∷ codes "manager" ∷ codes "boot" ∷ []) at ms
   children ← maybe (text_in children_of) at (codes "children") ms
-  bare ← none_of (codes "default" ∷ codes "rule" ∷ []) at ms
+  bare ← none_of (codes "default" ∷ codes "tag" ∷ codes "old_keys" ∷ codes "rule" ∷ []) at ms
   known ← only_known adapter_keys at ms
-  Ok (record { path = []; policies = defaults; manager = 0; boot = false; children = children; preset = None; rules = [] })
+  Ok (record { path = []; policies = defaults; manager = 0; boot = false; children = children; preset = None; rules = []; tag = 0; old_keys = true })
 
 -- every other entry
 unfoldable pub template_at : ℕ → List (List ℕ) → Find → Find → Find → List AdapterConf → Members → Result AdapterConf ConfFault
@@ -80,9 +81,11 @@ template_at i path managers servants find done ms = do
   boot ← boot_at (Adapter i) find done (path_text path) ms
   children ← maybe (text_in children_of) (Adapter i) (codes "children") ms
   preset ← preset_at (Adapter i) servants policies ms
+  tag ← tag_at (Adapter i) policies ms
+  old_keys ← old_keys_at (Adapter i) policies ms
   rules ← rules_at i servants policies ms
   known ← only_known adapter_keys (Adapter i) ms
-  Ok (record { path = path; policies = policies; manager = manager; boot = boot; children = children; preset = preset; rules = rules })
+  Ok (record { path = path; policies = policies; manager = manager; boot = boot; children = children; preset = preset; rules = rules; tag = tag; old_keys = old_keys })
 
 abbrev pub entry_at : List (List ℕ) → ℕ → Find → Find → Find → List AdapterConf → Members → Result AdapterConf ConfFault
 entry_at [] i managers servants find done ms = root_at (Adapter i) ms

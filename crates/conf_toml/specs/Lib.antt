@@ -2,6 +2,7 @@ pub mod Managers
 pub mod Servants
 pub mod Policies
 pub mod Rules
+pub mod Tags
 pub mod Adapters
 pub mod FoundRows
 pub mod Objects

@@ -13,6 +13,7 @@ ghost use Rattle.conf_toml.specs.Adapters.{adapter_keys as the_adapter_keys, par
 use crate::policies::policies_at;
 use crate::reading::{Reader, read};
 use crate::rule::rules_at;
+use crate::tag::{old_keys_at, tag_at};
 use conf_fields::{
     ConfFault, Numbers, Place, entries_at, find, flag_or, has, known_keys, no_numbers, none_of,
     not_twice, note, number_named, only_if, path_at, table_in, word_maybe,
@@ -36,7 +37,7 @@ fn adapter_keys(alloc: Global, at: Place, table: &Table) -> Result<(), ConfFault
     ensures { FieldGives result (only_known the_adapter_keys at (table_view table.now)) }
 {
     let keys = [
-        "path", "policies", "manager", "boot", "children", "default", "rule",
+        "path", "policies", "manager", "boot", "children", "default", "tag", "old_keys", "rule",
     ];
     known_keys(alloc, at, table, &keys)
 }
@@ -152,7 +153,7 @@ fn root_at(alloc: Global, at: Place, table: &Table) -> Result<AdapterConf, ConfF
 {
     none_of(alloc, at, table, &["policies", "manager", "boot"])?;
     let children = word_maybe(alloc, at, table, "children")?;
-    none_of(alloc, at, table, &["default", "rule"])?;
+    none_of(alloc, at, table, &["default", "tag", "old_keys", "rule"])?;
     adapter_keys(alloc, at, table)?;
     Ok(AdapterConf {
         path: Path::root(alloc),
@@ -162,6 +163,8 @@ fn root_at(alloc: Global, at: Place, table: &Table) -> Result<AdapterConf, ConfF
         children,
         preset: None,
         rules: Items::new(alloc),
+        tag: 0,
+        old_keys: true,
     })
 }
 
@@ -190,6 +193,8 @@ fn template_at(
     let boot = boot_at(alloc, at, earlier.paths, earlier.adapters, text, table)?;
     let children = word_maybe(alloc, at, table, "children")?;
     let preset = preset_at(alloc, at, earlier.servants, &policies, table)?;
+    let tag = tag_at(alloc, at, &policies, table)?;
+    let old_keys = old_keys_at(alloc, at, &policies, table)?;
     let rules = rules_at(alloc, i, earlier.servants, &policies, table)?;
     adapter_keys(alloc, at, table)?;
     Ok(AdapterConf {
@@ -200,6 +205,8 @@ fn template_at(
         children,
         preset,
         rules,
+        tag,
+        old_keys,
     })
 }
 

@@ -12,6 +12,7 @@ mod reading;
 mod rule;
 mod servant;
 mod settings;
+mod tag;
 
 pub use adapter::adapters;
 pub use conf_fields::ConfFault;
