@@ -1,5 +1,5 @@
 // Makes the calls on standard input, by omniORB, and prints each with what came of it. A line is ADAPTER ID OPERATION
-// [ARGUMENT]; where ADAPTER is `key`, ID is a whole object key in hexadecimal.
+// [ARGUMENT]; where ADAPTER is `key`, ID is a whole object key in hexadecimal, and where it is `ior` a reference.
 #include <iomanip>
 #include <iostream>
 #include <sstream>
@@ -61,8 +61,9 @@ static std::string outcome(CORBA::ORB_ptr orb, const std::string& line) {
     std::string adapter, id, operation, argument;
     words >> adapter >> id >> operation >> argument;
     std::string key = adapter == "key" ? from_hex(id) : key_of(adapter, id);
+    std::string reference = adapter == "ior" ? id : "corbaloc:iiop:1.2@127.0.0.1:2809/" + escaped(key);
     try {
-        CORBA::Object_var object = orb->string_to_object(("corbaloc:iiop:1.2@127.0.0.1:2809/" + escaped(key)).c_str());
+        CORBA::Object_var object = orb->string_to_object(reference.c_str());
         return argument.empty() ? ask(object, operation) : ask(object, operation, argument);
     } catch (const CORBA::SystemException& raised) {
         std::ostringstream out;

@@ -11,6 +11,13 @@ pub enum Command<'a> {
     Check(&'a str),
     /// To print the references of the configuration in the file of this name.
     Iors(&'a str),
+    /// To print a reference with the tags of a configuration's adapters.
+    Migrate {
+        /// The name of the file with the configuration.
+        config: &'a str,
+        /// The text of the reference.
+        text: &'a str,
+    },
     /// To play a script.
     Replay {
         /// The name of the file with the configuration.

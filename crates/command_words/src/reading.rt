@@ -35,6 +35,10 @@ fn named<'a>(alloc: Global, word: &str, rest: &'a [String]) -> Result<Command<'a
         "show" => Ok(Command::Show(required_argument(alloc, "show", rest)?)),
         "check" => Ok(Command::Check(required_argument(alloc, "check", rest)?)),
         "iors" => Ok(Command::Iors(required_argument(alloc, "iors", rest)?)),
+        "migrate" => {
+            let (config, text) = two_arguments(alloc, "migrate", rest)?;
+            Ok(Command::Migrate { config, text })
+        }
         "replay" => {
             let (config, script) = two_arguments(alloc, "replay", rest)?;
             Ok(Command::Replay { config, script })

@@ -1,9 +1,10 @@
 -- What a command does. These words are for a contract inside of this crate.
 use Rattle.std.specs.Prelude.{◌≡◌, ℕ, List, Option}
 use Rattle.outside.specs.Keeping.{Contents}
-use Rattle.command_words.specs.Words.{Meant, answer, load, show, check, iors, replay}
+use Rattle.command_words.specs.Words.{Meant, answer, load, show, check, iors, migrate, replay}
 use Rattle.poad_files.specs.declared.Asked.TheVariants.{Counts, References}
 use Rattle.poad_files.specs.Filing.{Filed}
+use Rattle.poad_files.specs.Migrating.{MigratesFile}
 use Rattle.poad_files.specs.Showing.{Tells}
 use Rattle.poad_files.specs.declared.status.Status.{Status}
 use Rattle.poad_answer.specs.Answering.{AnswersBy}
@@ -26,3 +27,5 @@ Does (check name) status old new left_old left_new held_old held_new source_old 
     Filed Counts name status old new held_old held_new × (source_new ≡ source_old)
 Does (iors name) status old new left_old left_new held_old held_new source_old source_new files_old files_new =
     Filed References name status old new held_old held_new × (source_new ≡ source_old)
+Does (migrate name text) status old new left_old left_new held_old held_new source_old source_new files_old files_new =
+    MigratesFile name text status old new held_old held_new × (source_new ≡ source_old)

@@ -8,6 +8,7 @@ ghost use Rattle.poad_files.specs.declared.Asked.TheVariants.{Counts, References
 ghost use Rattle.poad_answer.specs.Answering.{AnswersBy};
 ghost use Rattle.poad_cmd.specs.Commands.{Does};
 ghost use Rattle.poad_cmd.specs.Playing.{PlaysFiles};
+ghost use Rattle.poad_files.specs.Migrating.{MigratesFile};
 ghost use Rattle.poad_files.specs.Showing.{Tells};
 ghost use Rattle.poad_files.specs.Filing.{Filed};
 ghost use Rattle.poad_files.specs.Taking.{HoldsStill};
@@ -17,7 +18,7 @@ use crate::playing::play_files;
 use command_words::{Command, WordsFault, command_of};
 use outside::{Files, Sink, Source};
 use poad_answer::answer_by;
-use poad_files::{Asked, Host, Status, print_file, show_text};
+use poad_files::{Asked, Host, Status, migrate_file, print_file, show_text};
 use poad_load::load;
 use std::alloc::Global;
 
@@ -31,6 +32,7 @@ use std::alloc::Global;
 /// - `show IOR`: prints the reference to the sink.
 /// - `check FILE`: reads the configuration in the file, and prints how many there are of each kind.
 /// - `iors FILE`: reads the configuration in the file, and prints the references of its objects.
+/// - `migrate FILE IOR`: reads the configuration in the file, and prints the reference with the tags of its adapters.
 ///
 /// The source is one that doesn't wait: a read of it waits until something is there.
 ///
@@ -42,7 +44,7 @@ use std::alloc::Global;
 ///   CloseConnection. Or `replay` came to such a call or connection, and what the script prints was written whole.
 /// - `ScriptRefused`: this line of the script is the first outside the grammar. Nothing was written.
 /// - `BadWords`: the words are none of these commands. Nothing was read or written.
-/// - `TextRefused`: the text of `show` is no reference, with its first fault. Nothing was written.
+/// - `TextRefused`: the text of `show` or of `migrate` is no reference, with its first fault. Nothing was written.
 /// - `NoFile`, `FileTooLong`, `FileFault`: a file isn't there, is longer than a configuration or a script may be,
 ///   or a read of it failed in this call. Nothing was written.
 /// - `ConfigRefused`: the file holds no configuration, with its first fault. Nothing was written.
@@ -84,6 +86,9 @@ pub fn run_words<S: Source, K: Sink, F: Files>(
         × (host.new.source ≡ host.old.source) }
     ensures iors { (name : List ℕ) → command_in words.now ≡ Some (spec.iors name)
         → Filed References name result (F.contents host.old.files) (F.contents host.new.files) (K.held host.old.sink) (K.held host.new.sink)
+        × (host.new.source ≡ host.old.source) }
+    ensures migrates { (name text : List ℕ) → command_in words.now ≡ Some (spec.migrate name text)
+        → MigratesFile name text result (F.contents host.old.files) (F.contents host.new.files) (K.held host.old.sink) (K.held host.new.sink)
         × (host.new.source ≡ host.old.source) }
     ensures contents { IfTold (F.contents host.old.files) (F.contents host.new.files) HoldsStill }
     ensures read_fault { HasCause (S.read_faults host.old.source) (S.read_faults host.new.source) (result ≡ Status.ReadFault) }
@@ -141,6 +146,15 @@ fn run_command<S: Source, K: Sink, F: Files>(
                 alloc,
                 Asked::References,
                 name,
+                &mut host.files,
+                &mut host.sink,
+            )
+        }
+        Command::Migrate { config, text } => {
+            migrate_file(
+                alloc,
+                config,
+                text.as_bytes(),
                 &mut host.files,
                 &mut host.sink,
             )

@@ -20,6 +20,7 @@ use Rattle.conf_toml.specs.Managers.{manager_at, managers_of}
 use Rattle.conf_toml.specs.Servants.{opening, servant_at, servants_of}
 use Rattle.conf_toml.specs.Policies.{policies_at}
 use Rattle.conf_toml.specs.Rules.{matched, way_of, no_other, not_raised, fresh_at, servant_given, forward_given, raise_given, rule_keys, rule_at, rule_in, rules_at}
+use Rattle.conf_toml.specs.Tags.{tag_at, old_keys_at}
 use Rattle.conf_toml.specs.Adapters.{adapter_keys, parent_text, boot_at, manager_number, preset_at, root_at, template_at, adapter_at, adapters_of}
 use Rattle.conf_toml.specs.Objects.{home_below, id_at, id_text, servant_text, object_at, objects_of}
 use Rattle.conf_toml.specs.Forwards.{forward_at, forwards_of}
@@ -76,5 +77,5 @@ accepted content text ok = accepted_table content (parse_document content) refl 
 
 -- what computes that of a known text
 unfoldable pub config_on_literals : ⊤
-unfolding toml_on_literals lib.Utf8.encode config_of settings_of top_keys managers_of manager_at servants_of servant_at opening adapters_of adapter_at template_at root_at adapter_keys boot_at parent_text manager_number preset_at policies_at settled rules_at rule_in rule_at rule_keys matched way_of no_other not_raised fresh_at servant_given forward_given raise_given objects_of object_at home_below id_at id_text servant_text forwards_of forward_at path_at number_named is_among table_path key_path state_of kind_of children_of exception_of policy_of
+unfolding toml_on_literals lib.Utf8.encode config_of settings_of top_keys managers_of manager_at servants_of servant_at opening adapters_of adapter_at template_at root_at adapter_keys boot_at parent_text manager_number preset_at tag_at old_keys_at policies_at settled rules_at rule_in rule_at rule_keys matched way_of no_other not_raised fresh_at servant_given forward_given raise_given objects_of object_at home_below id_at id_text servant_text forwards_of forward_at path_at number_named is_among table_path key_path state_of kind_of children_of exception_of policy_of
 config_on_literals = tt

@@ -5,3 +5,4 @@ pub mod Causes
 pub mod Delivered
 pub mod Files
 pub mod Accepted
+pub mod Moving

@@ -1,5 +1,5 @@
 -- The line of a key. A line ends with LF, 10.
-use Rattle.std.specs.Prelude.{◌≡◌, ◌≢◌, ℕ, List, [], ◌∷◌, ◌++◌, codes, decimal, Option, Some, None, if◌then◌else◌, ◌⊎◌}
+use Rattle.std.specs.Prelude.{◌≡◌, ◌≢◌, ◌==◌, ℕ, List, [], ◌∷◌, ◌++◌, codes, decimal, Option, Some, None, if◌then◌else◌, ◌⊎◌}
 use Rattle.std.specs.List.{list_all}
 use Rattle.poa_base.specs.declared.Key.{Key}
 use Rattle.poa_base.specs.declared.Stamp.{Stamp}
@@ -12,6 +12,10 @@ abbrev pub stamp_words : Option Stamp → List ℕ
 stamp_words None = codes "key persistent "
 stamp_words (Some stamp) = codes "key transient " ++ (decimal stamp.run ++ (codes " " ++ (decimal stamp.number ++ codes " ")))
 
+-- the tag, where the key has one
+abbrev pub tag_words : ℕ → List ℕ
+tag_words tag = if tag == 0 then [] else codes " tag " ++ decimal tag
+
 -- what is printed of octets in a key's place
 abbrev pub hexed_key : List ℕ → List ℕ
 hexed_key octets = codes "key " ++ (hexed octets ++ 10 ∷ [])
@@ -20,7 +24,7 @@ hexed_key octets = codes "key " ++ (hexed octets ++ 10 ∷ [])
 abbrev pub key_line : Key → List ℕ
 key_line key =
     if list_all is_plain key.path
-    then stamp_words key.stamp ++ (path_text key.path ++ (codes " " ++ (hexed key.oid ++ 10 ∷ [])))
+    then stamp_words key.stamp ++ (path_text key.path ++ (codes " " ++ (hexed key.oid ++ (tag_words key.tag ++ 10 ∷ []))))
     else hexed_key (key_spelling key)
 
 -- the octets are the spelling of a key, which is printed

@@ -1,5 +1,6 @@
 pub mod Counts
 pub mod Numbers
+pub mod Tags
 pub mod Objects
 pub mod Printing
 pub mod Printed
@@ -9,5 +10,7 @@ pub mod Taking
 pub mod StateFile
 pub mod Delivery
 pub mod Showing
+pub mod Migration
+pub mod Migrating
 pub mod Filing
 pub mod Statuses

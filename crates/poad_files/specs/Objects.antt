@@ -1,5 +1,5 @@
 -- What `iors` prints of a configuration: the references of its objects.
-use Rattle.std.specs.Prelude.{ℕ, suc, List, [], ◌∷◌, ◌++◌, codes, Option, Some, None, option_map, slice_get}
+use Rattle.std.specs.Prelude.{ℕ, suc, List, [], ◌∷◌, ◌++◌, codes, Option, Some, None, slice_get}
 use Rattle.std.specs.Int.{w32, to_be_bytes}
 use Rattle.hex.specs.Hex.{encode_lower}
 use Rattle.poa_base.specs.declared.Config.{Config}
@@ -10,6 +10,7 @@ use Rattle.servant_kinds.specs.Object.{type_id_of}
 use Rattle.text_words.specs.Path.{path_text}
 use Rattle.ior_text.specs.Reference.{reference_text}
 use Rattle.poad_files.specs.Numbers.{Numbers, numbers_of}
+use Rattle.poad_files.specs.Tags.{tag_at}
 
 -- a system-made id: the run and the ordinal (CORBA 3.3 Part 1, chapter 15, "SYSTEM_ID")
 abbrev pub id_of : ℕ → ℕ → Option (List ℕ) → List ℕ
@@ -26,13 +27,20 @@ abbrev pub type_in : Option ServantConf → List ℕ
 type_in (Some s) = type_id_of s.state
 type_in None = []
 
--- the key is transient where a number is given: the run and that number (CORBA 3.3 Part 1, chapter 15, "TRANSIENT")
-abbrev pub key_of : ℕ → Option ℕ → List (List ℕ) → List ℕ → Key
-key_of run number path oid = record { stamp = option_map (λ n. record { run = run; number = n }) number; path = path; oid = oid }
+-- the tag that an entry gives, if there is one
+abbrev pub given_tag : Option ℕ → ℕ
+given_tag None = 0
+given_tag (Some tag) = tag
+
+-- the key is transient where a number is given: the run and that number (CORBA 3.3 Part 1, chapter 15, "TRANSIENT"); else
+-- it has the tag of its adapter's entry
+abbrev pub key_of : ℕ → Option ℕ → Option ℕ → List (List ℕ) → List ℕ → Key
+key_of run (Some n) tag path oid = record { stamp = Some (record { run = run; number = n }); path = path; oid = oid; tag = 0 }
+key_of run None tag path oid = record { stamp = None; path = path; oid = oid; tag = given_tag tag }
 
 abbrev pub reference_in : Config → Numbers → List (List ℕ) → List ℕ → ℕ → List ℕ
 reference_in c numbers path oid servant =
-    reference_text (record { host = c.host; port = c.port }) (type_in (slice_get c.servants servant)) (key_of c.run (numbers path) path oid)
+    reference_text (record { host = c.host; port = c.port }) (type_in (slice_get c.servants servant)) (key_of c.run (numbers path) (tag_at c.adapters path) path oid)
 
 -- the path, the id and the reference
 abbrev pub line : List (List ℕ) → List ℕ → List ℕ → List ℕ

@@ -4,7 +4,7 @@ ghost use Rattle.std.specs.List.{list_all};
 ghost use Rattle.object_key.specs.Spelling.{key_spelling};
 ghost use Rattle.text_words.specs.Path.{path_text as path_spelling};
 ghost use Rattle.poad_files.specs.Printed as spec;
-ghost use Rattle.poad_files.specs.KeyLine.{KeyShown, stamp_words, hexed_key, key_line};
+ghost use Rattle.poad_files.specs.KeyLine.{KeyShown, stamp_words, tag_words, hexed_key, key_line};
 ghost use Rattle.poad_files.specs.Shown.{Adds};
 
 use crate::printed::{is_plain, put_hexed, put_text};
@@ -35,7 +35,19 @@ fn put_read_key(out: &mut Vec<u8>, key: &Key, octets: &[u8]) -> Result<(), WantM
     put_path(out, &key.path)?;
     out.extend_from_slice(b" ")?;
     put_hexed(out, key.oid.as_slice())?;
+    put_tag(out, key.tag)?;
     out.extend_from_slice(b"\n")
+}
+
+/// Adds the tag, where the key has one.
+fn put_tag(out: &mut Vec<u8>, tag: u16) -> Result<(), WantMemory>
+    ensures { OnOk result (out.new.items ≡ out.old.items ++ tag_words tag) }
+{
+    if tag == 0 {
+        return Ok(());
+    }
+    let words = format!(in *out.allocator(); " tag {tag}")?;
+    put_text(out, words)
 }
 
 /// Adds the spelling of a path.

@@ -1,6 +1,6 @@
 //! What every command of the program has: its source, sink and files (`Host`), how it ended (`Status`), the contents,
 //! configurations, scripts and stores that it takes of files, and the bytes that it hands to a sink. And the commands that need
-//! no adapter: `show` prints a reference, and `check` and `iors` print what a configuration has.
+//! no adapter: `show` prints a reference, `check` and `iors` print what a configuration has, and `migrate` a reference with the tags of one.
 #![tactic(auto)]
 
 mod counting;
@@ -9,6 +9,8 @@ mod fault_line;
 mod filing;
 mod host;
 mod key;
+mod migrating;
+mod migration;
 mod numbering;
 mod objects;
 mod printed;
@@ -18,11 +20,13 @@ mod reference;
 mod showing;
 mod state_file;
 mod status;
+mod tags;
 mod taking;
 
 pub use delivery::deliver;
 pub use filing::print_file;
 pub use host::Host;
+pub use migrating::migrate_file;
 pub use printing::Asked;
 pub use showing::show_text;
 pub use state_file::take_state;

@@ -3,6 +3,7 @@ ghost use Rattle.std.specs.Prelude.{◌≡◌, ◌++◌, ◌+◌, ◌≤◌, ◌
 ghost use Rattle.std.specs.List.{slice_get};
 ghost use Rattle.std.specs.Int.{w32, to_be_bytes};
 ghost use Rattle.std.specs.Option.{option_copied};
+ghost use Rattle.object_key.specs.Spelling.{TagsPersistent};
 ghost use Rattle.ior_text.specs.Reference.{reference_text};
 ghost use Rattle.std.specs.BTreeMap as tree;
 ghost use Rattle.poa_base.specs.Store.{path_cmp};
@@ -11,6 +12,7 @@ ghost use Rattle.poad_files.specs.Objects as spec;
 ghost use Rattle.poad_files.specs.Objects.{references_text};
 
 use crate::numbering::{Numbers, adapter_numbers};
+use crate::tags::tag_at;
 use ior_text::write_reference;
 use poa_base::{
     Bytes, Config, Endpoint, Key, ObjectConf, Oid, Path, ServantConf, Stamp, TryClone, WantMemory,
@@ -20,7 +22,8 @@ use std::alloc::Global;
 use text_words::path_text;
 
 /// A line for each configured object, in their order: the adapter's path, the object id and the reference.
-/// A system-made id has the next ordinal, from 1 on; the reference has the configuration's run, host and port.
+/// A system-made id has the next ordinal, from 1 on; the reference has the configuration's run, host and port, and its
+/// persistent key the tag of the adapter's entry.
 pub fn references(alloc: Global, config: &Config) -> Result<Bytes, WantMemory>
     requires { KeepsRules config.now }
     ensures { IfOk result (λ text. text ≡ references_text config.now) }
@@ -62,7 +65,8 @@ fn put_object(
     let alloc = *out.allocator();
     let oid = object_id(alloc, config.run, ordinal, &object.oid)?;
     let number = number_at(numbers, &object.adapter);
-    let key = key_of(config.run, number, &object.adapter, oid)?;
+    let tag = tag_at(config.adapters.as_slice(), &object.adapter);
+    let key = key_of(config.run, number, tag, &object.adapter, oid)?;
     let type_id = type_of(config, object.servant);
     let reference = reference(alloc, config, type_id, &key)?;
     put_line(out, &key, reference.as_slice())
@@ -86,12 +90,37 @@ fn made_id(alloc: Global, run: u32, ordinal: u32) -> Result<Oid, WantMemory>
     Ok(Oid::from_vec(bytes).unwrap())
 }
 
-fn key_of(run: u32, number: Option<u32>, path: &Path, oid: Oid) -> Result<Key, WantMemory>
-    ensures { IfOk result (λ key. key ≡ spec.key_of run number path.now oid) }
+fn key_of(
+    run: u32,
+    number: Option<u32>,
+    tag: Option<u16>,
+    path: &Path,
+    oid: Oid,
+) -> Result<Key, WantMemory>
+    ensures key { IfOk result (λ key. key ≡ spec.key_of run number tag path.now oid) }
+    ensures tagged { IfOk result TagsPersistent }
 {
-    let stamp = number.map(|number| Stamp { run, number });
     let path = path.try_clone()?;
-    Ok(Key { stamp, path, oid })
+    let (stamp, tag) = match number {
+        Some(number) => (Some(Stamp { run, number }), 0),
+        None => (None, given_tag(tag)),
+    };
+    Ok(Key {
+        stamp,
+        path,
+        oid,
+        tag,
+    })
+}
+
+// The tag that an entry gives, if there is one.
+fn given_tag(tag: Option<u16>) -> u16
+    ensures { result ≡ spec.given_tag tag }
+{
+    match tag {
+        Some(tag) => tag,
+        None => 0,
+    }
 }
 
 fn number_at(numbers: &Numbers, path: &Path) -> Option<u32>
@@ -117,6 +146,7 @@ fn type_in(servant: Option<&ServantConf>) -> &[u8]
 }
 
 fn reference(alloc: Global, config: &Config, type_id: &[u8], key: &Key) -> Result<Bytes, WantMemory>
+    requires { TagsPersistent key.now }
     ensures { IfOk result (λ text. text ≡ reference_text (record { host = config.now.host; port = config.now.port }) type_id.now key.now) }
 {
     let endpoint = Endpoint {

@@ -29,8 +29,8 @@ pub fn show_text<K: Sink>(alloc: Global, text: &[u8], sink: &mut K) -> Status
     }
 }
 
-// The status where a text is no reference.
-fn refusal(fault: IorFault) -> Status
+/// The status where a text is no reference.
+pub(crate) fn refusal(fault: IorFault) -> Status
     ensures { Refuses result fault }
 {
     match fault {

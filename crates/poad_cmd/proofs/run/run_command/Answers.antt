@@ -36,3 +36,11 @@ returns-in-Iors-clause-does g c =
     (g.K.Sink.held c.args.host.now.sink) (g.K.Sink.held c.print_file-in-Iors.new.sink) c.args.host.now.source c.args.host.now.source c.args.host.now.files
     c.print_file-in-Iors.new.files)
     (sym c.in-Iors.is) (c.print_file-in-Iors.ensures.filed, refl)
+
+pub returns-in-Migrate-clause-does : goal.returns-in-Migrate-clause-does
+returns-in-Migrate-clause-does g c =
+    subst (λ (k : Command). Does (seen k) c.migrate_file.result (g.F.Files.contents c.args.host.now.files)
+    (g.F.Files.contents c.migrate_file.new.files) (g.S.Source.left c.args.host.now.source) (g.S.Source.left c.args.host.now.source)
+    (g.K.Sink.held c.args.host.now.sink) (g.K.Sink.held c.migrate_file.new.sink) c.args.host.now.source c.args.host.now.source c.args.host.now.files
+    c.migrate_file.new.files)
+    (sym c.in-Migrate.is) (c.migrate_file.ensures.migrates, refl)

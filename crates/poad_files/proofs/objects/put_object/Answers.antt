@@ -12,7 +12,7 @@ returns c =
     let oid = c.in_ok-oid.oid in
     let made = id_of config.run c.args.ordinal o.oid in
     let same =
-    line_of config (tree.get path_cmp c.args.numbers.now) o.adapter oid made o.servant c.number_at-number.result c.in_ok-key.key c.type_of-type_id.result.now
+    line_of config (tree.get path_cmp c.args.numbers.now) o.adapter oid made o.servant c.number_at-number.result c.tag_at-tag.result c.in_ok-key.key c.type_of-type_id.result.now
     c.as_slice.result.now
-    c.in_ok-oid.ensures c.number_at-number.ensures c.in_ok-key.ensures c.type_of-type_id.ensures (c.as_slice.ensures ∙ c.in_ok-reference.ensures) in
+    c.in_ok-oid.ensures c.number_at-number.ensures c.tag_at-tag.ensures c.in_ok-key.ensures.key c.type_of-type_id.ensures (c.as_slice.ensures ∙ c.in_ok-reference.ensures) in
     subst (λ (t : List ℕ). OnOk c.put_line.result (c.put_line.new.out.items ≡ c.args.out.now.items ++ t)) same c.put_line.ensures
