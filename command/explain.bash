@@ -79,6 +79,7 @@ explain_file() {
 explain() {
     local status=$1 command=$2 it files options
     split_words "${@:3}"
+    [ "$command" != migrate ] || files=("${files[@]:0:1}")
     case $status in
         2) printf 'usage: ./poad %s\n' "${words[$command]}" >&2 ;;
         3) [ ! -f "${files[0]-}" ] || explain_configuration "${files[0]}" ;;
