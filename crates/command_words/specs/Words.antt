@@ -13,6 +13,7 @@ pub data Meant : Type 0 where
   check : List ℕ → Meant  -- to check the configuration in the file of this name
   iors : List ℕ → Meant  -- to print the references of the configuration in the file of this name
   migrate : List ℕ → List ℕ → Meant  -- to print, with the tags of the configuration in the file of the first name, the reference that the second text is
+  loc : List ℕ → Meant  -- to print the corbaloc text of the reference that this text is
   replay : List ℕ → List ℕ → Meant  -- to play, on the configuration in the first file, the script in the second
   load : ℕ → ℕ → Meant  -- to play so many draws of the generator that starts with the second number
 
@@ -86,8 +87,9 @@ named word arguments =
     if bytes_eq word (codes "check") then option_map check (exactly_one arguments) else (
     if bytes_eq word (codes "iors") then option_map iors (exactly_one arguments) else (
     if bytes_eq word (codes "migrate") then option_map (λ words. migrate words.0 words.1) (exactly_two arguments) else (
+    if bytes_eq word (codes "loc") then option_map loc (exactly_one arguments) else (
     if bytes_eq word (codes "replay") then option_map (λ files. replay files.0 files.1) (exactly_two arguments) else (
-    if bytes_eq word (codes "load") then load_of (exactly_two arguments) else None))))))
+    if bytes_eq word (codes "load") then load_of (exactly_two arguments) else None)))))))
 
 abbrev pub command_of : List (List ℕ) → Option Meant
 command_of [] = None
@@ -109,5 +111,6 @@ seen (command.Show text) = show text.now
 seen (command.Check name) = check name.now
 seen (command.Iors name) = iors name.now
 seen (command.Migrate config text) = migrate config.now text.now
+seen (command.Loc text) = loc text.now
 seen (command.Replay config script) = replay config.now script.now
 seen (command.Load calls start) = load calls start

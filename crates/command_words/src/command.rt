@@ -18,6 +18,8 @@ pub enum Command<'a> {
         /// The text of the reference.
         text: &'a str,
     },
+    /// To print the corbaloc text of the reference that this text is.
+    Loc(&'a str),
     /// To play a script.
     Replay {
         /// The name of the file with the configuration.

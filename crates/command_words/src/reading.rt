@@ -39,6 +39,7 @@ fn named<'a>(alloc: Global, word: &str, rest: &'a [String]) -> Result<Command<'a
             let (config, text) = two_arguments(alloc, "migrate", rest)?;
             Ok(Command::Migrate { config, text })
         }
+        "loc" => Ok(Command::Loc(required_argument(alloc, "loc", rest)?)),
         "replay" => {
             let (config, script) = two_arguments(alloc, "replay", rest)?;
             Ok(Command::Replay { config, script })

@@ -1,10 +1,11 @@
 -- What a command does. These words are for a contract inside of this crate.
 use Rattle.std.specs.Prelude.{◌≡◌, ℕ, List, Option}
 use Rattle.outside.specs.Keeping.{Contents}
-use Rattle.command_words.specs.Words.{Meant, answer, load, show, check, iors, migrate, replay}
+use Rattle.command_words.specs.Words.{Meant, answer, load, show, check, iors, migrate, loc, replay}
 use Rattle.poad_files.specs.declared.Asked.TheVariants.{Counts, References}
 use Rattle.poad_files.specs.Filing.{Filed}
 use Rattle.poad_files.specs.Migrating.{MigratesFile}
+use Rattle.poad_files.specs.Locating.{Locates}
 use Rattle.poad_files.specs.Showing.{Tells}
 use Rattle.poad_files.specs.declared.status.Status.{Status}
 use Rattle.poad_answer.specs.Answering.{AnswersBy}
@@ -23,6 +24,8 @@ Does (load n start) status old new left_old left_new held_old held_new source_ol
     LoadGives n start status held_old held_new × (source_new ≡ source_old) × (files_new ≡ files_old)
 Does (show text) status old new left_old left_new held_old held_new source_old source_new files_old files_new =
     Tells status text held_old held_new × (source_new ≡ source_old) × (files_new ≡ files_old)
+Does (loc text) status old new left_old left_new held_old held_new source_old source_new files_old files_new =
+    Locates status text held_old held_new × (source_new ≡ source_old) × (files_new ≡ files_old)
 Does (check name) status old new left_old left_new held_old held_new source_old source_new files_old files_new =
     Filed Counts name status old new held_old held_new × (source_new ≡ source_old)
 Does (iors name) status old new left_old left_new held_old held_new source_old source_new files_old files_new =

@@ -9,6 +9,7 @@ ghost use Rattle.poad_answer.specs.Answering.{AnswersBy};
 ghost use Rattle.poad_cmd.specs.Commands.{Does};
 ghost use Rattle.poad_cmd.specs.Playing.{PlaysFiles};
 ghost use Rattle.poad_files.specs.Migrating.{MigratesFile};
+ghost use Rattle.poad_files.specs.Locating.{Locates};
 ghost use Rattle.poad_files.specs.Showing.{Tells};
 ghost use Rattle.poad_files.specs.Filing.{Filed};
 ghost use Rattle.poad_files.specs.Taking.{HoldsStill};
@@ -18,7 +19,7 @@ use crate::playing::play_files;
 use command_words::{Command, WordsFault, command_of};
 use outside::{Files, Sink, Source};
 use poad_answer::answer_by;
-use poad_files::{Asked, Host, Status, migrate_file, print_file, show_text};
+use poad_files::{Asked, Host, Status, migrate_file, print_file, print_loc, show_text};
 use poad_load::load;
 use std::alloc::Global;
 
@@ -30,6 +31,7 @@ use std::alloc::Global;
 /// - `load N START`: plays N calls, which a generator draws from START on, with turns of workers between them, on a
 ///   configuration of the program, and writes what is counted of the run.
 /// - `show IOR`: prints the reference to the sink.
+/// - `loc IOR`: prints the corbaloc text of the reference to the sink.
 /// - `check FILE`: reads the configuration in the file, and prints how many there are of each kind.
 /// - `iors FILE`: reads the configuration in the file, and prints the references of its objects.
 /// - `migrate FILE IOR`: reads the configuration in the file, and prints the reference with the tags of its adapters.
@@ -44,7 +46,10 @@ use std::alloc::Global;
 ///   CloseConnection. Or `replay` came to such a call or connection, and what the script prints was written whole.
 /// - `ScriptRefused`: this line of the script is the first outside the grammar. Nothing was written.
 /// - `BadWords`: the words are none of these commands. Nothing was read or written.
-/// - `TextRefused`: the text of `show` or of `migrate` is no reference, with its first fault. Nothing was written.
+/// - `TextRefused`: the text of `show`, `migrate` or `loc` is no reference, with its first fault. Nothing was written.
+/// - `LocRefused`: the text of `show` or `migrate` begins as a corbaloc text and is none, with its first fault. Nothing was
+///   written.
+/// - `NoLoc`: the reference of `loc` has no corbaloc text. Nothing was written.
 /// - `NoFile`, `FileTooLong`, `FileFault`: a file isn't there, is longer than a configuration or a script may be,
 ///   or a read of it failed in this call. Nothing was written.
 /// - `ConfigRefused`: the file holds no configuration, with its first fault. Nothing was written.
@@ -80,6 +85,9 @@ pub fn run_words<S: Source, K: Sink, F: Files>(
         × (host.new.files ≡ host.old.files) }
     ensures shows { (text : List ℕ) → command_in words.now ≡ Some (spec.show text)
         → Tells result text (K.held host.old.sink) (K.held host.new.sink) × (host.new.source ≡ host.old.source)
+        × (host.new.files ≡ host.old.files) }
+    ensures locates { (text : List ℕ) → command_in words.now ≡ Some (spec.loc text)
+        → Locates result text (K.held host.old.sink) (K.held host.new.sink) × (host.new.source ≡ host.old.source)
         × (host.new.files ≡ host.old.files) }
     ensures checks { (name : List ℕ) → command_in words.now ≡ Some (spec.check name)
         → Filed Counts name result (F.contents host.old.files) (F.contents host.new.files) (K.held host.old.sink) (K.held host.new.sink)
@@ -138,6 +146,7 @@ fn run_command<S: Source, K: Sink, F: Files>(
         }
         Command::Load { calls, start } => load(alloc, calls, start, &mut host.sink),
         Command::Show(text) => show_text(alloc, text.as_bytes(), &mut host.sink),
+        Command::Loc(text) => print_loc(alloc, text.as_bytes(), &mut host.sink),
         Command::Check(name) => {
             print_file(alloc, Asked::Counts, name, &mut host.files, &mut host.sink)
         }

@@ -6,3 +6,4 @@ pub mod Delivered
 pub mod Files
 pub mod Accepted
 pub mod Moving
+pub mod Refusing

@@ -9,6 +9,8 @@ pub mod Shown
 pub mod Taking
 pub mod StateFile
 pub mod Delivery
+pub mod Locating
+pub mod Referring
 pub mod Showing
 pub mod Migration
 pub mod Migrating

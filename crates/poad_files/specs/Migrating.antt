@@ -4,13 +4,13 @@ use Rattle.outside.specs.Keeping.{Contents}
 use Rattle.outside.specs.Told.{IfTold}
 use Rattle.poa_base.specs.declared.Config.{Config}
 use Rattle.poa_base.specs.declared.Ior.{Ior}
-use Rattle.ior_text.specs.Text.{TextGives}
 use Rattle.ior_text.specs.Written.{ior_text}
 use Rattle.poad_files.specs.Migration.{IsMigrated}
+use Rattle.poad_files.specs.Referring.{Refers, RefersNot}
 use Rattle.poad_files.specs.Showing.{GainsNothing}
 use Rattle.poad_files.specs.Taking.{TakesConfig}
 use Rattle.poad_files.specs.declared.status.Status.{Status}
-use Rattle.poad_files.specs.declared.status.Status.TheVariants.{Ok, TextRefused, WriteFault, WantMemory}
+use Rattle.poad_files.specs.declared.status.Status.TheVariants.{Ok, TextRefused, WriteFault, WantMemory, LocRefused}
 
 -- the line is the written form of the reference, migrated by the configuration
 pub record IsMigratedLine (c : Config) (ior : Ior) (line : List ℕ) : Type 0 where
@@ -18,11 +18,11 @@ pub record IsMigratedLine (c : Config) (ior : Ior) (line : List ℕ) : Type 0 wh
   pub is : IsMigrated c ior migrated
   pub spelled : line ≡ ior_text migrated ++ codes "\n"
 
--- the text is that of a reference, whose line the sink gained so
+-- the text refers, and the sink gained the line of its reference so
 pub record MigratePrints (c : Config) (text : List ℕ) (held_old held_new : Option (List ℕ)) (Gains : List ℕ → List ℕ → List ℕ → Type 0) :
     Type 0 where
   pub ior : Ior
-  pub reads : TextGives text (OkResult ior)
+  pub refers : Refers text ior
   pub line : List ℕ
   pub is_line : IsMigratedLine c ior line
   pub gave : IfTold held_old held_new (Gains line)
@@ -30,7 +30,8 @@ pub record MigratePrints (c : Config) (text : List ℕ) (held_old held_new : Opt
 -- the reference is printed, or the text is none; a fault of writing leaves a front of the line
 abbrev pub MigratesText : Config → Status → List ℕ → Option (List ℕ) → Option (List ℕ) → Type 0
 MigratesText c Ok text held_old held_new = MigratePrints c text held_old held_new (λ bytes old new. new ≡ old ++ bytes)
-MigratesText c (TextRefused fault) text held_old held_new = TextGives text (Err fault) × GainsNothing held_old held_new
+MigratesText c (TextRefused fault) text held_old held_new = RefersNot text (TextRefused fault) × GainsNothing held_old held_new
+MigratesText c (LocRefused fault) text held_old held_new = RefersNot text (LocRefused fault) × GainsNothing held_old held_new
 MigratesText c WriteFault text held_old held_new =
     MigratePrints c text held_old held_new (λ bytes old new. (n : ℕ) × (new ≡ old ++ take n bytes))
 MigratesText c WantMemory text held_old held_new = GainsNothing held_old held_new

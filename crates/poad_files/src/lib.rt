@@ -1,6 +1,6 @@
 //! What every command of the program has: its source, sink and files (`Host`), how it ended (`Status`), the contents,
 //! configurations, scripts and stores that it takes of files, and the bytes that it hands to a sink. And the commands that need
-//! no adapter: `show` prints a reference, `check` and `iors` print what a configuration has, and `migrate` a reference with the tags of one.
+//! no adapter: `show` prints a reference, `loc` its corbaloc text, `check` and `iors` print what a configuration has, and `migrate` a reference with the tags of one.
 #![tactic(auto)]
 
 mod counting;
@@ -9,6 +9,7 @@ mod fault_line;
 mod filing;
 mod host;
 mod key;
+mod locating;
 mod migrating;
 mod migration;
 mod numbering;
@@ -17,6 +18,7 @@ mod printed;
 mod printing;
 mod profile;
 mod reference;
+mod referring;
 mod showing;
 mod state_file;
 mod status;
@@ -26,6 +28,7 @@ mod taking;
 pub use delivery::deliver;
 pub use filing::print_file;
 pub use host::Host;
+pub use locating::print_loc;
 pub use migrating::migrate_file;
 pub use printing::Asked;
 pub use showing::show_text;

@@ -7,10 +7,10 @@ ghost use Rattle.poad_files.specs.Taking.{HoldsStill};
 
 use crate::delivery::deliver;
 use crate::migration::migrated;
-use crate::showing::refusal;
+use crate::referring::read_reference;
 use crate::status::Status;
 use crate::taking::take_config;
-use ior_text::{read_ior, write_ior};
+use ior_text::write_ior;
 use outside::{Files, Sink};
 use poa_base::{Bytes, Config, Ior, WantMemory};
 use std::alloc::Global;
@@ -43,9 +43,9 @@ fn migrate_text<K: Sink>(alloc: Global, config: &Config, text: &[u8], sink: &mut
     ensures migrates { MigratesText config.now result text.now (K.held sink.old) (K.held sink.new) }
     ensures written { HasCause (K.write_faults sink.old) (K.write_faults sink.new) (result ≡ Status.WriteFault) }
 {
-    let ior = match read_ior(alloc, text) {
+    let ior = match read_reference(alloc, text) {
         Ok(ior) => ior,
-        Err(fault) => return refusal(fault),
+        Err(status) => return status,
     };
     let Ok(line) = migrated_line(alloc, config, &ior) else {
         return Status::WantMemory;

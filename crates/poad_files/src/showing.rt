@@ -1,12 +1,12 @@
 //! `show`: a reference in a form for people.
 ghost use Rattle.std.specs.Prelude.{◌≡◌};
 ghost use Rattle.outside.specs.Cause.{HasCause};
-ghost use Rattle.poad_files.specs.Showing.{Refuses, Tells};
+ghost use Rattle.poad_files.specs.Showing.{Tells};
 
 use crate::delivery::deliver;
 use crate::reference::show;
+use crate::referring::read_reference;
 use crate::status::Status;
-use ior_text::{IorFault, read_ior};
 use outside::Sink;
 use std::alloc::Global;
 
@@ -15,9 +15,9 @@ pub fn show_text<K: Sink>(alloc: Global, text: &[u8], sink: &mut K) -> Status
     ensures tells { Tells result text.now (K.held sink.old) (K.held sink.new) }
     ensures written { HasCause (K.write_faults sink.old) (K.write_faults sink.new) (result ≡ Status.WriteFault) }
 {
-    let ior = match read_ior(alloc, text) {
+    let ior = match read_reference(alloc, text) {
         Ok(ior) => ior,
-        Err(fault) => return refusal(fault),
+        Err(status) => return status,
     };
     let Ok(printed) = show(alloc, &ior) else {
         return Status::WantMemory;
@@ -26,18 +26,5 @@ pub fn show_text<K: Sink>(alloc: Global, text: &[u8], sink: &mut K) -> Status
         Status::Ok
     } else {
         Status::WriteFault
-    }
-}
-
-/// The status where a text is no reference.
-pub(crate) fn refusal(fault: IorFault) -> Status
-    ensures { Refuses result fault }
-{
-    match fault {
-        IorFault::WantMemory => Status::WantMemory,
-        IorFault::NoPrefix
-        | IorFault::OddDigits
-        | IorFault::BadDigit { .. }
-        | IorFault::Malformed { .. } => Status::TextRefused(fault),
     }
 }

@@ -4,6 +4,7 @@ ghost use Rattle.poad_files.specs.Statuses.{status_number};
 
 use crate::fault_line::write_fault;
 use conf_toml::ConfFault;
+use corbaloc::LocFault;
 use ior_text::IorFault;
 use std::fmt;
 
@@ -48,6 +49,10 @@ pub enum Status {
     StateRefused { line: u64 },
     /// So many bytes were read, as many as a run reads.
     InputLimit { taken: u64 },
+    /// The text begins as a corbaloc text, and is none.
+    LocRefused(LocFault),
+    /// The reference has no corbaloc text.
+    NoLoc,
 }
 
 impl Status {
@@ -75,6 +80,8 @@ impl Status {
             Status::FileTooLong => 17,
             Status::StateRefused { .. } => 18,
             Status::InputLimit { .. } => 19,
+            Status::LocRefused(_) => 30,
+            Status::NoLoc => 31,
         }
     }
 }
@@ -101,6 +108,8 @@ impl fmt::Display for Status {
             Status::FileTooLong => write!(f, "file too long"),
             Status::StateRefused { line } => write!(f, "state: line {line}"),
             Status::InputLimit { taken } => write!(f, "input limit {taken}"),
+            Status::LocRefused(fault) => write!(f, "{fault}"),
+            Status::NoLoc => write!(f, "no corbaloc"),
         }
     }
 }

@@ -1,5 +1,5 @@
 -- The words are a command, which is done, or none.
-use Rattle.command_words.specs.Words.{Meant, answer, load, show, check, iors, migrate, replay, command_in, seen}
+use Rattle.command_words.specs.Words.{Meant, answer, load, show, check, iors, migrate, loc, replay, command_in, seen}
 use Rattle.poad_cmd.specs.Commands.{Does}
 use Rattle.poad_cmd.proofs.Commanded.{as_meant, not_none}
 use Rattle.poad_cmd.proofs.run.run_words.Goals as goal
@@ -44,6 +44,14 @@ returns-in-Ok-clause-shows g c text meant = as_meant
     (g.K.Sink.held c.args.host.now.sink) (g.K.Sink.held c.run_command.new.host.sink) c.args.host.now.source c.run_command.new.host.source c.args.host.now.files
     c.run_command.new.host.files)
     (seen c.in-Ok.command) (show text) (command_in c.args.words.now) c.in-Ok.ensures.ok meant c.run_command.ensures.does
+
+pub returns-in-Ok-clause-locates : goal.returns-in-Ok-clause-locates
+returns-in-Ok-clause-locates g c text meant = as_meant
+    (λ (m : Meant). Does m c.run_command.result (g.F.Files.contents c.args.host.now.files) (g.F.Files.contents c.run_command.new.host.files)
+    (g.S.Source.left c.args.host.now.source) (g.S.Source.left c.run_command.new.host.source)
+    (g.K.Sink.held c.args.host.now.sink) (g.K.Sink.held c.run_command.new.host.sink) c.args.host.now.source c.run_command.new.host.source c.args.host.now.files
+    c.run_command.new.host.files)
+    (seen c.in-Ok.command) (loc text) (command_in c.args.words.now) c.in-Ok.ensures.ok meant c.run_command.ensures.does
 
 pub returns-in-Ok-clause-checks : goal.returns-in-Ok-clause-checks
 returns-in-Ok-clause-checks g c name meant = as_meant
