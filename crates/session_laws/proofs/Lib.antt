@@ -10,3 +10,4 @@ pub mod Ends
 pub mod Staying
 pub mod GoingOn
 pub mod Answers
+pub mod Firsts

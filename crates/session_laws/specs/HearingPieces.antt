@@ -6,7 +6,9 @@ use Rattle.giop_msg.specs.declared.MsgFault.{MsgFault}
 use Rattle.giop_msg.specs.Call.{CallOf}
 use Rattle.giop_replies.specs.Calls.{IsSaid}
 use Rattle.session_laws.specs.Lines.{spoken}
-use Rattle.giop_frame.specs.Framer.{reach}
+use Rattle.giop_frame.specs.Framer.{reach, HasFirst}
+use Rattle.session_laws.specs.declared.peer.Peer.{Peer}
+use Rattle.session_laws.specs.declared.peer.Peer.TheVariants.{Client, Administrator}
 use Rattle.poa_history.specs.Legal.{IsSize}
 use Rattle.session_laws.specs.Hearing.{Heard, Stop, closed, over, bad, message_limit}
 use Rattle.session_laws.specs.Expecting.{Hearing, OfFramer, OfLines}
@@ -43,6 +45,12 @@ pub record Intake : Type 0 where
 -- what is heard yet of a peer whose bytes are taken in so
 abbrev pub OfIntake : Intake → Hearing
 OfIntake i = OfEar i.ear
+
+-- of a client that sent this text: the framer knows of which version its first message is
+abbrev pub KnowsFirst : Peer → Ear → List ℕ → Type 0
+KnowsFirst Client (Messages framer) text = HasFirst message_limit text framer
+KnowsFirst Client (Lines lines) text = ⊥
+KnowsFirst Administrator ear text = Unit {0}
 
 -- what is heard of the second is heard of the first
 abbrev pub StillHears : Hearing → Hearing → Type 0

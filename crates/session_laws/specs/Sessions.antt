@@ -10,10 +10,12 @@ use Rattle.poa_history.specs.declared.Givens.{Givens}
 use Rattle.poa_history.specs.Leaving.{is_shut}
 use Rattle.poa_history.specs.Limits.{filled_at}
 use Rattle.seat_lock.specs.Histories.{IsPrefix}
+use Rattle.giop_frame.specs.Stream.{IsFirstMinor}
+use Rattle.giop_answer.specs.declared.kind.TheConstants.{CLOSE_CONNECTION, MESSAGE_ERROR}
 use Rattle.giop_answer.specs.Outgoing.{framed}
 use Rattle.session_laws.specs.declared.peer.Peer.{Peer}
 use Rattle.session_laws.specs.declared.peer.Peer.TheVariants.{Client, Administrator}
-use Rattle.session_laws.specs.Hearing.{Heard, Stop, closed, over, bad, HearsMessages}
+use Rattle.session_laws.specs.Hearing.{Heard, Stop, closed, over, bad, message_limit, HearsMessages}
 use Rattle.session_laws.specs.Lines.{HearsLines}
 use Rattle.session_laws.specs.Records.{arrived, arrived_by, joined_by, filling_by, IsPaidBy}
 
@@ -62,24 +64,29 @@ CauseBy peer h calls text end = Unit {0}
 abbrev pub Cause : Peer → List Entry → ℕ → List ℕ → SessionEnd → Type 0
 Cause peer log c text end = CauseBy peer (reverse log) (arrived c log) text end
 
--- MessageError and CloseConnection: CORBA 3.3 Part 2, 9.4.8 and 9.4.7
-abbrev pub message_error : List ℕ
-message_error = framed 2 6 false []
+-- MessageError and CloseConnection of a minor version: CORBA 3.3 Part 2, 9.4.8 and 9.4.7
+abbrev pub message_error : ℕ → List ℕ
+message_error minor = framed minor MESSAGE_ERROR false []
 
-abbrev pub close_connection : List ℕ
-close_connection = framed 2 5 false []
+abbrev pub close_connection : ℕ → List ℕ
+close_connection minor = framed minor CLOSE_CONNECTION false []
 
--- the message that closes a client's connection
-abbrev pub closing_message : SessionEnd → List ℕ
-closing_message (Malformed at) = message_error
-closing_message Shut = close_connection
-closing_message (Limit calls bytes) = close_connection
-closing_message end = []
+-- the message that closes a client's connection, in this minor version
+abbrev pub closing_message : ℕ → SessionEnd → List ℕ
+closing_message minor (Malformed at) = message_error minor
+closing_message minor Shut = close_connection minor
+closing_message minor (Limit calls bytes) = close_connection minor
+closing_message minor end = []
 
 -- an administrator's has none
-abbrev pub closing : Peer → SessionEnd → List ℕ
-closing Client end = closing_message end
-closing Administrator end = []
+abbrev pub closing : Peer → ℕ → SessionEnd → List ℕ
+closing Client minor end = closing_message minor end
+closing Administrator minor end = []
+
+-- it is written in the minor version of the client's first message, and in the newest where there is none
+abbrev pub ClosesIn : Peer → List ℕ → ℕ → Type 0
+ClosesIn Client text minor = IsFirstMinor message_limit text minor
+ClosesIn Administrator text minor = Unit {0}
 
 -- an end before which everything that is owed is paid
 abbrev pub is_settling : SessionEnd → Bool
@@ -91,18 +98,22 @@ is_settling (Limit many bytes) = true
 is_settling end = false
 
 -- all that was owed is written, and the message that closes the connection
-pub record Closes (peer : Peer) (replies : List ℕ) (Paid : Type 0) (out : List ℕ) (end : SessionEnd) : Type 0 where
+pub record Closes (peer : Peer) (text : List ℕ) (replies : List ℕ) (Paid : Type 0) (out : List ℕ) (end : SessionEnd) : Type 0 where
+  pub minor : ℕ
+  pub closes_in : ClosesIn peer text minor
   pub paid : Paid
-  pub whole : out ≡ replies ++ closing peer end
+  pub whole : out ≡ replies ++ closing peer minor end
 
 -- the front of what was due, where the session would have ended so, and why; no byte of the message that closes the
 -- connection is written before all that was owed
 pub record FallsShort (peer : Peer) (h : List Entry) (text : List ℕ) (calls : List Heard) (replies : List ℕ) (Paid : Type 0)
     (out : List ℕ) : Type 0 where
   pub due : SessionEnd
+  pub minor : ℕ
+  pub closes_in : ClosesIn peer text minor
   pub input : Input peer text calls due
   pub cause : CauseBy peer h calls text due
-  pub front : IsPrefix out (replies ++ closing peer due)
+  pub front : IsPrefix out (replies ++ closing peer minor due)
   pub paid : length replies < length out → Paid
 
 abbrev pub Output : Peer → List Entry → List ℕ → List Heard → List ℕ → Type 0 → List ℕ → SessionEnd → Type 0
@@ -111,7 +122,7 @@ Output peer h text calls replies Paid out (InputLimit taken) = out ≡ replies
 Output peer h text calls replies Paid out (Abandoned worker) = out ≡ replies
 Output peer h text calls replies Paid out WriteFault = FallsShort peer h text calls replies Paid out
 Output peer h text calls replies Paid out WantMemory = FallsShort peer h text calls replies Paid out
-Output peer h text calls replies Paid out end = Closes peer replies Paid out end
+Output peer h text calls replies Paid out end = Closes peer text replies Paid out end
 
 -- the session of a connection that read this text of its peer, wrote these bytes and ended so, by a history with its newest
 -- entry first

@@ -2,12 +2,15 @@
 ghost use Rattle.std.specs.Prelude.{◌≡◌, ◌+◌, ◌++◌, ◌<◌, ◌≤◌, ◌^◌, ℕ, List, [], length, IfOk, OnOk, OnErr};
 ghost use Rattle.session_laws.specs.Hearing.{Heard, Stop, message_limit};
 ghost use Rattle.session_laws.specs.Expecting.{Expects, OfFramer, OfLines};
-ghost use Rattle.session_laws.specs.HearingPieces.{AsTold, Asks, IsLimited, OfEar, TakesBytes, reach_of, unread_of};
-ghost use Rattle.giop_frame.specs.Framer.{reach};
+ghost use Rattle.session_laws.specs.HearingPieces.{AsTold, Asks, IsLimited, KnowsFirst, OfEar, TakesBytes, reach_of, unread_of};
+ghost use Rattle.session_laws.specs.Sessions.{ClosesIn};
+ghost use Rattle.session_laws.specs.declared.peer.Peer.{Peer as Peers};
+ghost use Rattle.giop_frame.specs.Framer.{HasFirst, reach};
 
 use crate::line_cutter::LineCutter;
 use crate::peer::Peer;
 use crate::told::Told;
+use giop_answer::kind::MINOR;
 use giop_frame::{Framer, Message, Next};
 use giop_msg::{Incoming, MsgFault, read_call};
 use poa_base::WantMemory;
@@ -29,6 +32,7 @@ impl Ear {
     /// An ear that was fed nothing.
     pub(crate) fn new(alloc: Global, peer: Peer) -> Ear
         ensures expects { Expects peer (OfEar result) [] [] }
+        ensures first { KnowsFirst peer result [] }
         ensures limited { IsLimited result }
         ensures reached { reach_of result ≡ 0 }
     {
@@ -44,6 +48,8 @@ impl Ear {
         ensures fed { OnOk result
             ((next : List ℕ) (more : List Heard) (stop : Stop) → OfEar self.new next more stop
             → OfEar self.old (piece.now ++ next) more stop) }
+        ensures first { OnOk result ((peer : Peers) (text : List ℕ)
+            → KnowsFirst peer self.old text → KnowsFirst peer self.new (text ++ piece.now)) }
         ensures limited { IsLimited self.old → IsLimited self.new }
         ensures reached { reach_of self.new ≤ reach_of self.old + length piece.now }
         ensures refused { OnErr result (self.new ≡ self.old) }
@@ -58,6 +64,7 @@ impl Ear {
     pub(crate) fn next(&mut self, alloc: Global) -> Result<Told, WantMemory>
         requires { IsLimited self.old }
         ensures told { IfOk result (λ t. AsTold t (OfEar self.old) (OfEar self.new)) }
+        ensures first { (peer : Peers) (text : List ℕ) → KnowsFirst peer self.old text → KnowsFirst peer self.new text }
         ensures shorter { IfOk result (λ t. TakesBytes t (unread_of self.old) (unread_of self.new)) }
         ensures limited { IsLimited self.new }
         ensures reached { reach_of self.new ≤ reach_of self.old }
@@ -67,12 +74,28 @@ impl Ear {
             Ear::Lines(lines) => lines.next(alloc),
         }
     }
+
+    /// The minor version in which the peer is told that its connection is closed. What isn't read is given up.
+    pub(crate) fn closing_minor(self) -> Result<u8, WantMemory>
+        ensures first { IfOk result (λ minor. (peer : Peers) (text : List ℕ)
+            → KnowsFirst peer self text → ClosesIn peer text minor) }
+        ensures known { IfOk result (λ minor. minor ≤ 2) }
+    {
+        match self {
+            Ear::Messages(framer) => {
+                let mut framer = framer;
+                framer.first_minor()
+            }
+            Ear::Lines(_) => Ok(MINOR),
+        }
+    }
 }
 
 // What a client's messages say next.
 fn next_message(alloc: Global, framer: &mut Framer) -> Result<Told, WantMemory>
     requires { framer.old.limit ≡ message_limit }
     ensures told { IfOk result (λ t. AsTold t (OfFramer framer.old) (OfFramer framer.new)) }
+    ensures first { (text : List ℕ) → HasFirst message_limit text framer.old → HasFirst message_limit text framer.new }
     ensures shorter { IfOk result (λ t. TakesBytes t (length framer.old.unread) (length framer.new.unread)) }
     ensures limited { framer.new.limit ≡ message_limit }
     ensures reached { reach framer.new ≤ reach framer.old }

@@ -2,7 +2,9 @@
 ghost use Rattle.std.specs.Prelude.{◌≡◌, ◌+◌, ◌++◌, ◌≤◌, ◌^◌, ℕ, List, [], length, IfOk, OnOk, OnErr};
 ghost use Rattle.session_laws.specs.Hearing.{Heard, Stop};
 ghost use Rattle.session_laws.specs.Expecting.{Expects};
-ghost use Rattle.session_laws.specs.HearingPieces.{AsTold, OfIntake, TakesBytes, unread_of};
+ghost use Rattle.session_laws.specs.HearingPieces.{AsTold, KnowsFirst, OfIntake, TakesBytes, unread_of};
+ghost use Rattle.session_laws.specs.Sessions.{ClosesIn};
+ghost use Rattle.session_laws.specs.declared.peer.Peer.{Peer as Peers};
 
 use crate::ear::Ear;
 use crate::peer::Peer;
@@ -33,6 +35,7 @@ impl Input {
     /// Nothing has come of this peer.
     pub fn new(alloc: Global, peer: Peer) -> Self
         ensures expects { Expects peer (OfIntake result) [] [] }
+        ensures first { KnowsFirst peer result.ear [] }
         ensures taken { result.taken ≡ 0 }
     {
         Input {
@@ -55,6 +58,8 @@ impl Input {
         ensures fed { OnOk result
             ((next : List ℕ) (more : List Heard) (stop : Stop) → OfIntake self.new next more stop
             → OfIntake self.old (piece.now ++ next) more stop) }
+        ensures first { OnOk result ((peer : Peers) (text : List ℕ)
+            → KnowsFirst peer self.old.ear text → KnowsFirst peer self.new.ear (text ++ piece.now)) }
         ensures taken { OnOk result (self.new.taken ≡ self.old.taken + length piece.now) }
         ensures refused { OnErr result (self.new ≡ self.old) }
     {
@@ -66,9 +71,21 @@ impl Input {
     /// What the bytes say next. Where no memory is left for it, it is lost.
     pub fn next(&mut self, alloc: Global) -> Result<Told, WantMemory>
         ensures told { IfOk result (λ t. AsTold t (OfIntake self.old) (OfIntake self.new)) }
+        ensures first { (peer : Peers) (text : List ℕ) → KnowsFirst peer self.old.ear text → KnowsFirst peer self.new.ear text }
         ensures shorter { IfOk result (λ t. TakesBytes t (unread_of self.old.ear) (unread_of self.new.ear)) }
         ensures taken { self.new.taken ≡ self.old.taken }
     {
         self.ear.next(alloc)
+    }
+
+    /// The minor version of the message that closes the peer's connection: that of the first message of what was taken,
+    /// and 2 where it has none. What isn't read is given up. Where no memory is left it isn't known.
+    pub fn closing_minor(self) -> Result<u8, WantMemory>
+        ensures first { IfOk result (λ minor. (peer : Peers) (text : List ℕ)
+            → KnowsFirst peer self.ear text → ClosesIn peer text minor) }
+        ensures known { IfOk result (λ minor. minor ≤ 2) }
+    {
+        let Input { ear, taken: _ } = self;
+        ear.closing_minor()
     }
 }

@@ -1,5 +1,6 @@
 use Rattle.std.proofs.Common.{[], subst}
 use Rattle.giop_frame.specs.Framer.{FramerAnswers}
+use Rattle.session_laws.specs.Hearing.{message_limit}
 use Rattle.session_laws.proofs.Messages.{framer_bad}
 use Rattle.session_laws.proofs.Answers.{if_ok, told_message}
 use Rattle.session_laws.proofs.ear.next_message.Goals as goal
@@ -15,3 +16,6 @@ pub returns-in-Bad-clause-told : goal.returns-in-Bad-clause-told
 returns-in-Bad-clause-told c =
     framer_bad c.args.framer.now c.next.new.self c.in-Bad.at c.in-Bad.why []
     (subst (λ n. FramerAnswers c.args.framer.now n c.next.new.self) c.in-Bad.is c.in_ok-message.ensures.answer)
+
+pub returns-in-Bad-clause-first : goal.returns-in-Bad-clause-first
+returns-in-Bad-clause-first c = c.next.ensures.first message_limit
