@@ -15,7 +15,8 @@ use Rattle.poa_shared.specs.Seen.{past}
 use Rattle.session_laws.specs.declared.Peer.{Peer}
 use Rattle.session_laws.specs.Hearing.{Heard}
 use Rattle.session_laws.specs.Records.{arrived_by, joined_by, filling_by, IsPaidBy}
-use Rattle.session_laws.specs.Sessions.{Begins, CauseBy, Input, IsNext, Output, closing, is_settling}
+use Rattle.session_laws.specs.HearingPieces.{Intake, KnowsFirst}
+use Rattle.session_laws.specs.Sessions.{Begins, CauseBy, ClosesIn, Input, IsNext, Output, closing, is_settling}
 use Rattle.session_laws.proofs.Causes.{cause_since}
 use Rattle.session_laws.proofs.Ends.{input_begins, output_now, output_settled, short_of_closing, short_of_replies}
 use Rattle.poa_session.specs.Growing.{Adds}
@@ -116,15 +117,15 @@ dry_later peer text (Limit many bytes) a b out moved dry = tt
 dry_later peer text (Abandoned worker) a b out moved dry = tt
 dry_later peer text WantMemory a b out moved dry = tt
 
-module _ (g : Givens) (peer : Peer) (c : ℕ) (v : View Givens Entry) (a : Shown) (end : SessionEnd) where
+module _ (g : Givens) (peer : Peer) (c : ℕ) (v : View Givens Entry) (a : Shown) (i : Intake) (end : SessionEnd) where
   -- the session ends at once
-  pub settles_now : is_settling end ≡ false → Settles g peer c v a v a end end
+  pub settles_now : is_settling end ≡ false → Settles g peer c v a i v a end end
   settles_now now = record {
     due = [];
     done = [];
     adds = adds_same g c v;
     moved = moves_none a;
-    settled = λ text ran may dry. record {
+    settled = λ text ran may dry knows. record {
       session = record {
         input = may.input;
         output = output_now peer (past v) text (arrived_by (past v) c) (joined_by g (past v) c) (IsPaidBy (past v) c) (joined_by g (past v) c ++ []) end now
@@ -154,14 +155,14 @@ module _ (g : Givens) (peer : Peer) (c : ℕ) (v : View Givens Entry) (a : Shown
 
     -- paying breaks off
     pub settles_broken : (b : Shown) (done : List ℕ) (broken : SessionEnd) → Moves a b [] done → BreaksOff (past w) broken due done
-        → Settles g peer c v a w b end broken
+        → Settles g peer c v a i w b end broken
     settles_broken b done broken moved breaks = record {
       due = due;
       done = done;
       adds = adds;
       moved = moved;
       settled =
-          λ text ran may dry. settled_broken g peer c w text (joined_by g (past v) c) due done broken b adds.joined_is breaks (begins_later text may.input)
+          λ text ran may dry knows. settled_broken g peer c w text (joined_by g (past v) c) due done broken b adds.joined_is breaks (begins_later text may.input)
           (filled_later text may.filled);
     }
 
@@ -175,40 +176,41 @@ module _ (g : Givens) (peer : Peer) (c : ℕ) (v : View Givens Entry) (a : Shown
           (arrived_by (past v) c) text end cause))
 
       -- all is paid, and the connection closed
-      pub settles_closed : (b z : Shown) → Moves a b [] due → Moves b z [] (closing peer end) → Settles g peer c v a w z end end
-      settles_closed b z moved closed = record {
+      pub settles_closed : (minor : ℕ) → ((text : List ℕ) → KnowsFirst peer i.ear text → ClosesIn peer text minor) → (b z : Shown) → Moves a b [] due
+          → Moves b z [] (closing peer minor end) → Settles g peer c v a i w z end end
+      settles_closed minor closes b z moved closed = record {
         due = due;
-        done = due ++ closing peer end;
+        done = due ++ closing peer minor end;
         adds = adds;
-        moved = moves_out a b z [] due (closing peer end) moved closed;
-        settled = λ text ran may dry. record {
+        moved = moves_out a b z [] due (closing peer minor end) moved closed;
+        settled = λ text ran may dry knows. record {
           session = record {
             input = input_later text end may.input;
             output =
                 output_settled peer (past w) text (arrived_by (past w) c) (joined_by g (past w) c) (IsPaidBy (past w) c)
-                (joined_by g (past v) c ++ (due ++ closing peer end)) end settling paid
-                (sym (append_assoc (joined_by g (past v) c) due (closing peer end)) ∙ ap (λ rs. rs ++ closing peer end) (sym adds.joined_is));
+                (joined_by g (past v) c ++ (due ++ closing peer minor end)) minor (closes text (knows settling)) end settling paid
+                (sym (append_assoc (joined_by g (past v) c) due (closing peer minor end)) ∙ ap (λ rs. rs ++ closing peer minor end) (sym adds.joined_is));
             filled = filled_later text may.filled;
           };
           cause = cause_now text ran may.cause;
-          dry = dry_later peer text end a z (due ++ closing peer end) (moves_out a b z [] due (closing peer end) moved closed) dry;
+          dry = dry_later peer text end a z (due ++ closing peer minor end) (moves_out a b z [] due (closing peer minor end) moved closed) dry;
         };
       }
 
       -- all is paid, and the connection couldn't be closed
-      pub settles_short : (b z : Shown) (done rest : List ℕ) → Moves a b [] due → Moves b z [] done → closing peer end ≡ done ++ rest
-          → Settles g peer c v a w z end WriteFault
-      settles_short b z done rest moved part front = record {
+      pub settles_short : (minor : ℕ) → ((text : List ℕ) → KnowsFirst peer i.ear text → ClosesIn peer text minor) → (b z : Shown) (done rest : List ℕ)
+          → Moves a b [] due → Moves b z [] done → closing peer minor end ≡ done ++ rest → Settles g peer c v a i w z end WriteFault
+      settles_short minor closes b z done rest moved part front = record {
         due = due;
         done = due ++ done;
         adds = adds;
         moved = moves_out a b z [] due done moved part;
-        settled = λ text ran may dry. record {
+        settled = λ text ran may dry knows. record {
           session = record {
             input = begins_later text may.input;
             output =
                 short_of_closing peer (past w) text (arrived_by (past w) c) (joined_by g (past w) c) (IsPaidBy (past w) c)
-                (joined_by g (past v) c ++ (due ++ done)) end (input_later text end may.input) (cause_now text ran may.cause) paid rest
+                (joined_by g (past v) c ++ (due ++ done)) end minor (closes text (knows settling)) (input_later text end may.input) (cause_now text ran may.cause) paid rest
                 (ap (λ cs. joined_by g (past w) c ++ cs) front
                 ∙ (ap (λ rs. rs ++ (done ++ rest)) adds.joined_is
                 ∙ (sym (append_assoc (joined_by g (past v) c ++ due) done rest) ∙ ap (λ rs. rs ++ rest) (append_assoc (joined_by g (past v) c) due done))));

@@ -18,7 +18,7 @@ use Rattle.session_laws.specs.Sessions.{Begins, CauseBy, Hears as HearsAll, Inpu
 use Rattle.session_laws.specs.Expecting.{Expects}
 use Rattle.session_laws.proofs.Causes.{shut_later}
 use Rattle.session_laws.proofs.Expected.{expects_begins, expects_fed, expects_front, expects_stop}
-use Rattle.session_laws.specs.HearingPieces.{Intake, OfIntake}
+use Rattle.session_laws.specs.HearingPieces.{KnowsFirst, Intake, OfIntake}
 use Rattle.session_laws.proofs.GoingOn.{intake_goes_on}
 use Rattle.session_laws.proofs.Said.{said_both}
 use Rattle.poa_session.specs.Growing.{Adds}
@@ -110,6 +110,7 @@ module _ (g : Givens) (peer : Peer) (c : ℕ) (v : View Givens Entry) (a : Shown
     few = λ few. omega (arith, few);
     silent = λ _. refl;
     goes_on = tt;
+    first = λ text knows settles. nothing_behind (λ t. KnowsFirst peer i.ear t) text knows;
     flows = λ text counted unfilled expected.
         (let may =
         stops_may text end looked.stops
@@ -118,7 +119,8 @@ module _ (g : Givens) (peer : Peer) (c : ℕ) (v : View Givens Entry) (a : Shown
         (refl, nothing_behind (λ t. MayEnd peer c u t end) text may.0, nothing_behind (λ t. DriesUp peer t end a) text may.1));
   }
 
-  module _ (looked : Looks g v u None) (x : View Givens Entry) (j : Intake) where
+  module _ (looked : Looks g v u None) (x : View Givens Entry) (j : Intake)
+      (kept : (text : List ℕ) → KnowsFirst peer i.ear text → KnowsFirst peer j.ear text) where
     -- a connection that entered late hears nothing
     hears_not : (calls : List Heard) → is_late_by (past v) c ≡ true → calls ≡ []
     hears_not calls late =
@@ -138,6 +140,7 @@ module _ (g : Givens) (peer : Peer) (c : ℕ) (v : View Givens Entry) (a : Shown
       few = λ few. omega (arith, few);
       silent = hears_not listened.calls;
       goes_on = tt;
+      first = λ text knows settles. nothing_behind (λ t. KnowsFirst peer j.ear t) text (kept text knows);
       flows = λ text counted unfilled expected.
           (let may = listened.heard text (unfilled_then None looked unfilled) (expected_then None looked text expected) in
           (refl, nothing_behind (λ t. MayEnd peer c x t end) text may.0, nothing_behind (λ t. DriesUp peer t end a) text (may.1 a)));
@@ -164,6 +167,7 @@ module _ (g : Givens) (peer : Peer) (c : ℕ) (v : View Givens Entry) (a : Shown
         few = λ few. omega (arith, few);
         silent = hears_not listened.calls;
         goes_on = tt;
+        first = λ text knows. tt;
         flows = λ text counted unfilled expected. (
           paid.paid,
           nothing_behind (λ t. Begins peer t (arrived_by (past w) c)) text
@@ -260,6 +264,7 @@ module _ (g : Givens) (peer : Peer) (c : ℕ) (v : View Givens Entry) (a : Shown
           few = counted_few took.piece took.few;
           silent = hears_not listened.calls;
           goes_on = tt;
+          first = λ text knows settles. took.first settles peer text (kept text knows);
           flows = λ text counted unfilled expected.
               (let may = takes_may text took.piece end counted took.taken (expected_now text expected) in (
                 paid.paid.0,
@@ -285,6 +290,7 @@ module _ (g : Givens) (peer : Peer) (c : ℕ) (v : View Givens Entry) (a : Shown
           few = counted_few took.piece took.few;
           silent = hears_not listened.calls;
           goes_on = (paid.paid.0, took.taken.0 ∙ ap (λ n. n + length took.piece) listened.taken);
+          first = λ text knows. took.first peer text (kept text knows);
           flows = λ text counted unfilled expected. (
             unfilled_now unfilled,
             expects_fed peer (OfIntake j) (OfIntake k) text (arrived_by (past w) c) (expected_now text expected) took.piece took.taken.1,

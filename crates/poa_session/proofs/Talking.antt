@@ -15,7 +15,7 @@ use Rattle.session_laws.specs.Records.{arrived_by, joined_by, filling_by, is_lat
 use Rattle.session_laws.specs.Sessions.{IsNext}
 use Rattle.session_laws.specs.Expecting.{Expects}
 use Rattle.session_laws.proofs.Expected.{expects_begins}
-use Rattle.session_laws.specs.HearingPieces.{Intake, OfIntake}
+use Rattle.session_laws.specs.HearingPieces.{Intake, KnowsFirst, OfIntake}
 use Rattle.session_laws.proofs.GoingOn.{intake_goes_on}
 use Rattle.session_laws.proofs.Said.{said_both}
 use Rattle.poa_session.specs.Growing.{Adds}
@@ -42,11 +42,12 @@ pub record Sits (g : Givens) (peer : Peer) (c : ℕ) (v : View Givens Entry) (a 
   pub few : length text ≤ 2 ^ 40
   pub counted : length text ≡ i.taken
   pub silent : is_late_by (past v) c ≡ true → calls ≡ []
+  pub first : KnowsFirst peer i.ear text
   pub knows : arrived_by (past v) c ≡ [] → filling_by (past v) c ≡ None → Knows g peer c v w i text
 
 pub sits_new : (g : Givens) (peer : Peer) (c : ℕ) (v : View Givens Entry) (a : Shown) (i : Intake) → Expects peer (OfIntake i) [] [] → i.taken ≡ 0
-    → Sits g peer c v a v a i
-sits_new g peer c v a i expects none = record {
+    → KnowsFirst peer i.ear [] → Sits g peer c v a v a i
+sits_new g peer c v a i expects none first = record {
   text = [];
   calls = [];
   said = tt;
@@ -56,6 +57,7 @@ sits_new g peer c v a i expects none = record {
   few = omega arith;
   counted = sym none;
   silent = λ _. refl;
+  first = first;
   knows = λ nothing unfilled. record { unfilled = unfilled; expects = subst (Expects peer (OfIntake i) []) (sym nothing) expects };
 }
 
@@ -104,6 +106,7 @@ module _ (g : Givens) (peer : Peer) (c : ℕ) (v : View Givens Entry) (a : Shown
       few = all_few flow.On y;
       counted = length-append x.text y.piece ∙ (ap (λ n. n + length y.piece) x.counted ∙ sym y.goes_on.1);
       silent = all_silent flow.On y;
+      first = y.first x.text x.first;
       knows = λ nothing unfilled.
           (let known = x.knows nothing unfilled in
           let went = y.flows x.text x.counted known.unfilled known.expects in
@@ -131,7 +134,7 @@ module _ (g : Givens) (peer : Peer) (c : ℕ) (v : View Givens Entry) (a : Shown
 
     -- the session ends
     pub sits_ended : (end result : SessionEnd) (t : View Givens Entry) (q : Shown) → Rounds g peer c w b i u z j (flow.Ends end)
-        → Settles g peer c u z t q end result → Converses g peer c v a t q result
+        → Settles g peer c u z j t q end result → Converses g peer c v a t q result
     sits_ended end result t q y s = record {
       text = (x.text ++ y.piece) ++ [];
       out = (x.replies ++ y.done) ++ s.done;
@@ -148,5 +151,5 @@ module _ (g : Givens) (peer : Peer) (c : ℕ) (v : View Givens Entry) (a : Shown
           ∙ (ap (λ rs. rs ++ y.due) (joined_so_far joined) ∙ ap (λ ds. x.replies ++ ds) (sym went.0)) in
           subst (λ tx. Settled g peer c t tx ((x.replies ++ y.done) ++ s.done) result q) (sym (append-nil (x.text ++ y.piece)))
           (subst (λ rs. Settled g peer c t (x.text ++ y.piece) (rs ++ s.done) result q) out
-          (s.settled (x.text ++ y.piece) (y.adds.runs (x.adds.runs ran)) went.1 went.2)));
+          (s.settled (x.text ++ y.piece) (y.adds.runs (x.adds.runs ran)) went.1 went.2 (y.first x.text x.first))));
     }

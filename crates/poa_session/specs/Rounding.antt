@@ -8,9 +8,9 @@ use Rattle.poa_shared.specs.Seen.{past}
 use Rattle.session_laws.specs.declared.Peer.{Peer}
 use Rattle.session_laws.specs.Hearing.{Heard, AreSaid}
 use Rattle.session_laws.specs.Records.{arrived_by, filling_by, is_late_by}
-use Rattle.session_laws.specs.Sessions.{Begins}
+use Rattle.session_laws.specs.Sessions.{Begins, is_settling}
 use Rattle.session_laws.specs.Expecting.{Expects}
-use Rattle.session_laws.specs.HearingPieces.{Intake, OfIntake}
+use Rattle.session_laws.specs.HearingPieces.{Intake, KnowsFirst, OfIntake}
 use Rattle.poa_session.specs.Growing.{Adds}
 use Rattle.poa_session.specs.Served.{DriesUp}
 use Rattle.poa_session.specs.declared.flow.Flow.{Flow}
@@ -31,6 +31,12 @@ GoesOn i j piece due done On = (done ≡ due) × (j.taken ≡ i.taken + length p
 GoesOn i j piece due done (Ends end) = Unit {0}
 GoesOn i j piece due done (Broke end) = Unit {0}
 
+-- behind a round it is known of which version a client's first message is, where more is written
+abbrev pub KnowsRound : Peer → Intake → List ℕ → Flow → Type 0
+KnowsRound peer j text On = KnowsFirst peer j.ear text
+KnowsRound peer j text (Ends end) = is_settling end ≡ true → KnowsFirst peer j.ear text
+KnowsRound peer j text (Broke end) = Unit {0}
+
 -- one round of a session: calls arrived, replies were given and written, and a piece was read
 pub record Rounds (g : Givens) (peer : Peer) (c : ℕ) (v : View Givens Entry) (a : Shown) (i : Intake) (w : View Givens Entry) (b : Shown)
     (j : Intake) (flow : Flow) : Type 0 where
@@ -44,6 +50,7 @@ pub record Rounds (g : Givens) (peer : Peer) (c : ℕ) (v : View Givens Entry) (
   pub few : i.taken ≤ 2 ^ 40 → i.taken + length piece ≤ 2 ^ 40
   pub silent : is_late_by (past v) c ≡ true → calls ≡ []
   pub goes_on : GoesOn i j piece due done flow
+  pub first : (text : List ℕ) → KnowsFirst peer i.ear text → KnowsRound peer j (text ++ piece) flow
   pub flows : (text : List ℕ) → length text ≡ i.taken → filling_by (past v) c ≡ None
       → Expects peer (OfIntake i) text (arrived_by (past v) c)
       → AsFlow peer c w j (text ++ piece) due done b flow

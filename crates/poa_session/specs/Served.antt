@@ -19,6 +19,7 @@ use Rattle.poa_history.specs.Owners.{owner_of}
 use Rattle.poa_history.specs.GivenRuns.{IsLog}
 use Rattle.session_laws.specs.declared.Peer.{Peer}
 use Rattle.session_laws.specs.Records.{arrived, places, is_late}
+use Rattle.giop_answer.specs.declared.kind.TheConstants.{MINOR}
 use Rattle.session_laws.specs.Sessions.{Cause, HasClosing, Session, closing}
 
 -- after Truncated, and after Ended without a CloseConnection, the link had nothing left
@@ -53,12 +54,12 @@ TurnedAway h (Limit calls bytes) = (4000000 ≤ connections h) × (calls ≡ arr
 TurnedAway h WantMemory = Unit {0}
 TurnedAway h end = ⊥
 
--- no connection entered: nothing was read, and the message that closes a connection was written where the end has one, all
--- of it unless a write failed
+-- no connection entered: nothing was read, and the message that closes a connection was written where the end has one, in the
+-- newest version, and all of it unless a write failed
 pub record RefusedAs (peer : Peer) (v w : View Givens Entry) (a b : Shown) (end : SessionEnd) : Type 0 where
   pub out : List ℕ
   pub moved : Moves a b [] out
-  pub whole : (out ≡ closing peer end) ⊎ (IsPrefix out (closing peer end) × Rose a.write_faults b.write_faults)
+  pub whole : (out ≡ closing peer MINOR end) ⊎ (IsPrefix out (closing peer MINOR end) × Rose a.write_faults b.write_faults)
   pub cause : TurnedAway (past w) end
   pub mine : w.mine ≡ v.mine
 

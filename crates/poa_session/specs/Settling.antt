@@ -16,7 +16,9 @@ use Rattle.poa_shared.specs.Seen.{past}
 use Rattle.session_laws.specs.declared.Peer.{Peer}
 use Rattle.session_laws.specs.Hearing.{Heard}
 use Rattle.session_laws.specs.Records.{arrived_by, joined_by, filling_by, is_late_by}
-use Rattle.session_laws.specs.Sessions.{CauseBy, SessionBy, closing}
+use Rattle.giop_answer.specs.declared.kind.TheConstants.{MINOR}
+use Rattle.session_laws.specs.HearingPieces.{Intake, KnowsFirst}
+use Rattle.session_laws.specs.Sessions.{CauseBy, SessionBy, closing, is_settling}
 use Rattle.poa_session.specs.Growing.{Adds}
 use Rattle.poa_session.specs.Served.{DriesUp}
 use Rattle.poa_session.specs.Stopping.{MayEnd}
@@ -29,13 +31,14 @@ pub record Settled (g : Givens) (peer : Peer) (c : ℕ) (w : View Givens Entry) 
   pub dry : DriesUp peer text end shown
 
 -- everything that is owed is paid and the connection closed, where the end asks it
-pub record Settles (g : Givens) (peer : Peer) (c : ℕ) (v : View Givens Entry) (a : Shown) (w : View Givens Entry) (b : Shown)
+pub record Settles (g : Givens) (peer : Peer) (c : ℕ) (v : View Givens Entry) (a : Shown) (i : Intake) (w : View Givens Entry) (b : Shown)
     (end result : SessionEnd) : Type 0 where
   pub due : List ℕ
   pub done : List ℕ
   pub adds : Adds g c v w [] due
   pub moved : Moves a b [] done
   pub settled : (text : List ℕ) → IsHistory g (past v) → MayEnd peer c v text end → DriesUp peer text end a
+      → (is_settling end ≡ true → KnowsFirst peer i.ear text)
       → Settled g peer c w text (joined_by g (past v) c ++ done) result b
 
 -- the connection was served from its entering to the end of its session
@@ -57,9 +60,9 @@ abbrev pub refusal : EnterFault → SessionEnd
 refusal (enter_fault.Limit conns calls bytes) = Limit calls bytes
 refusal enter_fault.WantMemory = WantMemory
 
--- a link is closed whose connection couldn't enter
+-- a link is closed whose connection couldn't enter: nothing was read
 pub record TurnsAway (peer : Peer) (fault : EnterFault) (a b : Shown) (session : Session) : Type 0 where
   pub out : List ℕ
   pub moved : Moves a b [] out
-  pub whole : (out ≡ closing peer (refusal fault)) ⊎ (IsPrefix out (closing peer (refusal fault)) × Rose a.write_faults b.write_faults)
+  pub whole : (out ≡ closing peer MINOR (refusal fault)) ⊎ (IsPrefix out (closing peer MINOR (refusal fault)) × Rose a.write_faults b.write_faults)
   pub is : session ≡ record { conn = None; end = refusal fault }

@@ -1,5 +1,5 @@
 //! How a session is brought to its end.
-ghost use Rattle.std.specs.Prelude.{◌≡◌, ◌≢◌, false, Some};
+ghost use Rattle.std.specs.Prelude.{◌≡◌, ◌≢◌, ◌≤◌, false, Some};
 ghost use Rattle.seat_lock.specs.Seats.{view};
 ghost use Rattle.outside.specs.Cause.{HasCause};
 ghost use Rattle.poa_history.specs.declared.Givens.{Givens};
@@ -16,18 +16,19 @@ use giop_answer::{write_closing, write_error};
 use outside::Link;
 use poa_base::SessionEnd;
 use poa_shared::{Seat, Shared};
-use session_laws::Peer;
+use session_laws::{Input, Peer};
 use std::alloc::Global;
 use std::sync::Wait;
 
-/// Brings a session to an end that it may have: pays what is owed and closes the connection, where the end asks it. How it
-/// ended then.
+/// Brings a session to an end that it may have: pays what is owed and closes the connection, where the end asks it. What
+/// isn't read of the input is given up. How the session ended then.
 pub(crate) fn settle<R: Wait, L: Link>(
     rt: &R,
     alloc: Global,
     shared: &Shared,
     seat: &mut Seat,
     link: &mut L,
+    input: Input,
     conn: u32,
     peer: Peer,
     end: SessionEnd,
@@ -39,7 +40,7 @@ pub(crate) fn settle<R: Wait, L: Link>(
     ensures seat { IsIdle shared.now seat.new }
     ensures conn { HoldsConnection (view seat.new) conn }
     ensures settles { (g : Givens) → (view seat.old).givens ≡ Some g
-        → Settles g peer conn (view seat.old) (L.shown link.old) (view seat.new) (L.shown link.new) end result }
+        → Settles g peer conn (view seat.old) (L.shown link.old) input (view seat.new) (L.shown link.new) end result }
     ensures read { result ≡ SessionEnd.ReadFault → end ≡ SessionEnd.ReadFault }
     ensures failed { HasCause (L.shown link.old).write_faults (L.shown link.new).write_faults (result ≡ SessionEnd.WriteFault) }
 {
@@ -49,7 +50,10 @@ pub(crate) fn settle<R: Wait, L: Link>(
     if let Err(broken) = pay(rt, alloc, shared, seat, link, conn) {
         return broken;
     }
-    if !close(link, peer, end) {
+    let Ok(minor) = input.closing_minor() else {
+        return SessionEnd::WantMemory;
+    };
+    if !close(link, peer, minor, end) {
         return SessionEnd::WriteFault;
     }
     end
@@ -69,25 +73,27 @@ fn is_settling(end: SessionEnd) -> bool
     }
 }
 
-/// Writes the message that closes a connection that ends so, where it has one. Whether the link took it.
-pub(crate) fn close<L: Link>(link: &mut L, peer: Peer, end: SessionEnd) -> bool
-    ensures writes { Writes (closing peer end) (L.shown link.old) (L.shown link.new) result }
+/// Writes the message that closes a connection that ends so, where it has one, in this minor version. Whether the link took it.
+pub(crate) fn close<L: Link>(link: &mut L, peer: Peer, minor: u8, end: SessionEnd) -> bool
+    requires { minor ≤ 2 }
+    ensures writes { Writes (closing peer minor end) (L.shown link.old) (L.shown link.new) result }
     ensures failed { HasCause (L.shown link.old).write_faults (L.shown link.new).write_faults (result ≡ false) }
 {
     match peer {
-        Peer::Client => close_client(link, end),
+        Peer::Client => close_client(link, minor, end),
         Peer::Administrator => true,
     }
 }
 
 // The same for a client.
-fn close_client<L: Link>(link: &mut L, end: SessionEnd) -> bool
-    ensures writes { Writes (closing_message end) (L.shown link.old) (L.shown link.new) result }
+fn close_client<L: Link>(link: &mut L, minor: u8, end: SessionEnd) -> bool
+    requires { minor ≤ 2 }
+    ensures writes { Writes (closing_message minor end) (L.shown link.old) (L.shown link.new) result }
     ensures failed { HasCause (L.shown link.old).write_faults (L.shown link.new).write_faults (result ≡ false) }
 {
     match end {
-        SessionEnd::Malformed { .. } => write_all(link, &write_error()),
-        SessionEnd::Shut | SessionEnd::Limit { .. } => write_all(link, &write_closing()),
+        SessionEnd::Malformed { .. } => write_all(link, &write_error(minor)),
+        SessionEnd::Shut | SessionEnd::Limit { .. } => write_all(link, &write_closing(minor)),
         _ => true,
     }
 }

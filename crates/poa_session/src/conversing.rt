@@ -7,7 +7,7 @@ ghost use Rattle.poa_shared.specs.Seats.{IsIdle};
 ghost use Rattle.poa_shared.specs.Seen.{HoldsConnection};
 ghost use Rattle.poa_shared.specs.Helping.{Aids, IsReady};
 ghost use Rattle.session_laws.specs.Expecting.{Expects};
-ghost use Rattle.session_laws.specs.HearingPieces.{OfIntake};
+ghost use Rattle.session_laws.specs.HearingPieces.{KnowsFirst, OfIntake};
 ghost use Rattle.poa_session.specs.Saying.{HasSaid};
 ghost use Rattle.poa_session.specs.Settling.{Converses};
 
@@ -20,6 +20,7 @@ use poa_base::{SessionEnd, WantMemory};
 use poa_shared::{Aid, Seat, Shared};
 use session_laws::{Input, Peer};
 use std::alloc::Global;
+use std::mem;
 use std::sync::Wait;
 
 /// Serves a connection round by round, until one of the two sides ends the session. How it ended.
@@ -87,6 +88,7 @@ fn talk<R: Wait, L: Link>(
     requires said { HasSaid conn (view seat.old) }
     requires fresh { Expects peer (OfIntake input.old) [] [] }
     requires taken { input.old.taken ≡ 0 }
+    requires first { KnowsFirst peer input.old.ear [] }
     requires room { 0 < length buffers.old.piece.items }
     ensures seat { IsIdle shared.now seat.new }
     ensures ready { IsReady shared.now aid.new.seat }
@@ -101,7 +103,10 @@ fn talk<R: Wait, L: Link>(
     for _ in rt.forever() {
         match round(rt, alloc, shared, seat, aid, link, input, buffers, conn) {
             Flow::On => {}
-            Flow::Ends(end) => return settle(rt, alloc, shared, seat, link, conn, peer, end),
+            Flow::Ends(end) => {
+                let read = mem::replace(input, Input::new(alloc, peer));
+                return settle(rt, alloc, shared, seat, link, read, conn, peer, end);
+            }
             Flow::Broke(end) => return end,
         }
     }

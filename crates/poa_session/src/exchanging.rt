@@ -1,9 +1,10 @@
 //! What a round does on the shared core, under one hold of the front.
-ghost use Rattle.std.specs.Prelude.{◌≡◌, ◌≢◌, Some, Err};
+ghost use Rattle.std.specs.Prelude.{◌≡◌, ◌≢◌, ℕ, List, Some, Err};
 ghost use Rattle.seat_lock.specs.Seats.{view};
 ghost use Rattle.poa_history.specs.declared.Givens.{Givens};
 ghost use Rattle.poa_base.specs.declared.SessionEnd.TheVariants as end;
 ghost use Rattle.session_laws.specs.declared.Peer.{Peer};
+ghost use Rattle.session_laws.specs.HearingPieces.{KnowsFirst};
 ghost use Rattle.poa_shared.specs.Seats.{IsIdle};
 ghost use Rattle.poa_shared.specs.Seen.{HoldsConnection};
 ghost use Rattle.poa_shared.specs.Helping.{Aids, IsReady};
@@ -41,6 +42,7 @@ pub(crate) fn exchange<R: Wait>(
     ensures ready { IsReady shared.now aid.new.seat }
     ensures aids { Aids aid.old.seat aid.new.seat }
     ensures conn { HoldsConnection (view seat.new) conn }
+    ensures first { (peer : Peer) (text : List ℕ) → KnowsFirst peer input.old.ear text → KnowsFirst peer input.new.ear text }
     ensures exchanges { (g : Givens) → (view seat.old).givens ≡ Some g → (peer : Peer)
         → Exchanges g peer conn (view seat.old) input.old (view seat.new) input.new replies.old.items replies.new.items result }
     ensures unfaulted { (result ≢ Err (Flow.Ends end.WriteFault)) × (result ≢ Err (Flow.Ends end.ReadFault)) }
@@ -77,6 +79,7 @@ fn exchange_within<R: Wait>(
     ensures ready { IsReady shared.now aid.new.seat }
     ensures aids { Aids aid.old.seat aid.new.seat }
     ensures conn { HoldsConnection (view seat.new) conn }
+    ensures first { (peer : Peer) (text : List ℕ) → KnowsFirst peer input.old.ear text → KnowsFirst peer input.new.ear text }
     ensures exchanges { (g : Givens) → (view seat.old).givens ≡ Some g → (peer : Peer)
         → Exchanges g peer conn (view seat.old) input.old (view seat.new) input.new replies.old.items replies.new.items result }
     ensures unfaulted { (result ≢ Err (Flow.Ends end.WriteFault)) × (result ≢ Err (Flow.Ends end.ReadFault)) }

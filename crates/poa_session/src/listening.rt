@@ -1,8 +1,9 @@
 //! Calls that arrive.
-ghost use Rattle.std.specs.Prelude.{◌≡◌, ◌≢◌, Some, Err};
+ghost use Rattle.std.specs.Prelude.{◌≡◌, ◌≢◌, ℕ, List, Some, Err};
 ghost use Rattle.seat_lock.specs.Seats.{view};
 ghost use Rattle.poa_history.specs.declared.Givens.{Givens};
 ghost use Rattle.session_laws.specs.declared.Peer.{Peer};
+ghost use Rattle.session_laws.specs.HearingPieces.{KnowsFirst};
 ghost use Rattle.poa_shared.specs.Seats.{IsIdle};
 ghost use Rattle.poa_shared.specs.Seen.{HoldsConnection};
 ghost use Rattle.poa_session.specs.Listening.{AsArrived, Hears, Listens};
@@ -32,6 +33,7 @@ pub(crate) fn listen_within<R: Wait>(
     requires conn { HoldsConnection (view seat.old) conn }
     ensures seat { IsIdle shared.now seat.new }
     ensures conn { HoldsConnection (view seat.new) conn }
+    ensures first { (peer : Peer) (text : List ℕ) → KnowsFirst peer input.old.ear text → KnowsFirst peer input.new.ear text }
     ensures listens { (g : Givens) → (view seat.old).givens ≡ Some g → (peer : Peer)
         → Listens g peer conn (view seat.old) input.old (view seat.new) input.new result }
     ensures unwritten { (result ≢ Err SessionEnd.WriteFault) × (result ≢ Err SessionEnd.ReadFault) }
@@ -61,6 +63,7 @@ fn hear<R: Wait>(
     requires conn { HoldsConnection (view seat.old) conn }
     ensures seat { IsIdle shared.now seat.new }
     ensures conn { HoldsConnection (view seat.new) conn }
+    ensures first { (peer : Peer) (text : List ℕ) → KnowsFirst peer input.old.ear text → KnowsFirst peer input.new.ear text }
     ensures hears { (g : Givens) → (view seat.old).givens ≡ Some g → (peer : Peer)
         → Hears g peer conn (view seat.old) input.old (view seat.new) input.new result }
     ensures unwritten { (result ≢ Progress.Ends SessionEnd.WriteFault) × (result ≢ Progress.Ends SessionEnd.ReadFault) }

@@ -10,6 +10,7 @@ ghost use Rattle.poa_session.specs.Settling.{TurnsAway, refusal as refusal_of};
 
 use crate::closing::close;
 use crate::conversing::converse;
+use giop_answer::kind::MINOR;
 use outside::Link;
 use poa_base::{Session, SessionEnd};
 use poa_core::EnterFault;
@@ -94,7 +95,7 @@ fn turn_away<L: Link>(link: &mut L, peer: Peer, fault: EnterFault) -> Session
     ensures { TurnsAway peer fault (L.shown link.old) (L.shown link.new) result }
 {
     let end = refusal(fault);
-    close(link, peer, end);
+    close(link, peer, MINOR, end);
     Session { conn: None, end }
 }
 

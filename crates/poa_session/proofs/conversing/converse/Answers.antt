@@ -8,14 +8,16 @@ returns-in_default-clause-converses g c = λ givens given.
     sits_lost givens c.args.peer c.args.conn (view c.args.seat.now) (g.L.Link.shown c.args.link.now) (view c.args.seat.now)
     (g.L.Link.shown c.args.link.now) c.new-input.result
     (sits_new givens c.args.peer c.args.conn (view c.args.seat.now)
-    (g.L.Link.shown c.args.link.now) c.new-input.result c.new-input.ensures.expects c.new-input.ensures.taken)
+    (g.L.Link.shown c.args.link.now) c.new-input.result c.new-input.ensures.expects c.new-input.ensures.taken
+    c.new-input.ensures.first)
 
 pub returns-then-is_err-clause-converses : goal.returns-then-is_err-clause-converses
 returns-then-is_err-clause-converses g c = λ givens given.
     sits_lost givens c.args.peer c.args.conn (view c.args.seat.now) (g.L.Link.shown c.args.link.now) (view c.args.seat.now)
     (g.L.Link.shown c.args.link.now) c.new-input.result
     (sits_new givens c.args.peer c.args.conn (view c.args.seat.now)
-    (g.L.Link.shown c.args.link.now) c.new-input.result c.new-input.ensures.expects c.new-input.ensures.taken)
+    (g.L.Link.shown c.args.link.now) c.new-input.result c.new-input.ensures.expects c.new-input.ensures.taken
+    c.new-input.ensures.first)
 
 pub returns-in_default-clause-aids : goal.returns-in_default-clause-aids
 returns-in_default-clause-aids g c = aids_none c.args.aid.now.seat

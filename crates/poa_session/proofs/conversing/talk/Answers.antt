@@ -1,6 +1,7 @@
 use Rattle.std.proofs.Common.{◌<◌, arith, rules, sym, subst, ap, le_trans, ◌∙◌}
 use Rattle.seat_lock.specs.Seats.{view}
 use Rattle.poa_shared.proofs.Helped.{aids_none, aids_through}
+use Rattle.poa_session.specs.Settling.{Settles}
 use Rattle.poa_session.specs.declared.flow.Flow.TheVariants.{Broke, Ends}
 use Rattle.poa_session.proofs.Counted.{rose_after, rose_before}
 use Rattle.poa_session.proofs.Talking.{sits_broken, sits_ended, sits_new, sits_on}
@@ -15,7 +16,7 @@ loop-init g c = record {
   aids = aids_none c.args.aid.now.seat;
   conn = c.requires.conn;
   sits = λ givens given. sits_new givens c.args.peer c.args.conn (view c.args.seat.now)
-      (g.L.Link.shown c.args.link.now) c.args.input.now c.requires.fresh c.requires.taken;
+      (g.L.Link.shown c.args.link.now) c.args.input.now c.requires.fresh c.requires.taken c.requires.first;
   writes = omega arith;
   room = c.requires.room;
 }
@@ -43,7 +44,9 @@ returns-in-Ends-clause-converses g c = λ givens given.
     sits_ended givens c.args.peer c.args.conn (view c.args.seat.now) (g.L.Link.shown c.args.link.now) (view c.loop.seat)
     (g.L.Link.shown c.loop.link) c.loop.input before (view c.round.new.seat) (g.L.Link.shown c.round.new.link) c.round.new.input
     c.in-Ends.end c.settle.result (view c.settle.new.seat) (g.L.Link.shown c.settle.new.link) went
-    (c.settle.ensures.settles givens (went.adds.given ∙ (before.adds.given ∙ given))))
+    (subst (λ i. Settles givens c.args.peer c.args.conn (view c.round.new.seat) (g.L.Link.shown c.round.new.link) i (view c.settle.new.seat)
+    (g.L.Link.shown c.settle.new.link) c.in-Ends.end c.settle.result) c.replace-read.ensures.value
+    (c.settle.ensures.settles givens (went.adds.given ∙ (before.adds.given ∙ given)))))
 
 pub returns-in-Broke-clause-converses : goal.returns-in-Broke-clause-converses
 returns-in-Broke-clause-converses g c = λ givens given.

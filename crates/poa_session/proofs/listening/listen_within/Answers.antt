@@ -9,6 +9,7 @@ loop-init g c = record {
   ends = (tt, tt);
   seat = search rules;
   conn = c.requires.conn;
+  first = λ peer text knows. knows;
   hears = λ givens given peer. hears_same givens peer c.args.conn (view c.args.seat.now) c.args.input.now;
 }
 
@@ -17,6 +18,7 @@ loop-preserved g c = record {
   ends = (tt, tt);
   seat = c.in-On.ensures.seat;
   conn = c.in-On.ensures.conn;
+  first = λ peer text knows. c.in-On.ensures.first peer text (c.loop.invariant.first peer text knows);
   hears = λ givens given peer.
       (let before = c.loop.invariant.hears givens given peer in
       hears_then givens peer c.args.conn (view c.args.seat.now) (view c.loop.seat)
