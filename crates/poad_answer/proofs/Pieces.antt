@@ -8,7 +8,7 @@ use Rattle.poa_history.specs.Life.{Life}
 use Rattle.poa_core.specs.Answers.{unadmitted}
 use Rattle.giop_frame.specs.Stream.{Framed, End}
 use Rattle.giop_frame.specs.Framing.{Framing}
-use Rattle.giop_frame.specs.Framer.{FramerGives as FramerGives, HasGiven, reach}
+use Rattle.giop_frame.specs.Framer.{FramerGives as FramerGives, HasFirst, HasGiven, reach}
 use Rattle.giop_frame.proofs.Cutting.{given_fed}
 use Rattle.poad_answer.specs.declared.service.Service.{Service}
 use Rattle.poad_files.specs.declared.status.Status.{Status}
@@ -17,7 +17,7 @@ use Rattle.poad_answer.specs.declared.stop.Stop.{Stop}
 use Rattle.poad_answer.specs.declared.stop.Stop.TheVariants as stop
 use Rattle.poad_files.specs.Delivery.{Hands}
 use Rattle.poad_answer.specs.Serving.{MessageGives, IsLegalRun, Serves}
-use Rattle.poad_answer.specs.Stop.{message_limit, Begins, last_words}
+use Rattle.poad_answer.specs.Stop.{message_limit, Begins, ClosesIn, has_closing, last_words}
 use Rattle.poad_answer.specs.Run.{Gains}
 use Rattle.poad_answer.specs.Service.{HasServed, ServesUpTo, Keeps}
 use Rattle.poad_answer.specs.Piece.{EndsPiece, GoesOn, ServiceEnds, TakesPiece}
@@ -70,6 +70,8 @@ piece_refused piece old new held legal = record {
   life = old.core;
   served = (refl, refl);
   why = stop.NoMemory;
+  minor = 0;
+  closes = λ fed knows closing. absurd (let e : false ≡ true = closing in cc);
   stops = λ fed given h. subst (Begins (fed ++ piece)) (sym (append-nil given)) (begins_with fed piece given old.framer h);
   gave = told_here held _ (λ x. (0, sym (append-nil x)));
   ends = tt;
@@ -79,18 +81,21 @@ piece_refused piece old new held legal = record {
 pub record Fed (piece : List ℕ) (f g : Framing) : Type 0 where
   pub gives : (text : List ℕ) (messages : List Framed) (end : End) → FramerGives g text messages end ↔ FramerGives f (piece ++ text) messages end
   pub reached : reach g ≤ reach f + length piece
+  pub first : (limit : ℕ) (fed : List ℕ) → HasFirst limit fed f → HasFirst limit (fed ++ piece) g
 
 fed_on : (piece fed : List ℕ) (given : List Framed) (old mid : Service) → Fed piece old.framer mid.framer → HasServed fed given old
     → HasServed (fed ++ piece) given mid
 fed_on piece fed given old mid more h = given_fed message_limit fed piece given old.framer mid.framer h more.gives
 
 -- the messages of a piece were served, and this came of their replies
-piece_served : (ending : Option Status) (why : Stop) (piece : List ℕ) (old mid served new : Service) (h k : Option (List ℕ)) → Fed piece old.framer mid.framer
-    → mid.core ≡ old.core → (u : ServesUpTo why mid served)
-    → IfTold h k (λ before now. MatchOption ending (now ≡ before ++ u.replies) (λ status. Gains status (u.replies ++ last_words why) before now))
+piece_served : (ending : Option Status) (why : Stop) (minor : ℕ) (piece : List ℕ) (old mid served new : Service) (h k : Option (List ℕ)) → Fed piece old.framer mid.framer
+    → mid.core ≡ old.core → (u : ServesUpTo why mid served) → ((fed : List ℕ) → HasFirst message_limit fed served.framer → ClosesIn why fed minor)
+    → IfTold h k (λ before now. MatchOption ending (now ≡ before ++ u.replies) (λ status. Gains status (u.replies ++ last_words minor why) before now))
     → MatchOption ending (GoesOn why piece u.messages u.life old new) (λ status. EndsPiece status why (unadmitted u.life.history))
     → TakesPiece ending piece old new h k
-piece_served ending why piece old mid served new h k more servant u gave ends = record {
+piece_served ending why minor piece old mid served new h k more servant u closes gave ends = record {
+  minor = minor;
+  closes = λ fed knows. closes (fed ++ piece) (u.first (fed ++ piece) (more.first message_limit fed knows));
   legal = u.legal;
   messages = u.messages;
   replies = u.replies;
@@ -103,17 +108,18 @@ piece_served ending why piece old mid served new h k more servant u gave ends = 
 }
 
 -- the bytes that were handed on
-handed : (why : Stop) (mid served : Service) (h k : Option (List ℕ)) (d : Bool) → (u : ServesUpTo why mid served) → mid.replies.items ≡ []
-    → IfTold h k (Hands d (served.replies.items ++ last_words why)) → IfTold h k (Hands d (u.replies ++ last_words why))
-handed why mid served h k d u none p =
-    subst (λ (bytes : List ℕ). IfTold h k (Hands d (bytes ++ last_words why))) (u.waiting ∙ ap (λ (front : List ℕ). front ++ u.replies) none) p
+handed : (why : Stop) (minor : ℕ) (mid served : Service) (h k : Option (List ℕ)) (d : Bool) → (u : ServesUpTo why mid served) → mid.replies.items ≡ []
+    → IfTold h k (Hands d (served.replies.items ++ last_words minor why)) → IfTold h k (Hands d (u.replies ++ last_words minor why))
+handed why minor mid served h k d u none p =
+    subst (λ (bytes : List ℕ). IfTold h k (Hands d (bytes ++ last_words minor why))) (u.waiting ∙ ap (λ (front : List ℕ). front ++ u.replies) none) p
 
 -- a write failed
-pub piece_unwritten : (why : Stop) (piece : List ℕ) (old mid served new : Service) (h k : Option (List ℕ)) → Fed piece old.framer mid.framer
-    → mid.core ≡ old.core → mid.replies.items ≡ [] → ServesUpTo why mid served → IfTold h k (Hands false (served.replies.items ++ last_words why))
+pub piece_unwritten : (why : Stop) (minor : ℕ) (piece : List ℕ) (old mid served new : Service) (h k : Option (List ℕ)) → Fed piece old.framer mid.framer
+    → mid.core ≡ old.core → mid.replies.items ≡ [] → ServesUpTo why mid served
+    → ((fed : List ℕ) → HasFirst message_limit fed served.framer → ClosesIn why fed minor) → IfTold h k (Hands false (served.replies.items ++ last_words minor why))
     → TakesPiece (Some WriteFault) piece old new h k
-piece_unwritten why piece old mid served new h k more servant none u p =
-    piece_served (Some WriteFault) why piece old mid served new h k more servant u (handed why mid served h k false u none p) tt
+piece_unwritten why minor piece old mid served new h k more servant none u closes p =
+    piece_served (Some WriteFault) why minor piece old mid served new h k more servant u closes (handed why minor mid served h k false u none p) tt
 
 goes_on : (why : Stop) (piece : List ℕ) (old mid served new : Service) → Fed piece old.framer mid.framer → (u : ServesUpTo why mid served)
     → new.framer ≡ served.framer → new.core ≡ served.core → new.replies.items ≡ [] → why ≡ stop.Waits new.waiting → GoesOn why piece u.messages u.life old new
@@ -125,6 +131,7 @@ goes_on why piece old mid served new more u framer servant none waits =
       delivered = none;
       reached = let e : reach new.framer ≡ reach mid.framer = ap reach framer ∙ u.reached in
           let m : reach mid.framer ≤ reach old.framer + length piece = more.reached in omega arith;
+      first = λ fed knows. subst (HasFirst message_limit (fed ++ piece)) (sym framer) (u.first (fed ++ piece) (more.first message_limit fed knows));
       given = λ fed given h. subst (λ (f : Framing). HasGiven message_limit (fed ++ piece) (given ++ u.messages) f) (sym framer)
           (kept.1 (fed ++ piece) given (fed_on piece fed given old mid more h));
     }
@@ -145,16 +152,17 @@ ends_kept WantMemory why mid served life u same e = tt
 ends_kept _ why mid served life u same e = absurd e
 
 -- all was written, and the run goes on or ends
-pub piece_settled : (ending : Option Status) (why : Stop) (piece : List ℕ) (old mid served new : Service) (h k : Option (List ℕ))
+pub piece_settled : (ending : Option Status) (why : Stop) (minor : ℕ) (piece : List ℕ) (old mid served new : Service) (h k : Option (List ℕ))
     → Fed piece old.framer mid.framer → mid.core ≡ old.core → mid.replies.items ≡ [] → ServesUpTo why mid served
-    → IfTold h k (Hands true (served.replies.items ++ last_words why)) → new.framer ≡ served.framer → new.core ≡ served.core → new.replies.items ≡ []
+    → ((fed : List ℕ) → HasFirst message_limit fed served.framer → ClosesIn why fed minor)
+    → IfTold h k (Hands true (served.replies.items ++ last_words minor why)) → (has_closing why ≡ false → new.framer ≡ served.framer) → new.core ≡ served.core → new.replies.items ≡ []
     → ServiceEnds ending why new → TakesPiece ending piece old new h k
-piece_settled None why piece old mid served new h k more servant none u p framer state clear waits =
-    piece_served None why piece old mid served new h k more servant u
-    (told_so h k _ _ (λ x y e. e ∙ ap (λ (bytes : List ℕ). x ++ bytes) (ap (λ (w : Stop). u.replies ++ last_words w) waits ∙ append-nil u.replies))
-    (handed why mid served h k true u none p))
-    (goes_on why piece old mid served new more u framer state clear waits)
-piece_settled (Some status) why piece old mid served new h k more servant none u p framer state clear ends =
-    piece_served (Some status) why piece old mid served new h k more servant u
-    (told_so h k _ _ (λ x y e. gains_all status why _ (u.replies ++ last_words why) x y ends e) (handed why mid served h k true u none p))
+piece_settled None why minor piece old mid served new h k more servant none u closes p framer state clear waits =
+    piece_served None why minor piece old mid served new h k more servant u closes
+    (told_so h k _ _ (λ x y e. e ∙ ap (λ (bytes : List ℕ). x ++ bytes) (ap (λ (w : Stop). u.replies ++ last_words minor w) waits ∙ append-nil u.replies))
+    (handed why minor mid served h k true u none p))
+    (goes_on why piece old mid served new more u (framer (ap has_closing waits)) state clear waits)
+piece_settled (Some status) why minor piece old mid served new h k more servant none u closes p framer state clear ends =
+    piece_served (Some status) why minor piece old mid served new h k more servant u closes
+    (told_so h k _ _ (λ x y e. gains_all status why _ (u.replies ++ last_words minor why) x y ends e) (handed why minor mid served h k true u none p))
     (ends_kept status why mid served new.core u state ends)

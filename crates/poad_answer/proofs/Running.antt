@@ -1,5 +1,5 @@
 -- A run of `answer`, piece by piece.
-use Rattle.std.proofs.Common.{◌≡◌, ℕ, ◌+◌, ◌<◌, ◌≤◌, ◌^◌, List, [], ◌∷◌, ◌++◌, length, take, Option, Some, None, refl, sym, ap, ◌∙◌, subst, append_assoc, append-nil, length-append, inl, inr, arith}
+use Rattle.std.proofs.Common.{◌≡◌, ℕ, ◌+◌, ◌<◌, ◌≤◌, ◌^◌, List, [], ◌∷◌, ◌++◌, length, take, Option, Some, None, true, false, refl, sym, ap, ◌∙◌, subst, append_assoc, append-nil, length-append, inl, inr, arith}
 use Rattle.std.proofs.Math.Seq.{take-append-add}
 use Rattle.std.proofs.lemmas.List.{take-take, take-append-le}
 use Rattle.outside.specs.Told.{IfTold}
@@ -7,7 +7,7 @@ use Rattle.poa_base.specs.declared.Config.{Config}
 use Rattle.poa_history.specs.Life.{Life, opened}
 use Rattle.poa_core.specs.Answers.{unadmitted}
 use Rattle.giop_frame.specs.Stream.{Framed, Stream, left_over}
-use Rattle.giop_frame.specs.Framer.{reach}
+use Rattle.giop_frame.specs.Framer.{HasFirst, reach}
 use Rattle.poad_answer.specs.declared.service.Service.{Service}
 use Rattle.poad_files.specs.declared.status.Status.{Status}
 use Rattle.poad_files.specs.declared.status.Status.TheVariants.{Ok, Malformed, Truncated, Held, Limit, ReadFault, InputLimit, WriteFault, WantMemory}
@@ -36,6 +36,7 @@ pub record Runs (c : Config) (left_old left_new held_old held_new : Option (List
   pub replies : List ℕ
   pub served : Serves MessageGives (life_at_answer c) messages replies service.core
   pub given : HasServed got messages service
+  pub first : HasFirst message_limit got service.framer
   pub waits : Stream message_limit got messages (left_over service.waiting)
   pub gave : IfTold held_old held_new (λ old new. new ≡ old ++ replies)
   pub count : taken ≡ length got
@@ -47,9 +48,9 @@ pub record Runs (c : Config) (left_old left_new held_old held_new : Option (List
 nothing_waits : (n : ℕ) → n ≡ 0 → Stream message_limit [] [] (left_over n)
 nothing_waits n none = record { parts = []; left = []; cut = refl; good = tt; given = refl; ends = (refl, none) }
 
-pub run_starts : (c : Config) (left held : Option (List ℕ)) (service : Service) → HasServed [] [] service → reach service.framer ≡ 0
+pub run_starts : (c : Config) (left held : Option (List ℕ)) (service : Service) → HasServed [] [] service → HasFirst message_limit [] service.framer → reach service.framer ≡ 0
     → service.core ≡ life_at_answer c → service.replies.items ≡ [] → service.waiting ≡ 0 → IsLegalRun service.core → Runs c left left held held 0 service
-run_starts c left held service given reached servant replies waiting legal = record {
+run_starts c left held service given first reached servant replies waiting legal = record {
   legal = legal;
   got = [];
   took = told_here left _ (λ x. refl);
@@ -57,6 +58,7 @@ run_starts c left held service given reached servant replies waiting legal = rec
   replies = [];
   served = (refl, servant);
   given = given;
+  first = first;
   waits = nothing_waits service.waiting waiting;
   gave = told_here held _ (λ x. sym (append-nil x));
   count = refl;
@@ -75,6 +77,7 @@ run_still c l m n h k taken service r same = record {
   replies = r.replies;
   served = r.served;
   given = r.given;
+  first = r.first;
   waits = r.waits;
   gave = r.gave;
   count = r.count;
@@ -96,6 +99,7 @@ run_goes_on c l m n h k j taken count piece old new r took long t =
           serves_then MessageGives (life_at_answer c) old.core new.core r.messages t.messages r.replies t.replies r.served
           (subst (Serves MessageGives old.core t.messages t.replies) (sym t.ends.is_life) t.served);
       given = t.ends.given r.got r.messages r.given;
+      first = t.ends.first r.got r.first;
       waits = stops;
       gave = told_then h k j _ _ _ (λ x y z p q. q ∙ (ap (λ (before : List ℕ). before ++ t.replies) p ∙ append_assoc x r.replies t.replies)) r.gave t.gave;
       count = let e : length (r.got ++ piece) ≡ length r.got + length piece = length-append r.got piece in let f : taken ≡ length r.got = r.count in
@@ -170,9 +174,11 @@ run_ends c status l m n h k j taken piece old new r took t = record {
   served = serves_then MessageGives (life_at_answer c) old.core t.life r.messages t.messages r.replies t.replies r.served t.served;
   why = t.why;
   stops = t.stops r.got r.messages r.given;
+  minor = t.minor;
+  closes = t.closes r.got r.first;
   gave = told_then h k j _ _ _
-      (λ x y z p q. subst (λ (bytes : List ℕ). Gains status bytes x z) (sym (append_assoc r.replies t.replies (last_words t.why)))
-      (gains_on status t.why _ x y z r.replies (t.replies ++ last_words t.why) t.ends p q)) r.gave t.gave;
+      (λ x y z p q. subst (λ (bytes : List ℕ). Gains status bytes x z) (sym (append_assoc r.replies t.replies (last_words t.minor t.why)))
+      (gains_on status t.why _ x y z r.replies (t.replies ++ last_words t.minor t.why) t.ends p q)) r.gave t.gave;
   ends = ends_on status t.why _ _ n t.ends;
 }
 
@@ -190,6 +196,8 @@ run_stops c status l m h k taken service r gains ends = record {
   served = r.served;
   why = stop.Waits service.waiting;
   stops = r.waits;
+  minor = 0;
+  closes = λ closing. absurd (let e : false ≡ true = closing in cc);
   gave = told_so h k _ _ (λ x y e. gains x y (r.replies ++ []) (e ∙ ap (λ (bytes : List ℕ). x ++ bytes) (sym (append-nil r.replies)))) r.gave;
   ends = ends;
 }
@@ -233,6 +241,8 @@ run_refused c l h = record {
   served = (refl, refl);
   why = stop.NoMemory;
   stops = record { more = []; end = left_over 0; stream = nothing_waits 0 refl };
+  minor = 0;
+  closes = λ closing. absurd (let e : false ≡ true = closing in cc);
   gave = told_here h _ (λ x. (0, sym (append-nil x)));
   ends = tt;
 }

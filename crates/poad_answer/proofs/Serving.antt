@@ -5,7 +5,7 @@ use Rattle.giop_frame.specs.declared.Why.{Why}
 use Rattle.giop_frame.specs.declared.Next.TheVariants as next
 use Rattle.giop_frame.specs.Stream.{Framed, Reading, End, bad_place}
 use Rattle.giop_frame.specs.Framing.{Framing}
-use Rattle.giop_frame.specs.Framer.{FramerGives as FramerGives, HasGiven, FramerAnswers, reach}
+use Rattle.giop_frame.specs.Framer.{FramerGives as FramerGives, HasFirst, HasGiven, FramerAnswers, reach}
 use Rattle.giop_frame.proofs.Streams.{SomeStream, some_stream}
 use Rattle.giop_frame.proofs.Cutting.{given_message, stream_fails_here}
 use Rattle.poad_answer.specs.declared.service.Service.{Service}
@@ -13,7 +13,7 @@ use Rattle.poad_answer.specs.declared.stop.Stop.{Stop}
 use Rattle.poad_answer.specs.declared.stop.Stop.TheVariants.{Waits, Closed, Refused, Full, NoMemory}
 use Rattle.poad_answer.specs.Serving.{MessageGives, IsLegalRun, Serves}
 use Rattle.poad_answer.specs.Stop.{message_limit, Begins, StopsAt}
-use Rattle.poad_answer.specs.Service.{HasServed, ServedMore, Keeps, IsKept, ServesUpTo, ServesOne, StopsHere, Turns, StopsBy, Handles, GivesBytes}
+use Rattle.poad_answer.specs.Service.{HasServed, ServedMore, Keeps, IsKept, ServesUpTo, ServesOne, StopsHere, Turns, StopsBy, Handles, GivesBytes, StillKnows}
 
 -- what a framer gives for a text
 record SomeGiven (f : Framing) (text : List ℕ) : Type 0 where
@@ -41,8 +41,10 @@ pub begins : (fed : List ℕ) (given : List Framed) (f : Framing) → HasGiven m
 begins fed given f h = subst (λ (text : List ℕ). Begins text given) (append-nil fed) (begins_with fed [] given f h)
 
 -- memory was refused before a message came
-pub stops_for_memory : (old new : Service) → new.replies.items ≡ old.replies.items → reach new.framer ≡ reach old.framer → StopsHere NoMemory old new
-stops_for_memory old new waiting reached = record {
+pub stops_for_memory : (old new : Service) → new.replies.items ≡ old.replies.items → reach new.framer ≡ reach old.framer → StillKnows old new
+    → StopsHere NoMemory old new
+stops_for_memory old new waiting reached first = record {
+  first = first;
   waiting = waiting;
   reached = reached;
   stops = λ fed given h. begins fed given old.framer h;
@@ -51,8 +53,9 @@ stops_for_memory old new waiting reached = record {
 
 -- a place is bad
 pub stops_at_place : (old new : Service) (at : ℕ) (why : Why) → FramerAnswers old.framer (next.Bad at why) new.framer → new.replies.items ≡ old.replies.items
-    → reach new.framer ≡ reach old.framer → StopsHere (Refused at) old new
-stops_at_place old new at why bad waiting reached = record {
+    → reach new.framer ≡ reach old.framer → StillKnows old new → StopsHere (Refused at) old new
+stops_at_place old new at why bad waiting reached first = record {
+  first = first;
   waiting = waiting;
   reached = reached;
   stops = λ fed given h. inl (record { why = why; stream = stream_fails_here message_limit fed given at why old.framer new.framer h bad });
@@ -84,9 +87,10 @@ nothing_kept old new message _ by kept = tt
 -- a message came, and was served or stops the service
 pub turn : (result : Option Stop) (old mid new : Service) (message : Framed) → FramerAnswers old.framer (next.Message message) mid.framer
     → length mid.framer.unread < length old.framer.unread → reach mid.framer ≡ reach old.framer → mid.core ≡ old.core → mid.replies.items ≡ old.replies.items
-    → new.framer ≡ mid.framer → Handles result message mid new → IsLegalRun new.core → Turns result old new
-turn None old mid new message took fewer reached servant replies same done legal = record {
+    → new.framer ≡ mid.framer → Handles result message mid new → IsLegalRun new.core → StillKnows old mid → Turns result old new
+turn None old mid new message took fewer reached servant replies same done legal first = record {
   message = message;
+  first = λ fed knows. subst (HasFirst message_limit fed) (sym same) (first fed knows);
   reply = done.reply;
   gives = subst (λ (s : Life). MessageGives s message done.reply new.core) servant done.gives;
   waiting = done.waiting ∙ ap (λ (front : List ℕ). front ++ done.reply) replies;
@@ -95,7 +99,8 @@ turn None old mid new message took fewer reached servant replies same done legal
   fewer = subst (λ (f : Framing). length f.unread < length old.framer.unread) (sym same) fewer;
   legal = legal;
 }
-turn (Some why) old mid new message took fewer reached servant replies same done legal = record {
+turn (Some why) old mid new message took fewer reached servant replies same done legal first = record {
+  first = λ fed knows. subst (HasFirst message_limit fed) (sym same) (first fed knows);
   waiting = done.1 ∙ replies;
   reached = ap reach same ∙ reached;
   stops = stops_by old mid message took why (subst (λ (s : Life). StopsBy why s message) servant done.0);
@@ -133,10 +138,12 @@ pub record ServesSome (old new : Service) : Type 0 where
   pub waiting : new.replies.items ≡ old.replies.items ++ replies
   pub reached : reach new.framer ≡ reach old.framer
   pub given : ServedMore old messages new
+  pub first : StillKnows old new
   pub legal : IsLegalRun new.core
 
 pub serves_none : (s : Service) → IsLegalRun s.core → ServesSome s s
 serves_none s legal = record {
+  first = λ fed knows. knows;
   legal = legal;
   messages = [];
   replies = [];
@@ -149,6 +156,7 @@ serves_none s legal = record {
 -- and one more
 pub serves_more : (a b c : Service) → ServesSome a b → ServesOne b c → ServesSome a c
 serves_more a b c p q = record {
+  first = λ fed knows. q.first fed (p.first fed knows);
   legal = q.legal;
   messages = p.messages ++ q.message ∷ [];
   replies = p.replies ++ q.reply;
@@ -172,6 +180,7 @@ keeps_on _ a b c messages given kept = tt
 -- and then the service stops
 pub serves_up_to : (why : Stop) (a b c : Service) → ServesSome a b → StopsHere why b c → ServesUpTo why a c
 serves_up_to why a b c p q = record {
+  first = λ fed knows. q.first fed (p.first fed knows);
   legal = p.legal;
   messages = p.messages;
   replies = p.replies;

@@ -4,14 +4,14 @@ use Rattle.outside.specs.Told.{IfTold}
 use Rattle.poa_history.specs.Life.{Life}
 use Rattle.poa_core.specs.Answers.{unadmitted}
 use Rattle.giop_frame.specs.Stream.{Framed}
-use Rattle.giop_frame.specs.Framer.{reach}
+use Rattle.giop_frame.specs.Framer.{HasFirst, reach}
 use Rattle.poad_answer.specs.declared.service.Service.{Service}
 use Rattle.poad_files.specs.declared.status.Status.{Status}
 use Rattle.poad_files.specs.declared.status.Status.TheVariants.{Ok, Malformed, Truncated, Held, Limit, WriteFault, WantMemory}
 use Rattle.poad_answer.specs.declared.stop.Stop.{Stop}
 use Rattle.poad_answer.specs.declared.stop.Stop.TheVariants as stop
 use Rattle.poad_answer.specs.Serving.{MessageGives, IsLegalRun, Serves}
-use Rattle.poad_answer.specs.Stop.{StopsAt, last_words}
+use Rattle.poad_answer.specs.Stop.{ClosesIn, StopsAt, last_words, message_limit}
 use Rattle.poad_answer.specs.Run.{Gains}
 use Rattle.poad_answer.specs.Service.{HasServed}
 
@@ -37,6 +37,7 @@ pub record GoesOn (why : Stop) (piece : List ℕ) (messages : List Framed) (life
   pub delivered : new.replies.items ≡ []
   pub reached : reach new.framer ≤ reach old.framer + length piece
   pub given : (fed : List ℕ) (given : List Framed) → HasServed fed given old → HasServed (fed ++ piece) (given ++ messages) new
+  pub first : (fed : List ℕ) → HasFirst message_limit fed old.framer → HasFirst message_limit (fed ++ piece) new.framer
 
 -- the messages that the piece makes whole were served, and their replies written; with a status the run ends
 pub record TakesPiece (ending : Option Status) (piece : List ℕ) (old new : Service) (held_old held_new : Option (List ℕ)) : Type 0 where
@@ -47,8 +48,10 @@ pub record TakesPiece (ending : Option Status) (piece : List ℕ) (old new : Ser
   pub legal : IsLegalRun life
   pub why : Stop
   pub stops : (fed : List ℕ) (given : List Framed) → HasServed fed given old → StopsAt why life (fed ++ piece) (given ++ messages)
+  pub minor : ℕ
+  pub closes : (fed : List ℕ) → HasFirst message_limit fed old.framer → ClosesIn why (fed ++ piece) minor
   pub gave : IfTold held_old held_new
-      (λ before now. MatchOption ending (now ≡ before ++ replies) (λ status. Gains status (replies ++ last_words why) before now))
+      (λ before now. MatchOption ending (now ≡ before ++ replies) (λ status. Gains status (replies ++ last_words minor why) before now))
   pub ends : MatchOption ending (GoesOn why piece messages life old new) (λ status. EndsPiece status why (unadmitted life.history))
 
 -- the status where the input was read whole, which says whether calls are unadmitted

@@ -15,7 +15,7 @@ use Rattle.poad_files.specs.declared.status.Status.TheVariants.{Ok, Malformed, R
 use Rattle.poad_answer.specs.declared.stop.Stop.{Stop}
 use Rattle.poad_answer.specs.declared.stop.Stop.TheVariants as stop
 use Rattle.poad_answer.specs.Serving.{MessageGives, Serves}
-use Rattle.poad_answer.specs.Stop.{StopsAt, last_words}
+use Rattle.poad_answer.specs.Stop.{ClosesIn, StopsAt, last_words}
 
 -- nothing is left of the source
 abbrev pub IsDrained : Option (List ℕ) → Type 0
@@ -67,7 +67,7 @@ IsKeptBy status c life =
 
 -- `answer` took bytes of the source, served the messages of their stream in order, up to one that it doesn't serve, and
 -- gave the sink their replies, and behind them MessageError where the next message is bad, or CloseConnection where the
--- run refuses its call
+-- run refuses its call, in the version of the first message
 pub record RunAnswers (c : Config) (status : Status) (left_old left_new held_old held_new : Option (List ℕ)) : Type 0 where
   pub got : List ℕ
   pub took : IfTold left_old left_new (λ old new. old ≡ got ++ new)
@@ -77,6 +77,8 @@ pub record RunAnswers (c : Config) (status : Status) (left_old left_new held_old
   pub served : Serves MessageGives (life_at_answer c) messages replies life
   pub why : Stop
   pub stops : StopsAt why life got messages
-  pub gave : IfTold held_old held_new (Gains status (replies ++ last_words why))
+  pub minor : ℕ
+  pub closes : ClosesIn why got minor
+  pub gave : IfTold held_old held_new (Gains status (replies ++ last_words minor why))
   pub ends : RunEnds status why (unadmitted life.history) got left_new
   pub kept : IsKeptBy status c life

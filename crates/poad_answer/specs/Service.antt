@@ -4,7 +4,7 @@ use Rattle.poa_base.specs.declared.Call.{Call}
 use Rattle.poa_history.specs.Life.{Life}
 use Rattle.poa_core.specs.Answers.{is_taken, filled_by, filled_at}
 use Rattle.giop_frame.specs.Stream.{Framed}
-use Rattle.giop_frame.specs.Framer.{HasGiven, reach}
+use Rattle.giop_frame.specs.Framer.{HasFirst, HasGiven, reach}
 use Rattle.giop_msg.specs.declared.Incoming.{Incoming}
 use Rattle.giop_msg.specs.declared.Incoming.TheVariants.{Closing, Call as IncomingCall}
 use Rattle.giop_msg.specs.declared.MsgFault.{MsgFault}
@@ -39,6 +39,10 @@ Keeps (Waits have) messages life old new = (new.core ≡ life) × ServedMore old
 Keeps Closed messages life old new = new.core ≡ life
 Keeps _ messages life old new = ⊤
 
+-- what the old service knows of the first message of its stream, the new one knows
+abbrev pub StillKnows : Service → Service → Type 0
+StillKnows old new = (fed : List ℕ) → HasFirst message_limit fed old.framer → HasFirst message_limit fed new.framer
+
 -- messages were served up to this stop, and their replies wait behind those that waited
 pub record ServesUpTo (why : Stop) (old new : Service) : Type 0 where
   pub messages : List Framed
@@ -49,6 +53,7 @@ pub record ServesUpTo (why : Stop) (old new : Service) : Type 0 where
   pub reached : reach new.framer ≡ reach old.framer
   pub stops : (fed : List ℕ) (given : List Framed) → HasServed fed given old → StopsAt why life fed (given ++ messages)
   pub kept : Keeps why messages life old new
+  pub first : StillKnows old new
   pub legal : IsLegalRun life
 
 -- these bytes wait behind those that waited, and with them this run came
@@ -66,6 +71,7 @@ pub record ServesOne (old new : Service) : Type 0 where
   pub reached : reach new.framer ≡ reach old.framer
   pub given : ServedMore old (message ∷ []) new
   pub fewer : length new.framer.unread < length old.framer.unread
+  pub first : StillKnows old new
   pub legal : IsLegalRun new.core
 
 -- the service stops at what stands in front
@@ -74,6 +80,7 @@ pub record StopsHere (why : Stop) (old new : Service) : Type 0 where
   pub reached : reach new.framer ≡ reach old.framer
   pub stops : (fed : List ℕ) (given : List Framed) → HasServed fed given old → StopsAt why old.core fed given
   pub kept : Keeps why [] old.core old new
+  pub first : StillKnows old new
 
 -- a turn serves the message in front, or stops before any
 abbrev pub Turns : Option Stop → Service → Service → Type 0
@@ -134,6 +141,7 @@ GivesReplies (Some _) old new = ⊥
 -- a service to which nothing came yet
 pub record IsNew (c : Config) (service : Service) : Type 0 where
   pub served : HasServed [] [] service
+  pub first : HasFirst message_limit [] service.framer
   pub reached : reach service.framer ≡ 0
   pub core : service.core ≡ life_at_answer c
   pub limited : service.framer.limit ≡ message_limit

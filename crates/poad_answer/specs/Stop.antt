@@ -1,8 +1,9 @@
 -- How far a server comes in a stream, and what stops it.
-use Rattle.std.specs.Prelude.{◌≡◌, ℕ, List, [], ◌∷◌, ◌++◌, ◌⊎◌, Some, Ok, Err, false, length}
+use Rattle.std.specs.Prelude.{◌≡◌, ℕ, List, [], ◌∷◌, ◌++◌, ◌⊎◌, Bool, Some, Ok, Err, true, false, length}
 use Rattle.poa_base.specs.declared.Call.{Call}
 use Rattle.giop_frame.specs.declared.Why.{Why}
-use Rattle.giop_frame.specs.Stream.{Framed, End, Stream, left_over, bad_place}
+use Rattle.giop_frame.specs.Stream.{Framed, End, Stream, IsFirstMinor, left_over, bad_place}
+use Rattle.giop_answer.specs.declared.kind.TheConstants.{CLOSE_CONNECTION, MESSAGE_ERROR}
 use Rattle.giop_msg.specs.declared.Incoming.TheVariants.{Closing, Call as IncomingCall}
 use Rattle.giop_msg.specs.declared.MsgFault.TheVariants as fault
 use Rattle.giop_msg.specs.Call.{CallOf}
@@ -56,16 +57,26 @@ StopsAt (Refused at) life text messages = IsBadPlace text messages at ⊎ Comes 
 StopsAt (Full calls bytes) life text messages = Comes text messages (IsRefused life calls bytes)
 StopsAt NoMemory life text messages = Begins text messages
 
--- MessageError (CORBA 3.3 Part 2, 9.4.8)
-abbrev pub message_error : List ℕ
-message_error = framed 2 6 false []
+-- MessageError of a minor version (CORBA 3.3 Part 2, 9.4.8)
+abbrev pub message_error : ℕ → List ℕ
+message_error minor = framed minor MESSAGE_ERROR false []
 
--- CloseConnection (CORBA 3.3 Part 2, 9.4.7)
-abbrev pub close_connection : List ℕ
-close_connection = framed 2 5 false []
+-- CloseConnection of a minor version (CORBA 3.3 Part 2, 9.4.7)
+abbrev pub close_connection : ℕ → List ℕ
+close_connection minor = framed minor CLOSE_CONNECTION false []
 
--- what is written behind the replies
-abbrev pub last_words : Stop → List ℕ
-last_words (Refused at) = message_error
-last_words (Full calls bytes) = close_connection
-last_words _ = []
+-- what is written behind the replies, in this minor version
+abbrev pub last_words : ℕ → Stop → List ℕ
+last_words minor (Refused at) = message_error minor
+last_words minor (Full calls bytes) = close_connection minor
+last_words minor _ = []
+
+-- a message is written behind the replies
+abbrev pub has_closing : Stop → Bool
+has_closing (Refused at) = true
+has_closing (Full calls bytes) = true
+has_closing _ = false
+
+-- it is of the minor version of the first message of the stream, and of the newest where there is none
+abbrev pub ClosesIn : Stop → List ℕ → ℕ → Type 0
+ClosesIn why text minor = has_closing why ≡ true → IsFirstMinor message_limit text minor

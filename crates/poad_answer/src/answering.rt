@@ -24,7 +24,7 @@ const INPUT_LIMIT: u64 = 1 << 32;
 
 /// Serves the messages of the source in order, by a run of a configuration, and writes the replies that a piece of
 /// input owes before it reads the next piece. Where a message is bad MessageError follows the replies, and where
-/// the run refuses a call CloseConnection does.
+/// the run refuses a call CloseConnection does, of the version of the first message, and of 1.2 where there is none.
 pub(crate) fn answer<S: Source, K: Sink>(
     alloc: Global,
     config: Config,
@@ -99,7 +99,10 @@ fn take_piece<K: Sink>(
         return Some(Status::WantMemory);
     };
     let why = service.serve(alloc);
-    if !service.write_replies(why, sink) {
+    let Ok(minor) = service.closing_minor(why) else {
+        return Some(Status::WantMemory);
+    };
+    if !service.write_replies(why, minor, sink) {
         return Some(Status::WriteFault);
     }
     service.settle(why)

@@ -1,5 +1,6 @@
 //! The stream, the run that serves it, and the replies that aren't written yet.
-ghost use Rattle.std.specs.Prelude.{◌≡◌, ◌≢◌, ◌≤◌, ◌++◌, [], Some, false, IfOk, length};
+ghost use Rattle.std.specs.Prelude.{◌≡◌, ◌≢◌, ◌≤◌, ◌++◌, ℕ, List, [], Some, false, IfOk, length};
+ghost use Rattle.giop_frame.specs.Framer.{HasFirst};
 ghost use Rattle.outside.specs.Cause.{HasCause};
 ghost use Rattle.outside.specs.Told.{IfTold};
 ghost use Rattle.poa_policy.specs.Kept.{KeepsRules};
@@ -9,11 +10,12 @@ ghost use Rattle.poad_answer.specs.Serving.{IsServing};
 ghost use Rattle.poad_files.specs.Delivery.{Hands};
 ghost use Rattle.poa_core.specs.Answers.{unadmitted};
 ghost use Rattle.poad_answer.specs.Piece.{ServiceEnds, TellsHeld};
-ghost use Rattle.poad_answer.specs.Stop.{last_words};
+ghost use Rattle.poad_answer.specs.Stop.{ClosesIn, has_closing as has_closing_words, last_words, message_limit};
 ghost use Rattle.poad_answer.specs.Service.{IsAsked, IsNew, IsReady, ServesUpTo, Turns, Handles, Does, GivesReplies, StopsByFault};
 
 use crate::stop::Stop;
 use crate::turns::{collected, take_turns};
+use giop_answer::kind::MINOR;
 use giop_answer::{write_closing, write_error};
 use giop_frame::{Framer, Message, Next};
 use giop_msg::{Incoming, MsgFault, read_call};
@@ -161,10 +163,27 @@ impl Service {
         }
     }
 
+    /// The minor version of the message that is written behind the replies, where one is: that of the first message of
+    /// what was fed, and 2 where it has none. What stands next may be lost then.
+    pub(crate) fn closing_minor(&mut self, why: Stop) -> Result<u8, WantMemory>
+        ensures first { IfOk result (λ minor. (fed : List ℕ)
+            → HasFirst message_limit fed self.old.framer → ClosesIn why fed minor) }
+        ensures known { IfOk result (λ minor. minor ≤ 2) }
+        ensures waits { has_closing_words why ≡ false → self.new.framer ≡ self.old.framer }
+        ensures core { self.new.core ≡ self.old.core }
+        ensures replies { self.new.replies.items ≡ self.old.replies.items }
+    {
+        if !has_closing(why) {
+            return Ok(MINOR);
+        }
+        self.framer.first_minor()
+    }
+
     /// Writes the replies that wait, and behind them MessageError where a message is bad, or CloseConnection
-    /// where its call is refused. Answers whether the sink took them. No reply waits then.
-    pub(crate) fn write_replies<K: Sink>(&mut self, why: Stop, sink: &mut K) -> bool
-        ensures held { IfTold (K.held sink.old) (K.held sink.new) (Hands result (self.old.replies.items ++ last_words why)) }
+    /// where its call is refused, in this minor version. Answers whether the sink took them. No reply waits then.
+    pub(crate) fn write_replies<K: Sink>(&mut self, why: Stop, minor: u8, sink: &mut K) -> bool
+        requires { minor ≤ 2 }
+        ensures held { IfTold (K.held sink.old) (K.held sink.new) (Hands result (self.old.replies.items ++ last_words minor why)) }
         ensures failed { HasCause (K.write_faults sink.old) (K.write_faults sink.new) (result ≡ false) }
         ensures framer { self.new.framer ≡ self.old.framer }
         ensures core { self.new.core ≡ self.old.core }
@@ -175,7 +194,7 @@ impl Service {
         if !written {
             return false;
         }
-        write_last(why, sink)
+        write_last(why, minor, sink)
     }
 
     /// The status where the run ends after this stop. Else keeps how many bytes wait.
@@ -209,14 +228,25 @@ impl Service {
     }
 }
 
+// Whether a message is written behind the replies.
+fn has_closing(why: Stop) -> bool
+    ensures { result ≡ has_closing_words why }
+{
+    match why {
+        Stop::Refused { .. } | Stop::Full { .. } => true,
+        Stop::Waits { .. } | Stop::Closed | Stop::NoMemory => false,
+    }
+}
+
 // Writes what stands behind the replies.
-fn write_last<K: Sink>(why: Stop, sink: &mut K) -> bool
-    ensures held { IfTold (K.held sink.old) (K.held sink.new) (Hands result (last_words why)) }
+fn write_last<K: Sink>(why: Stop, minor: u8, sink: &mut K) -> bool
+    requires { minor ≤ 2 }
+    ensures held { IfTold (K.held sink.old) (K.held sink.new) (Hands result (last_words minor why)) }
     ensures failed { HasCause (K.write_faults sink.old) (K.write_faults sink.new) (result ≡ false) }
 {
     match why {
-        Stop::Refused { .. } => deliver(sink, &write_error()),
-        Stop::Full { .. } => deliver(sink, &write_closing()),
+        Stop::Refused { .. } => deliver(sink, &write_error(minor)),
+        Stop::Full { .. } => deliver(sink, &write_closing(minor)),
         Stop::Waits { .. } | Stop::Closed | Stop::NoMemory => true,
     }
 }

@@ -17,7 +17,7 @@ returns-in_default-new-clause-answers g c = run_refused _ _ _
 
 pub loop-taken-init : goal.loop-taken-init
 loop-taken-init g c = record {
-  runs = run_starts _ _ _ c.in-Ok-new.service c.in-Ok-new.ensures.served c.in-Ok-new.ensures.reached c.in-Ok-new.ensures.core c.in-Ok-new.ensures.replies
+  runs = run_starts _ _ _ c.in-Ok-new.service c.in-Ok-new.ensures.served c.in-Ok-new.ensures.first c.in-Ok-new.ensures.reached c.in-Ok-new.ensures.core c.in-Ok-new.ensures.replies
       c.in-Ok-new.ensures.waiting
       (record {
         legal = c.keeps_laws.ensures.legal;

@@ -1,5 +1,8 @@
 -- The piece was fed, or not; and what it brought was written, or not.
-use Rattle.std.proofs.Common.{refl, ◌∙◌}
+use Rattle.std.proofs.Common.{ℕ, List, ◌++◌, true, false, subst, refl, ◌∙◌}
+use Rattle.outside.specs.Told.{IfTold}
+use Rattle.poad_files.specs.Delivery.{Hands}
+use Rattle.poad_answer.specs.Stop.{last_words}
 use Rattle.poad_files.proofs.Causes.{cause_still}
 use Rattle.poad_answer.proofs.Pieces.{piece_refused, piece_unwritten, piece_settled}
 use Rattle.poad_answer.proofs.answering.take_piece.Goals as goal
@@ -14,22 +17,41 @@ returns-in_default-clause-takes g c =
       updates = c.keeps_laws.ensures.updates;
     })
 
+pub returns-in_default-closing_minor-clause-takes : goal.returns-in_default-closing_minor-clause-takes
+returns-in_default-closing_minor-clause-takes g c =
+    piece_refused c.args.piece.now c.args.service.now _ (g.K.Sink.held c.args.sink.now)
+    (record {
+      legal = c.keeps_laws.ensures.legal;
+      lifetime = c.keeps_laws.ensures.lifetime;
+      undone = c.keeps_laws.ensures.undone;
+      updates = c.keeps_laws.ensures.updates;
+    })
+
 pub returns-then-not-write_replies-clause-takes : goal.returns-then-not-write_replies-clause-takes
 returns-then-not-write_replies-clause-takes g c =
-    piece_unwritten c.serve-why.result c.args.piece.now c.args.service.now
+    let why = c.serve-why.result in
+    let minor = c.in-Ok-closing_minor.minor in
+    piece_unwritten why minor c.args.piece.now c.args.service.now
     (record { framer = c.feed.new.self; core = c.args.service.now.core; replies = c.args.service.now.replies; waiting = c.args.service.now.waiting })
     c.serve-why.new.self c.write_replies.new.self _ _
-    (record { gives = c.in-Ok.ensures.fed; reached = c.feed.ensures.reached }) refl c.requires.delivered c.serve-why.ensures.served
-    c.if-not-write_replies.ensures.held
+    (record { gives = c.in-Ok.ensures.fed; reached = c.feed.ensures.reached; first = c.in-Ok.ensures.first }) refl c.requires.delivered
+    c.serve-why.ensures.served c.in-Ok-closing_minor.ensures.first
+    (subst (λ (bytes : List ℕ). IfTold (g.K.Sink.held c.args.sink.now) (g.K.Sink.held c.write_replies.new.sink) (Hands false (bytes ++ last_words minor why)))
+    c.closing_minor.ensures.replies c.if-not-write_replies.ensures.held)
 
 pub returns-clause-takes : goal.returns-clause-takes
 returns-clause-takes g c =
-    piece_settled c.settle.result c.serve-why.result c.args.piece.now c.args.service.now
+    let why = c.serve-why.result in
+    let minor = c.in-Ok-closing_minor.minor in
+    piece_settled c.settle.result why minor c.args.piece.now c.args.service.now
     (record { framer = c.feed.new.self; core = c.args.service.now.core; replies = c.args.service.now.replies; waiting = c.args.service.now.waiting })
     c.serve-why.new.self c.settle.new.self _ _
-    (record { gives = c.in-Ok.ensures.fed; reached = c.feed.ensures.reached }) refl c.requires.delivered c.serve-why.ensures.served
-    c.if-not-write_replies.ensures.held
-    (c.settle.ensures.framer ∙ c.write_replies.ensures.framer) (c.settle.ensures.core ∙ c.write_replies.ensures.core)
+    (record { gives = c.in-Ok.ensures.fed; reached = c.feed.ensures.reached; first = c.in-Ok.ensures.first }) refl c.requires.delivered
+    c.serve-why.ensures.served c.in-Ok-closing_minor.ensures.first
+    (subst (λ (bytes : List ℕ). IfTold (g.K.Sink.held c.args.sink.now) (g.K.Sink.held c.write_replies.new.sink) (Hands true (bytes ++ last_words minor why)))
+    c.closing_minor.ensures.replies c.if-not-write_replies.ensures.held)
+    (λ none. (c.settle.ensures.framer ∙ c.write_replies.ensures.framer) ∙ c.closing_minor.ensures.waits none)
+    ((c.settle.ensures.core ∙ c.write_replies.ensures.core) ∙ c.closing_minor.ensures.core)
     (c.settle.ensures.replies ∙ c.write_replies.ensures.none_waits) c.settle.ensures.settled
 
 pub returns-clause-written : goal.returns-clause-written

@@ -2,11 +2,12 @@
 use Rattle.std.proofs.Common.{refl, subst}
 use Rattle.giop_frame.specs.declared.Next.{Next}
 use Rattle.giop_frame.specs.Framer.{FramerAnswers, TakesBytes}
+use Rattle.poad_answer.specs.Stop.{message_limit}
 use Rattle.poad_answer.proofs.Serving.{stops_for_memory, stops_at_place, turn}
 use Rattle.poad_answer.proofs.service.Service.serve_next.Goals as goal
 
 pub returns-in_default-clause-turns : goal.returns-in_default-clause-turns
-returns-in_default-clause-turns c = stops_for_memory _ _ refl c.next.ensures.reached
+returns-in_default-clause-turns c = stops_for_memory _ _ refl c.next.ensures.reached (c.next.ensures.first message_limit)
 
 pub returns-in-Message-clause-turns : goal.returns-in-Message-clause-turns
 returns-in-Message-clause-turns c =
@@ -22,8 +23,10 @@ returns-in-Message-clause-turns c =
       undone = c.keeps_laws.ensures.undone;
       updates = c.keeps_laws.ensures.updates;
     })
+    (c.next.ensures.first message_limit)
 
 pub returns-in-Bad-clause-turns : goal.returns-in-Bad-clause-turns
 returns-in-Bad-clause-turns c =
     stops_at_place _ _ c.in-Bad.at c.in-Bad.why
     (subst (λ (n : Next). FramerAnswers c.args.self.now.framer n c.next.new.self) c.in-Bad.is c.in-Ok.ensures.answer) refl c.next.ensures.reached
+    (c.next.ensures.first message_limit)
