@@ -105,8 +105,12 @@ fn joins_a_hundred_thousand_empty_fragments(rt: HostRuntime) -> Result<(), Fail>
 fn tells_why_a_header_is_bad(rt: HostRuntime) -> Result<(), Fail> {
     let cases = [
         (b"GIOQ\x01\x02\x01\x00\x00\x00\x00\x00", Why::BadMagic),
-        (b"GIOP\x01\x01\x01\x00\x00\x00\x00\x00", Why::BadVersion),
+        (b"GIOP\x01\x03\x01\x00\x00\x00\x00\x00", Why::BadVersion),
+        (b"GIOP\x02\x00\x01\x00\x00\x00\x00\x00", Why::BadVersion),
         (b"GIOP\x01\x02\x01\x08\x00\x00\x00\x00", Why::BadType),
+        (b"GIOP\x01\x00\x01\x07\x04\x00\x00\x00", Why::BadType),
+        (b"GIOP\x01\x01\x01\x07\x04\x00\x00\x00", Why::StrayFragment),
+        (b"GIOP\x01\x01\x03\x00\x04\x00\x00\x00", Why::BadFragment),
         (b"GIOP\x01\x02\x03\x01\x01\x00\x10\x00", Why::TooLong),
         (b"GIOP\x01\x02\x01\x07\x04\x00\x00\x00", Why::StrayFragment),
         (b"GIOP\x01\x02\x03\x01\x04\x00\x00\x00", Why::BadFragment),
