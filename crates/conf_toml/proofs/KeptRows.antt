@@ -90,8 +90,6 @@ template_weaker P Q P' Q' managers servants a t = record {
   manager = managers a.manager t.manager;
   preset = preset_weaker Q Q' servants a.policies a.preset t.preset;
   rules = record { managed = t.rules.managed; each = each_gives Q Q' servants a.policies a.rules t.rules.each };
-  tag = t.tag;
-  old_keys = t.old_keys;
 }
 
 -- the number of a manager is at most their count, and that of a servant below it

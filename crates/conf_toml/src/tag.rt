@@ -1,8 +1,6 @@
 //! The tag of an adapter's persistent references.
-ghost use Rattle.std.specs.Prelude.{IfOk};
 ghost use Rattle.toml.specs.View.{table_view};
 ghost use Rattle.conf_fields.specs.FieldGives.{FieldGives};
-ghost use Rattle.poa_policy.specs.Adapters.{IsTag, ServesOld};
 ghost use Rattle.conf_toml.specs.Tags.{tag_at as the_tag_at, old_keys_given as the_old_keys_given, old_keys_at as the_old_keys_at};
 
 use conf_fields::{ConfFault, Place, flag_or, has, number_or, only_if};
@@ -18,8 +16,7 @@ pub(crate) fn tag_at(
     policies: &PolicySet,
     table: &Table,
 ) -> Result<u16, ConfFault>
-    ensures value { FieldGives result (the_tag_at at policies.now (table_view table.now)) }
-    ensures kept { IfOk result (λ tag. IsTag policies.now tag) }
+    ensures { FieldGives result (the_tag_at at policies.now (table_view table.now)) }
 {
     let tag = number_or(alloc, at, table, "tag", 0, 65535, 0)?;
     only_if(alloc, at, "tag", tag == 0 || policies.lasts())?;
@@ -32,8 +29,7 @@ fn old_keys_given(
     policies: &PolicySet,
     table: &Table,
 ) -> Result<bool, ConfFault>
-    ensures value { FieldGives result (the_old_keys_given at policies.now (table_view table.now)) }
-    ensures kept { IfOk result (λ old_keys. ServesOld policies.now old_keys) }
+    ensures { FieldGives result (the_old_keys_given at policies.now (table_view table.now)) }
 {
     only_if(alloc, at, "old_keys", policies.lasts())?;
     let old_keys = flag_or(alloc, at, table, "old_keys", true)?;
@@ -48,8 +44,7 @@ pub(crate) fn old_keys_at(
     policies: &PolicySet,
     table: &Table,
 ) -> Result<bool, ConfFault>
-    ensures value { FieldGives result (the_old_keys_at at policies.now (table_view table.now)) }
-    ensures kept { IfOk result (λ old_keys. ServesOld policies.now old_keys) }
+    ensures { FieldGives result (the_old_keys_at at policies.now (table_view table.now)) }
 {
     if has(table, "old_keys") {
         old_keys_given(alloc, at, policies, table)

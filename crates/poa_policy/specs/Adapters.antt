@@ -1,5 +1,5 @@
 -- What the entry of an adapter keeps.
-use Rattle.std.specs.Prelude.{◌≡◌, ℕ, ◌≤◌, ◌<◌, Bool, true, List, [], length, IfSome, ◌⊎◌, ⊤}
+use Rattle.std.specs.Prelude.{◌≡◌, ℕ, ◌≤◌, ◌<◌, true, List, [], length, IfSome, ◌⊎◌, ⊤}
 use Rattle.std.specs.List.{AllByRecursion, list_all}
 use Rattle.poa_base.specs.declared.AdapterConf.{AdapterConf}
 use Rattle.poa_base.specs.declared.Endpoint.{Endpoint}
@@ -7,7 +7,7 @@ use Rattle.poa_base.specs.declared.Gives.{Gives}
 use Rattle.poa_base.specs.declared.Gives.TheVariants as gives
 use Rattle.poa_base.specs.declared.PolicySet.{PolicySet}
 use Rattle.poa_base.specs.declared.RuleConf.{RuleConf}
-use Rattle.poa_base.specs.Policies.{is_persistent, is_retain, is_default_servant, is_servant_manager}
+use Rattle.poa_base.specs.Policies.{is_retain, is_default_servant, is_servant_manager}
 use Rattle.poa_policy.specs.Kinds.{IsSet}
 use Rattle.poa_policy.specs.Rules.{keeps}
 use Rattle.poa_policy.specs.declared.rule.Rule.{Rule}
@@ -39,22 +39,12 @@ pub record AreRules (IsServant : ℕ → Type 0) (set : PolicySet) (rules : List
 abbrev pub IsPreset : (ℕ → Type 0) → PolicySet → ℕ → Type 0
 IsPreset IsServant set n = (is_default_servant set.processing ≡ true) × IsServant n
 
--- a tag stands only with PERSISTENT
-abbrev pub IsTag : PolicySet → ℕ → Type 0
-IsTag set tag = (tag ≡ 0) ⊎ (is_persistent set.lifespan ≡ true)
-
--- references without a tag are refused only with PERSISTENT
-abbrev pub ServesOld : PolicySet → Bool → Type 0
-ServesOld set old_keys = (old_keys ≡ true) ⊎ (is_persistent set.lifespan ≡ true)
-
 -- what an adapter is created from names only managers and servants that there are
 pub record IsTemplate (IsManager IsServant : ℕ → Type 0) (a : AdapterConf) : Type 0 where
   pub policies : AreTogether a.policies
   pub manager : IsManager a.manager
   pub preset : IfSome a.preset (IsPreset IsServant a.policies)
   pub rules : AreRules IsServant a.policies a.rules
-  pub tag : IsTag a.policies a.tag
-  pub old_keys : ServesOld a.policies a.old_keys
 
 -- with so many configured managers, beside `root`, and servants, and these entries before it
 pub record IsAdapter (managers servants : ℕ) (done : List AdapterConf) (a : AdapterConf) : Type 0 where
