@@ -1,6 +1,6 @@
 # Completes the words of ./poad in bash: source docs/completion.bash
 _poad() {
-    local commands='answer replay load check iors migrate show serve build help --version' options word=${COMP_WORDS[COMP_CWORD]}
+    local commands='answer replay load check iors migrate show loc serve build help --version' options word=${COMP_WORDS[COMP_CWORD]}
     local before=${COMP_WORDS[COMP_CWORD - 1]}
     case ${COMP_WORDS[1]} in
         serve) options='--lanes --workers --run --state --journal --limit --help' ;;
