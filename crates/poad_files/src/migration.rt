@@ -50,7 +50,7 @@ fn copy(profile: &Profile) -> Result<Profile, WantMemory>
 
 // The same parts with another object key.
 fn with_key(parts: ProfileParts, key: Bytes) -> ProfileParts
-    ensures { result ≡ said.with_key key.entry parts.entry }
+    ensures { result ≡ said.with_key key parts }
 {
     let ProfileParts { body, components } = parts;
     let body = ProfileBody { key, ..body };
@@ -79,7 +79,7 @@ fn moved_key(
 // The octets of the key with the tag that it gets.
 fn retagged(alloc: Global, config: &Config, key: Key) -> Result<Option<Bytes>, WantMemory>
     ensures { IfOk result (λ found. MatchOption found
-        (spec.new_tag config.now key.entry ≡ None) (λ octets. TagsTo config.now key.entry octets)) }
+        (spec.new_tag config.now key ≡ None) (λ octets. TagsTo config.now key octets)) }
 {
     let Some(tag) = new_tag(config, &key) else {
         return Ok(None);
