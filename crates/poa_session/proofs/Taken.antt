@@ -53,11 +53,17 @@ pub takes_nothing : (i : Intake) (have : ℕ) (a b : Shown) → Moves a b [] [] 
 takes_nothing i have a b moved = record {
   piece = [];
   first = same_first i i have a b refl;
-  moved = moved; few = λ few. omega (arith, few); taken = (omega arith, λ next more stop heard. heard) }
+  moved = moved;
+  few = λ few. omega (arith, few);
+  taken = (omega arith, λ next more stop heard. heard);
+}
 
 -- the session has read all that it reads
 pub takes_limit : (i : Intake) (have taken : ℕ) (a : Shown) → taken ≡ i.taken → taken ≡ 2 ^ 40 → Takes i i have a a (Some (InputLimit taken))
 takes_limit i have taken a is full = record {
   piece = [];
   first = λ settles. absurd (let e : false ≡ true = settles in cc);
-  moved = moves_none a; few = λ few. omega (arith, few); taken = (refl, is, full) }
+  moved = moves_none a;
+  few = λ few. omega (arith, few);
+  taken = (refl, is, full);
+}
