@@ -30,7 +30,6 @@ pub use filing::print_file;
 pub use host::Host;
 pub use locating::print_loc;
 pub use migrating::migrate_file;
-pub use printed::put_printed;
 pub use printing::Asked;
 pub use showing::show_text;
 pub use state_file::take_state;

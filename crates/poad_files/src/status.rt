@@ -49,18 +49,6 @@ pub enum Status {
     StateRefused { line: u64 },
     /// So many bytes were read, as many as a run reads.
     InputLimit { taken: u64 },
-    /// The last reference of a call has no profile by which it can be asked.
-    NoProfile,
-    /// A call was answered with one forward more than so many.
-    TooManyHops { hops: u32 },
-    /// No link could be opened for a call.
-    ConnectFault,
-    /// The server of a call closed the connection before it answered.
-    Closed,
-    /// What the server of a call said is no answer.
-    BadReply,
-    /// So many reads of a link found nothing.
-    NoAnswer { quiets: u32 },
     /// The text begins as a corbaloc text, and is none.
     LocRefused(LocFault),
     /// The reference has no corbaloc text.
@@ -92,12 +80,6 @@ impl Status {
             Status::FileTooLong => 17,
             Status::StateRefused { .. } => 18,
             Status::InputLimit { .. } => 19,
-            Status::NoProfile => 24,
-            Status::TooManyHops { .. } => 25,
-            Status::ConnectFault => 26,
-            Status::Closed => 27,
-            Status::BadReply => 28,
-            Status::NoAnswer { .. } => 29,
             Status::LocRefused(_) => 30,
             Status::NoLoc => 31,
         }
@@ -126,12 +108,6 @@ impl fmt::Display for Status {
             Status::FileTooLong => write!(f, "file too long"),
             Status::StateRefused { line } => write!(f, "state: line {line}"),
             Status::InputLimit { taken } => write!(f, "input limit {taken}"),
-            Status::NoProfile => write!(f, "no profile"),
-            Status::TooManyHops { hops } => write!(f, "too many hops {hops}"),
-            Status::ConnectFault => write!(f, "connect fault"),
-            Status::Closed => write!(f, "closed"),
-            Status::BadReply => write!(f, "bad reply"),
-            Status::NoAnswer { quiets } => write!(f, "no answer {quiets}"),
             Status::LocRefused(fault) => write!(f, "{fault}"),
             Status::NoLoc => write!(f, "no corbaloc"),
         }
