@@ -17,4 +17,4 @@ pub returns-in-None : goal.returns-in-None
 returns-in-None c =
     let has = rw c.in-Some.is at c.in_ok-parts.ensures in
     let none = rw c.in-None.is at c.in_ok-key.ensures in
-    stays c.args.config.now c.args.profile.now c.copy.result (not_moved c.args.config.now c.args.profile.now c.in-Some.parts has none) c.copy.ensures
+    stays c.args.config.now c.args.profile.now c.copy-in-None.result (not_moved c.args.config.now c.args.profile.now c.in-Some.parts has none) c.copy-in-None.ensures
