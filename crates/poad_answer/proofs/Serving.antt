@@ -21,15 +21,15 @@ record SomeGiven (f : Framing) (text : List ℕ) : Type 0 where
   end : End
   gives : FramerGives f text messages end
 
-some_given_so : (limit : ℕ) (reading : Reading) (unread : List ℕ) (closed : Option Why) (text : List ℕ)
-    → SomeGiven (record { limit = limit; reading = reading; unread = unread; closed = closed }) text
-some_given_so limit reading unread None text =
+some_given_so : (limit : ℕ) (reading : Reading) (unread : List ℕ) (closed : Option Why) (first : Option ℕ) (text : List ℕ)
+    → SomeGiven (record { limit = limit; reading = reading; unread = unread; closed = closed; first = first }) text
+some_given_so limit reading unread None first text =
     let s : SomeStream limit reading (unread ++ text) = some_stream limit reading (unread ++ text) in
     record { messages = s.messages; end = s.end; gives = s.stream }
-some_given_so limit reading unread (Some why) text = record { messages = []; end = bad_place reading.place why; gives = (refl, refl) }
+some_given_so limit reading unread (Some why) first text = record { messages = []; end = bad_place reading.place why; gives = (refl, refl) }
 
 some_given : (f : Framing) (text : List ℕ) → SomeGiven f text
-some_given f text = some_given_so f.limit f.reading f.unread f.closed text
+some_given f text = some_given_so f.limit f.reading f.unread f.closed f.first text
 
 -- what was served is the start of the stream, whatever follows
 pub begins_with : (fed piece : List ℕ) (given : List Framed) (f : Framing) → HasGiven message_limit fed given f → Begins (fed ++ piece) given
