@@ -1,6 +1,7 @@
 -- What a piece of input brings.
 use Rattle.std.proofs.Common.{◌≡◌, ◌↔◌, Bool, ℕ, ◌+◌, ◌≤◌, List, [], ◌++◌, length, take, drop, Option, Some, None, true, false, refl, sym, ap, ◌∙◌, subst, append_assoc, append-nil, arith}
-use Rattle.std.specs.Prelude.{MatchOption}
+use Rattle.std.specs.Prelude.{MatchOption, IfOk, Result}
+use Rattle.std.specs.declared.result.Result.TheVariants as ok
 use Rattle.std.proofs.Math.Seq.{take-append-add}
 use Rattle.std.proofs.lemmas.List.{take-append-drop, take_at}
 use Rattle.outside.specs.Told.{IfTold}
@@ -16,10 +17,10 @@ use Rattle.poad_files.specs.declared.status.Status.TheVariants.{Ok, Malformed, H
 use Rattle.poad_answer.specs.declared.stop.Stop.{Stop}
 use Rattle.poad_answer.specs.declared.stop.Stop.TheVariants as stop
 use Rattle.poad_files.specs.Delivery.{Hands}
-use Rattle.poad_answer.specs.Serving.{MessageGives, IsLegalRun, Serves}
+use Rattle.poad_answer.specs.Serving.{MessageGives, IsLegalRun, IsServing, Serves}
 use Rattle.poad_answer.specs.Stop.{message_limit, Begins, ClosesIn, has_closing, last_words}
 use Rattle.poad_answer.specs.Run.{Gains}
-use Rattle.poad_answer.specs.Service.{HasServed, ServesUpTo, Keeps}
+use Rattle.poad_answer.specs.Service.{HasServed, IsReady, ServesUpTo, Keeps}
 use Rattle.poad_answer.specs.Piece.{EndsPiece, GoesOn, ServiceEnds, TakesPiece}
 use Rattle.poad_files.proofs.Told.{told_then, told_here, told_so}
 use Rattle.poad_answer.proofs.Serving.{begins_with}
@@ -166,3 +167,20 @@ piece_settled (Some status) why minor piece old mid served new h k more servant 
     piece_served (Some status) why minor piece old mid served new h k more servant u closes
     (told_so h k _ _ (λ x y e. gains_all status why _ (u.replies ++ last_words minor why) x y ends e) (handed why minor mid served h k true u none p))
     (ends_kept status why mid served new.core u state ends)
+
+pub if_ok : {T E : Type 0} (r : Result T E) (P Q : T → Type 0) → ((x : T) → P x → Q x) → IfOk r P → IfOk r Q
+if_ok (ok.Ok x) P Q f p = f x p
+if_ok (ok.Err e) P Q f p = p
+
+-- a service with the same framer and run is as ready
+pub ready_same : (a b : Service) → b.framer ≡ a.framer → b.core ≡ a.core → IsReady a → IsReady b
+ready_same a b framer core ready = record {
+  serving = subst (λ (life : Life). IsServing life.history) (sym core) ready.serving;
+  limited = ap (λ (f : Framing). f.limit) framer ∙ ready.limited;
+}
+
+-- a service that goes on was left as it was by the last words, of which it has none
+pub goes_on_ready : (ending : Option Status) (why : Stop) (served new : Service) → ServiceEnds ending why new → ending ≡ None
+    → (has_closing why ≡ false → new.framer ≡ served.framer) → new.core ≡ served.core → IsReady served → IsReady new
+goes_on_ready None why served new waits none framer core ready = ready_same served new (framer (ap has_closing waits)) core ready
+goes_on_ready (Some status) why served new waits none framer core ready = absurd (let e : Some status ≡ None = none in cc)

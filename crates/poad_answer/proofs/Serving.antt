@@ -3,11 +3,11 @@ use Rattle.std.proofs.Common.{◌≡◌, ℕ, ◌<◌, List, [], ◌∷◌, ◌+
 use Rattle.poa_history.specs.Life.{Life}
 use Rattle.giop_frame.specs.declared.Why.{Why}
 use Rattle.giop_frame.specs.declared.Next.TheVariants as next
-use Rattle.giop_frame.specs.Stream.{Framed, Reading, End, bad_place}
+use Rattle.giop_frame.specs.Stream.{Framed, End, bad_place}
 use Rattle.giop_frame.specs.Framing.{Framing}
 use Rattle.giop_frame.specs.Framer.{FramerGives as FramerGives, HasFirst, HasGiven, FramerAnswers, reach}
-use Rattle.giop_frame.proofs.Streams.{SomeStream, some_stream}
-use Rattle.giop_frame.proofs.Cutting.{given_message, stream_fails_here}
+use Rattle.giop_frame.proofs.GoingOn.{framer_goes_on}
+use Rattle.giop_frame.proofs.Cutting.{given_message, given_same, stream_fails_here, stream_waits}
 use Rattle.poad_answer.specs.declared.service.Service.{Service}
 use Rattle.poad_answer.specs.declared.stop.Stop.{Stop}
 use Rattle.poad_answer.specs.declared.stop.Stop.TheVariants.{Waits, Closed, Refused, Full, NoMemory}
@@ -21,15 +21,8 @@ record SomeGiven (f : Framing) (text : List ℕ) : Type 0 where
   end : End
   gives : FramerGives f text messages end
 
-some_given_so : (limit : ℕ) (reading : Reading) (unread : List ℕ) (closed : Option Why) (first : Option ℕ) (text : List ℕ)
-    → SomeGiven (record { limit = limit; reading = reading; unread = unread; closed = closed; first = first }) text
-some_given_so limit reading unread None first text =
-    let s : SomeStream limit reading (unread ++ text) = some_stream limit reading (unread ++ text) in
-    record { messages = s.messages; end = s.end; gives = s.stream }
-some_given_so limit reading unread (Some why) first text = record { messages = []; end = bad_place reading.place why; gives = (refl, refl) }
-
 some_given : (f : Framing) (text : List ℕ) → SomeGiven f text
-some_given f text = some_given_so f.limit f.reading f.unread f.closed f.first text
+some_given f text = let on = framer_goes_on f text in record { messages = on.messages; end = on.end; gives = on.gives }
 
 -- what was served is the start of the stream, whatever follows
 pub begins_with : (fed piece : List ℕ) (given : List Framed) (f : Framing) → HasGiven message_limit fed given f → Begins (fed ++ piece) given
@@ -49,6 +42,21 @@ stops_for_memory old new waiting reached first = record {
   reached = reached;
   stops = λ fed given h. begins fed given old.framer h;
   kept = tt;
+}
+
+-- no whole message is left
+pub stops_waiting : (old new : Service) (have : ℕ) → FramerAnswers old.framer (next.NeedMore have) new.framer → new.replies.items ≡ old.replies.items
+    → reach new.framer ≡ reach old.framer → new.core ≡ old.core → StillKnows old new → StopsHere (Waits have) old new
+stops_waiting old new have waits waiting reached core first = record {
+  first = first;
+  waiting = waiting;
+  reached = reached;
+  stops = λ fed given h. stream_waits message_limit fed given have old.framer new.framer h waits;
+  kept = (
+    core,
+    λ fed given h. subst (λ (ms : List Framed). HasServed fed ms new) (sym (append-nil given))
+        (given_same message_limit fed given old.framer new.framer h waits.1),
+  );
 }
 
 -- a place is bad

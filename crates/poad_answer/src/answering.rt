@@ -1,5 +1,5 @@
 //! `answer`: the loop over the source.
-ghost use Rattle.std.specs.Prelude.{◌≡◌, ◌+◌, ◌^◌, ◌<◌, false, ◌≢◌, [], length, Some};
+ghost use Rattle.std.specs.Prelude.{◌≡◌, ◌+◌, ◌^◌, ◌<◌, false, ◌≢◌, [], length, None, Some};
 ghost use Rattle.outside.specs.Cause.{HasCause};
 ghost use Rattle.outside.specs.Reading.{IsWithin, Delivers};
 ghost use Rattle.outside.specs.Told.{IfTold};
@@ -91,7 +91,7 @@ fn take_piece<K: Sink>(
     requires ready { IsReady service.old }
     ensures takes { TakesPiece result piece.now service.old service.new (K.held sink.old) (K.held sink.new) }
     ensures written { HasCause (K.write_faults sink.old) (K.write_faults sink.new) (result ≡ Some Status.WriteFault) }
-    ensures ready { IsReady service.new }
+    ensures ready { result ≡ None → IsReady service.new }
 {
     // For its clauses: the history so far is legal.
     service.core.keeps_laws();

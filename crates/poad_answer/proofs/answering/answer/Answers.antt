@@ -60,7 +60,7 @@ loop-taken-preserved g c = record {
       (cut_piece c.in-Got.count c.loop-taken.buffer.len c.deref.result.now c.read_front.new.buffer _ c.deref.ensures.value
       (omega (arith, c.in-Got.ensures.within.1, c.deref_mut.ensures.len)) (omega (arith, c.in-Got.ensures.within.1, c.read_front.auto.buffer)))
       c.in_default-take_piece.ensures.takes);
-  ready = c.take_piece.ensures.ready;
+  ready = c.in_default-take_piece.ensures.ready refl;
   within = omega (arith, c.in-Got.ensures.most.1);
   room_is = c.loop-taken.invariant.room_is;
   reads = omega (arith, c.loop-taken.invariant.reads, c.in-Got.ensures.failed.later);

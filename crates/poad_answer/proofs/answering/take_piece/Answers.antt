@@ -4,7 +4,9 @@ use Rattle.outside.specs.Told.{IfTold}
 use Rattle.poad_files.specs.Delivery.{Hands}
 use Rattle.poad_answer.specs.Stop.{last_words}
 use Rattle.poad_files.proofs.Causes.{cause_still}
-use Rattle.poad_answer.proofs.Pieces.{piece_refused, piece_unwritten, piece_settled}
+use Rattle.poad_answer.proofs.Pieces.{goes_on_ready, piece_refused, piece_unwritten, piece_settled}
+use Rattle.std.specs.Prelude.{Some, None}
+use Rattle.poad_files.specs.declared.status.Status.TheVariants.{WantMemory, WriteFault}
 use Rattle.poad_answer.proofs.answering.take_piece.Goals as goal
 
 pub returns-in_default-clause-takes : goal.returns-in_default-clause-takes
@@ -56,3 +58,18 @@ returns-clause-takes g c =
 
 pub returns-clause-written : goal.returns-clause-written
 returns-clause-written g c = cause_still _ _ _ c.write_replies.ensures.failed.later c.settle.ensures.no_fault
+
+pub returns-in_default-clause-ready : goal.returns-in_default-clause-ready
+returns-in_default-clause-ready g c = λ none. absurd (let e : Some WantMemory ≡ None = none in cc)
+
+pub returns-in_default-closing_minor-clause-ready : goal.returns-in_default-closing_minor-clause-ready
+returns-in_default-closing_minor-clause-ready g c = λ none. absurd (let e : Some WantMemory ≡ None = none in cc)
+
+pub returns-then-not-write_replies-clause-ready : goal.returns-then-not-write_replies-clause-ready
+returns-then-not-write_replies-clause-ready g c = λ none. absurd (let e : Some WriteFault ≡ None = none in cc)
+
+pub returns-clause-ready : goal.returns-clause-ready
+returns-clause-ready g c = λ none.
+    goes_on_ready c.settle.result c.serve-why.result c.serve-why.new.self c.settle.new.self c.settle.ensures.settled none
+    (λ words. (c.settle.ensures.framer ∙ c.write_replies.ensures.framer) ∙ c.closing_minor.ensures.waits words)
+    ((c.settle.ensures.core ∙ c.write_replies.ensures.core) ∙ c.closing_minor.ensures.core) c.serve-why.ensures.ready

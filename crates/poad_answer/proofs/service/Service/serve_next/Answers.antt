@@ -3,7 +3,7 @@ use Rattle.std.proofs.Common.{refl, subst}
 use Rattle.giop_frame.specs.declared.Next.{Next}
 use Rattle.giop_frame.specs.Framer.{FramerAnswers, TakesBytes}
 use Rattle.poad_answer.specs.Stop.{message_limit}
-use Rattle.poad_answer.proofs.Serving.{stops_for_memory, stops_at_place, turn}
+use Rattle.poad_answer.proofs.Serving.{stops_for_memory, stops_at_place, stops_waiting, turn}
 use Rattle.poad_answer.proofs.service.Service.serve_next.Goals as goal
 
 pub returns-in_default-clause-turns : goal.returns-in_default-clause-turns
@@ -29,4 +29,10 @@ pub returns-in-Bad-clause-turns : goal.returns-in-Bad-clause-turns
 returns-in-Bad-clause-turns c =
     stops_at_place _ _ c.in-Bad.at c.in-Bad.why
     (subst (λ (n : Next). FramerAnswers c.args.self.now.framer n c.next.new.self) c.in-Bad.is c.in-Ok.ensures.answer) refl c.next.ensures.reached
+    (c.next.ensures.first message_limit)
+
+pub returns-in-NeedMore-clause-turns : goal.returns-in-NeedMore-clause-turns
+returns-in-NeedMore-clause-turns c =
+    stops_waiting _ _ c.in-NeedMore.have
+    (subst (λ (n : Next). FramerAnswers c.args.self.now.framer n c.next.new.self) c.in-NeedMore.is c.in-Ok.ensures.answer) refl c.next.ensures.reached refl
     (c.next.ensures.first message_limit)
