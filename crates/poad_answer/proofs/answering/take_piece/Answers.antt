@@ -1,5 +1,5 @@
 -- The piece was fed, or not; and what it brought was written, or not.
-use Rattle.std.proofs.Common.{ℕ, List, ◌++◌, true, false, subst, refl, ◌∙◌}
+use Rattle.std.proofs.Common.{◌≡◌, ℕ, List, ◌++◌, true, false, subst, refl, ◌∙◌}
 use Rattle.outside.specs.Told.{IfTold}
 use Rattle.poad_files.specs.Delivery.{Hands}
 use Rattle.poad_answer.specs.Stop.{last_words}
