@@ -1,7 +1,8 @@
 -- Each command does what it is to do, and ends with none of the statuses of the others.
-use Rattle.std.proofs.Common.{refl, sym, subst}
+use Rattle.std.proofs.Common.{ℕ, List, refl, sym, subst}
 use Rattle.command_words.specs.declared.command.Command.{Command}
 use Rattle.command_words.specs.Words.{seen}
+use Rattle.poad_files.specs.Migrating.{MigratesFile}
 use Rattle.poad_cmd.specs.Commands.{Does}
 use Rattle.poad_cmd.proofs.run.run_command.Goals as goal
 
@@ -43,4 +44,10 @@ returns-in-Migrate-clause-does g c =
     (g.F.Files.contents c.migrate_file.new.files) (g.S.Source.left c.args.host.now.source) (g.S.Source.left c.args.host.now.source)
     (g.K.Sink.held c.args.host.now.sink) (g.K.Sink.held c.migrate_file.new.sink) c.args.host.now.source c.args.host.now.source c.args.host.now.files
     c.migrate_file.new.files)
-    (sym c.in-Migrate.is) (c.migrate_file.ensures.migrates, refl)
+    (sym c.in-Migrate.is) (
+      subst
+          (λ (text : List ℕ). MigratesFile c.in-Migrate.config.now text c.migrate_file.result (g.F.Files.contents c.args.host.now.files)
+          (g.F.Files.contents c.migrate_file.new.files) (g.K.Sink.held c.args.host.now.sink) (g.K.Sink.held c.migrate_file.new.sink))
+          c.as_bytes-in-Migrate.ensures.value c.migrate_file.ensures.migrates,
+      refl,
+    )
