@@ -1,0 +1,11 @@
+pub mod Going
+pub mod Heads
+pub mod Replies
+pub mod Targets
+pub mod Written
+pub mod Hearings
+pub mod Listened
+pub mod Visits
+pub mod Journeys
+pub mod Counted
+pub mod Paths

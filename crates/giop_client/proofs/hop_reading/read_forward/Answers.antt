@@ -1,0 +1,8 @@
+use Rattle.std.proofs.lemmas.Result.{err_from_is_err_and}
+use Rattle.giop_client.proofs.Replies.{no_forward}
+use Rattle.giop_client.proofs.hop_reading.read_forward.Goals as goal
+
+pub returns-in_err-ior-clause-bad : goal.returns-in_err-ior-clause-bad
+returns-in_err-ior-clause-bad c =
+    let passed = err_from_is_err_and c.from_residual.result c.from_residual.ensures.1 in
+    rw (passed.1, passed.2) (no_forward _ _ c.read_reference.new.reader _ c.reader-reader.ensures c.in_err-ior.ensures.bad)

@@ -1,0 +1,12 @@
+pub mod Reply
+pub mod Hop
+pub mod Target
+pub mod Request
+pub mod Visit
+pub mod Counting
+pub mod Ending
+pub mod Journey
+pub mod Path
+pub mod Laws
+pub mod Reading
+pub mod Talking
