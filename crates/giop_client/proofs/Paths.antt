@@ -110,7 +110,7 @@ behind : (number : ℕ) (visit : Visit) (visits : List Visit) (asked : List ℕ)
     → ((next : Ior) → Further next → Path next → Along visits stations)
     → (GoesOn asked number visit Further ⊎ ((visits ≡ []) × (answer.hops + 1 ≡ number) × EndsHere asked number visit answer.end))
     → (((next : Ior) × IsHop number visit.gave (Some (hop.Forward next)) × Path next)
-        ⊎ (((next : Ior) → IsHop number visit.gave (Some (hop.Forward next)) → ⊥) × (stations ≡ [])))
+    ⊎ (((next : Ior) → IsHop number visit.gave (Some (hop.Forward next)) → ⊥) × (stations ≡ [])))
     → Along visits stations
 behind number visit visits asked answer stations Further Path on (inl forward) (inl path) =
     let same : path.0 ≡ forward.next = one_next number visit.gave path.0 forward.next path.1 forward.said in

@@ -163,7 +163,7 @@ pub told_asked : (operation : List ℕ) (argument : Option Datum) (number : ℕ)
 told_asked operation argument number reference target request step x y is bytes visited =
     told_map x y (Visited target.endpoint request number step) (Asks operation argument number reference step)
     (λ a b v. asks_of operation argument number reference target step a b is
-      (subst (λ (l : List ℕ). Visited target.endpoint l number step a b) bytes v))
+    (subst (λ (l : List ℕ). Visited target.endpoint l number step a b) bytes v))
     visited
 
 pub told_unasked : (operation : List ℕ) (argument : Option Datum) (number : ℕ) (reference : Ior) (ended : CallEnd) (x : Option Calls)

@@ -61,8 +61,8 @@ Journey operation argument hops number reference [] answer =
 Journey operation argument hops number reference (visit ∷ visits) answer =
     (number ≤ hops + 1)
     × Leg operation argument number reference visit (λ asked.
-      GoesOn asked number visit (λ next. Journey operation argument hops (number + 1) next visits answer)
-      ⊎ ((visits ≡ []) × (answer.hops + 1 ≡ number) × EndsHere asked number visit answer.end))
+    GoesOn asked number visit (λ next. Journey operation argument hops (number + 1) next visits answer)
+    ⊎ ((visits ≡ []) × (answer.hops + 1 ≡ number) × EndsHere asked number visit answer.end))
 
 -- the links that were opened and closed are those of a journey from the reference
 pub record Follows (operation : List ℕ) (argument : Option Datum) (hops : ℕ) (reference : Ior) (answer : Followed) (old new : Calls) : Type 0 where

@@ -32,7 +32,7 @@ IsPath operation argument number reference [] (station ∷ stations) =
 IsPath operation argument number reference (gave ∷ gaves) (station ∷ stations) =
     IsStation operation argument number reference station
     × (((next : Ior) × IsHop number gave (Some (Forward next)) × IsPath operation argument (number + 1) next gaves stations)
-      ⊎ (((next : Ior) → IsHop number gave (Some (Forward next)) → ⊥) × (stations ≡ [])))
+    ⊎ (((next : Ior) → IsHop number gave (Some (Forward next)) → ⊥) × (stations ≡ [])))
 
 -- the links are the first ones of the path, each once and in order, and each took a front of its request
 abbrev pub Along : List Visit → List Station → Type 0
