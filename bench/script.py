@@ -18,41 +18,55 @@ def padded(fields, boundary):
     return fields + b"\0" * (-(HEADER + len(fields)) % boundary)
 
 
-def message(kind, order, fields, size):
-    """A message of GIOP 1.2, with octets behind its fields up to its size."""
-    head = b"GIOP\x01\x02" + bytes([order == "<", kind]) + struct.pack(order + "I", size - HEADER)
+def message(kind, minor, order, fields, size):
+    """A message of this minor version of GIOP 1, with octets behind its fields up to its size."""
+    head = b"GIOP\x01" + bytes([minor, order == "<", kind]) + struct.pack(order + "I", size - HEADER)
     return (head + fields).ljust(size, b"\0")
 
 
-def target(order, key):
-    """A target by its key, or by a profile that has none."""
+def target(minor, order, key):
+    """A target by its key, or from version 1.2 on by a profile that has none."""
     if key == "-":
         return struct.pack(order + "HxxII", 1, 1, 0)
-    return struct.pack(order + "HxxI", 0, len(octets(key))) + octets(key)
+    kind = struct.pack(order + "Hxx", 0) if minor >= 2 else b""
+    return kind + struct.pack(order + "I", len(octets(key))) + octets(key)
 
 
-def contexts(order, lacking):
-    """No service context and a gap of so many octets, or one context that is as long."""
+def opening(minor, order, number, flags):
+    """The fields in front of the target. Before version 1.2 no service context is the first, and an octet says whether a
+    reply is asked."""
+    if minor < 2:
+        return struct.pack(order + "IIB3x", 0, number, flags & 1)
+    return struct.pack(order + "IB3x", number, flags)
+
+
+def closing(minor, order, lacking):
+    """No service context and a gap of so many octets, or one context that is as long. Before version 1.2 it is a
+    principal of so many."""
+    if minor < 2:
+        return struct.pack(order + "I", lacking) + b"\0" * lacking
     if lacking < 8:
         return struct.pack(order + "I", 0) + b"\0" * lacking
     return struct.pack(order + "III", 1, 0, lacking - 8) + b"\0" * (lacking - 8)
 
 
 def request(words, size):
-    number, _, name, flags, key, operation, base, body = words
+    number, minor, name, flags, key, operation, base, body = words
+    minor = int(minor)
     order = "<" if name == "little" else ">"
     operation = octets(operation) + b"\0"
-    fields = struct.pack(order + "IB3x", int(number), int(flags)) + target(order, key)
+    fields = opening(minor, order, int(number), int(flags)) + target(minor, order, key)
     fields = padded(fields, 4) + struct.pack(order + "I", len(operation)) + operation
     fields = padded(fields, 4)
-    fields += contexts(order, int(base) - HEADER - len(fields) - 4)
-    return message(0, order, fields + octets(body), size)
+    fields += closing(minor, order, int(base) - HEADER - len(fields) - 4)
+    return message(0, minor, order, fields + octets(body), size)
 
 
 def locate(words, size):
-    number, _, name, key = words
+    number, minor, name, key = words
+    minor = int(minor)
     order = "<" if name == "little" else ">"
-    return message(3, order, struct.pack(order + "I", int(number)) + target(order, key), size)
+    return message(3, minor, order, struct.pack(order + "I", int(number)) + target(minor, order, key), size)
 
 
 def line(words, size):
