@@ -129,6 +129,18 @@ pub bad_stream : (limit : ℕ) (r : Reading) (text more : List ℕ) (why : Why) 
     → StreamFrom limit r (text ++ more) [] (bad_place r.place why)
 bad_stream limit r text more why e = ended limit r (text ++ more) (bad_place r.place why) (bad_more limit r.pending text more why e, refl)
 
+-- a bad place, and the messages before it, stay where more follows
+pub bad_stays : (limit : ℕ) (r : Reading) (text more : List ℕ) (messages : List Framed) (at : ℕ) (why : Why)
+    → StreamFrom limit r text messages (bad_place at why) → StreamFrom limit r (text ++ more) messages (bad_place at why)
+bad_stays limit r text more messages at why s = record {
+  parts = s.parts;
+  left = s.left ++ more;
+  cut = ap (λ (t : List ℕ). t ++ more) s.cut ∙ append_assoc (concat s.parts) s.left more;
+  good = s.good;
+  given = s.given;
+  ends = (bad_more limit (after_all r s.parts).pending s.left more why s.ends.0, s.ends.1);
+}
+
 -- from the stream behind the part in front, where there is one
 some_seen : (fuel limit : ℕ) (r : Reading) (text : List ℕ) (seen : Look) → look_at limit r.pending text ≡ seen → length text ≤ fuel
     → ((n : ℕ) → look_at limit r.pending text ≡ Whole n → (s : Reading) → SomeStream limit s (drop n text)) → SomeStream limit r text

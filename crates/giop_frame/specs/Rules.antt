@@ -79,13 +79,17 @@ abbrev pub unless : Option Why → Look → Look
 unless (Some why) then_look = Bad why
 unless None then_look = then_look
 
+-- a part of this header that breaks no rule
+abbrev pub look_whole : Header → List ℕ → Look
+look_whole h text = wait_for (HEADER + h.size) text (Whole (HEADER + h.size))
+
 -- what a text shows of its first part, after the parts that left these messages open
 abbrev pub look_at : ℕ → Opens → List ℕ → Look
 look_at limit pending text =
     let h = header_of text in
     wait_for HEADER text (unless (header_fault limit pending text)
     (wait_for (id_end h) text (unless (id_fault limit pending text)
-    (wait_for (HEADER + h.size) text (Whole (HEADER + h.size))))))
+    (look_whole h text))))
 
 -- a whole part that is good under some limit
 abbrev pub IsGood : Opens → List ℕ → Type 0

@@ -1,5 +1,5 @@
 //! The header of a part.
-ghost use Rattle.std.specs.Prelude.{◌≡◌, ◌+◌, ◌≤◌, length};
+ghost use Rattle.std.specs.Prelude.{◌≡◌, ◌&&◌, ◌+◌, ◌≤◌, length, not};
 ghost use Rattle.giop_frame.specs.Part.{header_of, id_of, ulong_at, id_end, opens, continues};
 
 /// The minor version of GIOP 1.2, the newest. Its fragments alone tell the message that they continue.
@@ -63,6 +63,13 @@ impl Header {
         ensures { result ≡ continues self }
     {
         self.kind == FRAGMENT
+    }
+
+    /// Whether this part is a message: no fragment, and none follows.
+    pub(crate) fn is_alone(self) -> bool
+        ensures { result ≡ (not self.more && not (continues self)) }
+    {
+        !self.more && !self.continues()
     }
 
     /// How many bytes of the part have to be seen before its id is known, where it matters.

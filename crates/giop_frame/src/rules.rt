@@ -1,8 +1,9 @@
 //! The rules that make a place of a stream bad.
-ghost use Rattle.std.specs.Prelude.{◌≡◌, ◌+◌, ◌<◌, ◌≤◌, ◌^◌, length, option_copied};
+ghost use Rattle.std.specs.Prelude.{◌≡◌, ◌+◌, ◌<◌, ◌≤◌, ◌^◌, None, Some, if◌then◌else◌, length, nat_lt, option_copied};
 ghost use Rattle.giop_frame.specs.Part.{header_of, id_end};
 ghost use Rattle.giop_frame.specs.Open.{open_bytes};
-ghost use Rattle.giop_frame.specs.Rules.{look_at, foreign_fault, is_bad_type, is_too_long, is_stray, is_bad_start, header_fault, fragment_fault, id_fault};
+ghost use Rattle.giop_frame.specs.declared.why.Why.TheVariants.{TooLong};
+ghost use Rattle.giop_frame.specs.Rules.{look_at, look_whole, unless, foreign_fault, is_bad_type, is_too_long, is_stray, is_bad_start, size_fault, fragment_fault, id_fault};
 
 use crate::header::{FRAGMENT, HEADER, Header, NEWEST_MINOR, id_of};
 use crate::open_messages::OpenMessages;
@@ -31,16 +32,39 @@ pub(crate) fn look_at(limit: u32, pending: &OpenMessages, text: &[u8]) -> Look
     if text.len() < HEADER {
         return Look::Unfinished;
     }
-    if let Some(why) = header_fault(limit, pending, text) {
+    if let Some(why) = foreign_fault(text) {
         return Look::Bad(why);
     }
     let header = Header::read(text);
+    if header.is_alone() {
+        return look_alone(limit, header, text);
+    }
+    if let Some(why) = size_fault(limit, pending, header) {
+        return Look::Bad(why);
+    }
     if text.len() < header.id_end() {
         return Look::Unfinished;
     }
-    if let Some(why) = id_fault(limit, pending, text) {
+    if let Some(why) = id_fault(limit, pending, header, text) {
         return Look::Bad(why);
     }
+    look_whole(header, text)
+}
+
+/// What a text shows of a message that comes in one part: only its size can spoil it.
+fn look_alone(limit: u32, header: Header, text: &[u8]) -> Look
+    ensures { result ≡ unless (if nat_lt limit header.size then Some TooLong else None) (look_whole header text.now) }
+{
+    if header.size > limit {
+        return Look::Bad(Why::TooLong);
+    }
+    look_whole(header, text)
+}
+
+/// What a text shows of a part that breaks no rule.
+fn look_whole(header: Header, text: &[u8]) -> Look
+    ensures { result ≡ look_whole header text.now }
+{
     let whole = HEADER + header.size as usize;
     if text.len() < whole {
         Look::Unfinished
@@ -49,16 +73,11 @@ pub(crate) fn look_at(limit: u32, pending: &OpenMessages, text: &[u8]) -> Look
     }
 }
 
-/// The first rule that a header breaks, whatever id follows it.
-fn header_fault(limit: u32, pending: &OpenMessages, text: &[u8]) -> Option<Why>
-    requires header { HEADER ≤ length text.now }
-    requires bounded { open_bytes pending.now ≤ OPEN_LIMIT }
-    ensures { result ≡ header_fault limit pending.now text.now }
+/// The first rule that a header of GIOP breaks, whatever id follows it.
+fn size_fault(limit: u32, pending: &OpenMessages, header: Header) -> Option<Why>
+    requires { open_bytes pending.now ≤ OPEN_LIMIT }
+    ensures { result ≡ size_fault limit pending.now header }
 {
-    if let Some(why) = foreign_fault(text) {
-        return Some(why);
-    }
-    let header = Header::read(text);
     if is_too_long(limit, pending, header) {
         return Some(Why::TooLong);
     }
@@ -113,13 +132,13 @@ fn is_too_long(limit: u32, pending: &OpenMessages, header: Header) -> bool
 }
 
 /// The first rule that a part breaks by its id.
-fn id_fault(limit: u32, pending: &OpenMessages, text: &[u8]) -> Option<Why>
-    requires id { id_end (header_of text.now) ≤ length text.now }
+fn id_fault(limit: u32, pending: &OpenMessages, header: Header, text: &[u8]) -> Option<Why>
+    requires read { header ≡ header_of text.now }
+    requires id { id_end header ≤ length text.now }
     requires header { HEADER ≤ length text.now }
     requires bounded { open_bytes pending.now ≤ OPEN_LIMIT }
     ensures { result ≡ id_fault limit pending.now text.now }
 {
-    let header = Header::read(text);
     if header.continues() {
         return fragment_fault(limit, pending, header, pending.find(id_of(text)));
     }

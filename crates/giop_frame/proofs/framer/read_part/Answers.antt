@@ -4,7 +4,7 @@ use Rattle.giop_frame.specs.Open.{find_open}
 use Rattle.giop_frame.specs.Message.{IsMessage}
 use Rattle.giop_frame.proofs.Looking.{whole_from_look}
 use Rattle.giop_frame.proofs.Messages.{message_from_whole}
-use Rattle.giop_frame.proofs.Bounds.{Starts, starts}
+use Rattle.giop_frame.proofs.Bounds.{starts}
 use Rattle.giop_frame.proofs.framer.read_part.Goals as goal
 
 pub open-requires-clause-message : goal.open-requires-clause-message

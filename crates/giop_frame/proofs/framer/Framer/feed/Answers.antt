@@ -1,5 +1,5 @@
 -- Where it is closed nothing is fed; else the piece stands behind what is unread.
-use Rattle.std.proofs.Common.{◌≡◌, ℕ, List, ◌∙◌, ap, sym, subst, refl, is_some, IsSome}
+use Rattle.std.proofs.Common.{ℕ, List, ◌∙◌, ap, sym, subst, refl, is_some, IsSome}
 use Rattle.giop_frame.specs.Framing.{Framing}
 use Rattle.giop_frame.specs.Framer.{HasFirst}
 use Rattle.giop_frame.proofs.First.{first_fed, closed_fed, pushed_fed, on_ok}
