@@ -4,7 +4,6 @@
 
 mod body_view;
 mod call_end;
-mod contexts;
 mod followed;
 mod following;
 mod hearing;

@@ -8,9 +8,9 @@ ghost use Rattle.giop_client.specs.Reply.{IsTold, NewHead, OldHead, IsHead, IsRe
 ghost use Rattle.giop_client.specs.Reading.{seen_body};
 
 use crate::body_view::BodyView;
-use crate::contexts::pass_contexts;
 use cdr_core::{PartFault, View};
 use giop_answer::kind::{HEADER, MINOR};
+use giop_msg::pass_counted;
 
 /// A Reply, seen where it lies.
 #[derive(Clone, Copy)]
@@ -72,7 +72,7 @@ fn view_new_head(view: &mut View<'_>) -> Result<Told, PartFault>
     ensures bad { OnErr result ((id number : ℕ) (after : Cursor) → NewHead id number view.old after → ⊥) }
 {
     let told = view_told(view)?;
-    pass_contexts(view)?;
+    pass_counted(view)?;
     Ok(told)
 }
 
@@ -81,7 +81,7 @@ fn view_old_head(view: &mut View<'_>) -> Result<Told, PartFault>
     ensures ok { IfOk result (λ told. OldHead told.id told.status view.old view.new) }
     ensures bad { OnErr result ((id number : ℕ) (after : Cursor) → OldHead id number view.old after → ⊥) }
 {
-    pass_contexts(view)?;
+    pass_counted(view)?;
     let told = view_told(view)?;
     Ok(told)
 }

@@ -6,8 +6,8 @@ ghost use Rattle.giop_msg.specs.Reading.{IsContext, HasContexts};
 
 use cdr_core::{PartFault, View};
 
-/// The service contexts behind their count.
-pub(crate) fn pass_counted(view: &mut View<'_>) -> Result<(), PartFault>
+/// Passes the service contexts that stand at the view, with their count.
+pub fn pass_counted(view: &mut View<'_>) -> Result<(), PartFault>
     ensures ok { OnOk result (IsContexts view.old view.new) }
     ensures bad { OnErr result ((after : Cursor) → IsContexts view.old after → ⊥) }
 {

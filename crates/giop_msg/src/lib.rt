@@ -17,6 +17,7 @@ mod view_fault;
 mod viewing;
 
 pub use ask::write_request;
+pub use contexts::pass_counted;
 pub use fault::MsgFault;
 pub use incoming::Incoming;
 pub use poa_base::WantMemory;

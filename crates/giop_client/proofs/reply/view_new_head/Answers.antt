@@ -12,6 +12,6 @@ returns-in_err-told-clause-bad c =
     → ⊥ = λ id number after head. c.in_err-told.ensures.bad id number head.behind head.told in
     on_err _ none
 
-pub returns-in_err-pass_contexts-clause-bad : goal.returns-in_err-pass_contexts-clause-bad
-returns-in_err-pass_contexts-clause-bad c =
-    on_err _ (no_new_contexts _ _ _ _ c.in_ok-told.ensures.ok c.in_err-pass_contexts.ensures.bad)
+pub returns-in_err-pass_counted-clause-bad : goal.returns-in_err-pass_counted-clause-bad
+returns-in_err-pass_counted-clause-bad c =
+    on_err _ (no_new_contexts _ _ _ _ c.in_ok-told.ensures.ok c.in_err-pass_counted.ensures.bad)
