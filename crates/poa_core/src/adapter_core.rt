@@ -1,7 +1,6 @@
 //! The core of the adapter.
-ghost use Rattle.std.specs.Prelude.{◌≡◌, ℕ, ◌≤◌, ◌<◌, List, option_map, reverse, IfOk};
+ghost use Rattle.std.specs.Prelude.{◌≡◌, ◌≤◌, ◌<◌, option_map, reverse, IfOk};
 ghost use Rattle.poa_history.specs.Phases.{phase_of};
-ghost use Rattle.poa_base.specs.Store.{stored as stored_in};
 ghost use Rattle.poa_policy.specs.Kept.{KeepsRules};
 ghost use Rattle.history_laws.specs.Lasting.{KeepsUpdates, LeavesNothing};
 ghost use Rattle.poa_history.specs.Runs.{IsRun};
@@ -9,7 +8,6 @@ ghost use Rattle.history_standing.specs.Arrivals.{connections};
 ghost use Rattle.poa_history.specs.Changes.{standing};
 ghost use Rattle.poa_history.specs.Legal.{IsLegal, IsOpen, IsSize};
 ghost use Rattle.poa_history.specs.Lifetime.{HasLifetime};
-ghost use Rattle.poa_history.specs.States.{stored};
 ghost use Rattle.history_standing.specs.Nodes.{node_at};
 ghost use Rattle.poa_base.specs.declared.Entry.TheVariants.{Left};
 ghost use Rattle.poa_history.specs.Life.{begun, opened, with_entry};
@@ -18,6 +16,7 @@ ghost use Rattle.core_run.specs.Known.{KnowsTables};
 ghost use Rattle.core_run.specs.Agreeing.{CountsAgree, QueuesAgree, RemovalsAgree};
 ghost use Rattle.poa_core.specs.Answers as answers;
 ghost use Rattle.poa_core.specs.Fits.{FitsItsCall};
+ghost use Rattle.poa_core.specs.Stored.{Stores};
 
 use crate::arrive_fault::ArriveFault;
 use crate::collected::Collected;
@@ -243,8 +242,7 @@ impl Core {
 
     /// What is stored.
     pub fn store(&self) -> &Store
-        ensures { (path : List (List ℕ)) (oid : List ℕ)
-            → stored_in result.now path oid ≡ stored self.now.config self.now.run (opened self.now) self.now.history path oid }
+        ensures { Stores self.now result.now }
     {
         self.run.store()
     }

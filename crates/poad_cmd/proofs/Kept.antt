@@ -21,7 +21,7 @@ use Rattle.poad_cmd.specs.Ending.{status_of, wants_memory}
 use Rattle.poad_cmd.specs.Putting.{both, HoldsJournal, HoldsState, Keeps, PutsJournal, PutsState}
 use Rattle.poad_cmd.proofs.Statuses.{no_memory_wanted}
 use Rattle.poad_cmd.proofs.Telling.{both_false}
-use Rattle.replay_player.specs.Showing.{Stores as StoresOf}
+use Rattle.poa_core.specs.Stored.{Stores as StoresOf}
 use Rattle.serve_run.specs.declared.outcome.Outcome.{Outcome}
 
 pub both_done : (first second : Result Put AllocError) → both first second ≡ Ok put.Done → (first ≡ Ok put.Done) × (second ≡ Ok put.Done)

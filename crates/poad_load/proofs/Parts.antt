@@ -8,7 +8,7 @@ use Rattle.poa_history.specs.Lifetime.{HasLifetime}
 use Rattle.poa_history.specs.Life.{Life, givens_of}
 use Rattle.poa_history.specs.declared.Givens.{Givens}
 use Rattle.replay_player.specs.Opening.{life_at_first}
-use Rattle.replay_player.specs.Showing.{Stores}
+use Rattle.poa_core.specs.Stored.{Stores}
 use Rattle.replay_player.specs.Working.{Rests, Stays, Then}
 use Rattle.replay_player.proofs.Onward.{printed_then}
 use Rattle.replay_run.specs.World.{World}

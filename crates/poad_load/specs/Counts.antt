@@ -11,7 +11,7 @@ use Rattle.poa_history.specs.Legal.{IsLegal}
 use Rattle.poa_history.specs.Lifetime.{HasLifetime}
 use Rattle.history_standing.specs.Stages.{brings}
 use Rattle.poad_files.specs.Counts.{count_line}
-use Rattle.replay_player.specs.Showing.{Stores}
+use Rattle.poa_core.specs.Stored.{Stores}
 use Rattle.replay_run.specs.World.{World}
 use Rattle.poad_load.specs.Loading.{Loads}
 

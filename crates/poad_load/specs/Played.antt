@@ -2,7 +2,7 @@
 use Rattle.std.specs.Prelude.{◌≡◌, ℕ, List}
 use Rattle.poa_base.specs.Store.{Slots}
 use Rattle.poa_history.specs.Life.{Life}
-use Rattle.replay_player.specs.Showing.{Stores}
+use Rattle.poa_core.specs.Stored.{Stores}
 use Rattle.replay_run.specs.World.{World}
 use Rattle.replay_run.specs.Quiet.{HasGivens, IsInPlay, PutsBehind, Quietly, world_of}
 use Rattle.replay_run.specs.declared.QuietPlay.{QuietPlay}
