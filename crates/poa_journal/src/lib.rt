@@ -3,7 +3,8 @@
 //! A journal is a head line with the number of the run, a line for each row of the opening store, and a line for each
 //! entry; the text of a store, as a state file has it, is the rows alone. `specs/Entry.antt` and `specs/Row.antt` say which
 //! words each line has, `specs/Journal.antt` what is printed, `specs/Whole.antt` what a text gives: what is printed reads
-//! back, and the first line outside the grammar is told.
+//! back, and the first line outside the grammar is told. A long journal can be read line by line: its head, its rows, and
+//! each entry.
 #![tactic(auto)]
 
 mod entry;
@@ -17,7 +18,8 @@ mod writing;
 
 pub use entry::{put_entry, read_entry};
 pub use fault::JournalFault;
-pub use reading::read;
+pub use reading::{entry_at, read, read_head};
 pub use row::{put_row, read_row, row_words};
+pub use rows::{Opening, read_rows};
 pub use store_text::{print_store, read_store};
 pub use writing::{print, print_entry, print_parts};

@@ -45,8 +45,8 @@ fn read_lines(alloc: Global, bytes: &[u8]) -> Result<Journal, JournalFault>
     })
 }
 
-// The run of the head line, which is line 1.
-fn read_head(alloc: Global, line: &[u8]) -> Result<u32, JournalFault>
+/// The number of the run by a journal's head line, which is line 1.
+pub fn read_head(alloc: Global, line: &[u8]) -> Result<u32, JournalFault>
     ensures value { JournalReads (λ run. run) result (head_of (words_of line.now)) }
     ensures text { IfOk result (λ run. line.now ≡ spelled (head_tokens run)) }
 {
@@ -89,7 +89,8 @@ fn read_entries(alloc: Global, text: &[u8], first: u64) -> Result<Items<Entry>, 
     Ok(Items::from_vec(entries))
 }
 
-fn entry_at(alloc: Global, number: u64, line: &[u8]) -> Result<Entry, JournalFault>
+/// The entry of the line with this number, which is told where it is out of the grammar.
+pub fn entry_at(alloc: Global, number: u64, line: &[u8]) -> Result<Entry, JournalFault>
     ensures value { JournalReads (λ entry. entry) result (entry_at_of number (entry_of (words_of line.now))) }
     ensures text { IfOk result (λ entry. line.now ≡ spelled (entry_tokens entry)) }
 {

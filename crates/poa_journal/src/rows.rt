@@ -14,16 +14,20 @@ use poa_base::{Oid, Path, State, Store};
 use std::alloc::{AllocError, Global};
 use text_words::{WordFault, next_line, words};
 
-/// The store of the rows at the front of a text, with the text behind them and the number of its first line.
+/// The store of the rows at the front of a text, with the text behind them.
 #[derive(Drop)]
-pub(crate) struct Opening<'a> {
-    pub(crate) store: Store,
-    pub(crate) line: u64,
-    pub(crate) rest: &'a [u8],
+pub struct Opening<'a> {
+    /// What the rows store.
+    pub store: Store,
+    /// The number of the first line behind the rows.
+    pub line: u64,
+    /// The text from that line on.
+    pub rest: &'a [u8],
 }
 
-/// The rows at the front of a text, whose first line has the number `first`.
-pub(crate) fn read_rows(alloc: Global, text: &[u8], first: u64) -> Result<Opening<'_>, JournalFault>
+/// The rows at the front of a text, whose first line has the number `first`: what stands in a journal behind its head
+/// line. BadLine is the first row that is out of the grammar, or not above the one before it.
+pub fn read_rows(alloc: Global, text: &[u8], first: u64) -> Result<Opening<'_>, JournalFault>
     requires { first + length text.now < 2 ^ 64 }
     ensures value { JournalReads front_seen result (rows_front first None (lines_of text.now)) }
     ensures text { IfOk result (λ front. lines_of text.now ≡ map spelled (map row_tokens (states front.store)) ++ lines_of front.rest.now) }
