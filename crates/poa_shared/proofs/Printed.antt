@@ -17,5 +17,5 @@ prints (Ok text) x run opening entries is same_run same_opening same_entries =
 prints (Err fault) x run opening entries is same_run same_opening same_entries = refl
 
 pub prints_store : (r : Result (List ℕ) AllocError) (x : Life) (slots : Slots) → IfOk r (λ text. text ≡ store_text slots) → Stores x slots → PrintsStore r x x
-prints_store (Ok text) x slots is stores = (refl, (slots, (stores, is)))
+prints_store (Ok text) x slots is stores = (refl, (slots, stores, is))
 prints_store (Err fault) x slots is stores = refl
