@@ -1,5 +1,5 @@
 -- What a command reads of its files, over several takes.
-use Rattle.std.proofs.Common.{◌≡◌, ℕ, ◌≤◌, List, Option, Result, Ok, Err, refl, ◌∙◌, subst, inl, arith}
+use Rattle.std.proofs.Common.{◌≡◌, ℕ, ◌≤◌, List, Option, Result, Ok, Err, refl, sym, ◌∙◌, subst, inl, arith}
 use Rattle.std.specs.Prelude.{◌≢◌}
 use Rattle.outside.specs.Cause.{HasCause}
 use Rattle.outside.specs.Keeping.{Contents}
@@ -12,7 +12,7 @@ use Rattle.poad_files.specs.declared.status.Status.TheVariants as status
 use Rattle.poad_files.specs.declared.printing.Asked.{Asked}
 use Rattle.poad_files.specs.Filing.{Filed, Printed}
 use Rattle.poad_files.specs.StateFile.{state_limit, ReadsState, TakesState}
-use Rattle.poad_files.specs.Taking.{HoldsStill, config_limit, script_limit, IsHeld, ReadsConfig, ReadsScript, Refused, TakesConfig, TakesScript}
+use Rattle.poad_files.specs.Taking.{HoldsStill, OfContent, config_limit, script_limit, IsHeld, ReadsConfig, ReadsScript, Refused, TakesConfig, TakesScript}
 use Rattle.poad_files.specs.Showing.{GainsNothing}
 use Rattle.poad_files.proofs.Told.{told_then, told_here}
 use Rattle.poad_files.proofs.Causes.{cause_still, cause_from}
@@ -97,3 +97,24 @@ cause_two a b c First Last Answer p q so = cause_from a b c Last Answer p.later 
 
 pub cause_neither : (a b c : ℕ) (First Last Answer : Type 0) → HasCause a b First → HasCause b c Last → (Answer → ⊥) → HasCause a c Answer
 cause_neither a b c First Last Answer p q never = cause_still a c Answer (let f : a ≤ b = p.later in let l : b ≤ c = q.later in omega arith) never
+
+-- what was held before a take that left all is held before the next
+pub held_on : (name : List ℕ) (limit : ℕ) (Reads : List ℕ → Type 0) (a b c : Option Contents) → OfContent name limit Reads a b → IfTold b c HoldsStill
+    → OfContent name limit Reads a c
+held_on name limit Reads a b c o still = record {
+  content = o.content;
+  held = record { within = o.held.within; held = told_then a b c _ _ _ (λ x y z p q. p) o.held.held still };
+  reads = o.reads;
+}
+
+pub held_before : (name : List ℕ) (limit : ℕ) (Reads : List ℕ → Type 0) (a b c : Option Contents) → IfTold a b HoldsStill → OfContent name limit Reads b c
+    → OfContent name limit Reads a c
+held_before name limit Reads a b c still o = record {
+  content = o.content;
+  held = record { within = o.held.within; held = told_then a b c _ _ _ (λ x y z p q. sym (p name) ∙ q) still o.held.held };
+  reads = o.reads;
+}
+
+pub config_on : (name : List ℕ) (config : Config) (a b c : Option Contents) → TakesConfig name (Ok config) a b → IfTold b c HoldsStill
+    → TakesConfig name (Ok config) a c
+config_on name config a b c t still = held_on name config_limit (λ content. ReadsConfig content (Ok config)) a b c t still

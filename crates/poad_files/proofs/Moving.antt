@@ -14,7 +14,7 @@ use Rattle.ior_text.specs.Body.{has_components, HasBody}
 use Rattle.ior_text.specs.Parts.{HasParts, AreParts, profile_with, with_key}
 use Rattle.ior_text.proofs.Bodies.{body_in}
 use Rattle.ior_text.proofs.OneBody.{one_body}
-use Rattle.poad_files.specs.Migration.{new_tag, Moves, MovesTo, TagsTo, retagged, moved_parts, IsAnew, Stays, ProfileMigrated, AreMigrated}
+use Rattle.poad_files.specs.Migration.{new_tag, Moves, MovesTo, TagsTo, moved_parts, ProfileMigrated, AreMigrated}
 
 -- one profile more
 migrated_push : (c : Config) (ps qs : List Profile) (p q : Profile) → AreMigrated c ps qs → ProfileMigrated c p q

@@ -18,10 +18,11 @@ HasNoScheme text = location_reference text ≡ Err NoScheme
 abbrev pub Refers : List ℕ → Ior → Type 0
 Refers text ior = (location_reference text ≡ Ok ior) ⊎ (HasNoScheme text × TextGives text (Ok ior))
 
--- the status where a text doesn't refer; of want of memory the text says nothing
+-- the status where a text doesn't refer: by the corbaloc form where it begins so, and else by the written form; of want of memory
+-- the text says nothing
 abbrev pub RefersNot : List ℕ → Status → Type 0
 RefersNot text (TextRefused fault) = HasNoScheme text × TextGives text (Err fault)
-RefersNot text (LocRefused fault) = location_reference text ≡ Err fault
+RefersNot text (LocRefused fault) = (location_reference text ≡ Err fault) × (fault ≢ NoScheme)
 RefersNot text WantMemory = ⊤
 RefersNot text _ = ⊥
 

@@ -33,7 +33,7 @@ fn policy<W: fmt::Write>(f: &mut fmt::Formatter<W>, adapter: &Path, index: u32) 
     write!(f, " {index}")
 }
 
-// The path of a key is text, as the key was.
-fn text(bytes: &[u8]) -> &str {
+/// Bytes that are text: the path of a key, as the key was; the line of an entry.
+pub(crate) fn text(bytes: &[u8]) -> &str {
     std::str::from_utf8(bytes).unwrap_or("")
 }

@@ -21,7 +21,7 @@ fn are_visible(bytes: &[u8]) -> bool
 }
 
 /// Adds bytes as they are where each of them shows, and else in hexadecimal.
-pub(crate) fn put_printed(out: &mut Vec<u8>, bytes: &[u8]) -> Result<(), WantMemory>
+pub fn put_printed(out: &mut Vec<u8>, bytes: &[u8]) -> Result<(), WantMemory>
     ensures { OnOk result (out.new.items ≡ out.old.items ++ printed bytes.now) }
 {
     if is_plain(bytes) {

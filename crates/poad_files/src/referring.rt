@@ -10,7 +10,7 @@ use poa_base::Ior;
 use std::alloc::Global;
 
 /// The reference of a text: a corbaloc text where it begins as one, else the written form.
-pub(crate) fn read_reference(alloc: Global, text: &[u8]) -> Result<Ior, Status>
+pub fn read_reference(alloc: Global, text: &[u8]) -> Result<Ior, Status>
     ensures { GivesReference text.now result }
 {
     match read_corbaloc(alloc, text) {

@@ -3,9 +3,11 @@ ghost use Rattle.std.specs.Prelude.{◌≡◌};
 ghost use Rattle.poad_files.specs.Statuses.{status_number};
 
 use crate::fault_line::write_fault;
+use crate::illegal_line::write_illegal;
 use conf_toml::ConfFault;
 use corbaloc::LocFault;
 use ior_text::IorFault;
+use poa_base::Bytes;
 use std::fmt;
 
 /// How a command ended: each status has a number, with which the program ends, and a line.
@@ -49,6 +51,23 @@ pub enum Status {
     StateRefused { line: u64 },
     /// So many bytes were read, as many as a run reads.
     InputLimit { taken: u64 },
+    /// This entry of the journal, counted from 0, is the first that isn't legal. Beside it the number of its line, and the
+    /// line of the one entry that would have been allowed there, which is empty where there is none.
+    Illegal { entry: u64, line: u64, due: Bytes },
+    /// This line of the journal is no line of a journal.
+    JournalRefused { line: u64 },
+    /// The last reference of a call has no profile by which it can be asked.
+    NoProfile,
+    /// One forward more came than a call follows, which is `hops`.
+    TooManyHops { hops: u32 },
+    /// No link could be opened to a server.
+    ConnectFault,
+    /// A server closed the connection before it answered.
+    Closed,
+    /// What a server said is no answer to the request, or not of the kind that was asked for.
+    BadReply,
+    /// A server said nothing for so many reads.
+    NoAnswer { quiets: u32 },
     /// The text begins as a corbaloc text, and is none.
     LocRefused(LocFault),
     /// The reference has no corbaloc text.
@@ -80,6 +99,14 @@ impl Status {
             Status::FileTooLong => 17,
             Status::StateRefused { .. } => 18,
             Status::InputLimit { .. } => 19,
+            Status::Illegal { .. } => 21,
+            Status::JournalRefused { .. } => 23,
+            Status::NoProfile => 24,
+            Status::TooManyHops { .. } => 25,
+            Status::ConnectFault => 26,
+            Status::Closed => 27,
+            Status::BadReply => 28,
+            Status::NoAnswer { .. } => 29,
             Status::LocRefused(_) => 30,
             Status::NoLoc => 31,
         }
@@ -108,6 +135,14 @@ impl fmt::Display for Status {
             Status::FileTooLong => write!(f, "file too long"),
             Status::StateRefused { line } => write!(f, "state: line {line}"),
             Status::InputLimit { taken } => write!(f, "input limit {taken}"),
+            Status::Illegal { entry, line, due } => write_illegal(f, *entry, *line, due),
+            Status::JournalRefused { line } => write!(f, "journal: line {line}"),
+            Status::NoProfile => write!(f, "no profile"),
+            Status::TooManyHops { hops } => write!(f, "too many hops {hops}"),
+            Status::ConnectFault => write!(f, "connect fault"),
+            Status::Closed => write!(f, "closed"),
+            Status::BadReply => write!(f, "bad reply"),
+            Status::NoAnswer { quiets } => write!(f, "no answer {quiets}"),
             Status::LocRefused(fault) => write!(f, "{fault}"),
             Status::NoLoc => write!(f, "no corbaloc"),
         }

@@ -49,7 +49,7 @@ pub fn take_script<F: Files>(alloc: Global, name: &str, files: &mut F) -> Result
 }
 
 /// The content of a file of at most so many bytes, or the status with which the command ends.
-pub(crate) fn take<F: Files>(name: &str, limit: u64, files: &mut F) -> Result<Bytes, Status>
+pub fn take<F: Files>(name: &str, limit: u64, files: &mut F) -> Result<Bytes, Status>
     ensures taken { TakesFile name.now limit result (F.contents files.old) (F.contents files.new) }
     ensures contents { IfTold (F.contents files.old) (F.contents files.new) HoldsStill }
     ensures file_fault { HasCause (F.take_faults files.old) (F.take_faults files.new) (result ≡ Err Status.FileFault) }
