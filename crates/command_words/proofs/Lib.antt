@@ -5,3 +5,4 @@ pub mod Two
 pub mod Found
 pub mod Digits
 pub mod Noting
+pub mod Unargued

@@ -1,8 +1,10 @@
 -- The words of a command line.
-use Rattle.std.specs.Prelude.{ℕ, ◌==◌, ◌≤◌, Bool, true, false, if◌then◌else◌, List, [], ◌∷◌, Option, Some, None, option_map, codes, String, string_bytes, map}
+use Rattle.std.specs.Prelude.{ℕ, ◌≤◌, false, if◌then◌else◌, List, [], ◌∷◌, Option, Some, None, option_map, codes, String, string_bytes, map}
 use Rattle.std.specs.declared.alloc.Global.{Global}
 use Rattle.std.specs.Str.{bytes_eq}
 use Rattle.command_words.specs.Numbers.{long_number, number_in}
+pub use Rattle.command_words.specs.Arguments.{filled, plain, argument, with_argument, arguments_of, at_most_one, exactly_one, exactly_two, single}
+use Rattle.command_words.specs.Auditing.{Audit, audit_behind, seen_audit}
 use Rattle.command_words.specs.declared.command.Command.{Command}
 use Rattle.command_words.specs.declared.command.Command.TheVariants as command
 
@@ -16,58 +18,8 @@ pub data Meant : Type 0 where
   loc : List ℕ → Meant  -- to print the corbaloc text of the reference that this text is
   replay : List ℕ → List ℕ → Meant  -- to play, on the configuration in the first file, the script in the second
   load : ℕ → ℕ → Meant  -- to play so many draws of the generator that starts with the second number
-
--- a word that isn't empty
-abbrev pub filled : List ℕ → Option (List ℕ)
-filled [] = None
-filled (c ∷ cs) = Some (c ∷ cs)
-
--- a word that isn't empty and doesn't begin with `-`, whose code is 45
-abbrev pub plain : List ℕ → Option (List ℕ)
-plain [] = None
-plain (c ∷ cs) = if c == 45 then None else Some (c ∷ cs)
-
--- the argument that a word is, where the flag says that `--` came before: behind it an argument may begin with `-`
-abbrev pub argument : Bool → List ℕ → Option (List ℕ)
-argument true w = filled w
-argument false w = plain w
-
-abbrev pub with_argument : Option (List ℕ) → Option (List (List ℕ)) → Option (List (List ℕ))
-with_argument None more = None
-with_argument (Some w) None = None
-with_argument (Some w) (Some ws) = Some (w ∷ ws)
-
--- the arguments that words are, where the flag says that `--` came before
-abbrev pub arguments_of : Bool → List (List ℕ) → Option (List (List ℕ))
-arguments_of marked [] = Some []
-arguments_of true (w ∷ ws) = with_argument (argument true w) (arguments_of true ws)
-arguments_of false (w ∷ ws) =
-    if bytes_eq w (codes "--") then arguments_of true ws else with_argument (argument false w) (arguments_of false ws)
-
--- the only argument, if there is one
-abbrev pub at_most_one : Option (List (List ℕ)) → Option (Option (List ℕ))
-at_most_one None = None
-at_most_one (Some []) = Some None
-at_most_one (Some (a ∷ [])) = Some (Some a)
-at_most_one (Some (a ∷ b ∷ ws)) = None
-
-abbrev pub exactly_one : Option (List (List ℕ)) → Option (List ℕ)
-exactly_one None = None
-exactly_one (Some []) = None
-exactly_one (Some (a ∷ [])) = Some a
-exactly_one (Some (a ∷ b ∷ ws)) = None
-
-abbrev pub exactly_two : Option (List (List ℕ)) → Option (List ℕ × List ℕ)
-exactly_two None = None
-exactly_two (Some []) = None
-exactly_two (Some (a ∷ [])) = None
-exactly_two (Some (a ∷ b ∷ [])) = Some (a, b)
-exactly_two (Some (a ∷ b ∷ c ∷ ws)) = None
-
--- the only argument, which may be required
-abbrev pub single : Bool → Option (List (List ℕ)) → Option (Option (List ℕ))
-single true arguments = option_map Some (exactly_one arguments)
-single false arguments = at_most_one arguments
+  audit : Audit → Meant  -- to audit a journal
+  names : Meant  -- to serve by naming contexts
 
 -- a load, of both its numbers
 abbrev pub both : Option ℕ → Option ℕ → Option Meant
@@ -79,6 +31,12 @@ abbrev pub load_of : Option (List ℕ × List ℕ) → Option Meant
 load_of None = None
 load_of (Some words) = both (number_in 0 200000 words.0) (long_number words.1)
 
+-- to serve by naming contexts, where there is no argument
+abbrev pub names_of : Option (List (List ℕ)) → Option Meant
+names_of None = None
+names_of (Some []) = Some names
+names_of (Some (a ∷ ws)) = None
+
 -- the command of a first word, and of the arguments behind it
 abbrev pub named : List ℕ → Option (List (List ℕ)) → Option Meant
 named word arguments =
@@ -89,19 +47,21 @@ named word arguments =
     if bytes_eq word (codes "migrate") then option_map (λ words. migrate words.0 words.1) (exactly_two arguments) else (
     if bytes_eq word (codes "loc") then option_map loc (exactly_one arguments) else (
     if bytes_eq word (codes "replay") then option_map (λ files. replay files.0 files.1) (exactly_two arguments) else (
-    if bytes_eq word (codes "load") then load_of (exactly_two arguments) else None)))))))
+    if bytes_eq word (codes "load") then load_of (exactly_two arguments) else (
+    if bytes_eq word (codes "names") then names_of arguments else None))))))))
 
 abbrev pub command_of : List (List ℕ) → Option Meant
 command_of [] = None
-command_of (w ∷ ws) = named w (arguments_of false ws)
+command_of (w ∷ ws) = if bytes_eq w (codes "audit") then option_map audit (audit_behind ws) else named w (arguments_of false ws)
 
 -- the command that the words are, if they are one
 abbrev pub command_in : List (String Global) → Option Meant
 command_in words = command_of (map string_bytes words)
 
--- a load is of at most 200,000 calls
+-- a load is of at most 200,000 calls, and the run of a journal takes 1 to 4,000,000
 abbrev pub IsWithin : Meant → Type 0
 IsWithin (load n start) = n ≤ 200000
+IsWithin (audit a) = (1 ≤ a.limit) × (a.limit ≤ 4000000)
 IsWithin m = Unit {0}
 
 -- a command as the program has it
@@ -114,3 +74,5 @@ seen (command.Migrate config text) = migrate config.now text.now
 seen (command.Loc text) = loc text.now
 seen (command.Replay config script) = replay config.now script.now
 seen (command.Load calls start) = load calls start
+seen (command.Audit a) = audit (seen_audit a)
+seen command.Names = names

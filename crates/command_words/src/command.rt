@@ -1,4 +1,5 @@
 //! The commands.
+use crate::audit_words::AuditWords;
 
 /// What the words of a command line ask for.
 #[derive(Clone, Copy)]
@@ -33,4 +34,8 @@ pub enum Command<'a> {
         calls: u32,
         start: u64,
     },
+    /// To audit a journal.
+    Audit(AuditWords<'a>),
+    /// To serve messages by naming contexts.
+    Names,
 }

@@ -4,10 +4,12 @@ ghost use Rattle.command_words.specs.declared.fault.WordsFault.TheVariants.{BadW
 ghost use Rattle.command_words.specs.Words as spec;
 ghost use Rattle.command_words.specs.Words.{IsWithin, arguments_of, command_in, seen};
 
+use crate::audit_words::audit_words;
 use crate::command::Command;
 use crate::fault::WordsFault;
 use crate::numbers::{long_number, number_in};
 use crate::parsing::{one_argument, required_argument, two_arguments};
+use crate::words::no_argument;
 use std::alloc::Global;
 
 const MOST_CALLS: u32 = 200_000;
@@ -20,7 +22,12 @@ pub fn command_of<'a>(alloc: Global, words: &'a [String]) -> Result<Command<'a>,
 {
     match words {
         [] => Err(WordsFault::BadWords),
-        [word, rest @ ..] => named(alloc, word.as_str(), rest),
+        [word, rest @ ..] => {
+            if word.as_str() == "audit" {
+                return Ok(Command::Audit(audit_words(alloc, rest)?));
+            }
+            named(alloc, word.as_str(), rest)
+        }
     }
 }
 
@@ -47,6 +54,10 @@ fn named<'a>(alloc: Global, word: &str, rest: &'a [String]) -> Result<Command<'a
         "load" => {
             let (calls, start) = two_arguments(alloc, "load", rest)?;
             load_of(calls, start)
+        }
+        "names" => {
+            no_argument(rest)?;
+            Ok(Command::Names)
         }
         _ => Err(WordsFault::BadWords),
     }

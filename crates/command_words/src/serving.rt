@@ -2,10 +2,12 @@
 ghost use Rattle.std.specs.Prelude.{◌≡◌, ◌≤◌, IfOk, Err, Some, None, map, option_map, string_bytes};
 ghost use Rattle.command_words.specs.declared.fault.WordsFault.TheVariants.{BadWords};
 ghost use Rattle.command_words.specs.Serving as spec;
-ghost use Rattle.command_words.specs.Serving.{AreApart, seen_serve, seen_setting, serve_in, serve_of};
+ghost use Rattle.command_words.specs.Serving.{AreApart, seen_serve, serve_in, serve_of};
+ghost use Rattle.command_words.specs.Settings.{seen_setting};
 
 use crate::fault::WordsFault;
 use crate::numbers::number_in;
+use crate::optioned::Optioned;
 use crate::server::ServeWords;
 use crate::setting::Setting;
 use crate::settings::read_settings;
@@ -36,7 +38,7 @@ pub fn serve_words<'a>(alloc: Global, words: &'a [String]) -> Result<ServeWords<
             if word.as_str() != "serve" {
                 return Err(WordsFault::BadWords);
             }
-            let settings = read_settings(alloc, rest)?;
+            let settings = read_settings(alloc, Optioned::Serve, rest)?;
             serve_by(settings.as_slice())
         }
     }
@@ -72,8 +74,8 @@ fn serve_by<'a>(settings: &[Setting<'a>]) -> Result<ServeWords<'a>, WordsFault>
     })
 }
 
-// The number of calls that a word says a run takes at most.
-fn limit_of(word: Option<&str>) -> Result<u32, WordsFault>
+/// The number of calls that a word says a run takes at most.
+pub(crate) fn limit_of(word: Option<&str>) -> Result<u32, WordsFault>
     ensures ok { IfOk result (λ n. spec.limit_of (option_map (λ w. w.now) word.entry) ≡ Some n) }
     ensures within { IfOk result (λ n. (1 ≤ n) × (n ≤ 4000000)) }
     ensures bad { result ≡ Err BadWords → spec.limit_of (option_map (λ w. w.now) word.entry) ≡ None }

@@ -1,11 +1,12 @@
-//! The settings that words behind `serve` give.
+//! The settings that the words behind a command's name give.
 ghost use Rattle.std.specs.Prelude.{◌≡◌, IfErr, IfOk, Err, Some, None, map, option_map, string_bytes};
 ghost use Rattle.command_words.specs.declared.fault.WordsFault.TheVariants.{BadWords, WantMemory};
-ghost use Rattle.command_words.specs.Serving as spec;
-ghost use Rattle.command_words.specs.Serving.{seen_place, seen_setting, seen_step, settings_of};
+ghost use Rattle.command_words.specs.Settings as spec;
+ghost use Rattle.command_words.specs.Settings.{seen_place, seen_setting, seen_step, settings_of};
 ghost use Rattle.command_words.specs.Words.{argument};
 
 use crate::fault::WordsFault;
+use crate::optioned::Optioned;
 use crate::place::Place;
 use crate::setting::Setting;
 use crate::words::is_argument;
@@ -14,15 +15,16 @@ use std::alloc::Global;
 /// The settings of the words, in order.
 pub(crate) fn read_settings<'a>(
     alloc: Global,
+    command: Optioned,
     words: &'a [String],
 ) -> Result<Vec<Setting<'a>>, WordsFault>
-    ensures ok { IfOk result (λ settings. settings_of spec.among (map string_bytes words.now) ≡ Some (map seen_setting settings.items)) }
-    ensures bad { result ≡ Err BadWords → settings_of spec.among (map string_bytes words.now) ≡ None }
+    ensures ok { IfOk result (λ settings. settings_of command spec.among (map string_bytes words.now) ≡ Some (map seen_setting settings.items)) }
+    ensures bad { result ≡ Err BadWords → settings_of command spec.among (map string_bytes words.now) ≡ None }
 {
     let mut settings = Vec::new(alloc);
     let mut place = Place::Among;
     for word in words {
-        let Some((setting, next)) = word_at(place, word.as_str()) else {
+        let Some((setting, next)) = word_at(command, place, word.as_str()) else {
             return Err(WordsFault::BadWords);
         };
         note(&mut settings, setting)?;
@@ -50,11 +52,15 @@ fn note<'a>(settings: &mut Vec<Setting<'a>>, setting: Option<Setting<'a>>) -> Re
 }
 
 // The setting that a word gives, if any, and the place of the next word.
-fn word_at<'a>(place: Place<'a>, word: &'a str) -> Option<(Option<Setting<'a>>, Place<'a>)>
-    ensures { option_map seen_step result ≡ spec.word_at (seen_place place.entry) word.now }
+fn word_at<'a>(
+    command: Optioned,
+    place: Place<'a>,
+    word: &'a str,
+) -> Option<(Option<Setting<'a>>, Place<'a>)>
+    ensures { option_map seen_step result ≡ spec.word_at command (seen_place place.entry) word.now }
 {
     match place {
-        Place::Among => free_word(word),
+        Place::Among => free_word(command, word),
         Place::Behind(name) => {
             let setting = setting_of(name, word, false)?;
             Some((Some(setting), Place::Among))
@@ -67,8 +73,8 @@ fn word_at<'a>(place: Place<'a>, word: &'a str) -> Option<(Option<Setting<'a>>, 
 }
 
 // The same in front of the `--` that ends the options.
-fn free_word<'a>(word: &'a str) -> Option<(Option<Setting<'a>>, Place<'a>)>
-    ensures { option_map seen_step result ≡ spec.free_word word.now }
+fn free_word<'a>(command: Optioned, word: &'a str) -> Option<(Option<Setting<'a>>, Place<'a>)>
+    ensures { option_map seen_step result ≡ spec.free_word command word.now }
 {
     if word == "--" {
         return Some((None, Place::Last));
@@ -77,23 +83,27 @@ fn free_word<'a>(word: &'a str) -> Option<(Option<Setting<'a>>, Place<'a>)>
         [] => None,
         [b'-', ..] => {
             let (name, value) = parted(word);
-            option_of(name, value)
+            option_of(command, name, value)
         }
         _ => {
-            let file = Setting {
+            let argument = Setting {
                 name: "",
                 value: word,
             };
-            Some((Some(file), Place::Among))
+            Some((Some(argument), Place::Among))
         }
     }
 }
 
 // The same of an option whose name the word says, and perhaps its value.
-fn option_of<'a>(name: &'a str, value: Option<&'a str>) -> Option<(Option<Setting<'a>>, Place<'a>)>
-    ensures { option_map seen_step result ≡ spec.option_of name.now (option_map (λ v. v.now) value.entry) }
+fn option_of<'a>(
+    command: Optioned,
+    name: &'a str,
+    value: Option<&'a str>,
+) -> Option<(Option<Setting<'a>>, Place<'a>)>
+    ensures { option_map seen_step result ≡ spec.option_of command name.now (option_map (λ v. v.now) value.entry) }
 {
-    if !is_option(name) {
+    if !is_option(command, name) {
         return None;
     }
     match value {
@@ -117,13 +127,17 @@ fn setting_of<'a>(name: &'a str, word: &'a str, is_behind: bool) -> Option<Setti
     }
 }
 
-fn is_option(name: &str) -> bool
-    ensures { result ≡ spec.is_option name.now }
+fn is_option(command: Optioned, name: &str) -> bool
+    ensures { result ≡ spec.is_option command name.now }
 {
-    matches!(
-        name,
-        "--lanes" | "--workers" | "--run" | "--state" | "--journal" | "--limit"
-    )
+    match command {
+        Optioned::Serve => matches!(
+            name,
+            "--lanes" | "--workers" | "--run" | "--state" | "--journal" | "--limit"
+        ),
+        Optioned::Call => matches!(name, "--as" | "--hops"),
+        Optioned::Audit => name == "--limit",
+    }
 }
 
 // What a word says in front of its first `=`, and behind it where it has one.

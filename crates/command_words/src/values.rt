@@ -1,11 +1,12 @@
 //! The values of settings.
-ghost use Rattle.std.specs.Prelude.{◌≡◌, IfOk, Err, Some, None, map, option_map};
-ghost use Rattle.command_words.specs.declared.fault.WordsFault.TheVariants.{BadWords};
-ghost use Rattle.command_words.specs.Serving.{only, seen_setting, values_of};
+ghost use Rattle.std.specs.Prelude.{◌≡◌, IfErr, IfOk, Err, Some, None, [], ◌∷◌, ◌++◌, map, option_map};
+ghost use Rattle.command_words.specs.declared.fault.WordsFault.TheVariants.{BadWords, WantMemory};
+ghost use Rattle.command_words.specs.Settings.{only, seen_setting, values_of};
 ghost use Rattle.command_words.specs.Words.{at_most_one};
 
 use crate::fault::WordsFault;
 use crate::setting::Setting;
+use std::alloc::Global;
 
 /// The only value of this name.
 pub(crate) fn required<'a>(settings: &[Setting<'a>], name: &str) -> Result<&'a str, WordsFault>
@@ -34,4 +35,30 @@ pub(crate) fn optional<'a>(
         }
     }
     Ok(found)
+}
+
+/// All values of this name, in order.
+pub(crate) fn values<'a>(
+    alloc: Global,
+    settings: &[Setting<'a>],
+    name: &str,
+) -> Result<Vec<&'a str>, WordsFault>
+    ensures ok { IfOk result (λ found. map (λ v. v.now) found.items ≡ values_of name.now (map seen_setting settings.now)) }
+    ensures memory { IfErr result (λ fault. fault ≡ WantMemory) }
+{
+    let mut found = Vec::new(alloc);
+    for setting in settings {
+        if setting.name == name {
+            keep(&mut found, setting.value)?;
+        }
+    }
+    Ok(found)
+}
+
+// Puts a value behind the others.
+fn keep<'a>(found: &mut Vec<&'a str>, value: &'a str) -> Result<(), WordsFault>
+    ensures ok { IfOk result (λ _. found.new.items ≡ found.old.items ++ value.entry ∷ []) }
+    ensures memory { IfErr result (λ fault. fault ≡ WantMemory) }
+{
+    found.push(value).map_err(|_| WordsFault::WantMemory)
 }

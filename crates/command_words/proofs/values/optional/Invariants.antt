@@ -1,5 +1,5 @@
 use Rattle.std.proofs.Common.{◌≡◌, drop, map, option_map}
-use Rattle.command_words.specs.Serving.{seen_setting, values_of}
+use Rattle.command_words.specs.Settings.{seen_setting, values_of}
 use Rattle.command_words.proofs.Found.{found_first}
 use Rattle.command_words.proofs.values.optional.Given as goal
 

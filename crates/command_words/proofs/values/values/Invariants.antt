@@ -1,0 +1,8 @@
+use Rattle.std.proofs.Common.{◌≡◌, ◌++◌, drop, map}
+use Rattle.command_words.specs.Settings.{seen_setting, values_of}
+use Rattle.command_words.proofs.values.values.Given as goal
+
+abbrev pub invariant-loop-setting : goal.invariant-loop-setting
+invariant-loop-setting l =
+    map (λ v. v.now) l.found.items ++ values_of l.name (map seen_setting (drop l.setting-index l.settings))
+    ≡ values_of l.name (map seen_setting l.settings)

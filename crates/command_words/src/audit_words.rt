@@ -1,0 +1,65 @@
+//! The words of `audit`.
+ghost use Rattle.std.specs.Prelude.{◌≡◌, ◌≤◌, IfOk, Err, Some, None, map, string_bytes};
+ghost use Rattle.command_words.specs.declared.fault.WordsFault.TheVariants.{BadWords};
+ghost use Rattle.command_words.specs.Arguments.{exactly_two};
+ghost use Rattle.command_words.specs.Auditing.{audit_behind, audit_of, seen_audit};
+ghost use Rattle.command_words.specs.Settings.{seen_setting};
+
+use crate::fault::WordsFault;
+use crate::optioned::Optioned;
+use crate::serving::limit_of;
+use crate::setting::Setting;
+use crate::settings::read_settings;
+use crate::values::{optional, values};
+use std::alloc::Global;
+
+/// The audit of a journal that words ask for.
+#[derive(Clone, Copy)]
+pub struct AuditWords<'a> {
+    /// The name of the file with the configuration of the journal's run.
+    pub config: &'a str,
+    /// The name of the journal's file.
+    pub journal: &'a str,
+    /// How many calls the run takes: 1 to 4,000,000.
+    pub limit: u32,
+}
+
+/// The audit that the words behind `audit` ask for: `FILE JOURNAL [--limit N]`, the option in any place, at most once.
+pub(crate) fn audit_words<'a>(
+    alloc: Global,
+    words: &'a [String],
+) -> Result<AuditWords<'a>, WordsFault>
+    ensures ok { IfOk result (λ audit. audit_behind (map string_bytes words.now) ≡ Some (seen_audit audit)) }
+    ensures limit { IfOk result (λ audit. (1 ≤ audit.limit) × (audit.limit ≤ 4000000)) }
+    ensures bad { result ≡ Err BadWords → audit_behind (map string_bytes words.now) ≡ None }
+{
+    let settings = read_settings(alloc, Optioned::Audit, words)?;
+    audit_by(alloc, settings.as_slice())
+}
+
+// The same of the settings that the words give.
+fn audit_by<'a>(alloc: Global, settings: &[Setting<'a>]) -> Result<AuditWords<'a>, WordsFault>
+    ensures ok { IfOk result (λ audit. audit_of (map seen_setting settings.now) ≡ Some (seen_audit audit)) }
+    ensures limit { IfOk result (λ audit. (1 ≤ audit.limit) × (audit.limit ≤ 4000000)) }
+    ensures bad { result ≡ Err BadWords → audit_of (map seen_setting settings.now) ≡ None }
+{
+    let arguments = values(alloc, settings, "")?;
+    let (config, journal) = two_of(arguments.as_slice())?;
+    let limit = limit_of(optional(settings, "--limit")?)?;
+    Ok(AuditWords {
+        config,
+        journal,
+        limit,
+    })
+}
+
+// The arguments, where there are two.
+fn two_of<'a>(arguments: &[&'a str]) -> Result<(&'a str, &'a str), WordsFault>
+    ensures ok { IfOk result (λ files. exactly_two (Some (map (λ a. a.now) arguments.now)) ≡ Some (files.0.now, files.1.now)) }
+    ensures bad { result ≡ Err BadWords → exactly_two (Some (map (λ a. a.now) arguments.now)) ≡ None }
+{
+    match arguments {
+        [config, journal] => Ok((*config, *journal)),
+        _ => Err(WordsFault::BadWords),
+    }
+}
