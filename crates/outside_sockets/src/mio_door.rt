@@ -14,6 +14,10 @@ use std::io;
 use std::io::ErrorKind;
 use std::net::TcpListener;
 use std::sync::Arc;
+use std::time::Duration;
+
+// How many seconds a read of a link waits.
+const PATIENCE: u64 = 1;
 
 /// One of the doors to a listening socket, which share it: each gives a link at a time, with the ears that came
 /// back with the last one. It tells no content, and never ends. Where nobody comes in the time of the socket it says
@@ -81,7 +85,11 @@ impl MioDoor {
             return Err(io::Error::from(ErrorKind::ResourceBusy));
         };
         match ears.attach(&mut stream) {
-            Ok(()) => Ok(MioLink::new(stream, peer, ears, self.silent_ones.take())),
+            Ok(()) => {
+                let patience = Duration::from_secs(PATIENCE);
+                let silent_ones = self.silent_ones.take();
+                Ok(MioLink::new(stream, peer, ears, patience, silent_ones))
+            }
             Err(error) => {
                 self.ears = Some(ears);
                 Err(error)

@@ -10,9 +10,10 @@ use mio::net::TcpStream;
 use outside::{Alarm, Link, Took, Wrote};
 use poa_base::WantMemory;
 use std::net::SocketAddr;
+use std::time::Duration;
 
-/// A link over a connected socket. It tells no content. A read that finds nothing waits for input, its alarm or a
-/// second, and then says `Quiet`. A peer that takes nothing for half a minute is a fault of the write. Where the link
+/// A link over a connected socket. It tells no content. A read that finds nothing waits for input, its alarm or its
+/// patience, and then says `Quiet`. A peer that takes nothing for half a minute is a fault of the write. Where the link
 /// knows who may wait for its end, a peer that keeps one waiting by its silence is a fault of the read.
 #[derive(Drop)]
 pub struct MioLink {
@@ -20,9 +21,9 @@ pub struct MioLink {
     silent_ones: Option<SilentOnes>,
     owed: Owed,
     traffic: Traffic,
-    read_faults: u64,
-    write_faults: u64,
-    quiets: u64,
+    pub(crate) read_faults: u64,
+    pub(crate) write_faults: u64,
+    pub(crate) quiets: u64,
 }
 
 impl MioLink {
@@ -30,10 +31,11 @@ impl MioLink {
         stream: TcpStream,
         peer: SocketAddr,
         ears: Ears,
+        patience: Duration,
         silent_ones: Option<SilentOnes>,
     ) -> Self {
         MioLink {
-            socket: Socket::new(stream, ears),
+            socket: Socket::new(stream, ears, patience),
             silent_ones,
             owed: Owed::none(),
             traffic: Traffic::none(peer),

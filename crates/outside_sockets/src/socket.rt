@@ -9,10 +9,10 @@ use std::io::{ErrorKind, Read, Write};
 use std::net::Shutdown;
 use std::time::Duration;
 
-// How many seconds a read waits, and a write before it looks again.
-const PATIENCE: u64 = 1;
+// How many seconds a write waits before it looks again.
+const WRITE_PATIENCE: u64 = 1;
 
-// For so many times this patience a peer may take nothing, or say nothing while another waits.
+// For so many such times a peer may take nothing, and for so many waits of reads say nothing while another waits.
 const SILENT_WAITS: u32 = 30;
 
 // How many pieces of input are thrown away at the end.
@@ -23,6 +23,8 @@ const LAST_READS: u32 = 16;
 pub(crate) struct Socket {
     stream: TcpStream,
     ears: Ears,
+    /// How long a read waits.
+    patience: Duration,
     /// The last read found less than it asked for, and no input was heard since.
     is_drained: bool,
     /// The peer closed. Its close is heard only once, so nothing is waited for after it.
@@ -34,10 +36,11 @@ pub(crate) struct Socket {
 }
 
 impl Socket {
-    pub(crate) fn new(stream: TcpStream, ears: Ears) -> Self {
+    pub(crate) fn new(stream: TcpStream, ears: Ears, patience: Duration) -> Self {
         Socket {
             stream,
             ears,
+            patience,
             is_drained: true,
             is_closing: false,
             is_rung: false,
@@ -54,13 +57,13 @@ impl Socket {
         self.silent_waits >= SILENT_WAITS
     }
 
-    /// Reads what is there. Where nothing is, it waits for input, the alarm or a second.
+    /// Reads what is there. Where nothing is, it waits for input, the alarm or its patience.
     pub(crate) fn receive(&mut self, buf: &mut [u8]) -> Took
         requires { 0 < length buf.old }
         ensures { IsWithin result (length buf.old) }
     {
         if self.is_drained {
-            if !self.is_rung && self.wait() {
+            if !self.is_rung && self.wait(self.patience) {
                 self.silent_waits = self.silent_waits.saturating_add(1);
             }
             self.is_rung = false;
@@ -109,7 +112,7 @@ impl Socket {
                     return Some(count);
                 }
                 Err(error) if error.kind() == ErrorKind::WouldBlock => {
-                    if self.wait() {
+                    if self.wait(Duration::from_secs(WRITE_PATIENCE)) {
                         silent = silent.saturating_add(1);
                     }
                     if silent >= SILENT_WAITS {
@@ -123,9 +126,9 @@ impl Socket {
         None
     }
 
-    // Waits until something is heard, and keeps it. Answers whether nothing was.
-    fn wait(&mut self) -> bool {
-        let Ok(heard) = self.ears.hear(Duration::from_secs(PATIENCE)) else {
+    // Waits until something is heard, for so long at most, and keeps it. Answers whether nothing was.
+    fn wait(&mut self, most: Duration) -> bool {
+        let Ok(heard) = self.ears.hear(most) else {
             // What can't be heard a read will show.
             self.is_drained = false;
             return true;
