@@ -1,0 +1,4 @@
+pub mod Asking
+pub mod Result
+pub mod Line
+pub mod Calling
