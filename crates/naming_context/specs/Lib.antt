@@ -1,0 +1,12 @@
+pub mod Standing
+pub mod Kept
+pub mod Names
+pub mod Operations
+pub mod Keys
+pub mod Outcomes
+pub mod Leading
+pub mod Table
+pub mod Asking
+pub mod Reading
+pub mod Replies
+pub mod Serving

@@ -1,0 +1,5 @@
+mod Noting
+mod Messages
+mod Serving
+mod Pieces
+pub mod Running

@@ -1,0 +1,5 @@
+pub mod Serving
+pub mod Stop
+pub mod Run
+pub mod Service
+pub mod Piece

@@ -1,0 +1,9 @@
+//! `names`: the GIOP messages of a source are served, in order, by naming contexts, and their replies are written to a
+//! sink.
+#![tactic(auto)]
+
+mod naming;
+mod service;
+mod stop;
+
+pub use naming::names;

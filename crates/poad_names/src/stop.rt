@@ -1,0 +1,14 @@
+//! Why serving stops.
+
+/// Why serving stops.
+#[derive(Clone, Copy)]
+pub(crate) enum Stop {
+    /// No whole message is left, and no bad one; so many bytes belong to none.
+    Waits { have: u64 },
+    /// A CloseConnection.
+    Closed,
+    /// A bad place or message, or one that isn't for a server, starts here.
+    Refused { at: u64 },
+    /// No memory was left.
+    NoMemory,
+}
