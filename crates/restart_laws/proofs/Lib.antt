@@ -1,0 +1,3 @@
+mod KindStays
+mod Untouched
+pub mod Going
