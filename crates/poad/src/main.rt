@@ -12,6 +12,8 @@ mod watched_door;
 use crate::kept_files::KeptFiles;
 use crate::serving::serve;
 use outside::{StandardInput, StandardOutput, SystemFiles};
+use outside_sockets::MioConnector;
+use poad_call::run_call;
 use poad_cmd::run_words;
 use poad_files::{Host, Status};
 use std::env;
@@ -56,6 +58,10 @@ fn run<R: Threads + Wait + Copy + Send + Drop + 'static>(
         [first, ..] if first.as_str() == "serve" => {
             let mut host = host_of(rt, KeptFiles::new(alloc, files));
             serve(rt, threads, words, &mut host)
+        }
+        [first, ..] if first.as_str() == "call" => {
+            let mut connector = MioConnector::new(alloc, *rt);
+            run_call(alloc, words, &mut host_of(rt, files), &mut connector)
         }
         _ => run_words(alloc, words, &mut host_of(rt, files)),
     }

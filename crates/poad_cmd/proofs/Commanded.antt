@@ -2,7 +2,7 @@
 use Rattle.std.proofs.Common.{◌≡◌, Option, Some, None, sym, ◌∙◌, subst}
 use Rattle.command_words.specs.Words.{Meant}
 
-some_is : (m n : Meant) → Some m ≡ Some n → m ≡ n
+pub some_is : (m n : Meant) → Some m ≡ Some n → m ≡ n
 some_is m n e = cc
 
 pub as_meant : (Says : Meant → Type 0) (m n : Meant) (found : Option Meant) → found ≡ Some m → found ≡ Some n → Says m → Says n

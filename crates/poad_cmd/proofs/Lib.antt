@@ -4,3 +4,9 @@ pub mod Statuses
 pub mod Telling
 pub mod Opening
 pub mod Kept
+pub mod Longer
+pub mod Counting
+pub mod Heard
+pub mod Wholly
+pub mod Completed
+pub mod Roomy

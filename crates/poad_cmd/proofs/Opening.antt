@@ -13,10 +13,10 @@ use Rattle.poad_files.specs.StateFile.{state_limit, ReadsState}
 use Rattle.poad_files.specs.Taking.{HoldsStill, TakesConfig}
 use Rattle.poad_files.specs.declared.status.Status.{Status}
 use Rattle.poad_files.specs.declared.status.Status.TheVariants as status
+use Rattle.poad_files.proofs.Files.{config_on, held_before}
 use Rattle.poad_files.proofs.Told.{told_then}
 use Rattle.poad_cmd.specs.declared.beginning.Beginning.{Beginning}
 use Rattle.poad_cmd.specs.Beginning.{BeginsBy, IsBegun, IsUnbegun, OpensWith}
-use Rattle.poad_cmd.proofs.Played.{config_on, held_before}
 
 state_before : (name : Option (List ℕ)) (slots : Slots) (a b c : Option Contents) → IfTold a b HoldsStill → OpensWith name (Ok slots) b c
     → OpensWith name (Ok slots) a c

@@ -7,31 +7,10 @@ use Rattle.poa_base.specs.declared.Config.{Config}
 use Rattle.replay_script.specs.declared.Script.{Script}
 use Rattle.poad_files.specs.declared.status.Status.{Status}
 use Rattle.poad_files.specs.declared.status.Status.TheVariants as status
-use Rattle.poad_files.specs.Taking.{HoldsStill, config_limit, script_limit, OfContent, ReadsConfig, ReadsScript, TakesConfig, TakesScript}
+use Rattle.poad_files.specs.Taking.{HoldsStill, script_limit, ReadsScript, TakesConfig, TakesScript}
 use Rattle.poad_files.proofs.Told.{told_then}
-use Rattle.poad_files.proofs.Files.{same_held}
+use Rattle.poad_files.proofs.Files.{config_on, held_before, same_held}
 use Rattle.poad_cmd.specs.Playing.{no_config, no_script, PlaysFiles, PlaysScript, PlaysTaken}
-
--- what was held before a take that left all is held before the next
-held_on : (name : List ℕ) (limit : ℕ) (Reads : List ℕ → Type 0) (a b c : Option Contents) → OfContent name limit Reads a b → IfTold b c HoldsStill
-    → OfContent name limit Reads a c
-held_on name limit Reads a b c o still = record {
-  content = o.content;
-  held = record { within = o.held.within; held = told_then a b c _ _ _ (λ x y z p q. p) o.held.held still };
-  reads = o.reads;
-}
-
-pub held_before : (name : List ℕ) (limit : ℕ) (Reads : List ℕ → Type 0) (a b c : Option Contents) → IfTold a b HoldsStill → OfContent name limit Reads b c
-    → OfContent name limit Reads a c
-held_before name limit Reads a b c still o = record {
-  content = o.content;
-  held = record { within = o.held.within; held = told_then a b c _ _ _ (λ x y z p q. sym (p name) ∙ q) still o.held.held };
-  reads = o.reads;
-}
-
-pub config_on : (name : List ℕ) (config : Config) (a b c : Option Contents) → TakesConfig name (Ok config) a b → IfTold b c HoldsStill
-    → TakesConfig name (Ok config) a c
-config_on name config a b c t still = held_on name config_limit (λ content. ReadsConfig content (Ok config)) a b c t still
 
 script_before : (name : List ℕ) (script : Script) (a b c : Option Contents) → IfTold a b HoldsStill → TakesScript name (Ok script) b c
     → TakesScript name (Ok script) a c

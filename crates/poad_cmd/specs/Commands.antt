@@ -1,7 +1,7 @@
 -- What a command does. These words are for a contract inside of this crate.
 use Rattle.std.specs.Prelude.{◌≡◌, ℕ, List, Option}
 use Rattle.outside.specs.Keeping.{Contents}
-use Rattle.command_words.specs.Words.{Meant, answer, load, show, check, iors, migrate, loc, replay}
+use Rattle.command_words.specs.Words.{Meant, answer, audit, load, names, show, check, iors, migrate, loc, replay}
 use Rattle.poad_files.specs.declared.Asked.TheVariants.{Counts, References}
 use Rattle.poad_files.specs.Filing.{Filed}
 use Rattle.poad_files.specs.Migrating.{MigratesFile}
@@ -9,8 +9,10 @@ use Rattle.poad_files.specs.Locating.{Locates}
 use Rattle.poad_files.specs.Showing.{Tells}
 use Rattle.poad_files.specs.declared.status.Status.{Status}
 use Rattle.poad_answer.specs.Answering.{AnswersBy}
+use Rattle.poad_audit.specs.Auditing.{AuditsFiles}
 use Rattle.poad_cmd.specs.Playing.{PlaysFiles}
 use Rattle.poad_load.specs.Writing.{LoadGives}
+use Rattle.poad_names.specs.Run.{RunNames}
 
 -- by the contents of the files, what is left of the source and what the sink holds, before and after, and by the source and the files
 -- themselves
@@ -32,3 +34,7 @@ Does (iors name) status old new left_old left_new held_old held_new source_old s
     Filed References name status old new held_old held_new × (source_new ≡ source_old)
 Does (migrate name text) status old new left_old left_new held_old held_new source_old source_new files_old files_new =
     MigratesFile name text status old new held_old held_new × (source_new ≡ source_old)
+Does (audit a) status old new left_old left_new held_old held_new source_old source_new files_old files_new =
+    AuditsFiles a.config a.journal a.limit status old new held_old held_new × (source_new ≡ source_old)
+Does names status old new left_old left_new held_old held_new source_old source_new files_old files_new =
+    RunNames status left_old left_new held_old held_new × (files_new ≡ files_old)

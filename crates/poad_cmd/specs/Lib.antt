@@ -1,4 +1,5 @@
 pub mod Playing
+pub mod Complete
 pub mod Commands
 pub mod Beginning
 pub mod Putting

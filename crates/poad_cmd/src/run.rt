@@ -2,11 +2,14 @@
 ghost use Rattle.std.specs.Prelude.{◌≡◌, ◌≢◌, ◌⊎◌, ℕ, List, Option, Some, None, false};
 ghost use Rattle.outside.specs.Cause.{HasCause};
 ghost use Rattle.outside.specs.Told.{IfTold};
+ghost use Rattle.command_words.specs.Auditing.{Audit};
 ghost use Rattle.command_words.specs.Words as spec;
-ghost use Rattle.command_words.specs.Words.{IsWithin, command_in, seen};
+ghost use Rattle.command_words.specs.Words.{IsWithin, Meant, command_in, seen};
 ghost use Rattle.poad_files.specs.declared.Asked.TheVariants.{Counts, References};
 ghost use Rattle.poad_answer.specs.Answering.{AnswersBy};
+ghost use Rattle.poad_audit.specs.Auditing.{AuditsFiles};
 ghost use Rattle.poad_cmd.specs.Commands.{Does};
+ghost use Rattle.poad_cmd.specs.Complete.{Fits, IsCalm};
 ghost use Rattle.poad_cmd.specs.Playing.{PlaysFiles};
 ghost use Rattle.poad_files.specs.Migrating.{MigratesFile};
 ghost use Rattle.poad_files.specs.Locating.{Locates};
@@ -14,13 +17,16 @@ ghost use Rattle.poad_files.specs.Showing.{Tells};
 ghost use Rattle.poad_files.specs.Filing.{Filed};
 ghost use Rattle.poad_files.specs.Taking.{HoldsStill};
 ghost use Rattle.poad_load.specs.Writing.{LoadGives};
+ghost use Rattle.poad_names.specs.Run.{RunNames};
 
 use crate::playing::play_files;
 use command_words::{Command, WordsFault, command_of};
 use outside::{Files, Sink, Source};
 use poad_answer::answer_by;
+use poad_audit::audit_files;
 use poad_files::{Asked, Host, Status, migrate_file, print_file, print_loc, show_text};
 use poad_load::load;
+use poad_names::names;
 use std::alloc::Global;
 
 /// Does what the words say.
@@ -35,23 +41,30 @@ use std::alloc::Global;
 /// - `check FILE`: reads the configuration in the file, and prints how many there are of each kind.
 /// - `iors FILE`: reads the configuration in the file, and prints the references of its objects.
 /// - `migrate FILE IOR`: reads the configuration in the file, and prints the reference with the tags of its adapters.
+/// - `audit FILE JOURNAL [--limit N]`: reads the journal in the second file, as one of a run of the configuration in the
+///   first that takes N calls, and prints `legal N`, of so many entries, or `illegal K RULE`, of the first that may not
+///   follow those before it, counted from 0.
+/// - `names`: reads GIOP messages from the source, serves them by naming contexts, of which one alone is there at first, with
+///   nothing bound, and writes the replies to the sink.
 ///
 /// The source is one that doesn't wait: a read of it waits until something is there.
 ///
 /// How it ends:
-/// - `Ok`: `answer` read the source to its end, or to a CloseConnection, and every owed reply was written; or
+/// - `Ok`: `answer` or `names` read the source to its end, or to a CloseConnection, and every owed reply was written; or
 ///   what the other commands print was written whole. No call is unadmitted.
 /// - `Held`: the same of `answer` and `replay`, but so many calls are unadmitted.
 /// - `Limit`: `answer` came to a call that the run refuses: the replies to those before it were written, and then
 ///   CloseConnection. Or `replay` came to such a call or connection, and what the script prints was written whole.
 /// - `ScriptRefused`: this line of the script is the first outside the grammar. Nothing was written.
+/// - `Illegal`: this entry of the journal is the first that isn't legal. The line that says so was written.
+/// - `JournalRefused`: this line of the journal is the first outside the grammar. Nothing was written.
 /// - `BadWords`: the words are none of these commands. Nothing was read or written.
 /// - `TextRefused`: the text of `show`, `migrate` or `loc` is no reference, with its first fault. Nothing was written.
 /// - `LocRefused`: the text of `show` or `migrate` begins as a corbaloc text and is none, with its first fault. Nothing was
 ///   written.
 /// - `NoLoc`: the reference of `loc` has no corbaloc text. Nothing was written.
-/// - `NoFile`, `FileTooLong`, `FileFault`: a file isn't there, is longer than a configuration or a script may be,
-///   or a read of it failed in this call. Nothing was written.
+/// - `NoFile`, `FileTooLong`, `FileFault`: a file isn't there, is longer than a configuration, a script or a
+///   journal may be, or a read of it failed in this call. Nothing was written.
 /// - `ConfigRefused`: the file holds no configuration, with its first fault. Nothing was written.
 /// - `Malformed`: the first bad message of the source starts at this byte. The replies to the messages before
 ///   it were written, and then MessageError (CORBA 3.3 Part 2, 9.4.8).
@@ -62,7 +75,8 @@ use std::alloc::Global;
 ///   of reading every reply that was due was written, and after one of writing a front of what was due.
 /// - `WantMemory`: no memory was left. A front of what was due was written.
 ///
-/// No other status comes.
+/// No other status comes. Where no count of faults rises, and what the command works on is accepted and within its limits, it
+/// ends in `Ok` or `WantMemory`.
 pub fn run_words<S: Source, K: Sink, F: Files>(
     alloc: Global,
     words: &[String],
@@ -98,12 +112,23 @@ pub fn run_words<S: Source, K: Sink, F: Files>(
     ensures migrates { (name text : List ℕ) → command_in words.now ≡ Some (spec.migrate name text)
         → MigratesFile name text result (F.contents host.old.files) (F.contents host.new.files) (K.held host.old.sink) (K.held host.new.sink)
         × (host.new.source ≡ host.old.source) }
+    ensures audits { (asked : Audit) → command_in words.now ≡ Some (spec.audit asked)
+        → AuditsFiles asked.config asked.journal asked.limit result (F.contents host.old.files) (F.contents host.new.files)
+        (K.held host.old.sink) (K.held host.new.sink) × (host.new.source ≡ host.old.source) }
+    ensures names { command_in words.now ≡ Some spec.names
+        → RunNames result (S.left host.old.source) (S.left host.new.source) (K.held host.old.sink) (K.held host.new.sink)
+        × (host.new.files ≡ host.old.files) }
     ensures contents { IfTold (F.contents host.old.files) (F.contents host.new.files) HoldsStill }
     ensures read_fault { HasCause (S.read_faults host.old.source) (S.read_faults host.new.source) (result ≡ Status.ReadFault) }
     ensures write_fault { HasCause (K.write_faults host.old.sink) (K.write_faults host.new.sink) (result ≡ Status.WriteFault) }
     ensures file_fault { HasCause (F.take_faults host.old.files) (F.take_faults host.new.files) (result ≡ Status.FileFault) }
     ensures no_file { HasCause (F.absents host.old.files) (F.absents host.new.files) (result ≡ Status.NoFile) }
     ensures too_long { HasCause (F.long_ones host.old.files) (F.long_ones host.new.files) (result ≡ Status.FileTooLong) }
+    ensures complete { (meant : Meant) → command_in words.now ≡ Some meant
+        → IsCalm (S.read_faults host.old.source) (S.read_faults host.new.source) (K.write_faults host.old.sink)
+        (K.write_faults host.new.sink) (F.take_faults host.old.files) (F.take_faults host.new.files)
+        → Fits meant (F.contents host.old.files) (S.left host.old.source)
+        → (result ≡ Status.Ok) ⊎ (result ≡ Status.WantMemory) }
 {
     match command_of(alloc, words) {
         Ok(command) => run_command(alloc, command, host),
@@ -164,6 +189,17 @@ fn run_command<S: Source, K: Sink, F: Files>(
                 alloc,
                 config,
                 text.as_bytes(),
+                &mut host.files,
+                &mut host.sink,
+            )
+        }
+        Command::Names => names(alloc, &mut host.source, &mut host.sink),
+        Command::Audit(asked) => {
+            audit_files(
+                alloc,
+                asked.config,
+                asked.journal,
+                asked.limit,
                 &mut host.files,
                 &mut host.sink,
             )

@@ -1,9 +1,10 @@
 //! `serve` by the words of a command line.
-ghost use Rattle.std.specs.Prelude.{◌≡◌, ◌≢◌, [], Some, None, vec_len};
+ghost use Rattle.std.specs.Prelude.{◌≡◌, ◌≢◌, ◌⊎◌, [], Some, None, IfSome, vec_len};
 ghost use Rattle.command_words.specs.Serving.{Serve, seen_serve, serve_in};
 ghost use Rattle.outside.specs.Cause.{HasCause, Rose};
 ghost use Rattle.outside.specs.Told.{IfTold};
 ghost use Rattle.poa_history.specs.Life.{Life};
+ghost use Rattle.poad_cmd.specs.Complete.{AreCalm, CanBegin, IsRoomy, IsSteady};
 ghost use Rattle.poad_cmd.specs.Putting.{Keeps};
 ghost use Rattle.poad_cmd.specs.Serving.{Ends, ServesOn};
 ghost use Rattle.poad_cmd.specs.Beginning.{IsInRange};
@@ -38,7 +39,8 @@ use std::thread::Threads;
 /// - `Limit`: a call or a connection was refused for the limits of the run.
 /// - `Ok`: an administrator said `shutdown`, or each door ended.
 ///
-/// No other status comes.
+/// No other status comes. Where no count of faults rises, the run can begin by the files, and it met no limit, it ends in `Ok`
+/// or `WantMemory`.
 pub fn run_serve<T, R, S, K, F, A, G>(
     rt: &R,
     alloc: Global,
@@ -72,6 +74,11 @@ where
     ensures all_put { result.status ≡ Status.Ok → F.put_faults host.new.files ≡ F.put_faults host.old.files }
     ensures no_thread { result.status ≡ Status.NoThread → Rose crew.old.faults crew.new.faults }
     ensures all_started { result.status ≡ Status.Ok → crew.new.faults ≡ crew.old.faults }
+    ensures complete { (serve : Serve) → serve_in words.now ≡ Some serve
+        → IsSteady (F.take_faults host.old.files) (F.take_faults host.new.files) (F.put_faults host.old.files)
+        (F.put_faults host.new.files) crew.old.faults crew.new.faults
+        → AreCalm A.faults doors result.doors → CanBegin serve (F.contents host.old.files) → IfSome result.core IsRoomy
+        → (result.status ≡ Status.Ok) ⊎ (result.status ≡ Status.WantMemory) }
 {
     match begin(alloc, words, &mut host.files) {
         Ok(beginning) => serve_by(rt, alloc, beginning, &mut host.files, doors, crew, gate),

@@ -51,3 +51,19 @@ returns-in-Migrate-clause-does g c =
           c.as_bytes-in-Migrate.ensures.value c.migrate_file.ensures.migrates,
       refl,
     )
+
+pub returns-in-Audit-clause-does : goal.returns-in-Audit-clause-does
+returns-in-Audit-clause-does g c =
+    subst (λ (k : Command). Does (seen k) c.audit_files.result (g.F.Files.contents c.args.host.now.files)
+    (g.F.Files.contents c.audit_files.new.files) (g.S.Source.left c.args.host.now.source) (g.S.Source.left c.args.host.now.source)
+    (g.K.Sink.held c.args.host.now.sink) (g.K.Sink.held c.audit_files.new.sink) c.args.host.now.source c.args.host.now.source c.args.host.now.files
+    c.audit_files.new.files)
+    (sym c.in-Audit.is) (c.audit_files.ensures.audits, refl)
+
+pub returns-in-Names-clause-does : goal.returns-in-Names-clause-does
+returns-in-Names-clause-does g c =
+    subst (λ (k : Command). Does (seen k) c.names.result (g.F.Files.contents c.args.host.now.files)
+    (g.F.Files.contents c.args.host.now.files) (g.S.Source.left c.args.host.now.source) (g.S.Source.left c.names.new.source)
+    (g.K.Sink.held c.args.host.now.sink) (g.K.Sink.held c.names.new.sink) c.args.host.now.source c.names.new.source c.args.host.now.files
+    c.args.host.now.files)
+    (sym c.in-Names.is) (c.names.ensures.names, refl)

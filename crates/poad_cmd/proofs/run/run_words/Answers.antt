@@ -1,7 +1,11 @@
 -- The words are a command, which is done, or none.
-use Rattle.command_words.specs.Words.{Meant, answer, load, show, check, iors, migrate, loc, replay, command_in, seen}
+use Rattle.std.proofs.Common.{refl, sym, ◌∙◌, subst}
+use Rattle.command_words.specs.Words.{Meant, answer, audit, load, names, show, check, iors, migrate, loc, replay, command_in, seen}
 use Rattle.poad_cmd.specs.Commands.{Does}
-use Rattle.poad_cmd.proofs.Commanded.{as_meant, not_none}
+use Rattle.poad_cmd.specs.Complete.{Fits}
+use Rattle.poad_cmd.proofs.Commanded.{as_meant, not_none, some_is}
+use Rattle.poad_cmd.proofs.Completed.{completes}
+use Rattle.poad_names.proofs.Running.{run_refused}
 use Rattle.poad_cmd.proofs.run.run_words.Goals as goal
 
 pub returns-in-Ok-clause-bad_words : goal.returns-in-Ok-clause-bad_words
@@ -76,3 +80,32 @@ returns-in-Ok-clause-migrates g c name text meant = as_meant
     (g.K.Sink.held c.args.host.now.sink) (g.K.Sink.held c.run_command.new.host.sink) c.args.host.now.source c.run_command.new.host.source c.args.host.now.files
     c.run_command.new.host.files)
     (seen c.in-Ok.command) (migrate name text) (command_in c.args.words.now) c.in-Ok.ensures.ok meant c.run_command.ensures.does
+
+pub returns-in-Ok-clause-audits : goal.returns-in-Ok-clause-audits
+returns-in-Ok-clause-audits g c asked meant = as_meant
+    (λ (m : Meant). Does m c.run_command.result (g.F.Files.contents c.args.host.now.files) (g.F.Files.contents c.run_command.new.host.files)
+    (g.S.Source.left c.args.host.now.source) (g.S.Source.left c.run_command.new.host.source)
+    (g.K.Sink.held c.args.host.now.sink) (g.K.Sink.held c.run_command.new.host.sink) c.args.host.now.source c.run_command.new.host.source c.args.host.now.files
+    c.run_command.new.host.files)
+    (seen c.in-Ok.command) (audit asked) (command_in c.args.words.now) c.in-Ok.ensures.ok meant c.run_command.ensures.does
+
+pub returns-in-Err-WantMemory-clause-names : goal.returns-in-Err-WantMemory-clause-names
+returns-in-Err-WantMemory-clause-names g c meant = (run_refused _ _, refl)
+
+pub returns-in-Ok-clause-names : goal.returns-in-Ok-clause-names
+returns-in-Ok-clause-names g c meant = as_meant
+    (λ (m : Meant). Does m c.run_command.result (g.F.Files.contents c.args.host.now.files) (g.F.Files.contents c.run_command.new.host.files)
+    (g.S.Source.left c.args.host.now.source) (g.S.Source.left c.run_command.new.host.source)
+    (g.K.Sink.held c.args.host.now.sink) (g.K.Sink.held c.run_command.new.host.sink) c.args.host.now.source c.run_command.new.host.source c.args.host.now.files
+    c.run_command.new.host.files)
+    (seen c.in-Ok.command) names (command_in c.args.words.now) c.in-Ok.ensures.ok meant c.run_command.ensures.does
+
+pub returns-in-Ok-clause-complete : goal.returns-in-Ok-clause-complete
+returns-in-Ok-clause-complete g c meant is calm fits =
+    completes (seen c.in-Ok.command) c.run_command.result (g.F.Files.contents c.args.host.now.files) (g.F.Files.contents c.run_command.new.host.files)
+    (g.S.Source.left c.args.host.now.source) (g.S.Source.left c.run_command.new.host.source)
+    (g.K.Sink.held c.args.host.now.sink) (g.K.Sink.held c.run_command.new.host.sink) c.args.host.now.source c.run_command.new.host.source c.args.host.now.files
+    c.run_command.new.host.files _ _ _ _ _ _ c.run_command.ensures.does c.run_command.ensures.read_fault c.run_command.ensures.write_fault
+    c.run_command.ensures.file_fault calm
+    (subst (λ (m : Meant). Fits m (g.F.Files.contents c.args.host.now.files) (g.S.Source.left c.args.host.now.source))
+    (some_is meant (seen c.in-Ok.command) (sym is ∙ c.in-Ok.ensures.ok)) fits)
