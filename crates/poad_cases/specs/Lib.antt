@@ -1,1 +1,2 @@
 pub mod Porch
+pub mod Wires

@@ -1,9 +1,11 @@
 //! The lines of a case.
 use crate::case::Case;
+use crate::dial_case::DialCase;
 use crate::door_case::DoorCase;
 use crate::link_case::LinkCase;
-use crate::words::{Messages, bytes_of, filling, number, numbers, texts};
+use crate::words::{Messages, bytes_of, filling, number, numbers, port_of, texts};
 use anyhow::{Result, bail};
+use poa_base::{Bytes, Endpoint};
 
 impl Case {
     /// Does a line of the case, which has these words.
@@ -13,6 +15,7 @@ impl Case {
             [b"lane"] => self.begin_lane()?,
             [b"administrators"] => self.is_at_administrators = true,
             [b"link"] => self.begin_link()?,
+            [b"dial", host, port] => self.begin_dial(host, port)?,
             [b"fails", kind, calls @ ..] => self.add_failures(kind, calls)?,
             [b"holds", length] => self.held_for = Some(number(length)? as usize),
             [b"takes", count] => self.limit = Some(number(count)?),
@@ -49,6 +52,20 @@ impl Case {
     fn begin_link(&mut self) -> Result<()> {
         let alloc = self.alloc;
         self.door()?.links.push(LinkCase::new(alloc))?;
+        Ok(())
+    }
+
+    /// Begins a link that is opened by a dial to this host and port.
+    fn begin_dial(&mut self, host: &[u8], port: &[u8]) -> Result<()> {
+        let host = Vec::from_slice(self.alloc, host)?;
+        let port = port_of(port)?;
+        self.dials.push(DialCase {
+            endpoint: Endpoint {
+                host: Bytes::from_vec(host),
+                port,
+            },
+            link: LinkCase::new(self.alloc),
+        })?;
         Ok(())
     }
 

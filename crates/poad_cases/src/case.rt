@@ -1,6 +1,7 @@
 //! What is asked of a command or of a run of the server.
 ghost use Rattle.std.specs.Prelude.{◌≡◌, IfOk, vec_len};
 
+use crate::dial_case::DialCase;
 use crate::door_case::DoorCase;
 use crate::link_case::LinkCase;
 use crate::memory_door::MemDoor;
@@ -17,6 +18,8 @@ pub struct Case {
     pub title: Vec<u8>,
     pub words: Vec<String>,
     pub streams: LinkCase,
+    /// The links that `call` opens.
+    pub dials: Vec<DialCase>,
     pub lanes: Vec<DoorCase>,
     pub administrators: DoorCase,
     /// Whether the administrators' door is in work, and not the last lane.
@@ -48,6 +51,7 @@ impl Case {
             title,
             words: Vec::new(alloc),
             streams: LinkCase::new(alloc),
+            dials: Vec::new(alloc),
             lanes: Vec::new(alloc),
             administrators: DoorCase::new(alloc),
             is_at_administrators: false,
@@ -72,12 +76,22 @@ impl Case {
         self.lanes.last_mut().context("no door yet")
     }
 
-    /// The link in work: standard input and output, where no door is.
+    /// The link in work: where no door is the last that `call` opens, or standard input and output.
     pub fn link(&mut self) -> Result<&mut LinkCase> {
-        if !self.is_at_administrators && self.lanes.is_empty() {
-            return Ok(&mut self.streams);
+        if self.is_at_administrators || !self.lanes.is_empty() {
+            return self.door()?.links.last_mut().context("no link yet");
         }
-        self.door()?.links.last_mut().context("no link yet")
+        match self.dials.last_mut() {
+            Some(dial) => Ok(&mut dial.link),
+            None => Ok(&mut self.streams),
+        }
+    }
+
+    /// Whether its words begin with this one.
+    pub fn is_of(&self, command: &str) -> bool {
+        self.words
+            .first()
+            .is_some_and(|word| word.as_str() == command)
     }
 
     /// The doors, with so many lanes. A link raises the signal, if there is one, when the worker that is held may go on.

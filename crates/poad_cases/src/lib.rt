@@ -7,14 +7,15 @@
 //! - `message NAME HEX ..`, bytes with a name, for all later cases;
 //! - `case WORD ..`, which begins a case; `words WORD ..`, the words of its command line, `''` being the empty one; `journal` is
 //!   the file of the journal, if there is one;
+//! - `dial HOST PORT`, which begins a link that `call` opens there, behind those before it;
 //! - `lane`, which begins the next lane; `administrators`, which turns to their door; `link`, which begins a link there;
-//! - `send WORD ..`, what the link's peer sends, or what standard input gives where no door was begun: a message's name, or
+//! - `send WORD ..`, what the link's peer sends, or what standard input gives where no door and no dial was begun: a message's name, or
 //!   hexadecimal behind `h:`; `times COUNT WORD ..`, the same so many times; `line TEXT`, a line with its LF;
 //! - `fill BYTE COUNT`, so many bytes of this value, which are sent too; between cases, of the last file;
 //! - `piece SIZE ..`, how many bytes the reads give at most, in turn;
-//! - `fails KIND N ..`: these calls fail, counted from 0. `read` and `write` are of the link or of standard input and output,
-//!   `next` of the door, `take` and `put` of the files, `start` of the threads; `quiet` are reads of the link that find nothing
-//!   for now;
+//! - `fails KIND N ..`: these calls fail, counted from 0; `N..M` is each from N on below M. `read` and `write` are of the
+//!   link or of standard input and output, `next` of the door, `take` and `put` of the files, `start` of the threads; `quiet`
+//!   are reads of the link that find nothing for now;
 //! - `takes COUNT`, how many calls the run of a script takes: `replay` then plays it on such a run;
 //! - `holds LENGTH`: the first worker that serves is held until so many bytes were written to a link;
 //! - `due WORD ..`, where it isn't determined what is written to the link: one of the lines `due`, or a beginning of it where
@@ -28,15 +29,17 @@
 //! - `run`, which does the command; `serve`, which runs the server by its words;
 //! - empty lines, and lines that begin with `#`.
 //!
-//! What `answer` writes is printed in hexadecimal, a message a line; what was written to a client too, and of equal ones in
-//! succession how many.
+//! What `answer` and `names` write is printed in hexadecimal, a message a line; what was written to a client or by `call`
+//! to a server too, and of equal ones in succession how many.
 //!
 //! And a session of three calls, played on one thread and judged by how it ended: also where an allocation fails.
 #![tactic(auto)]
 
 mod asking;
+mod calling;
 mod case;
 mod command;
+mod dial_case;
 mod door_case;
 mod doors;
 mod files;
@@ -45,8 +48,10 @@ mod host;
 mod journal;
 mod kinds;
 mod link_case;
+mod memory_connector;
 mod memory_door;
 mod memory_link;
+mod next_link;
 mod report;
 mod serving;
 mod session_judging;
@@ -60,12 +65,13 @@ mod worked_link;
 mod written;
 
 use anyhow::{Context, Result};
+use calling::call;
 use command::command;
 use files::File;
 pub use report::Report;
 use serving::serve;
 pub use session_judging::{Judgement, judge};
-pub use session_playing::{Played, play_session};
+pub use session_playing::{Played, TurnsBy, play_session};
 use std::alloc::Global;
 use std::sync::Wait;
 use std::thread::Threads;
@@ -115,6 +121,10 @@ where
     R: Threads + Wait + Clock + Copy + Send + Sync + Drop + 'static,
 {
     match ready {
+        Ready::Command(case) if case.is_of("call") => {
+            let called = call(alloc, case)?;
+            report.put_call(case, &called)
+        }
         Ready::Command(case) => {
             let done = command(alloc, case, files)?;
             report.put_command(case, &done)

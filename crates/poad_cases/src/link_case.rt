@@ -47,6 +47,11 @@ impl LinkCase {
         Ok(())
     }
 
+    /// What its peer sends.
+    pub fn input(&self) -> Result<Vec<u8>> {
+        Ok(self.input.clone()?)
+    }
+
     /// The link. It raises the signal, if there is one, when so many bytes were written to it.
     pub fn link(&self, hold: Option<(&Signal, usize)>) -> Result<MemLink> {
         let Some((signal, length)) = hold else {

@@ -26,6 +26,14 @@ pub struct MemLink {
     reply: usize,
 }
 
+/// What a link counted.
+#[derive(Clone, Copy)]
+pub struct LinkCounts {
+    pub read_faults: u64,
+    pub write_faults: u64,
+    pub quiets: u64,
+}
+
 impl Model for MemLink {
     ghost use Rattle.std.specs.Prelude.{Some};
     ghost use Rattle.outside.specs.Link.{Shown};
@@ -97,6 +105,19 @@ impl MemLink {
         ensures { Some result.now ≡ self.now.held }
     {
         self.written.as_slice()
+    }
+
+    /// How many reads failed, how many writes, and how many reads found nothing.
+    pub fn counts(&self) -> LinkCounts
+        ensures read_faults { result.read_faults ≡ self.now.read_faults }
+        ensures write_faults { result.write_faults ≡ self.now.write_faults }
+        ensures quiets { result.quiets ≡ self.now.quiets }
+    {
+        LinkCounts {
+            read_faults: self.read_faults,
+            write_faults: self.write_faults,
+            quiets: self.quiets,
+        }
     }
 
     // Tells that the reply was written, once it was.

@@ -1,4 +1,9 @@
 //! A session from its beginning to its end.
+ghost use Rattle.std.specs.Prelude.{◌<◌};
+ghost use Rattle.poa_shared.specs.Helping.{IsReady};
+ghost use Rattle.poa_shared.specs.Seats.{IsIdle};
+ghost use Rattle.seat_lock.specs.Seats.{view};
+
 use crate::memory_link::MemLink;
 use crate::session_messages::CALLS;
 use crate::worked_link::WorkedLink;
@@ -7,7 +12,7 @@ use journal_entries::Row;
 use poa_base::{Entry, Session, Store, WantMemory};
 use poa_core::Core;
 use poa_session::serve_link;
-use poa_shared::{Aid, Shared};
+use poa_shared::{Aid, Seat, Shared};
 use std::alloc::Global;
 use std::sync::{Arc, Wait};
 
@@ -23,6 +28,15 @@ servant = \"counter\"
 
 /// What the reads give at most, in turn: the first call, a part of the second, and what is left of them.
 const PIECES: [usize; 3] = [72, 40, 96];
+
+/// Who makes the worker's turns in a session on one thread.
+#[derive(Clone, Copy, Drop)]
+pub enum TurnsBy {
+    /// The session itself, by its aid. Where the aid finds no memory it leaves the turn to the link.
+    Aid,
+    /// The link, before each read. Where it finds no memory it gives the run up.
+    Link,
+}
 
 /// What a session left.
 #[derive(Drop)]
@@ -78,8 +92,27 @@ fn core_of_object(alloc: Global) -> Result<Core, WantMemory> {
     Core::new(alloc, config, 1, Store::new(alloc), 4_000_000)
 }
 
+/// The aid of a session in which the turns are made so.
+fn aid_for(turns: TurnsBy, shared: &Shared, seat: &mut Seat) -> Aid
+    requires seat { IsIdle shared.now seat.old }
+    requires room { 0 < (view seat.old).room }
+    ensures seat { IsIdle shared.now seat.new }
+    ensures aid { IsReady shared.now result.seat }
+{
+    match turns {
+        TurnsBy::Aid => Aid {
+            seat: Some(shared.split(seat)),
+        },
+        TurnsBy::Link => Aid::none(),
+    }
+}
+
 /// Plays the session.
-pub fn play_session<R: Wait + Copy + Drop>(rt: &R, alloc: Global) -> Result<Played, WantMemory> {
+pub fn play_session<R: Wait + Copy + Drop>(
+    rt: &R,
+    alloc: Global,
+    turns: TurnsBy,
+) -> Result<Played, WantMemory> {
     let client = client_link(alloc)?;
     let (shared, mut seat) = Shared::new(alloc, core_of_object(alloc)?)?;
     let shared = Arc::new(alloc, shared)?;
@@ -89,9 +122,7 @@ pub fn play_session<R: Wait + Copy + Drop>(rt: &R, alloc: Global) -> Result<Play
         shared: Arc::try_clone(&shared)?,
         seat: shared.split(&mut seat),
     };
-    let mut aid = Aid {
-        seat: Some(shared.split(&mut seat)),
-    };
+    let mut aid = aid_for(turns, &*shared, &mut seat);
     let session = serve_link(rt, alloc, &*shared, &mut seat, &mut aid, &mut link);
     let WorkedLink { link, .. } = link;
     Ok(Played {

@@ -11,14 +11,10 @@ use text_words::put_octets;
 const HEADER: usize = 12;
 
 impl Report {
-    /// Prints what came of a command: what it wrote, of `answer` message by message, and its status.
+    /// Prints what came of a command: what it wrote, of `answer` and `names` message by message, and its status.
     pub fn put_command(&mut self, case: &Case, done: &Done) -> Result<()> {
         self.put_line(&case.title)?;
-        if case
-            .words
-            .first()
-            .is_some_and(|word| word.as_str() == "answer")
-        {
+        if case.is_of("answer") || case.is_of("names") {
             self.put_each(&done.written)?;
         } else {
             self.put(&done.written)?;

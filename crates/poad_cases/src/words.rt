@@ -2,7 +2,7 @@
 use anyhow::{Context, Result};
 use std::alloc::Global;
 use std::collections::BTreeMap;
-use text_words::{number64, octets};
+use text_words::{number64, octets, parts, port};
 
 /// Bytes under names, the last ones of a name counting.
 pub type Messages = BTreeMap<Vec<u8>, Vec<u8>>;
@@ -12,13 +12,30 @@ pub fn number(word: &[u8]) -> Result<u64> {
     number64(word).ok().context("no number")
 }
 
-/// The numbers that words write.
+/// The port that a word writes.
+pub fn port_of(word: &[u8]) -> Result<u16> {
+    port(word).ok().context("no port")
+}
+
+/// The numbers that words write: `N`, or `N..M` for those from N on that are below M.
 pub fn numbers(alloc: Global, words: &[&[u8]]) -> Result<Vec<u64>> {
     let mut all = Vec::new(alloc);
     for word in words {
-        all.push(number(word)?)?;
+        let parts = parts(alloc, word, b'.')?;
+        match parts.as_slice() {
+            [first, b"", end] => put_range(&mut all, number(first)?, number(end)?)?,
+            _ => all.push(number(word)?)?,
+        }
     }
     Ok(all)
+}
+
+/// Puts the numbers from one on that are below another behind others.
+fn put_range(all: &mut Vec<u64>, first: u64, end: u64) -> Result<()> {
+    for n in first..end {
+        all.push(n)?;
+    }
+    Ok(())
 }
 
 /// Words as texts, `''` being the empty one.

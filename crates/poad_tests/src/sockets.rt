@@ -1,9 +1,9 @@
 ghost use Rattle.std.specs.Prelude.{◌<◌, length};
 
 use crate::waiting::Waiting;
-use outside::{Acceptor, Alarm, Door, Gate, Link, Took, Wrote};
-use outside_sockets::{Ears, MioDoor, MioLink, WaitingGate, listen};
-use poa_base::{Point, Session, SessionEnd};
+use outside::{Acceptor, Alarm, Connector, Door, Gate, Link, Opened, Took, Wrote};
+use outside_sockets::{Ears, MioConnector, MioDoor, MioLink, WaitingGate, listen};
+use poa_base::{Bytes, Endpoint, Point, Session, SessionEnd};
 use std::io::{Read, Write};
 use std::net::{Shutdown, SocketAddr, TcpStream};
 use std::sync::{Arc, Wait};
@@ -117,6 +117,55 @@ fn gives_speakers(rt: HostRuntime, door: &mut MioDoor, address: SocketAddr) -> R
 fn a_door_gives_those_who_have_said_something(rt: HostRuntime) -> Result<(), Fail> {
     let (mut door, address) = open_speakers_door(rt)?;
     assert!(rt; gives_speakers(rt, &mut door, address)?);
+    Ok(())
+}
+
+/// A port of this machine.
+fn endpoint(rt: HostRuntime, host: &[u8], port: u16) -> Result<Endpoint, Fail> {
+    let host = Bytes::from_vec(Vec::from_slice(rt.alloc(), host)?);
+    Ok(Endpoint { host, port })
+}
+
+/// Whether the next that a link says, behind reads of nothing, is an end.
+fn comes_to_its_end(link: &mut MioLink) -> bool {
+    for _ in 0..1000 {
+        match link.read(&mut [0; 8]) {
+            Took::Quiet => {}
+            took => return took == Took::End,
+        }
+    }
+    false
+}
+
+/// Whether a connector opens a link to a door, by the name of its host, over which one side reads what the other writes.
+fn opens_links(rt: HostRuntime, connector: &mut MioConnector<HostRuntime>) -> Result<bool, Fail> {
+    let (mut door, address) = open_door(rt)?;
+    let Opened::Link(mut link) = connector.dial(&endpoint(rt, b"localhost", address.port())?) else {
+        return Ok(false);
+    };
+    let is_written = link.write(b"b") == Wrote::Wrote(1) && is_next(&mut door, b'b')?;
+    let is_ended = comes_to_its_end(&mut link);
+    connector.close(link);
+    Ok(is_written && is_ended)
+}
+
+/// A port at which nobody listens any more.
+fn left_port(rt: HostRuntime) -> Result<u16, Fail> {
+    let (_door, address) = open_door(rt)?;
+    Ok(address.port())
+}
+
+/// Whether a connector fails where nobody listens, and at a host whose name nobody has.
+fn finds_nobody(rt: HostRuntime, connector: &mut MioConnector<HostRuntime>) -> Result<bool, Fail> {
+    let gone = connector.dial(&endpoint(rt, b"127.0.0.1", left_port(rt)?)?);
+    let unknown = connector.dial(&endpoint(rt, b"no name", 1)?);
+    Ok(matches!(gone, Opened::Failed) && matches!(unknown, Opened::Failed))
+}
+
+#[test]
+fn a_connector_opens_links_over_sockets(rt: HostRuntime) -> Result<(), Fail> {
+    let mut connector = MioConnector::new(rt.alloc(), rt);
+    assert!(rt; opens_links(rt, &mut connector)? && finds_nobody(rt, &mut connector)?);
     Ok(())
 }
 
