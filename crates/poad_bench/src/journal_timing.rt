@@ -1,15 +1,15 @@
-//! One journal read and printed, with the times.
+//! One text read and printed, with the times.
 
-use crate::journal_text::of_requests;
+use crate::timed_text::TimedText;
 use anyhow::{Result, anyhow};
-use poa_journal::{JournalFault, print, read};
+use poa_journal::{JournalFault, print, print_store, read, read_store};
 use std::alloc::Global;
 use std::time::{Clock, Duration, Instant};
 
-/// What one journal took; times are in microseconds.
+/// What one text took; times are in microseconds.
 #[derive(Clone, Copy)]
 pub struct Timing {
-    pub entries: usize,
+    pub lines: u64,
     pub bytes: usize,
     /// Whether what was printed is what was read.
     pub same: bool,
@@ -18,24 +18,46 @@ pub struct Timing {
 }
 
 impl Timing {
-    /// Reads a journal of at least so many entries and prints it.
-    pub fn of<R: Clock>(rt: &R, alloc: Global, entries: u64) -> Result<Timing> {
-        let text = of_requests(alloc, entries)?;
+    /// Reads a text of at least so many lines and prints it.
+    pub fn of<R: Clock>(rt: &R, alloc: Global, what: TimedText, lines: u64) -> Result<Timing> {
+        let text = what.with(alloc, lines)?;
+        match what {
+            TimedText::Journal => Timing::of_journal(rt, alloc, text.as_slice(), lines),
+            TimedText::Store => Timing::of_store(rt, alloc, text.as_slice(), lines),
+        }
+    }
+
+    fn of_journal<R: Clock>(rt: &R, alloc: Global, text: &[u8], lines: u64) -> Result<Timing> {
         let start = Instant::now(rt)?;
-        let journal = read(alloc, text.as_slice()).map_err(refused)?;
+        let journal = read(alloc, text).map_err(refused)?;
         let read_at = Instant::now(rt)?;
         let printed = print(alloc, &journal)?;
         let printed_at = Instant::now(rt)?;
         Ok(Timing {
-            entries: journal.entries.len(),
+            lines,
             bytes: text.len(),
-            same: printed.as_slice() == text.as_slice(),
+            same: printed.as_slice() == text,
             read: micros(read_at.saturating_duration_since(start)),
             print: micros(printed_at.saturating_duration_since(read_at)),
         })
     }
 
-    /// Millions of bytes a second, at so many microseconds for the journal.
+    fn of_store<R: Clock>(rt: &R, alloc: Global, text: &[u8], lines: u64) -> Result<Timing> {
+        let start = Instant::now(rt)?;
+        let store = read_store(alloc, text).map_err(refused)?;
+        let read_at = Instant::now(rt)?;
+        let printed = print_store(alloc, &store)?;
+        let printed_at = Instant::now(rt)?;
+        Ok(Timing {
+            lines,
+            bytes: text.len(),
+            same: printed.as_slice() == text,
+            read: micros(read_at.saturating_duration_since(start)),
+            print: micros(printed_at.saturating_duration_since(read_at)),
+        })
+    }
+
+    /// Millions of bytes a second, at so many microseconds for the text.
     pub fn speed(&self, took: u64) -> u64 {
         self.bytes as u64 / took.max(1)
     }
@@ -47,7 +69,7 @@ fn micros(took: Duration) -> u64 {
 
 fn refused(fault: JournalFault) -> anyhow::Error {
     match fault {
-        JournalFault::BadLine { line } => anyhow!("line {line} is no entry"),
+        JournalFault::BadLine { line } => anyhow!("line {line} is out of place"),
         JournalFault::WantMemory => anyhow!("want of memory"),
     }
 }

@@ -1,50 +1,60 @@
-//! The reading and the printing of journals.
+//! The reading and the printing of journals and of stores.
 
 use crate::hundredths::Hundredths;
 use crate::journal_timing::Timing;
+use crate::timed_text::TimedText;
 use anyhow::{Context, Result};
 use std::alloc::Global;
 use std::time::Clock;
 
-/// The entries of the journal that takes no time.
+/// The lines of the text that takes no time.
 const SHORT: u64 = 1000;
 
-/// How many entries the rows of the table have, each twice as many as the one before.
+/// How many lines the rows of the table have, each twice as many as the one before.
 const ROWS: [u64; 4] = [250_000, 500_000, 1_000_000, 2_000_000];
 
-/// Prints the table, or what came of one journal of so many entries.
-pub fn print<R: Clock + Print>(rt: &R, alloc: Global, entries: Option<String>) -> Result<()> {
-    let Some(entries) = entries else {
-        return measure(rt, alloc);
+/// Prints the table, or what came of one text of so many lines.
+pub fn print<R>(rt: &R, alloc: Global, what: TimedText, lines: Option<String>) -> Result<()>
+where
+    R: Clock + Print,
+{
+    let Some(lines) = lines else {
+        return measure(rt, alloc, what);
     };
-    let entries = entries.parse::<u64>().context("no number of entries")?;
-    once(rt, alloc, entries)
+    let lines = lines.parse::<u64>().context("no number of lines")?;
+    once(rt, alloc, what, lines)
 }
 
-/// Prints what came of a short journal.
-pub fn count<R: Clock + Print>(rt: &R, alloc: Global) -> Result<()> {
-    once(rt, alloc, SHORT)
+/// Prints what came of a short text.
+pub fn count<R: Clock + Print>(rt: &R, alloc: Global, what: TimedText) -> Result<()> {
+    once(rt, alloc, what, SHORT)
 }
 
-/// Reads and prints one journal, and says what it had.
-fn once<R: Clock + Print>(rt: &R, alloc: Global, entries: u64) -> Result<()> {
-    let timing = Timing::of(rt, alloc, entries)?;
+/// Reads and prints one text, and says what it had.
+fn once<R: Clock + Print>(rt: &R, alloc: Global, what: TimedText, lines: u64) -> Result<()> {
+    let timing = Timing::of(rt, alloc, what, lines)?;
     println!(rt;
-        "{} entries, {} bytes, printed as read: {}",
-        timing.entries, timing.bytes, timing.same
+        "{} {}, {} bytes, printed as read: {}",
+        timing.lines,
+        what.lines(),
+        timing.bytes,
+        timing.same
     )?;
     Ok(())
 }
 
 /// A row for each size, with the ratio to the time of half the size.
-fn measure<R: Clock + Print>(rt: &R, alloc: Global) -> Result<()> {
-    println!(rt; "entries | MB | read, ms (MB/s) | ratio | print, ms (MB/s) | ratio")?;
-    let mut before = Timing::of(rt, alloc, ROWS[0] / 2)?;
-    for entries in ROWS {
-        let now = Timing::of(rt, alloc, entries)?;
+fn measure<R: Clock + Print>(rt: &R, alloc: Global, what: TimedText) -> Result<()> {
+    println!(rt;
+        "{} | MB | read, ms (MB/s) | ratio | print, ms (MB/s) | ratio",
+        what.lines()
+    )?;
+    let mut before = Timing::of(rt, alloc, what, ROWS[0] / 2)?;
+    for lines in ROWS {
+        let now = Timing::of(rt, alloc, what, lines)?;
         println!(rt;
             "{} | {} | {} ({}) | {} | {} ({}) | {}",
-            now.entries,
+            now.lines,
             Hundredths::of_quotient(now.bytes as u64, 1_000_000),
             now.read / 1000,
             now.speed(now.read),
