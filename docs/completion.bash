@@ -1,9 +1,11 @@
 # Completes the words of ./poad in bash: source docs/completion.bash
 _poad() {
-    local commands='answer replay load check iors migrate show loc serve build help --version' options word=${COMP_WORDS[COMP_CWORD]}
+    local commands='answer replay load check iors migrate audit show loc call names serve build help --version' options word=${COMP_WORDS[COMP_CWORD]}
     local before=${COMP_WORDS[COMP_CWORD - 1]}
     case ${COMP_WORDS[1]} in
         serve) options='--lanes --workers --run --state --journal --limit --help' ;;
+        audit) options='--limit --help' ;;
+        call) options='--as --hops --help' ;;
         build) options='--unproved --jobs --help' ;;
         *) options='--help' ;;
     esac
@@ -11,7 +13,9 @@ _poad() {
         mapfile -t COMPREPLY < <(compgen -W "$commands --help" -- "$word")
     elif [ "${COMP_WORDS[1]}" = help ]; then
         mapfile -t COMPREPLY < <(compgen -W "$commands" -- "$word")
-    elif [[ $before = --lanes || $before = --workers || $before = --run || $before = --jobs ]]; then
+    elif [ "$before" = --as ]; then
+        mapfile -t COMPREPLY < <(compgen -W 'v i u b o' -- "$word")
+    elif [[ $before = --hops || $before = --lanes || $before = --workers || $before = --run || $before = --jobs ]]; then
         COMPREPLY=()
     elif [[ $word = -* && $before != --journal && $before != --state ]]; then
         mapfile -t COMPREPLY < <(compgen -W "$options" -- "$word")
