@@ -1,5 +1,6 @@
-//! A naming context (CosNaming): names bound to references and to contexts. Each call is done by what the calls before it
-//! bound, and its reply is written.
+//! A naming context (CosNaming): names bound to references and to contexts. [`Contexts`] serves a call by what the calls
+//! before it bound, and puts its reply behind others. What a call gives is in `specs/Serving.antt`, what stands after it in
+//! `specs/Standing.antt`.
 #![tactic(auto)]
 
 mod acting;

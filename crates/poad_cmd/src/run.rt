@@ -156,53 +156,25 @@ fn run_command<S: Source, K: Sink, F: Files>(
     ensures no_file { HasCause (F.absents host.old.files) (F.absents host.new.files) (result ≡ Status.NoFile) }
     ensures too_long { HasCause (F.long_ones host.old.files) (F.long_ones host.new.files) (result ≡ Status.FileTooLong) }
 {
+    let Host {
+        source,
+        sink,
+        files,
+    } = host;
     match command {
-        Command::Answer(name) => {
-            answer_by(
-                alloc,
-                name,
-                &mut host.files,
-                &mut host.source,
-                &mut host.sink,
-            )
-        }
-        Command::Replay { config, script } => {
-            play_files(alloc, config, script, &mut host.files, &mut host.sink)
-        }
-        Command::Load { calls, start } => load(alloc, calls, start, &mut host.sink),
-        Command::Show(text) => show_text(alloc, text.as_bytes(), &mut host.sink),
-        Command::Loc(text) => print_loc(alloc, text.as_bytes(), &mut host.sink),
-        Command::Check(name) => {
-            print_file(alloc, Asked::Counts, name, &mut host.files, &mut host.sink)
-        }
-        Command::Iors(name) => {
-            print_file(
-                alloc,
-                Asked::References,
-                name,
-                &mut host.files,
-                &mut host.sink,
-            )
-        }
+        Command::Answer(name) => { answer_by(alloc, name, files, source, sink) }
+        Command::Replay { config, script } => { play_files(alloc, config, script, files, sink) }
+        Command::Load { calls, start } => load(alloc, calls, start, sink),
+        Command::Show(text) => show_text(alloc, text.as_bytes(), sink),
+        Command::Loc(text) => print_loc(alloc, text.as_bytes(), sink),
+        Command::Check(name) => { print_file(alloc, Asked::Counts, name, files, sink) }
+        Command::Iors(name) => { print_file(alloc, Asked::References, name, files, sink) }
         Command::Migrate { config, text } => {
-            migrate_file(
-                alloc,
-                config,
-                text.as_bytes(),
-                &mut host.files,
-                &mut host.sink,
-            )
+            migrate_file(alloc, config, text.as_bytes(), files, sink)
         }
-        Command::Names => names(alloc, &mut host.source, &mut host.sink),
+        Command::Names => names(alloc, source, sink),
         Command::Audit(asked) => {
-            audit_files(
-                alloc,
-                asked.config,
-                asked.journal,
-                asked.limit,
-                &mut host.files,
-                &mut host.sink,
-            )
+            audit_files(alloc, asked.config, asked.journal, asked.limit, files, sink)
         }
     }
 }
