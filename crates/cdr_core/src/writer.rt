@@ -1,4 +1,4 @@
-ghost use Rattle.std.specs.Prelude.{◌≡◌, ◌+◌, ◌^◌, ◌<◌, length, take, vec_len, ◌++◌, replicate, OnOk, OnErr};
+ghost use Rattle.std.specs.Prelude.{◌≡◌, ◌+◌, ◌^◌, ◌<◌, [], length, take, vec_len, ◌++◌, replicate, OnOk, OnErr};
 ghost use Rattle.std.specs.Int.{w32};
 ghost use Rattle.cdr_core.specs.Field.{octet, ushort, ulong, longlong, boolean, text, octets};
 ghost use Rattle.cdr_core.specs.Spelling.{number_bytes};
@@ -67,7 +67,7 @@ impl Writer {
         ensures ok { OnOk result (self.new ≡ with_field (octet value) self.old) }
         ensures err { OnErr result (self.new ≡ self.old) }
     {
-        self.put(1, &[value], &[], &[])
+        self.put_number(1, &[value])
     }
 
     /// Appends an unsigned short at a multiple of 2.
@@ -80,7 +80,7 @@ impl Writer {
         } else {
             value.to_be_bytes()
         };
-        self.put(2, &bytes, &[], &[])
+        self.put_number(2, &bytes)
     }
 
     /// Appends an unsigned long, or an enum, at a multiple of 4.
@@ -89,7 +89,7 @@ impl Writer {
         ensures err { OnErr result (self.new ≡ self.old) }
     {
         let bytes = self.long_bytes(value);
-        self.put(4, &bytes, &[], &[])
+        self.put_number(4, &bytes)
     }
 
     /// Appends a signed long long at a multiple of 8.
@@ -102,7 +102,7 @@ impl Writer {
         } else {
             value.to_be_bytes()
         };
-        self.put(8, &bytes, &[], &[])
+        self.put_number(8, &bytes)
     }
 
     /// Appends a boolean, an octet 0 or 1.
@@ -110,7 +110,7 @@ impl Writer {
         ensures ok { OnOk result (self.new ≡ with_field (boolean value) self.old) }
         ensures err { OnErr result (self.new ≡ self.old) }
     {
-        self.put(1, &[u8::from(value)], &[], &[])
+        self.put_number(1, &[u8::from(value)])
     }
 
     /// Appends a string: a ulong length that counts the final NUL, the bytes and the NUL. So the empty string
@@ -181,6 +181,19 @@ impl Writer {
         } else {
             value.to_be_bytes()
         }
+    }
+
+    // Appends the padding up to a multiple of `unit` and the bytes of a number. Most numbers need no padding, and are then
+    // one append.
+    fn put_number(&mut self, unit: u64, number: &[u8]) -> Result<(), WantMemory>
+        requires { IsUnit unit }
+        ensures ok { OnOk result (self.new ≡ with_parts unit number.now [] [] self.old) }
+        ensures err { OnErr result (self.new ≡ self.old) }
+    {
+        if padding(unit, self.base + self.bytes.len() as u64) > 0 {
+            return self.put(unit, number, &[], &[]);
+        }
+        self.bytes.extend_from_slice(number)
     }
 
     // Appends the padding up to a multiple of `unit` and these three, all or nothing.

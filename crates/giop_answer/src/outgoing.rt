@@ -34,9 +34,9 @@ pub(crate) fn put_header(
     ensures ok { OnOk result (out.new.items ≡ out.old.items ++ framed_bytes minor kind little []) }
     ensures front { take (vec_len out.old) out.new.items ≡ out.old.items }
 {
-    out.extend_from_slice(b"GIOP")?;
-    out.extend_from_slice(&[1, minor, u8::from(little), kind])?;
-    out.extend_from_slice(&[0; 4])
+    let order = u8::from(little);
+    let header = [b'G', b'I', b'O', b'P', 1, minor, order, kind, 0, 0, 0, 0];
+    out.extend_from_slice(&header)
 }
 
 /// Tells in the header of the message that begins at `start` what follows there. `WantMemory` is the answer to 2^32 bytes or
