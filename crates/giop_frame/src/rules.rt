@@ -1,5 +1,5 @@
 //! The rules that make a place of a stream bad.
-ghost use Rattle.std.specs.Prelude.{◌≡◌, ◌+◌, ◌<◌, ◌≤◌, ◌^◌, None, Some, if◌then◌else◌, length, nat_lt, option_copied};
+ghost use Rattle.std.specs.Prelude.{◌≡◌, ◌+◌, ◌<◌, ◌≤◌, ◌^◌, None, Some, if◌then◌else◌, length, nat_lt, option_copied, bytes_eq, codes, take};
 ghost use Rattle.giop_frame.specs.Part.{header_of, id_end};
 ghost use Rattle.giop_frame.specs.Open.{open_bytes};
 ghost use Rattle.giop_frame.specs.declared.why.Why.TheVariants.{TooLong};
@@ -12,6 +12,9 @@ use crate::why::Why;
 
 /// The bytes of all open messages of one stream together.
 pub(crate) const OPEN_LIMIT: u64 = 16_777_216;
+
+/// The octets `GIOP`.
+const MAGIC: u32 = 0x4749_4f50;
 
 /// What a text shows of its first part.
 #[derive(Clone, Copy)]
@@ -95,7 +98,7 @@ fn foreign_fault(text: &[u8]) -> Option<Why>
     requires { HEADER ≤ length text.now }
     ensures { result ≡ foreign_fault text.now }
 {
-    if &text[..4] != b"GIOP".as_slice() {
+    if !has_magic(text) {
         return Some(Why::BadMagic);
     }
     if text[4] != 1 || text[5] > NEWEST_MINOR {
@@ -108,11 +111,23 @@ fn foreign_fault(text: &[u8]) -> Option<Why>
     }
 }
 
+/// Whether a text begins with the four octets of each header. They are compared as one number, since a call that compares
+/// slices takes an eighth of the time of a small message.
+fn has_magic(text: &[u8]) -> bool
+    requires { HEADER ≤ length text.now }
+    ensures { result ≡ bytes_eq (take 4 text.now) (codes "GIOP") }
+{
+    u32::from_be_bytes([text[0], text[1], text[2], text[3]]) == MAGIC
+}
+
 /// Whether the version has no message of this type: version 1.0 has no Fragment.
 fn is_bad_type(minor: u8, kind: u8) -> bool
     ensures { result ≡ is_bad_type minor kind }
 {
-    kind > FRAGMENT || minor == 0 && kind == FRAGMENT
+    if kind < FRAGMENT {
+        return false;
+    }
+    kind > FRAGMENT || minor == 0
 }
 
 /// Whether this is the header of a Fragment that no id can save.
