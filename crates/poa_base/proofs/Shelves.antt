@@ -231,6 +231,12 @@ pub first_slot : (before after : Shelf) (oid : List ℕ) → before.entries ≡ 
 first_slot before after oid empty h j = h j
     ∙ ap (λ es. cond (is_at (oid_cmp oid) j) (Some (filled (lookup (is_at (oid_cmp oid)) es))) (lookup (is_at (oid_cmp j)) es)) empty
 
+-- what a new shelf has, after a state was put on it
+pub first_state : (before after : Shelf) (oid : List ℕ) (slot : Option State) → before.entries ≡ [] →
+    ((j : List ℕ) → lookup (is_at (oid_cmp j)) after.entries ≡ cond (is_at (oid_cmp oid) j) (Some slot) (lookup (is_at (oid_cmp j)) before.entries)) →
+    (j : List ℕ) → lookup (is_at (oid_cmp j)) after.entries ≡ cond (is_at (oid_cmp oid) j) (Some slot) None
+first_state before after oid slot empty h j = h j ∙ ap (λ es. cond (is_at (oid_cmp oid) j) (Some slot) (lookup (is_at (oid_cmp j)) es)) empty
+
 pub at_key : (old new : Shelves) (key p : List (List ℕ)) (after : Shelf) → key ≡ p →
     ((q : List (List ℕ)) → lookup (is_at (path_cmp q)) new ≡ cond (is_at (path_cmp key) q) (Some after) (lookup (is_at (path_cmp q)) old)) →
     (q : List (List ℕ)) → lookup (is_at (path_cmp q)) new ≡ cond (is_at (path_cmp p) q) (Some after) (lookup (is_at (path_cmp q)) old)

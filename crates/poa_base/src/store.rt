@@ -96,6 +96,22 @@ impl Store {
         }
     }
 
+    /// Stores a state at a path and id, reserved or not. On want of memory no state changes.
+    pub fn put(&mut self, path: &Path, oid: &Oid, state: State) -> Result<(), AllocError>
+        ensures ok { OnOk result (self.new ≡ with_state self.old path.now oid.now state) }
+        ensures err { OnErr result (self.new ≡ self.old) }
+    {
+        match self.shelves.get_mut(path) {
+            Some(shelf) => put_on(shelf, oid, state),
+            None => {
+                let mut shelf = BTreeMap::new(self.alloc);
+                put_on(&mut shelf, oid, state)?;
+                self.shelves.insert(path.try_clone()?, shelf)?;
+                Ok(())
+            }
+        }
+    }
+
     /// Stores a state at a path and id that were reserved. Takes no memory.
     pub fn set(&mut self, path: &Path, oid: &Oid, state: State)
         requires { IsReserved self.old path.now oid.now }
@@ -119,6 +135,21 @@ fn reserve_on(shelf: &mut BTreeMap<Oid, Option<State>>, oid: &Oid) -> Result<(),
         return Ok(());
     }
     shelf.insert(oid.try_clone()?, None)?;
+    Ok(())
+}
+
+fn put_on(
+    shelf: &mut BTreeMap<Oid, Option<State>>,
+    oid: &Oid,
+    state: State,
+) -> Result<(), AllocError>
+    requires { IsInOrder shelf.old }
+    ensures ok { OnOk result ((other : List ℕ) → tree.get oid_cmp shelf.new other
+        ≡ (if is_at (oid_cmp oid.now) other then Some (Some state) else tree.get oid_cmp shelf.old other)) }
+    ensures err { OnErr result (shelf.new.entries ≡ shelf.old.entries) }
+    ensures ordered { IsInOrder shelf.new }
+{
+    shelf.insert(oid.try_clone()?, Some(state))?;
     Ok(())
 }
 

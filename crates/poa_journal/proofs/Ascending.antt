@@ -8,12 +8,8 @@ use Rattle.std.specs.FinMap.{is_sorted}
 use Rattle.std.specs.FinMap.Entries.{below_all}
 use Rattle.poa_base.specs.declared.State.{State}
 use Rattle.poa_base.specs.Store.{Place, Slots, place_cmp, with_place, states}
+use Rattle.poa_journal.specs.Shelving.{Ascends}
 use Rattle.poa_journal.specs.Whole.{is_above}
-
--- each row above the one before it
-abbrev pub Ascends : Option Place → List (Place × State) → Type 0
-Ascends last [] = Unit {0}
-Ascends last (row ∷ rows) = (is_above last row.0 ≡ true) × Ascends (Some row.0) rows
 
 abbrev HasBelow : Option Place → List (Place × Option State) → Type 0
 HasBelow None es = Unit {0}

@@ -1,15 +1,16 @@
 -- Rows and entries that were read line by line.
-use Rattle.std.proofs.Common.{◌≡◌, ℕ, ◌+◌, ◌<◌, ◌≤◌, Bool, true, false, cond, List, [], ◌∷◌, ◌++◌, length, map, Option, Some, None, Result, Ok, Err, refl, ap, sym, ◌∙◌, arith, append_assoc, append-nil}
+use Rattle.std.proofs.Common.{◌≡◌, ℕ, ◌+◌, ◌<◌, ◌≤◌, List, [], ◌∷◌, ◌++◌, length, map, Some, None, Result, Ok, Err, refl, ap, sym, ◌∙◌, arith, append_assoc, append-nil, subst}
 use Rattle.poa_base.specs.declared.Entry.{Entry}
 use Rattle.poa_base.specs.declared.State.{State}
-use Rattle.poa_base.specs.Store.{Place, Slots, states, with_room, with_state}
+use Rattle.poa_base.specs.Store.{Place}
 use Rattle.text_words.specs.Cuts.{lines_of, words_of}
 use Rattle.text_words.specs.Token.{spelled}
 use Rattle.poa_journal.specs.Entry.{entry_tokens}
 use Rattle.poa_journal.specs.Reading.{entry_of}
 use Rattle.poa_journal.specs.Row.{row_tokens, row_behind, row_words_of}
-use Rattle.poa_journal.specs.Whole.{Front, is_above, row_above, put_row, after_row, at_line, rows_front, entry_at, put_entry, entries_of}
-use Rattle.poa_journal.proofs.Stored.{IsEnd, states_stored, end_stored}
+use Rattle.poa_journal.specs.Whole.{Front, row_above, put_row, after_row, at_line, rows_front, entry_at, put_entry, entries_of}
+use Rattle.poa_journal.specs.Shelving.{last_from}
+use Rattle.poa_journal.proofs.Stored.{last_more}
 
 abbrev pub behind_rows : List (Place × State) → Result Front ℕ → Result Front ℕ
 behind_rows rows (Err k) = Err k
@@ -88,92 +89,62 @@ pub entries_lines : (first : ℕ) (text : List ℕ) (entries : List Entry) (line
 entries_lines first text entries line rest so_far none =
     sym so_far.lines ∙ ap (λ ls. map spelled (map entry_tokens entries) ++ ls) none ∙ append-nil (map spelled (map entry_tokens entries))
 
--- rows were read of a text from line `first` on, into the store; the last stands at `last`
-pub record RowsRead (first : ℕ) (text : List ℕ) (store : Slots) (last : Option Place) (line : ℕ) (rest : List ℕ) : Type 0 where
-  pub read : behind_rows (states store) (rows_front line last (lines_of rest)) ≡ rows_front first None (lines_of text)
-  pub lines : map spelled (map row_tokens (states store)) ++ lines_of rest ≡ lines_of text
-  pub end : IsEnd last store
+-- rows were read of a text from line `first` on; the next line is `line`, where `rest` begins
+pub record RowsRead (first : ℕ) (text : List ℕ) (rows : List (Place × State)) (line : ℕ) (rest : List ℕ) : Type 0 where
+  pub read : behind_rows rows (rows_front line (last_from None rows) (lines_of rest)) ≡ rows_front first None (lines_of text)
+  pub lines : map spelled (map row_tokens rows) ++ lines_of rest ≡ lines_of text
   pub bound : line + length rest ≤ first + length text
 
-pub rows_begin : (first : ℕ) (text : List ℕ) (store : Slots) → IsEnd None store → states store ≡ [] → RowsRead first text store None first text
-rows_begin first text store end none = record {
-  read = ap (λ rows. behind_rows rows (rows_front first None (lines_of text))) none ∙ behind_none (rows_front first None (lines_of text));
-  lines = ap (λ rows. map spelled (map row_tokens rows) ++ lines_of text) none;
-  end = end;
-  bound = omega arith;
-}
+pub rows_begin : (first : ℕ) (text : List ℕ) (rows : List (Place × State)) → rows ≡ [] → RowsRead first text rows first text
+rows_begin first text rows none =
+    subst (λ (rs : List (Place × State)). RowsRead first text rs first text) (sym none)
+    (record { read = behind_none (rows_front first None (lines_of text)); lines = refl; bound = omega arith })
 
 spelled_last_row : (rows : List (Place × State)) (r : Place × State) (more : List (List ℕ))
     → map spelled (map row_tokens (rows ++ r ∷ [])) ++ more ≡ map spelled (map row_tokens rows) ++ spelled (row_tokens r) ∷ more
 spelled_last_row [] r more = refl
 spelled_last_row (x ∷ rows) r more = ap (λ ls. spelled (row_tokens x) ∷ ls) (spelled_last_row rows r more)
 
--- what the next line gives, where it is a row's
-row_line : (first : ℕ) (text : List ℕ) (store : Slots) (last : Option Place) (line : ℕ) (rest l after : List ℕ) (ws : List (List ℕ))
-    → RowsRead first text store last line rest → lines_of rest ≡ l ∷ lines_of after → row_words_of (words_of l) ≡ Some ws
-    → rows_front first None (lines_of text) ≡ behind_rows (states store)
-    (after_row (λ place. rows_front (line + 1) (Some place) (lines_of after)) (row_above line last (row_behind ws)))
-row_line first text store last line rest l after ws so_far cut is =
-    sym so_far.read ∙ ap (λ ls. behind_rows (states store) (rows_front line last ls)) cut
-    ∙ ap (λ o. behind_rows (states store) (at_line line last (l ∷ lines_of after) (λ place. rows_front (line + 1) (Some place) (lines_of after)) o)) is
+module _ (first : ℕ) (text : List ℕ) (rows : List (Place × State)) (line : ℕ) (rest : List ℕ) (so_far : RowsRead first text rows line rest) where
+  module _ (l after : List ℕ) (cut : lines_of rest ≡ l ∷ lines_of after) where
+    abbrev further : Place → Result Front ℕ
+    further place = rows_front (line + 1) (Some place) (lines_of after)
 
-above_by : (line : ℕ) (test : Bool) (read row : Place × State) (last : Option Place) → is_above last read.0 ≡ test
-    → ◌≡◌ {A = Result (Place × State) ℕ} (cond test (Ok read) (Err line)) (Ok row) → is_above last row.0 ≡ true
-above_by line true read row last is h = let same : read ≡ row = cc in ap (λ r. is_above last r.0) (sym same) ∙ is
-above_by line false read row last is h = cc
+    -- what the next line gives, where it is a row's
+    row_line : (ws : List (List ℕ)) → row_words_of (words_of l) ≡ Some ws
+        → rows_front first None (lines_of text) ≡ behind_rows rows (after_row further (row_above line (last_from None rows) (row_behind ws)))
+    row_line ws is =
+        sym so_far.read ∙ ap (λ ls. behind_rows rows (rows_front line (last_from None rows) ls)) cut
+        ∙ ap (λ o. behind_rows rows (at_line line (last_from None rows) (l ∷ lines_of after) further o)) is
 
-above_from : (line : ℕ) (last : Option Place) (read : Option (Place × State)) (row : Place × State)
-    → row_above line last read ≡ Ok row → is_above last row.0 ≡ true
-above_from line last None row h = cc
-above_from line last (Some r) row h = above_by line (is_above last r.0) r row last refl h
-
--- one more row was read and stored
-pub rows_step : (first : ℕ) (text : List ℕ) (store : Slots) (last : Option Place) (line : ℕ) (rest l after : List ℕ) (ws : List (List ℕ)) (place : Place)
-    (state : State)
-    → RowsRead first text store last line rest → lines_of rest ≡ l ∷ lines_of after → length after < length rest
-    → row_words_of (words_of l) ≡ Some ws → row_above line last (row_behind ws) ≡ Ok (place, state) → l ≡ spelled (row_tokens (place, state))
-    → RowsRead first text (with_state (with_room store place.0 place.1) place.0 place.1 state) (Some place) (line + 1) after
-rows_step first text store last line rest l after ws place state so_far cut shorter begins is spells =
-    let higher : is_above last place ≡ true = above_from line last (row_behind ws) (place, state) is in
-    let stored = states_stored store last place state so_far.end higher in
-    record {
+    -- one more row was read
+    pub rows_step : (ws : List (List ℕ)) (row : Place × State) → length after < length rest → row_words_of (words_of l) ≡ Some ws
+        → row_above line (last_from None rows) (row_behind ws) ≡ Ok row → l ≡ spelled (row_tokens row)
+        → RowsRead first text (rows ++ row ∷ []) (line + 1) after
+    rows_step ws row shorter begins is spells = record {
       read =
-          ap (λ rows. behind_rows rows (rows_front (line + 1) (Some place) (lines_of after))) stored
-          ∙ behind_row (states store) (place, state) (rows_front (line + 1) (Some place) (lines_of after))
-          ∙ ap (λ r. behind_rows (states store) (after_row (λ p. rows_front (line + 1) (Some p) (lines_of after)) r)) (sym is)
-          ∙ sym (row_line first text store last line rest l after ws so_far cut begins);
+          ap (λ last. behind_rows (rows ++ row ∷ []) (rows_front (line + 1) last (lines_of after))) (last_more None rows row)
+          ∙ behind_row rows row (further row.0) ∙ ap (λ r. behind_rows rows (after_row further r)) (sym is) ∙ sym (row_line ws begins);
       lines =
-          ap (λ rows. map spelled (map row_tokens rows) ++ lines_of after) stored
-          ∙ spelled_last_row (states store) (place, state) (lines_of after)
-          ∙ ap (λ x. map spelled (map row_tokens (states store)) ++ x ∷ lines_of after) (sym spells)
-          ∙ ap (λ ls. map spelled (map row_tokens (states store)) ++ ls) (sym cut) ∙ so_far.lines;
-      end = end_stored store last place state so_far.end higher;
-      bound = omega (arith, so_far.bound);
+          spelled_last_row rows row (lines_of after) ∙ ap (λ x. map spelled (map row_tokens rows) ++ x ∷ lines_of after) (sym spells)
+          ∙ ap (λ ls. map spelled (map row_tokens rows) ++ ls) (sym cut) ∙ so_far.lines;
+      bound = omega (arith, so_far.bound, shorter);
     }
 
--- a row's line is refused
-pub rows_refused : (first : ℕ) (text : List ℕ) (store : Slots) (last : Option Place) (line : ℕ) (rest l after : List ℕ) (ws : List (List ℕ)) (k : ℕ)
-    → RowsRead first text store last line rest → lines_of rest ≡ l ∷ lines_of after
-    → row_words_of (words_of l) ≡ Some ws → row_above line last (row_behind ws) ≡ Err k → rows_front first None (lines_of text) ≡ Err k
-rows_refused first text store last line rest l after ws k so_far cut begins is =
-    row_line first text store last line rest l after ws so_far cut begins
-    ∙ ap (λ r. behind_rows (states store) (after_row (λ p. rows_front (line + 1) (Some p) (lines_of after)) r)) is
+    -- a row's line is refused
+    pub rows_refused : (ws : List (List ℕ)) (k : ℕ) → row_words_of (words_of l) ≡ Some ws
+        → row_above line (last_from None rows) (row_behind ws) ≡ Err k → rows_front first None (lines_of text) ≡ Err k
+    rows_refused ws k begins is = row_line ws begins ∙ ap (λ r. behind_rows rows (after_row further r)) is
 
--- the next line is no row's
-pub rows_ended : (first : ℕ) (text : List ℕ) (store : Slots) (last : Option Place) (line : ℕ) (rest l after : List ℕ)
-    → RowsRead first text store last line rest → lines_of rest ≡ l ∷ lines_of after → row_words_of (words_of l) ≡ None
-    → rows_front first None (lines_of text) ≡ Ok (states store, line, lines_of rest)
-rows_ended first text store last line rest l after so_far cut ends =
-    sym so_far.read ∙ ap (λ ls. behind_rows (states store) (rows_front line last ls)) cut
-    ∙ ap (λ o. behind_rows (states store) (at_line line last (l ∷ lines_of after) (λ place. rows_front (line + 1) (Some place) (lines_of after)) o)) ends
-    ∙ ap (λ rows. Ok (rows, line, l ∷ lines_of after)) (append-nil (states store))
-    ∙ ap (λ ls. Ok (states store, line, ls)) (sym cut)
+    -- the next line is no row's
+    pub rows_ended : row_words_of (words_of l) ≡ None → rows_front first None (lines_of text) ≡ Ok (rows, line, lines_of rest)
+    rows_ended ends =
+        sym so_far.read ∙ ap (λ ls. behind_rows rows (rows_front line (last_from None rows) ls)) cut
+        ∙ ap (λ o. behind_rows rows (at_line line (last_from None rows) (l ∷ lines_of after) further o)) ends
+        ∙ ap (λ all. Ok (all, line, l ∷ lines_of after)) (append-nil rows) ∙ ap (λ ls. Ok (rows, line, ls)) (sym cut)
 
--- no line is left
-pub rows_all : (first : ℕ) (text : List ℕ) (store : Slots) (last : Option Place) (line : ℕ) (rest : List ℕ)
-    → RowsRead first text store last line rest → lines_of rest ≡ []
-    → rows_front first None (lines_of text) ≡ Ok (states store, line, lines_of rest)
-rows_all first text store last line rest so_far none =
-    sym so_far.read ∙ ap (λ ls. behind_rows (states store) (rows_front line last ls)) none
-    ∙ ap (λ rows. Ok (rows, line, [])) (append-nil (states store))
-    ∙ ap (λ ls. Ok (states store, line, ls)) (sym none)
+  -- no line is left
+  pub rows_all : lines_of rest ≡ [] → rows_front first None (lines_of text) ≡ Ok (rows, line, lines_of rest)
+  rows_all none =
+      sym so_far.read ∙ ap (λ ls. behind_rows rows (rows_front line (last_from None rows) ls)) none
+      ∙ ap (λ all. Ok (all, line, [])) (append-nil rows) ∙ ap (λ ls. Ok (rows, line, ls)) (sym none)

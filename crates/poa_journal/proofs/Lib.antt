@@ -7,3 +7,5 @@ pub mod Ascending
 pub mod PrintedBack
 pub mod FirstBad
 pub mod Printed
+pub mod States
+pub mod Taking

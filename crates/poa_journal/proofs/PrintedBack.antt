@@ -18,7 +18,8 @@ use Rattle.poa_journal.specs.Journal.{head_tokens, text_of, journal_lines, journ
 use Rattle.poa_journal.specs.Whole.{rows_front, entries_of, numbered, head_of, contents_of_lines, contents_of, contents, all_rows, rows_of}
 use Rattle.poa_journal.proofs.Entries.{entry_back}
 use Rattle.poa_journal.proofs.LineRows.{row_back, row_starts, entry_starts}
-use Rattle.poa_journal.proofs.Ascending.{Ascends, states_ascend}
+use Rattle.poa_journal.specs.Shelving.{Ascends}
+use Rattle.poa_journal.proofs.Ascending.{states_ascend}
 
 -- lines of tokens that fit
 abbrev pub AllLinesFit : List (List Token) → Type 0

@@ -4,3 +4,4 @@ pub mod Row
 pub mod Reading
 pub mod Journal
 pub mod Whole
+pub mod Shelving

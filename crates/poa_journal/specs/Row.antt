@@ -51,14 +51,21 @@ state_behind holding.Fault ws = alone Fault ws
 abbrev pub holding_of : List ℕ → Option Holding
 holding_of w = named_in holding_word holdings w
 
-abbrev pub row_behind : List (List ℕ) → Option (Place × State)
-row_behind (p ∷ i ∷ k ∷ ws) = do
-  names ← path_of p
+-- the id and the state behind the path
+abbrev pub slot_behind : List (List ℕ) → Option (List ℕ × State)
+slot_behind (i ∷ k ∷ ws) = do
   id ← printed_id_of i
   holding ← holding_of k
   state ← state_behind holding ws
-  Some ((names, id), state)
-row_behind ws = None
+  Some (id, state)
+slot_behind ws = None
+
+abbrev pub row_behind : List (List ℕ) → Option (Place × State)
+row_behind [] = None
+row_behind (p ∷ ws) = do
+  names ← path_of p
+  slot ← slot_behind ws
+  Some ((names, slot.0), slot.1)
 
 -- the words behind `store`, where a line is that of a row
 abbrev pub row_words_of : List (List ℕ) → Option (List (List ℕ))

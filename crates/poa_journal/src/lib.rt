@@ -10,16 +10,19 @@
 mod entry;
 mod fault;
 mod fixed;
+mod laws;
 mod reading;
 mod row;
 mod rows;
+mod shelving;
 mod store_text;
 mod writing;
 
 pub use entry::{put_entry, read_entry};
 pub use fault::JournalFault;
+pub use laws::a_text_keeps_what_is_stored;
 pub use reading::{entry_at, read, read_head};
-pub use row::{put_row, read_row, row_words};
+pub use row::{put_row, row_words};
 pub use rows::{Opening, read_rows};
 pub use store_text::{print_store, read_store};
 pub use writing::{print, print_entry, print_parts};

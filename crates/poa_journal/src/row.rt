@@ -7,14 +7,14 @@ ghost use Rattle.poa_base.specs.Rows.{row_seen};
 ghost use Rattle.journal_words.specs.Fixed.{mark_word};
 ghost use Rattle.poa_journal.specs.Fixed.{holding_word};
 ghost use Rattle.text_words.specs.Parts.{only};
-ghost use Rattle.poa_journal.specs.Row.{row_words_of, holding_of, page_token, pages_of, row_behind, row_tokens, state_behind, state_tokens};
+ghost use Rattle.poa_journal.specs.Row.{row_words_of, holding_of, page_token, pages_of, row_tokens, slot_behind, state_behind, state_tokens};
 
 use crate::fixed::Holding;
 use journal_words::{Mark, is_mark};
-use poa_base::{Bytes, Items, Oid, Path, Row, State, WantMemory};
+use poa_base::{Bytes, Items, Oid, Row, State, WantMemory};
 use std::alloc::Global;
 use text_words::{
-    WordFault, Worded, alone, find_word, identity, nothing, octets, path, put_identity, put_octets,
+    WordFault, Worded, alone, find_word, identity, nothing, octets, put_identity, put_octets,
     put_path, put_signed, put_word, signed,
 };
 
@@ -35,7 +35,7 @@ fn holding(word: &[u8]) -> Result<Holding, WordFault>
 }
 
 /// The words behind `store`, where a line is that of a row.
-pub fn row_words<'a>(words: &'a [&'a [u8]]) -> Option<&'a [&'a [u8]]>
+pub fn row_words<'a, 'b>(words: &'b [&'a [u8]]) -> Option<&'b [&'a [u8]]>
     ensures value { option_map (λ ws. map (λ w. w.now) ws.now) result ≡ row_words_of (map (λ w. w.now) words.now) }
     ensures text { IfSome result (λ ws. map (λ w. w.now) words.now ≡ mark_word Mark.Store ∷ map (λ w. w.now) ws.now) }
 {
@@ -51,19 +51,18 @@ pub fn row_words<'a>(words: &'a [&'a [u8]]) -> Option<&'a [&'a [u8]]>
     }
 }
 
-/// The row of the words behind `store`.
-pub fn read_row(alloc: Global, words: &[&[u8]]) -> Result<((Path, Oid), State), WordFault>
-    ensures value { WordGives result (row_behind (map (λ w. w.now) words.now)) }
-    ensures text { IfOk result (λ row. mark_word Mark.Store ∷ (map (λ w. w.now) words.now) ≡ texts (row_tokens row)) }
+/// The id and the state of the words behind a row's path.
+pub(crate) fn read_slot(alloc: Global, words: &[&[u8]]) -> Result<(Oid, State), WordFault>
+    ensures value { WordGives result (slot_behind (map (λ w. w.now) words.now)) }
+    ensures text { IfOk result (λ slot. map (λ w. w.now) words.now ≡ texts (Token.identity slot.0 ∷ state_tokens slot.1)) }
 {
-    let [adapter, id, kind, rest @ ..] = words else {
+    let [id, kind, rest @ ..] = words else {
         return Err(WordFault::OutOfForm);
     };
-    let path = path(alloc, adapter)?;
     let oid = identity(alloc, id)?;
     let holding = holding(kind)?;
     let state = read_state(alloc, holding, rest)?;
-    Ok(((path, oid), state))
+    Ok((oid, state))
 }
 
 fn read_state(alloc: Global, holding: Holding, words: &[&[u8]]) -> Result<State, WordFault>

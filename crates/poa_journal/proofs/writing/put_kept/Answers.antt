@@ -1,4 +1,4 @@
-use Rattle.std.proofs.Common.{◌≡◌, ◌<◌, ◌++◌, arith, sym, ap, ◌∙◌, option_map, drop, map}
+use Rattle.std.proofs.Common.{arith, sym, ap, ◌∙◌, option_map}
 use Rattle.journal_entries.specs.Rows.{seen}
 use Rattle.journal_entries.proofs.Rowing.{none_here}
 use Rattle.poa_journal.proofs.Printed.{line_more}
