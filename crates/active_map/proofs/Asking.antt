@@ -18,7 +18,7 @@ use Rattle.history_standing.proofs.Leading.{same_self}
 use Rattle.history_standing.proofs.Members.{any_in, image_in, kept_in}
 use Rattle.active_map.specs.Asked.{at_one}
 use Rattle.active_map.specs.ById.{Ids, numbers_in, numbers_of}
-use Rattle.active_map.specs.Tables.{IsKeyed, IsIndexed}
+use Rattle.active_map.specs.Tables.{CoversOf, IsKeyed, IsIndexed}
 use Rattle.active_map.proofs.IdsKept.{row_of}
 use Rattle.history_standing.proofs.Tests.{same_test}
 
@@ -51,6 +51,15 @@ module _ (rows : List (ℕ × Activation)) (test : Activation → Bool) where
       (let some = some_in asked_of all passes in
       let one = some_in asked some.0.items some.2 in
       by_number one.0 one.2)
+
+  -- where the number of each that passes is among some, to ask these is to ask all
+  pub asked_among : IsKeyed rows → IsStrictlySortedBy nat_cmp (keys_of rows) → (is : Activation → Bool) → ((a : Activation) → test a ≡ true → is a ≡ true)
+      → (numbers : List ℕ) → CoversOf is numbers (values_of rows) → list_any asked numbers ≡ list_any test (values_of rows)
+  asked_among keyed ordered is passes numbers covers =
+      same_test (list_any asked numbers) (list_any test (values_of rows))
+      (λ some. (let one = some_in asked numbers some in by_number one.0 one.2))
+      (λ some. (let one = some_in test (values_of rows) some in
+      any_in asked one.0.number numbers (covers one.0 one.1 (passes one.0 one.2)) (ap (at_one test) (row_of rows keyed ordered one.0 one.1) ∙ one.2)))
 
   module _ (index : BTreeMap ℕ Ids) (keyed : IsKeyed rows) (ordered : IsStrictlySortedBy nat_cmp (keys_of rows)) (indexed : IsIndexed index (values_of rows))
       (k : ℕ) (whose : (a : Activation) → test a ≡ true → a.adapter ≡ k) where

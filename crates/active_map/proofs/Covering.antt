@@ -23,7 +23,7 @@ use Rattle.history_standing.proofs.Members.{in_either, in_image, in_kept}
 use Rattle.active_map.specs.declared.ending.Ending.{Ending}
 use Rattle.active_map.specs.declared.ending.Ending.TheVariants.{Below, Managed, Id}
 use Rattle.active_map.specs.Endings.{takes, marked, ended}
-use Rattle.active_map.specs.Tables.{is_leaving, IsKeyed, Covers, Keeps}
+use Rattle.active_map.specs.Tables.{is_leaving, IsKeyed, Covers, CoversOf, Keeps}
 use Rattle.active_map.proofs.Asking.{value_in}
 use Rattle.active_map.proofs.IdsKept.{row_of}
 use Rattle.active_map.proofs.RowsKept.{at_is, keeps_where, number_found, values_kept}
@@ -85,23 +85,23 @@ keeps_mark (Managed c manager) = record { number = λ a. refl; adapter = λ a. r
 keeps_mark (Id k oid) = record { number = λ a. refl; adapter = λ a. refl; oid = λ a. refl }
 
 -- those for which a test holds are changed
-pub covers_where : (ns : List ℕ) (test : Activation → Bool) (f : Activation → Activation) (as' : List Activation) → Keeps f
-    → ((a : Activation) → In a as' → test a ≡ true → is_leaving (f a) ≡ true → In a.number ns)
-    → ((a : Activation) → In a as' → test a ≡ false → is_leaving a ≡ true → In a.number ns)
-    → Covers ns (map (λ a. if test a then f a else a) as')
-covers_where ns test f as' keeps hit miss b there leaves =
+pub covers_where : (is : Activation → Bool) (ns : List ℕ) (test : Activation → Bool) (f : Activation → Activation) (as' : List Activation) → Keeps f
+    → ((a : Activation) → In a as' → test a ≡ true → is (f a) ≡ true → In a.number ns)
+    → ((a : Activation) → In a as' → test a ≡ false → is a ≡ true → In a.number ns)
+    → CoversOf is ns (map (λ a. if test a then f a else a) as')
+covers_where is ns test f as' keeps hit miss b there leaves =
     (let g : Activation → Activation = (λ a. if test a then f a else a) in
     let found = in_image g b as' there in
     let a = found.0 in
     subst (λ n. In n ns) (sym (ap (λ (x : Activation). x.number) found.2 ∙ (keeps_where test f keeps).number a))
-    (elim (test a) as (λ t. test a ≡ t → is_leaving (if t then f a else a) ≡ true → In a.number ns)
-    [ true ↦ hit a found.1 | false ↦ miss a found.1 ] refl (ap is_leaving (sym found.2) ∙ leaves)))
+    (elim (test a) as (λ t. test a ≡ t → is (if t then f a else a) ≡ true → In a.number ns)
+    [ true ↦ hit a found.1 | false ↦ miss a found.1 ] refl (ap is (sym found.2) ∙ leaves)))
 
 -- that of a number is changed, and isn't leaving unless it was
 pub covers_at : (ns : List ℕ) (n : ℕ) (f : Activation → Activation) (as' : List Activation) → Keeps f
     → ((a : Activation) → is_leaving (f a) ≡ true → is_leaving a ≡ true) → Covers ns as' → Covers ns (map (λ a. if a.number == n then f a else a) as')
 covers_at ns n f as' keeps stays covers =
-    covers_where ns (λ a. a.number == n) f as' keeps (λ a there _ leaves. covers a there (stays a leaves)) (λ a there _ leaves. covers a there leaves)
+    covers_where is_leaving ns (λ a. a.number == n) f as' keeps (λ a there _ leaves. covers a there (stays a leaves)) (λ a there _ leaves. covers a there leaves)
 
 -- that of a number was changed and isn't leaving, and its number is struck
 pub covers_struck : (ns ns' : List ℕ) (n : ℕ) (f : Activation → Activation) (as' : List Activation) → ((a : Activation) → is_leaving (f a) ≡ false)
@@ -131,13 +131,13 @@ stays_in c s a =
 pub covers_each : (ns : List ℕ) (f : Activation → Activation) (as' : List Activation) → Keeps f
     → ((a : Activation) → is_leaving (f a) ≡ true → is_leaving a ≡ true) → Covers ns as' → Covers ns (map f as')
 covers_each ns f as' keeps stays covers =
-    covers_where ns (λ a. true) f as' keeps (λ a there _ leaves. covers a there (stays a leaves)) (λ a there never _. absurd (true≢false never))
+    covers_where is_leaving ns (λ a. true) f as' keeps (λ a there _ leaves. covers a there (stays a leaves)) (λ a there never _. absurd (true≢false never))
 
 -- those that a command ends are leaving from now on
 pub covers_ended : (e : Ending) (ns ns' : List ℕ) (as' : List Activation) → ((n : ℕ) → In n ns → In n ns')
     → ((a : Activation) → In a as' → takes e a ≡ true → In a.number ns') → Covers ns as' → Covers ns' (map (ended e) as')
 covers_ended e ns ns' as' wider here covers =
-    covers_where ns' (takes e) (marked e) as' (keeps_mark e) (λ a there taken _. here a there taken)
+    covers_where is_leaving ns' (takes e) (marked e) as' (keeps_mark e) (λ a there taken _. here a there taken)
     (λ a there _ leaves. wider a.number (covers a there leaves))
 
 pub keeps_ended : (e : Ending) → Keeps (ended e)
@@ -152,11 +152,11 @@ covers_more ns a as' lasts covers b there leaves =
     ]
 
 -- some are kept, and the numbers of these
-pub covers_rest : (p : Activation → Bool) (rows rows' : List (ℕ × Activation)) → rows' ≡ filter (λ row. p row.1) rows → IsKeyed rows'
+pub covers_rest : (is : Activation → Bool) (p : Activation → Bool) (rows rows' : List (ℕ × Activation)) → rows' ≡ filter (λ row. p row.1) rows → IsKeyed rows'
     → IsStrictlySortedBy nat_cmp (keys_of rows') → (ns ns' : List ℕ)
-    → ((n : ℕ) → In n ns → is_some (lookup (is_at (nat_cmp n)) rows') ≡ true → In n ns') → Covers ns (values_of rows) → Covers ns' (values_of rows')
-covers_rest p rows rows' is keyed ordered ns ns' stays covers a there leaves =
-    (let was = in_kept p a (values_of rows) (subst (In a) (ap values_of is ∙ values_kept p rows) there) in
+    → ((n : ℕ) → In n ns → is_some (lookup (is_at (nat_cmp n)) rows') ≡ true → In n ns') → CoversOf is ns (values_of rows) → CoversOf is ns' (values_of rows')
+covers_rest is p rows rows' rest keyed ordered ns ns' stays covers a there leaves =
+    (let was = in_kept p a (values_of rows) (subst (In a) (ap values_of rest ∙ values_kept p rows) there) in
     stays a.number (covers a was.0 leaves) (ap is_some (row_of rows' keyed ordered a there)))
 
 -- where the row of a number is gone, its number may be struck

@@ -6,3 +6,6 @@ pub mod Removal
 pub mod Asking
 pub mod Covering
 pub mod MadeKeeps
+pub mod NotedKept
+pub mod OneByOne
+pub mod Renewing

@@ -4,3 +4,5 @@ pub mod Live
 pub mod Asked
 pub mod Endings
 pub mod Made
+pub mod Noted
+pub mod Wholes

@@ -16,12 +16,15 @@ ghost use Rattle.active_map.specs.Made as changed;
 ghost use Rattle.active_map.specs.Live.{live};
 ghost use Rattle.active_map.specs.Tables.{is_leaving, is_moving};
 
-use crate::adapters::{has_changing, has_live, has_other};
-use crate::by_id::{Index, add, numbers_of, remove};
+use crate::adapters::{has_changing, has_live, has_other, is_any_changing};
+use crate::by_id::{Index, add, numbers_of, only_one, remove};
 use crate::change::Change;
 use crate::ending::Ending;
-use crate::leaving::{Leaving, enter_ended, strike, strike_forgotten};
+use crate::leaving::{
+    Leaving, enter, enter_ended, first_to_go, is_any_to_go, strike, strike_forgotten,
+};
 use crate::over::is_over;
+use crate::passing::{Passing, first_over, has_own, is_any_over};
 use crate::rows::{
     Rows, count_moving, end_all, first_active, first_live, forget_ids, keep_live, let_all_out,
     moves,
@@ -48,17 +51,26 @@ pub struct Activations {
     moving: usize,
     /// The numbers of those that are ending and in the map, and maybe of others.
     leaving: Leaving,
+    /// The numbers of those that are on their way in or out, or over, while they are few.
+    passing: Passing,
 }
+
+/// How many a command ends at most that are looked for by their numbers, one by one.
+const FEW: usize = 4;
+
+/// Among how many numbers they are.
+const MANY: usize = 64;
 
 impl Model for Activations {
     ghost use Rattle.std.specs.Map.{values_of};
-    ghost use Rattle.active_map.specs.Tables.{Table, IsWhole};
+    ghost use Rattle.active_map.specs.Tables.{Table};
+    ghost use Rattle.active_map.specs.Wholes.{IsWhole};
 
     ghost Value = { Table };
 
     ghost view = { λ t. record { forgotten = t.forgotten; kept = values_of t.rows.entries } };
 
-    ghost invariant = { λ t. IsWhole t.forgotten t.moving t.ids t.leaving.keys t.rows.entries };
+    ghost invariant = { λ t. IsWhole t.forgotten t.moving t.ids t.leaving.keys t.passing t.rows.entries };
 }
 
 impl Activations {
@@ -73,6 +85,7 @@ impl Activations {
             ids: BTreeMap::new(alloc),
             moving: 0,
             leaving: BTreeSet::new(alloc),
+            passing: Passing::new(alloc),
         }
     }
 
@@ -152,6 +165,10 @@ impl Activations {
     pub fn is_changing(&self, config: &Config, adapter: u32) -> bool
         ensures { result ≡ situations.is_changing config.now self.now.kept adapter }
     {
+        if self.passing.is_whole {
+            let numbers = self.passing.numbers.as_slice();
+            return is_any_changing(&self.rows, config, adapter, numbers);
+        }
         match self.ids.get(&adapter) {
             Some(ids) => has_changing(&self.rows, ids, config, adapter),
             None => false,
@@ -169,7 +186,9 @@ impl Activations {
         let number = activation.number;
         let more = moves(&activation);
         let oid = activation.oid.as_slice();
+        self.passing.reserve()?;
         add(self.alloc, &mut self.ids, activation.adapter, oid, number)?;
+        self.passing.note(&activation);
         match self.rows.insert(number, activation) {
             Ok(_) => {
                 self.moving += more;
@@ -192,6 +211,7 @@ impl Activations {
             self.moving -= moves(activation);
             change.make(activation);
             self.moving += moves(activation);
+            self.passing.note(activation);
         }
     }
 
@@ -202,10 +222,20 @@ impl Activations {
         self.change(number, Change::Come(phase));
     }
 
+    /// Whether the activation has a servant that was made for it, as each has that has one that was made.
+    fn is_alone(&self, activation: &Activation) -> bool
+        ensures { result ≡ true → changes.is_elsewhere self.now.kept activation.now ≡ false }
+    {
+        self.passing.are_own && has_own(activation)
+    }
+
     /// Whether the servant of an activation is in the map of its adapter by another one.
     fn is_elsewhere(&self, activation: &Activation) -> bool
         ensures { result ≡ changes.is_elsewhere self.now.kept activation.now }
     {
+        if self.is_alone(activation) {
+            return false;
+        }
         match self.ids.get(&activation.adapter) {
             Some(ids) => has_other(&self.rows, ids, activation),
             None => false,
@@ -254,6 +284,21 @@ impl Activations {
         Ok(())
     }
 
+    /// That of a number is ending, as a command makes it. Its number is entered first, since that may fail.
+    fn end_one(&mut self, number: u32, ending: Ending<'_>) -> Result<(), WantMemory>
+        ensures ok { OnOk result
+            (self.new ≡ record self.old { kept = map (changes.at_number number (ended ending.entry)) self.old.kept }) }
+        ensures err { OnErr result (self.new ≡ self.old) }
+    {
+        enter(&mut self.leaving, number)?;
+        if let Some(activation) = self.rows.get_mut(&number) {
+            self.moving -= moves(activation);
+            ending.end(activation);
+            self.moving += moves(activation);
+        }
+        Ok(())
+    }
+
     /// Those of the adapters that stand at the path or below it are ending. Fails for want of memory; then nothing is changed.
     pub fn end_below(
         &mut self,
@@ -288,17 +333,66 @@ impl Activations {
             { kept = map (λ a. if stands.is_of adapter oid.now a then record a { ending = true } else a) self.old.kept }) }
         ensures err { OnErr result (self.new ≡ self.old) }
     {
+        let numbers = numbers_of(&self.ids, adapter, oid.as_slice());
+        if let Some(number) = only_one(numbers) {
+            return self.end_one(number, Ending::Id(adapter, oid));
+        }
         self.end(Ending::Id(adapter, oid))
     }
 
-    /// Those that are to leave the map do.
-    pub fn let_out(&mut self, config: &Config, flights: &[Flight])
+    /// Those that are to leave the map do. All are looked at.
+    fn let_out_all(&mut self, config: &Config, flights: &[Flight])
         ensures { (s : Stood) → s.flights ≡ flights.now
             → self.new ≡ record self.old { kept = map (ends.let_out config.now s) self.old.kept } }
     {
         if self.moving > 0 {
             let_all_out(&mut self.rows, config, flights);
             self.moving = count_moving(&self.rows);
+            self.passing.unsure();
+        }
+    }
+
+    /// Whether none of those that are leaving is to leave the map now.
+    fn has_none_to_go(&self, config: &Config, flights: &[Flight]) -> bool
+        ensures { result ≡ true → (s : Stood) → s.flights ≡ flights.now → map (ends.let_out config.now s) self.now.kept ≡ self.now.kept }
+    {
+        !is_any_to_go(&self.leaving, &self.rows, config, flights)
+    }
+
+    /// One that is to leave the map does, where there is one.
+    fn let_one_out(&mut self, config: &Config, flights: &[Flight])
+        ensures forgotten { self.new.forgotten ≡ self.old.forgotten }
+        ensures kept { (s : Stood) → s.flights ≡ flights.now
+            → map (ends.let_out config.now s) self.new.kept ≡ map (ends.let_out config.now s) self.old.kept }
+    {
+        if let Some(number) = first_to_go(&self.leaving, &self.rows, config, flights) {
+            let number = *number;
+            self.let_out_at(config, flights, number);
+        }
+    }
+
+    /// A few that are to leave the map do, where they are among few.
+    fn let_few_out(&mut self, config: &Config, flights: &[Flight])
+        ensures forgotten { self.new.forgotten ≡ self.old.forgotten }
+        ensures kept { (s : Stood) → s.flights ≡ flights.now
+            → map (ends.let_out config.now s) self.new.kept ≡ map (ends.let_out config.now s) self.old.kept }
+    {
+        if self.leaving.len() > MANY {
+            return;
+        }
+        for _ in 0..FEW {
+            self.let_one_out(config, flights);
+        }
+    }
+
+    /// Those that are to leave the map do. All are looked at only where they may be many.
+    pub fn let_out(&mut self, config: &Config, flights: &[Flight])
+        ensures { (s : Stood) → s.flights ≡ flights.now
+            → self.new ≡ record self.old { kept = map (ends.let_out config.now s) self.old.kept } }
+    {
+        self.let_few_out(config, flights);
+        if !self.has_none_to_go(config, flights) {
+            self.let_out_all(config, flights);
         }
     }
 
@@ -327,11 +421,12 @@ impl Activations {
         remove(&mut self.ids, activation.adapter, oid, number);
         let _gone = self.rows.remove(&number);
         strike(&mut self.leaving, number);
+        self.passing.strike(number);
         self.forgotten += 1;
     }
 
-    /// Those that are over are forgotten, but for their number.
-    pub fn forget(&mut self, config: &Config)
+    /// Those that are over are forgotten, but for their number. All are looked at.
+    fn forget_all(&mut self, config: &Config)
         ensures forgotten { self.new.forgotten ≡ self.old.forgotten + length (filter (ends.is_over config.now) self.old.kept) }
         ensures kept { self.new.kept ≡ live config.now self.old.kept }
     {
@@ -340,6 +435,46 @@ impl Activations {
             self.forgotten += keep_live(&mut self.rows, config);
             strike_forgotten(&mut self.leaving, &self.rows);
             self.moving = count_moving(&self.rows);
+            self.passing.renew(&self.rows);
+        }
+    }
+
+    /// Whether none is known to be over, of those that pass.
+    fn has_none_over(&self, config: &Config) -> bool
+        ensures { result ≡ true → list_any (ends.is_over config.now) self.now.kept ≡ false }
+    {
+        self.passing.is_whole && !is_any_over(&self.rows, config, self.passing.numbers.as_slice())
+    }
+
+    /// One that is over is forgotten, but for its number, where there is one.
+    fn forget_one(&mut self, config: &Config)
+        ensures live { live config.now self.new.kept ≡ live config.now self.old.kept }
+        ensures begun { self.new.forgotten + length self.new.kept ≡ self.old.forgotten + length self.old.kept }
+    {
+        if let Some(number) = first_over(&self.rows, config, self.passing.numbers.as_slice()) {
+            let number = *number;
+            self.forget_at(config, number);
+        }
+    }
+
+    /// A few that are over are forgotten, but for their number.
+    fn forget_few(&mut self, config: &Config)
+        ensures live { live config.now self.new.kept ≡ live config.now self.old.kept }
+        ensures begun { self.new.forgotten + length self.new.kept ≡ self.old.forgotten + length self.old.kept }
+    {
+        for _ in 0..FEW {
+            self.forget_one(config);
+        }
+    }
+
+    /// Those that are over are forgotten, but for their number. All are looked at only where they may be many.
+    pub fn forget(&mut self, config: &Config)
+        ensures forgotten { self.new.forgotten ≡ self.old.forgotten + length (filter (ends.is_over config.now) self.old.kept) }
+        ensures kept { self.new.kept ≡ live config.now self.old.kept }
+    {
+        self.forget_few(config);
+        if !self.has_none_over(config) {
+            self.forget_all(config);
         }
     }
 }

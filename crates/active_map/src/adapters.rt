@@ -55,7 +55,7 @@ fn is_changing_at(rows: &Rows, config: &Config, adapter: u32, number: u32) -> bo
 }
 
 /// Whether one of the numbers is that of such an activation.
-fn is_any_changing(rows: &Rows, config: &Config, adapter: u32, numbers: &[u32]) -> bool
+pub fn is_any_changing(rows: &Rows, config: &Config, adapter: u32, numbers: &[u32]) -> bool
     ensures { result ≡ list_any (λ n. at_one (λ a. (a.adapter == adapter) && situations.is_unfinished config.now a)
         (get nat_cmp rows.now n)) numbers.now }
 {

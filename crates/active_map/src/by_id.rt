@@ -1,5 +1,5 @@
 //! The numbers of activations by adapter and object id.
-ghost use Rattle.std.specs.Prelude.{◌≡◌, ◌==◌, [], ◌∷◌, ◌++◌, filter, not, IfOk, OnOk, OnErr};
+ghost use Rattle.std.specs.Prelude.{◌≡◌, ◌==◌, [], ◌∷◌, ◌++◌, filter, not, IfOk, IfSome, OnOk, OnErr};
 ghost use Rattle.active_map.specs.ById as by_id;
 
 use poa_base::WantMemory;
@@ -29,6 +29,16 @@ pub fn numbers_of<'a>(index: &'a Index, adapter: u32, oid: &[u8]) -> &'a [u32]
     match index.get(&adapter) {
         Some(ids) => numbers_in(ids, oid),
         None => &[],
+    }
+}
+
+/// The only one of them.
+pub fn only_one(numbers: &[u32]) -> Option<u32>
+    ensures { IfSome result (λ number. numbers.now ≡ number ∷ []) }
+{
+    match numbers {
+        [number] => Some(*number),
+        _ => None,
     }
 }
 

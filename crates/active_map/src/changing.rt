@@ -5,6 +5,7 @@ ghost use Rattle.poa_history.specs.Changes as changes;
 ghost use Rattle.history_standing.specs.Ends as ends;
 ghost use Rattle.history_standing.specs.Standings as stands;
 ghost use Rattle.history_standing.specs.Standings.{Standing as Stood};
+ghost use Rattle.active_map.specs.Asked.{is_to_go};
 
 use crate::activation::{has_servant, is_begun, is_complete, is_mapped};
 use crate::flights::is_used;
@@ -59,8 +60,9 @@ pub fn is_other(activation: &Activation, other: &Activation) -> bool
 
 /// Whether an activation is still to leave the map: it is ending, has its servant and no servant activator, and
 /// nothing is in flight in it.
-fn is_to_leave(config: &Config, flights: &[Flight], activation: &Activation) -> bool
-    ensures { (s : Stood) → s.flights ≡ flights.now
+pub fn is_to_leave(config: &Config, flights: &[Flight], activation: &Activation) -> bool
+    ensures goes { result ≡ is_to_go config.now flights.now activation.now }
+    ensures left { (s : Stood) → s.flights ≡ flights.now
         → ends.let_out config.now s activation.now ≡ (if result then record activation.now { out = true } else activation.now) }
 {
     activation.ending

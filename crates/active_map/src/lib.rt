@@ -13,6 +13,7 @@ mod ending;
 pub mod flights;
 mod leaving;
 pub mod over;
+mod passing;
 mod rows;
 pub mod templates;
 

@@ -1,14 +1,15 @@
 -- The adapters that are gone are dropped one by one, and what is asked of the others stays as it was.
 use Rattle.std.specs.Prelude.{◌≡◌, ℕ, zero, suc, ◌<◌, Bool, true, false, not, ◌&&◌, ◌||◌, ◌==◌, List, [], ◌∷◌, ◌++◌, filter, take, drop, length, slice_index_or, refl}
 use Rattle.std.specs.List.{list_any, remove}
-use Rattle.std.proofs.Common.{inl, inr, sym, ap, ap₂, ◌∙◌, arith}
-use Rattle.std.proofs.lemmas.Bool.{cond_both, and_parts}
+use Rattle.std.proofs.Common.{inl, inr, sym, ap, ap₂, subst, ◌∙◌, arith}
+use Rattle.std.proofs.lemmas.Bool.{cond_both, and_from, and_parts, and_right, eq-eqb}
 use Rattle.poa_base.specs.declared.Config.{Config}
 use Rattle.history_standing.specs.declared.node.Node.{Node}
 use Rattle.history_standing.specs.Nodes.{stands_under}
 use Rattle.history_standing.specs.Paths.{leads_to, is_root}
 use Rattle.history_standing.specs.Trees.{In}
 use Rattle.history_standing.proofs.Leading.{leads_self}
+use Rattle.history_standing.proofs.Members.{any_in}
 use Rattle.history_standing.specs.declared.activation.Activation.{Activation}
 use Rattle.history_standing.specs.declared.flight.Flight.{Flight}
 use Rattle.history_standing.specs.Ends.{is_over, is_clear, is_done_with}
@@ -55,6 +56,12 @@ index_here keeps k [] d lt = absurd (omega arith)
 index_here keeps zero (x ∷ xs) d lt = refl
 index_here keeps (suc k) (x ∷ xs) d lt = index_here keeps k xs d (omega arith)
 
+pub there_here : {A : Type 0} (keeps : A → Bool) (k : ℕ) (xs : List A) (d : A) → k < length xs
+    → In (slice_index_or xs k d) (kept_from keeps (suc k) xs)
+there_here keeps k [] d lt = absurd (omega arith)
+there_here keeps zero (x ∷ xs) d lt = inl refl
+there_here keeps (suc k) (x ∷ xs) d lt = inr (there_here keeps k xs d (omega arith))
+
 -- of tests that are joined
 last_true : (r d k : Bool) → (r || not (d && k)) ≡ false → k ≡ true
 last_true true d k is = absurd (let e : true ≡ false = is in cc)
@@ -73,6 +80,17 @@ second_false false b none is = absurd (let e : false ≡ true = is in cc)
 both_alike : (a x y : Bool) → (a ≡ true → x ≡ y) → (a && x) ≡ (a && y)
 both_alike true x y alike = alike refl
 both_alike false x y alike = refl
+
+-- one that has an activation which isn't over goes on standing
+pub lives_on : (c : Config) (s : Standing) (n : Node) (a : Activation) → In n s.nodes → In a s.activations → not (is_over c a) ≡ true
+    → a.adapter ≡ n.number → is_done_with c s n ≡ false
+lives_on c s n a stood there lives its =
+    and_right n.dying (is_clear c s n.path)
+    (and_right (not (list_any (λ f. stands_under s.nodes n.path f.adapter) s.flights)) _
+    (ap not (any_in (λ b. not (is_over c b) && stands_under s.nodes n.path b.adapter) a s.activations there
+    (and_from (not (is_over c a)) _ lives
+    (any_in (λ m. (m.number == a.adapter) && leads_to n.path m.path) n s.nodes stood
+    (and_from (n.number == a.adapter) _ (eq-eqb n.number a.adapter (sym its)) (leads_self n.path)))))))
 
 -- the adapter goes on standing
 abbrev pub stays : Config → Standing → Node → Bool
@@ -130,6 +148,12 @@ module _ (c : Config) (s : Standing) where
 
     asked : stays c s (slice_index_or s.nodes k n) ≡ stays c t n
     asked = ap (stays c s) (sym its_place) ∙ sym (stays_left (suc k) n) ∙ ap (λ u. stays c u n) (sym so_far_next)
+
+    -- it stands
+    pub node_there : In n t.nodes
+    node_there =
+        subst (λ u. In n u.nodes) (sym so_far_next)
+        (subst (λ m. In m (left (suc k))) (sym its_place) (there_here (stays c s) k s.nodes n lt))
 
     pub node_kept : stays c t n ≡ true → t ≡ dropped k
     node_kept is = so_far_next ∙ ap (λ ns. record s { nodes = ns }) (kept_here (stays c s) k s.nodes n lt (asked ∙ is))

@@ -1,9 +1,10 @@
 //! When an adapter is gone.
-ghost use Rattle.std.specs.Prelude.{◌≡◌, ◌==◌, ◌&&◌, ◌||◌, not};
+ghost use Rattle.std.specs.Prelude.{◌≡◌, ◌==◌, ◌&&◌, ◌||◌, not, true, false};
 ghost use Rattle.std.specs.List.{list_any};
 ghost use Rattle.history_standing.specs.Nodes.{stands_under};
 ghost use Rattle.history_standing.specs.Paths.{is_root, leads_to};
 ghost use Rattle.history_standing.specs.Ends as ends;
+ghost use Rattle.history_standing.specs.Trees.{In};
 ghost use Rattle.core_standing.specs.Seen.{seen};
 
 use crate::standing::Standing;
@@ -67,13 +68,34 @@ pub fn is_done_with(config: &Config, standing: &Standing, node: &Node) -> bool
     node.dying && (!is_flown_under(standing, path) && !is_lived_under(config, standing, path))
 }
 
-/// Whether an adapter goes on standing.
+/// Whether one of the adapter's own activations isn't over. Then an adapter that stands goes on standing.
+fn lives_itself(config: &Config, standing: &Standing, node: &Node) -> bool
+    ensures { result ≡ true → In node.now standing.now.nodes.items → ends.is_done_with config.now (seen standing.now) node.now ≡ false }
+{
+    standing.activations.has_live(config, node.number)
+}
+
+/// Whether an adapter that stands isn't done with. Its own activations are asked first: those of an adapter are found at once.
+fn goes_on(config: &Config, standing: &Standing, node: &Node) -> bool
+    ensures { In node.now standing.now.nodes.items → result ≡ not (ends.is_done_with config.now (seen standing.now) node.now) }
+{
+    if !node.dying {
+        return true;
+    }
+    if lives_itself(config, standing, node) {
+        return true;
+    }
+    !is_done_with(config, standing, node)
+}
+
+/// Whether an adapter that stands goes on standing.
 pub fn stays(config: &Config, standing: &Standing, node: &Node) -> bool
-    ensures { result ≡ is_root node.now.path || not (ends.is_done_with config.now (seen standing.now) node.now) }
+    ensures { In node.now standing.now.nodes.items
+        → result ≡ is_root node.now.path || not (ends.is_done_with config.now (seen standing.now) node.now) }
 {
     match node.path.as_slice() {
         [] => true,
-        [_, ..] => !is_done_with(config, standing, node),
+        [_, ..] => goes_on(config, standing, node),
     }
 }
 

@@ -7,7 +7,11 @@ use Rattle.active_map.specs.Tables.{Table, IsIndexed, Covers}
 use Rattle.active_map.proofs.MadeKeeps.{keeps_made, made_stays}
 use Rattle.active_map.proofs.Covering.{covers_at}
 use Rattle.active_map.proofs.IdsKept.{indexed_each}
-use Rattle.active_map.proofs.RowsKept.{keeps_where, row_set, row_absent, weight_within, weight_few, moving_few, table_set, tabled}
+use Rattle.std.proofs.lemmas.Bool.{eqb-true}
+use Rattle.history_standing.specs.declared.activation.Activation.{Activation}
+use Rattle.active_map.specs.Noted.{IsNoted}
+use Rattle.active_map.proofs.NotedKept.{noted_at, only_one}
+use Rattle.active_map.proofs.RowsKept.{keeps_where, number_found, row_set, row_absent, weight_within, weight_few, moving_few, table_set, tabled}
 use Rattle.active_map.proofs.activations.Activations.change.Goals as goal
 
 pub overflow_sub-self : goal.overflow_sub-self
@@ -49,6 +53,13 @@ invariant_of-self c =
       covered =
           subst (Covers t.leaving.keys) (sym values)
           (covers_at t.leaving.keys c.args.number f (values_of t.rows.entries) keeps (made_stays c.args.change) c.self.invariant.covered);
+      noted =
+          subst (IsNoted c.note.new.self) (sym values)
+          (noted_at c.args.number f (values_of t.rows.entries) a b t.passing c.note.new.self
+          (λ x there hit. only_one c.args.number t.rows.entries c.self.invariant.table.keyed c.self.invariant.table.ordered a had x there
+          (eqb-true x.number c.args.number hit)) c.make.ensures
+          (ap (λ (x : Activation). x.number) c.make.ensures ∙ keeps.number a ∙ number_found c.args.number t.rows.entries c.self.invariant.table.keyed a had)
+          c.note.ensures c.self.invariant.noted);
     })
 
 pub returns-in-Some : goal.returns-in-Some

@@ -4,13 +4,15 @@ use Rattle.active_map.specs.Endings.{ended}
 use Rattle.active_map.specs.Tables.{Table, Covers, IsIndexed}
 use Rattle.active_map.proofs.IdsKept.{indexed_each}
 use Rattle.active_map.proofs.Covering.{covers_ended, keeps_ended}
+use Rattle.active_map.specs.Noted.{IsNoted}
+use Rattle.active_map.proofs.NotedKept.{noted_each, own_ended, passing_ended}
 use Rattle.active_map.proofs.RowsKept.{table_each, values_each, tabled}
 use Rattle.active_map.proofs.activations.Activations.end.Goals as goal
 
 pub invariant_of-self : goal.invariant_of-self
 invariant_of-self c =
     (let was = c.self.invariant in
-    record { table = was.table; indexed = was.indexed; covered = λ a there leaves. c.enter_ended.ensures.wider a.number (was.covered a there leaves) })
+    record { table = was.table; indexed = was.indexed; covered = λ a there leaves. c.enter_ended.ensures.wider a.number (was.covered a there leaves); noted = was.noted })
 
 pub invariant_of-self-2 : goal.invariant_of-self-2
 invariant_of-self-2 c =
@@ -26,6 +28,8 @@ invariant_of-self-2 c =
           subst (Covers c.enter_ended.new.leaving.keys) (sym each)
           (covers_ended c.args.ending t.leaving.keys c.enter_ended.new.leaving.keys (values_of t.rows.entries) c.enter_ended.ensures.wider
           c.in_ok-enter_ended.ensures.ok c.self.invariant.covered);
+      noted = subst (IsNoted t.passing) (sym each) (noted_each f (values_of t.rows.entries) t.passing (keeps_ended c.args.ending)
+          (passing_ended c.args.ending) (own_ended c.args.ending) c.self.invariant.noted);
     })
 
 pub returns-clause-ok : goal.returns-clause-ok

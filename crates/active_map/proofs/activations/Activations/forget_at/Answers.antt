@@ -6,7 +6,8 @@ use Rattle.std.proofs.lemmas.Map.Entries.{length-values_of}
 use Rattle.history_standing.specs.declared.activation.Activation.{Activation}
 use Rattle.history_standing.specs.Ends.{is_over}
 use Rattle.active_map.specs.ById.{IsAt, numbers_of}
-use Rattle.active_map.specs.Tables.{Table, IsIndexed, is_moving, weight}
+use Rattle.active_map.specs.Tables.{Table, IsIndexed, is_leaving, is_moving, weight}
+use Rattle.active_map.proofs.NotedKept.{noted_struck}
 use Rattle.active_map.proofs.IdsKept.{indexed_less, values_apart}
 use Rattle.active_map.proofs.Covering.{covers_rest, struck_stays}
 use Rattle.active_map.proofs.Removal.{absent_is, counted_without, is_spent, living_is, none_left, removed_is, split_at}
@@ -122,8 +123,13 @@ invariant_of-self c =
           (subst (λ oid. IsAt a.adapter oid (filter (λ m. not (m == c.args.number)) (numbers_of t.ids a.adapter oid)) t.ids c.remove.new.index)
           c.as_slice-oid.ensures.value c.remove.ensures)));
       covered =
-          covers_rest (λ x. not (p x)) t.rows.entries c.remove-gone.new.self.entries kept table.keyed table.ordered t.leaving.keys c.strike.new.leaving.keys
+          covers_rest is_leaving (λ x. not (p x)) t.rows.entries c.remove-gone.new.self.entries kept table.keyed table.ordered t.leaving.keys c.strike.new.leaving.keys
           (struck_stays c.args.number c.remove-gone.new.self.entries c.remove-gone.ensures.updates.1 t.leaving.keys c.strike.new.leaving.keys
           c.strike.ensures.others)
           c.self.invariant.covered;
+      noted =
+          noted_struck (λ x. not (p x)) t.rows.entries c.remove-gone.new.self.entries kept table.keyed table.ordered t.passing c.strike-2.new.self
+          c.strike-2.ensures.whole c.strike-2.ensures.own
+          (struck_stays c.args.number c.remove-gone.new.self.entries c.remove-gone.ensures.updates.1 t.passing.numbers.items
+          c.strike-2.new.self.numbers.items c.strike-2.ensures.others) c.self.invariant.noted;
     })

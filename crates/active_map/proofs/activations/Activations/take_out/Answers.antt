@@ -18,6 +18,7 @@ invariant_of-self c =
           (covers_struck t.leaving.keys c.strike.new.leaving.keys c.args.number
           (λ a. record a { out = true; remaining = c.remains-remaining.result }) c.args.self.now.kept gone_out c.strike.ensures.others
           (subst (Covers t.leaving.keys) values c.self.invariant.covered));
+      noted = c.self.invariant.noted;
     })
 
 pub returns : goal.returns
