@@ -59,7 +59,7 @@ fn read_front<L: Link>(link: &mut L, buffer: &mut [u8], most: u64) -> Took
     ensures quiet { HasCause (L.shown link.old).quiets (L.shown link.new).quiets (result ≡ Took.Quiet) }
 {
     let room = most.min(buffer.len() as u64) as usize;
-    link.read(&mut buffer[..room])
+    link.read(&mut buffer[..room], true)
 }
 
 // The front of a buffer, of so many bytes.

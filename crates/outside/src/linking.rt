@@ -17,8 +17,9 @@ pub trait Link {
     ghost shown: { Self → Shown };
 
     /// Reads what is there into the front of the buffer, at least a byte and at most all of it. A link that
-    /// waits does so for its input, its alarm or a while, and then says `Quiet`.
-    fn read(&mut self, buf: &mut [u8]) -> Took
+    /// waits does so for its input, its alarm or a while, and then says `Quiet`. Where no reply is owed, so that nothing
+    /// is decided meanwhile that can't wait, it may hear its alarm a moment late.
+    fn read(&mut self, buf: &mut [u8], is_owed: bool) -> Took
         requires { 0 < length buf.old }
         ensures within { IsWithin result (length buf.old) }
         ensures bytes { IsRead result buf.new (shown self.old) (shown self.new) }

@@ -1,11 +1,12 @@
 //! What a socket's user waits with.
-use mio::net::TcpStream;
+use mio::unix::SourceFd;
 use mio::{Events, Interest, Poll, Token, Waker};
 use outside::Alarm;
 use poa_base::WantMemory;
 use std::alloc::Global;
 use std::io;
-use std::net::Net;
+use std::net::{Net, TcpStream};
+use std::os::fd::AsRawFd;
 use std::sync::Arc;
 use std::time::Duration;
 
@@ -48,14 +49,18 @@ impl Ears {
     }
 
     /// Hears this socket from now on.
-    pub(crate) fn attach(&self, stream: &mut TcpStream) -> io::Result<()> {
+    pub(crate) fn attach(&self, stream: &TcpStream) -> io::Result<()> {
         let both = Interest::READABLE | Interest::WRITABLE;
-        self.poll.registry().register(stream, SOCKET, both)
+        let descriptor = stream.as_raw_fd();
+        let mut source = SourceFd(&descriptor);
+        self.poll.registry().register(&mut source, SOCKET, both)
     }
 
     /// Hears this socket no longer.
-    pub(crate) fn detach(&self, stream: &mut TcpStream) {
-        let _ = self.poll.registry().deregister(stream);
+    pub(crate) fn detach(&self, stream: &TcpStream) {
+        let descriptor = stream.as_raw_fd();
+        let mut source = SourceFd(&descriptor);
+        let _ = self.poll.registry().deregister(&mut source);
     }
 
     /// The alarm that is heard.

@@ -3,6 +3,7 @@ ghost use Rattle.std.specs.Prelude.{◌≡◌, None};
 
 use crate::ears::Ears;
 use crate::mio_link::MioLink;
+use crate::socket::prepare;
 use outside::{Connector, Opened};
 use poa_base::Endpoint;
 use std::alloc::Global;
@@ -46,10 +47,9 @@ impl<N: Net<Stream = TcpStream>> MioConnector<N> {
     fn link(&self, endpoint: &Endpoint) -> io::Result<MioLink> {
         let (stream, peer) = self.connected(endpoint)?;
         stream.set_nodelay(true)?;
-        stream.set_nonblocking(true)?;
+        prepare(&stream)?;
         let ears = Ears::new(self.alloc, &self.net)?;
-        let mut stream = mio::net::TcpStream::from_std(stream);
-        ears.attach(&mut stream)?;
+        ears.attach(&stream)?;
         let patience = Duration::from_millis(PATIENCE);
         Ok(MioLink::new(stream, peer, ears, patience, None))
     }

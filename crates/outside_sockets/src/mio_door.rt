@@ -6,7 +6,6 @@ use crate::ears::Ears;
 use crate::mio_link::MioLink;
 use crate::newcomer::{Newcomer, is_passing};
 use crate::silent_ones::SilentOnes;
-use mio::net::TcpStream;
 use outside::{Acceptor, Door};
 use poa_base::{Session, WantMemory};
 use std::alloc::Global;
@@ -80,11 +79,10 @@ impl MioDoor {
         ensures quiets { self.new.quiets ≡ self.old.quiets }
     {
         let Newcomer { stream, peer } = self.newcomer()?;
-        let mut stream = TcpStream::from_std(stream);
         let Some(ears) = self.ears.take() else {
             return Err(io::Error::from(ErrorKind::ResourceBusy));
         };
-        match ears.attach(&mut stream) {
+        match ears.attach(&stream) {
             Ok(()) => {
                 let patience = Duration::from_secs(PATIENCE);
                 let silent_ones = self.silent_ones.take();

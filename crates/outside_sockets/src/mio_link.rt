@@ -6,15 +6,15 @@ use crate::owed::Owed;
 use crate::silent_ones::SilentOnes;
 use crate::socket::Socket;
 use crate::traffic::Traffic;
-use mio::net::TcpStream;
 use outside::{Alarm, Link, Took, Wrote};
 use poa_base::WantMemory;
-use std::net::SocketAddr;
+use std::net::{SocketAddr, TcpStream};
 use std::time::Duration;
 
 /// A link over a connected socket. It tells no content. A read that finds nothing waits for input, its alarm or its
-/// patience, and then says `Quiet`. A peer that takes nothing for half a minute is a fault of the write. Where the link
-/// knows who may wait for its end, a peer that keeps one waiting by its silence is a fault of the read.
+/// patience, and then says `Quiet`; where no reply is owed it waits a moment for input alone first. A peer that takes
+/// nothing for half a minute is a fault of the write. Where the link knows who may wait for its end, a peer that keeps
+/// one waiting by its silence is a fault of the read.
 #[derive(Drop)]
 pub struct MioLink {
     socket: Socket,
@@ -60,6 +60,28 @@ impl MioLink {
         (socket.close(), silent_ones)
     }
 
+    // Keeps what an administrator is owed: of others nobody asks.
+    fn note_heard(&mut self, piece: &[u8])
+        ensures read_faults { self.new.read_faults ≡ self.old.read_faults }
+        ensures write_faults { self.new.write_faults ≡ self.old.write_faults }
+        ensures quiets { self.new.quiets ≡ self.old.quiets }
+    {
+        if self.silent_ones.is_some() {
+            self.owed.heard(piece);
+        }
+    }
+
+    // The same of what is written to him.
+    fn note_said(&mut self, part: &[u8])
+        ensures read_faults { self.new.read_faults ≡ self.old.read_faults }
+        ensures write_faults { self.new.write_faults ≡ self.old.write_faults }
+        ensures quiets { self.new.quiets ≡ self.old.quiets }
+    {
+        if self.silent_ones.is_some() {
+            self.owed.said(part);
+        }
+    }
+
     // Whether its peer has nothing to say and nothing to wait for, while another waits.
     fn is_in_the_way(&mut self) -> bool
         ensures read_faults { self.new.read_faults ≡ self.old.read_faults }
@@ -85,8 +107,8 @@ impl Link for MioLink {
       quiets = l.quiets;
     } };
 
-    fn read(&mut self, buf: &mut [u8]) -> Took {
-        match self.socket.receive(buf) {
+    fn read(&mut self, buf: &mut [u8], is_owed: bool) -> Took {
+        match self.socket.receive(buf, is_owed) {
             Took::Quiet => {
                 if self.is_in_the_way() {
                     self.read_faults = self.read_faults.saturating_add(1);
@@ -102,7 +124,7 @@ impl Link for MioLink {
             Took::End => Took::End,
             Took::Got(count) => {
                 let piece = buf.get(..count).unwrap_or(&[]);
-                self.owed.heard(piece);
+                self.note_heard(piece);
                 self.traffic.count_read(piece);
                 Took::Got(count)
             }
@@ -113,7 +135,7 @@ impl Link for MioLink {
         match self.socket.send(piece) {
             Some(count) => {
                 let part = piece.get(..count).unwrap_or(&[]);
-                self.owed.said(part);
+                self.note_said(part);
                 self.traffic.count_written(part);
                 Wrote::Wrote(count)
             }

@@ -1,13 +1,14 @@
 //! Who came in at a port.
+use crate::socket::prepare;
 use std::io;
 use std::io::ErrorKind;
 use std::net::{SocketAddr, TcpListener, TcpStream};
 use std::time::Duration;
 
 // For how many milliseconds a newcomer's first byte is waited for.
-const MOMENT: u64 = 100;
+const GREETING: u64 = 100;
 
-/// A connection that came in, and whose it is. Its reads don't wait, and its small writes aren't delayed.
+/// A connection that came in, and whose it is. It is prepared, so its reads don't wait, and its small writes aren't delayed.
 #[derive(Drop)]
 pub(crate) struct Newcomer {
     pub stream: TcpStream,
@@ -18,18 +19,17 @@ impl Newcomer {
     /// The next who comes in. One that was reset before it came in is told as aborted.
     pub(crate) fn accept(listener: &TcpListener) -> io::Result<Self> {
         let newcomer = Newcomer::accept_waiting(listener)?;
-        newcomer.stream.set_nonblocking(true)?;
+        prepare(&newcomer.stream)?;
         Ok(newcomer)
     }
 
     /// The next who comes in, as soon as it has said something, and after a moment at most.
     pub(crate) fn accept_speaking(listener: &TcpListener) -> io::Result<Self> {
         let newcomer = Newcomer::accept_waiting(listener)?;
-        newcomer
-            .stream
-            .set_read_timeout(Some(Duration::from_millis(MOMENT)))?;
+        let greeting = Duration::from_millis(GREETING);
+        newcomer.stream.set_read_timeout(Some(greeting))?;
         let _ = newcomer.peek();
-        newcomer.stream.set_nonblocking(true)?;
+        prepare(&newcomer.stream)?;
         Ok(newcomer)
     }
 

@@ -3,20 +3,30 @@ ghost use Rattle.std.specs.Prelude.{◌≡◌, ◌<◌, ◌≤◌, length, IfSom
 ghost use Rattle.outside.specs.Reading.{IsWithin};
 
 use crate::ears::{Ears, Heard};
-use mio::net::TcpStream;
 use outside::Took;
+use std::io;
 use std::io::{ErrorKind, Read, Write};
-use std::net::Shutdown;
+use std::net::{Shutdown, TcpStream};
 use std::time::Duration;
 
 // How many seconds a write waits before it looks again.
 const WRITE_PATIENCE: u64 = 1;
+
+// For how many milliseconds a read waits in the system. Its alarm isn't heard meanwhile.
+const MOMENT: u64 = 10;
 
 // For so many such times a peer may take nothing, and for so many waits of reads say nothing while another waits.
 const SILENT_WAITS: u32 = 30;
 
 // How many pieces of input are thrown away at the end.
 const LAST_READS: u32 = 16;
+
+/// Makes a stream ready to be the stream of a socket: its reads and writes don't wait, or not for long once they are let.
+pub(crate) fn prepare(stream: &TcpStream) -> io::Result<()> {
+    stream.set_read_timeout(Some(Duration::from_millis(MOMENT)))?;
+    stream.set_write_timeout(Some(Duration::from_secs(WRITE_PATIENCE)))?;
+    stream.set_nonblocking(true)
+}
 
 /// A socket with what hears it. What was heard while it waited for something else is kept.
 #[derive(Drop)]
@@ -25,6 +35,10 @@ pub(crate) struct Socket {
     ears: Ears,
     /// How long a read waits.
     patience: Duration,
+    /// Reads and writes wait in the system, a moment each: else they don't wait at all.
+    is_waiting: bool,
+    /// The last read found something, so the next input may well come in a moment.
+    is_lively: bool,
     /// The last read found less than it asked for, and no input was heard since.
     is_drained: bool,
     /// The peer closed. Its close is heard only once, so nothing is waited for after it.
@@ -36,11 +50,14 @@ pub(crate) struct Socket {
 }
 
 impl Socket {
+    /// The socket of a stream that was prepared.
     pub(crate) fn new(stream: TcpStream, ears: Ears, patience: Duration) -> Self {
         Socket {
             stream,
             ears,
             patience,
+            is_waiting: false,
+            is_lively: true,
             is_drained: true,
             is_closing: false,
             is_rung: false,
@@ -57,12 +74,15 @@ impl Socket {
         self.silent_waits >= SILENT_WAITS
     }
 
-    /// Reads what is there. Where nothing is, it waits for input, the alarm or its patience.
-    pub(crate) fn receive(&mut self, buf: &mut [u8]) -> Took
+    /// Reads what is there. Where nothing is, it waits for input, the alarm or its patience; but where no reply is owed, and
+    /// the last read found something, a moment for input alone.
+    pub(crate) fn receive(&mut self, buf: &mut [u8], is_owed: bool) -> Took
         requires { 0 < length buf.old }
         ensures { IsWithin result (length buf.old) }
     {
-        if self.is_drained {
+        self.let_wait(!is_owed);
+        let is_soon = self.is_waiting && self.is_lively && !self.is_rung;
+        if self.is_drained && !is_soon {
             if !self.is_rung && self.wait(self.patience) {
                 self.silent_waits = self.silent_waits.saturating_add(1);
             }
@@ -75,6 +95,7 @@ impl Socket {
             Ok(0) => Took::End,
             Ok(count) => {
                 self.silent_waits = 0;
+                self.is_lively = true;
                 self.is_drained = count < buf.len() && !self.is_closing;
                 Took::Got(count)
             }
@@ -89,6 +110,7 @@ impl Socket {
         match kind {
             ErrorKind::WouldBlock => {
                 self.is_drained = true;
+                self.is_lively = false;
                 Took::Quiet
             }
             ErrorKind::Interrupted => Took::Quiet,
@@ -112,7 +134,7 @@ impl Socket {
                     return Some(count);
                 }
                 Err(error) if error.kind() == ErrorKind::WouldBlock => {
-                    if self.wait(Duration::from_secs(WRITE_PATIENCE)) {
+                    if self.waits_for_room() {
                         silent = silent.saturating_add(1);
                     }
                     if silent >= SILENT_WAITS {
@@ -124,6 +146,18 @@ impl Socket {
             }
         }
         None
+    }
+
+    // Lets reads and writes wait in the system, or not. Where that can't be changed, they go on as they did.
+    fn let_wait(&mut self, is_waiting: bool) {
+        if self.is_waiting != is_waiting && self.stream.set_nonblocking(!is_waiting).is_ok() {
+            self.is_waiting = is_waiting;
+        }
+    }
+
+    // Waits for room, where the write itself didn't. Answers whether nothing was heard.
+    fn waits_for_room(&mut self) -> bool {
+        self.is_waiting || self.wait(Duration::from_secs(WRITE_PATIENCE))
     }
 
     // Waits until something is heard, for so long at most, and keeps it. Answers whether nothing was.
@@ -147,18 +181,15 @@ impl Socket {
     /// system would take back the last bytes written otherwise.
     pub(crate) fn close(mut self) -> Ears {
         let _ = self.stream.shutdown(Shutdown::Write);
+        self.let_wait(false);
         let mut buf = [0; 4096];
         for _ in 0..LAST_READS {
             if !matches!(self.stream.read(&mut buf), Ok(1..)) {
                 break;
             }
         }
-        let Socket {
-            mut stream,
-            ears,
-            ..
-        } = self;
-        ears.detach(&mut stream);
+        let Socket { stream, ears, .. } = self;
+        ears.detach(&stream);
         ears
     }
 }

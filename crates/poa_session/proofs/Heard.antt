@@ -1,6 +1,7 @@
 -- What the input says next, and what that does.
 use Rattle.std.proofs.Common.{◌≡◌, ℕ, List, [], ◌∷◌, refl, sym, subst, inl}
-use Rattle.std.specs.Prelude.{Option, None, IfSome}
+use Rattle.std.specs.Prelude.{Option, Result, None, Ok, Err, IfSome}
+use Rattle.std.specs.declared.alloc.AllocError.{AllocError}
 use Rattle.poa_base.specs.declared.Call.{Call}
 use Rattle.poa_base.specs.declared.Entry.{Entry}
 use Rattle.poa_base.specs.declared.SessionEnd.TheVariants.{Ended, Malformed, WantMemory}
@@ -13,13 +14,23 @@ use Rattle.session_laws.specs.Records.{arrived_by, filling_by}
 use Rattle.session_laws.specs.Sessions.{IsNext}
 use Rattle.session_laws.specs.Expecting.{Expects}
 use Rattle.session_laws.proofs.Expected.{expects_begins, expects_call, expects_next, expects_same, expects_stop}
+use Rattle.session_laws.specs.declared.Told.{Told}
 use Rattle.session_laws.specs.declared.Told.TheVariants as told
 use Rattle.session_laws.specs.HearingPieces.{AsTold, Intake, OfIntake}
 use Rattle.session_laws.proofs.GoingOn.{intake_goes_on}
-use Rattle.poa_session.specs.Listening.{AsArrived, Hears}
+use Rattle.poa_session.specs.Listening.{AsArrived, Hears, IsNextTold, IsSized}
 use Rattle.poa_session.specs.declared.progress.Progress.{Progress}
 use Rattle.poa_session.specs.declared.progress.Progress.TheVariants as progress
 use Rattle.poa_session.proofs.Adding.{adds_same}
+
+-- a call that was read has the size of a message or a line
+pub sized : (r : Result Told AllocError) (i j : Intake) → IsNextTold i r j → IsSized r
+sized (Ok (told.Call call size)) i j next = next.0.1
+sized (Ok told.Nothing) i j next = tt
+sized (Ok (told.More have)) i j next = tt
+sized (Ok told.Closed) i j next = tt
+sized (Ok (told.Bad at)) i j next = tt
+sized (Err fault) i j next = tt
 
 module _ (g : Givens) (peer : Peer) (c : ℕ) (v : View Givens Entry) (i j : Intake) (taken : j.taken ≡ i.taken) where
   -- a call
@@ -80,7 +91,7 @@ module _ (g : Givens) (peer : Peer) (c : ℕ) (v : View Givens Entry) (i j : Int
     said = tt;
     adds = adds_same g c v;
     heard = λ text unfilled expected.
-        (let heard = expects_stop peer (OfIntake i) text (arrived_by (past v) c) expected closed tells in (
+        (let heard = expects_stop peer (OfIntake i) text (arrived_by (past v) c) expected closed (tells []) in (
           record { input = inl heard; cause = inl (arrived_by (past v) c, heard); filled = none_filled text unfilled },
           λ shown. inl (arrived_by (past v) c, heard),
         ));
@@ -94,7 +105,7 @@ module _ (g : Givens) (peer : Peer) (c : ℕ) (v : View Givens Entry) (i j : Int
     said = tt;
     adds = adds_same g c v;
     heard = λ text unfilled expected. (
-      record { input = expects_stop peer (OfIntake i) text (arrived_by (past v) c) expected (bad at) tells; cause = tt; filled = none_filled text unfilled },
+      record { input = expects_stop peer (OfIntake i) text (arrived_by (past v) c) expected (bad at) (tells []); cause = tt; filled = none_filled text unfilled },
       λ shown. tt,
     );
     taken = taken;

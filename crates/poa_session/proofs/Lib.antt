@@ -1,7 +1,7 @@
 pub mod Adding
 pub mod Calls
 pub mod Heard
-pub mod Replies
+pub mod Collects
 pub mod Written
 pub mod Taken
 pub mod Owed
@@ -10,7 +10,7 @@ pub mod Counted
 pub mod Ending
 pub mod Phases
 pub mod Stepping
-pub mod Exchanged
+pub mod Exchanges
 pub mod Entering
 pub mod Saying
 pub mod Served

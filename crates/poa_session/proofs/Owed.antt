@@ -18,14 +18,14 @@ use Rattle.poa_session.specs.Writing.{Writes}
 use Rattle.poa_session.proofs.Adding.{adds_both, adds_none, adds_same, found_filling}
 
 -- the replies that were gathered are written
-module _ (g : Givens) (c : ℕ) (v w : View Givens Entry) (old new : List ℕ) (none : old ≡ []) (a : Shown) where
-  pub pays_lost : (fault : AllocError) → Gathers g c v w old new (Err fault) → Pays g c v a w a (Err WantMemory)
+module _ (g : Givens) (c : ℕ) (v w : View Givens Entry) (new : List ℕ) (a : Shown) where
+  pub pays_lost : (fault : AllocError) → Gathers g c v w new (Err fault) → Pays g c v a w a (Err WantMemory)
   pays_lost fault x = record { due = x.due; done = []; adds = x.adds; moved = moves_none a; same = x.same; paid = (x.due, refl) }
 
-  gathered_all : (owed : ℕ) (x : Gathers g c v w old new (Ok owed)) (bytes : List ℕ) → bytes ≡ new → x.due ≡ bytes
-  gathered_all owed x bytes same = sym (same ∙ (x.gathered.0 ∙ ap (λ o. o ++ x.due) none))
+  gathered_all : (owed : ℕ) (x : Gathers g c v w new (Ok owed)) (bytes : List ℕ) → bytes ≡ new → x.due ≡ bytes
+  gathered_all owed x bytes same = sym (same ∙ x.gathered.0)
 
-  module _ (owed : ℕ) (x : Gathers g c v w old new (Ok owed)) (bytes : List ℕ) (same : bytes ≡ new) (b : Shown) where
+  module _ (owed : ℕ) (x : Gathers g c v w new (Ok owed)) (bytes : List ℕ) (same : bytes ≡ new) (b : Shown) where
     pub pays_cut : Writes bytes a b false → Pays g c v a w b (Err WriteFault)
     pays_cut y = record { due = x.due; done = y.done; adds = x.adds; moved = y.moved; same = x.same; paid = (y.rest, gathered_all owed x bytes same ∙ y.front) }
 

@@ -31,12 +31,9 @@ use Rattle.poa_session.specs.Taking.{AsTaken, Takes}
 use Rattle.poa_session.specs.declared.flow.Flow.TheVariants as flow
 use Rattle.poa_session.specs.declared.progress.Progress.{Progress}
 use Rattle.poa_session.specs.declared.progress.Progress.TheVariants as progress
-use Rattle.poa_session.proofs.Adding.{adds_both, adds_none, adds_same, found_filling}
+use Rattle.poa_session.proofs.Adding.{adds_both, adds_none, found_filling}
 
 -- reading on
-pub hears_same : (g : Givens) (peer : Peer) (c : ℕ) (v : View Givens Entry) (i : Intake) → Hears g peer c v i v i progress.On
-hears_same g peer c v i = record { calls = []; said = tt; adds = adds_same g c v; heard = (refl, λ text expected. expected); taken = refl }
-
 heard_then : (peer : Peer) (c : ℕ) (v w u : View Givens Entry) (i j k : Intake) (r : Progress) → AsHeard peer c v i w j progress.On → AsHeard peer c w j u k r
     → AsHeard peer c v i u k r
 heard_then peer c v w u i j k progress.On x y = (y.0 ∙ x.0, λ text expected. y.1 text (x.1 text expected))
@@ -98,8 +95,9 @@ module _ (g : Givens) (peer : Peer) (c : ℕ) (v : View Givens Entry) (a : Shown
   stops_may text (Limit many bytes) stops begins unfilled = absurd stops
   stops_may text WantMemory stops begins unfilled = absurd stops
 
-  pub rounds_stopped : (end : SessionEnd) → Looks g v u (Some end) → Rounds g peer c v a i u a i (flow.Ends end)
-  rounds_stopped end looked = record {
+  pub rounds_stopped : (j : Intake) → ((text : List ℕ) → KnowsFirst peer i.ear text → KnowsFirst peer j.ear text) → (end : SessionEnd)
+      → Looks g v u (Some end) → Rounds g peer c v a i u a j (flow.Ends end)
+  rounds_stopped j kept end looked = record {
     piece = [];
     calls = [];
     said = tt;
@@ -110,7 +108,7 @@ module _ (g : Givens) (peer : Peer) (c : ℕ) (v : View Givens Entry) (a : Shown
     few = λ few. omega (arith, few);
     silent = λ _. refl;
     goes_on = tt;
-    first = λ text knows settles. nothing_behind (λ t. KnowsFirst peer i.ear t) text knows;
+    first = λ text knows settles. nothing_behind (λ t. KnowsFirst peer j.ear t) text (kept text knows);
     flows = λ text counted unfilled expected.
         (let may =
         stops_may text end looked.stops

@@ -4,6 +4,7 @@ pub mod Served
 pub mod Writing
 pub mod Stopping
 pub mod Listening
+pub mod Giving
 pub mod Paying
 pub mod Taking
 pub mod Exchanging

@@ -1,5 +1,5 @@
 -- What giving replies and writing them does.
-use Rattle.std.specs.Prelude.{◌≡◌, ℕ, List, [], ◌++◌, true, Option, Some, None, Result, Ok, Err}
+use Rattle.std.specs.Prelude.{◌≡◌, ℕ, List, [], true, Result, Ok, Err}
 use Rattle.std.specs.declared.alloc.AllocError.{AllocError}
 use Rattle.poa_base.specs.declared.Entry.{Entry}
 use Rattle.poa_base.specs.declared.SessionEnd.{SessionEnd}
@@ -9,10 +9,8 @@ use Rattle.seat_lock.specs.Histories.{IsPrefix}
 use Rattle.seat_lock.specs.declared.view.View.{View}
 use Rattle.outside.specs.Link.{Shown, Moves}
 use Rattle.poa_history.specs.declared.Givens.{Givens}
-use Rattle.poa_core.specs.declared.Collected.{Collected}
-use Rattle.poa_core.specs.declared.Collected.TheVariants as collected
 use Rattle.poa_shared.specs.Seen.{past}
-use Rattle.session_laws.specs.Records.{filling_by, told, IsPaidBy}
+use Rattle.session_laws.specs.Records.{filling_by, IsPaidBy}
 use Rattle.poa_session.specs.Growing.{Adds}
 
 -- the replies that were given are `due`, of which these bytes were written, where that ends the session
@@ -27,33 +25,16 @@ abbrev pub AsPaid : List Entry → ℕ → Result ℕ SessionEnd → List ℕ �
 AsPaid h c (Ok owed) due done = (done ≡ due) × (owed ≡ 0 → IsPaidBy h c)
 AsPaid h c (Err end) due done = BreaksOff h end due done
 
--- the replies that are decided were given, and stand behind the bytes that stood before
-abbrev pub AsGathered : List Entry → ℕ → List ℕ → List ℕ → List ℕ → Result ℕ AllocError → Type 0
-AsGathered h c old due new (Ok owed) = (new ≡ old ++ due) × (owed ≡ 0 → IsPaidBy h c)
-AsGathered h c old due new (Err fault) = Unit {0}
+-- the replies that are decided were given, and these bytes tell them
+abbrev pub AsGathered : List Entry → ℕ → List ℕ → List ℕ → Result ℕ AllocError → Type 0
+AsGathered h c due bytes (Ok owed) = (bytes ≡ due) × (owed ≡ 0 → IsPaidBy h c)
+AsGathered h c due bytes (Err fault) = Unit {0}
 
-pub record Gathers (g : Givens) (c : ℕ) (v w : View Givens Entry) (old new : List ℕ) (result : Result ℕ AllocError) : Type 0 where
+pub record Gathers (g : Givens) (c : ℕ) (v w : View Givens Entry) (bytes : List ℕ) (result : Result ℕ AllocError) : Type 0 where
   pub due : List ℕ
   pub adds : Adds g c v w [] due
   pub same : filling_by (past w) c ≡ filling_by (past v) c
-  pub gathered : AsGathered (past w) c old due new result
-
--- a reply was given, and stands behind the bytes that stood before; or none is decided
-abbrev pub NextGathered : Givens → ℕ → View Givens Entry → View Givens Entry → List ℕ → List ℕ → Result (Option ℕ) AllocError → Type 0
-NextGathered g c v w old new (Ok None) = (bytes : List ℕ) × (Adds g c v w [] bytes × (filling_by (past w) c ≡ filling_by (past v) c))
-    × (new ≡ old ++ bytes)
-NextGathered g c v w old new (Ok (Some owed)) =
-    (Adds g c v w [] [] × (filling_by (past w) c ≡ filling_by (past v) c) × (owed ≡ 0 → IsPaidBy (past w) c)) × (new ≡ old)
-NextGathered g c v w old new (Err fault) = (bytes : List ℕ) × (Adds g c v w [] bytes × (filling_by (past w) c ≡ filling_by (past v) c))
-
--- what is collected is put behind the bytes that stand there
-abbrev pub PutsOn : Collected → List ℕ → List ℕ → Result (Option ℕ) AllocError → Type 0
-PutsOn (collected.Reply r head reply) old new (Ok None) = new ≡ old ++ told head reply
-PutsOn (collected.Reply r head reply) old new (Ok (Some owed)) = ⊥
-PutsOn (collected.Reply r head reply) old new (Err fault) = Unit {0}
-PutsOn (collected.Nothing owes) old new (Ok None) = ⊥
-PutsOn (collected.Nothing owes) old new (Ok (Some owed)) = (owed ≡ owes) × (new ≡ old)
-PutsOn (collected.Nothing owes) old new (Err fault) = ⊥
+  pub gathered : AsGathered (past w) c due bytes result
 
 pub record Pays (g : Givens) (c : ℕ) (v : View Givens Entry) (a : Shown) (w : View Givens Entry) (b : Shown)
     (result : Result ℕ SessionEnd) : Type 0 where

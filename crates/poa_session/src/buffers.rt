@@ -1,6 +1,7 @@
 //! The buffers of a session.
 ghost use Rattle.std.specs.Prelude.{◌<◌, length, IfOk};
 
+use crate::replies::Replies;
 use poa_base::WantMemory;
 use std::alloc::Global;
 
@@ -14,7 +15,7 @@ pub(crate) struct Buffers {
     /// The room for what is read.
     pub piece: Vec<u8>,
     /// The replies of a round.
-    pub replies: Vec<u8>,
+    pub replies: Replies,
 }
 
 impl Buffers {
@@ -23,7 +24,7 @@ impl Buffers {
         ensures { IfOk result (λ made. 0 < length made.piece.items) }
     {
         let piece = Vec::from_elem(alloc, 0u8, PIECE)?;
-        let replies = Vec::new(alloc);
+        let replies = Replies::new(alloc);
         Ok(Buffers { piece, replies })
     }
 }

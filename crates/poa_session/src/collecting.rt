@@ -1,20 +1,18 @@
 //! Replies that are given and written.
-ghost use Rattle.std.specs.Prelude.{◌≡◌, ◌≢◌, ◌++◌, Some, Err, OnOk};
+ghost use Rattle.std.specs.Prelude.{◌≡◌, ◌≢◌, Some, Err, OnOk};
 ghost use Rattle.seat_lock.specs.Seats.{view};
 ghost use Rattle.outside.specs.Cause.{HasCause};
 ghost use Rattle.poa_history.specs.declared.Givens.{Givens};
-ghost use Rattle.giop_replies.specs.Calls.{IsGivenTo};
-ghost use Rattle.session_laws.specs.Records.{told};
 ghost use Rattle.poa_shared.specs.Seats.{IsIdle};
-ghost use Rattle.poa_shared.specs.Seen.{HoldsConnection, Owns};
-ghost use Rattle.poa_session.specs.Paying.{Gathers, NextGathered, Pays, PutsOn};
+ghost use Rattle.poa_shared.specs.Seen.{HoldsConnection};
+ghost use Rattle.poa_session.specs.Giving.{AreGiven, Gives, GivesNext, IsKept};
+ghost use Rattle.poa_session.specs.Paying.{Pays};
 ghost use Rattle.poa_session.specs.Saying.{HasSaid, IsGiven};
 
+use crate::replies::Replies;
 use crate::writing::write_all;
-use admin_line::write_answer;
-use giop_replies::put_reply;
 use outside::Link;
-use poa_base::{Head, Reply, SessionEnd, WantMemory};
+use poa_base::{SessionEnd, WantMemory};
 use poa_core::Collected;
 use poa_shared::{Front, Seat, Shared};
 use std::alloc::Global;
@@ -40,11 +38,14 @@ pub(crate) fn collect_all<R: Wait, L: Link>(
     ensures failed { HasCause (L.shown link.old).write_faults (L.shown link.new).write_faults (result ≡ Err SessionEnd.WriteFault) }
     ensures unread { result ≢ Err SessionEnd.ReadFault }
 {
-    let mut replies = Vec::new(alloc);
-    let Ok(owed) = gather(rt, alloc, shared, seat, conn, &mut replies) else {
+    let mut replies = Replies::new(alloc);
+    let Ok(owed) = gather(rt, shared, seat, conn, &mut replies.given) else {
         return Err(SessionEnd::WantMemory);
     };
-    if !write_all(link, replies.as_slice()) {
+    let Ok(()) = replies.spell(alloc) else {
+        return Err(SessionEnd::WantMemory);
+    };
+    if !write_all(link, replies.bytes.as_slice()) {
         return Err(SessionEnd::WriteFault);
     }
     Ok(owed)
@@ -53,45 +54,45 @@ pub(crate) fn collect_all<R: Wait, L: Link>(
 // Collects the replies that are decided, under one hold of the front.
 fn gather<R: Wait>(
     rt: &R,
-    alloc: Global,
     shared: &Shared,
     seat: &mut Seat,
     conn: u32,
-    replies: &mut Vec<u8>,
+    given: &mut Vec<Collected>,
 ) -> Result<u64, WantMemory>
     requires seat { IsIdle shared.now seat.old }
     requires conn { HoldsConnection (view seat.old) conn }
     requires said { HasSaid conn (view seat.old) }
     ensures seat { IsIdle shared.now seat.new }
     ensures conn { HoldsConnection (view seat.new) conn }
-    ensures gathers { (g : Givens) → (view seat.old).givens ≡ Some g
-        → Gathers g conn (view seat.old) (view seat.new) replies.old.items replies.new.items result }
+    ensures given { AreGiven given.old.items → AreGiven given.new.items }
+    ensures gives { (g : Givens) → (view seat.old).givens ≡ Some g
+        → Gives g conn (view seat.old) (view seat.new) given.old.items given.new.items result }
 {
     let front = shared.front(rt);
-    gather_within(rt, alloc, shared, &front, seat, conn, replies)
+    gather_within(rt, shared, &front, seat, conn, given)
 }
 
-/// Collects the replies that are decided, and puts them behind the others. How many calls are owed a reply still. The front
+/// Collects the replies that are decided, and keeps them behind the others. How many calls are owed a reply still. The front
 /// is held.
 pub(crate) fn gather_within<R: Wait>(
     rt: &R,
-    alloc: Global,
     shared: &Shared,
     front: &Front<'_>,
     seat: &mut Seat,
     conn: u32,
-    replies: &mut Vec<u8>,
+    given: &mut Vec<Collected>,
 ) -> Result<u64, WantMemory>
     requires seat { IsIdle shared.now seat.old }
     requires conn { HoldsConnection (view seat.old) conn }
     requires said { HasSaid conn (view seat.old) }
     ensures seat { IsIdle shared.now seat.new }
     ensures conn { HoldsConnection (view seat.new) conn }
-    ensures gathers { (g : Givens) → (view seat.old).givens ≡ Some g
-        → Gathers g conn (view seat.old) (view seat.new) replies.old.items replies.new.items result }
+    ensures given { AreGiven given.old.items → AreGiven given.new.items }
+    ensures gives { (g : Givens) → (view seat.old).givens ≡ Some g
+        → Gives g conn (view seat.old) (view seat.new) given.old.items given.new.items result }
 {
     for _ in rt.forever() {
-        let Ok(next) = collect_next(rt, alloc, shared, front, seat, conn, replies) else {
+        let Ok(next) = collect_next(rt, shared, front, seat, conn, given) else {
             return Err(WantMemory);
         };
         if let Some(owed) = next {
@@ -101,55 +102,37 @@ pub(crate) fn gather_within<R: Wait>(
     unreachable!()
 }
 
-// Collects the next reply, and puts it behind the others. Where none is decided, how many calls are owed one. The front is held.
+// Collects the next reply, and keeps it behind the others. Where none is decided, how many calls are owed one. The front is held.
 fn collect_next<R: Wait>(
     rt: &R,
-    alloc: Global,
     shared: &Shared,
     front: &Front<'_>,
     seat: &mut Seat,
     conn: u32,
-    replies: &mut Vec<u8>,
+    given: &mut Vec<Collected>,
 ) -> Result<Option<u64>, WantMemory>
     requires seat { IsIdle shared.now seat.old }
     requires conn { HoldsConnection (view seat.old) conn }
     requires said { HasSaid conn (view seat.old) }
     ensures seat { IsIdle shared.now seat.new }
     ensures conn { HoldsConnection (view seat.new) conn }
+    ensures given { AreGiven given.old.items → AreGiven given.new.items }
     ensures next { (g : Givens) → (view seat.old).givens ≡ Some g
-        → NextGathered g conn (view seat.old) (view seat.new) replies.old.items replies.new.items result }
+        → GivesNext g conn (view seat.old) (view seat.new) given.old.items given.new.items result }
 {
     let collected = shared.collect_within(rt, front, seat, conn);
-    put_collected(alloc, replies, &collected)
+    keep(given, collected)
 }
 
-// Puts a reply that was collected behind the others.
-fn put_collected(
-    alloc: Global,
-    replies: &mut Vec<u8>,
-    collected: &Collected,
-) -> Result<Option<u64>, WantMemory>
-    requires { IsGiven collected.now }
-    ensures { PutsOn collected.now replies.old.items replies.new.items result }
+// Keeps a reply that was collected behind the others.
+fn keep(given: &mut Vec<Collected>, collected: Collected) -> Result<Option<u64>, WantMemory>
+    requires { IsGiven collected }
+    ensures given { AreGiven given.old.items → AreGiven given.new.items }
+    ensures kept { IsKept collected given.old.items given.new.items result }
 {
-    match collected {
-        Collected::Reply { head, reply, .. } => {
-            tell(alloc, replies, head, reply)?;
-            Ok(None)
-        }
-        Collected::Nothing { owed } => Ok(Some(*owed)),
+    if let Collected::Nothing { owed } = &collected {
+        return Ok(Some(*owed));
     }
-}
-
-// Puts what a reply is told by behind the others.
-fn tell(alloc: Global, replies: &mut Vec<u8>, head: &Head, reply: &Reply) -> Result<(), WantMemory>
-    requires { IsGivenTo head.now reply.now }
-    ensures { OnOk result (replies.new.items ≡ replies.old.items ++ told head.now reply.now) }
-{
-    if let Reply::Answer { number, answer } = reply {
-        let line = write_answer(alloc, *number, answer)?;
-        replies.extend_from_slice(line.as_slice())?;
-        return replies.extend_from_slice(b"\n");
-    }
-    put_reply(alloc, replies, head, reply)
+    given.push(collected)?;
+    Ok(None)
 }

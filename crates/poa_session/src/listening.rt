@@ -3,22 +3,22 @@ ghost use Rattle.std.specs.Prelude.{◌≡◌, ◌≢◌, ℕ, List, Some, Err};
 ghost use Rattle.seat_lock.specs.Seats.{view};
 ghost use Rattle.poa_history.specs.declared.Givens.{Givens};
 ghost use Rattle.session_laws.specs.declared.Peer.{Peer};
-ghost use Rattle.session_laws.specs.HearingPieces.{KnowsFirst};
+ghost use Rattle.session_laws.specs.HearingPieces.{Intake, KnowsFirst};
 ghost use Rattle.poa_shared.specs.Seats.{IsIdle};
 ghost use Rattle.poa_shared.specs.Seen.{HoldsConnection};
-ghost use Rattle.poa_session.specs.Listening.{AsArrived, Hears, Listens};
+ghost use Rattle.poa_session.specs.Listening.{AsArrived, Comes, Hears, IsNextTold, IsSized, Listens};
 ghost use Rattle.poa_history.specs.Legal.{IsSize};
 
 use crate::progress::Progress;
-use poa_base::{Call, SessionEnd};
+use poa_base::{Call, SessionEnd, WantMemory};
 use poa_core::ArriveFault;
 use poa_shared::{Front, News, Seat, Shared};
 use session_laws::{Input, Told};
 use std::alloc::Global;
 use std::sync::Wait;
 
-/// Lets each call arrive that stands whole in the input, and notes that calls came. How many bytes are left over behind them,
-/// or how the session ends. The front is held.
+/// Lets each call arrive that stands whole in the input, of which the first was read before, and notes that calls came. How
+/// many bytes are left over behind them, or how the session ends. The front is held.
 pub(crate) fn listen_within<R: Wait>(
     rt: &R,
     alloc: Global,
@@ -26,24 +26,28 @@ pub(crate) fn listen_within<R: Wait>(
     front: &Front<'_>,
     seat: &mut Seat,
     input: &mut Input,
+    first: Result<Told, WantMemory>,
     conn: u32,
     news: &mut News,
 ) -> Result<u64, SessionEnd>
     requires seat { IsIdle shared.now seat.old }
     requires conn { HoldsConnection (view seat.old) conn }
+    requires next { Comes first input.old }
     ensures seat { IsIdle shared.now seat.new }
     ensures conn { HoldsConnection (view seat.new) conn }
     ensures first { (peer : Peer) (text : List ℕ) → KnowsFirst peer input.old.ear text → KnowsFirst peer input.new.ear text }
-    ensures listens { (g : Givens) → (view seat.old).givens ≡ Some g → (peer : Peer)
-        → Listens g peer conn (view seat.old) input.old (view seat.new) input.new result }
+    ensures listens { (g : Givens) → (view seat.old).givens ≡ Some g → (peer : Peer) (i : Intake) → IsNextTold i first input.old
+        → Listens g peer conn (view seat.old) i (view seat.new) input.new result }
     ensures unwritten { (result ≢ Err SessionEnd.WriteFault) × (result ≢ Err SessionEnd.ReadFault) }
 {
+    let mut progress = take(rt, shared, front, seat, first, conn, news);
     for _ in rt.forever() {
-        match hear(rt, alloc, shared, front, seat, input, conn, news) {
+        match progress {
             Progress::On => {}
             Progress::Waits { have } => return Ok(have),
             Progress::Ends(end) => return Err(end),
         }
+        progress = hear(rt, alloc, shared, front, seat, input, conn, news);
     }
     unreachable!()
 }
@@ -68,7 +72,30 @@ fn hear<R: Wait>(
         → Hears g peer conn (view seat.old) input.old (view seat.new) input.new result }
     ensures unwritten { (result ≢ Progress.Ends SessionEnd.WriteFault) × (result ≢ Progress.Ends SessionEnd.ReadFault) }
 {
-    let Ok(told) = input.next(alloc) else {
+    let told = input.next(alloc);
+    take(rt, shared, front, seat, told, conn, news)
+}
+
+// Lets what was read arrive where it is a call.
+fn take<R: Wait>(
+    rt: &R,
+    shared: &Shared,
+    front: &Front<'_>,
+    seat: &mut Seat,
+    told: Result<Told, WantMemory>,
+    conn: u32,
+    news: &mut News,
+) -> Progress
+    requires seat { IsIdle shared.now seat.old }
+    requires conn { HoldsConnection (view seat.old) conn }
+    requires size { IsSized told }
+    ensures seat { IsIdle shared.now seat.new }
+    ensures conn { HoldsConnection (view seat.new) conn }
+    ensures hears { (g : Givens) → (view seat.old).givens ≡ Some g → (peer : Peer) (i j : Intake) → IsNextTold i told j
+        → Hears g peer conn (view seat.old) i (view seat.new) j result }
+    ensures unwritten { (result ≢ Progress.Ends SessionEnd.WriteFault) × (result ≢ Progress.Ends SessionEnd.ReadFault) }
+{
+    let Ok(told) = told else {
         return Progress::Ends(SessionEnd::WantMemory);
     };
     match told {

@@ -56,15 +56,14 @@ pub(crate) fn round<R: Wait, L: Link>(
     // Before it looks: what is decided or shut from here on ends the read that waits.
     shared.attend(conn);
     let replies = &mut buffers.replies;
-    replies.clear();
-    let have = match exchange(rt, alloc, shared, seat, aid, input, conn, replies) {
-        Ok(have) => have,
+    let exchanged = match exchange(rt, alloc, shared, seat, aid, input, conn, replies) {
+        Ok(exchanged) => exchanged,
         Err(flow) => return flow,
     };
-    if !write_all(link, &buffers.replies) {
+    if !write_all(link, &buffers.replies.bytes) {
         return Flow::Broke(SessionEnd::WriteFault);
     }
-    match take_in(link, input, &mut buffers.piece, have) {
+    match take_in(link, input, &mut buffers.piece, exchanged) {
         Some(end) => Flow::Ends(end),
         None => Flow::On,
     }

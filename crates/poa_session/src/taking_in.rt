@@ -5,6 +5,7 @@ ghost use Rattle.outside.specs.Link.{IsRead};
 ghost use Rattle.outside.specs.Reading.{IsWithin};
 ghost use Rattle.poa_session.specs.Taking.{EndsAt, Takes};
 
+use crate::exchanged::Exchanged;
 use outside::{Link, Took};
 use poa_base::SessionEnd;
 use session_laws::Input;
@@ -12,15 +13,15 @@ use session_laws::Input;
 /// The most bytes that one session reads.
 const INPUT_LIMIT: u64 = 1 << 40;
 
-/// Takes in what the link has, where so many bytes are left over of what was taken in before. With an end, no more is read.
+/// Takes in what the link has, where the round came to this before. With an end, no more is read.
 pub(crate) fn take_in<L: Link>(
     link: &mut L,
     input: &mut Input,
     buffer: &mut [u8],
-    have: u64,
+    before: Exchanged,
 ) -> Option<SessionEnd>
     requires { 0 < length buffer.old }
-    ensures takes { Takes input.old input.new have (L.shown link.old) (L.shown link.new) result }
+    ensures takes { Takes input.old input.new before.have (L.shown link.old) (L.shown link.new) result }
     ensures failed { HasCause (L.shown link.old).read_faults (L.shown link.new).read_faults (result ≡ Some SessionEnd.ReadFault) }
     ensures unwritten { result ≢ Some SessionEnd.WriteFault }
     ensures buffer { length buffer.new ≡ length buffer.old }
@@ -29,7 +30,7 @@ pub(crate) fn take_in<L: Link>(
     if taken == INPUT_LIMIT {
         return Some(SessionEnd::InputLimit { taken });
     }
-    match read_front(link, buffer, INPUT_LIMIT - taken) {
+    match read_front(link, buffer, INPUT_LIMIT - taken, before.owed > 0) {
         Took::Got(count) => {
             if input.feed(&buffer[..count]).is_err() {
                 return Some(SessionEnd::WantMemory);
@@ -37,13 +38,13 @@ pub(crate) fn take_in<L: Link>(
             None
         }
         Took::Quiet => None,
-        Took::End => Some(ended(have)),
+        Took::End => Some(ended(before.have)),
         Took::Failed => Some(SessionEnd::ReadFault),
     }
 }
 
-// Reads no more than `most` bytes into the front of the buffer.
-fn read_front<L: Link>(link: &mut L, buffer: &mut [u8], most: u64) -> Took
+// Reads no more than `most` bytes into the front of the buffer, where a reply is owed or none is.
+fn read_front<L: Link>(link: &mut L, buffer: &mut [u8], most: u64, is_owed: bool) -> Took
     requires some { 0 < length buffer.old }
     requires allowed { 0 < most }
     ensures within { IsWithin result (length buffer.old) }
@@ -53,7 +54,7 @@ fn read_front<L: Link>(link: &mut L, buffer: &mut [u8], most: u64) -> Took
     ensures buffer { length buffer.new ≡ length buffer.old }
 {
     let room = most.min(buffer.len() as u64) as usize;
-    link.read(&mut buffer[..room])
+    link.read(&mut buffer[..room], is_owed)
 }
 
 // How a session ends at the end of its input, where so many bytes are left over.

@@ -133,7 +133,7 @@ impl MemLink {
 impl Link for MemLink {
     ghost shown = { λ l. l };
 
-    fn read(&mut self, buf: &mut [u8]) -> Took {
+    fn read(&mut self, buf: &mut [u8], _is_owed: bool) -> Took {
         let call = self.reads;
         self.reads = call.saturating_add(1);
         if self.failing_reads.contains(&call) {

@@ -42,9 +42,9 @@ fn make_turns<R: Wait>(rt: &R, shared: &Shared, seat: &mut Seat)
 impl<R: Wait + Drop> Link for WorkedLink<R> {
     ghost shown = { λ l. l.link };
 
-    fn read(&mut self, buf: &mut [u8]) -> Took {
+    fn read(&mut self, buf: &mut [u8], is_owed: bool) -> Took {
         make_turns(&self.rt, &*self.shared, &mut self.seat);
-        self.link.read(buf)
+        self.link.read(buf, is_owed)
     }
 
     fn write(&mut self, piece: &[u8]) -> Wrote {

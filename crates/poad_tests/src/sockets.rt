@@ -39,18 +39,21 @@ fn next_link(door: &mut MioDoor) -> Result<MioLink, Fail> {
     }
 }
 
-/// Whether a link's alarm ends a read, and what one side writes the other reads, up to the end.
+/// Whether a link's alarm ends a read, and what one side writes the other reads, up to the end. Where no reply is owed a read
+/// waits in the system first, and then hears of input and of the end as before.
 fn passes_all(link: &mut MioLink, peer: &mut TcpStream) -> io::Result<bool> {
     link.alarm()?.ring();
     let mut buf = [0; 8];
-    let was_quiet = link.read(&mut buf) == Took::Quiet;
+    let was_quiet = link.read(&mut buf, true) == Took::Quiet;
     peer.write_all(b"abc")?;
-    let is_written = link.read(&mut buf) == Took::Got(3) && link.write(b"xyz") == Wrote::Wrote(3);
+    let is_written = link.read(&mut buf, true) == Took::Got(3)
+        && link.write(b"xyz") == Wrote::Wrote(3);
     let mut answer = [0; 3];
     peer.read_exact(&mut answer)?;
     peer.write_all(b"de")?;
     peer.shutdown(Shutdown::Write)?;
-    let is_ended = link.read(&mut buf) == Took::Got(2) && link.read(&mut buf) == Took::End;
+    let is_heard = link.read(&mut buf, false) == Took::Got(2);
+    let is_ended = is_heard && comes_to_its_end(link);
     Ok(was_quiet && is_written && answer == *b"xyz" && is_ended)
 }
 
@@ -96,7 +99,7 @@ fn open_speakers_door(rt: HostRuntime) -> io::Result<(MioDoor, SocketAddr)> {
 fn is_next(door: &mut MioDoor, byte: u8) -> Result<bool, Fail> {
     let mut link = next_link(door)?;
     let mut buf = [0; 8];
-    let is_said = link.read(&mut buf) == Took::Got(1) && buf[0] == byte;
+    let is_said = link.read(&mut buf, true) == Took::Got(1) && buf[0] == byte;
     let is_counted = link.traffic().read == 1;
     door.give_back(link, ENDED);
     Ok(is_said && is_counted)
@@ -129,7 +132,7 @@ fn endpoint(rt: HostRuntime, host: &[u8], port: u16) -> Result<Endpoint, Fail> {
 /// Whether the next that a link says, behind reads of nothing, is an end.
 fn comes_to_its_end(link: &mut MioLink) -> bool {
     for _ in 0..1000 {
-        match link.read(&mut [0; 8]) {
+        match link.read(&mut [0; 8], false) {
             Took::Quiet => {}
             took => return took == Took::End,
         }
@@ -225,7 +228,7 @@ fn writes_all(
     let reader = thread::spawn(rt, move || read_late(waiting, alarm, peer))?;
     let count = fill(link);
     let (taken, _peer) = reader.join(rt);
-    Ok(count == MUCH && taken == MUCH && link.read(&mut [0; 8]) == Took::Quiet)
+    Ok(count == MUCH && taken == MUCH && link.read(&mut [0; 8], true) == Took::Quiet)
 }
 
 #[test]

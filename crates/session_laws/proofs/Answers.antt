@@ -32,9 +32,9 @@ told_message f g m (told.Call call size) answers asks = (
 )
 told_message f g m told.Nothing answers asks = λ text more stop w. framer_cancel f g text more stop w m asks.0 answers asks.1
 told_message f g m (told.More have) answers asks = absurd asks
-told_message f g m told.Closed answers asks = framer_closing f g [] m answers (given_on g []) asks
-told_message f g m (told.Bad at) answers asks =
-    subst (λ (n : ℕ). OfFramer f [] [] (bad n)) (sym asks.0) (framer_malformed f g [] m answers (given_on g []) asks.1 asks.2)
+told_message f g m told.Closed answers asks = λ next. framer_closing f g next m answers (given_on g next) asks
+told_message f g m (told.Bad at) answers asks = λ next.
+    subst (λ (n : ℕ). OfFramer f next [] (bad n)) (sym asks.0) (framer_malformed f g next m answers (given_on g next) asks.1 asks.2)
 
 -- a framer that gives no message
 pub told_more : (f g : Framing) (have : ℕ) → FramerAnswers f (next.NeedMore have) g → AsTold (told.More have) (OfFramer f) (OfFramer g)
@@ -68,9 +68,9 @@ if_ok (Err e) P Q f p = p
 -- what a cutter says, by the bytes that it looks at
 module _ (l : Cutting) (place : ℕ) (unread : List ℕ) (at : place ≡ l.place) (looks : unread ≡ l.unread) where
   pub cut_long : lacks 10 unread ≡ true → is_long unread ≡ true → AsTold (told.Bad place) (OfLines l) (OfLines l)
-  cut_long clear long =
-      subst (λ (p : ℕ). OfLines l [] [] (bad p)) (sym at)
-      (front_long l [] (subst (λ u. lacks 10 u ≡ true) looks clear) (subst (λ u. is_long u ≡ true) looks long))
+  cut_long clear long = λ next.
+      subst (λ (p : ℕ). OfLines l next [] (bad p)) (sym at)
+      (front_long l next (subst (λ u. lacks 10 u ≡ true) looks clear) (subst (λ u. is_long u ≡ true) looks long))
 
   pub cut_over : lacks 10 unread ≡ true → is_long unread ≡ false → AsTold (told.More (length unread)) (OfLines l) (OfLines l)
   cut_over clear short = (
@@ -81,7 +81,7 @@ module _ (l : Cutting) (place : ℕ) (unread : List ℕ) (at : place ≡ l.place
 
   module _ (raw rest : List ℕ) (parts : unread ≡ raw ++ 10 ∷ rest) (clear : lacks 10 raw ≡ true) where
     pub cut_line_long : is_long raw ≡ true → AsTold (told.Bad place) (OfLines l) (OfLines l)
-    cut_line_long long = subst (λ (p : ℕ). OfLines l [] [] (bad p)) (sym at) (line_long l raw rest [] (sym looks ∙ parts) clear long)
+    cut_line_long long = λ next. subst (λ (p : ℕ). OfLines l next [] (bad p)) (sym at) (line_long l raw rest next (sym looks ∙ parts) clear long)
 
     pub cut_line : (m : Cutting) (number : ℕ) (line : List ℕ) (t : Told) → number ≡ l.number → is_long raw ≡ false → line ≡ without_return raw
         → Speaks number line t

@@ -11,3 +11,6 @@ pub mod Staying
 pub mod GoingOn
 pub mod Answers
 pub mod Firsts
+pub mod OneHearing
+pub mod Unpaid
+pub mod Ended

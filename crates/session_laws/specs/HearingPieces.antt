@@ -56,15 +56,16 @@ KnowsFirst Administrator ear text = Unit {0}
 abbrev pub StillHears : Hearing → Hearing → Type 0
 StillHears P Q = (next : List ℕ) (more : List Heard) (stop : Stop) → Q next more stop → P next more stop
 
--- what an answer says of what was to be heard, P, and of what is to be heard behind it, Q
+-- what an answer says of what was to be heard, P, and of what is to be heard behind it, Q. Where the input stops at a place,
+-- it stops there whatever still comes
 abbrev pub AsTold : Told → Hearing → Hearing → Type 0
 AsTold (told.Call call size) P Q =
     ((next : List ℕ) (more : List Heard) (stop : Stop) → Q next more stop → P next (record { call = call; size = size } ∷ more) stop)
     × IsSize size × IsSaid call
 AsTold told.Nothing P Q = StillHears P Q
 AsTold (told.More have) P Q = StillHears P Q × Q [] [] (over have)
-AsTold told.Closed P Q = P [] [] closed
-AsTold (told.Bad at) P Q = P [] [] (bad at)
+AsTold told.Closed P Q = (next : List ℕ) → P next [] closed
+AsTold (told.Bad at) P Q = (next : List ℕ) → P next [] (bad at)
 
 -- a message and a line take unread bytes away, so that a loop over what is told ends
 abbrev pub TakesBytes : Told → ℕ → ℕ → Type 0

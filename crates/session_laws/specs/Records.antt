@@ -1,6 +1,8 @@
 -- What a history says of a connection. Of the words here those that end in `_by` take a history with its newest entry
 -- first, as the definitions of histories do; the others take a log, which is in the journal's order.
-use Rattle.std.specs.Prelude.{◌≡◌, ℕ, Bool, true, false, ◌==◌, if◌then◌else◌, List, [], ◌∷◌, ◌++◌, length, reverse, Option, Some, None, ◌^◌}
+use Rattle.std.specs.Prelude.{◌≡◌, ℕ, Bool, true, false, ◌==◌, ◌&&◌, ◌||◌, if◌then◌else◌, List, [], ◌∷◌, ◌++◌, length, reverse, Option, Some, None, ◌^◌}
+use Rattle.poa_base.specs.declared.Call.{Call}
+use Rattle.poa_base.specs.declared.Call.TheVariants.{Line}
 use Rattle.poa_base.specs.declared.Entry.{Entry}
 use Rattle.poa_base.specs.declared.Entry.TheVariants.{Entered, Arrive, Filled, Collect}
 use Rattle.poa_base.specs.declared.Head.{Head}
@@ -18,6 +20,8 @@ use Rattle.giop_answer.specs.Reply.{reply_bytes}
 use Rattle.text_words.specs.Token.{number, spelled}
 use Rattle.admin_line.specs.Answer.{answer_tokens}
 use Rattle.session_laws.specs.Hearing.{Heard}
+use Rattle.session_laws.specs.declared.peer.Peer.{Peer}
+use Rattle.session_laws.specs.declared.peer.Peer.TheVariants.{Client, Administrator}
 
 -- the calls of the connection that arrived, in their order
 abbrev pub arrived_by : List Entry → ℕ → List Heard
@@ -28,6 +32,23 @@ arrived_by (e ∷ past) c = arrived_by past c
 
 abbrev pub arrived : ℕ → List Entry → List Heard
 arrived c log = arrived_by (reverse log) c
+
+abbrev pub is_line : Call → Bool
+is_line (Line n command) = true
+is_line call = false
+
+-- a line is among the calls of the connection that arrived
+abbrev pub has_line_by : List Entry → ℕ → Bool
+has_line_by [] c = false
+has_line_by (Arrive conn size call ∷ past) c = (conn == c && is_line call) || has_line_by past c
+has_line_by (e ∷ past) c = has_line_by past c
+
+-- as whom a history shows the peer of a connection: one who sent a line that arrived is an administrator, and any other a client
+abbrev pub peer_by : List Entry → ℕ → Peer
+peer_by h c = if has_line_by h c then Administrator else Client
+
+abbrev pub peer_of : ℕ → List Entry → Peer
+peer_of c log = peer_by (reverse log) c
 
 -- the bytes that tell a reply: a message of GIOP, or the line that answers an administrator's line
 abbrev pub told : Head → Reply → List ℕ

@@ -21,7 +21,7 @@ const MESSAGE_LIMIT: u32 = 1_048_576;
 
 /// What hears a peer.
 #[derive(Drop)]
-pub(crate) enum Ear {
+pub enum Ear {
     /// The messages of a client.
     Messages(Framer),
     /// The lines of an administrator.
@@ -30,7 +30,7 @@ pub(crate) enum Ear {
 
 impl Ear {
     /// An ear that was fed nothing.
-    pub(crate) fn new(alloc: Global, peer: Peer) -> Ear
+    pub fn new(alloc: Global, peer: Peer) -> Ear
         ensures expects { Expects peer (OfEar result) [] [] }
         ensures first { KnowsFirst peer result [] }
         ensures limited { IsLimited result }
@@ -43,7 +43,7 @@ impl Ear {
     }
 
     /// Puts a piece behind the bytes fed so far. Where no memory is left, nothing is fed.
-    pub(crate) fn feed(&mut self, piece: &[u8]) -> Result<(), WantMemory>
+    pub fn feed(&mut self, piece: &[u8]) -> Result<(), WantMemory>
         requires { reach_of self.old + length piece.now < 2 ^ 62 }
         ensures fed { OnOk result
             ((next : List ℕ) (more : List Heard) (stop : Stop) → OfEar self.new next more stop
@@ -61,7 +61,7 @@ impl Ear {
     }
 
     /// What is heard next. Where no memory is left, it is lost.
-    pub(crate) fn next(&mut self, alloc: Global) -> Result<Told, WantMemory>
+    pub fn next(&mut self, alloc: Global) -> Result<Told, WantMemory>
         requires { IsLimited self.old }
         ensures told { IfOk result (λ t. AsTold t (OfEar self.old) (OfEar self.new)) }
         ensures first { (peer : Peers) (text : List ℕ) → KnowsFirst peer self.old text → KnowsFirst peer self.new text }
@@ -76,7 +76,7 @@ impl Ear {
     }
 
     /// The minor version in which the peer is told that its connection is closed. What isn't read is given up.
-    pub(crate) fn closing_minor(self) -> Result<u8, WantMemory>
+    pub fn closing_minor(self) -> Result<u8, WantMemory>
         ensures first { IfOk result (λ minor. (peer : Peers) (text : List ℕ)
             → KnowsFirst peer self text → ClosesIn peer text minor) }
         ensures known { IfOk result (λ minor. minor ≤ 2) }

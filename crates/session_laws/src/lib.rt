@@ -12,8 +12,12 @@ mod input;
 pub mod laws;
 mod line_cutter;
 mod peer;
+mod telling;
 mod told;
 
+pub use ear::Ear;
 pub use input::Input;
+pub use line_cutter::LineCutter;
 pub use peer::Peer;
+pub use telling::tell;
 pub use told::Told;

@@ -20,7 +20,7 @@ const LONGEST: usize = 4096;
 /// What was read stays in front until it is as long as what wasn't. So a byte is moved at most once on average, and the
 /// buffer holds at most twice what is unread.
 #[derive(Drop)]
-pub(crate) struct LineCutter {
+pub struct LineCutter {
     bytes: Vec<u8>,
     start: usize,
     /// The place of the first unread byte.
@@ -43,7 +43,7 @@ impl Model for LineCutter {
 
 impl LineCutter {
     /// A cutter that was fed nothing.
-    pub(crate) fn new(alloc: Global) -> Self
+    pub fn new(alloc: Global) -> Self
         ensures { result ≡ record { place = 0; number = 1; unread = [] } }
     {
         LineCutter {
@@ -55,7 +55,7 @@ impl LineCutter {
     }
 
     /// Puts a piece behind the bytes fed so far. Where no memory is left, nothing is fed.
-    pub(crate) fn feed(&mut self, piece: &[u8]) -> Result<(), WantMemory>
+    pub fn feed(&mut self, piece: &[u8]) -> Result<(), WantMemory>
         requires { self.old.place + length self.old.unread + length piece.now < 2 ^ 62 }
         ensures fed { OnOk result (self.new ≡ record self.old { unread = self.old.unread ++ piece.now }) }
         ensures refused { OnErr result (self.new ≡ self.old) }
@@ -65,7 +65,7 @@ impl LineCutter {
     }
 
     /// What the next line says. A line that is too long is told as soon as so many bytes are there.
-    pub(crate) fn next(&mut self, alloc: Global) -> Result<Told, WantMemory>
+    pub fn next(&mut self, alloc: Global) -> Result<Told, WantMemory>
         ensures told { IfOk result (λ t. AsTold t (OfLines self.old) (OfLines self.new)) }
         ensures shorter { IfOk result (λ t. TakesBytes t (length self.old.unread) (length self.new.unread)) }
         ensures reached { self.new.place + length self.new.unread ≤ self.old.place + length self.old.unread }

@@ -1,5 +1,5 @@
 use Rattle.seat_lock.specs.Seats.{view}
-use Rattle.poa_session.proofs.Replies.{next_gathered}
+use Rattle.poa_session.proofs.Collects.{next_given}
 use Rattle.poa_session.proofs.Saying.{is_given}
 use Rattle.poa_session.proofs.collecting.collect_next.Goals as goal
 
@@ -9,13 +9,13 @@ returns-clause-conn g c = c.collect_within-collected.ensures.holds c.args.conn c
 pub returns-clause-next : goal.returns-clause-next
 returns-clause-next g c = λ givens given.
     (let e = c.collect_within-collected.ensures.collected givens given in
-    next_gathered givens c.args.conn (view c.args.seat.now) e.0
-    (view c.collect_within-collected.new.seat) e.1 c.requires.conn.owns c.collect_within-collected.result c.args.replies.now.items
-    c.put_collected.new.replies.items c.put_collected.result e.2.0
-    c.put_collected.ensures)
+    next_given givens c.args.conn (view c.args.seat.now) e.0
+    (view c.collect_within-collected.new.seat) e.1 c.requires.conn.owns c.collect_within-collected.result c.args.given.now.items
+    c.keep.new.given.items c.keep.result e.2.0
+    c.keep.ensures.kept)
 
-pub put_collected-requires : goal.put_collected-requires
-put_collected-requires g c =
+pub keep-requires : goal.keep-requires
+keep-requires g c =
     (let said = c.requires.said in
     let e = c.collect_within-collected.ensures.collected said.givens said.given in
     is_given said.givens c.args.conn (view c.args.seat.now) e.0

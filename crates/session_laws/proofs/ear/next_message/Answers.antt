@@ -13,8 +13,8 @@ returns-in-Message-clause-told c =
     c.read.ensures
 
 pub returns-in-Bad-clause-told : goal.returns-in-Bad-clause-told
-returns-in-Bad-clause-told c =
-    framer_bad c.args.framer.now c.next.new.self c.in-Bad.at c.in-Bad.why []
+returns-in-Bad-clause-told c = λ next.
+    framer_bad c.args.framer.now c.next.new.self c.in-Bad.at c.in-Bad.why next
     (subst (λ n. FramerAnswers c.args.framer.now n c.next.new.self) c.in-Bad.is c.in_ok-message.ensures.answer)
 
 pub returns-in-Bad-clause-first : goal.returns-in-Bad-clause-first
