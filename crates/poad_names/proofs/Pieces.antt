@@ -11,8 +11,8 @@ use Rattle.giop_frame.specs.Framing.{Framing}
 use Rattle.giop_frame.specs.Framer.{FramerGives as FramerGives, HasFirst, HasGiven, reach}
 use Rattle.giop_frame.proofs.Cutting.{given_fed}
 use Rattle.poad_names.specs.declared.service.Service.{Service}
-use Rattle.poad_files.specs.declared.status.Status.{Status}
-use Rattle.poad_files.specs.declared.status.Status.TheVariants.{Ok, Malformed, WriteFault, WantMemory}
+use Rattle.poad_names.specs.declared.names_end.NamesEnd.{NamesEnd}
+use Rattle.poad_names.specs.declared.names_end.NamesEnd.TheVariants.{Ended, Malformed, WriteFault, WantMemory}
 use Rattle.poad_names.specs.declared.stop.Stop.{Stop}
 use Rattle.poad_names.specs.declared.stop.Stop.TheVariants as stop
 use Rattle.poad_files.specs.Delivery.{Hands}
@@ -51,8 +51,8 @@ take_all : (bytes : List ℕ) → bytes ≡ take (length bytes) bytes
 take_all bytes = sym (ap (take (length bytes)) (sym (append-nil bytes)) ∙ take_at bytes [] _ refl)
 
 -- what a run that ends here gained
-gains_all : (status : Status) (why : Stop) (bytes before now : List ℕ) → EndsPiece status why → now ≡ before ++ bytes → Gains status bytes before now
-gains_all Ok why bytes before now ends e = e
+gains_all : (end : NamesEnd) (why : Stop) (bytes before now : List ℕ) → EndsPiece end why → now ≡ before ++ bytes → Gains end bytes before now
+gains_all Ended why bytes before now ends e = e
 gains_all (Malformed at) why bytes before now ends e = e
 gains_all WriteFault why bytes before now ends e = (length bytes, e ∙ ap (λ (all : List ℕ). before ++ all) (take_all bytes))
 gains_all WantMemory why bytes before now ends e = (length bytes, e ∙ ap (λ (all : List ℕ). before ++ all) (take_all bytes))
@@ -84,10 +84,10 @@ fed_on : (piece fed : List ℕ) (given : List Framed) (old mid : Service) → Fe
 fed_on piece fed given old mid more h = given_fed message_limit fed piece given old.framer mid.framer h more.gives
 
 -- the messages of a piece were served, and this came of their replies
-piece_served : (ending : Option Status) (why : Stop) (minor : ℕ) (piece : List ℕ) (old mid served new : Service) (h k : Option (List ℕ)) → Fed piece old.framer mid.framer
+piece_served : (ending : Option NamesEnd) (why : Stop) (minor : ℕ) (piece : List ℕ) (old mid served new : Service) (h k : Option (List ℕ)) → Fed piece old.framer mid.framer
     → standing_in mid ≡ standing_in old → (u : ServesUpTo why mid served) → ((fed : List ℕ) → HasFirst message_limit fed served.framer → ClosesIn why fed minor)
-    → IfTold h k (λ before now. MatchOption ending (now ≡ before ++ u.replies) (λ status. Gains status (u.replies ++ last_words minor why) before now))
-    → MatchOption ending (GoesOn why piece u.messages u.stands old new) (λ status. EndsPiece status why)
+    → IfTold h k (λ before now. MatchOption ending (now ≡ before ++ u.replies) (λ end. Gains end (u.replies ++ last_words minor why) before now))
+    → MatchOption ending (GoesOn why piece u.messages u.stands old new) (λ end. EndsPiece end why)
     → TakesPiece ending piece old new h k
 piece_served ending why minor piece old mid served new h k more servant u closes gave ends = record {
   minor = minor;
@@ -132,7 +132,7 @@ goes_on why piece old mid served new more u framer servant none waits =
     }
 
 -- all was written, and the run goes on or ends
-pub piece_settled : (ending : Option Status) (why : Stop) (minor : ℕ) (piece : List ℕ) (old mid served new : Service) (h k : Option (List ℕ))
+pub piece_settled : (ending : Option NamesEnd) (why : Stop) (minor : ℕ) (piece : List ℕ) (old mid served new : Service) (h k : Option (List ℕ))
     → Fed piece old.framer mid.framer → standing_in mid ≡ standing_in old → mid.replies.items ≡ [] → ServesUpTo why mid served
     → ((fed : List ℕ) → HasFirst message_limit fed served.framer → ClosesIn why fed minor)
     → IfTold h k (Hands true (served.replies.items ++ last_words minor why)) → (has_closing why ≡ false → new.framer ≡ served.framer) → (standing_in new) ≡ (standing_in served) → new.replies.items ≡ []
@@ -142,9 +142,9 @@ piece_settled None why minor piece old mid served new h k more servant none u cl
     (told_so h k _ _ (λ x y e. e ∙ ap (λ (bytes : List ℕ). x ++ bytes) (ap (λ (w : Stop). u.replies ++ last_words minor w) waits ∙ append-nil u.replies))
     (handed why minor mid served h k true u none p))
     (goes_on why piece old mid served new more u (framer (ap has_closing waits)) state clear waits)
-piece_settled (Some status) why minor piece old mid served new h k more servant none u closes p framer state clear ends =
-    piece_served (Some status) why minor piece old mid served new h k more servant u closes
-    (told_so h k _ _ (λ x y e. gains_all status why (u.replies ++ last_words minor why) x y ends e) (handed why minor mid served h k true u none p))
+piece_settled (Some end) why minor piece old mid served new h k more servant none u closes p framer state clear ends =
+    piece_served (Some end) why minor piece old mid served new h k more servant u closes
+    (told_so h k _ _ (λ x y e. gains_all end why (u.replies ++ last_words minor why) x y ends e) (handed why minor mid served h k true u none p))
     ends
 
 pub if_ok : {T E : Type 0} (r : Result T E) (P Q : T → Type 0) → ((x : T) → P x → Q x) → IfOk r P → IfOk r Q
@@ -156,7 +156,7 @@ pub ready_same : (a b : Service) → b.framer ≡ a.framer → IsReady a → IsR
 ready_same a b framer ready = record { limited = ap (λ (f : Framing). f.limit) framer ∙ ready.limited }
 
 -- a service that goes on was left as it was by the last words, of which it has none
-pub goes_on_ready : (ending : Option Status) (why : Stop) (served new : Service) → ServiceEnds ending why new → ending ≡ None
+pub goes_on_ready : (ending : Option NamesEnd) (why : Stop) (served new : Service) → ServiceEnds ending why new → ending ≡ None
     → (has_closing why ≡ false → new.framer ≡ served.framer) → IsReady served → IsReady new
 goes_on_ready None why served new waits none framer ready = ready_same served new (framer (ap has_closing waits)) ready
-goes_on_ready (Some status) why served new waits none framer ready = absurd (let e : Some status ≡ None = none in cc)
+goes_on_ready (Some end) why served new waits none framer ready = absurd (let e : Some end ≡ None = none in cc)

@@ -7,8 +7,8 @@ use Rattle.naming_context.specs.Standing.{nothing_bound}
 use Rattle.giop_frame.specs.Stream.{Framed, Stream, left_over}
 use Rattle.giop_frame.specs.Framer.{HasFirst, reach}
 use Rattle.poad_names.specs.declared.service.Service.{Service}
-use Rattle.poad_files.specs.declared.status.Status.{Status}
-use Rattle.poad_files.specs.declared.status.Status.TheVariants.{Ok, Malformed, Truncated, ReadFault, InputLimit, WriteFault, WantMemory}
+use Rattle.poad_names.specs.declared.names_end.NamesEnd.{NamesEnd}
+use Rattle.poad_names.specs.declared.names_end.NamesEnd.TheVariants.{Ended, Malformed, Truncated, ReadFault, InputLimit, WriteFault, WantMemory}
 use Rattle.poad_names.specs.declared.stop.Stop.{Stop}
 use Rattle.poad_names.specs.declared.stop.Stop.TheVariants as stop
 use Rattle.poad_names.specs.Serving.{MessageLeaves, Serves}
@@ -98,9 +98,9 @@ run_goes_on l m n h k j taken count piece old new r took long t =
     }
 
 -- replies, and then those of the last piece
-gains_on : (status : Status) (why : Stop) (x y z first last : List ℕ) → EndsPiece status why → y ≡ x ++ first → Gains status last y z
-    → Gains status (first ++ last) x z
-gains_on Ok why x y z first last ends p q = q ∙ (ap (λ (before : List ℕ). before ++ last) p ∙ append_assoc x first last)
+gains_on : (end : NamesEnd) (why : Stop) (x y z first last : List ℕ) → EndsPiece end why → y ≡ x ++ first → Gains end last y z
+    → Gains end (first ++ last) x z
+gains_on Ended why x y z first last ends p q = q ∙ (ap (λ (before : List ℕ). before ++ last) p ∙ append_assoc x first last)
 gains_on (Malformed at) why x y z first last ends p q = q ∙ (ap (λ (before : List ℕ). before ++ last) p ∙ append_assoc x first last)
 gains_on WriteFault why x y z first last ends p q = (
   length first + q.0,
@@ -114,17 +114,17 @@ gains_on WantMemory why x y z first last ends p q = (
 )
 gains_on _ why x y z first last ends p q = absurd ends
 
-ends_on : (status : Status) (why : Stop) (got : List ℕ) (left : Option (List ℕ)) → EndsPiece status why → RunEnds status why got left
-ends_on Ok why got left ends = inl ends
+ends_on : (end : NamesEnd) (why : Stop) (got : List ℕ) (left : Option (List ℕ)) → EndsPiece end why → RunEnds end why got left
+ends_on Ended why got left ends = inl ends
 ends_on (Malformed at) why got left ends = ends
 ends_on WriteFault why got left ends = tt
 ends_on WantMemory why got left ends = tt
 ends_on _ why got left ends = absurd ends
 
 -- a piece ends the run
-pub run_ends : (status : Status) (l m n h k j : Option (List ℕ)) (taken : ℕ) (piece : List ℕ) (old new : Service) → Runs l m h k taken old
-    → IfTold m n (λ before after. before ≡ piece ++ after) → TakesPiece (Some status) piece old new k j → RunNames status l n h j
-run_ends status l m n h k j taken piece old new r took t =
+pub run_ends : (end : NamesEnd) (l m n h k j : Option (List ℕ)) (taken : ℕ) (piece : List ℕ) (old new : Service) → Runs l m h k taken old
+    → IfTold m n (λ before after. before ≡ piece ++ after) → TakesPiece (Some end) piece old new k j → RunNames end l n h j
+run_ends end l m n h k j taken piece old new r took t =
     let noted : Noted [] (r.messages ++ t.messages) (r.replies ++ t.replies) t.stands = serves_noted (r.messages ++ t.messages) [] (r.replies ++ t.replies) t.stands
     (serves_then MessageLeaves nothing_bound (standing_in old) t.stands r.messages t.messages r.replies t.replies r.served t.served) in
     record {
@@ -139,15 +139,15 @@ run_ends status l m n h k j taken piece old new r took t =
       minor = t.minor;
       closes = t.closes r.got r.first;
       gave = told_then h k j _ _ _
-          (λ x y z p q. subst (λ (bytes : List ℕ). Gains status bytes x z) (sym (append_assoc r.replies t.replies (last_words t.minor t.why)))
-          (gains_on status t.why x y z r.replies (t.replies ++ last_words t.minor t.why) t.ends p q)) r.gave t.gave;
-      ends = ends_on status t.why _ n t.ends;
+          (λ x y z p q. subst (λ (bytes : List ℕ). Gains end bytes x z) (sym (append_assoc r.replies t.replies (last_words t.minor t.why)))
+          (gains_on end t.why x y z r.replies (t.replies ++ last_words t.minor t.why) t.ends p q)) r.gave t.gave;
+      ends = ends_on end t.why _ n t.ends;
     }
 
 -- the run ends between two pieces
-pub run_stops : (status : Status) (l m h k : Option (List ℕ)) (taken : ℕ) (service : Service) → (r : Runs l m h k taken service)
-    → ((x y bytes : List ℕ) → y ≡ x ++ bytes → Gains status bytes x y) → RunEnds status (stop.Waits service.waiting) r.got m → RunNames status l m h k
-run_stops status l m h k taken service r gains ends =
+pub run_stops : (end : NamesEnd) (l m h k : Option (List ℕ)) (taken : ℕ) (service : Service) → (r : Runs l m h k taken service)
+    → ((x y bytes : List ℕ) → y ≡ x ++ bytes → Gains end bytes x y) → RunEnds end (stop.Waits service.waiting) r.got m → RunNames end l m h k
+run_stops end l m h k taken service r gains ends =
     let noted : Noted [] r.messages r.replies (standing_in service) = serves_noted r.messages [] r.replies (standing_in service) r.served in
     record {
       got = r.got;
@@ -179,10 +179,10 @@ pub run_limited : (l m h k : Option (List ℕ)) (taken : ℕ) (service : Service
 run_limited l m h k taken service r full = run_stops (InputLimit taken) l m h k taken service r (λ x y bytes e. e) ((service.waiting, refl), r.count, full)
 
 -- the run stops at the end of its source
-pub run_finished : (status : Status) (l m h k : Option (List ℕ)) (taken : ℕ) (service : Service) → Runs l m h k taken service → IsDrained m
-    → taken < 2 ^ 32 → EndsAt status service.waiting → RunNames status l m h k
-run_finished Ok l m h k taken service r none more at =
-    run_stops Ok l m h k taken service r (λ x y bytes e. e) (inr (ap (λ (n : ℕ). stop.Waits n) at, none, below_limit taken r.got r.count more))
+pub run_finished : (end : NamesEnd) (l m h k : Option (List ℕ)) (taken : ℕ) (service : Service) → Runs l m h k taken service → IsDrained m
+    → taken < 2 ^ 32 → EndsAt end service.waiting → RunNames end l m h k
+run_finished Ended l m h k taken service r none more at =
+    run_stops Ended l m h k taken service r (λ x y bytes e. e) (inr (ap (λ (n : ℕ). stop.Waits n) at, none, below_limit taken r.got r.count more))
 run_finished (Truncated have) l m h k taken service r none more at =
     run_stops (Truncated have) l m h k taken service r (λ x y bytes e. e)
     (ap (λ (n : ℕ). stop.Waits n) (sym at.0), at.1, none, below_limit taken r.got r.count more)
@@ -206,7 +206,7 @@ run_refused l h = record {
 }
 
 -- a piece that is written in another way
-pub piece_same : (ending : Option Status) (piece other : List ℕ) (old new : Service) (held_old held_new : Option (List ℕ)) → piece ≡ other
+pub piece_same : (ending : Option NamesEnd) (piece other : List ℕ) (old new : Service) (held_old held_new : Option (List ℕ)) → piece ≡ other
     → TakesPiece ending piece old new held_old held_new → TakesPiece ending other old new held_old held_new
 piece_same ending piece other old new a b same t = subst (λ (bytes : List ℕ). TakesPiece ending bytes old new a b) same t
 

@@ -3,3 +3,4 @@ pub mod Stop
 pub mod Run
 pub mod Service
 pub mod Piece
+pub mod Whole

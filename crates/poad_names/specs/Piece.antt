@@ -4,8 +4,8 @@ use Rattle.outside.specs.Told.{IfTold}
 use Rattle.giop_frame.specs.Stream.{Framed}
 use Rattle.giop_frame.specs.Framer.{HasFirst, reach}
 use Rattle.naming_context.specs.Standing.{Standing}
-use Rattle.poad_files.specs.declared.status.Status.{Status}
-use Rattle.poad_files.specs.declared.status.Status.TheVariants.{Ok, Malformed, Truncated, WriteFault, WantMemory}
+use Rattle.poad_names.specs.declared.names_end.NamesEnd.{NamesEnd}
+use Rattle.poad_names.specs.declared.names_end.NamesEnd.TheVariants.{Ended, Malformed, Truncated, WriteFault, WantMemory}
 use Rattle.poad_names.specs.declared.service.Service.{Service}
 use Rattle.poad_names.specs.declared.stop.Stop.{Stop}
 use Rattle.poad_names.specs.declared.stop.Stop.TheVariants as stop
@@ -14,18 +14,18 @@ use Rattle.poad_names.specs.Stop.{ClosesIn, StopsAt, last_words, message_limit}
 use Rattle.poad_names.specs.Run.{Gains}
 use Rattle.poad_names.specs.Service.{HasServed, standing_in}
 
--- why a piece ends a run with a status
-abbrev pub EndsPiece : Status → Stop → Type 0
-EndsPiece Ok why = why ≡ stop.Closed
+-- why a piece ends a run so
+abbrev pub EndsPiece : NamesEnd → Stop → Type 0
+EndsPiece Ended why = why ≡ stop.Closed
 EndsPiece (Malformed at) why = why ≡ stop.Refused at
 EndsPiece WriteFault why = ⊤
 EndsPiece WantMemory why = ⊤
 EndsPiece _ why = ⊥
 
--- a stop ends the run with a status, or this many bytes wait
-abbrev pub ServiceEnds : Option Status → Stop → Service → Type 0
+-- a stop ends the run so, or this many bytes wait
+abbrev pub ServiceEnds : Option NamesEnd → Stop → Service → Type 0
 ServiceEnds None why service = why ≡ stop.Waits service.waiting
-ServiceEnds (Some status) why service = EndsPiece status why
+ServiceEnds (Some end) why service = EndsPiece end why
 
 -- where the service goes on, no whole message is left, all replies are written, and this stands
 pub record GoesOn (why : Stop) (piece : List ℕ) (messages : List Framed) (stands : Standing) (old new : Service) : Type 0 where
@@ -36,8 +36,8 @@ pub record GoesOn (why : Stop) (piece : List ℕ) (messages : List Framed) (stan
   pub given : (fed : List ℕ) (given : List Framed) → HasServed fed given old → HasServed (fed ++ piece) (given ++ messages) new
   pub first : (fed : List ℕ) → HasFirst message_limit fed old.framer → HasFirst message_limit (fed ++ piece) new.framer
 
--- the messages that the piece makes whole were served, and their replies written; with a status the run ends
-pub record TakesPiece (ending : Option Status) (piece : List ℕ) (old new : Service) (held_old held_new : Option (List ℕ)) : Type 0 where
+-- the messages that the piece makes whole were served, and their replies written; or the run ends
+pub record TakesPiece (ending : Option NamesEnd) (piece : List ℕ) (old new : Service) (held_old held_new : Option (List ℕ)) : Type 0 where
   pub messages : List Framed
   pub replies : List ℕ
   pub stands : Standing
@@ -47,11 +47,11 @@ pub record TakesPiece (ending : Option Status) (piece : List ℕ) (old new : Ser
   pub minor : ℕ
   pub closes : (fed : List ℕ) → HasFirst message_limit fed old.framer → ClosesIn why (fed ++ piece) minor
   pub gave : IfTold held_old held_new
-      (λ before now. MatchOption ending (now ≡ before ++ replies) (λ status. Gains status (replies ++ last_words minor why) before now))
-  pub ends : MatchOption ending (GoesOn why piece messages stands old new) (λ status. EndsPiece status why)
+      (λ before now. MatchOption ending (now ≡ before ++ replies) (λ end. Gains end (replies ++ last_words minor why) before now))
+  pub ends : MatchOption ending (GoesOn why piece messages stands old new) (λ end. EndsPiece end why)
 
--- the status at the end of the source, which says whether bytes wait
-abbrev pub EndsAt : Status → ℕ → Type 0
-EndsAt Ok waiting = waiting ≡ 0
+-- how a run ends at the end of the source: it says whether bytes wait
+abbrev pub EndsAt : NamesEnd → ℕ → Type 0
+EndsAt Ended waiting = waiting ≡ 0
 EndsAt (Truncated have) waiting = (have ≡ waiting) × (0 < have)
 EndsAt _ waiting = ⊥

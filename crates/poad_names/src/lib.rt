@@ -2,8 +2,10 @@
 //! sink.
 #![tactic(auto)]
 
+mod names_end;
 mod naming;
 mod service;
 mod stop;
 
+pub use names_end::NamesEnd;
 pub use naming::names;

@@ -10,6 +10,7 @@ ghost use Rattle.poad_names.specs.Stop.{ClosesIn, has_closing as has_closing_wor
 ghost use Rattle.poad_names.specs.Service.{Does, Handles, IsAsked, IsNew, IsReady, ServesUpTo, StopsByFault, Turns};
 ghost use Rattle.poad_names.specs.Piece.{ServiceEnds};
 
+use crate::names_end::NamesEnd;
 use crate::stop::Stop;
 use giop_answer::kind::MINOR;
 use giop_answer::write_error;
@@ -18,7 +19,7 @@ use giop_msg::{Incoming, MsgFault, read_call};
 use naming_context::Contexts;
 use outside::Sink;
 use poa_base::{Call, WantMemory};
-use poad_files::{Status, deliver};
+use poad_files::deliver;
 use std::alloc::Global;
 
 /// The largest size that a message may have, without its header.
@@ -146,10 +147,10 @@ impl Service {
         write_last(why, minor, sink)
     }
 
-    /// The status where the run ends after this stop. Else keeps how many bytes wait.
-    pub(crate) fn settle(&mut self, why: Stop) -> Option<Status>
+    /// How the run ends, where it does after this stop. Else keeps how many bytes wait.
+    pub(crate) fn settle(&mut self, why: Stop) -> Option<NamesEnd>
         ensures settled { ServiceEnds result why self.new }
-        ensures no_fault { result ≢ Some Status.WriteFault }
+        ensures no_fault { result ≢ Some NamesEnd.WriteFault }
         ensures framer { self.new.framer ≡ self.old.framer }
         ensures contexts { self.new.contexts ≡ self.old.contexts }
         ensures replies { self.new.replies.items ≡ self.old.replies.items }
@@ -159,9 +160,9 @@ impl Service {
                 self.waiting = have;
                 None
             }
-            Stop::Closed => Some(Status::Ok),
-            Stop::Refused { at } => Some(Status::Malformed { at }),
-            Stop::NoMemory => Some(Status::WantMemory),
+            Stop::Closed => Some(NamesEnd::Ended),
+            Stop::Refused { at } => Some(NamesEnd::Malformed { at }),
+            Stop::NoMemory => Some(NamesEnd::WantMemory),
         }
     }
 }

@@ -7,7 +7,7 @@ use Rattle.poad_names.specs.Stop.{last_words}
 use Rattle.poad_files.proofs.Causes.{cause_still}
 use Rattle.poad_names.proofs.Pieces.{goes_on_ready, piece_refused, piece_unwritten, piece_settled}
 use Rattle.std.specs.Prelude.{Some, None}
-use Rattle.poad_files.specs.declared.status.Status.TheVariants.{WantMemory, WriteFault}
+use Rattle.poad_names.specs.declared.names_end.NamesEnd.TheVariants.{WantMemory, WriteFault}
 use Rattle.poad_names.proofs.naming.take_piece.Goals as goal
 
 pub returns-in_default-clause-takes : goal.returns-in_default-clause-takes
