@@ -6,3 +6,4 @@ pub mod Settings
 pub mod Serving
 pub mod Calling
 pub mod Auditing
+pub mod Explaining

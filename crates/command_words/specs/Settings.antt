@@ -4,7 +4,7 @@ use Rattle.std.specs.List.{after_first, before_first, position_or_len}
 use Rattle.std.specs.Str.{bytes_eq}
 use Rattle.command_words.specs.Arguments.{argument, at_most_one, exactly_one}
 use Rattle.command_words.specs.declared.optioned.Optioned.{Optioned}
-use Rattle.command_words.specs.declared.optioned.Optioned.TheVariants.{Serve, Call, Audit}
+use Rattle.command_words.specs.declared.optioned.Optioned.TheVariants.{Serve, Call, Audit, Explain}
 use Rattle.command_words.specs.declared.place.Place.{Place as PlaceOfReader}
 use Rattle.command_words.specs.declared.place.Place.TheVariants as place
 use Rattle.command_words.specs.declared.setting.Setting.{Setting as SettingAsRead}
@@ -32,6 +32,7 @@ is_option Serve name = if bytes_eq name (codes "--lanes") then true else (if byt
     if bytes_eq name (codes "--run") then true else (if bytes_eq name (codes "--state") then true else (
     if bytes_eq name (codes "--journal") then true else bytes_eq name (codes "--limit")))))
 is_option Audit name = bytes_eq name (codes "--limit")
+is_option Explain name = if bytes_eq name (codes "--arrival") then true else bytes_eq name (codes "--limit")
 is_option Call name = if bytes_eq name (codes "--as") then true else bytes_eq name (codes "--hops")
 
 -- `=` has the code 61

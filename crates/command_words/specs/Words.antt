@@ -5,6 +5,7 @@ use Rattle.std.specs.Str.{bytes_eq}
 use Rattle.command_words.specs.Numbers.{long_number, number_in}
 pub use Rattle.command_words.specs.Arguments.{filled, plain, argument, with_argument, arguments_of, at_most_one, exactly_one, exactly_two, single}
 use Rattle.command_words.specs.Auditing.{Audit, audit_behind, seen_audit}
+use Rattle.command_words.specs.Explaining.{Explain, explain_behind, seen_explain}
 use Rattle.command_words.specs.declared.command.Command.{Command}
 use Rattle.command_words.specs.declared.command.Command.TheVariants as command
 
@@ -19,6 +20,7 @@ pub data Meant : Type 0 where
   replay : List ℕ → List ℕ → Meant  -- to play, on the configuration in the first file, the script in the second
   load : ℕ → ℕ → Meant  -- to play so many draws of the generator that starts with the second number
   audit : Audit → Meant  -- to audit a journal
+  explain : Explain → Meant  -- to explain a call of a journal
   names : Meant  -- to serve by naming contexts
 
 -- a load, of both its numbers
@@ -52,7 +54,9 @@ named word arguments =
 
 abbrev pub command_of : List (List ℕ) → Option Meant
 command_of [] = None
-command_of (w ∷ ws) = if bytes_eq w (codes "audit") then option_map audit (audit_behind ws) else named w (arguments_of false ws)
+command_of (w ∷ ws) =
+    if bytes_eq w (codes "audit") then option_map audit (audit_behind ws) else (
+    if bytes_eq w (codes "explain") then option_map explain (explain_behind ws) else named w (arguments_of false ws))
 
 -- the command that the words are, if they are one
 abbrev pub command_in : List (String Global) → Option Meant
@@ -62,6 +66,7 @@ command_in words = command_of (map string_bytes words)
 abbrev pub IsWithin : Meant → Type 0
 IsWithin (load n start) = n ≤ 200000
 IsWithin (audit a) = (1 ≤ a.limit) × (a.limit ≤ 4000000)
+IsWithin (explain a) = (1 ≤ a.limit) × (a.limit ≤ 4000000)
 IsWithin m = Unit {0}
 
 -- a command as the program has it
@@ -75,4 +80,5 @@ seen (command.Loc text) = loc text.now
 seen (command.Replay config script) = replay config.now script.now
 seen (command.Load calls start) = load calls start
 seen (command.Audit a) = audit (seen_audit a)
+seen (command.Explain a) = explain (seen_explain a)
 seen command.Names = names

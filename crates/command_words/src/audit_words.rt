@@ -53,8 +53,8 @@ fn audit_by<'a>(alloc: Global, settings: &[Setting<'a>]) -> Result<AuditWords<'a
     })
 }
 
-// The arguments, where there are two.
-fn two_of<'a>(arguments: &[&'a str]) -> Result<(&'a str, &'a str), WordsFault>
+/// The arguments, where there are two.
+pub(crate) fn two_of<'a>(arguments: &[&'a str]) -> Result<(&'a str, &'a str), WordsFault>
     ensures ok { IfOk result (λ files. exactly_two (Some (map (λ a. a.now) arguments.now)) ≡ Some (files.0.now, files.1.now)) }
     ensures bad { result ≡ Err BadWords → exactly_two (Some (map (λ a. a.now) arguments.now)) ≡ None }
 {

@@ -1,5 +1,6 @@
 //! The commands.
 use crate::audit_words::AuditWords;
+use crate::explain_words::ExplainWords;
 
 /// What the words of a command line ask for.
 #[derive(Clone, Copy)]
@@ -36,6 +37,8 @@ pub enum Command<'a> {
     },
     /// To audit a journal.
     Audit(AuditWords<'a>),
+    /// To explain a call of a journal.
+    Explain(ExplainWords<'a>),
     /// To serve messages by naming contexts.
     Names,
 }

@@ -1,11 +1,12 @@
 //! What the words of a command line ask for. The first word names the command, and clap reads the ones behind it, by
 //! a command of its own for each first word, with no options, no help and no version. The words of `serve`,
-//! `call` and `audit`, which have options, are read by hand.
+//! `call`, `audit` and `explain`, which have options, are read by hand.
 #![tactic(auto)]
 
 mod audit_words;
 mod calling;
 mod command;
+mod explain_words;
 mod fault;
 mod numbers;
 mod optioned;
@@ -24,6 +25,7 @@ mod words;
 pub use audit_words::AuditWords;
 pub use calling::{CallWords, call_words};
 pub use command::Command;
+pub use explain_words::ExplainWords;
 pub use fault::WordsFault;
 pub use plan::{Plan, plan_of};
 pub use reading::command_of;

@@ -6,4 +6,5 @@ pub(crate) enum Optioned {
     Serve,
     Call,
     Audit,
+    Explain,
 }

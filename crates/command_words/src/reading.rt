@@ -6,6 +6,7 @@ ghost use Rattle.command_words.specs.Words.{IsWithin, arguments_of, command_in, 
 
 use crate::audit_words::audit_words;
 use crate::command::Command;
+use crate::explain_words::explain_words;
 use crate::fault::WordsFault;
 use crate::numbers::{long_number, number_in};
 use crate::parsing::{one_argument, required_argument, two_arguments};
@@ -25,6 +26,9 @@ pub fn command_of<'a>(alloc: Global, words: &'a [String]) -> Result<Command<'a>,
         [word, rest @ ..] => {
             if word.as_str() == "audit" {
                 return Ok(Command::Audit(audit_words(alloc, rest)?));
+            }
+            if word.as_str() == "explain" {
+                return Ok(Command::Explain(explain_words(alloc, rest)?));
             }
             named(alloc, word.as_str(), rest)
         }

@@ -137,6 +137,7 @@ fn is_option(command: Optioned, name: &str) -> bool
         ),
         Optioned::Call => matches!(name, "--as" | "--hops"),
         Optioned::Audit => name == "--limit",
+        Optioned::Explain => matches!(name, "--arrival" | "--limit"),
     }
 }
 

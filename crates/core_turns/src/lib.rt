@@ -10,6 +10,7 @@ mod rules;
 mod turns;
 mod verdicts;
 
+pub use facts::facts_of;
 pub use looks::{Look, look_at};
 pub use rules::brought;
 pub use turns::{attempt, going_on, removal};

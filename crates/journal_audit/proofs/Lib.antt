@@ -1,5 +1,5 @@
 pub mod Spoiled
 pub mod Stepping
-mod Numbered
+pub mod Numbered
 pub mod LinesRead
 pub mod Sound

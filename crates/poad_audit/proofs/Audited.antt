@@ -14,7 +14,7 @@ use Rattle.poad_files.proofs.Files.{config_on, same_held}
 use Rattle.poad_audit.specs.Auditing.{journal_limit, no_config, no_journal, AuditsFiles, AuditsJournal, AuditsTaken, Tells}
 
 -- what holds of a take holds also of one that left all before it
-refused_before : (name : List ℕ) (limit : ℕ) (s : Status) (a b c : Option Contents) → IfTold a b HoldsStill → Refused name limit s b c
+pub refused_before : (name : List ℕ) (limit : ℕ) (s : Status) (a b c : Option Contents) → IfTold a b HoldsStill → Refused name limit s b c
     → Refused name limit s a c
 refused_before name limit status.NoFile a b c still t = told_then a b c _ _ _ (λ x y z p q. sym (p name) ∙ q) still t
 refused_before name limit status.FileTooLong a b c still t =
@@ -23,7 +23,7 @@ refused_before name limit status.FileFault a b c still t = tt
 refused_before name limit status.WantMemory a b c still t = tt
 refused_before name limit _ a b c still t = absurd t
 
-held_later : (name : List ℕ) (limit : ℕ) (content : List ℕ) (a b c : Option Contents) → IfTold a b HoldsStill → IsHeld name limit content b c
+pub held_later : (name : List ℕ) (limit : ℕ) (content : List ℕ) (a b c : Option Contents) → IfTold a b HoldsStill → IsHeld name limit content b c
     → IsHeld name limit content a c
 held_later name limit content a b c still held =
     record { within = held.within; held = told_then a b c _ _ _ (λ x y z p q. sym (p name) ∙ q) still held.held }

@@ -1,1 +1,3 @@
 pub mod Audited
+pub mod Explained
+pub mod Lines

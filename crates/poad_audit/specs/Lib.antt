@@ -1,2 +1,4 @@
 pub mod Printing
 pub mod Auditing
+pub mod Story
+pub mod Explaining

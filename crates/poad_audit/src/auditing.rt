@@ -16,7 +16,7 @@ use poad_files::{Status, deliver, take, take_config};
 use std::alloc::Global;
 
 /// The bytes that a journal has at most.
-const JOURNAL_LIMIT: u64 = 268_435_456;
+pub(crate) const JOURNAL_LIMIT: u64 = 268_435_456;
 
 /// Audits the journal in one file, as one of a run of the configuration in another that takes so many calls, and writes
 /// what is found: `legal N`, N being how many entries it has, or `illegal K RULE`, of the first entry that may not follow

@@ -1,7 +1,12 @@
 //! `audit`: the journal in a file is audited as one of a run of the configuration in another, and what is found is printed.
+//! `explain`: a call of such a journal, with what happened to it.
 #![tactic(auto)]
 
 mod auditing;
+mod explaining;
 mod printing;
+mod row_text;
+mod story;
 
 pub use auditing::audit_files;
+pub use explaining::explain_files;

@@ -59,7 +59,8 @@ pub(crate) fn status_of(alloc: Global, report: &Report) -> Result<Status, WantMe
     }
 }
 
-fn due_line(alloc: Global, due: Option<&Entry>) -> Result<Bytes, WantMemory>
+/// The line of the entry that would have been allowed, if there is one.
+pub(crate) fn due_line(alloc: Global, due: Option<&Entry>) -> Result<Bytes, WantMemory>
     ensures { IfOk result (λ line. line ≡ due_line_of (option_copied due.entry)) }
 {
     match due {

@@ -3,7 +3,8 @@ use Rattle.std.proofs.Common.{◌≡◌, ◌⊎◌, ℕ, ◌<◌, ◌≤◌, Lis
 use Rattle.std.specs.Option.{IsSomeAnd}
 use Rattle.std.proofs.lemmas.Option.{same_Some}
 use Rattle.command_words.specs.Auditing.{Audit}
-use Rattle.command_words.specs.Words.{Meant, answer, audit, load, names, show, check, iors, migrate, loc, replay}
+use Rattle.command_words.specs.Explaining.{Explain}
+use Rattle.command_words.specs.Words.{Meant, answer, audit, explain, load, names, show, check, iors, migrate, loc, replay}
 use Rattle.outside.specs.Cause.{HasCause}
 use Rattle.outside.specs.Keeping.{Contents}
 use Rattle.outside.specs.Told.{IfTold}
@@ -11,16 +12,19 @@ use Rattle.poa_base.specs.declared.Config.{Config}
 use Rattle.poad_answer.specs.Answering.{AnswersBy, NamesConfig, served, unnamed}
 use Rattle.poad_answer.specs.Run.{RunAnswers}
 use Rattle.journal_audit.proofs.Spoiled.{spoiled}
-use Rattle.journal_audit.specs.Auditing.{AuditSays}
+use Rattle.journal_audit.specs.Auditing.{AuditSays, IsRefused}
 use Rattle.journal_audit.specs.Texts.{Audits, audit_of}
 use Rattle.journal_audit.specs.declared.refusal.Refusal.{Refusal}
 use Rattle.journal_audit.specs.declared.report.Report.{Report}
 use Rattle.poa_base.specs.Store.{stored}
 use Rattle.poa_history.specs.Legal.{IsLegal}
 use Rattle.poa_journal.specs.Whole.{Contents as JournalContents}
+use Rattle.journal_explain.specs.declared.Explanation.{Explanation}
+use Rattle.journal_explain.specs.Explaining.{Explains, TellsCall}
+use Rattle.poad_audit.specs.Explaining.{ExplainsFiles, ExplainsJournal, Tells as TellsCallOf}
 use Rattle.poad_audit.specs.Auditing.{AuditsFiles, AuditsJournal, Tells as TellsAudit, NotTaken as NotAudited, journal_limit, no_config as no_audit_config, no_journal}
-use Rattle.poad_cmd.specs.Commands.{Does}
-use Rattle.poad_cmd.specs.Complete.{Configures, Fits, FitsAnswer, FitsAudit, FitsReplay, HoldConfig, HoldScript, HoldSuch, IsCalm, IsConfigured, IsLegalJournal, IsLocatable, IsReference, IsScript, IsWholeInput, IsWholeScript}
+use Rattle.poad_cmd.specs.Commands.{Does, RunsNames}
+use Rattle.poad_cmd.specs.Complete.{Configures, Fits, FitsAnswer, FitsAudit, FitsExplain, FitsReplay, HoldConfig, HoldScript, HoldSuch, IsCalm, IsConfigured, IsLegalJournal, IsLocatable, IsReference, IsScript, IsWholeInput, IsWholeScript}
 use Rattle.poad_cmd.specs.Playing.{EndsPlay, NotTaken, PlaysFiles, PlaysTaken, no_config, no_script}
 use Rattle.poad_cmd.proofs.Wholly.{IsWell, run_well}
 use Rattle.poad_files.proofs.Accepted.{reads_accepted}
@@ -35,6 +39,11 @@ use Rattle.poad_files.specs.declared.Asked.TheVariants.{Counts, References}
 use Rattle.poad_files.specs.declared.status.Status.{Status}
 use Rattle.poad_files.specs.declared.status.Status.TheVariants.{ConfigRefused, FileFault, FileTooLong, Held, Illegal, JournalRefused, Limit, LocRefused, NoFile, NoLoc, Ok, ReadFault, ScriptRefused, TextRefused, WantMemory, WriteFault}
 use Rattle.poad_load.specs.Writing.{LoadGives}
+use Rattle.poad_names.specs.declared.names_end.NamesEnd.{NamesEnd}
+use Rattle.poad_names.specs.declared.names_end.NamesEnd.TheVariants as names_end
+use Rattle.poad_names.specs.Run.{status_of}
+use Rattle.poad_names.specs.Whole.{IsWholeInput as IsWholeNaming}
+use Rattle.poad_names.proofs.Whole.{IsWell as IsWellNaming, names_well}
 use Rattle.replay_player.specs.declared.Full.{Full}
 
 -- why a file that is held such as it has to be may still not be taken
@@ -210,6 +219,51 @@ module _ (a : Audit) (old new : Option Contents) (h k : Option (List ℕ)) (fits
       (fits.legal audits.config this) audits.holds_journal.held in
       journal_well audits.config a.limit audits.text legal h k s audits.audits
 
+-- `explain`
+module _ (c : Config) (limit arrival : ℕ) (text : List ℕ) (legal : IsLegalJournal c limit text) (h k : Option (List ℕ)) where
+  never_illegal : (P : Refusal → Type 0) (x : Explanation) → Explains c limit arrival text x → (found : Option Refusal) → x.refusal ≡ found
+      → IsSomeAnd found P → ⊥
+  never_illegal P x explains None is some = some
+  never_illegal P x explains (Some r) is some =
+      let read : OkResult explains.journal ≡ OkResult legal.journal = sym explains.reads ∙ legal.reads in
+      let same : explains.journal ≡ legal.journal = cc in
+      let bad : IsRefused c explains.journal.run limit explains.journal.entries r =
+      subst (λ (f : Option Refusal). TellsCall c explains.journal.run limit arrival explains.journal.entries f x.steps.items) is explains.tells in
+      spoiled c explains.journal.run limit explains.journal.entries r.entry r.rule bad.first
+      (subst (λ (j : JournalContents). IsLegal c j.run limit (reverse j.entries)) (sym same) legal.legal)
+
+  told_well : (s : Status) (x : Explanation) → Explains c limit arrival text x → TellsCallOf arrival x s h k → IsWell s
+  told_well Ok x explains tells = tt
+  told_well WriteFault x explains tells = tt
+  told_well WantMemory x explains tells = tt
+  told_well (Illegal entry line due) x explains tells = absurd (never_illegal _ x explains x.refusal refl tells.0)
+  told_well _ x explains tells = absurd tells.0
+
+  call_well : (s : Status) → ExplainsJournal c limit arrival text s h k → IsWell s
+  call_well WantMemory explains = tt
+  call_well (JournalRefused line) explains = absurd (let e : OkResult legal.journal ≡ Err line = sym legal.reads ∙ explains.0 in cc)
+  call_well s explains = told_well s explains.found explains.explains explains.tells
+
+module _ (e : Explain) (old new : Option Contents) (h k : Option (List ℕ)) (fits : FitsExplain e old) where
+  unexplained_well : (s : Status) → NotAudited e.config e.journal s old new → IsWell s
+  unexplained_well s (no_audit_config taken) = untaken_well s (config_untaken e.config s old new fits.config taken)
+  unexplained_well s (no_journal it) =
+      untaken_well s (unrefused_file e.journal journal_limit (IsLegalJournal it.config e.limit) s old new
+      (fits.legal it.config (hold_this e.config config_limit IsAccepted _ old new fits.config it.takes_config)) it.refused)
+
+  explain_well : (s : Status) → ExplainsFiles e.config e.journal e.limit e.arrival s old new h k → IsWell s
+  explain_well FileFault explains = tt
+  explain_well WantMemory explains = tt
+  explain_well (ConfigRefused fault) explains =
+      untaken_well (ConfigRefused fault) (config_untaken e.config (ConfigRefused fault) old new fits.config explains.0)
+  explain_well NoFile explains = unexplained_well NoFile explains.0
+  explain_well FileTooLong explains = unexplained_well FileTooLong explains.0
+  explain_well s explains =
+      let this = hold_this e.config config_limit IsAccepted _ old new fits.config explains.takes_config in
+      let legal = such_held e.journal journal_limit (IsLegalJournal explains.config e.limit) old new explains.text
+      (fits.legal explains.config this) explains.holds_journal.held in
+      call_well explains.config e.limit e.arrival explains.text legal h k s explains.explains
+
 -- the commands of a text
 text_well : (s : Status) → s ≡ WantMemory → IsWell s
 text_well s is = subst IsWell (sym is) tt
@@ -262,6 +316,18 @@ migrate_well : (name text : List ℕ) (s : Status) (old new : Option Contents) (
 migrate_well name text s old new h k holds is (inl untaken) = untaken_well s (config_untaken name s old new holds untaken.0)
 migrate_well name text s old new h k holds is (inr by) = moved_well by.config text s h k is by.migrates
 
+-- `names`
+names_status_well : (e : NamesEnd) → IsWellNaming e → IsWell (status_of e)
+names_status_well names_end.Ended well = tt
+names_status_well names_end.WantMemory well = tt
+names_status_well names_end.ReadFault well = tt
+names_status_well names_end.WriteFault well = tt
+names_status_well _ well = absurd well
+
+names_end_well : (s : Status) (left_old left_new h k : Option (List ℕ)) → IsSomeAnd left_old IsWholeNaming → RunsNames s left_old left_new h k → IsWell s
+names_end_well s left_old left_new h k whole runs =
+    subst IsWell (sym runs.1) (names_status_well runs.0 (names_well runs.0 left_old left_new h k whole runs.2))
+
 -- each command
 does_well : {S F : Type 0} (m : Meant) (s : Status) (old new : Option Contents) (left_old left_new h k : Option (List ℕ)) (source_old source_new : S)
     (files_old files_new : F) → Fits m old left_old → Does m s old new left_old left_new h k source_old source_new files_old files_new → IsWell s
@@ -274,7 +340,8 @@ does_well (check name) s old new left_old left_new h k a b c d fits does = file_
 does_well (iors name) s old new left_old left_new h k a b c d fits does = file_well References name old new h k fits s does.0
 does_well (migrate name text) s old new left_old left_new h k a b c d fits does = migrate_well name text s old new h k fits.0 fits.1 does.0
 does_well (audit asked) s old new left_old left_new h k a b c d fits does = audit_well asked old new h k fits s does.0
-does_well names s old new left_old left_new h k a b c d fits does = absurd fits
+does_well (explain asked) s old new left_old left_new h k a b c d fits does = explain_well asked old new h k fits s does.0
+does_well names s old new left_old left_new h k a b c d fits does = names_end_well s left_old left_new h k fits does.0
 
 -- no fault was counted
 calm_well : (s : Status) → IsWell s → (s ≡ ReadFault → ⊥) → (s ≡ WriteFault → ⊥) → (s ≡ FileFault → ⊥) → (s ≡ Ok) ⊎ (s ≡ WantMemory)

@@ -10,3 +10,5 @@ pub mod Heard
 pub mod Wholly
 pub mod Completed
 pub mod Roomy
+mod NamesEnding
+mod Reopened

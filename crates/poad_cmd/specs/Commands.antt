@@ -1,7 +1,7 @@
 -- What a command does. These words are for a contract inside of this crate.
 use Rattle.std.specs.Prelude.{◌≡◌, ℕ, List, Option}
 use Rattle.outside.specs.Keeping.{Contents}
-use Rattle.command_words.specs.Words.{Meant, answer, audit, load, names, show, check, iors, migrate, loc, replay}
+use Rattle.command_words.specs.Words.{Meant, answer, audit, explain, load, names, show, check, iors, migrate, loc, replay}
 use Rattle.poad_files.specs.declared.Asked.TheVariants.{Counts, References}
 use Rattle.poad_files.specs.Filing.{Filed}
 use Rattle.poad_files.specs.Migrating.{MigratesFile}
@@ -10,9 +10,16 @@ use Rattle.poad_files.specs.Showing.{Tells}
 use Rattle.poad_files.specs.declared.status.Status.{Status}
 use Rattle.poad_answer.specs.Answering.{AnswersBy}
 use Rattle.poad_audit.specs.Auditing.{AuditsFiles}
+use Rattle.poad_audit.specs.Explaining.{ExplainsFiles}
 use Rattle.poad_cmd.specs.Playing.{PlaysFiles}
 use Rattle.poad_load.specs.Writing.{LoadGives}
-use Rattle.poad_names.specs.Run.{RunNames}
+use Rattle.poad_names.specs.declared.names_end.NamesEnd.{NamesEnd}
+use Rattle.poad_names.specs.Run.{RunNames, status_of}
+
+-- a run of naming contexts ended with this status
+abbrev pub RunsNames : Status → (left_old left_new held_old held_new : Option (List ℕ)) → Type 0
+RunsNames status left_old left_new held_old held_new =
+    (end : NamesEnd) × (status ≡ status_of end) × RunNames end left_old left_new held_old held_new
 
 -- by the contents of the files, what is left of the source and what the sink holds, before and after, and by the source and the files
 -- themselves
@@ -36,5 +43,7 @@ Does (migrate name text) status old new left_old left_new held_old held_new sour
     MigratesFile name text status old new held_old held_new × (source_new ≡ source_old)
 Does (audit a) status old new left_old left_new held_old held_new source_old source_new files_old files_new =
     AuditsFiles a.config a.journal a.limit status old new held_old held_new × (source_new ≡ source_old)
+Does (explain e) status old new left_old left_new held_old held_new source_old source_new files_old files_new =
+    ExplainsFiles e.config e.journal e.limit e.arrival status old new held_old held_new × (source_new ≡ source_old)
 Does names status old new left_old left_new held_old held_new source_old source_new files_old files_new =
-    RunNames status left_old left_new held_old held_new × (files_new ≡ files_old)
+    RunsNames status left_old left_new held_old held_new × (files_new ≡ files_old)

@@ -3,8 +3,9 @@
 use Rattle.std.specs.Prelude.{◌≡◌, ◌⊎◌, ℕ, ◌+◌, ◌^◌, ◌<◌, ◌≤◌, List, [], ◌∷◌, length, reverse, Option, None, Some, IfSome, Ok, ⊤}
 use Rattle.std.specs.Option.{IsSomeAnd}
 use Rattle.command_words.specs.Auditing.{Audit}
+use Rattle.command_words.specs.Explaining.{Explain}
 use Rattle.command_words.specs.Serving.{Serve}
-use Rattle.command_words.specs.Words.{Meant, answer, audit, load, names, show, check, iors, migrate, loc, replay}
+use Rattle.command_words.specs.Words.{Meant, answer, audit, explain, load, names, show, check, iors, migrate, loc, replay}
 use Rattle.giop_frame.specs.Stream.{Framed, Stream, left_over}
 use Rattle.history_standing.specs.Arrivals.{connections}
 use Rattle.outside.specs.Cause.{Rose}
@@ -23,6 +24,7 @@ use Rattle.poad_answer.specs.Serving.{MessageGives, Serves}
 use Rattle.poad_answer.specs.Stop.{Comes, IsClosing, message_limit}
 use Rattle.poad_answer.specs.declared.naming.TheConstants.{BUILT_IN}
 use Rattle.poad_audit.specs.Auditing.{journal_limit}
+use Rattle.poad_names.specs.Whole.{IsWholeInput as IsWholeNaming}
 use Rattle.poad_files.specs.Locating.{IsLocLine}
 use Rattle.poad_files.specs.Referring.{GivesWritten, Refers}
 use Rattle.poad_files.specs.StateFile.{ReadsState, state_limit}
@@ -115,6 +117,11 @@ pub record FitsAudit (a : Audit) (files : Option Contents) : Type 0 where
   pub config : HoldConfig files a.config
   pub legal : (c : Config) → HoldThisConfig files a.config c → HoldSuch files a.journal journal_limit (IsLegalJournal c a.limit)
 
+-- the same of `explain`
+pub record FitsExplain (e : Explain) (files : Option Contents) : Type 0 where
+  pub config : HoldConfig files e.config
+  pub legal : (c : Config) → HoldThisConfig files e.config c → HoldSuch files e.journal journal_limit (IsLegalJournal c e.limit)
+
 -- the text refers
 abbrev pub IsReference : List ℕ → Type 0
 IsReference text = (ior : Ior) × Refers text ior
@@ -137,8 +144,8 @@ Fits (check name) files left = HoldConfig files name
 Fits (iors name) files left = HoldConfig files name
 Fits (migrate name text) files left = HoldConfig files name × IsReference text
 Fits (audit a) files left = FitsAudit a files
--- of `names` nothing is said yet
-Fits names files left = ⊥
+Fits (explain e) files left = FitsExplain e files
+Fits names files left = IsSomeAnd left IsWholeNaming
 
 -- no count of faults of taking and putting files and of starting threads rises, nor stands at the end of its type
 pub record IsSteady (takes_old takes_new puts_old puts_new crew_old crew_new : ℕ) : Type 0 where

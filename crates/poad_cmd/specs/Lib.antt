@@ -5,3 +5,4 @@ pub mod Beginning
 pub mod Putting
 pub mod Ending
 pub mod Serving
+pub mod Reopening

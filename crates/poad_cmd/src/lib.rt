@@ -9,12 +9,15 @@
 
 mod beginning;
 mod ending;
+mod naming;
 mod playing;
 mod putting;
+mod reopening;
 mod run;
 mod serve;
 mod served;
 
+pub use reopening::a_run_opens_with_what_was_put;
 pub use run::run_words;
 pub use serve::run_serve;
 pub use serve_run::Doors;

@@ -3,12 +3,14 @@ ghost use Rattle.std.specs.Prelude.{◌≡◌, ◌≢◌, ◌⊎◌, ℕ, List, 
 ghost use Rattle.outside.specs.Cause.{HasCause};
 ghost use Rattle.outside.specs.Told.{IfTold};
 ghost use Rattle.command_words.specs.Auditing.{Audit};
+ghost use Rattle.command_words.specs.Explaining.{Explain};
 ghost use Rattle.command_words.specs.Words as spec;
 ghost use Rattle.command_words.specs.Words.{IsWithin, Meant, command_in, seen};
 ghost use Rattle.poad_files.specs.declared.Asked.TheVariants.{Counts, References};
 ghost use Rattle.poad_answer.specs.Answering.{AnswersBy};
 ghost use Rattle.poad_audit.specs.Auditing.{AuditsFiles};
-ghost use Rattle.poad_cmd.specs.Commands.{Does};
+ghost use Rattle.poad_audit.specs.Explaining.{ExplainsFiles};
+ghost use Rattle.poad_cmd.specs.Commands.{Does, RunsNames};
 ghost use Rattle.poad_cmd.specs.Complete.{Fits, IsCalm};
 ghost use Rattle.poad_cmd.specs.Playing.{PlaysFiles};
 ghost use Rattle.poad_files.specs.Migrating.{MigratesFile};
@@ -17,16 +19,15 @@ ghost use Rattle.poad_files.specs.Showing.{Tells};
 ghost use Rattle.poad_files.specs.Filing.{Filed};
 ghost use Rattle.poad_files.specs.Taking.{HoldsStill};
 ghost use Rattle.poad_load.specs.Writing.{LoadGives};
-ghost use Rattle.poad_names.specs.Run.{RunNames};
 
+use crate::naming::serve_names;
 use crate::playing::play_files;
 use command_words::{Command, WordsFault, command_of};
 use outside::{Files, Sink, Source};
 use poad_answer::answer_by;
-use poad_audit::audit_files;
+use poad_audit::{audit_files, explain_files};
 use poad_files::{Asked, Host, Status, migrate_file, print_file, print_loc, show_text};
 use poad_load::load;
-use poad_names::names;
 use std::alloc::Global;
 
 /// Does what the words say.
@@ -44,6 +45,9 @@ use std::alloc::Global;
 /// - `audit FILE JOURNAL [--limit N]`: reads the journal in the second file, as one of a run of the configuration in the
 ///   first that takes N calls, and prints `legal N`, of so many entries, or `illegal K RULE`, of the first that may not
 ///   follow those before it, counted from 0.
+/// - `explain FILE JOURNAL --arrival A [--limit N]`: reads the journal in the second file as `audit` does, and prints what
+///   happened to the call that arrived as the one of this number, counted from 0: a line for each entry that says something of
+///   it.
 /// - `names`: reads GIOP messages from the source, serves them by naming contexts, of which one alone is there at first, with
 ///   nothing bound, and writes the replies to the sink.
 ///
@@ -56,7 +60,8 @@ use std::alloc::Global;
 /// - `Limit`: `answer` came to a call that the run refuses: the replies to those before it were written, and then
 ///   CloseConnection. Or `replay` came to such a call or connection, and what the script prints was written whole.
 /// - `ScriptRefused`: this line of the script is the first outside the grammar. Nothing was written.
-/// - `Illegal`: this entry of the journal is the first that isn't legal. The line that says so was written.
+/// - `Illegal`: this entry of the journal is the first that isn't legal. By `audit` the line that says so was written, by
+///   `explain` nothing.
 /// - `JournalRefused`: this line of the journal is the first outside the grammar. Nothing was written.
 /// - `BadWords`: the words are none of these commands. Nothing was read or written.
 /// - `TextRefused`: the text of `show`, `migrate` or `loc` is no reference, with its first fault. Nothing was written.
@@ -115,8 +120,11 @@ pub fn run_words<S: Source, K: Sink, F: Files>(
     ensures audits { (asked : Audit) → command_in words.now ≡ Some (spec.audit asked)
         → AuditsFiles asked.config asked.journal asked.limit result (F.contents host.old.files) (F.contents host.new.files)
         (K.held host.old.sink) (K.held host.new.sink) × (host.new.source ≡ host.old.source) }
+    ensures explains { (asked : Explain) → command_in words.now ≡ Some (spec.explain asked)
+        → ExplainsFiles asked.config asked.journal asked.limit asked.arrival result (F.contents host.old.files)
+        (F.contents host.new.files) (K.held host.old.sink) (K.held host.new.sink) × (host.new.source ≡ host.old.source) }
     ensures names { command_in words.now ≡ Some spec.names
-        → RunNames result (S.left host.old.source) (S.left host.new.source) (K.held host.old.sink) (K.held host.new.sink)
+        → RunsNames result (S.left host.old.source) (S.left host.new.source) (K.held host.old.sink) (K.held host.new.sink)
         × (host.new.files ≡ host.old.files) }
     ensures contents { IfTold (F.contents host.old.files) (F.contents host.new.files) HoldsStill }
     ensures read_fault { HasCause (S.read_faults host.old.source) (S.read_faults host.new.source) (result ≡ Status.ReadFault) }
@@ -172,7 +180,19 @@ fn run_command<S: Source, K: Sink, F: Files>(
         Command::Migrate { config, text } => {
             migrate_file(alloc, config, text.as_bytes(), files, sink)
         }
-        Command::Names => names(alloc, source, sink),
+        Command::Names => serve_names(alloc, source, sink),
+        Command::Explain(asked) => {
+            let arrival = u64::from(asked.arrival);
+            explain_files(
+                alloc,
+                asked.config,
+                asked.journal,
+                arrival,
+                asked.limit,
+                files,
+                sink,
+            )
+        }
         Command::Audit(asked) => {
             audit_files(alloc, asked.config, asked.journal, asked.limit, files, sink)
         }

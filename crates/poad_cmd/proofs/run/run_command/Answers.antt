@@ -2,6 +2,7 @@
 use Rattle.std.proofs.Common.{ℕ, List, refl, sym, subst}
 use Rattle.command_words.specs.declared.command.Command.{Command}
 use Rattle.command_words.specs.Words.{seen}
+use Rattle.poad_audit.specs.Explaining.{ExplainsFiles}
 use Rattle.poad_files.specs.Migrating.{MigratesFile}
 use Rattle.poad_cmd.specs.Commands.{Does}
 use Rattle.poad_cmd.proofs.run.run_command.Goals as goal
@@ -60,10 +61,25 @@ returns-in-Audit-clause-does g c =
     c.audit_files.new.files)
     (sym c.in-Audit.is) (c.audit_files.ensures.audits, refl)
 
+pub returns-in-Explain-clause-does : goal.returns-in-Explain-clause-does
+returns-in-Explain-clause-does g c =
+    subst (λ (k : Command). Does (seen k) c.explain_files.result (g.F.Files.contents c.args.host.now.files)
+    (g.F.Files.contents c.explain_files.new.files) (g.S.Source.left c.args.host.now.source) (g.S.Source.left c.args.host.now.source)
+    (g.K.Sink.held c.args.host.now.sink) (g.K.Sink.held c.explain_files.new.sink) c.args.host.now.source c.args.host.now.source c.args.host.now.files
+    c.explain_files.new.files)
+    (sym c.in-Explain.is) (
+      subst
+          (λ (n : ℕ). ExplainsFiles c.in-Explain.asked.config.now c.in-Explain.asked.journal.now c.in-Explain.asked.limit n c.explain_files.result
+          (g.F.Files.contents c.args.host.now.files) (g.F.Files.contents c.explain_files.new.files)
+          (g.K.Sink.held c.args.host.now.sink) (g.K.Sink.held c.explain_files.new.sink))
+          c.from-arrival.ensures c.explain_files.ensures.explains,
+      refl,
+    )
+
 pub returns-in-Names-clause-does : goal.returns-in-Names-clause-does
 returns-in-Names-clause-does g c =
-    subst (λ (k : Command). Does (seen k) c.names.result (g.F.Files.contents c.args.host.now.files)
-    (g.F.Files.contents c.args.host.now.files) (g.S.Source.left c.args.host.now.source) (g.S.Source.left c.names.new.source)
-    (g.K.Sink.held c.args.host.now.sink) (g.K.Sink.held c.names.new.sink) c.args.host.now.source c.names.new.source c.args.host.now.files
+    subst (λ (k : Command). Does (seen k) c.serve_names.result (g.F.Files.contents c.args.host.now.files)
+    (g.F.Files.contents c.args.host.now.files) (g.S.Source.left c.args.host.now.source) (g.S.Source.left c.serve_names.new.source)
+    (g.K.Sink.held c.args.host.now.sink) (g.K.Sink.held c.serve_names.new.sink) c.args.host.now.source c.serve_names.new.source c.args.host.now.files
     c.args.host.now.files)
-    (sym c.in-Names.is) (c.names.ensures.names, refl)
+    (sym c.in-Names.is) (c.serve_names.ensures.runs, refl)

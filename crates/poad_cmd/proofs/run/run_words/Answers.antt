@@ -1,10 +1,11 @@
 -- The words are a command, which is done, or none.
 use Rattle.std.proofs.Common.{refl, sym, ◌∙◌, subst}
-use Rattle.command_words.specs.Words.{Meant, answer, audit, load, names, show, check, iors, migrate, loc, replay, command_in, seen}
+use Rattle.command_words.specs.Words.{Meant, answer, audit, explain, load, names, show, check, iors, migrate, loc, replay, command_in, seen}
 use Rattle.poad_cmd.specs.Commands.{Does}
 use Rattle.poad_cmd.specs.Complete.{Fits}
 use Rattle.poad_cmd.proofs.Commanded.{as_meant, not_none, some_is}
 use Rattle.poad_cmd.proofs.Completed.{completes}
+use Rattle.poad_names.specs.declared.names_end.NamesEnd.TheVariants.{WantMemory}
 use Rattle.poad_names.proofs.Running.{run_refused}
 use Rattle.poad_cmd.proofs.run.run_words.Goals as goal
 
@@ -89,8 +90,16 @@ returns-in-Ok-clause-audits g c asked meant = as_meant
     c.run_command.new.host.files)
     (seen c.in-Ok.command) (audit asked) (command_in c.args.words.now) c.in-Ok.ensures.ok meant c.run_command.ensures.does
 
+pub returns-in-Ok-clause-explains : goal.returns-in-Ok-clause-explains
+returns-in-Ok-clause-explains g c asked meant = as_meant
+    (λ (m : Meant). Does m c.run_command.result (g.F.Files.contents c.args.host.now.files) (g.F.Files.contents c.run_command.new.host.files)
+    (g.S.Source.left c.args.host.now.source) (g.S.Source.left c.run_command.new.host.source)
+    (g.K.Sink.held c.args.host.now.sink) (g.K.Sink.held c.run_command.new.host.sink) c.args.host.now.source c.run_command.new.host.source c.args.host.now.files
+    c.run_command.new.host.files)
+    (seen c.in-Ok.command) (explain asked) (command_in c.args.words.now) c.in-Ok.ensures.ok meant c.run_command.ensures.does
+
 pub returns-in-Err-WantMemory-clause-names : goal.returns-in-Err-WantMemory-clause-names
-returns-in-Err-WantMemory-clause-names g c meant = (run_refused _ _, refl)
+returns-in-Err-WantMemory-clause-names g c meant = ((WantMemory, refl, run_refused _ _), refl)
 
 pub returns-in-Ok-clause-names : goal.returns-in-Ok-clause-names
 returns-in-Ok-clause-names g c meant = as_meant

@@ -1,0 +1,4 @@
+mod Standing
+mod Heard
+mod Hearing
+mod Told

@@ -1,0 +1,72 @@
+-- What a journal tells of a call: what happened to it with each entry, and what it waited for from each on.
+use Rattle.std.specs.Prelude.{◌≡◌, ℕ, ◌==◌, if◌then◌else◌, List, [], ◌∷◌, ◌++◌, ◌⊎◌, length, Option, Some, None}
+use Rattle.poa_base.specs.declared.Config.{Config}
+use Rattle.poa_base.specs.declared.Entry.{Entry}
+use Rattle.poa_base.specs.declared.Entry.TheVariants.{Arrive, Collect, Admit, Tried, Incarnated, Run, Done}
+use Rattle.history_standing.specs.Arrivals.{arrivals, call_of, is_message}
+use Rattle.history_standing.specs.Stages.{arrival_in, brings, is_at, stage}
+use Rattle.poa_history.specs.Situations.{facts_of}
+use Rattle.held_queue.specs.Waiting.{is_waiting}
+use Rattle.core_turns.specs.Looks.{looked}
+use Rattle.core_turns.specs.declared.Look.{Look}
+use Rattle.core_turns.specs.declared.Look.TheVariants as looks
+use Rattle.journal_explain.specs.declared.event.Event.{Event}
+use Rattle.journal_explain.specs.declared.event.Event.TheVariants as event
+use Rattle.journal_explain.specs.declared.row.Row.{Row}
+use Rattle.journal_explain.specs.declared.step.Step.{Step}
+use Rattle.journal_explain.specs.declared.wait.Wait.{Wait}
+use Rattle.journal_explain.specs.declared.wait.Wait.TheVariants.{Worker, Held}
+use Rattle.journal_explain.specs.Rows.{row_of}
+
+-- what a look finds: a verdict, so that it waits for a worker alone; or what holds it
+abbrev pub wait_by : Look → Wait
+wait_by (looks.Go verdict) = Worker
+wait_by (looks.Held hold) = Held hold
+
+-- what a request or a locate waits for, as any worker but the first sees it; none where it doesn't wait
+abbrev pub wait_of : Config → ℕ → List Entry → ℕ → Option Wait
+wait_of c run h r = if is_waiting h r then Some (wait_by (looked (facts_of c run h r) 1)) else None
+
+-- the row of the table by which a request or a locate is admitted; a command has none
+abbrev pub row_for : Config → ℕ → List Entry → ℕ → ℕ → Option Row
+row_for c run past r w = if is_message (call_of past r) then Some (row_of (facts_of c run past r) w) else None
+
+-- what the worker has begun is for the call
+abbrev pub at_work : List Entry → ℕ → ℕ → Event → Option Event
+at_work past w r told = if is_at r (arrival_in (stage past w)) then Some told else None
+
+-- what an entry is to the call, after the entries before it
+abbrev pub event_of : Config → ℕ → List Entry → Entry → ℕ → Option Event
+event_of c run past (Arrive conn size call) r = if arrivals past == r then Some event.Arrived else None
+event_of c run past (Admit w a verdict) r = if a == r then Some (event.Admitted w (row_for c run past r w)) else None
+event_of c run past (Tried w answer) r = at_work past w r (event.Tried answer)
+event_of c run past (Incarnated w answer) r = at_work past w r (event.Incarnated (brings answer))
+event_of c run past (Run w) r = at_work past w r event.Ran
+event_of c run past (Done w) r = at_work past w r event.Ended
+event_of c run past (Collect conn a) r = if a == r then Some event.Collected else None
+event_of c run past e r = None
+
+-- a step with the entry at this place
+abbrev pub step_at : ℕ → Option Event → List Step
+step_at place None = []
+step_at place (Some told) = record { entry = place; event = told } ∷ []
+
+-- it waits for something else than before the entry
+abbrev pub waits_at : ℕ → Option Wait → List Step
+waits_at place None = []
+waits_at place (Some wait) = record { entry = place; event = event.Waits wait } ∷ []
+
+abbrev pub IsNews : ℕ → Option Wait → Option Wait → List Step → Type 0
+IsNews place old new steps = ((new ≡ old) × (steps ≡ [])) ⊎ ((new ≡ old → ⊥) × (steps ≡ waits_at place new))
+
+-- one entry more
+pub record GoesOn (c : Config) (run : ℕ) (past : List Entry) (e : Entry) (r : ℕ) (before after : List Step) : Type 0 where
+  pub news : List Step
+  pub waits : IsNews (length past) (wait_of c run past r) (wait_of c run (e ∷ past) r) news
+  pub told : after ≡ before ++ (step_at (length past) (event_of c run past e r) ++ news)
+
+-- these are the steps of the call, the first one first: with each entry what it is to the call, and then what the call waits
+-- for where that is another than before
+abbrev pub IsStory : Config → ℕ → List Entry → ℕ → List Step → Type 0
+IsStory c run [] r steps = steps ≡ []
+IsStory c run (e ∷ past) r steps = (before : List Step) × IsStory c run past r before × GoesOn c run past e r before steps

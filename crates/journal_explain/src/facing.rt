@@ -1,0 +1,81 @@
+//! What stands about a call in a run: the facts that the table of verdicts asks, and what the call waits for.
+ghost use Rattle.std.specs.Prelude.{◌≡◌, if◌then◌else◌, IfOk, Some, None};
+ghost use Rattle.history_standing.specs.Arrivals.{call_of, is_message as is_message_of};
+ghost use Rattle.poa_history.specs.Situations as situations;
+ghost use Rattle.journal_explain.specs.Stories as stories;
+
+use crate::wait::Wait;
+use core_arrivals::calls::call;
+use core_arrivals::queue::{is_crowded, waits};
+use core_run::Run;
+use core_standing::calls::is_message;
+use core_turns::{Look, facts_of, look_at};
+use poa_base::WantMemory;
+use poa_choose::Facts;
+use std::alloc::Global;
+
+/// The facts that stand about a request or a locate; none of a line, and of what hasn't arrived.
+pub(crate) fn facts(alloc: Global, run: &Run, arrival: u64) -> Result<Option<Facts>, WantMemory>
+    ensures { IfOk result (λ facts. facts
+        ≡ (if is_message_of (call_of run.now.history arrival) then Some
+        (situations.facts_of run.now.config run.now.run run.now.history arrival) else None)) }
+{
+    run.keeps_laws();
+    let tables = run.tables();
+    let call = call(run.entries(), &tables.calls, arrival);
+    if !is_message(call) {
+        return Ok(None);
+    }
+    let Some(call) = call else {
+        return Ok(None);
+    };
+    let state = run.state();
+    let crowded = is_crowded(&tables.queue, arrival);
+    let facts = facts_of(
+        alloc,
+        run.config(),
+        run.run(),
+        &state.standing,
+        &state.settings,
+        crowded,
+        call,
+    )?;
+    Ok(Some(facts))
+}
+
+/// What a request or a locate waits for, as any worker but the first sees it; none where it doesn't wait.
+pub(crate) fn wait_of(alloc: Global, run: &Run, arrival: u64) -> Result<Option<Wait>, WantMemory>
+    ensures { IfOk result (λ wait. wait ≡ stories.wait_of run.now.config run.now.run run.now.history arrival) }
+{
+    run.keeps_laws();
+    let tables = run.tables();
+    if !waits(&tables.queue, arrival) {
+        return Ok(None);
+    }
+    let Some(call) = call(run.entries(), &tables.calls, arrival) else {
+        return Ok(None);
+    };
+    let state = run.state();
+    let crowded = is_crowded(&tables.queue, arrival);
+    let look = look_at(
+        alloc,
+        run.config(),
+        run.run(),
+        &state.standing,
+        &state.settings,
+        crowded,
+        call,
+        1,
+    )?;
+    Ok(Some(wait_by(&look)))
+}
+
+/// What a look finds.
+fn wait_by(look: &Look) -> Wait
+    ensures { result ≡ stories.wait_by look.now }
+{
+    match look {
+        Look::Go(_) => Wait::Worker,
+        Look::Held(hold) => Wait::Held(*hold),
+    }
+}

@@ -1,0 +1,9 @@
+//! A step on a call's way.
+use crate::event::Event;
+
+/// What happened to a call with the entry at this place of the journal, from 0 on.
+#[derive(Clone, Copy, Drop)]
+pub struct Step {
+    pub entry: u64,
+    pub event: Event,
+}

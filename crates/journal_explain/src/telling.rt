@@ -1,0 +1,82 @@
+//! What an entry is to a call.
+ghost use Rattle.std.specs.Prelude.{◌≡◌, ◌==◌, ◌<◌, IfOk, Some, None, if◌then◌else◌};
+ghost use Rattle.journal_audit.specs.Judging.{Follows};
+ghost use Rattle.journal_explain.specs.Stories as stories;
+
+use crate::deciding::row_of;
+use crate::event::Event;
+use crate::facing::facts;
+use crate::row::Row;
+use core_run::Run;
+use core_standing::workers::{arrival_in, brings, is_at};
+use poa_base::{Entry, WantMemory};
+use std::alloc::Global;
+
+/// How many workers a run has.
+const WORKERS: u32 = 16;
+
+/// What the next entry of a run, where it may follow, is to a call.
+pub(crate) fn event_of(
+    alloc: Global,
+    run: &Run,
+    entry: &Entry,
+    arrival: u64,
+) -> Result<Option<Event>, WantMemory>
+    ensures { Follows run.now entry.now
+        → IfOk result (λ told. told ≡ stories.event_of run.now.config run.now.run run.now.history entry.now arrival) }
+{
+    match entry {
+        Entry::Arrive { .. } => Ok(same(run.arrivals(), arrival, Event::Arrived)),
+        Entry::Admit {
+            worker,
+            arrival: admitted,
+            ..
+        } if *admitted == arrival => {
+            let row = row_for(alloc, run, *worker, arrival)?;
+            let worker = *worker;
+            Ok(Some(Event::Admitted { worker, row }))
+        }
+        Entry::Tried { worker, answer } => {
+            Ok(at_work(run, *worker, arrival, Event::Tried(*answer)))
+        }
+        Entry::Incarnated { worker, answer } => {
+            let brought = brings(answer);
+            Ok(at_work(run, *worker, arrival, Event::Incarnated { brought }))
+        }
+        Entry::Run { worker } => Ok(at_work(run, *worker, arrival, Event::Ran)),
+        Entry::Done { worker } => Ok(at_work(run, *worker, arrival, Event::Ended)),
+        Entry::Collect {
+            arrival: collected,
+            ..
+        } => Ok(same(*collected, arrival, Event::Collected)),
+        _ => Ok(None),
+    }
+}
+
+/// The event, where the entry speaks of the call.
+fn same(spoken: u64, arrival: u64, event: Event) -> Option<Event>
+    ensures { result ≡ (if spoken == arrival then Some event else None) }
+{
+    if spoken == arrival { Some(event) } else { None }
+}
+
+/// The event, where what the worker has begun is for the call.
+fn at_work(run: &Run, worker: u32, arrival: u64, event: Event) -> Option<Event>
+    ensures { worker < WORKERS → result ≡ stories.at_work run.now.history worker arrival event }
+{
+    if worker < WORKERS && is_at(arrival, arrival_in(run.stage(worker))) {
+        Some(event)
+    } else {
+        None
+    }
+}
+
+/// The row of the table by which a request or a locate is admitted; none of a command.
+fn row_for(alloc: Global, run: &Run, worker: u32, arrival: u64) -> Result<Option<Row>, WantMemory>
+    ensures { IfOk result (λ row. row ≡ stories.row_for run.now.config run.now.run run.now.history arrival worker) }
+{
+    match facts(alloc, run, arrival)? {
+        Some(facts) => Ok(Some(row_of(&facts, worker))),
+        None => Ok(None),
+    }
+}

@@ -1,0 +1,94 @@
+-- What is printed of a call.
+use Rattle.std.specs.Prelude.{ℕ, List, [], ◌++◌, ◌∷◌, codes, decimal, Bool, true, false, Option, Some, None}
+use Rattle.poa_base.specs.declared.Attempt.{Attempt}
+use Rattle.poa_base.specs.declared.Attempt.TheVariants as attempt
+use Rattle.held_queue.specs.declared.Hold.{Hold}
+use Rattle.held_queue.specs.declared.Hold.TheVariants as hold
+use Rattle.journal_explain.specs.declared.Event.{Event}
+use Rattle.journal_explain.specs.declared.Event.TheVariants as event
+use Rattle.journal_explain.specs.declared.Row.{Row}
+use Rattle.journal_explain.specs.declared.Row.TheVariants as row
+use Rattle.journal_explain.specs.declared.Step.{Step}
+use Rattle.journal_explain.specs.declared.Wait.{Wait}
+use Rattle.journal_explain.specs.declared.Wait.TheVariants.{Worker, Held}
+
+abbrev pub row_text : Row → List ℕ
+row_text row.Crowded = codes "when it arrived, 65536 requests and locates stood unadmitted"
+row_text row.NoKey = codes "its target gives no key"
+row_text row.BadKey = codes "its key is no spelling of one"
+row_text row.OtherRun = codes "its key is transient and of another run"
+row_text row.AdapterDying = codes "an adapter on the way from the root is being destroyed"
+row_text row.ChildGone = codes "an adapter of its path is missing, and its key is transient"
+row_text row.ParentManager = codes "an adapter of its path is missing, and the manager of the one above isn't ACTIVE"
+row_text row.ChildTried = codes "an adapter of its path is missing, and a trial of it is in flight"
+row_text row.ChildActivator = codes "an adapter of its path is missing, and the adapter activator above is asked"
+row_text row.ChildForward = codes "an adapter of its path is missing, and the endpoint table has an entry for the path"
+row_text row.ChildMissing = codes "an adapter of its path is missing"
+row_text row.OtherLifespan = codes "its key has another lifespan than the adapter, or is of an adapter that stood there before"
+row_text row.OtherTag = codes "its key has another tag than the adapter"
+row_text row.Manager = codes "the manager of its adapter isn't ACTIVE"
+row_text row.Thread = codes "the thread policy of its adapter lets it wait"
+row_text row.Active = codes "its object is active"
+row_text row.Changing = codes "its object is on its way into the active object map or out of it"
+row_text row.NotActive = codes "its object isn't active, and its adapter brings none"
+row_text row.DefaultServant = codes "its object isn't active, and the default servant serves it"
+row_text row.NoDefaultServant = codes "its object isn't active, and no default servant is set"
+row_text row.NoServantManager = codes "its object isn't active, and its adapter has no servant manager"
+row_text row.ActivatorHere = codes "its object isn't active, and the servant activator may bring it"
+row_text row.ActivatorBusy = codes "its object isn't active, and the servant activator is at another one"
+row_text row.Incarnate = codes "its object isn't active, and the servant activator is asked"
+row_text row.LocatorHere = codes "the servant locator may find its object"
+row_text row.Locator = codes "the servant locator has a rule for its object"
+row_text row.NoRule = codes "the servant locator has no rule for its object"
+
+-- a command is admitted by no row of the table
+abbrev pub reason_text : Option Row → List ℕ
+reason_text None = codes "it is a command"
+reason_text (Some row) = row_text row
+
+abbrev pub hold_text : Hold → List ℕ
+hold_text (hold.Manager m) = codes "held: manager " ++ (decimal m ++ codes " is HOLDING")
+hold_text (hold.Trial k) = codes "held: a trial of a child of adapter " ++ (decimal k ++ codes " is in flight")
+hold_text (hold.Turn k) = codes "held: another request is in flight in adapter " ++ decimal k
+hold_text hold.Main = codes "held: the first worker alone may take it"
+hold_text (hold.Id n) = codes "held: activation " ++ (decimal n ++ codes " of its object is on its way in or out")
+hold_text (hold.Change k) = codes "held: an incarnation or etherealization is unfinished in adapter " ++ decimal k
+
+abbrev pub wait_text : Wait → List ℕ
+wait_text Worker = codes "waits for a worker"
+wait_text (Held h) = hold_text h
+
+abbrev pub attempt_text : Attempt → List ℕ
+attempt_text (attempt.Yes n) = codes "the adapter activator made adapter " ++ decimal n
+attempt_text attempt.No = codes "the adapter activator made none"
+attempt_text attempt.Raised = codes "the adapter activator raised an exception"
+attempt_text attempt.Dying = codes "the adapter above is being destroyed"
+
+abbrev pub brought_text : Bool → List ℕ
+brought_text true = codes "the servant activator brought a servant"
+brought_text false = codes "the servant activator brought none"
+
+abbrev pub event_text : Event → List ℕ
+event_text event.Arrived = codes "arrived"
+event_text (event.Waits wait) = wait_text wait
+event_text (event.Admitted w row) = codes "admitted by worker " ++ (decimal w ++ (codes ": " ++ reason_text row))
+event_text (event.Tried answer) = attempt_text answer
+event_text (event.Incarnated brought) = brought_text brought
+event_text event.Ran = codes "its servant ran"
+event_text event.Ended = codes "the request ended"
+event_text event.Collected = codes "its reply was taken for writing"
+
+abbrev pub step_line : Step → List ℕ
+step_line s = codes "entry " ++ (decimal s.entry ++ (codes " " ++ (event_text s.event ++ codes "\n")))
+
+abbrev pub step_lines : List Step → List ℕ
+step_lines [] = []
+step_lines (s ∷ more) = step_line s ++ step_lines more
+
+-- the call, the line of the journal's entry 0, and what happened to the call with each entry
+abbrev pub head_line : ℕ → ℕ → List ℕ
+head_line arrival line = codes "call " ++ (decimal arrival ++ (codes ", entry 0 in line " ++ (decimal line ++ codes "\n")))
+
+abbrev pub story_text : ℕ → ℕ → List Step → List ℕ
+story_text arrival line [] = head_line arrival line ++ codes "it never arrived\n"
+story_text arrival line (s ∷ more) = head_line arrival line ++ step_lines (s ∷ more)
