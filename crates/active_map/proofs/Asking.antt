@@ -11,11 +11,10 @@ use Rattle.std.proofs.Common.{inl, inr, sym, ap, subst, ◌∙◌}
 use Rattle.std.proofs.lemmas.Bool.{and_from, eq-eqb, false_from_ne_true}
 use Rattle.history_standing.specs.declared.activation.Activation.{Activation}
 use Rattle.history_standing.specs.Standings.{is_of}
-use Rattle.poa_history.proofs.GoneIs.{some_in}
+use Rattle.history_standing.proofs.Members.{some_in, any_in, image_in, kept_in}
 use Rattle.history_standing.specs.Paths.{same_bytes}
 use Rattle.history_standing.specs.Trees.{In}
 use Rattle.history_standing.proofs.Leading.{same_self}
-use Rattle.history_standing.proofs.Members.{any_in, image_in, kept_in}
 use Rattle.active_map.specs.Asked.{at_one}
 use Rattle.active_map.specs.ById.{Ids, numbers_in, numbers_of}
 use Rattle.active_map.specs.Tables.{CoversOf, IsKeyed, IsIndexed}

@@ -16,7 +16,7 @@ use Rattle.history_standing.specs.declared.activation.Activation.{Activation}
 use Rattle.history_standing.specs.declared.activation.Phase.{Phase}
 use Rattle.history_standing.specs.Ends.{is_left, let_out}
 use Rattle.history_standing.specs.Standings.{Standing, is_begun}
-use Rattle.poa_history.specs.Changes.{at_number, come_to}
+use Rattle.history_standing.specs.Changes.{at_number, come_to}
 use Rattle.poa_base.specs.declared.Config.{Config}
 use Rattle.history_standing.specs.Trees.{In}
 use Rattle.history_standing.proofs.Members.{in_either, in_image, in_kept}

@@ -5,7 +5,7 @@ use Rattle.std.proofs.lemmas.Bool.{and_right, true≢false}
 use Rattle.history_standing.specs.declared.activation.Activation.{Activation}
 use Rattle.history_standing.specs.Ends.{is_left}
 use Rattle.history_standing.specs.Standings.{is_begun}
-use Rattle.poa_history.specs.Changes.{at_number}
+use Rattle.history_standing.specs.Changes.{at_number}
 use Rattle.history_standing.specs.Trees.{In}
 use Rattle.active_map.specs.Made.{flown, made}
 use Rattle.active_map.specs.Tables.{Keeps, is_leaving}

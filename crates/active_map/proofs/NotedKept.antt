@@ -12,7 +12,7 @@ use Rattle.history_standing.specs.declared.activation.Phase.TheVariants.{Begun, 
 use Rattle.history_standing.specs.Ends.{is_finished, is_left, is_over, let_out}
 use Rattle.history_standing.specs.Standings.{Standing, has_servant, is_begun, is_complete, is_mapped, is_void, same_servant}
 use Rattle.history_standing.specs.Trees.{In}
-use Rattle.history_standing.proofs.Members.{in_either, in_image, in_kept}
+use Rattle.history_standing.proofs.Members.{in_either, in_image, in_kept, some_in}
 use Rattle.active_map.proofs.Covering.{covers_rest}
 use Rattle.active_map.proofs.IdsKept.{row_of}
 use Rattle.active_map.proofs.RowsKept.{values_kept}
@@ -20,9 +20,8 @@ use Rattle.std.specs.BTreeMap.{is_at}
 use Rattle.std.specs.List.Sorted.{IsStrictlySortedBy}
 use Rattle.std.specs.Map.{keys_of, values_of, lookup}
 use Rattle.std.specs.Ordering.{nat_cmp}
-use Rattle.poa_history.specs.Changes.{at_number, is_elsewhere}
-use Rattle.poa_history.specs.Situations.{is_unfinished}
-use Rattle.poa_history.proofs.GoneIs.{some_in}
+use Rattle.history_standing.specs.Changes.{at_number, is_elsewhere}
+use Rattle.history_standing.specs.Situations.{is_unfinished}
 use Rattle.active_map.specs.Asked.{is_other}
 use Rattle.active_map.specs.Endings.{ended, marked, takes}
 use Rattle.active_map.specs.Noted.{IsNoted, NotedAs}

@@ -14,7 +14,7 @@ use Rattle.history_standing.specs.Standings.{Standing, is_complete, is_of, is_en
 use Rattle.history_standing.specs.Templates.{has_activator}
 use Rattle.history_standing.specs.Trees.{In}
 use Rattle.history_standing.proofs.Members.{any_in, image_in, kept_in}
-use Rattle.poa_history.specs.Changes.{at_number}
+use Rattle.history_standing.specs.Changes.{at_number}
 use Rattle.active_map.specs.Asked.{is_to_go}
 use Rattle.active_map.specs.Live.{is_live, live}
 use Rattle.active_map.specs.Tables.{is_leaving}

@@ -16,7 +16,7 @@ use Rattle.std.proofs.lemmas.List.Sums.{sum_by_push}
 use Rattle.std.proofs.lemmas.Map.Entries.{sum_by-set_value, sum_by-remove_entry}
 use Rattle.std.proofs.lemmas.Map.Keys.{sorted_head, sorted_tail}
 use Rattle.history_standing.specs.declared.activation.Activation.{Activation}
-use Rattle.poa_history.specs.Changes.{at_number}
+use Rattle.history_standing.specs.Changes.{at_number}
 use Rattle.history_standing.specs.Trees.{In}
 use Rattle.history_standing.proofs.Members.{in_either}
 use Rattle.active_map.specs.Tables.{Table, is_moving, weight, with_each, IsKeyed, IsTable, Keeps}

@@ -3,7 +3,7 @@ use Rattle.std.specs.Prelude.{Bool, true, ◌&&◌, ◌==◌, if◌then◌else�
 use Rattle.history_standing.specs.declared.activation.Activation.{Activation}
 use Rattle.history_standing.specs.Standings.{is_of}
 use Rattle.history_standing.specs.Templates.{has_activator, manager_at}
-use Rattle.poa_history.specs.Changes.{ended_by_destroy}
+use Rattle.history_standing.specs.Changes.{ended_by_destroy}
 use Rattle.history_standing.specs.Nodes.{stands_under}
 use Rattle.active_map.specs.declared.ending.Ending.{Ending}
 use Rattle.active_map.specs.declared.ending.Ending.TheVariants.{Below, Managed, Id}

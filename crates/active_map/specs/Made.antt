@@ -4,7 +4,7 @@ use Rattle.history_standing.specs.declared.activation.Activation.{Activation}
 use Rattle.history_standing.specs.declared.flight.Flight.{Flight}
 use Rattle.history_standing.specs.Ends.{let_out}
 use Rattle.history_standing.specs.Standings.{Standing}
-use Rattle.poa_history.specs.Changes.{come_to}
+use Rattle.history_standing.specs.Changes.{come_to}
 use Rattle.active_map.specs.declared.change.Change.{Change}
 use Rattle.active_map.specs.declared.change.Change.TheVariants.{Come, TakeOut, Etherealize, LetOut}
 

@@ -3,9 +3,9 @@ ghost use Rattle.std.specs.Prelude.{◌≡◌, ◌==◌, ◌&&◌, not, Some, No
 ghost use Rattle.std.specs.BTreeMap.{get, values};
 ghost use Rattle.std.specs.List.{list_any};
 ghost use Rattle.std.specs.Ordering.{nat_cmp};
-ghost use Rattle.poa_history.specs.Changes as changes;
+ghost use Rattle.history_standing.specs.Changes as changes;
 ghost use Rattle.history_standing.specs.Ends as ends;
-ghost use Rattle.poa_history.specs.Situations as situations;
+ghost use Rattle.history_standing.specs.Situations as situations;
 ghost use Rattle.active_map.specs.Asked.{at_one, is_other};
 
 use crate::by_id::Ids;

@@ -1,15 +1,15 @@
 //! How one activation changes. Each change is made in place and takes no memory.
 ghost use Rattle.std.specs.Prelude.{◌≡◌, ◌==◌, ◌&&◌, false, true, not, if◌then◌else◌};
 ghost use Rattle.history_standing.specs.declared.activation.Phase.TheVariants.{Begun, Complete, Void};
-ghost use Rattle.poa_history.specs.Changes as changes;
+ghost use Rattle.history_standing.specs.Changes as changes;
 ghost use Rattle.history_standing.specs.Ends as ends;
 ghost use Rattle.history_standing.specs.Standings as stands;
 ghost use Rattle.history_standing.specs.Standings.{Standing as Stood};
 ghost use Rattle.active_map.specs.Asked.{is_to_go};
 
 use crate::activation::{has_servant, is_begun, is_complete, is_mapped};
-use crate::flights::is_used;
-use crate::templates::has_activator;
+use history_standing::flights::is_used;
+use history_standing::templates::has_activator;
 use history_standing::{Activation, Flight, Phase};
 use poa_base::Config;
 

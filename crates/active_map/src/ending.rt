@@ -1,12 +1,12 @@
 //! Whom a command ends.
 ghost use Rattle.std.specs.Prelude.{◌≡◌, ◌==◌, ◌&&◌};
-ghost use Rattle.poa_history.specs.Changes as changes;
+ghost use Rattle.history_standing.specs.Changes as changes;
 ghost use Rattle.history_standing.specs.Templates as configured;
 ghost use Rattle.active_map.specs.Endings as endings;
 
 use crate::activation::is_of;
-use crate::templates::{has_activator, manager_at};
 use history_standing::nodes::stands_under;
+use history_standing::templates::{has_activator, manager_at};
 use history_standing::{Activation, Node};
 use poa_base::{Config, Name, Oid};
 

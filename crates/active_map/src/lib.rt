@@ -10,11 +10,9 @@ mod by_id;
 mod change;
 mod changing;
 mod ending;
-pub mod flights;
 mod leaving;
 pub mod over;
 mod passing;
 mod rows;
-pub mod templates;
 
 pub use activations::Activations;

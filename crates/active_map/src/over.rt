@@ -1,11 +1,11 @@
 //! When an activation is over.
 ghost use Rattle.std.specs.Prelude.{◌≡◌, ◌&&◌, ◌||◌, not};
 ghost use Rattle.history_standing.specs.Ends as ends;
-ghost use Rattle.poa_history.specs.Situations as situations;
+ghost use Rattle.history_standing.specs.Situations as situations;
 
 use crate::activation::{is_begun, is_void};
-use crate::templates::has_activator;
 use history_standing::Activation;
+use history_standing::templates::has_activator;
 use poa_base::Config;
 
 /// Whether it is out of the map, and etherealized where that is due.

@@ -4,8 +4,6 @@ pub mod Staging
 pub mod Queueing
 pub mod Taking
 mod Firsts
-mod Asking
-mod FreesAs
 pub mod Flags
 pub mod Staying
 pub mod Bounds

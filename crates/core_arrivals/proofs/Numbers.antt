@@ -12,8 +12,8 @@ use Rattle.std.proofs.lemmas.List.Elements.{filter-append}
 use Rattle.history_standing.specs.Searches.{first_given}
 use Rattle.history_standing.specs.Trees.{In}
 use Rattle.history_standing.proofs.Members.{in_kept, kept_in, any_in}
-use Rattle.core_standing.specs.Numbers.{below, Ascends}
-use Rattle.core_standing.proofs.Numbers.{in_below, below_in, filter_twice}
+use Rattle.poa_history.specs.Numbers.{below, Ascends}
+use Rattle.poa_history.proofs.Numbers.{in_below, below_in, filter_twice}
 use Rattle.core_arrivals.specs.Numbers.{inserted, without, first_in}
 
 -- tests that agree below the bound keep the same

@@ -15,18 +15,18 @@ use Rattle.poa_base.specs.declared.Attempt.{Attempt}
 use Rattle.poa_base.specs.declared.Attempt.TheVariants.{Yes, No, Raised, Dying}
 use Rattle.history_standing.specs.declared.stage.Stage.TheVariants.{Trying}
 use Rattle.history_standing.specs.Arrivals.{arrivals, call_of, is_message}
-use Rattle.poa_history.specs.Changes.{standing}
+use Rattle.history_standing.specs.Changes.{standing}
 use Rattle.poa_history.specs.InFlight.{Holds, IsManned}
 use Rattle.poa_history.specs.Legal.{MayFollow}
-use Rattle.poa_history.specs.Situations.{is_crowded, waiting_messages}
+use Rattle.history_standing.specs.Situations.{is_crowded, waiting_messages}
 use Rattle.history_standing.specs.Stages.{stage, arrival_in, is_at, admitted, is_unadmitted}
 use Rattle.poa_history.proofs.TurnTells.{admission_is}
-use Rattle.core_standing.specs.Numbers.{below}
+use Rattle.poa_history.specs.Numbers.{below}
 use Rattle.core_arrivals.specs.Numbers.{inserted, without}
-use Rattle.held_queue.specs.Waiting.{is_waiting}
+use Rattle.poa_history.specs.Waiting.{is_waiting}
 use Rattle.core_arrivals.specs.Queued.{IsQueue}
 use Rattle.core_arrivals.specs.declared.queue.Queue.{Queue}
-use Rattle.core_standing.proofs.Numbers.{counted}
+use Rattle.poa_history.proofs.Numbers.{counted}
 use Rattle.core_arrivals.proofs.Numbers.{same_below, one_less, one_more, any_kept}
 use Rattle.history_standing.proofs.CallsKept.{call_beyond, call_kept}
 

@@ -10,7 +10,7 @@ use Rattle.history_standing.specs.declared.stage.Stage.{Stage}
 use Rattle.history_standing.specs.declared.stage.Stage.TheVariants.{Free}
 use Rattle.poa_history.specs.Legal.{MayFollow}
 use Rattle.history_standing.specs.Stages.{stage}
-use Rattle.core_standing.specs.Entries.{stage_at}
+use Rattle.poa_history.specs.Entries.{stage_at}
 use Rattle.poa_history.proofs.StagesFrom.{maker, stage_other}
 use Rattle.core_arrivals.specs.Begun.{worker_of, AreStages}
 

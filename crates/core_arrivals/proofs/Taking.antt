@@ -9,7 +9,7 @@ use Rattle.std.proofs.lemmas.List.Sorted.{searched}
 use Rattle.std.proofs.Common.{inl, inr, sym, ap₂, arith}
 use Rattle.std.proofs.lemmas.Bool.{cases_Bool, eqb-true, eq-eqb, false_from_ne_true, ltb-true, ltb-false}
 use Rattle.history_standing.specs.Trees.{In}
-use Rattle.core_standing.specs.Numbers.{Ascends}
+use Rattle.poa_history.specs.Numbers.{Ascends}
 use Rattle.core_arrivals.specs.Numbers.{without}
 use Rattle.core_arrivals.proofs.Numbers.{rises, in_get}
 

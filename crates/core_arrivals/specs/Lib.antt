@@ -3,6 +3,4 @@ pub mod Firsts
 pub mod Placed
 pub mod Queued
 pub mod Begun
-pub mod Told
-pub mod Answered
 pub mod Tallies

@@ -7,9 +7,9 @@ use Rattle.poa_base.specs.declared.Entry.TheVariants.{Arrive, Tried}
 use Rattle.poa_base.specs.declared.Attempt.TheVariants.{Yes}
 use Rattle.history_standing.specs.Arrivals.{arrivals, call_of, is_message}
 use Rattle.history_standing.specs.Stages.{stage, arrival_in, admitted, is_unadmitted}
-use Rattle.poa_history.specs.Situations.{is_crowded}
-use Rattle.core_standing.specs.Numbers.{below}
-use Rattle.held_queue.specs.Waiting.{is_waiting}
+use Rattle.history_standing.specs.Situations.{is_crowded}
+use Rattle.poa_history.specs.Numbers.{below}
+use Rattle.poa_history.specs.Waiting.{is_waiting}
 use Rattle.core_arrivals.specs.declared.queue.Queue.{Queue}
 
 -- an administrator's line that wasn't admitted

@@ -4,15 +4,15 @@ ghost use Rattle.std.specs.List.{slice_get};
 ghost use Rattle.poa_base.specs.declared.Entry.{Entry};
 ghost use Rattle.journal_entries.specs.Rows.{seen};
 ghost use Rattle.history_standing.specs.Arrivals as arrived;
-ghost use Rattle.core_standing.specs.Entries as made;
+ghost use Rattle.poa_history.specs.Entries as made;
 ghost use Rattle.core_arrivals.specs.Queued as queued;
 ghost use Rattle.core_arrivals.specs.Placed as placed;
 ghost use Rattle.core_arrivals.specs.Placed.{KnowsCalls};
 
-use core_standing::workers::arrival_in;
 use history_standing::Stage;
 use journal_entries::{Entries, EntryView, Row};
 use poa_base::{Attempt, Call, Entry, WantMemory};
+use poa_history::workers::arrival_in;
 use std::alloc::Global;
 
 /// Where in the journal each call arrived, in the order of the calls.

@@ -4,8 +4,6 @@
 #![tactic(auto)]
 
 pub mod calls;
-mod freeing;
-mod known;
 mod moves;
 mod ordered;
 mod queries;
@@ -14,8 +12,6 @@ mod tally;
 pub mod workers;
 
 pub use calls::Calls;
-pub use freeing::freed_by;
-pub use known::Known;
 pub use moves::{advance, is_shutdown};
 pub use queries::{connections, filled, is_open, is_run_over, is_taken, phase_of};
 pub use queue::Queue;

@@ -2,7 +2,7 @@
 ghost use Rattle.std.specs.Prelude.{◌≡◌, ◌==◌, ◌≤◌, ◌<◌, [], ◌∷◌, ◌++◌, length, filter, nat_lt, if◌then◌else◌};
 ghost use Rattle.std.specs.VecDeque.{deque_len, deque_capacity};
 ghost use Rattle.std.specs.List.{list_any};
-ghost use Rattle.core_standing.specs.Numbers.{Ascends};
+ghost use Rattle.poa_history.specs.Numbers.{Ascends};
 ghost use Rattle.core_arrivals.specs.Numbers.{inserted, without};
 
 use std::collections::VecDeque;

@@ -10,18 +10,18 @@ ghost use Rattle.history_standing.specs.Arrivals.{arrivals as arrivals_in, call_
 ghost use Rattle.poa_history.specs.InFlight.{IsManned};
 ghost use Rattle.poa_history.specs.Legal.{MayFollow};
 ghost use Rattle.history_standing.specs.Searches.{count_below};
-ghost use Rattle.poa_history.specs.Situations as situations;
+ghost use Rattle.history_standing.specs.Situations as situations;
 ghost use Rattle.history_standing.specs.Stages as begun;
-ghost use Rattle.core_standing.specs.Entries.{stage_at};
+ghost use Rattle.poa_history.specs.Entries.{stage_at};
 ghost use Rattle.core_arrivals.specs.Queued.{IsQueue, HasPlace, call_tried};
-ghost use Rattle.held_queue.specs.Waiting.{is_waiting, may_queue};
+ghost use Rattle.poa_history.specs.Waiting.{is_waiting, may_queue};
 
 use crate::ordered::{has, insert, insert_if, push_if, remove};
-use core_standing::calls::is_message;
-use core_standing::workers::arrival_in;
 use history_standing::Stage;
 use poa_base::limits::UNADMITTED;
 use poa_base::{Attempt, Call, Entry, WantMemory};
+use poa_history::calls::is_message;
+use poa_history::workers::arrival_in;
 use std::alloc::Global;
 use std::collections::VecDeque;
 

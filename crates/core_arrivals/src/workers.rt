@@ -5,13 +5,13 @@ ghost use Rattle.poa_base.specs.declared.Entry.{Entry};
 ghost use Rattle.history_standing.specs.declared.stage.Stage.TheVariants as stage_kinds;
 ghost use Rattle.poa_history.specs.Legal.{MayFollow};
 ghost use Rattle.history_standing.specs.Stages as history;
-ghost use Rattle.core_standing.specs.Entries as entries;
+ghost use Rattle.poa_history.specs.Entries as entries;
 ghost use Rattle.core_arrivals.specs.Begun as tables;
 ghost use Rattle.core_arrivals.specs.Begun.{AreStages, AreAbandoned, KnowsWorkers};
 
-use core_standing::workers::stage_after;
 use history_standing::Stage;
 use poa_base::{Entry, WantMemory};
+use poa_history::workers::stage_after;
 use std::alloc::Global;
 
 /// What each of the workers below 16 has begun and not ended, and which of them gave up.

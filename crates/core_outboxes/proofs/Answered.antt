@@ -6,7 +6,7 @@ use Rattle.poa_base.specs.declared.Command.TheVariants.{Manager, Create, Destroy
 use Rattle.poa_base.specs.declared.Order.{Order}
 use Rattle.poa_base.specs.declared.Order.TheVariants.{Activate, Hold, Discard, Deactivate}
 use Rattle.poa_base.specs.declared.Entry.{Entry}
-use Rattle.poa_history.specs.Changes.{standing}
+use Rattle.history_standing.specs.Changes.{standing}
 use Rattle.poa_history.specs.Settling.{is_quiet}
 use Rattle.history_standing.specs.Stages.{is_at}
 use Rattle.history_standing.specs.Standings.{Standing}

@@ -16,7 +16,7 @@ use Rattle.poa_history.proofs.StagesFrom.{arrival_before}
 use Rattle.poa_history.proofs.TurnTells.{admission_is}
 use Rattle.history_standing.specs.Trees.{In}
 use Rattle.history_standing.proofs.Members.{in_kept}
-use Rattle.core_standing.specs.Numbers.{below}
+use Rattle.poa_history.specs.Numbers.{below}
 use Rattle.core_outboxes.specs.Decided.{is_answered_by, answered}
 use Rattle.core_outboxes.proofs.Deciding.{stays_decided}
 use Rattle.core_outboxes.proofs.Given.{within_is}

@@ -6,7 +6,7 @@ use Rattle.poa_base.specs.declared.Verdict.{Verdict}
 use Rattle.poa_base.specs.declared.Entry.{Entry}
 use Rattle.poa_base.specs.declared.Entry.TheVariants.{Entered, Arrive, Filled, Left, Collect, Admit, Tried, Incarnated, Run, Done, TakeOut, Etherealized, Abandon}
 use Rattle.history_standing.specs.Arrivals.{arrivals}
-use Rattle.poa_history.specs.Changes.{standing as stands_after}
+use Rattle.history_standing.specs.Changes.{standing as stands_after}
 use Rattle.history_standing.specs.Standings.{Standing}
 use Rattle.core_outboxes.specs.declared.decision.Decision.{Decision}
 use Rattle.core_outboxes.specs.declared.filed.Filed.{Filed as FiledRow}
@@ -14,7 +14,7 @@ use Rattle.core_outboxes.specs.declared.owing.Owing.{Owing}
 use Rattle.core_outboxes.specs.declared.wait.Wait.{Wait}
 use Rattle.core_outboxes.specs.declared.wait.Ordered.{Ordered}
 use Rattle.core_outboxes.specs.Waits.{ordered_by}
-use Rattle.core_standing.specs.Numbers.{Ascends}
+use Rattle.poa_history.specs.Numbers.{Ascends}
 use Rattle.core_outboxes.specs.Owed.{AreOwed, arrivals_of}
 use Rattle.core_outboxes.specs.Decided.{AreFiled, target_of}
 use Rattle.core_outboxes.specs.Desk.{is_decided, file, set_wait, waited, waited_by, WaitIs, Comes, AreOwedBefore, AreLeft, IsAlone}

@@ -3,7 +3,7 @@ use Rattle.std.proofs.Common.{◌≡◌, ℕ, ◌<◌, Bool, true, false, not, �
 use Rattle.poa_base.specs.declared.Config.{Config}
 use Rattle.poa_base.specs.declared.Entry.{Entry}
 use Rattle.history_standing.specs.Arrivals.{arrivals, call_of, conn_of}
-use Rattle.poa_history.specs.Changes.{standing}
+use Rattle.history_standing.specs.Changes.{standing}
 use Rattle.poa_history.specs.Replies.{asks, decided, is_decided_by, is_waiting, number_of}
 use Rattle.poa_history.specs.Settling.{settles}
 use Rattle.history_standing.specs.Stages.{admitted, is_at}
@@ -12,13 +12,13 @@ use Rattle.history_standing.proofs.Members.{in_kept}
 use Rattle.core_outboxes.specs.declared.owing.Owing.{Owing}
 use Rattle.core_outboxes.specs.declared.wait.Wait.{Wait}
 use Rattle.core_outboxes.specs.declared.wait.Ordered.{Ordered}
-use Rattle.core_standing.specs.Numbers.{below}
+use Rattle.poa_history.specs.Numbers.{below}
 use Rattle.core_outboxes.specs.Waits.{wait_in, has_come}
 use Rattle.core_outboxes.specs.Owed.{is_owed}
 use Rattle.poa_history.specs.Heads.{head_of}
 use Rattle.core_outboxes.specs.Decided.{is_answered_by}
 use Rattle.core_outboxes.specs.Desk.{is_decided}
-use Rattle.core_standing.proofs.Numbers.{filter_twice, in_below}
+use Rattle.poa_history.proofs.Numbers.{filter_twice, in_below}
 use Rattle.core_outboxes.proofs.Lists.{filter_agrees, filter_mapped}
 use Rattle.core_outboxes.proofs.Waiting.{comes, IsOvertaken, settles_is}
 use Rattle.history_standing.proofs.CallsKept.{call_kept}

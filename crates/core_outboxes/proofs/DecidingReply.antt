@@ -19,7 +19,7 @@ use Rattle.poa_base.specs.declared.Sid.{Sid}
 use Rattle.poa_base.specs.declared.Verdict.{Verdict}
 use Rattle.poa_base.specs.declared.Verdict.TheVariants.{Serve, Preset, Locator, Incarnate, Try, Refuse, Forward, Addressing as AddressingVerdict, Here, Unknown, Answer, Wait}
 use Rattle.history_standing.specs.Arrivals.{call_of}
-use Rattle.poa_history.specs.Changes.{standing}
+use Rattle.history_standing.specs.Changes.{standing}
 use Rattle.poa_history.specs.InFlight.{Holds, IsManned}
 use Rattle.poa_history.specs.Replies.{decided, is_decided_by, is_final, is_waiting, number_of, reply_admitted, reply_by, reply_incarnated, reply_run, reply_tried}
 use Rattle.poa_history.specs.Settling.{settles}

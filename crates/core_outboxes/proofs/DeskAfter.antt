@@ -10,7 +10,7 @@ use Rattle.poa_base.specs.declared.Entry.{Entry}
 use Rattle.poa_base.specs.declared.Entry.TheVariants.{Entered, Arrive, Filled, Left, Collect, Admit, Tried, Incarnated, Run, Done, TakeOut, Etherealized, Abandon}
 use Rattle.poa_base.specs.declared.Attempt.TheVariants.{Yes, No, Raised, Dying}
 use Rattle.history_standing.specs.Arrivals.{arrivals, call_of, conn_of}
-use Rattle.poa_history.specs.Changes.{standing}
+use Rattle.history_standing.specs.Changes.{standing}
 use Rattle.poa_history.specs.InFlight.{IsManned, Holds}
 use Rattle.poa_history.specs.Legal.{IsLegal}
 use Rattle.poa_history.specs.Replies.{asks, decided, is_collected, is_waiting, number_of}
@@ -23,13 +23,13 @@ use Rattle.history_standing.specs.Trees.{In}
 use Rattle.history_standing.proofs.Members.{in_kept, image_in}
 use Rattle.core_outboxes.specs.declared.filed.Filed.{Filed as FiledRow}
 use Rattle.core_outboxes.specs.declared.owing.Owing.{Owing}
-use Rattle.core_standing.specs.Numbers.{below, Ascends}
+use Rattle.poa_history.specs.Numbers.{below, Ascends}
 use Rattle.core_outboxes.specs.Waits.{wait_of, wait_in, ordered_by}
 use Rattle.core_outboxes.specs.Owed.{is_owed, AreOwed, Owes, IsCurrent, arrivals_of}
 use Rattle.poa_history.specs.Heads.{head_of}
 use Rattle.core_outboxes.specs.Decided.{answered, AreFiled, IsFiled}
 use Rattle.core_outboxes.specs.Desk.{is_decided, file, waited, IsAlone}
-use Rattle.core_standing.proofs.Numbers.{in_below, ascending}
+use Rattle.poa_history.proofs.Numbers.{in_below, ascending}
 use Rattle.core_outboxes.proofs.Fixed.{Fixes}
 use Rattle.core_outboxes.proofs.Deciding.{AreRows, owed_which}
 use Rattle.core_outboxes.proofs.FiledAfter.{row_stays, filed_after, each_filed}

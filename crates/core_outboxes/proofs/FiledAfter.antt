@@ -8,7 +8,7 @@ use Rattle.poa_base.specs.declared.Reply.TheVariants.{Answer as AnswerReply}
 use Rattle.poa_base.specs.declared.Answer.TheVariants.{Good}
 use Rattle.poa_base.specs.declared.Entry.{Entry}
 use Rattle.history_standing.specs.Arrivals.{arrivals, call_of}
-use Rattle.poa_history.specs.Changes.{standing}
+use Rattle.history_standing.specs.Changes.{standing}
 use Rattle.poa_history.specs.Replies.{asks, decided, number_of}
 use Rattle.poa_history.specs.Settling.{is_quiet}
 use Rattle.history_standing.specs.Stages.{is_at}
@@ -20,13 +20,13 @@ use Rattle.core_outboxes.specs.declared.owing.Owing.{Owing}
 use Rattle.core_outboxes.specs.declared.wait.Wait.{Wait}
 use Rattle.core_outboxes.specs.declared.wait.Wait.TheVariants.{Nothing, Quiet, Off, Gone}
 use Rattle.core_outboxes.specs.declared.wait.Ordered.{Ordered}
-use Rattle.core_standing.specs.Numbers.{below}
+use Rattle.poa_history.specs.Numbers.{below}
 use Rattle.core_outboxes.specs.Waits.{is_overtaking, has_come}
 use Rattle.core_outboxes.specs.Owed.{Owes, IsCurrent}
 use Rattle.poa_history.specs.Heads.{head_of}
 use Rattle.core_outboxes.specs.Decided.{is_answered_by, answered, IsFiled}
 use Rattle.core_outboxes.specs.Desk.{is_decided, file}
-use Rattle.core_standing.proofs.Numbers.{in_below}
+use Rattle.poa_history.proofs.Numbers.{in_below}
 use Rattle.core_outboxes.proofs.Fixed.{Fixes}
 use Rattle.core_outboxes.proofs.Waiting.{IsOvertaken}
 use Rattle.core_outboxes.proofs.Deciding.{AreRows, row_owed, row_fresh, row_decided, filed_which}

@@ -11,10 +11,10 @@ use Rattle.history_standing.specs.Stages.{is_at}
 use Rattle.poa_history.specs.States.{Stored}
 use Rattle.core_outboxes.specs.declared.filed.Filed.{Filed as FiledRow}
 use Rattle.core_outboxes.specs.declared.owing.Owing.{Owing}
-use Rattle.core_standing.specs.Numbers.{below}
+use Rattle.poa_history.specs.Numbers.{below}
 use Rattle.core_outboxes.specs.Owed.{is_owed, AreOwed}
 use Rattle.core_outboxes.specs.Decided.{is_answered_by, answered, AreFiled}
-use Rattle.core_standing.proofs.Numbers.{filter_twice, least_found, counted, in_below}
+use Rattle.poa_history.proofs.Numbers.{filter_twice, least_found, counted, in_below}
 use Rattle.core_outboxes.proofs.Lists.{filter_agrees, filter_mapped, find_kept, find_agrees, find_mapped}
 use Rattle.history_standing.proofs.CallsKept.{arrivals_kept, call_kept}
 

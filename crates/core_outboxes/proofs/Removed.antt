@@ -12,10 +12,10 @@ use Rattle.poa_history.specs.States.{Stored}
 use Rattle.history_standing.specs.Trees.{In}
 use Rattle.history_standing.proofs.Members.{in_kept}
 use Rattle.core_outboxes.specs.declared.filed.Filed.{Filed as FiledRow}
-use Rattle.core_standing.specs.Numbers.{below}
+use Rattle.poa_history.specs.Numbers.{below}
 use Rattle.core_outboxes.specs.Decided.{is_answered_by, answered, AreFiled}
 use Rattle.core_outboxes.specs.Desk.{without_first}
-use Rattle.core_standing.proofs.Numbers.{filter_twice, in_below}
+use Rattle.poa_history.proofs.Numbers.{filter_twice, in_below}
 use Rattle.core_outboxes.proofs.Lists.{filter_agrees}
 use Rattle.core_outboxes.proofs.Arrived.{answered_decided}
 

@@ -10,7 +10,7 @@ use Rattle.history_standing.specs.Stages.{is_at}
 use Rattle.history_standing.specs.Trees.{In}
 use Rattle.history_standing.proofs.Members.{image_in}
 use Rattle.core_outboxes.specs.declared.owing.Owing.{Owing}
-use Rattle.core_standing.specs.Numbers.{Ascends}
+use Rattle.poa_history.specs.Numbers.{Ascends}
 use Rattle.core_outboxes.specs.Owed.{arrivals_of}
 
 get_in : (os : List Owing) (i : ℕ) (d : Owing) → i < length os → In (get_or os i d) os

@@ -7,7 +7,7 @@ use Rattle.poa_base.specs.declared.Entry.{Entry}
 use Rattle.poa_base.specs.declared.Entry.TheVariants.{Entered, Arrive, Filled, Left, Collect, Admit, Tried, Incarnated, Run, Done, TakeOut, Etherealized, Abandon}
 use Rattle.poa_base.specs.declared.Attempt.TheVariants.{Yes, No, Raised, Dying}
 use Rattle.history_standing.specs.Arrivals.{arrivals, call_of, conn_of}
-use Rattle.poa_history.specs.Changes.{standing}
+use Rattle.history_standing.specs.Changes.{standing}
 use Rattle.history_standing.specs.Logs.{command_in, command_done, order_for}
 use Rattle.poa_history.specs.Replies.{is_waiting, number_of}
 use Rattle.poa_history.specs.Settling.{before_admit, is_overtaken}

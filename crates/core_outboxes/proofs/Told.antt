@@ -12,7 +12,7 @@ use Rattle.poa_base.specs.declared.Entry.{Entry}
 use Rattle.history_standing.specs.Keys.{key_in}
 use Rattle.history_standing.specs.Logs.{endpoint_of, forward_from}
 use Rattle.poa_history.specs.Replies as replies
-use Rattle.poa_history.specs.Situations.{key_or_none}
+use Rattle.history_standing.specs.Situations.{key_or_none}
 use Rattle.core_outboxes.specs.Unmade.{reply_tried}
 
 forward_same : (f g : List (List ℕ) → Option Endpoint) → ((p : List (List ℕ)) → f p ≡ g p) → (above p : List (List ℕ))

@@ -10,7 +10,7 @@ use Rattle.poa_base.specs.declared.Entry.{Entry}
 use Rattle.poa_base.specs.declared.Entry.TheVariants.{Entered, Arrive, Filled, Left, Collect, Admit, Tried, Incarnated, Run, Done, TakeOut, Etherealized, Abandon}
 use Rattle.history_standing.specs.Templates.{manager_number}
 use Rattle.history_standing.specs.Arrivals.{call_of}
-use Rattle.poa_history.specs.Changes.{standing}
+use Rattle.history_standing.specs.Changes.{standing}
 use Rattle.history_standing.specs.Logs.{command_in, command_done, order_for}
 use Rattle.poa_history.specs.Replies.{is_waiting}
 use Rattle.poa_history.specs.Settling.{before_admit, is_quiet, is_overtaken, order_holds, settles_by, settles}

@@ -13,7 +13,7 @@ use Rattle.poa_history.specs.InFlight.{IsManned}
 use Rattle.history_standing.specs.Stages.{arrival_in, stage}
 use Rattle.poa_history.specs.States.{Stored, acted, call_run, servant_run, state_of}
 use Rattle.history_standing.specs.declared.stage.Stage.{Stage}
-use Rattle.core_standing.specs.Entries.{stage_at}
+use Rattle.poa_history.specs.Entries.{stage_at}
 
 -- the arrival that an entry speaks of: the one that it admits, else the one that its worker is at
 abbrev pub arrival_at : List Entry → Entry → Option ℕ

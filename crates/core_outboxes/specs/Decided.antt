@@ -12,7 +12,7 @@ use Rattle.poa_history.specs.States.{Stored}
 use Rattle.history_standing.specs.Trees.{In}
 use Rattle.core_outboxes.specs.declared.decision.Decision.{Decision}
 use Rattle.core_outboxes.specs.declared.filed.Filed.{Filed}
-use Rattle.core_standing.specs.Numbers.{below}
+use Rattle.poa_history.specs.Numbers.{below}
 use Rattle.poa_history.specs.Heads.{head_of}
 
 -- the entry decides the arrival, which asks a reply

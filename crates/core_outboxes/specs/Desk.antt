@@ -23,7 +23,7 @@ use Rattle.core_outboxes.specs.declared.owing.Owing.{Owing}
 use Rattle.core_outboxes.specs.declared.wait.Ordered.{Ordered}
 use Rattle.core_outboxes.specs.declared.wait.Wait.{Wait}
 use Rattle.core_standing.specs.Answers.{AnswersAs}
-use Rattle.core_standing.specs.Numbers.{below}
+use Rattle.poa_history.specs.Numbers.{below}
 use Rattle.core_outboxes.specs.Owed.{is_owed, Owes, AreOwed}
 use Rattle.core_outboxes.specs.Decided.{answered, IsFiled, Decides}
 use Rattle.core_outboxes.specs.Outboxes.{HasRoomAt, replies_at}

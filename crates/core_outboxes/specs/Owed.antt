@@ -10,7 +10,7 @@ use Rattle.poa_history.specs.Heads.{head_of}
 use Rattle.core_outboxes.specs.declared.owing.Owing.{Owing}
 use Rattle.core_outboxes.specs.declared.wait.Wait.{Wait}
 use Rattle.core_outboxes.specs.declared.wait.Wait.TheVariants.{Quiet}
-use Rattle.core_standing.specs.Numbers.{below}
+use Rattle.poa_history.specs.Numbers.{below}
 use Rattle.core_outboxes.specs.Waits.{wait_in}
 
 abbrev pub is_owed : Config → ℕ → List Entry → ℕ → Bool

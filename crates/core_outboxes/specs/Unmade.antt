@@ -9,7 +9,7 @@ use Rattle.poa_base.specs.declared.Config.{Config}
 use Rattle.poa_base.specs.declared.Reply.{Reply}
 use Rattle.history_standing.specs.Keys.{key_in}
 use Rattle.poa_history.specs.Replies.{activator_raised, adapter_dying, forwarded_to, not_exist_omg, raised_to}
-use Rattle.poa_history.specs.Situations.{key_or_none}
+use Rattle.history_standing.specs.Situations.{key_or_none}
 
 -- the endpoint of the path is told, and else the object doesn't exist
 abbrev pub reply_unmade : Config → Settings → Option Call → List (List ℕ) → Reply

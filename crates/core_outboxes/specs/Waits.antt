@@ -11,7 +11,7 @@ use Rattle.poa_base.specs.declared.Entry.TheVariants.{Admit}
 use Rattle.poa_base.specs.declared.Verdict.{Verdict}
 use Rattle.history_standing.specs.Templates.{manager_number}
 use Rattle.history_standing.specs.Arrivals.{call_of}
-use Rattle.poa_history.specs.Changes.{standing}
+use Rattle.history_standing.specs.Changes.{standing}
 use Rattle.history_standing.specs.Ends.{is_gone}
 use Rattle.history_standing.specs.Logs.{command_in, command_done}
 use Rattle.history_standing.specs.Opening.{number_at}

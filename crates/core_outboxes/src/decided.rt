@@ -12,9 +12,9 @@ use crate::decision::Decision;
 use crate::endings::{reply_admitted, reply_incarnated};
 use crate::tried::reply_tried;
 use core_settings::Settings;
-use core_standing::workers::{arrival_in, brings};
 use history_standing::Stage;
 use poa_base::{Attempt, Call, Config, Entry, Outcome, Reply, Verdict, WantMemory};
+use poa_history::workers::{arrival_in, brings};
 use std::alloc::Global;
 
 /// Whether a verdict is the end of a call.

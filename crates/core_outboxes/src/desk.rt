@@ -36,7 +36,7 @@ impl Desk {
     ghost use Rattle.core_outboxes.specs.declared.filed.Filed.{Filed as FiledRow};
     ghost use Rattle.core_outboxes.specs.Desk as desks;
     ghost use Rattle.core_outboxes.specs.Desk.{Files, IsAlone, HasRoomForOne};
-    ghost use Rattle.core_standing.specs.Numbers.{Ascends};
+    ghost use Rattle.poa_history.specs.Numbers.{Ascends};
     ghost use Rattle.core_outboxes.specs.Outboxes.{room_at, room_left};
     ghost use Rattle.core_outboxes.specs.Owed.{arrivals_of};
 

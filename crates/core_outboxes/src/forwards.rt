@@ -2,8 +2,8 @@
 ghost use Rattle.std.specs.Prelude.{◌≡◌, option_copied, IfOk};
 ghost use Rattle.poa_history.specs.Replies as replies;
 
-use core_standing::calls::target_of;
 use poa_base::{Bytes, Call, Endpoint, Reply, WantMemory};
+use poa_history::calls::target_of;
 use std::alloc::Global;
 
 /// The client is to ask the endpoint for the same key.

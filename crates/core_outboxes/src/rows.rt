@@ -7,7 +7,7 @@ ghost use Rattle.core_standing.specs.Seen.{seen};
 ghost use Rattle.core_outboxes.specs.Desk as desks;
 ghost use Rattle.core_outboxes.specs.Desk.{IsAlone};
 ghost use Rattle.core_outboxes.specs.Outboxes.{HasRoomAt, awaited_at, replies_at};
-ghost use Rattle.core_standing.specs.Numbers.{Ascends};
+ghost use Rattle.poa_history.specs.Numbers.{Ascends};
 ghost use Rattle.core_outboxes.specs.Owed.{arrivals_of, has_wait};
 
 use crate::filed::Filed;
@@ -15,8 +15,8 @@ use crate::outboxes::Outboxes;
 use crate::owing::Owing;
 use crate::wait::{Ordered, Wait, has_come};
 use core_standing::Standing;
-use core_standing::workers::is_at;
 use poa_base::{Answer, Config, Reply};
+use poa_history::workers::is_at;
 use std::collections::VecDeque;
 use std::mem;
 

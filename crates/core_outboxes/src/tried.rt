@@ -4,7 +4,7 @@ ghost use Rattle.core_settings.specs.Told.{Tells};
 ghost use Rattle.poa_base.specs.declared.Entry.{Entry};
 ghost use Rattle.history_standing.specs.Keys.{key_in as key_of_call};
 ghost use Rattle.poa_history.specs.Replies as replies;
-ghost use Rattle.poa_history.specs.Situations.{key_or_none};
+ghost use Rattle.history_standing.specs.Situations.{key_or_none};
 ghost use Rattle.core_outboxes.specs.Unmade.{reply_tried as tried_in, reply_unmade as unmade};
 
 use crate::exceptions::{ACTIVATOR_RAISED, ADAPTER_DYING, NOT_EXIST, raised_to};

@@ -9,11 +9,11 @@ ghost use Rattle.core_outboxes.specs.Waits as waits;
 ghost use Rattle.core_standing.specs.Answers.{AnswersAs};
 ghost use Rattle.core_standing.specs.Seen.{seen};
 
-use active_map::templates::manager_number;
 use core_standing::Standing;
 use core_standing::asked_commands::{command_in, is_accepted, number_at};
 use core_standing::ends::is_gone;
 use core_standing::orders::{are_ended, is_quiet};
+use history_standing::templates::manager_number;
 use poa_base::{Call, Command, Config, Entry, Name, Order, Verdict, WantMemory};
 
 /// What a command waits for, from its Admit on.

@@ -4,7 +4,7 @@ use Rattle.poa_base.specs.declared.Entry.{Entry}
 use Rattle.poa_base.specs.declared.Entry.TheVariants.{Entered, Left}
 use Rattle.poa_history.specs.Legal.{IsOpen}
 use Rattle.core_arrivals.specs.Placed.{arrives}
-use Rattle.held_queue.specs.Waiting.{may_queue}
+use Rattle.poa_history.specs.Waiting.{may_queue}
 use Rattle.core_arrivals.specs.Tallies.{HasRoomFor as HasRoomForTally}
 use Rattle.journal_entries.specs.Rows.{is_brief}
 use Rattle.core_run.specs.declared.inside.Inside.{Inside}

@@ -10,11 +10,12 @@ use Rattle.history_standing.specs.Stages.{stage, is_abandoned}
 use Rattle.poa_history.specs.Legal.{MayFollow}
 use Rattle.poa_history.proofs.TurnTells.{done_is, removal_is}
 use Rattle.poa_history.proofs.StagesFrom.{maker, stage_other}
-use Rattle.core_standing.specs.Entries.{stage_at}
+use Rattle.poa_history.specs.Entries.{stage_at}
 use Rattle.core_arrivals.specs.declared.workers.Workers.{Workers}
 use Rattle.core_arrivals.specs.Begun.{KnowsWorkers, only_ends}
 use Rattle.core_arrivals.proofs.Staying.{count_few, count_same, count_less, count_near}
-use Rattle.core_state.specs.State.{is_turn, only_ends as only_ends_by}
+use Rattle.core_state.specs.State.{only_ends as only_ends_by}
+use Rattle.poa_history.specs.Entries.{is_turn}
 use Rattle.core_run.specs.ToCome.{by_workers, is_conn, is_ending}
 
 -- the same of the history, for the workers below a number

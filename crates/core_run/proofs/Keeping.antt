@@ -10,14 +10,14 @@ use Rattle.poa_history.specs.States.{servant_run}
 use Rattle.poa_history.specs.Runs.{IsRun}
 use Rattle.core_standing.specs.Answers.{AnswersAs}
 use Rattle.core_standing.specs.Seen.{seen}
-use Rattle.core_standing.specs.Entries.{stage_at}
+use Rattle.poa_history.specs.Entries.{stage_at}
 use Rattle.core_arrivals.specs.Placed.{KnowsCalls}
 use Rattle.core_outboxes.specs.Comes.{call_at}
 use Rattle.core_outboxes.specs.declared.filed.Filed.{Filed}
 use Rattle.core_outboxes.specs.Desk.{AreLeft}
 use Rattle.core_outboxes.specs.Decided.{AreFiled}
 use Rattle.core_state.specs.declared.coming.Coming.{Coming}
-use Rattle.core_state.specs.State.{is_turn}
+use Rattle.poa_history.specs.Entries.{is_turn}
 use Rattle.core_run.specs.declared.inside.Inside.{Inside}
 use Rattle.poa_history.specs.Life.{Life}
 use Rattle.core_run.specs.Known.{KnowsTables}

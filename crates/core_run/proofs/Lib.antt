@@ -1,3 +1,4 @@
+pub mod FreesAs
 pub mod Turned
 pub mod Admitted
 pub mod Ends

@@ -7,14 +7,14 @@ use Rattle.history_standing.specs.declared.activation.Activation.{Activation}
 use Rattle.history_standing.specs.declared.stage.Stage.{Stage}
 use Rattle.history_standing.specs.declared.stage.Stage.TheVariants.{Free, Trying, Incarnating, Serving, Ran, Removing}
 use Rattle.history_standing.specs.Standings.{Standing}
-use Rattle.poa_history.specs.Changes.{standing}
+use Rattle.history_standing.specs.Changes.{standing}
 use Rattle.history_standing.specs.Rules.{brought}
 use Rattle.history_standing.specs.Stages.{stage, is_abandoned}
 use Rattle.poa_history.specs.Turns.{attempt, going_on, activation_numbered, turn}
 use Rattle.poa_history.specs.Legal.{IsTurn, MayFollow}
 use Rattle.poa_history.proofs.TurnIs.{mapped_by, goes_on, takes, admits, turned}
 use Rattle.core_arrivals.specs.Begun.{worker_of, only_ends}
-use Rattle.core_state.specs.State.{is_turn}
+use Rattle.poa_history.specs.Entries.{is_turn}
 use Rattle.core_run.specs.ToCome.{is_ending}
 
 pub record IsMade (w : ℕ) (e : Entry) : Type 0 where

@@ -11,7 +11,7 @@ use Rattle.poa_history.specs.Runs.{IsRun}
 use Rattle.history_laws.proofs.Opened.{given, within}
 use Rattle.core_standing.specs.Seen.{seen}
 use Rattle.held_queue.specs.Frees.{nothing, freed_by}
-use Rattle.core_standing.specs.Entries.{stage_at, changes_nothing}
+use Rattle.poa_history.specs.Entries.{stage_at, changes_nothing}
 use Rattle.core_standing.proofs.Settled.{nothing_changed}
 use Rattle.core_settings.specs.declared.settings.Settings.{Settings}
 use Rattle.core_settings.specs.Told.{Tells}
@@ -22,7 +22,8 @@ use Rattle.core_outboxes.specs.Decided.{AreFiled, Decides}
 use Rattle.core_outboxes.specs.Desk.{AreLeft, WaitIs}
 use Rattle.core_outboxes.specs.Waits.{ordered_by}
 use Rattle.core_state.specs.declared.state.State.{State}
-use Rattle.core_state.specs.State.{IsState, is_turn}
+use Rattle.core_state.specs.State.{IsState}
+use Rattle.poa_history.specs.Entries.{is_turn}
 use Rattle.core_state.proofs.Stated.{kept_still}
 use Rattle.core_run.specs.declared.inside.Inside.{Inside}
 use Rattle.core_run.specs.Agrees.{Agrees, history, opened_in}

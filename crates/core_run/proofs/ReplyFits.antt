@@ -26,13 +26,13 @@ use Rattle.poa_choose.specs.Table.{first_row}
 use Rattle.history_standing.specs.declared.stage.Stage.{Stage}
 use Rattle.history_standing.specs.declared.stage.Stage.TheVariants.{Trying, Incarnating, Serving}
 use Rattle.history_standing.specs.Arrivals.{arrivals, call_of, is_message, is_locate}
-use Rattle.poa_history.specs.Changes.{standing}
+use Rattle.history_standing.specs.Changes.{standing}
 use Rattle.poa_history.specs.InFlight.{Holds}
 use Rattle.history_standing.specs.Keys.{key_in}
 use Rattle.poa_history.specs.Legal.{IsLegal}
 use Rattle.history_standing.specs.Logs.{forward_of}
 use Rattle.poa_history.specs.Replies.{is_final, is_waiting, is_decided_by, decided, raised_to, forwarded_to, number_of, reply_admitted, reply_tried, reply_incarnated, reply_run, reply_by, reply_of, not_exist_omg, activator_raised, adapter_dying, servant_double}
-use Rattle.poa_history.specs.Situations.{facts_of, key_or_none}
+use Rattle.history_standing.specs.Situations.{facts_of, key_or_none}
 use Rattle.history_standing.specs.Stages.{stage, arrival_in, is_at, admitted, brings}
 use Rattle.poa_history.specs.States.{Stored, acted, call_run, servant_run, state_of}
 use Rattle.poa_history.specs.Settling.{settles}

@@ -14,7 +14,7 @@ use Rattle.core_arrivals.specs.Tallies.{IsTally}
 use Rattle.poa_history.specs.Leaving.{staying, is_staying}
 use Rattle.core_arrivals.proofs.Staying.{staying_less}
 use Rattle.core_arrivals.proofs.Follows.{unfilled_is}
-use Rattle.core_state.specs.State.{is_turn}
+use Rattle.poa_history.specs.Entries.{is_turn}
 use Rattle.core_run.specs.declared.tables.Tables.{Tables}
 use Rattle.core_run.specs.Known.{KnowsTables}
 use Rattle.core_run.specs.ToCome.{unless, by_connections, by_workers, stay, is_conn, is_ending}

@@ -18,14 +18,15 @@ use Rattle.poa_history.specs.Runs.{IsRun}
 use Rattle.history_laws.proofs.Opened.{given, alone, within}
 use Rattle.core_standing.specs.Answers.{AnswersAs}
 use Rattle.core_standing.specs.Seen.{seen}
-use Rattle.core_standing.specs.Entries.{stage_at}
+use Rattle.poa_history.specs.Entries.{stage_at}
 use Rattle.core_settings.specs.declared.settings.Settings.{Settings}
 use Rattle.core_settings.specs.Told.{Tells as SettingsTell}
 use Rattle.core_state.specs.Comes.{outcome_told}
 use Rattle.core_state.proofs.RunsHave.{serving_has}
 use Rattle.core_outboxes.specs.Comes.{Comes, HasOutcome, call_at}
 use Rattle.core_state.specs.declared.coming.Coming.{Coming}
-use Rattle.core_state.specs.State.{IsNext, call_spoken, is_turn, outcome_of}
+use Rattle.core_state.specs.State.{IsNext, call_spoken, outcome_of}
+use Rattle.poa_history.specs.Entries.{is_turn}
 use Rattle.core_state.specs.declared.state.State.{State}
 use Rattle.core_state.proofs.Stated.{answers_state, earlier}
 use Rattle.core_run.specs.Turning.{IsAsked, call_in, is_run}

@@ -2,13 +2,13 @@
 use Rattle.std.specs.Prelude.{◌≡◌, ℕ, filter}
 use Rattle.history_standing.specs.Arrivals.{arrivals}
 use Rattle.history_standing.specs.Standings.{Standing}
-use Rattle.poa_history.specs.Changes.{standing}
+use Rattle.history_standing.specs.Changes.{standing}
 use Rattle.poa_history.specs.Turns.{removal}
 use Rattle.active_map.specs.Live.{live}
-use Rattle.core_standing.specs.Numbers.{below}
+use Rattle.poa_history.specs.Numbers.{below}
 use Rattle.core_standing.specs.Seen.{seen}
 use Rattle.held_queue.specs.Held.{AreHeld}
-use Rattle.held_queue.specs.Waiting.{is_waiting}
+use Rattle.poa_history.specs.Waiting.{is_waiting}
 use Rattle.core_arrivals.specs.Queued.{is_waiting_line}
 use Rattle.core_state.specs.declared.state.State.{State}
 use Rattle.core_run.specs.declared.tables.Tables.{Tables}

@@ -9,7 +9,8 @@ use Rattle.held_queue.specs.Numbers.{HasRoom as HasRoomForCall}
 use Rattle.core_run.specs.declared.inside.Inside.{Inside}
 use Rattle.poa_history.specs.Life.{Life}
 use Rattle.core_outboxes.specs.Owed.{AreOwed}
-use Rattle.core_state.specs.State.{IsState, is_turn}
+use Rattle.core_state.specs.State.{IsState}
+use Rattle.poa_history.specs.Entries.{is_turn}
 use Rattle.core_run.specs.Known.{KnowsTables}
 use Rattle.core_run.specs.ToCome.{is_ending, stay}
 use Rattle.core_run.specs.Agrees.{Agrees, history, opened_in}

@@ -3,7 +3,7 @@ use Rattle.std.specs.Prelude.{◌≡◌, ℕ, ◌+◌, ◌<◌, true, List, ◌�
 use Rattle.poa_base.specs.declared.Entry.{Entry}
 use Rattle.history_standing.specs.declared.stage.Stage.{Stage}
 use Rattle.poa_history.specs.Runs.{IsRun}
-use Rattle.core_standing.specs.Entries.{stage_at}
+use Rattle.poa_history.specs.Entries.{stage_at}
 use Rattle.core_outboxes.specs.Owed.{AreOwed}
 use Rattle.history_standing.specs.Arrivals.{arrivals}
 use Rattle.core_outboxes.specs.Decided.{AreFiled}
@@ -11,7 +11,7 @@ use Rattle.core_outboxes.specs.Desk.{AreLeft, AreOwedBefore, HasFiled, HasRoomFo
 use Rattle.core_arrivals.specs.Placed.{arrives}
 use Rattle.core_arrivals.specs.Queued.{HasPlace}
 use Rattle.held_queue.specs.Numbers.{HasRoom as HasRoomForCall}
-use Rattle.held_queue.specs.Waiting.{may_queue}
+use Rattle.poa_history.specs.Waiting.{may_queue}
 use Rattle.core_arrivals.specs.Tallies.{HasRoomFor as HasRoomForTally}
 use Rattle.journal_entries.specs.Rows.{HasRoomFor}
 use Rattle.core_state.specs.State.{IsState}

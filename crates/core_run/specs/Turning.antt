@@ -7,14 +7,15 @@ use Rattle.poa_base.specs.declared.Entry.TheVariants.{Admit, Run}
 use Rattle.poa_base.specs.declared.Verdict.{Verdict}
 use Rattle.poa_history.specs.States.{Stored, servant_run}
 use Rattle.poa_history.specs.Runs.{IsRun}
-use Rattle.core_standing.specs.Entries.{stage_at}
+use Rattle.poa_history.specs.Entries.{stage_at}
 use Rattle.held_queue.specs.Frees.{freed_by}
 use Rattle.core_outboxes.specs.Decided.{Decides}
 use Rattle.core_outboxes.specs.Desk.{WaitIs}
 use Rattle.core_outboxes.specs.Waits.{ordered_by}
 use Rattle.core_state.specs.declared.state.State.{State}
 use Rattle.core_state.specs.declared.coming.Coming.{Coming}
-use Rattle.core_state.specs.State.{IsState, is_turn}
+use Rattle.core_state.specs.State.{IsState}
+use Rattle.poa_history.specs.Entries.{is_turn}
 use Rattle.core_outboxes.specs.Comes.{call_at}
 use Rattle.core_run.specs.declared.brought.Brought.{Brought}
 

@@ -10,6 +10,7 @@ mod beginning;
 mod brought;
 mod collecting;
 mod connecting;
+mod freeing;
 mod inside;
 mod noting;
 mod quieting;
@@ -23,6 +24,7 @@ mod turning;
 
 pub use core_outboxes::{Desk, Fresh};
 pub use core_state::State;
+pub use freeing::freed_by;
 pub use journal_entries::Entries;
 pub use run::Run;
 pub use tables::Tables;

@@ -7,7 +7,7 @@ ghost use Rattle.history_standing.specs.Arrivals.{arrivals, arrived_bytes, conne
 ghost use Rattle.history_standing.specs.Nodes.{node_at};
 ghost use Rattle.history_standing.specs.Searches.{count_below};
 ghost use Rattle.history_standing.specs.Stages as begun;
-ghost use Rattle.poa_history.specs.Changes.{standing};
+ghost use Rattle.history_standing.specs.Changes.{standing};
 ghost use Rattle.poa_history.specs.Leaving.{is_shut, are_gone};
 ghost use Rattle.poa_history.specs.Legal.{IsLegal, IsOpen, MayArrive, MayFill, MayFollow, is_filled};
 ghost use Rattle.poa_history.specs.Life as lives;
@@ -22,7 +22,8 @@ ghost use Rattle.poa_history.specs.Turns.{turn};
 ghost use Rattle.history_laws.specs.Lasting.{KeepsUpdates, LeavesNothing};
 ghost use Rattle.core_arrivals.specs.Begun.{only_ends};
 ghost use Rattle.core_outboxes.specs.Owed.{AreOwed};
-ghost use Rattle.core_state.specs.State.{IsState, is_turn};
+ghost use Rattle.core_state.specs.State.{IsState};
+ghost use Rattle.poa_history.specs.Entries.{is_turn};
 ghost use Rattle.core_run.specs.Agreeing.{CountsAgree, QueuesAgree, RemovalsAgree};
 ghost use Rattle.core_run.specs.Gives.{Gives};
 ghost use Rattle.core_run.specs.Known.{KnowsTables};

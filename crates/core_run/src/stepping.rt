@@ -7,7 +7,7 @@ ghost use Rattle.core_run.specs.Agrees.{history};
 ghost use Rattle.core_run.specs.Kept.{IsKept, life};
 
 use crate::inside::Inside;
-use core_arrivals::Known;
+use core_turns::Known;
 use poa_base::{Entry, WantMemory};
 
 /// The entry that a worker makes next. That it has only to end what it began can always be told.

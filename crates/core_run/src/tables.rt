@@ -3,12 +3,12 @@ ghost use Rattle.std.specs.Prelude.{◌≡◌, ◌<◌, ◌∷◌, ℕ, true, []
 ghost use Rattle.poa_base.specs.declared.Config.{Config};
 ghost use Rattle.poa_base.specs.declared.Entry.{Entry as EntryOf};
 ghost use Rattle.poa_history.specs.Runs.{IsRun};
-ghost use Rattle.core_standing.specs.Entries.{stage_at};
+ghost use Rattle.poa_history.specs.Entries.{stage_at};
 ghost use Rattle.core_arrivals.specs.Placed.{arrives};
 ghost use Rattle.core_arrivals.specs.Queued.{HasPlace};
 ghost use Rattle.held_queue.specs.Frees.{freed_by};
 ghost use Rattle.held_queue.specs.Numbers.{HasRoom};
-ghost use Rattle.held_queue.specs.Waiting.{may_queue};
+ghost use Rattle.poa_history.specs.Waiting.{may_queue};
 ghost use Rattle.core_arrivals.specs.Tallies.{HasRoomFor, HasRoomForOne};
 ghost use Rattle.core_run.specs.Known.{KnowsTables};
 

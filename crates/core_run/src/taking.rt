@@ -1,7 +1,7 @@
 //! A worker's entry is taken.
 ghost use Rattle.std.specs.Prelude.{◌≡◌, ◌∷◌, true, IsOk, OnOk, OnErr};
 ghost use Rattle.poa_history.specs.Runs.{IsRun};
-ghost use Rattle.core_state.specs.State.{is_turn};
+ghost use Rattle.poa_history.specs.Entries.{is_turn};
 ghost use Rattle.poa_history.specs.Life.{with_entry};
 ghost use Rattle.core_run.specs.Agrees.{history};
 ghost use Rattle.core_run.specs.Kept.{IsKept, life};

@@ -1,7 +1,7 @@
 //! The entries that workers make.
 ghost use Rattle.std.specs.Prelude.{◌≡◌, ◌∷◌, ℕ, true, false, List, reverse, option_copied, IfOk, IsOk, OnOk, OnErr};
 ghost use Rattle.poa_history.specs.States.{Stored};
-ghost use Rattle.core_standing.specs.Entries.{stage_at};
+ghost use Rattle.poa_history.specs.Entries.{stage_at};
 ghost use Rattle.core_arrivals.specs.Placed.{KnowsCalls};
 ghost use Rattle.core_outboxes.specs.Comes.{call_at as the_call_at};
 ghost use Rattle.core_state.specs.State.{IsState, only_ends};
@@ -12,13 +12,14 @@ ghost use Rattle.core_run.specs.Turning as turning;
 ghost use Rattle.core_run.specs.Turning.{IsAsked, IsBrought};
 
 use crate::brought::Brought;
-use core_arrivals::{Calls, calls, freed_by};
+use crate::freeing::freed_by;
+use core_arrivals::{Calls, calls};
 use core_outboxes::{Decision, decision_of, ordered_by, wait_by};
-use core_standing::workers::arrival_in;
 use core_state::{Coming, State};
 use history_standing::Stage;
 use journal_entries::Entries;
 use poa_base::{Call, Config, Entry, WantMemory};
+use poa_history::workers::arrival_in;
 use std::alloc::Global;
 
 /// The call of which an entry speaks: that of the arrival that it admits, or that its worker is at.

@@ -12,5 +12,5 @@ mod states;
 pub use endpoints::{EndpointRow, Endpoints, endpoint_of, forward_of};
 pub use managers::Managers;
 pub use presets::{PresetRow, Presets, preset_of};
-pub use settings::{Settings, apply, opening, settings_of};
+pub use settings::{Settings, apply, opening};
 pub use states::{manager_state, order_for};

@@ -5,7 +5,7 @@ ghost use Rattle.history_standing.specs.Logs as logs;
 ghost use Rattle.core_settings.specs.Told.{IsPresetSet, preset_in, preset_row};
 
 use crate::settings::Settings;
-use active_map::templates::{preset_at, servant_name};
+use history_standing::templates::{preset_at, servant_name};
 use poa_base::{Config, Name, Path, WantMemory};
 use std::alloc::Global;
 use std::marker::Model;

@@ -1,5 +1,5 @@
 //! What the administrator's commands have set.
-ghost use Rattle.std.specs.Prelude.{◌≡◌, ◌∷◌, [], List, false, reverse, option_copied, IfOk, IsOk, OnOk, OnErr};
+ghost use Rattle.std.specs.Prelude.{◌≡◌, ◌∷◌, [], List, false, option_copied, IfOk, IsOk, OnOk, OnErr};
 ghost use Rattle.poa_base.specs.declared.Entry.{Entry};
 ghost use Rattle.history_standing.specs.Logs as logs;
 ghost use Rattle.core_settings.specs.Told.{Tells, may_grow};
@@ -9,7 +9,6 @@ use crate::endpoints::Endpoints;
 use crate::managers::Managers;
 use crate::presets::Presets;
 use crate::states::set_state;
-use core_standing::asked_commands::command_done;
 use poa_base::{Command, Config, Entry, WantMemory};
 use std::alloc::Global;
 
@@ -74,27 +73,4 @@ pub fn apply(
     ensures ends { may_grow (option_copied command.entry) ≡ false → IsOk result }
 {
     change(config, command, settings)
-}
-
-/// Takes in the entries of a history that stands oldest first.
-fn follow(config: &Config, history: &[Entry], settings: &mut Settings) -> Result<(), WantMemory>
-    ensures { Tells config.now [] settings.old → OnOk result (Tells config.now (reverse history.now) settings.new) }
-{
-    for (i, entry) in history.iter().enumerate() {
-        apply(config, command_done(&history[..i], entry), settings)?;
-    }
-    Ok(())
-}
-
-/// What is set after a history that stands oldest first.
-pub fn settings_of(
-    alloc: Global,
-    config: &Config,
-    history: &[Entry],
-) -> Result<Settings, WantMemory>
-    ensures { IfOk result (λ settings. Tells config.now (reverse history.now) settings) }
-{
-    let mut settings = opening(alloc, config)?;
-    follow(config, history, &mut settings)?;
-    Ok(settings)
 }

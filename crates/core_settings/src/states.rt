@@ -7,7 +7,7 @@ ghost use Rattle.core_settings.specs.Told as told;
 
 use crate::managers::Managers;
 use crate::settings::Settings;
-use active_map::templates::manager_number;
+use history_standing::templates::manager_number;
 use poa_base::{Command, Config, ManagerState, Name, Order};
 
 /// The state that an order brings.

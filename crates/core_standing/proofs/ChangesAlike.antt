@@ -40,7 +40,7 @@ use Rattle.history_standing.specs.Keys.{key_in}
 use Rattle.history_standing.specs.Logs.{command_done}
 use Rattle.history_standing.specs.Opening.{with_activation, with_made, made_id, number_at}
 use Rattle.history_standing.specs.Commands.{is_implicit, live_at}
-use Rattle.poa_history.specs.Changes.{changed, with_activations, with_request, with_incarnation, with_admitted, ended_by_destroy, with_destroyed, with_manager_off, with_deactivated, servant_of, with_made_activation, with_reference, with_command, child_tried, with_child, without_flight, with_tried, at_number, come_to, with_incarnated, is_elsewhere, with_takeout, with_etherealized}
+use Rattle.history_standing.specs.Changes.{changed, with_activations, with_request, with_incarnation, with_admitted, ended_by_destroy, with_destroyed, with_manager_off, with_deactivated, servant_of, with_made_activation, with_reference, with_command, child_tried, with_child, without_flight, with_tried, at_number, come_to, with_incarnated, is_elsewhere, with_takeout, with_etherealized}
 use Rattle.poa_history.specs.Later.{IsLater}
 use Rattle.poa_history.proofs.ActivationsLater.{later_self, later_ended, later_ending, later_out, later_told, later_come, later_let_out}
 use Rattle.poa_history.proofs.SettledKept.{or_first, or_second}

@@ -7,9 +7,8 @@ use Rattle.history_standing.specs.declared.node.Node.{Node}
 use Rattle.history_standing.specs.Nodes.{stands_under}
 use Rattle.history_standing.specs.Paths.{leads_to}
 use Rattle.history_standing.specs.declared.activation.Activation.{Activation}
-use Rattle.poa_history.proofs.GoneIs.{some_in}
+use Rattle.history_standing.proofs.Members.{some_in, any_in}
 use Rattle.history_standing.proofs.Tests.{same_test}
-use Rattle.history_standing.proofs.Members.{any_in}
 
 module _ (lives : Activation → Bool) (ns : List Node) (p : List (List ℕ)) (as' : List Activation) where
   -- one of the adapter lives

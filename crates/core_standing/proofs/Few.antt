@@ -9,13 +9,13 @@ use Rattle.poa_base.specs.declared.Incarnation.{Incarnation}
 use Rattle.poa_base.specs.declared.Incarnation.TheVariants.{Fresh, Named, Double, Forward, Raise}
 use Rattle.history_standing.specs.declared.stage.Stage.{Stage}
 use Rattle.history_standing.specs.declared.stage.Stage.TheVariants.{Free, Trying, Incarnating, Serving, Ran, Removing}
-use Rattle.poa_history.specs.Changes.{changed, with_incarnated, with_etherealized}
+use Rattle.history_standing.specs.Changes.{changed, with_incarnated, with_etherealized}
 use Rattle.history_standing.specs.Ends.{settled, let_out}
 use Rattle.history_standing.specs.Stages.{stage, arrival_in}
 use Rattle.history_standing.specs.Standings.{Standing}
 use Rattle.poa_history.proofs.LivesKept.{as_many, one_more, changed_shape}
 use Rattle.poa_history.proofs.Untouched.{activations_fewer, activations_tried}
-use Rattle.core_standing.specs.Entries.{may_begin}
+use Rattle.poa_history.specs.Entries.{may_begin}
 
 module _ (c : Config) (run : ℕ) (past : List Entry) where
   as_many_incarnated : (s : Standing) (begun : Stage) (a : Incarnation) → length (with_incarnated c begun a s).activations ≡ length s.activations

@@ -6,7 +6,7 @@ use Rattle.std.proofs.lemmas.List.Filters.{length-filter_both}
 use Rattle.poa_base.specs.declared.Config.{Config}
 use Rattle.poa_base.specs.declared.Entry.{Entry}
 use Rattle.history_standing.specs.declared.activation.Activation.{Activation}
-use Rattle.poa_history.specs.Changes.{standing, changed}
+use Rattle.history_standing.specs.Changes.{standing, changed}
 use Rattle.history_standing.specs.Ends.{is_over, settled}
 use Rattle.history_standing.specs.Standings.{Standing}
 use Rattle.history_standing.specs.Trees.{In}
@@ -15,7 +15,7 @@ use Rattle.core_standing.specs.Seen.{forgotten, behind}
 use Rattle.active_map.specs.Live.{is_live, live}
 use Rattle.core_standing.specs.Kept.{Forgets, KeepsNoneOver, StandsFor, StandsAfter}
 use Rattle.core_standing.proofs.Behind.{length_behind}
-use Rattle.core_standing.specs.Entries.{may_begin, may_end}
+use Rattle.poa_history.specs.Entries.{may_begin, may_end}
 use Rattle.core_standing.proofs.ChangesAlike.{stands_changed, stands_settled, stands_through}
 use Rattle.core_standing.proofs.Few.{few_changed, few_settled}
 use Rattle.core_standing.proofs.Settled.{still_after}

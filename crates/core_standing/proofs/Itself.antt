@@ -2,7 +2,7 @@
 use Rattle.std.proofs.Common.{◌≡◌, ℕ, List, refl, inr, sym, subst}
 use Rattle.poa_base.specs.declared.Config.{Config}
 use Rattle.poa_base.specs.declared.Entry.{Entry}
-use Rattle.poa_history.specs.Changes.{standing}
+use Rattle.history_standing.specs.Changes.{standing}
 use Rattle.history_standing.specs.Standings.{Standing}
 use Rattle.core_standing.specs.Answers.{AnswersAs}
 use Rattle.core_standing.specs.Kept.{StandsFor}

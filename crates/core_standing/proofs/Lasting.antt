@@ -10,19 +10,18 @@ use Rattle.history_standing.specs.declared.node.Node.{Node}
 use Rattle.history_standing.specs.Nodes.{stands_under}
 use Rattle.history_standing.specs.Paths.{is_root}
 use Rattle.history_standing.specs.Trees.{In}
-use Rattle.history_standing.proofs.Members.{any_in, image_in, in_image}
+use Rattle.history_standing.proofs.Members.{any_in, image_in, in_image, some_in as one_of}
 use Rattle.history_standing.specs.declared.activation.Activation.{Activation}
 use Rattle.history_standing.specs.declared.stage.Stage.{Stage}
 use Rattle.history_standing.specs.declared.stage.Stage.TheVariants.{Free, Trying, Incarnating, Serving, Ran, Removing}
-use Rattle.poa_history.specs.Changes.{at_number, changed, is_elsewhere, standing, with_etherealized}
+use Rattle.history_standing.specs.Changes.{at_number, changed, is_elsewhere, standing, with_etherealized}
 use Rattle.history_standing.specs.Ends.{is_left, is_over, let_out, settled}
 use Rattle.history_standing.specs.Stages.{stage}
 use Rattle.history_standing.specs.Standings.{Standing}
-use Rattle.poa_history.proofs.GoneIs.{some_in as one_of}
 use Rattle.core_standing.specs.declared.standing.Standing.{Standing as Held}
 use Rattle.core_standing.specs.Kept.{StandsAfter}
 use Rattle.core_standing.specs.Seen.{seen}
-use Rattle.core_standing.specs.Entries.{is_removal}
+use Rattle.poa_history.specs.Entries.{is_removal}
 use Rattle.core_standing.specs.Touched.{Lasts, Others, SameOthers, is_touched, left}
 use Rattle.core_standing.specs.declared.touched.Touched.{Touched}
 use Rattle.core_standing.specs.declared.touched.Touched.TheVariants.{One}

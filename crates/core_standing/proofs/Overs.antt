@@ -10,10 +10,10 @@ use Rattle.poa_base.specs.declared.Verdict.TheVariants.{Serve, Preset, Locator, 
 use Rattle.poa_base.specs.declared.Entry.{Entry}
 use Rattle.poa_base.specs.declared.Entry.TheVariants.{Entered, Arrive, Filled, Left, Collect, Admit, Tried, Incarnated, Run, Done, TakeOut, Etherealized, Abandon}
 use Rattle.history_standing.specs.Trees.{In}
-use Rattle.history_standing.proofs.Members.{in_either, in_image}
+use Rattle.history_standing.proofs.Members.{in_either, in_image, some_in}
 use Rattle.history_standing.specs.declared.activation.Activation.{Activation}
 use Rattle.history_standing.specs.Arrivals.{call_of}
-use Rattle.poa_history.specs.Changes.{changed, with_admitted, with_command}
+use Rattle.history_standing.specs.Changes.{changed, with_admitted, with_command}
 use Rattle.history_standing.specs.Ends.{is_left, is_over, let_out, settled}
 use Rattle.history_standing.specs.Keys.{key_in}
 use Rattle.history_standing.specs.Opening.{opening}
@@ -22,11 +22,10 @@ use Rattle.history_standing.specs.declared.activation.Phase.TheVariants.{Begun, 
 use Rattle.poa_history.proofs.AloneKept.{all_open}
 use Rattle.history_standing.specs.Logs.{command_in}
 use Rattle.history_standing.specs.Standings.{Standing}
-use Rattle.poa_history.proofs.GoneIs.{some_in}
 use Rattle.core_standing.specs.declared.standing.Standing.{Standing as Held}
 use Rattle.core_standing.specs.Kept.{KeepsNoneOver}
 use Rattle.core_standing.specs.Seen.{seen}
-use Rattle.core_standing.specs.Entries.{may_end}
+use Rattle.poa_history.specs.Entries.{may_end}
 use Rattle.core_standing.specs.Touched.{Others, OverTouched, SameOthers}
 use Rattle.core_standing.proofs.Forgotten.{from_behind, in_behind}
 use Rattle.history_standing.proofs.Tests.{none_by}

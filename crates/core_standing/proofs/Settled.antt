@@ -19,7 +19,7 @@ use Rattle.history_standing.specs.declared.activation.Phase.{Phase}
 use Rattle.history_standing.specs.declared.activation.Phase.TheVariants.{Begun}
 use Rattle.history_standing.specs.declared.flight.Flight.{Flight}
 use Rattle.history_standing.specs.Arrivals.{call_of}
-use Rattle.poa_history.specs.Changes.{standing, changed, with_flight, with_admitted, with_command}
+use Rattle.history_standing.specs.Changes.{standing, changed, with_flight, with_admitted, with_command}
 use Rattle.history_standing.specs.Ends.{is_left, is_over, is_clear, let_out, settled}
 use Rattle.history_standing.specs.Keys.{key_in}
 use Rattle.history_standing.specs.Logs.{command_in}
@@ -29,7 +29,7 @@ use Rattle.history_standing.specs.Templates.{has_activator}
 use Rattle.poa_history.proofs.AloneKept.{all_open}
 use Rattle.poa_history.proofs.DyingIs.{opening_live}
 use Rattle.poa_history.proofs.SettledKept.{or_first, or_second}
-use Rattle.core_standing.specs.Entries.{changes_nothing, may_end}
+use Rattle.poa_history.specs.Entries.{changes_nothing, may_end}
 use Rattle.core_standing.proofs.Dropping.{stays, stays_left}
 
 map_still : {A : Type 0} (f : A → A) (xs : List A) → ((x : A) → In x xs → f x ≡ x) → map f xs ≡ xs

@@ -18,7 +18,7 @@ use Rattle.poa_base.specs.declared.ObjectConf.{ObjectConf}
 use Rattle.poa_base.specs.declared.Entry.{Entry}
 use Rattle.history_standing.specs.Opening.{made_id, number_at, root_alone, with_activation, with_boots, with_made, with_node, with_object, with_objects}
 use Rattle.history_standing.specs.Paths.{is_root}
-use Rattle.poa_history.specs.Changes.{at_number, changed, child_tried, come_to, servant_of, standing, with_activations, with_child, with_incarnated, with_tried, without_flight}
+use Rattle.history_standing.specs.Changes.{at_number, changed, child_tried, come_to, servant_of, standing, with_activations, with_child, with_incarnated, with_tried, without_flight}
 use Rattle.history_standing.specs.Ends.{is_left, let_out, settled}
 use Rattle.history_standing.specs.Standings.{Standing, is_begun, is_complete, is_ending, is_used}
 use Rattle.history_standing.specs.Templates.{has_activator}

@@ -7,7 +7,7 @@ use Rattle.history_standing.specs.Nodes.{stands_under}
 use Rattle.history_standing.specs.declared.activation.Activation.{Activation}
 use Rattle.history_standing.specs.declared.activation.Phase.{Phase}
 use Rattle.history_standing.specs.declared.activation.Phase.TheVariants.{Begun, Complete, Void}
-use Rattle.poa_history.specs.Changes.{at_number, come_to, ended_by_destroy, is_elsewhere, with_activations}
+use Rattle.history_standing.specs.Changes.{at_number, come_to, ended_by_destroy, is_elsewhere, with_activations}
 use Rattle.history_standing.specs.Ends.{is_left, let_out}
 use Rattle.history_standing.specs.Standings.{Standing, is_mapped, has_servant, is_of}
 use Rattle.history_standing.specs.Templates.{has_activator, manager_at}

@@ -6,10 +6,10 @@ use Rattle.poa_base.specs.declared.Entry.{Entry}
 use Rattle.poa_base.specs.declared.Sid.{Sid}
 use Rattle.history_standing.specs.declared.stage.Stage.{Stage}
 use Rattle.history_standing.specs.declared.stage.Stage.TheVariants.{Incarnating, Removing, Serving}
-use Rattle.poa_history.specs.Changes.{standing}
+use Rattle.history_standing.specs.Changes.{standing}
 use Rattle.history_standing.specs.Ends.{is_over, is_gone}
 use Rattle.poa_history.specs.Settling.{are_ended}
-use Rattle.poa_history.specs.Situations.{slot_of, is_changing}
+use Rattle.history_standing.specs.Situations.{slot_of, is_changing}
 use Rattle.history_standing.specs.Stages.{stage, admitted}
 use Rattle.history_standing.specs.Standings.{Standing, is_active, is_mapped, has_servant, is_of, is_in_map}
 use Rattle.poa_history.specs.States.{servant_by}

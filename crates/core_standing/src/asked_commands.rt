@@ -6,13 +6,13 @@ ghost use Rattle.history_standing.specs.Logs as logs;
 ghost use Rattle.history_standing.specs.Opening as opens;
 ghost use Rattle.core_standing.specs.Seen.{seen};
 
-use crate::calls::call_of;
 use crate::searches::mapped;
 use crate::standing::Standing;
-use active_map::templates::policies_at;
 use history_standing::nodes::node_at;
+use history_standing::templates::policies_at;
 use history_standing::{Activation, Node};
 use poa_base::{Answer, Call, Command, Config, Entry, Name, Sid, Verdict};
+use poa_history::calls::call_of;
 
 /// Whether the command was done.
 pub fn is_accepted(verdict: &Verdict) -> bool

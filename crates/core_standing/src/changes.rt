@@ -3,18 +3,17 @@ ghost use Rattle.std.specs.Prelude.{◌≡◌, ◌∷◌, ◌≤◌, ◌<◌, �
 ghost use Rattle.std.specs.List.{list_any};
 ghost use Rattle.poa_base.specs.declared.Entry.{Entry};
 ghost use Rattle.poa_base.specs.declared.Entry.TheVariants.{Incarnated, Tried};
-ghost use Rattle.poa_history.specs.Changes as changes;
+ghost use Rattle.history_standing.specs.Changes as changes;
 ghost use Rattle.history_standing.specs.Ends.{is_over};
 ghost use Rattle.history_standing.specs.Opening as opens;
 ghost use Rattle.history_standing.specs.Keys as keys;
 ghost use Rattle.history_standing.specs.Logs.{command_in as command_of, is_accepted as accepts};
-ghost use Rattle.core_standing.specs.Entries as entries;
+ghost use Rattle.poa_history.specs.Entries as entries;
 ghost use Rattle.core_standing.specs.Kept.{KeepsNoneOver, StandsAfter};
 ghost use Rattle.core_standing.specs.Seen.{seen};
 
 use crate::asked_commands::{command_in, is_accepted};
 use crate::beginning::{add_node, opening};
-use crate::calls::call_of;
 use crate::commands::{command, servant_of};
 use crate::flying::{admit, child_tried, end_flight};
 use crate::forgetting::forget;
@@ -23,9 +22,10 @@ use crate::lives::{complete, etherealize, take_out};
 use crate::settling::settle;
 use crate::standing::Standing;
 use crate::touched::touched_by;
-use crate::workers::{arrival_in, stage};
 use history_standing::{Phase, Stage};
 use poa_base::{Attempt, Call, Config, Entry, Incarnation, Path, Sid, Verdict, WantMemory};
+use poa_history::calls::call_of;
+use poa_history::workers::{arrival_in, stage};
 use std::alloc::Global;
 
 /// The path of the missing child for which the arrival is tried, copied.

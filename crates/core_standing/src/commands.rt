@@ -1,6 +1,6 @@
 //! What a command that is done changes. Either all of it is changed or nothing.
 ghost use Rattle.std.specs.Prelude.{◌≡◌, ℕ, ◌≤◌, ◌^◌, length, Some, None, if◌then◌else◌, option_copied, IfOk, IsOk, OnOk, OnErr};
-ghost use Rattle.poa_history.specs.Changes as changes;
+ghost use Rattle.history_standing.specs.Changes as changes;
 ghost use Rattle.history_standing.specs.Templates.{manager_number as number_of_manager};
 ghost use Rattle.core_standing.specs.Seen.{seen};
 
@@ -9,8 +9,8 @@ use crate::beginning::{add_activation, add_node};
 use crate::ending::{deactivate, destroy, turn_off};
 use crate::ids::{made_id, next};
 use crate::standing::Standing;
-use active_map::templates::{manager_number, servant_number};
 use history_standing::Phase;
+use history_standing::templates::{manager_number, servant_number};
 use poa_base::{Command, Config, Name, Order, Path, Sid, WantMemory};
 use std::alloc::Global;
 

@@ -2,7 +2,7 @@
 //! is made in place; where there is no memory for it, nothing is changed.
 ghost use Rattle.std.specs.Prelude.{◌≡◌, if◌then◌else◌, OnOk, OnErr};
 ghost use Rattle.history_standing.specs.Nodes as tree;
-ghost use Rattle.poa_history.specs.Changes as changes;
+ghost use Rattle.history_standing.specs.Changes as changes;
 ghost use Rattle.core_standing.specs.Seen.{seen};
 
 use crate::standing::Standing;

@@ -1,12 +1,12 @@
 //! What an entry begins and ends in flight.
 ghost use Rattle.std.specs.Prelude.{◌≡◌, ◌==◌, filter, not, IfOk, OnOk, OnErr, option_copied};
-ghost use Rattle.poa_history.specs.Changes as changes;
+ghost use Rattle.history_standing.specs.Changes as changes;
 ghost use Rattle.core_standing.specs.Seen.{seen};
 
 use crate::beginning::begun;
 use crate::keys::walk_to;
 use crate::standing::Standing;
-use active_map::flights::flight_of;
+use history_standing::flights::flight_of;
 use history_standing::walks::{adapter_met, child_met, walk};
 use history_standing::{Flight, Phase};
 use object_key::KeyView;

@@ -4,11 +4,11 @@ ghost use Rattle.history_standing.specs.Keys as keys;
 ghost use Rattle.history_standing.specs.Nodes as tree;
 ghost use Rattle.history_standing.specs.Walks as walks;
 
-use crate::calls::target_of;
 use history_standing::walks::walk;
 use history_standing::{Found, Node};
 use object_key::{KeyView, PathView, view_key};
 use poa_base::{Call, WantMemory};
+use poa_history::calls::target_of;
 use std::alloc::Global;
 
 /// The key whose spelling the bytes are, if there is one. Takes no memory.

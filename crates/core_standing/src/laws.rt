@@ -2,8 +2,8 @@
 ghost use Rattle.std.specs.Prelude.{◌≡◌, ℕ, true, List, ◌∷◌};
 ghost use Rattle.poa_base.specs.declared.Config.{Config};
 ghost use Rattle.poa_base.specs.declared.Entry.{Entry};
-ghost use Rattle.poa_history.specs.Changes.{standing};
-ghost use Rattle.core_standing.specs.Entries.{changes_nothing};
+ghost use Rattle.history_standing.specs.Changes.{standing};
+ghost use Rattle.poa_history.specs.Entries.{changes_nothing};
 
 /// A connection that comes or leaves, a call that comes, a reply that is taken, a servant that acts and a worker
 /// that gives up leave what stands as it was. So nothing needs to be done for them.

@@ -5,7 +5,6 @@
 
 pub mod asked_commands;
 mod beginning;
-pub mod calls;
 mod changes;
 mod commands;
 mod ending;
@@ -22,7 +21,6 @@ pub mod searches;
 mod settling;
 mod standing;
 mod touched;
-pub mod workers;
 
 pub use beginning::opening;
 pub use changes::{advance, advance_kept, standing_of};

@@ -1,7 +1,7 @@
 //! How far an activation has come: its incarnation, its leaving of the map, its etherealization. Each change is
 //! made in place and takes no memory.
 ghost use Rattle.std.specs.Prelude.{◌≡◌, true};
-ghost use Rattle.poa_history.specs.Changes as changes;
+ghost use Rattle.history_standing.specs.Changes as changes;
 ghost use Rattle.core_standing.specs.Seen.{seen};
 
 use crate::standing::Standing;

@@ -9,7 +9,7 @@ ghost use Rattle.core_standing.specs.Seen.{seen};
 use crate::standing::Standing;
 use active_map::Activations;
 use active_map::over::is_over;
-use active_map::templates::{has_activator, manager_at};
+use history_standing::templates::{has_activator, manager_at};
 use history_standing::{Activation, Node};
 use poa_base::Config;
 

@@ -3,17 +3,17 @@ ghost use Rattle.std.specs.Prelude.{◌≡◌, ◌==◌, ℕ, true, false, List,
 ghost use Rattle.poa_base.specs.declared.Config.{Config as Conf};
 ghost use Rattle.poa_base.specs.declared.Entry.{Entry as EntryOf};
 ghost use Rattle.poa_base.specs.declared.Incarnation.{Incarnation as Answered};
-ghost use Rattle.poa_history.specs.Changes as changes;
+ghost use Rattle.history_standing.specs.Changes as changes;
 ghost use Rattle.history_standing.specs.Standings.{Standing as Stood};
-ghost use Rattle.core_standing.specs.Entries as entries;
+ghost use Rattle.poa_history.specs.Entries as entries;
 ghost use Rattle.history_standing.specs.declared.flight.Flight.{Flight as Flown};
 ghost use Rattle.history_standing.specs.Trees.{In};
 ghost use Rattle.core_standing.specs.Touched.{Others, SameOthers, Still, is_touched};
 ghost use Rattle.core_standing.specs.Flying.{uses};
 
-use crate::workers::arrival_in;
 use history_standing::{Flight, Stage};
 use poa_base::Entry;
+use poa_history::workers::arrival_in;
 
 /// Which activations an entry touches: each other one stays where it is. It may say more than it has to.
 #[derive(Clone, Copy, Drop)]

@@ -16,12 +16,12 @@ use Rattle.history_standing.specs.declared.activation.Activation.{Activation}
 use Rattle.history_standing.specs.declared.stage.Stage.TheVariants.{Serving}
 use Rattle.poa_history.specs.Alone.{IsGivenAlone}
 use Rattle.poa_history.specs.Bounds.{IsWithinLimits}
-use Rattle.poa_history.specs.Changes.{standing}
+use Rattle.history_standing.specs.Changes.{standing}
 use Rattle.history_standing.specs.Ends.{is_over, is_clear, is_done_with, is_gone}
 use Rattle.poa_history.specs.InFlight.{named}
 use Rattle.poa_history.specs.Legal.{IsLegal}
 use Rattle.poa_history.specs.Settling.{are_ended}
-use Rattle.poa_history.specs.Situations.{slot_of, is_unfinished, is_changing}
+use Rattle.history_standing.specs.Situations.{slot_of, is_unfinished, is_changing}
 use Rattle.poa_history.specs.Sound.{IsGiven, IsSound}
 use Rattle.history_standing.specs.Stages.{stage, admitted}
 use Rattle.history_standing.specs.Standings.{Standing, is_active, is_complete, is_ending, is_mapped, has_servant, is_of, is_in_map, is_used}

@@ -20,7 +20,7 @@ use Rattle.history_standing.specs.declared.stage.Stage.TheVariants.{Incarnating}
 use Rattle.history_standing.specs.Trees.{In}
 use Rattle.poa_history.specs.Alone.{IsGivenAlone}
 use Rattle.poa_history.specs.Bounds.{IsWithinLimits}
-use Rattle.poa_history.specs.Changes.{standing, changed, with_incarnated, at_number, come_to}
+use Rattle.history_standing.specs.Changes.{standing, changed, with_incarnated, at_number, come_to}
 use Rattle.history_standing.specs.Ends.{is_left, let_out}
 use Rattle.poa_history.specs.InFlight as flying
 use Rattle.poa_history.specs.Legal.{IsLegal}

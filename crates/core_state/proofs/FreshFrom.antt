@@ -16,7 +16,7 @@ use Rattle.history_standing.specs.Templates.{servant_number}
 use Rattle.history_standing.specs.Stages.{stage}
 use Rattle.history_standing.specs.Standings.{Standing}
 use Rattle.history_standing.specs.Trees.{In}
-use Rattle.poa_history.specs.Changes.{standing, servant_of}
+use Rattle.history_standing.specs.Changes.{standing, servant_of}
 use Rattle.poa_history.specs.Later.{IsLater}
 use Rattle.poa_history.specs.Sound.{IsSound}
 use Rattle.poa_history.specs.Turns.{activation_numbered}

@@ -8,7 +8,7 @@ use Rattle.poa_base.specs.declared.Verdict.{Verdict}
 use Rattle.poa_base.specs.declared.Entry.{Entry}
 use Rattle.poa_base.specs.declared.Entry.TheVariants.{Admit}
 use Rattle.history_standing.specs.Arrivals.{call_of}
-use Rattle.poa_history.specs.Changes.{standing, with_command, with_admitted}
+use Rattle.history_standing.specs.Changes.{standing, with_command, with_admitted}
 use Rattle.history_standing.specs.Ends.{settled}
 use Rattle.history_standing.specs.Keys.{key_in}
 use Rattle.history_standing.specs.Logs.{is_accepted, command_in, command_done}

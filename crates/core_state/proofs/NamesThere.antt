@@ -24,12 +24,12 @@ use Rattle.history_standing.specs.Paths.{same_path}
 use Rattle.history_standing.specs.declared.node.Node.{Node}
 use Rattle.poa_history.specs.Alone.{IsGivenAlone}
 use Rattle.history_standing.specs.Arrivals.{call_of}
-use Rattle.poa_history.specs.Changes.{standing}
+use Rattle.history_standing.specs.Changes.{standing}
 use Rattle.history_standing.specs.Commands.{command_verdict, live_at, with_servant, preset_row, refusal, good}
 use Rattle.poa_history.specs.Legal.{IsLegal, MayFollow}
 use Rattle.history_standing.specs.Logs.{command_done, command_in, is_accepted, preset_by, preset_of}
 use Rattle.history_standing.specs.Rules.{located, located_by, rule_for}
-use Rattle.poa_history.specs.Situations.{facts_of, key_or_none}
+use Rattle.history_standing.specs.Situations.{facts_of, key_or_none}
 use Rattle.history_standing.specs.Keys.{key_in}
 use Rattle.history_standing.specs.Stages.{admitted, arrival_in, is_at, stage}
 use Rattle.history_standing.specs.Standings.{Standing}

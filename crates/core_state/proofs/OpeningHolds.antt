@@ -14,7 +14,7 @@ use Rattle.poa_base.specs.Store as slots
 use Rattle.poa_base.specs.Store.{Slots}
 use Rattle.history_standing.specs.declared.activation.Activation.{Activation}
 use Rattle.history_standing.specs.Trees.{In}
-use Rattle.poa_history.specs.Changes.{standing}
+use Rattle.history_standing.specs.Changes.{standing}
 use Rattle.poa_history.specs.States.{state_of}
 use Rattle.poa_history.proofs.AloneKept.{all_open}
 use Rattle.core_state.specs.Holds.{Holds, is_fresh, keeps_fresh, is_kept}

@@ -8,7 +8,7 @@ use Rattle.history_standing.specs.declared.activation.Activation.{Activation}
 use Rattle.history_standing.specs.declared.activation.Phase.{Phase}
 use Rattle.history_standing.specs.declared.activation.Phase.TheVariants.{Begun, Complete, Void}
 use Rattle.history_standing.specs.Ends.{is_over, is_finished}
-use Rattle.poa_history.specs.Situations.{is_unfinished}
+use Rattle.history_standing.specs.Situations.{is_unfinished}
 use Rattle.history_standing.specs.Standings.{is_active, is_begun, is_complete, is_void}
 use Rattle.history_standing.specs.Templates.{has_activator}
 use Rattle.core_standing.proofs.Behind.{first_fails, second_fails}

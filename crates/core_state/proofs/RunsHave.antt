@@ -15,7 +15,7 @@ use Rattle.history_standing.specs.declared.stage.Stage.TheVariants.{Serving}
 use Rattle.history_standing.specs.Trees.{In}
 use Rattle.poa_history.specs.Alone.{IsGivenAlone}
 use Rattle.poa_history.specs.Bounds.{IsWithinLimits}
-use Rattle.poa_history.specs.Changes.{standing}
+use Rattle.history_standing.specs.Changes.{standing}
 use Rattle.poa_history.specs.InFlight.{Holds as HoldsAt, IsRunning, named}
 use Rattle.poa_history.specs.Legal.{IsLegal}
 use Rattle.poa_history.specs.Sound.{IsGiven, IsSound}

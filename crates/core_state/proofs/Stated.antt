@@ -9,7 +9,7 @@ use Rattle.poa_base.specs.declared.Incarnation.{Incarnation}
 use Rattle.poa_base.specs.declared.Entry.{Entry}
 use Rattle.poa_base.specs.declared.Entry.TheVariants.{Entered, Arrive, Filled, Left, Collect, Admit, Tried, Incarnated, Run, Done, TakeOut, Etherealized, Abandon}
 use Rattle.history_standing.specs.declared.stage.Stage.{Stage}
-use Rattle.poa_history.specs.Changes.{standing}
+use Rattle.history_standing.specs.Changes.{standing}
 use Rattle.history_standing.specs.Logs.{is_accepted, command_in, command_done}
 use Rattle.history_standing.specs.Stages.{stage}
 use Rattle.history_standing.specs.Standings.{Standing as Stood}
@@ -20,7 +20,7 @@ use Rattle.core_standing.specs.declared.standing.Standing.{Standing}
 use Rattle.core_standing.specs.Answers.{AnswersAs}
 use Rattle.core_standing.specs.Kept.{KeepsNoneOver, StandsFor, StandsAfter}
 use Rattle.core_standing.specs.Seen.{seen}
-use Rattle.core_standing.specs.Entries.{stage_at, call_admitted}
+use Rattle.poa_history.specs.Entries.{stage_at, call_admitted}
 use Rattle.core_state.proofs.Answering.{answers}
 use Rattle.core_settings.specs.declared.settings.Settings.{Settings}
 use Rattle.core_settings.specs.Told.{Tells, may_grow}

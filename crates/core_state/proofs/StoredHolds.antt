@@ -26,7 +26,7 @@ use Rattle.history_standing.specs.Paths.{same_bytes, same_path}
 use Rattle.history_standing.specs.Trees.{In}
 use Rattle.poa_history.specs.Alone.{IsGivenAlone}
 use Rattle.poa_history.specs.Bounds.{IsWithinLimits}
-use Rattle.poa_history.specs.Changes.{standing, changed, with_etherealized, at_number}
+use Rattle.history_standing.specs.Changes.{standing, changed, with_etherealized, at_number}
 use Rattle.history_standing.specs.Ends.{let_out}
 use Rattle.poa_history.specs.InFlight as flying
 use Rattle.poa_history.specs.Legal.{IsLegal}

@@ -10,11 +10,11 @@ use Rattle.history_standing.specs.declared.stage.Stage.{Stage}
 use Rattle.history_standing.specs.declared.stage.Stage.TheVariants.{Free, Trying, Incarnating, Serving, Ran, Removing}
 use Rattle.poa_history.specs.Alone.{IsGivenAlone}
 use Rattle.poa_history.specs.Bounds.{IsWithinLimits}
-use Rattle.poa_history.specs.Changes.{standing}
+use Rattle.history_standing.specs.Changes.{standing}
 use Rattle.history_standing.specs.Ends.{is_over}
 use Rattle.poa_history.specs.InFlight.{IsManned, Holds, IsRunning, named}
 use Rattle.poa_history.specs.Legal.{IsLegal, MayFollow}
-use Rattle.poa_history.specs.Situations.{is_changing}
+use Rattle.history_standing.specs.Situations.{is_changing}
 use Rattle.poa_history.specs.Sound.{IsGiven, IsSound}
 use Rattle.history_standing.specs.Stages.{stage, admitted}
 use Rattle.history_standing.specs.Standings.{is_complete, is_ending, is_used}

@@ -10,7 +10,7 @@ use Rattle.poa_history.specs.States.{Stored, call_run, servant_run}
 use Rattle.poa_history.specs.Runs.{IsRun}
 use Rattle.core_standing.specs.Kept.{KeepsNoneOver, StandsAfter}
 use Rattle.core_standing.specs.Seen.{seen}
-use Rattle.core_standing.specs.Entries.{stage_at}
+use Rattle.poa_history.specs.Entries.{stage_at, is_turn}
 use Rattle.core_settings.specs.Told.{Tells}
 use Rattle.core_state.specs.Holds.{Holds}
 use Rattle.core_state.specs.Kept.{kept_in}
@@ -30,17 +30,6 @@ pub record IsState (c : Config) (run : ℕ) (opened : Stored) (h : List Entry) (
 abbrev pub call_spoken : List Entry → Entry → Option Call
 call_spoken past (Admit w r verdict) = call_of past r
 call_spoken past e = call_run past (stage_at past e)
-
--- a worker makes the entry
-abbrev pub is_turn : Entry → Bool
-is_turn (Admit w r verdict) = true
-is_turn (Tried w answer) = true
-is_turn (Incarnated w answer) = true
-is_turn (Run w) = true
-is_turn (Done w) = true
-is_turn (TakeOut w n etherealize) = true
-is_turn (Etherealized w cleanup remaining) = true
-is_turn e = false
 
 -- a worker's entry comes in a run; what its worker had begun, the call and the servant that runs are those of the history
 pub record IsNext (c : Config) (run limit : ℕ) (opened : Stored) (past : List Entry) (k : Coming) (s : State) : Type 0 where

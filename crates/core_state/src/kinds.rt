@@ -2,9 +2,9 @@
 ghost use Rattle.std.specs.Prelude.{◌≡◌, IfOk, option_copied};
 ghost use Rattle.poa_history.specs.States as states;
 
-use active_map::templates::rules_at;
 use core_standing::rules::rule_for;
 use history_standing::Activation;
+use history_standing::templates::rules_at;
 use poa_base::{Config, Gives, Items, Kind, State, TryClone, WantMemory};
 use std::alloc::Global;
 

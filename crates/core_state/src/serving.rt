@@ -4,9 +4,9 @@ ghost use Rattle.poa_history.specs.States as states;
 ghost use Rattle.poa_history.specs.Turns as turns;
 ghost use Rattle.core_standing.specs.Seen.{seen};
 
-use active_map::templates::servant_number;
 use core_standing::Standing;
 use core_standing::searches::activation_numbered;
+use history_standing::templates::servant_number;
 use history_standing::{Activation, Phase};
 use poa_base::{Config, Name, Sid, Verdict, WantMemory};
 

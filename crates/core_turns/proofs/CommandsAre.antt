@@ -11,7 +11,7 @@ use Rattle.poa_base.specs.declared.Answer.TheVariants.{GoodId, GoodIor}
 use Rattle.poa_base.specs.declared.Reason.TheVariants.{AdapterNonExistent, WrongPolicy, NoServant, ServantAlreadyActive, BadId, ObjectAlreadyActive, ObjectNotActive, ServantNotActive}
 use Rattle.poa_base.specs.declared.Sid.TheVariants.{Named}
 use Rattle.history_standing.specs.declared.node.Node.{Node}
-use Rattle.poa_history.specs.Changes.{standing}
+use Rattle.history_standing.specs.Changes.{standing}
 use Rattle.history_standing.specs.Commands.{refusal, good, live_at, is_taken, is_bad_id, activate_row, activate_id_row, deactivate_row, referred, is_implicit, reference_row, command_verdict}
 use Rattle.history_standing.specs.Ends.{is_over}
 use Rattle.history_standing.specs.Opening.{made_id}

@@ -12,8 +12,8 @@ use Rattle.history_standing.specs.Walks.{walk, adapter_met}
 use Rattle.history_standing.specs.Arrivals.{call_of, is_locate, target_of}
 use Rattle.history_standing.specs.Keys.{key_in}
 use Rattle.history_standing.specs.Standings.{Standing}
-use Rattle.poa_history.specs.Changes.{standing}
-use Rattle.poa_history.specs.Situations.{facts_met, facts_of, is_crowded, key_fact, key_or_none}
+use Rattle.history_standing.specs.Changes.{standing}
+use Rattle.history_standing.specs.Situations.{facts_met, facts_of, is_crowded, key_fact, key_or_none}
 use Rattle.core_standing.specs.Answers.{AnswersAs}
 
 -- what answers as what stands is met with the same facts

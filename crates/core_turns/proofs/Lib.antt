@@ -6,3 +6,4 @@ pub mod StillFacts
 pub mod Looking
 pub mod Due
 mod Referred
+pub mod Asking

@@ -4,7 +4,7 @@ use Rattle.std.proofs.lemmas.Bool.{and_left, or_from}
 use Rattle.poa_base.specs.declared.Config.{Config}
 use Rattle.history_standing.specs.declared.activation.Activation.{Activation}
 use Rattle.history_standing.specs.Ends.{is_finished}
-use Rattle.poa_history.specs.Situations.{is_unfinished}
+use Rattle.history_standing.specs.Situations.{is_unfinished}
 use Rattle.history_standing.specs.Standings.{is_begun}
 use Rattle.active_map.specs.Tables.{is_moving}
 use Rattle.active_map.proofs.Moving.{still_begun, still_in}

@@ -1,3 +1,5 @@
 pub mod Needs
 pub mod Said
 pub mod Looks
+pub mod Told
+pub mod Answered

@@ -13,47 +13,28 @@ ghost use Rattle.history_standing.specs.Commands as rows;
 ghost use Rattle.history_standing.specs.Ends as ends;
 ghost use Rattle.history_standing.specs.Standings as stands;
 ghost use Rattle.history_standing.specs.Opening.{made_id as id_made};
-ghost use Rattle.history_standing.specs.References.{reference_text as text_of_reference};
 ghost use Rattle.history_standing.specs.Nodes as tree;
 ghost use Rattle.core_standing.specs.Seen.{seen};
 ghost use Rattle.core_settings.specs.Told.{Tells};
 
-use crate::references::reference_text;
+use crate::answered::{good, good_or_wait, refusal};
+use crate::referring::reference_row;
 use active_map::Activations;
-use active_map::flights::is_tried;
-use active_map::templates::{has_template, manager_number, policies_at, servant_number};
 use core_settings::{Settings, endpoint_of, manager_state};
 use core_standing::Standing;
-use core_standing::asked_commands::{is_implicit, live_at, referred};
+use core_standing::asked_commands::live_at;
 use core_standing::ids::{made_id, next};
 use core_standing::searches::is_in_map;
 use history_standing::Node;
+use history_standing::flights::is_tried;
 use history_standing::nodes::node_at;
 use history_standing::paths::parent_path;
+use history_standing::templates::{has_template, manager_number, policies_at, servant_number};
 use poa_base::limits::ADAPTERS;
 use poa_base::{
     Answer, Command, Config, ManagerState, Name, Oid, Order, Path, Reason, Sid, Verdict, WantMemory,
 };
 use std::alloc::Global;
-
-fn refusal(reason: Reason) -> Option<Verdict>
-    ensures { result ≡ rows.refusal reason }
-{
-    Some(Verdict::Answer(Answer::No(reason)))
-}
-
-fn good() -> Option<Verdict>
-    ensures { result ≡ rows.good }
-{
-    Some(Verdict::Answer(Answer::Good))
-}
-
-/// Done at once, or with an answer that waits.
-fn good_or_wait(wait: bool) -> Option<Verdict>
-    ensures { result ≡ rows.good_or_wait wait }
-{
-    if wait { Some(Verdict::Wait) } else { good() }
-}
 
 /// Whether the order waits until what it concerns has ended.
 fn waits(order: Order) -> bool
@@ -303,111 +284,6 @@ fn deactivate_row(config: &Config, standing: &Standing, path: &Path, oid: &Oid) 
     } else {
         refusal(Reason::ObjectNotActive)
     }
-}
-
-/// The answer with the reference of an id.
-fn ior_row(
-    alloc: Global,
-    config: &Config,
-    run: u32,
-    node: &Node,
-    path: &Path,
-    oid: &Oid,
-    servant: u32,
-) -> Result<Option<Verdict>, WantMemory>
-    ensures { IfOk result
-        (λ verdict. verdict ≡ Some
-        (Verdict.Answer (Answer.GoodIor (text_of_reference config.now run node.now.number path.now oid.now servant)))) }
-{
-    let text = reference_text(alloc, config, run, node.number, path, oid, servant)?;
-    Ok(Some(Verdict::Answer(Answer::GoodIor(text))))
-}
-
-/// The reference under the next system-made id.
-fn made_ior_row(
-    alloc: Global,
-    config: &Config,
-    run: u32,
-    standing: &Standing,
-    node: &Node,
-    path: &Path,
-    servant: u32,
-) -> Result<Option<Verdict>, WantMemory>
-    ensures { IfOk result
-        (λ verdict. verdict ≡ Some
-        (Verdict.Answer
-        (Answer.GoodIor (text_of_reference config.now run node.now.number path.now (id_made run (suc standing.now.made)) servant)))) }
-{
-    let ordinal = next(standing.made)?;
-    let oid = made_id(alloc, run, ordinal)?;
-    ior_row(alloc, config, run, node, path, &oid, servant)
-}
-
-/// The reference of a servant that the adapter activates under a system-made id.
-fn implicit_row(
-    alloc: Global,
-    config: &Config,
-    run: u32,
-    standing: &Standing,
-    node: &Node,
-    path: &Path,
-    servant: u32,
-) -> Result<Option<Verdict>, WantMemory>
-    ensures { IfOk result (λ verdict. verdict ≡ (if rows.is_implicit config.now (seen standing.now) node.now servant
-        then Some
-        (Verdict.Answer
-        (Answer.GoodIor (text_of_reference config.now run node.now.number path.now (id_made run (suc standing.now.made)) servant)))
-        else rows.refusal Reason.ServantNotActive)) }
-{
-    if is_implicit(config, standing, node, servant) {
-        made_ior_row(alloc, config, run, standing, node, path, servant)
-    } else {
-        Ok(refusal(Reason::ServantNotActive))
-    }
-}
-
-/// The reference of a servant that the adapter knows or activates.
-fn servant_row(
-    alloc: Global,
-    config: &Config,
-    run: u32,
-    standing: &Standing,
-    node: &Node,
-    path: &Path,
-    servant: u32,
-) -> Result<Option<Verdict>, WantMemory>
-    ensures { IfOk result (λ verdict. verdict ≡ elim (rows.referred config.now (seen standing.now) node.now servant) [
-      | Some a ↦ Some (Verdict.Answer (Answer.GoodIor (text_of_reference config.now run node.now.number path.now a.oid servant)))
-      | None ↦ (if rows.is_implicit config.now (seen standing.now) node.now servant
-          then Some
-          (Verdict.Answer
-          (Answer.GoodIor (text_of_reference config.now run node.now.number path.now (id_made run (suc standing.now.made)) servant)))
-          else rows.refusal Reason.ServantNotActive)
-    ]) }
-{
-    match referred(config, standing, node, servant) {
-        Some(activation) => ior_row(alloc, config, run, node, path, &activation.oid, servant),
-        None => implicit_row(alloc, config, run, standing, node, path, servant),
-    }
-}
-
-fn reference_row(
-    alloc: Global,
-    config: &Config,
-    run: u32,
-    standing: &Standing,
-    path: &Path,
-    servant: &Name,
-) -> Result<Option<Verdict>, WantMemory>
-    ensures { IfOk result (λ verdict. verdict ≡ rows.reference_row config.now run (seen standing.now) path.now servant.now) }
-{
-    let Some(node) = live_at(standing, path.as_slice()) else {
-        return Ok(refusal(Reason::AdapterNonExistent));
-    };
-    let Some(number) = servant_number(config, servant)? else {
-        return Ok(refusal(Reason::NoServant));
-    };
-    servant_row(alloc, config, run, standing, node, path, number)
 }
 
 fn preset_row(

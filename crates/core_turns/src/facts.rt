@@ -3,7 +3,7 @@ ghost use Rattle.std.specs.Prelude.{◌≡◌, ◌==◌, ◌∷◌, [], ℕ, tru
 ghost use Rattle.poa_base.specs.declared.Entry.{Entry};
 ghost use Rattle.poa_choose.specs.declared.KeyFact.TheVariants.{OtherRun, Persistent, Transient};
 ghost use Rattle.history_standing.specs.Arrivals as calls;
-ghost use Rattle.poa_history.specs.Situations as situations;
+ghost use Rattle.history_standing.specs.Situations as situations;
 ghost use Rattle.history_standing.specs.Keys as keys;
 ghost use Rattle.history_standing.specs.Templates as templates;
 ghost use Rattle.core_standing.specs.Answers.{AnswersAs};
@@ -15,17 +15,17 @@ ghost use Rattle.core_turns.specs.Said.{IsAsSaid};
 use crate::commands::is_bad_id;
 use crate::rules::located;
 use active_map::Activations;
-use active_map::flights::{is_running, is_tried};
-use active_map::templates::{children_at, is_other_tag, manager_at, policies_at, rules_at};
 use core_settings::{Settings, forward_of, manager_state, preset_of};
 use core_standing::Standing;
-use core_standing::calls::{is_locate, target_of};
 use core_standing::keys::{adapter_at, key_in};
 use history_standing::Found;
+use history_standing::flights::{is_running, is_tried};
+use history_standing::templates::{children_at, is_other_tag, manager_at, policies_at, rules_at};
 use history_standing::walks::{adapter_met, child_met, place_met, walk};
 use object_key::KeyView;
 use poa_base::{Bytes, Call, Config, Endpoint, ManagerState, Name, Stamp, WantMemory};
 use poa_choose::{Facts, KeyFact, MapFact, WalkFact};
+use poa_history::calls::{is_locate, target_of};
 use std::alloc::Global;
 
 /// What a key is to this run.

@@ -2,15 +2,19 @@
 //! goes on, and the removal that is due. Nothing here asks a history.
 #![tactic(auto)]
 
+mod answered;
 mod commands;
 mod facts;
+mod known;
 mod looks;
 mod references;
+mod referring;
 mod rules;
 mod turns;
 mod verdicts;
 
 pub use facts::facts_of;
+pub use known::Known;
 pub use looks::{Look, look_at};
 pub use rules::brought;
 pub use turns::{attempt, going_on, removal};

@@ -4,7 +4,7 @@ ghost use Rattle.poa_base.specs.declared.Entry.{Entry};
 ghost use Rattle.poa_choose.specs.Table as table;
 ghost use Rattle.poa_choose.specs.declared.Facts.{Facts as FactsOf};
 ghost use Rattle.history_standing.specs.Arrivals.{call_of};
-ghost use Rattle.poa_history.specs.Situations as situations;
+ghost use Rattle.history_standing.specs.Situations as situations;
 ghost use Rattle.held_queue.specs.Blocks as blocks;
 ghost use Rattle.core_standing.specs.Answers.{AnswersAs};
 ghost use Rattle.core_standing.specs.Seen.{seen};

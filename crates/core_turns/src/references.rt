@@ -2,8 +2,8 @@
 ghost use Rattle.std.specs.Prelude.{◌≡◌, IfOk};
 ghost use Rattle.history_standing.specs.References as references;
 
-use active_map::templates::{policies_at, tag_at};
-use ior_text::write_reference;
+use history_standing::templates::{policies_at, tag_at};
+use history_standing::write_reference;
 use poa_base::{Bytes, Config, Endpoint, Key, Name, Oid, Path, Stamp, WantMemory};
 use servant_kinds::type_id;
 use std::alloc::Global;

@@ -6,11 +6,11 @@ ghost use Rattle.history_standing.specs.Rules as rules;
 ghost use Rattle.history_standing.specs.Templates.{servant_name};
 ghost use Rattle.core_standing.specs.Seen.{seen};
 
-use active_map::templates::{policies_at, rules_at, servant_name};
 use core_standing::Standing;
 use core_standing::rules::rule_for;
 use core_standing::searches::is_in_map;
 use history_standing::Activation;
+use history_standing::templates::{policies_at, rules_at, servant_name};
 use poa_base::{
     Completion, Config, ExcName, Gives, Incarnation, Name, Sid, SysExc, WantMemory, minors,
 };

@@ -2,7 +2,7 @@
 ghost use Rattle.std.specs.Prelude.{◌≡◌, ℕ, List, Some, true, IfOk};
 ghost use Rattle.poa_base.specs.declared.Entry.{Entry};
 ghost use Rattle.history_standing.specs.Arrivals.{call_of, is_message};
-ghost use Rattle.poa_history.specs.Situations.{is_crowded};
+ghost use Rattle.history_standing.specs.Situations.{is_crowded};
 ghost use Rattle.poa_history.specs.Verdicts as verdicts;
 ghost use Rattle.core_standing.specs.Answers.{AnswersAs};
 ghost use Rattle.core_standing.specs.Seen.{seen};

@@ -13,13 +13,13 @@ use Rattle.history_standing.specs.declared.activation.Phase.{Phase}
 use Rattle.history_standing.specs.declared.activation.Phase.TheVariants.{Begun, Complete, Void}
 use Rattle.poa_history.specs.Alone.{IsGivenAlone}
 use Rattle.poa_history.specs.Bounds.{IsWithinLimits}
-use Rattle.poa_history.specs.Changes.{standing, changed}
+use Rattle.history_standing.specs.Changes.{standing, changed}
 use Rattle.history_standing.specs.Ends.{is_finished, is_over}
 use Rattle.poa_history.specs.InFlight.{IsManned}
 use Rattle.poa_history.specs.Legal.{MayFollow, IsLegal}
 use Rattle.history_standing.specs.Logs.{command_done}
 use Rattle.poa_history.specs.Out.{has_run_out}
-use Rattle.poa_history.specs.Situations.{slot_of, is_unfinished, is_changing}
+use Rattle.history_standing.specs.Situations.{slot_of, is_unfinished, is_changing}
 use Rattle.poa_history.specs.Sound.{IsGiven, IsSound}
 use Rattle.history_standing.specs.Stages.{is_at}
 use Rattle.history_standing.specs.Standings.{Standing, is_complete, is_void, is_begun, is_ending, is_active, is_of, is_used}
@@ -30,7 +30,7 @@ use Rattle.history_standing.proofs.Finding.{find_in, find_none}
 use Rattle.history_standing.proofs.Leading.{bytes_same}
 use Rattle.poa_history.proofs.ActivationsFrom.{IsStep, Leaves, TakesOut, Tells, IsBegun, incarnating, activating, activating_id, referring, stood, begun, activation_from}
 use Rattle.poa_history.proofs.ActivationsLater.{step_later}
-use Rattle.poa_history.proofs.GoneIs.{some_in}
+use Rattle.history_standing.proofs.Members.{some_in, any_in}
 use Rattle.poa_history.proofs.LegalSound.{legal_sound}
 use Rattle.poa_history.proofs.MannedKept.{all_manned}
 use Rattle.poa_history.proofs.OutIs.{out_run_out}
@@ -38,7 +38,6 @@ use Rattle.poa_history.proofs.TurnTells.{takeout_is}
 use Rattle.held_queue.specs.Frees.{freed_by}
 use Rattle.held_queue.proofs.Unchanged.{no_command}
 use Rattle.held_queue.proofs.Landing.{freed_never, flies_on, brings_moves, brings_changes, tells_moves, tells_changes}
-use Rattle.history_standing.proofs.Members.{any_in}
 
 -- tests on how far an activation came
 abbrev void_phase : Phase → Bool

@@ -10,7 +10,7 @@ use Rattle.poa_history.specs.Alone.{IsGivenAlone}
 use Rattle.history_standing.specs.Arrivals.{arrivals, call_of, is_message}
 use Rattle.poa_history.specs.Bounds.{IsWithinLimits}
 use Rattle.poa_history.specs.Legal.{IsLegal}
-use Rattle.poa_history.specs.Situations.{facts_of}
+use Rattle.history_standing.specs.Situations.{facts_of}
 use Rattle.poa_history.specs.Sound.{IsGiven}
 use Rattle.history_standing.specs.Stages.{stage, arrival_in, is_at, admitted, is_unadmitted}
 use Rattle.history_standing.specs.Trees.{In}
@@ -24,7 +24,7 @@ use Rattle.held_queue.proofs.Stays.{still_blocked, turn_stays}
 use Rattle.held_queue.specs.Held.{IsGripped, IsRow, KnowsCalls}
 use Rattle.held_queue.specs.Numbers.{Heap, has}
 use Rattle.held_queue.specs.Rows.{let_go, freed_grip, freed_row, in_rows}
-use Rattle.held_queue.specs.Waiting.{is_waiting, received}
+use Rattle.poa_history.specs.Waiting.{is_waiting, received}
 use Rattle.held_queue.specs.declared.grip.Grip.{Grip}
 use Rattle.held_queue.specs.declared.grip.Grip.TheVariants.{Held, Turn, Loose}
 use Rattle.held_queue.specs.declared.row.Row.{Row}

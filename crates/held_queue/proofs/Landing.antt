@@ -12,7 +12,7 @@ use Rattle.history_standing.specs.declared.stage.Stage.TheVariants.{Incarnating,
 use Rattle.poa_history.specs.Alone.{IsGivenAlone}
 use Rattle.history_standing.specs.Arrivals.{call_of}
 use Rattle.poa_history.specs.Bounds.{IsWithinLimits}
-use Rattle.poa_history.specs.Changes.{standing, changed, with_admitted}
+use Rattle.history_standing.specs.Changes.{standing, changed, with_admitted}
 use Rattle.poa_history.specs.InFlight.{Holds, IsManned}
 use Rattle.history_standing.specs.Keys.{key_in}
 use Rattle.poa_history.specs.Legal.{MayFollow, IsLegal}
@@ -26,13 +26,12 @@ use Rattle.history_standing.specs.Trees.{In}
 use Rattle.history_standing.proofs.Finding.{find_in, find_none}
 use Rattle.poa_history.proofs.ActivationsFrom.{Brings, Tells}
 use Rattle.poa_history.proofs.FlightsFrom.{flights_command}
-use Rattle.poa_history.proofs.GoneIs.{some_in}
+use Rattle.history_standing.proofs.Members.{some_in, any_in}
 use Rattle.poa_history.proofs.LegalSound.{legal_sound}
 use Rattle.poa_history.proofs.MannedKept.{all_manned}
 use Rattle.poa_history.proofs.StagesFrom.{stays_admitted, stays_incarnated, stays_etherealized, stays_fewer}
 use Rattle.poa_history.proofs.TurnTells.{done_is, incarnation_is}
 use Rattle.held_queue.specs.Frees.{landing, incarnating, etherealizing, freed_by}
-use Rattle.history_standing.proofs.Members.{any_in}
 
 -- a number isn't freed that is given
 pub freed_never : {A : Type 0} (n : ℕ) (o : Option ℕ) → is_at n o ≡ false → o ≡ Some n → A

@@ -14,7 +14,7 @@ use Rattle.history_standing.proofs.Leading.{front_same}
 use Rattle.history_standing.proofs.WalkStands.{Tells, walk_tells}
 use Rattle.poa_choose.specs.declared.WalkFact.TheVariants.{Dying as MeetsDying, Missing as MeetsMissing, Found as Met}
 use Rattle.history_standing.specs.declared.flight.Flight.{Flight}
-use Rattle.poa_history.specs.Situations.{walk_fact}
+use Rattle.history_standing.specs.Situations.{walk_fact}
 use Rattle.history_standing.specs.Standings.{Standing}
 use Rattle.poa_history.specs.Sound.{IsSound}
 use Rattle.poa_base.specs.declared.Config.{Config}

@@ -6,8 +6,8 @@ use Rattle.poa_base.specs.declared.Config.{Config}
 use Rattle.poa_base.specs.declared.Entry.{Entry}
 use Rattle.history_standing.specs.declared.flight.Flight.{Flight}
 use Rattle.history_standing.specs.Arrivals.{arrivals}
-use Rattle.poa_history.specs.Changes.{standing}
-use Rattle.poa_history.specs.Situations.{facts_of}
+use Rattle.history_standing.specs.Changes.{standing}
+use Rattle.history_standing.specs.Situations.{facts_of}
 use Rattle.history_standing.specs.Standings.{is_running}
 use Rattle.history_standing.specs.Trees.{In}
 use Rattle.history_standing.proofs.Members.{in_either}
@@ -17,7 +17,7 @@ use Rattle.held_queue.specs.declared.hold.Hold.TheVariants.{Turn as HeldTurn}
 use Rattle.held_queue.specs.Held.{IsGripped, IsRow, KnowsCalls, AreSettled}
 use Rattle.held_queue.specs.Numbers.{Heap, has, IsLeast}
 use Rattle.held_queue.specs.Rows.{in_rows, settled_grip, regripped, is_empty_row, GoesOver, IsSettledRow}
-use Rattle.held_queue.specs.Waiting.{is_waiting}
+use Rattle.poa_history.specs.Waiting.{is_waiting}
 use Rattle.held_queue.specs.declared.grip.Grip.{Grip}
 use Rattle.held_queue.specs.declared.grip.Grip.TheVariants.{Held, Turn, Loose}
 use Rattle.held_queue.specs.declared.row.Row.{Row}

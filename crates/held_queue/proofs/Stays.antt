@@ -14,12 +14,12 @@ use Rattle.poa_choose.specs.declared.WalkFact.TheVariants.{Dying as MeetsDying, 
 use Rattle.poa_history.specs.Alone.{IsGivenAlone}
 use Rattle.history_standing.specs.Arrivals.{arrivals, call_of, is_locate, target_of}
 use Rattle.poa_history.specs.Bounds.{IsWithinLimits}
-use Rattle.poa_history.specs.Changes.{standing}
+use Rattle.history_standing.specs.Changes.{standing}
 use Rattle.history_standing.specs.Commands.{is_bad_id}
 use Rattle.poa_history.specs.InFlight.{IsManned}
 use Rattle.history_standing.specs.Keys.{key_in}
 use Rattle.poa_history.specs.Legal.{IsLegal}
-use Rattle.poa_history.specs.Situations.{is_crowded, key_fact, key_or_none, walk_fact, facts_met, facts_of}
+use Rattle.history_standing.specs.Situations.{is_crowded, key_fact, key_or_none, walk_fact, facts_met, facts_of}
 use Rattle.poa_history.specs.Sound.{IsGiven, IsSound}
 use Rattle.history_standing.specs.Stages.{is_at}
 use Rattle.history_standing.specs.Standings.{Standing}

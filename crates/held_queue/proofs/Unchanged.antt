@@ -23,8 +23,8 @@ use Rattle.history_standing.specs.Standings.{Standing}
 use Rattle.history_standing.specs.Ends.{is_clear, is_done_with, let_out}
 use Rattle.history_standing.specs.Keys.{key_in}
 use Rattle.history_standing.specs.Logs.{is_accepted, command_in, command_done, ordered_state, order_for, manager_state}
-use Rattle.poa_history.specs.Changes.{standing, changed, with_admitted, with_command, without_flight, with_incarnated, with_etherealized}
-use Rattle.poa_history.specs.Situations.{is_crowded, waiting_messages}
+use Rattle.history_standing.specs.Changes.{standing, changed, with_admitted, with_command, without_flight, with_incarnated, with_etherealized}
+use Rattle.history_standing.specs.Situations.{is_crowded, waiting_messages}
 use Rattle.poa_history.proofs.Untouched.{nodes_in, made_in}
 use Rattle.held_queue.specs.Frees.{nothing, everything, freed_by}
 

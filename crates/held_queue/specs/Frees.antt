@@ -5,7 +5,7 @@ use Rattle.poa_base.specs.declared.Entry.{Entry}
 use Rattle.poa_base.specs.declared.Entry.TheVariants.{Admit, Tried, Incarnated, Done, TakeOut, Etherealized}
 use Rattle.history_standing.specs.declared.stage.Stage.{Stage}
 use Rattle.history_standing.specs.declared.stage.Stage.TheVariants.{Incarnating, Removing}
-use Rattle.poa_history.specs.Changes.{standing}
+use Rattle.history_standing.specs.Changes.{standing}
 use Rattle.history_standing.specs.Logs.{is_accepted}
 use Rattle.history_standing.specs.Stages.{stage, arrival_in, is_at}
 use Rattle.history_standing.specs.Standings.{Standing}

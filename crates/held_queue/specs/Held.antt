@@ -3,12 +3,12 @@ use Rattle.std.specs.Prelude.{◌≡◌, ℕ, ◌<◌, Bool, true, ◌||◌, Lis
 use Rattle.poa_base.specs.declared.Config.{Config}
 use Rattle.poa_base.specs.declared.Entry.{Entry}
 use Rattle.history_standing.specs.Arrivals.{arrivals}
-use Rattle.poa_history.specs.Situations.{facts_of}
+use Rattle.history_standing.specs.Situations.{facts_of}
 use Rattle.history_standing.specs.Trees.{In}
 use Rattle.held_queue.specs.Blocks.{Blocks, TakesTurn}
 use Rattle.held_queue.specs.Numbers.{Heap, has}
 use Rattle.held_queue.specs.Rows.{in_rows, IsSettledRow}
-use Rattle.held_queue.specs.Waiting.{is_waiting}
+use Rattle.poa_history.specs.Waiting.{is_waiting}
 use Rattle.held_queue.specs.declared.grip.Grip.{Grip}
 use Rattle.held_queue.specs.declared.grip.Grip.TheVariants.{Held, Turn, Loose}
 use Rattle.held_queue.specs.declared.row.Row.{Row}

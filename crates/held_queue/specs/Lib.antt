@@ -1,6 +1,5 @@
 pub mod Blocks
 pub mod Frees
 pub mod Numbers
-pub mod Waiting
 pub mod Rows
 pub mod Held

@@ -10,7 +10,7 @@ ghost use Rattle.poa_history.specs.Alone.{IsGivenAlone};
 ghost use Rattle.history_standing.specs.Arrivals.{arrivals};
 ghost use Rattle.poa_history.specs.Bounds.{IsWithinLimits};
 ghost use Rattle.poa_history.specs.Legal.{IsLegal};
-ghost use Rattle.poa_history.specs.Situations.{facts_of};
+ghost use Rattle.history_standing.specs.Situations.{facts_of};
 ghost use Rattle.poa_history.specs.Sound.{IsGiven};
 ghost use Rattle.poa_history.specs.Verdicts.{chosen};
 ghost use Rattle.held_queue.specs.Blocks.{Blocks, TakesTurn, hold_for};

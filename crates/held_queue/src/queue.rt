@@ -5,27 +5,27 @@ ghost use Rattle.poa_base.specs.declared.Entry.{Entry as EntryOf};
 ghost use Rattle.poa_history.specs.Alone.{IsGivenAlone};
 ghost use Rattle.history_standing.specs.Arrivals.{arrivals as arrivals_in};
 ghost use Rattle.poa_history.specs.Bounds.{IsWithinLimits};
-ghost use Rattle.poa_history.specs.Changes.{standing};
+ghost use Rattle.history_standing.specs.Changes.{standing};
 ghost use Rattle.poa_history.specs.Legal.{IsLegal};
-ghost use Rattle.poa_history.specs.Situations.{facts_of};
+ghost use Rattle.history_standing.specs.Situations.{facts_of};
 ghost use Rattle.poa_history.specs.Sound.{IsGiven};
 ghost use Rattle.held_queue.specs.Blocks.{Blocks};
 ghost use Rattle.held_queue.specs.Frees.{freed_by};
 ghost use Rattle.held_queue.specs.Held.{AreHeld, IsSettled};
 ghost use Rattle.held_queue.specs.Numbers.{has, HasRoom};
 ghost use Rattle.held_queue.specs.Rows.{freed_row};
-ghost use Rattle.held_queue.specs.Waiting.{is_waiting, may_queue, received as the_received};
-ghost use Rattle.core_standing.specs.Entries.{stage_at};
+ghost use Rattle.poa_history.specs.Waiting.{is_waiting, may_queue, received as the_received};
+ghost use Rattle.poa_history.specs.Entries.{stage_at};
 
 use crate::freed::Freed;
 use crate::hold::Hold;
 use crate::numbers::Numbers;
 use crate::row::Row;
 use crate::rows;
-use core_standing::calls::is_message;
-use core_standing::workers::arrival_in;
 use history_standing::{Flight, Stage};
 use poa_base::{Attempt, Entry, WantMemory};
+use poa_history::calls::is_message;
+use poa_history::workers::arrival_in;
 use std::alloc::Global;
 
 /// The requests and locates that wait: those that are ready to be asked, and the others in rows by what holds them.

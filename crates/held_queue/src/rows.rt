@@ -3,8 +3,8 @@ ghost use Rattle.std.specs.Prelude.{◌≡◌, ◌<◌, ℕ, true, List, length,
 ghost use Rattle.poa_base.specs.declared.Config.{Config};
 ghost use Rattle.poa_base.specs.declared.Entry.{Entry as EntryOf};
 ghost use Rattle.history_standing.specs.Arrivals.{arrivals as arrivals_in};
-ghost use Rattle.poa_history.specs.Changes.{standing};
-ghost use Rattle.poa_history.specs.Situations.{facts_of};
+ghost use Rattle.history_standing.specs.Changes.{standing};
+ghost use Rattle.history_standing.specs.Situations.{facts_of};
 ghost use Rattle.held_queue.specs.Blocks.{Blocks};
 ghost use Rattle.held_queue.specs.Frees.{frees};
 ghost use Rattle.held_queue.specs.Held.{KnowsCalls, AreSettled};
@@ -17,8 +17,8 @@ use crate::grip::Grip;
 use crate::hold::Hold;
 use crate::numbers::Numbers;
 use crate::row::{Row, move_least};
-use active_map::flights::is_running;
 use history_standing::Flight;
+use history_standing::flights::is_running;
 use poa_base::WantMemory;
 use std::alloc::Global;
 

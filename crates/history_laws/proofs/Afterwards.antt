@@ -5,7 +5,7 @@ use Rattle.poa_base.specs.declared.Command.TheVariants.{Activate, ActivateId, Re
 use Rattle.poa_base.specs.declared.Config.{Config}
 use Rattle.poa_base.specs.declared.Entry.{Entry}
 use Rattle.poa_base.specs.declared.Entry.TheVariants.{Entered, Arrive, Filled, Left, Collect, Admit, Tried, Incarnated, Run, Done, TakeOut, Etherealized, Abandon}
-use Rattle.poa_history.specs.Changes.{standing}
+use Rattle.history_standing.specs.Changes.{standing}
 use Rattle.history_standing.specs.Ends.{is_finished, is_over}
 use Rattle.poa_history.specs.Later.{IsLater}
 use Rattle.history_standing.specs.Logs.{command_done}

@@ -28,7 +28,7 @@ use Rattle.poa_history.proofs.TurnTells.{IsAdmission, admission_is}
 use Rattle.poa_history.specs.Alone.{IsGivenAlone}
 use Rattle.history_standing.specs.Arrivals.{arrivals, call_of}
 use Rattle.poa_history.specs.Bounds.{IsWithinLimits}
-use Rattle.poa_history.specs.Changes.{standing}
+use Rattle.history_standing.specs.Changes.{standing}
 use Rattle.history_standing.specs.Commands.{command_verdict, live_at, waits}
 use Rattle.poa_history.specs.Destroyed.{destroys, was_destroyed}
 use Rattle.poa_history.specs.Endings.{ends, is_ended_by, was_ended}
@@ -38,7 +38,7 @@ use Rattle.history_standing.specs.Logs.{command_done, command_in}
 use Rattle.history_standing.specs.Opening.{number_at}
 use Rattle.poa_history.specs.Replies.{decided, is_decided_by, is_waiting}
 use Rattle.poa_history.specs.Settling.{are_ended, before_admit, is_managed, is_overtaken, is_quiet, order_holds, settles, settles_by}
-use Rattle.poa_history.specs.Situations.{facts_of}
+use Rattle.history_standing.specs.Situations.{facts_of}
 use Rattle.poa_history.specs.Sound.{IsGiven}
 use Rattle.history_standing.specs.Stages.{admitted}
 use Rattle.history_standing.specs.Standings.{Standing}

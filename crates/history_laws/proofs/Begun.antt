@@ -16,7 +16,7 @@ use Rattle.poa_history.proofs.StagesFrom.{own}
 use Rattle.poa_history.proofs.TurnTells.{takeout_is}
 use Rattle.poa_history.specs.Alone.{IsGivenAlone}
 use Rattle.poa_history.specs.Bounds.{IsWithinLimits}
-use Rattle.poa_history.specs.Changes.{at_number, changed, come_to, servant_of, standing, with_etherealized, with_incarnated}
+use Rattle.history_standing.specs.Changes.{at_number, changed, come_to, servant_of, standing, with_etherealized, with_incarnated}
 use Rattle.history_standing.specs.Ends.{is_left, let_out}
 use Rattle.poa_history.specs.Legal.{IsLegal, MayFollow}
 use Rattle.poa_history.specs.Lifetime.{KeepsLives}

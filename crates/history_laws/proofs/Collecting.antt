@@ -14,14 +14,14 @@ use Rattle.poa_history.proofs.SettledKept.{or_first, or_second}
 use Rattle.poa_history.specs.Alone.{IsGivenAlone}
 use Rattle.history_standing.specs.Arrivals.{arrivals, call_of, is_locate, target_of}
 use Rattle.poa_history.specs.Bounds.{IsWithinLimits}
-use Rattle.poa_history.specs.Changes.{standing}
+use Rattle.history_standing.specs.Changes.{standing}
 use Rattle.history_standing.specs.Commands.{command_verdict}
 use Rattle.history_standing.specs.Ends.{is_done_with, is_left, let_out, settled, without_ended}
 use Rattle.history_standing.specs.Keys.{key_in}
 use Rattle.poa_history.specs.Legal.{IsLegal}
 use Rattle.poa_history.specs.Out.{has_run_out}
 use Rattle.history_standing.specs.Searches.{first_given}
-use Rattle.poa_history.specs.Situations.{facts_met, facts_of, is_crowded, key_fact, key_or_none}
+use Rattle.history_standing.specs.Situations.{facts_met, facts_of, is_crowded, key_fact, key_or_none}
 use Rattle.poa_history.specs.Sound.{IsGiven}
 use Rattle.history_standing.specs.Stages.{is_unadmitted, stage}
 use Rattle.history_standing.specs.Standings.{Standing}

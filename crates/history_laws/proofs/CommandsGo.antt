@@ -10,10 +10,10 @@ use Rattle.poa_base.specs.declared.Order.{Order}
 use Rattle.poa_base.specs.declared.Reason.TheVariants.{AdapterAlreadyExists, AdapterInactive, AdapterNonExistent, BadId, NoForward, NoManager, NoServant, NoTemplate, ObjectAlreadyActive, ObjectNotActive, ServantAlreadyActive, ServantNotActive, TooMany, WrongPolicy}
 use Rattle.poa_base.specs.declared.Verdict.{Verdict}
 use Rattle.poa_base.specs.declared.Verdict.TheVariants.{Answer as AnswerNow}
-use Rattle.poa_history.proofs.GoneIs.{some_in}
+use Rattle.history_standing.proofs.Members.{some_in}
 use Rattle.poa_history.specs.Alone.{IsGivenAlone}
 use Rattle.poa_history.specs.Bounds.{IsWithinLimits}
-use Rattle.poa_history.specs.Changes.{standing}
+use Rattle.history_standing.specs.Changes.{standing}
 use Rattle.history_standing.specs.Commands.{activate_id_row, activate_row, command_verdict, create_row, deactivate_row, good, good_or_wait, is_bad_id, is_implicit, is_inactive, is_taken, live_at, manager_row, preset_row, reference_row, referred, refusal, waits, with_live, with_servant}
 use Rattle.history_standing.specs.Ends.{is_over}
 use Rattle.poa_history.specs.Legal.{IsLegal}

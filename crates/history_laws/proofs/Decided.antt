@@ -12,7 +12,7 @@ use Rattle.poa_base.specs.declared.Verdict.TheVariants.{Addressing, Answer as An
 use Rattle.poa_history.proofs.SettledKept.{or_first, or_second}
 use Rattle.poa_history.proofs.StagesFrom.{own, stage_other}
 use Rattle.poa_history.proofs.TurnIs.{mapped_by}
-use Rattle.poa_history.specs.Changes.{standing}
+use Rattle.history_standing.specs.Changes.{standing}
 use Rattle.poa_history.specs.Legal.{IsLegal}
 use Rattle.poa_history.specs.Replies.{decided, is_decided_by, is_waiting}
 use Rattle.history_standing.specs.Rules.{brought}

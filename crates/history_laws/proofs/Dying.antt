@@ -15,7 +15,7 @@ use Rattle.poa_history.proofs.Served.{served_by}
 use Rattle.poa_history.proofs.SettledKept.{or_first}
 use Rattle.poa_history.proofs.TurnTells.{admission_is}
 use Rattle.poa_history.specs.Bounds.{IsWithinLimits}
-use Rattle.poa_history.specs.Changes.{standing}
+use Rattle.history_standing.specs.Changes.{standing}
 use Rattle.poa_history.specs.Destroyed.{destroys}
 use Rattle.poa_history.specs.Endings.{ends, is_ended_by, was_ended}
 use Rattle.poa_history.specs.Legal.{IsLegal, MayFollow}

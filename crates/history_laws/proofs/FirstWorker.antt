@@ -23,9 +23,9 @@ use Rattle.poa_choose.specs.declared.KeyFact.TheVariants.{Absent, Bad as BadKey,
 use Rattle.poa_choose.specs.declared.WalkFact.{WalkFact}
 use Rattle.poa_choose.specs.declared.WalkFact.TheVariants.{Dying as MeetsDying, Found as MeetsAdapter, Missing as MeetsMissing}
 use Rattle.history_standing.specs.Arrivals.{arrivals, call_of}
-use Rattle.poa_history.specs.Changes.{standing}
+use Rattle.history_standing.specs.Changes.{standing}
 use Rattle.history_standing.specs.Searches.{first_given}
-use Rattle.poa_history.specs.Situations.{facts_of}
+use Rattle.history_standing.specs.Situations.{facts_of}
 use Rattle.history_standing.specs.Stages.{is_unadmitted, stage}
 use Rattle.poa_history.specs.Turns.{admission, admission_of, is_due, next_of, removal, turn}
 use Rattle.poa_history.specs.Verdicts.{chosen, verdict, verdict_on}

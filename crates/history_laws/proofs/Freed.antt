@@ -4,7 +4,7 @@ use Rattle.std.specs.Option.{option_or}
 use Rattle.poa_base.specs.declared.Entry.{Entry}
 use Rattle.poa_base.specs.declared.Entry.TheVariants.{Admit, Tried, Incarnated, Run, Done, TakeOut, Etherealized}
 use Rattle.history_standing.specs.Arrivals.{arrivals}
-use Rattle.poa_history.specs.Changes.{standing}
+use Rattle.history_standing.specs.Changes.{standing}
 use Rattle.poa_history.specs.InFlight.{Holds, IsManned}
 use Rattle.history_standing.specs.Rules.{brought}
 use Rattle.history_standing.specs.Searches.{first_given}

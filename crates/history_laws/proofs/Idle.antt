@@ -8,7 +8,8 @@ use Rattle.poa_base.specs.declared.Entry.{Entry}
 use Rattle.poa_base.specs.declared.Entry.TheVariants.{Done, Etherealized, Incarnated, Run, TakeOut, Tried}
 use Rattle.poa_base.specs.declared.Sid.{Sid}
 use Rattle.poa_history.proofs.ActivationsLater.{begun_phase}
-use Rattle.poa_history.proofs.GoneIs.{some_in, gone_done, stands_ungone}
+use Rattle.poa_history.proofs.GoneIs.{gone_done, stands_ungone}
+use Rattle.history_standing.proofs.Members.{some_in}
 use Rattle.poa_history.proofs.LegalSound.{legal_sound}
 use Rattle.poa_history.proofs.MannedKept.{all_manned}
 use Rattle.poa_history.proofs.OutIs.{out_run_out}
@@ -16,13 +17,13 @@ use Rattle.poa_history.proofs.SettledKept.{or_first, or_second}
 use Rattle.poa_history.specs.Alone.{IsGivenAlone}
 use Rattle.history_standing.specs.Arrivals.{arrivals}
 use Rattle.poa_history.specs.Bounds.{IsWithinLimits}
-use Rattle.poa_history.specs.Changes.{standing}
+use Rattle.history_standing.specs.Changes.{standing}
 use Rattle.history_standing.specs.Ends.{is_done_with, is_finished, is_gone, is_over}
 use Rattle.poa_history.specs.InFlight.{Holds, IsManned}
 use Rattle.poa_history.specs.Legal.{IsLegal}
 use Rattle.history_standing.specs.Rules.{brought}
 use Rattle.history_standing.specs.Searches.{first_given}
-use Rattle.poa_history.specs.Situations.{is_changing, is_unfinished}
+use Rattle.history_standing.specs.Situations.{is_changing, is_unfinished}
 use Rattle.poa_history.specs.Sound.{IsGiven, IsSound}
 use Rattle.history_standing.specs.Stages.{arrival_in, stage}
 use Rattle.history_standing.specs.Standings.{Standing, is_active, is_begun, is_complete, is_ending, is_used, is_void}

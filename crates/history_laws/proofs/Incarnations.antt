@@ -23,7 +23,7 @@ use Rattle.poa_history.proofs.LegalSound.{legal_sound}
 use Rattle.poa_history.proofs.TurnTells.{admission_is, incarnation_is}
 use Rattle.poa_history.specs.Alone.{IsGivenAlone}
 use Rattle.poa_history.specs.Bounds.{IsWithinLimits}
-use Rattle.poa_history.specs.Changes.{standing}
+use Rattle.history_standing.specs.Changes.{standing}
 use Rattle.history_standing.specs.Ends.{is_finished, is_over}
 use Rattle.poa_history.specs.Legal.{IsLegal, MayFollow}
 use Rattle.history_standing.specs.Logs.{command_done}

@@ -28,11 +28,11 @@ use Rattle.poa_history.proofs.TurnTells.{IsAdmission, admission_is}
 use Rattle.poa_history.specs.Alone.{IsGivenAlone}
 use Rattle.history_standing.specs.Arrivals.{arrivals, call_of}
 use Rattle.poa_history.specs.Bounds.{IsWithinLimits}
-use Rattle.poa_history.specs.Changes.{changed, standing, with_admitted}
+use Rattle.history_standing.specs.Changes.{changed, standing, with_admitted}
 use Rattle.history_standing.specs.Ends.{let_out}
 use Rattle.history_standing.specs.Keys.{key_in}
 use Rattle.poa_history.specs.Legal.{IsLegal, MayFollow}
-use Rattle.poa_history.specs.Situations.{facts_of, key_or_none}
+use Rattle.history_standing.specs.Situations.{facts_of, key_or_none}
 use Rattle.poa_history.specs.Sound.{IsGiven, IsSound}
 use Rattle.history_standing.specs.Stages.{admitted, arrival_in, is_at, stage}
 use Rattle.history_standing.specs.Standings.{Standing, is_active, is_complete, is_void}

@@ -34,3 +34,6 @@ pub mod Freed
 pub mod Afterwards
 pub mod Over
 pub mod LateCalls
+mod KindStays
+mod Untouched
+pub mod Going

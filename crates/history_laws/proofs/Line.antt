@@ -8,7 +8,7 @@ use Rattle.poa_base.specs.declared.State.{State}
 use Rattle.poa_history.proofs.ActivationsFrom.{Brings, IsStep, Tells, activating, activating_id, activation_from, begun as activation_begun, incarnating, referring, stood as activation_stood}
 use Rattle.poa_history.proofs.ActivationsLater.{step_later}
 use Rattle.poa_history.proofs.AloneKept.{of_servant}
-use Rattle.poa_history.specs.Changes.{servant_of, standing}
+use Rattle.history_standing.specs.Changes.{servant_of, standing}
 use Rattle.poa_history.specs.Sound.{IsSound}
 use Rattle.history_standing.specs.Standings.{Standing}
 use Rattle.poa_history.specs.States.{Stored, is_of_kind, restored, state_of, stored}

@@ -24,7 +24,7 @@ use Rattle.poa_history.proofs.TableRuns.{is_run}
 use Rattle.poa_history.proofs.TurnTells.{run_is}
 use Rattle.poa_history.specs.Alone.{IsGivenAlone}
 use Rattle.poa_history.specs.Bounds.{IsWithinLimits}
-use Rattle.poa_history.specs.Changes.{standing}
+use Rattle.history_standing.specs.Changes.{standing}
 use Rattle.poa_history.specs.InFlight.{Holds, IsManned, IsRunning, named}
 use Rattle.poa_history.specs.Legal.{IsLegal}
 use Rattle.poa_history.specs.Replies.{reply_run}

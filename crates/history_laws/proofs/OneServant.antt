@@ -15,7 +15,7 @@ use Rattle.poa_base.specs.declared.Sid.TheVariants.{Fresh as FreshServant}
 use Rattle.poa_history.proofs.LegalSound.{legal_sound}
 use Rattle.poa_history.specs.Alone.{IsGivenAlone}
 use Rattle.poa_history.specs.Bounds.{IsWithinLimits}
-use Rattle.poa_history.specs.Changes.{standing}
+use Rattle.history_standing.specs.Changes.{standing}
 use Rattle.poa_history.specs.Legal.{IsLegal}
 use Rattle.poa_history.specs.Sound.{IsGiven}
 use Rattle.history_standing.specs.Standings.{Standing}

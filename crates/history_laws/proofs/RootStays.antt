@@ -11,7 +11,7 @@ use Rattle.poa_base.specs.declared.Incarnation.TheVariants.{Double, Forward as F
 use Rattle.poa_base.specs.declared.Order.TheVariants.{Activate as ActivateAll, Deactivate as DeactivateAll, Discard, Hold}
 use Rattle.poa_history.proofs.NodesFrom.{nodes_admitted}
 use Rattle.history_standing.specs.Arrivals.{call_of}
-use Rattle.poa_history.specs.Changes.{changed, child_tried, standing, with_admitted, with_child, with_command, with_etherealized, with_incarnated, with_made_activation, with_manager_off, with_reference, with_tried, without_flight}
+use Rattle.history_standing.specs.Changes.{changed, child_tried, standing, with_admitted, with_child, with_command, with_etherealized, with_incarnated, with_made_activation, with_manager_off, with_reference, with_tried, without_flight}
 use Rattle.history_standing.specs.Commands.{is_implicit, live_at}
 use Rattle.history_standing.specs.Ends.{is_done_with, let_out, settled}
 use Rattle.history_standing.specs.Keys.{key_in}

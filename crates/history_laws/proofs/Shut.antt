@@ -23,14 +23,14 @@ use Rattle.poa_history.proofs.SettledKept.{or_first}
 use Rattle.poa_history.specs.Alone.{IsGivenAlone}
 use Rattle.history_standing.specs.Arrivals.{arrivals, call_of}
 use Rattle.poa_history.specs.Bounds.{IsWithinLimits}
-use Rattle.poa_history.specs.Changes.{standing}
+use Rattle.history_standing.specs.Changes.{standing}
 use Rattle.poa_history.specs.Destroyed.{destroys, was_destroyed}
 use Rattle.history_standing.specs.Ends.{is_over}
 use Rattle.history_standing.specs.Keys.{key_in}
 use Rattle.poa_history.specs.Legal.{IsLegal}
 use Rattle.history_standing.specs.Logs.{command_done}
 use Rattle.poa_history.specs.Replies.{decided}
-use Rattle.poa_history.specs.Situations.{facts_of, key_or_none, walk_fact}
+use Rattle.history_standing.specs.Situations.{facts_of, key_or_none, walk_fact}
 use Rattle.poa_history.specs.Sound.{IsGiven, IsSound}
 use Rattle.history_standing.specs.Standings.{Standing}
 use Rattle.history_standing.specs.declared.activation.Activation.{Activation}

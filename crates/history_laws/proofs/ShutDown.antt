@@ -12,7 +12,7 @@ use Rattle.poa_base.specs.declared.Verdict.TheVariants.{Answer}
 use Rattle.poa_base.specs.declared.Answer.TheVariants.{Good}
 use Rattle.poa_base.specs.declared.Reason.TheVariants.{AdapterNonExistent}
 use Rattle.history_standing.specs.Arrivals.{call_of}
-use Rattle.poa_history.specs.Changes.{standing}
+use Rattle.history_standing.specs.Changes.{standing}
 use Rattle.history_standing.specs.Commands.{command_verdict, good, refusal, with_live}
 use Rattle.poa_history.specs.Destroyed.{destroys, was_destroyed}
 use Rattle.poa_history.specs.Legal.{IsLegal}

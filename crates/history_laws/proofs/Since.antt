@@ -9,7 +9,7 @@ use Rattle.poa_history.proofs.SettledKept.{or_second}
 use Rattle.poa_history.proofs.TurnTells.{admission_is}
 use Rattle.history_standing.specs.Arrivals.{arrivals, call_of}
 use Rattle.poa_history.specs.Bounds.{IsWithinLimits}
-use Rattle.poa_history.specs.Changes.{standing}
+use Rattle.history_standing.specs.Changes.{standing}
 use Rattle.poa_history.specs.Destroyed.{destroys, was_destroyed}
 use Rattle.poa_history.specs.Endings.{is_ended_by, was_ended}
 use Rattle.poa_history.specs.Legal.{IsLegal}

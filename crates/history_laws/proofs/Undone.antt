@@ -18,12 +18,12 @@ use Rattle.poa_history.proofs.MannedKept.{all_manned}
 use Rattle.poa_history.specs.Alone.{IsGivenAlone}
 use Rattle.history_standing.specs.Arrivals.{arrivals, call_of, is_message}
 use Rattle.poa_history.specs.Bounds.{IsWithinLimits}
-use Rattle.poa_history.specs.Changes.{standing}
+use Rattle.history_standing.specs.Changes.{standing}
 use Rattle.history_standing.specs.Ends.{is_over}
 use Rattle.poa_history.specs.InFlight.{Holds, IsFlying, IsManned, IsRunning, named}
 use Rattle.history_standing.specs.Keys.{key_in}
 use Rattle.poa_history.specs.Legal.{IsLegal}
-use Rattle.poa_history.specs.Situations.{facts_of, key_or_none, slot_of}
+use Rattle.history_standing.specs.Situations.{facts_of, key_or_none, slot_of}
 use Rattle.poa_history.specs.Sound.{IsGiven}
 use Rattle.history_standing.specs.Stages.{arrival_in, is_unadmitted, stage}
 use Rattle.history_standing.specs.Standings.{Standing, is_active, is_of, is_running, is_tried}

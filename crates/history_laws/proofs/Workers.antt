@@ -5,7 +5,7 @@ use Rattle.poa_base.specs.declared.Entry.TheVariants.{Abandon, Admit, Arrive, Co
 use Rattle.poa_base.specs.declared.Incarnation.{Incarnation}
 use Rattle.poa_history.proofs.StagesFrom.{maker, stage_other}
 use Rattle.poa_history.proofs.TurnIs.{mapped_by}
-use Rattle.poa_history.specs.Changes.{standing}
+use Rattle.history_standing.specs.Changes.{standing}
 use Rattle.poa_history.specs.Legal.{IsLegal, IsTurn, MayFollow}
 use Rattle.history_standing.specs.Rules.{brought}
 use Rattle.history_standing.specs.Stages.{stage}

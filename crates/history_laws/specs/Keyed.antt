@@ -11,7 +11,7 @@ use Rattle.history_standing.specs.Arrivals.{arrivals, call_of}
 use Rattle.history_standing.specs.Keys.{key_in}
 use Rattle.history_standing.specs.Standings.{Standing}
 use Rattle.history_standing.specs.Templates.{policies_at, retains, uses_servant_manager}
-use Rattle.poa_history.specs.Changes.{standing}
+use Rattle.history_standing.specs.Changes.{standing}
 
 -- the activation stands, with the path and the id of the key
 pub record Reaches (s : Standing) (n : ℕ) (key : Key) : Type 0 where

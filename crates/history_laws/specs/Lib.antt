@@ -3,3 +3,4 @@ pub mod OneLine
 pub mod Lasting
 pub mod Keyed
 pub mod Closing
+pub mod Restarts

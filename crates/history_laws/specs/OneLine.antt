@@ -14,7 +14,7 @@ use Rattle.poa_base.specs.declared.Sid.TheVariants.{Fresh as FreshServant}
 use Rattle.poa_base.specs.declared.State.{State}
 use Rattle.poa_base.specs.declared.Verdict.TheVariants.{Incarnate}
 use Rattle.history_standing.specs.Arrivals.{call_of}
-use Rattle.poa_history.specs.Changes.{standing}
+use Rattle.history_standing.specs.Changes.{standing}
 use Rattle.history_standing.specs.Ends.{is_over}
 use Rattle.history_standing.specs.Keys.{key_in}
 use Rattle.poa_history.specs.Replies.{reply_run}

@@ -10,11 +10,11 @@ use Rattle.poa_base.specs.declared.ManagerState.TheVariants.{Holding}
 use Rattle.poa_choose.specs.Table.{first_row}
 use Rattle.poa_choose.specs.declared.Choice.TheVariants.{Held}
 use Rattle.history_standing.specs.Arrivals.{arrivals, call_of, is_message}
-use Rattle.poa_history.specs.Changes.{standing}
+use Rattle.history_standing.specs.Changes.{standing}
 use Rattle.history_standing.specs.Ends.{is_finished, is_gone, is_over}
 use Rattle.history_standing.specs.Logs.{command_done, manager_state}
 use Rattle.poa_history.specs.Replies.{decided}
-use Rattle.poa_history.specs.Situations.{facts_of}
+use Rattle.history_standing.specs.Situations.{facts_of}
 use Rattle.history_standing.specs.Stages.{is_unadmitted, stage}
 use Rattle.history_standing.specs.Standings.{is_ending}
 use Rattle.history_standing.specs.Templates.{has_activator}

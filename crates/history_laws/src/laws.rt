@@ -15,7 +15,7 @@ ghost use Rattle.history_standing.specs.declared.activation.Activation.{Activati
 ghost use Rattle.poa_history.specs.Alone.{IsGivenAlone};
 ghost use Rattle.poa_history.specs.Bounds.{IsWithinLimits};
 ghost use Rattle.history_standing.specs.Arrivals.{arrivals};
-ghost use Rattle.poa_history.specs.Changes.{standing};
+ghost use Rattle.history_standing.specs.Changes.{standing};
 ghost use Rattle.poa_history.specs.Replies.{decided};
 ghost use Rattle.poa_history.specs.Legal.{IsLegal};
 ghost use Rattle.poa_history.specs.Sound.{IsGiven};

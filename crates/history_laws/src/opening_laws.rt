@@ -13,7 +13,7 @@ ghost use Rattle.history_standing.specs.Paths.{is_root};
 ghost use Rattle.history_standing.specs.Trees.{In};
 ghost use Rattle.poa_history.specs.Alone.{IsGivenAlone, StandsAlone};
 ghost use Rattle.history_standing.specs.Arrivals.{arrivals};
-ghost use Rattle.poa_history.specs.Changes.{standing};
+ghost use Rattle.history_standing.specs.Changes.{standing};
 ghost use Rattle.poa_history.specs.Replies.{decided};
 ghost use Rattle.poa_history.specs.Destroyed.{was_destroyed, IsEnded, IsEmptied};
 ghost use Rattle.history_standing.specs.Ends.{is_gone};

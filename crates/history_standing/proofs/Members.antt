@@ -2,6 +2,7 @@
 use Rattle.std.specs.Prelude.{◌≡◌, Bool, true, false, cond, ◌||◌, List, [], ◌∷◌, ◌++◌, map, filter, ◌⊎◌, refl}
 use Rattle.std.specs.List.{list_any}
 use Rattle.std.proofs.Common.{inl, inr, sym, ap, ◌∙◌}
+use Rattle.std.proofs.lemmas.Bool.{or_cases, true≢false, false_from_ne_true}
 use Rattle.history_standing.specs.Trees.{In}
 
 -- an element of the front is one of the whole, and so is the one behind it
@@ -59,3 +60,17 @@ any_in test x (y ∷ xs) (inr more) passes = either_true (test y) (list_any test
     either_true : (a b : Bool) → b ≡ true → (a || b) ≡ true
     either_true true b is = refl
     either_true false b is = is
+
+-- some element passes
+pub some_in : {A : Type 0} (test : A → Bool) (xs : List A) → list_any test xs ≡ true → (x : A) × In x xs × (test x ≡ true)
+some_in test [] some_ = absurd (let e : false ≡ true = some_ in cc)
+some_in test (x ∷ xs) some_ =
+    elim (or_cases (test x) (list_any test xs) some_)
+    [ inl here ↦ (x, inl refl, here) | inr more ↦ (let found = some_in test xs more in (found.0, inr found.1, found.2)) ]
+
+-- where each element that passes one test passes another, and none passes that
+pub none_in : {A : Type 0} (test other : A → Bool) (xs : List A) → ((x : A) → In x xs → other x ≡ true → test x ≡ true) → list_any test xs ≡ false
+    → list_any other xs ≡ false
+none_in test other xs fewer none =
+    false_from_ne_true (list_any other xs)
+    (λ some_. let found = some_in other xs some_ in true≢false (sym (any_in test found.0 xs found.1 (fewer found.0 found.1 found.2)) ∙ none))

@@ -126,15 +126,21 @@ referred c s n k =
 abbrev pub is_implicit : Config → Standing → Node → ℕ → Bool
 is_implicit c s n k = is_none (referred c s n k) && (retains (policies_at c n.path) && activates_implicitly (policies_at c n.path))
 
+-- the answer with the reference of an id
+abbrev pub ior_row : Config → ℕ → Node → List (List ℕ) → List ℕ → ℕ → Option Verdict
+ior_row c run n p oid k = Some (Answer (GoodIor (reference_text c run n.number p oid k)))
+
+-- one that has no reference gets one under a system-made id, where its adapter activates implicitly
+abbrev pub implicit_row : Config → ℕ → Standing → Node → List (List ℕ) → ℕ → Option Verdict
+implicit_row c run s n p k =
+    if is_implicit c s n k then ior_row c run n p (made_id run (suc s.made)) k else refusal ServantNotActive
+
+-- the reference of a servant that the adapter knows or activates
+abbrev pub servant_row : Config → ℕ → Standing → Node → List (List ℕ) → ℕ → Option Verdict
+servant_row c run s n p k = elim (referred c s n k) [ Some a ↦ ior_row c run n p a.oid k | None ↦ implicit_row c run s n p k ]
+
 abbrev pub reference_row : Config → ℕ → Standing → List (List ℕ) → List ℕ → Option Verdict
-reference_row c run s p servant =
-    with_live s p (λ n. with_servant c servant (λ k.
-    elim (referred c s n k) [
-      | Some a ↦ Some (Answer (GoodIor (reference_text c run n.number p a.oid k)))
-      | None ↦
-          (if is_implicit c s n k then Some (Answer (GoodIor (reference_text c run n.number p (made_id run (suc s.made)) k))) else refusal
-          ServantNotActive)
-    ]))
+reference_row c run s p servant = with_live s p (λ n. with_servant c servant (λ k. servant_row c run s n p k))
 
 abbrev pub preset_row : Config → Standing → List (List ℕ) → List ℕ → Option Verdict
 preset_row c s p servant =

@@ -1,3 +1,4 @@
+pub mod Reference
 pub mod Paths
 pub mod Nodes
 pub mod Walks
@@ -14,3 +15,5 @@ pub mod Opening
 pub mod References
 pub mod Rules
 pub mod Commands
+pub mod Changes
+pub mod Situations

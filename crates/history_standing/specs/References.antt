@@ -3,7 +3,7 @@ use Rattle.std.specs.Prelude.{â„•, List, [], Option, Some, None, slice_get, ifâ—
 use Rattle.poa_base.specs.declared.Config.{Config}
 use Rattle.poa_base.specs.declared.Key.{Key}
 use Rattle.poa_base.specs.declared.Stamp.{Stamp}
-use Rattle.ior_text.specs.Reference.{reference_text as reference_at}
+use Rattle.history_standing.specs.Reference.{reference_text as reference_at}
 use Rattle.servant_kinds.specs.Object.{type_id_of}
 use Rattle.history_standing.specs.Templates.{policies_at, tag_at, lasts}
 

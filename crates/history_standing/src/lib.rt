@@ -6,16 +6,20 @@
 
 mod activation;
 mod flight;
+pub mod flights;
 mod found;
 pub mod laws;
 mod node;
 pub mod nodes;
 pub mod paths;
+mod reference;
 mod stage;
+pub mod templates;
 pub mod walks;
 
 pub use activation::{Activation, Phase};
 pub use flight::Flight;
 pub use found::Found;
 pub use node::Node;
+pub use reference::write_reference;
 pub use stage::Stage;

@@ -20,7 +20,7 @@ use Rattle.history_standing.proofs.Members.{in_back, image_in}
 use Rattle.history_standing.specs.declared.activation.Activation.{Activation}
 use Rattle.history_standing.specs.Arrivals.{call_of}
 use Rattle.poa_history.specs.Bounds.{IsWithinLimits}
-use Rattle.poa_history.specs.Changes.{standing, changed}
+use Rattle.history_standing.specs.Changes.{standing, changed}
 use Rattle.history_standing.specs.Commands.{refusal, live_at, with_servant, is_taken, referred, is_implicit, activate_row, reference_row, command_verdict}
 use Rattle.history_standing.specs.Ends.{let_out}
 use Rattle.poa_history.specs.Legal.{MayFollow, EachEntry, IsLegal}

@@ -22,7 +22,7 @@ use Rattle.history_standing.specs.declared.flight.Flight.{Flight}
 use Rattle.poa_history.specs.Alone.{IsGivenAlone}
 use Rattle.history_standing.specs.Arrivals.{arrivals}
 use Rattle.poa_history.specs.Bounds.{IsWithinLimits}
-use Rattle.poa_history.specs.Changes.{standing, child_tried}
+use Rattle.history_standing.specs.Changes.{standing, child_tried}
 use Rattle.history_standing.specs.Keys.{key_in}
 use Rattle.poa_history.specs.Legal.{MayFollow, IsLegal}
 use Rattle.poa_history.specs.Settling.{before_admit}

@@ -1,16 +1,13 @@
 -- A servant activator is told of a cleanup, and that activations remain, exactly where the entries say so.
-use Rattle.std.specs.Prelude.{◌≡◌, ℕ, ◌<◌, ◌≤◌, Bool, true, false, not, ◌&&◌, ◌||◌, ◌==◌, nat_lt}
-use Rattle.std.specs.Prelude.{if◌then◌else◌, List, [], ◌∷◌, length, Option, Some, None, refl, ◌⊎◌}
+use Rattle.std.specs.Prelude.{◌≡◌, ℕ, ◌<◌, ◌≤◌, Bool, true, false, not, ◌&&◌, ◌||◌, ◌==◌, nat_lt, if◌then◌else◌, List, [], ◌∷◌, length, Option, Some, None, refl, ◌⊎◌}
 use Rattle.std.proofs.Common.{inl, inr, sym, subst, ap, ap₂, ◌∙◌, arith}
 use Rattle.std.proofs.lemmas.Bool.{cases_Bool, and_parts, true≢false, eq-eqb, eqb-true, lt-ltb, ltb-true, false_from_ne_true}
 use Rattle.poa_base.specs.declared.Config.{Config}
 use Rattle.poa_base.specs.declared.Command.{Command}
-use Rattle.poa_base.specs.declared.Command.TheVariants.{Manager, Create, Destroy, Activate, ActivateId, Deactivate, Reference, Preset as PresetLine}
-use Rattle.poa_base.specs.declared.Command.TheVariants.{Forward as ForwardLine, Unforward, Shutdown, Bad}
+use Rattle.poa_base.specs.declared.Command.TheVariants.{Manager, Create, Destroy, Activate, ActivateId, Deactivate, Reference, Preset as PresetLine, Forward as ForwardLine, Unforward, Shutdown, Bad}
 use Rattle.poa_base.specs.declared.Order.TheVariants.{Activate as ActivateAll, Hold, Discard, Deactivate as DeactivateAll}
 use Rattle.poa_base.specs.declared.Entry.{Entry}
-use Rattle.poa_base.specs.declared.Entry.TheVariants.{Entered, Arrive, Filled, Left, Collect, Admit, Tried, Incarnated}
-use Rattle.poa_base.specs.declared.Entry.TheVariants.{Run, Done, TakeOut, Etherealized, Abandon}
+use Rattle.poa_base.specs.declared.Entry.TheVariants.{Entered, Arrive, Filled, Left, Collect, Admit, Tried, Incarnated, Run, Done, TakeOut, Etherealized, Abandon}
 use Rattle.poa_base.specs.declared.Sid.{Sid}
 use Rattle.poa_base.specs.declared.Sid.TheVariants.{Named as NamedServant, Fresh as FreshServant}
 use Rattle.history_standing.specs.declared.activation.Activation.{Activation}
@@ -21,13 +18,13 @@ use Rattle.history_standing.specs.Trees.{In}
 use Rattle.history_standing.proofs.Finding.{find_in}
 use Rattle.poa_history.specs.Alone.{IsGivenAlone}
 use Rattle.poa_history.specs.Bounds.{IsWithinLimits}
-use Rattle.poa_history.specs.Changes.{standing, is_elsewhere}
+use Rattle.history_standing.specs.Changes.{standing, is_elsewhere}
 use Rattle.poa_history.specs.Endings.{ends}
 use Rattle.poa_history.specs.InFlight.{Holds}
 use Rattle.poa_history.specs.Legal.{EachEntry, IsLegal}
 use Rattle.history_standing.specs.Logs.{command_done}
 use Rattle.poa_history.specs.Out.{was_taken}
-use Rattle.poa_history.specs.Situations.{is_changing}
+use Rattle.history_standing.specs.Situations.{is_changing}
 use Rattle.poa_history.specs.Sound.{IsGiven, IsSound}
 use Rattle.history_standing.specs.Stages.{stage}
 use Rattle.history_standing.specs.Standings.{Standing, is_complete, is_ending, is_mapped, is_used, has_servant, same_servant}
@@ -35,7 +32,7 @@ use Rattle.history_standing.specs.Templates.{has_activator}
 use Rattle.poa_history.specs.Turns.{activation_numbered}
 use Rattle.poa_history.proofs.ActivationsFrom.{activation_from, begun as activation_begun, stood as activation_stood}
 use Rattle.poa_history.proofs.EndingsAre.{more_activations}
-use Rattle.poa_history.proofs.GoneIs.{some_in}
+use Rattle.history_standing.proofs.Members.{some_in, any_in}
 use Rattle.poa_history.proofs.LegalSound.{legal_sound}
 use Rattle.poa_history.proofs.MannedKept.{all_manned}
 use Rattle.poa_history.proofs.OutIs.{out_taken}
@@ -45,7 +42,6 @@ use Rattle.poa_history.proofs.TurnTells.{takeout_is, removal_is}
 use Rattle.history_words.specs.Flags.{etherealizes, was_cleaned, IsShared, WasShared, TellsShared, TellsTruly}
 use Rattle.history_words.proofs.FlagsFrom.{bare, flags_from, was, fresh, remains_by}
 use Rattle.history_words.proofs.Opened.{opened_is}
-use Rattle.history_standing.proofs.Members.{any_in}
 use Rattle.history_standing.proofs.Tests.{not_true, not_false}
 
 -- what of an activation a command asks

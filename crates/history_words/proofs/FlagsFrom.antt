@@ -27,8 +27,7 @@ use Rattle.history_standing.specs.Nodes.{stands_under}
 use Rattle.history_standing.specs.Trees.{In}
 use Rattle.history_standing.proofs.Members.{in_either, in_image}
 use Rattle.history_standing.specs.Arrivals.{call_of}
-use Rattle.poa_history.specs.Changes.{standing, changed, with_admitted, ended_by_destroy, with_manager_off, servant_of, with_made_activation}
-use Rattle.poa_history.specs.Changes.{with_reference, with_command, at_number, come_to, with_incarnated, is_elsewhere, with_etherealized}
+use Rattle.history_standing.specs.Changes.{standing, changed, with_admitted, ended_by_destroy, with_manager_off, servant_of, with_made_activation, with_reference, with_command, at_number, come_to, with_incarnated, is_elsewhere, with_etherealized}
 use Rattle.history_standing.specs.Commands.{is_implicit, live_at}
 use Rattle.poa_history.specs.Endings.{ends}
 use Rattle.history_standing.specs.Ends.{is_left, let_out}

@@ -28,7 +28,7 @@ use Rattle.history_standing.proofs.Finding.{find_in}
 use Rattle.history_standing.proofs.Members.{in_image}
 use Rattle.poa_history.specs.Alone.{IsGivenAlone}
 use Rattle.poa_history.specs.Bounds.{IsWithinLimits}
-use Rattle.poa_history.specs.Changes.{standing, changed, servant_of, at_number, come_to, with_incarnated}
+use Rattle.history_standing.specs.Changes.{standing, changed, servant_of, at_number, come_to, with_incarnated}
 use Rattle.history_standing.specs.Ends.{is_left, let_out}
 use Rattle.poa_history.specs.InFlight.{Holds}
 use Rattle.poa_history.specs.Legal.{IsLegal}

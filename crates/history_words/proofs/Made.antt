@@ -24,8 +24,7 @@ use Rattle.history_standing.specs.Trees.{In}
 use Rattle.history_standing.specs.declared.activation.Activation.{Activation}
 use Rattle.history_standing.specs.Arrivals.{call_of}
 use Rattle.poa_history.specs.Bounds.{IsWithinLimits}
-use Rattle.poa_history.specs.Changes.{standing, changed, with_admitted, with_manager_off, servant_of, with_made_activation}
-use Rattle.poa_history.specs.Changes.{with_reference, with_command, child_tried, with_child, without_flight, with_tried}
+use Rattle.history_standing.specs.Changes.{standing, changed, with_admitted, with_manager_off, servant_of, with_made_activation, with_reference, with_command, child_tried, with_child, without_flight, with_tried}
 use Rattle.history_standing.specs.Commands.{is_implicit, live_at}
 use Rattle.history_standing.specs.Ends.{let_out}
 use Rattle.history_standing.specs.Keys.{key_in}

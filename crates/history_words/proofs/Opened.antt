@@ -12,7 +12,7 @@ use Rattle.history_standing.specs.Trees.{In}
 use Rattle.history_standing.proofs.Members.{in_either}
 use Rattle.history_standing.specs.declared.activation.Activation.{Activation}
 use Rattle.history_standing.specs.declared.activation.Phase.TheVariants.{Complete}
-use Rattle.poa_history.specs.Changes.{standing}
+use Rattle.history_standing.specs.Changes.{standing}
 use Rattle.history_standing.specs.Opening.{with_node, with_activation, with_made, made_id, number_at, with_boots, with_object, with_objects, root_alone}
 use Rattle.history_standing.specs.Standings.{Standing}
 use Rattle.poa_history.proofs.Untouched.{activations_in, made_in}

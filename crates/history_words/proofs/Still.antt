@@ -15,7 +15,7 @@ use Rattle.history_standing.specs.declared.stage.Stage.{Stage}
 use Rattle.history_standing.specs.declared.stage.Stage.TheVariants.{Free, Trying, Incarnating, Serving, Ran, Removing}
 use Rattle.history_standing.specs.Logs.{command_done}
 use Rattle.history_standing.specs.Standings.{Standing}
-use Rattle.poa_history.specs.Changes.{with_admitted, without_flight, with_incarnated, with_etherealized}
+use Rattle.history_standing.specs.Changes.{with_admitted, without_flight, with_incarnated, with_etherealized}
 
 -- the adapters, how many were created, and how many ids were made
 abbrev pub kept_in : Standing → List Node × ℕ × ℕ

@@ -11,7 +11,7 @@ use Rattle.poa_base.specs.declared.Attempt.TheVariants.{Yes}
 use Rattle.history_standing.specs.Paths.{is_root}
 use Rattle.history_standing.specs.Walks.{walk, child_met}
 use Rattle.history_standing.specs.Arrivals.{call_of}
-use Rattle.poa_history.specs.Changes.{standing}
+use Rattle.history_standing.specs.Changes.{standing}
 use Rattle.history_standing.specs.Keys.{key_in}
 use Rattle.history_standing.specs.Logs.{command_done}
 use Rattle.poa_history.specs.Settling.{before_admit}

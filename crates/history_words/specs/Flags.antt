@@ -11,7 +11,7 @@ use Rattle.poa_base.specs.declared.Sid.{Sid}
 use Rattle.history_standing.specs.declared.activation.Activation.{Activation}
 use Rattle.history_standing.specs.declared.activation.Phase.TheVariants.{Complete}
 use Rattle.history_standing.specs.declared.stage.Stage.TheVariants.{Removing}
-use Rattle.poa_history.specs.Changes.{standing}
+use Rattle.history_standing.specs.Changes.{standing}
 use Rattle.poa_history.specs.Endings.{is_ended_by}
 use Rattle.history_standing.specs.Logs.{command_done}
 use Rattle.poa_history.specs.Out.{was_taken}

@@ -11,7 +11,7 @@ use Rattle.poa_base.specs.declared.Entry.TheVariants.{Admit}
 use Rattle.poa_base.specs.declared.Verdict.{Verdict}
 use Rattle.poa_base.specs.declared.Verdict.TheVariants.{Answer}
 use Rattle.poa_base.specs.declared.Answer.TheVariants.{GoodId, GoodIor}
-use Rattle.poa_history.specs.Changes.{standing}
+use Rattle.history_standing.specs.Changes.{standing}
 use Rattle.history_standing.specs.Logs.{command_done}
 use Rattle.history_standing.specs.Opening.{made_id}
 use Rattle.history_standing.specs.References.{reference_text}

@@ -6,7 +6,7 @@ ghost use Rattle.history_standing.specs.declared.node.Node.{Node};
 ghost use Rattle.history_standing.specs.Trees.{In};
 ghost use Rattle.poa_history.specs.Alone.{IsGivenAlone};
 ghost use Rattle.poa_history.specs.Bounds.{IsWithinLimits};
-ghost use Rattle.poa_history.specs.Changes.{standing};
+ghost use Rattle.history_standing.specs.Changes.{standing};
 ghost use Rattle.poa_history.specs.Legal.{EachEntry, IsLegal};
 ghost use Rattle.history_standing.specs.Opening.{made_id};
 ghost use Rattle.poa_history.specs.Sound.{IsGiven};

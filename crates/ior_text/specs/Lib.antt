@@ -8,7 +8,6 @@ pub mod Body
 pub mod Parts
 pub mod Key
 pub mod Encapsulation
-pub mod Reference
 pub mod Text
 pub mod Written
 pub mod Seen

@@ -16,7 +16,6 @@ mod lines;
 mod refusal;
 mod report;
 mod rule;
-mod same;
 mod text;
 mod workers;
 

@@ -2,15 +2,15 @@
 ghost use Rattle.std.specs.Prelude.{◌≡◌, ◌↔◌, ◌<◌, IfOk, IsTrue, true, None, Some};
 ghost use Rattle.poa_base.specs.declared.Entry.TheVariants.{Abandon};
 ghost use Rattle.core_arrivals.specs.Begun.{worker_of as maker_of};
-ghost use Rattle.core_state.specs.State.{is_turn};
+ghost use Rattle.poa_history.specs.Entries.{is_turn};
 ghost use Rattle.journal_audit.specs.Judging.{Judges};
 ghost use Rattle.journal_audit.specs.Rules.{is_at_work as is_at_work_of};
 
 use crate::breach::Breach;
 use crate::rule::Rule;
-use crate::same::same_step;
 use core_run::Run;
 use poa_base::{Entry, WantMemory};
+use poa_history::same::same_step;
 
 /// How many workers a run has.
 const WORKERS: u32 = 16;

@@ -5,9 +5,9 @@ use Rattle.poa_base.specs.declared.Call.{Call}
 use Rattle.poa_base.specs.declared.Config.{Config}
 use Rattle.poa_base.specs.declared.Entry.{Entry}
 use Rattle.history_standing.specs.Arrivals.{call_of, is_message}
-use Rattle.held_queue.specs.Waiting.{is_waiting}
+use Rattle.poa_history.specs.Waiting.{is_waiting}
 use Rattle.poa_choose.specs.declared.Facts.{Facts}
-use Rattle.poa_history.specs.Situations.{facts_of}
+use Rattle.history_standing.specs.Situations.{facts_of}
 use Rattle.core_turns.specs.Looks.{looked}
 use Rattle.core_turns.specs.declared.Look.{Look}
 use Rattle.journal_explain.specs.declared.wait.Wait.{Wait}

@@ -5,8 +5,8 @@ use Rattle.poa_base.specs.declared.Entry.{Entry}
 use Rattle.poa_base.specs.declared.Entry.TheVariants.{Arrive, Collect, Admit, Tried, Incarnated, Run, Done}
 use Rattle.history_standing.specs.Arrivals.{arrivals, call_of, is_message}
 use Rattle.history_standing.specs.Stages.{arrival_in, brings, is_at, stage}
-use Rattle.poa_history.specs.Situations.{facts_of}
-use Rattle.held_queue.specs.Waiting.{is_waiting}
+use Rattle.history_standing.specs.Situations.{facts_of}
+use Rattle.poa_history.specs.Waiting.{is_waiting}
 use Rattle.core_turns.specs.Looks.{looked}
 use Rattle.core_turns.specs.declared.Look.{Look}
 use Rattle.core_turns.specs.declared.Look.TheVariants as looks

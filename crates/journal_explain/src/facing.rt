@@ -1,17 +1,17 @@
 //! What stands about a call in a run: the facts that the table of verdicts asks, and what the call waits for.
 ghost use Rattle.std.specs.Prelude.{◌≡◌, if◌then◌else◌, IfOk, Some, None};
 ghost use Rattle.history_standing.specs.Arrivals.{call_of, is_message as is_message_of};
-ghost use Rattle.poa_history.specs.Situations as situations;
+ghost use Rattle.history_standing.specs.Situations as situations;
 ghost use Rattle.journal_explain.specs.Stories as stories;
 
 use crate::wait::Wait;
 use core_arrivals::calls::call;
 use core_arrivals::queue::{is_crowded, waits};
 use core_run::Run;
-use core_standing::calls::is_message;
 use core_turns::{Look, facts_of, look_at};
 use poa_base::WantMemory;
 use poa_choose::Facts;
+use poa_history::calls::is_message;
 use std::alloc::Global;
 
 /// The facts that stand about a request or a locate; none of a line, and of what hasn't arrived.

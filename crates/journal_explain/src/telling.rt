@@ -8,8 +8,8 @@ use crate::event::Event;
 use crate::facing::facts;
 use crate::row::Row;
 use core_run::Run;
-use core_standing::workers::{arrival_in, brings, is_at};
 use poa_base::{Entry, WantMemory};
+use poa_history::workers::{arrival_in, brings, is_at};
 use std::alloc::Global;
 
 /// How many workers a run has.

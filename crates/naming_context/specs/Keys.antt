@@ -7,7 +7,7 @@ use Rattle.poa_base.specs.declared.Endpoint.{Endpoint}
 use Rattle.poa_base.specs.declared.Ior.{Ior}
 use Rattle.poa_base.specs.declared.Key.{Key}
 use Rattle.object_key.specs.Spelling.{key_spelling, IsKey}
-use Rattle.ior_text.specs.Reference.{reference_of}
+use Rattle.history_standing.specs.Reference.{reference_of}
 use Rattle.naming_context.specs.declared.reached.Reached.{Reached}
 use Rattle.naming_context.specs.declared.reached.Reached.TheVariants.{Context, NoContext, NoKey}
 use Rattle.naming_context.specs.Outcomes.{context_type}

@@ -5,7 +5,7 @@ ghost use Rattle.poa_policy.specs.Kept.{KeepsRules};
 ghost use Rattle.history_laws.specs.Lasting.{KeepsUpdates, LeavesNothing};
 ghost use Rattle.poa_history.specs.Runs.{IsRun};
 ghost use Rattle.history_standing.specs.Arrivals.{connections};
-ghost use Rattle.poa_history.specs.Changes.{standing};
+ghost use Rattle.history_standing.specs.Changes.{standing};
 ghost use Rattle.poa_history.specs.Legal.{IsLegal, IsOpen, IsSize};
 ghost use Rattle.poa_history.specs.Lifetime.{HasLifetime};
 ghost use Rattle.history_standing.specs.Nodes.{node_at};

@@ -31,7 +31,7 @@ use Rattle.history_standing.specs.Keys.{key_in}
 use Rattle.history_standing.specs.Logs.{command_done}
 use Rattle.history_standing.specs.Opening.{with_activation, made_id, number_at, with_made}
 use Rattle.history_standing.specs.Commands.{is_implicit, live_at}
-use Rattle.poa_history.specs.Changes.{standing, changed, with_activations, with_request, with_admitted, ended_by_destroy, with_destroyed, with_manager_off, servant_of, with_made_activation, with_reference, with_command, child_tried, with_child, without_flight, with_tried, at_number, come_to, with_incarnated, is_elsewhere, with_etherealized}
+use Rattle.history_standing.specs.Changes.{standing, changed, with_activations, with_request, with_admitted, ended_by_destroy, with_destroyed, with_manager_off, servant_of, with_made_activation, with_reference, with_command, child_tried, with_child, without_flight, with_tried, at_number, come_to, with_incarnated, is_elsewhere, with_etherealized}
 use Rattle.poa_history.specs.Later.{IsLater, AllLater}
 use Rattle.history_standing.proofs.Members.{in_front, image_in}
 use Rattle.poa_history.proofs.SettledKept.{or_first, or_second}

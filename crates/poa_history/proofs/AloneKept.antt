@@ -37,9 +37,9 @@ use Rattle.history_standing.specs.Ends.{is_finished}
 use Rattle.history_standing.specs.Keys.{key_in}
 use Rattle.history_standing.specs.Logs.{command_done}
 use Rattle.history_standing.specs.Opening.{number_at, with_node, with_activation, with_made, made_id, with_boots, with_object, with_objects, root_alone}
-use Rattle.poa_history.specs.Changes.{standing, servant_of}
+use Rattle.history_standing.specs.Changes.{standing, servant_of}
 use Rattle.history_standing.specs.Rules.{rule_for, named_or_double, brought_by, brought, not_active}
-use Rattle.poa_history.specs.Situations.{is_unfinished, is_changing}
+use Rattle.history_standing.specs.Situations.{is_unfinished, is_changing}
 use Rattle.poa_history.specs.Legal.{MayFollow, IsLegal}
 use Rattle.poa_history.specs.Sound.{IsGiven, IsHome, IsSound}
 use Rattle.poa_history.specs.Bounds.{IsWithinLimits}

@@ -28,7 +28,7 @@ use Rattle.history_standing.specs.Arrivals.{call_of}
 use Rattle.history_standing.specs.Stages.{stage, arrival_in}
 use Rattle.history_standing.specs.Keys.{key_in}
 use Rattle.history_standing.specs.Logs.{is_accepted, command_in, command_done}
-use Rattle.poa_history.specs.Changes.{without_flight, child_tried, with_child, with_tried, at_number, come_to, with_incarnated, is_elsewhere, with_takeout, with_etherealized, changed, with_flight, with_activations, with_request, with_incarnation, with_admitted, ended_by_destroy, with_destroyed, with_manager_off, with_deactivated, servant_of, with_made_activation, with_reference, with_command}
+use Rattle.history_standing.specs.Changes.{without_flight, child_tried, with_child, with_tried, at_number, come_to, with_incarnated, is_elsewhere, with_takeout, with_etherealized, changed, with_flight, with_activations, with_request, with_incarnation, with_admitted, ended_by_destroy, with_destroyed, with_manager_off, with_deactivated, servant_of, with_made_activation, with_reference, with_command}
 use Rattle.history_standing.specs.Trees.{MayCreate}
 use Rattle.poa_history.specs.Sound.{IsSound}
 use Rattle.poa_history.proofs.SoundKept.{IsUntried, MayFly, MayLive, Follows, fewer_flights_sound, with_node_sound, with_dying_sound, with_flight_sound, with_activation_sound, with_activations_sound}

@@ -34,8 +34,8 @@ use Rattle.history_standing.specs.Keys.{key_of, key_in}
 use Rattle.history_standing.specs.Opening.{made_id}
 use Rattle.history_standing.specs.References.{reference_text}
 use Rattle.history_standing.specs.Commands.{refusal, good, good_or_wait, live_at, with_live, with_servant, is_taken, is_bad_id, waits, is_inactive, manager_row, create_row, activate_row, activate_id_row, deactivate_row, referred, is_implicit, reference_row, preset_row, command_verdict}
-use Rattle.poa_history.specs.Changes.{standing}
-use Rattle.poa_history.specs.Situations.{key_fact, facts_of}
+use Rattle.history_standing.specs.Changes.{standing}
+use Rattle.history_standing.specs.Situations.{key_fact, facts_of}
 use Rattle.poa_history.specs.Verdicts.{verdict_on}
 use Rattle.poa_history.proofs.StepMoves.{chosen_go}
 

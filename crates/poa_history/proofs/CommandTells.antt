@@ -25,15 +25,14 @@ use Rattle.history_standing.specs.Ends.{is_over}
 use Rattle.history_standing.specs.Logs.{is_accepted, command_in, command_done}
 use Rattle.history_standing.specs.Opening.{made_id}
 use Rattle.history_standing.specs.Commands.{refusal, live_at, with_servant, is_taken, is_bad_id, activate_row, activate_id_row, command_verdict, referred, is_implicit}
-use Rattle.poa_history.specs.Changes.{standing}
+use Rattle.history_standing.specs.Changes.{standing}
 use Rattle.poa_history.specs.Verdicts.{verdict_on}
 use Rattle.poa_history.specs.Legal.{MayFollow}
 use Rattle.history_standing.specs.Trees.{In}
 use Rattle.history_standing.proofs.Finding.{find_none}
 use Rattle.poa_history.proofs.CommandMoves.{refused, held, lived, known}
-use Rattle.poa_history.proofs.GoneIs.{some_in}
+use Rattle.history_standing.proofs.Members.{some_in, any_in}
 use Rattle.poa_history.proofs.StepMoves.{admitted_for}
-use Rattle.history_standing.proofs.Members.{any_in}
 
 -- the servant isn't in the map of the adapter at the path, where a servant is to be there once
 pub record IsUntaken (c : Config) (s : Standing) (p : List (List ℕ)) (servant : List ℕ) : Type 0 where

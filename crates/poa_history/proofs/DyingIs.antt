@@ -13,7 +13,7 @@ use Rattle.history_standing.specs.Paths.{is_root}
 use Rattle.history_standing.specs.Trees.{In}
 use Rattle.history_standing.specs.Standings.{Standing}
 use Rattle.history_standing.specs.Opening.{with_node, with_activation, with_made, made_id, number_at, with_boots, with_object, with_objects, root_alone}
-use Rattle.poa_history.specs.Changes.{standing}
+use Rattle.history_standing.specs.Changes.{standing}
 use Rattle.history_standing.specs.Logs.{command_done}
 use Rattle.poa_history.specs.Legal.{IsLegal}
 use Rattle.poa_history.specs.Sound.{IsGiven}

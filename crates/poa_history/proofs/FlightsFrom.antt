@@ -27,7 +27,7 @@ use Rattle.history_standing.specs.Trees.{In}
 use Rattle.history_standing.specs.Keys.{key_in}
 use Rattle.history_standing.specs.Logs.{command_done}
 use Rattle.history_standing.specs.Commands.{is_implicit, live_at}
-use Rattle.poa_history.specs.Changes.{changed, with_admitted, with_made_activation, with_manager_off, with_command, child_tried, without_flight, with_tried, with_incarnated, with_etherealized}
+use Rattle.history_standing.specs.Changes.{changed, with_admitted, with_made_activation, with_manager_off, with_command, child_tried, without_flight, with_tried, with_incarnated, with_etherealized}
 use Rattle.history_standing.proofs.Members.{in_either, in_kept}
 use Rattle.poa_history.proofs.Untouched.{flights_in, flights_child}
 

@@ -13,12 +13,12 @@ use Rattle.history_standing.specs.Nodes.{stands_under}
 use Rattle.history_standing.specs.Trees.{In}
 use Rattle.history_standing.specs.Standings.{Standing}
 use Rattle.history_standing.specs.Ends.{is_over, is_clear, is_done_with, let_out, settled, is_gone}
-use Rattle.poa_history.specs.Changes.{standing, changed}
+use Rattle.history_standing.specs.Changes.{standing, changed}
 use Rattle.poa_history.specs.Legal.{IsLegal}
 use Rattle.poa_history.specs.Sound.{IsGiven, IsSound}
 use Rattle.poa_history.specs.Bounds.{IsWithinLimits}
 use Rattle.poa_history.specs.Destroyed.{IsChildOf, IsEnded, IsEmptied}
-use Rattle.history_standing.proofs.Members.{in_kept, kept_in, any_in}
+use Rattle.history_standing.proofs.Members.{in_kept, kept_in, any_in, some_in, none_in}
 use Rattle.history_standing.proofs.Finding.{find_in, find_none}
 use Rattle.history_standing.proofs.Leading.{bytes_same, leads_on}
 use Rattle.poa_history.proofs.SettledKept.{is_under_itself, clear_longer, stays, flight_stays, activation_stays, let_out_sound}
@@ -29,20 +29,6 @@ use Rattle.poa_history.proofs.LegalSound.{legal_sound}
 use Rattle.poa_history.proofs.DyingIs.{opening_live}
 use Rattle.history_standing.proofs.Tests.{not_true, not_false}
 use Rattle.history_standing.proofs.Clear.{clear_idle, clear_over, clear_parts}
-
--- some element passes
-pub some_in : {A : Type 0} (test : A → Bool) (xs : List A) → list_any test xs ≡ true → (x : A) × In x xs × (test x ≡ true)
-some_in test [] some_ = absurd (let e : false ≡ true = some_ in cc)
-some_in test (x ∷ xs) some_ =
-    elim (or_cases (test x) (list_any test xs) some_)
-    [ inl here ↦ (x, inl refl, here) | inr more ↦ (let found = some_in test xs more in (found.0, inr found.1, found.2)) ]
-
--- where each element that passes one test passes another, and none passes that
-pub none_in : {A : Type 0} (test other : A → Bool) (xs : List A) → ((x : A) → In x xs → other x ≡ true → test x ≡ true) → list_any test xs ≡ false
-    → list_any other xs ≡ false
-none_in test other xs fewer none =
-    false_from_ne_true (list_any other xs)
-    (λ some_. let found = some_in other xs some_ in true≢false (sym (any_in test found.0 xs found.1 (fewer found.0 found.1 found.2)) ∙ none))
 
 -- a path that leads to another is its front
 leads_split : (p q : List (List ℕ)) → leads_to p q ≡ true → (more : List (List ℕ)) × (q ≡ p ++ more)

@@ -32,8 +32,8 @@ use Rattle.history_standing.specs.Ends.{is_finished, is_over, is_done_with, is_g
 use Rattle.history_standing.specs.Keys.{key_in}
 use Rattle.history_standing.specs.Logs.{command_done}
 use Rattle.history_standing.specs.Commands.{live_at}
-use Rattle.poa_history.specs.Changes.{standing}
-use Rattle.poa_history.specs.Situations.{walk_fact, key_or_none, facts_of}
+use Rattle.history_standing.specs.Changes.{standing}
+use Rattle.history_standing.specs.Situations.{walk_fact, key_or_none, facts_of}
 use Rattle.poa_history.specs.Verdicts.{verdict_on}
 use Rattle.poa_history.specs.Legal.{MayFollow, IsLegal}
 use Rattle.poa_history.specs.Sound.{IsGiven, IsSound}
@@ -52,7 +52,8 @@ use Rattle.poa_history.proofs.ActivationsFrom.{incarnating, activating, activati
 use Rattle.poa_history.proofs.CommandTells.{untaken_activate, untaken_activate_id}
 use Rattle.poa_history.proofs.CommandAnswers.{is_begin, by_choice, refused_none}
 use Rattle.poa_history.proofs.StagesFrom.{flight_says}
-use Rattle.poa_history.proofs.GoneIs.{ends_where, stands_ungone, emptied_where, some_in}
+use Rattle.poa_history.proofs.GoneIs.{ends_where, stands_ungone, emptied_where}
+use Rattle.history_standing.proofs.Members.{some_in}
 use Rattle.poa_history.proofs.LegalSound.{legal_sound}
 
 -- what is over stays so

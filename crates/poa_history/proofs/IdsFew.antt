@@ -35,7 +35,7 @@ use Rattle.history_standing.specs.Keys.{key_in}
 use Rattle.history_standing.specs.Logs.{is_accepted, command_in, command_done}
 use Rattle.history_standing.specs.Opening.{with_node, with_activation, with_made, made_id, number_at, with_boots, with_object, with_objects, root_alone, opening}
 use Rattle.history_standing.specs.Commands.{is_implicit, live_at}
-use Rattle.poa_history.specs.Changes.{standing, changed, with_admitted, with_made_activation, with_manager_off, with_reference, with_command, child_tried, with_child, without_flight, with_tried, with_incarnated, with_etherealized}
+use Rattle.history_standing.specs.Changes.{standing, changed, with_admitted, with_made_activation, with_manager_off, with_reference, with_command, child_tried, with_child, without_flight, with_tried, with_incarnated, with_etherealized}
 use Rattle.poa_history.specs.Turns.{flight_of, node_of, attempt_at, attempt}
 use Rattle.poa_history.specs.Legal.{MayFollow, IsLegal, MayArrive, is_shutdown, had_shutdown}
 use Rattle.poa_history.specs.Bounds.{IsWithinLimits, HasFewIds}

@@ -31,3 +31,4 @@ pub mod GoneStays
 pub mod EndingsAre
 pub mod OutIs
 pub mod Owned
+pub mod Numbers

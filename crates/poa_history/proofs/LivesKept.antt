@@ -35,8 +35,8 @@ use Rattle.history_standing.specs.Ends.{is_over, let_out}
 use Rattle.history_standing.specs.Keys.{key_in}
 use Rattle.history_standing.specs.Logs.{is_accepted, command_in, command_done}
 use Rattle.history_standing.specs.Commands.{is_implicit, live_at}
-use Rattle.poa_history.specs.Changes.{standing, changed, with_admitted, with_made_activation, with_manager_off, with_reference, with_command, without_flight, with_tried, with_incarnated, with_etherealized}
-use Rattle.poa_history.specs.Situations.{is_changing}
+use Rattle.history_standing.specs.Changes.{standing, changed, with_admitted, with_made_activation, with_manager_off, with_reference, with_command, without_flight, with_tried, with_incarnated, with_etherealized}
+use Rattle.history_standing.specs.Situations.{is_changing}
 use Rattle.poa_history.specs.Turns.{activation_numbered}
 use Rattle.poa_history.specs.Legal.{MayFollow, IsLegal}
 use Rattle.history_standing.specs.Opening.{opening}

@@ -27,21 +27,20 @@ use Rattle.history_standing.specs.Trees.{In}
 use Rattle.history_standing.specs.Ends.{is_left, let_out}
 use Rattle.history_standing.specs.Keys.{key_in}
 use Rattle.history_standing.specs.Logs.{is_accepted, command_in}
-use Rattle.poa_history.specs.Situations.{is_changing}
-use Rattle.poa_history.specs.Changes.{standing, changed, with_command, with_admitted, at_number, come_to, with_incarnated, is_elsewhere}
+use Rattle.history_standing.specs.Situations.{is_changing}
+use Rattle.history_standing.specs.Changes.{standing, changed, with_command, with_admitted, at_number, come_to, with_incarnated, is_elsewhere}
 use Rattle.poa_history.specs.Legal.{MayFollow, IsLegal}
 use Rattle.poa_history.specs.Sound.{IsGiven, IsSound}
 use Rattle.poa_history.specs.Bounds.{IsWithinLimits}
 use Rattle.poa_history.specs.Alone.{IsGivenAlone}
 use Rattle.poa_history.specs.Later.{IsLater}
 use Rattle.poa_history.specs.InFlight.{named, IsFlying, IsRunning, Holds, IsManned}
-use Rattle.history_standing.proofs.Members.{in_back, image_in, any_in}
+use Rattle.history_standing.proofs.Members.{in_back, image_in, any_in, some_in}
 use Rattle.poa_history.proofs.ActivationsLater.{step_later, later_let_out}
 use Rattle.poa_history.proofs.TurnTells.{IsIncarnation, admission_is, incarnation_is, run_is, takeout_is}
 use Rattle.poa_history.proofs.Served.{served_by, active, preset, located, incarnated as begun_served}
 use Rattle.poa_history.proofs.FlightsFrom.{flight_for, flew, begins, flight_from}
 use Rattle.poa_history.proofs.ActivationsFrom.{phase_by, TakesOut, stood as activation_stood, begun as activation_begun, activation_from}
-use Rattle.poa_history.proofs.GoneIs.{some_in}
 use Rattle.poa_history.proofs.IdsFew.{messages}
 use Rattle.poa_history.proofs.AloneKept.{brought_named, all_open}
 use Rattle.poa_history.proofs.CommandAnswers.{is_begin, begin_keyed}

@@ -29,7 +29,7 @@ use Rattle.history_standing.specs.Ends.{is_done_with, let_out}
 use Rattle.history_standing.specs.Keys.{key_in}
 use Rattle.history_standing.specs.Logs.{command_done}
 use Rattle.history_standing.specs.Commands.{is_implicit, live_at}
-use Rattle.poa_history.specs.Changes.{standing, changed, with_admitted, with_made_activation, with_manager_off, with_reference, with_command, child_tried, with_child, without_flight, with_tried, with_incarnated, with_etherealized}
+use Rattle.history_standing.specs.Changes.{standing, changed, with_admitted, with_made_activation, with_manager_off, with_reference, with_command, child_tried, with_child, without_flight, with_tried, with_incarnated, with_etherealized}
 use Rattle.poa_history.specs.Destroyed.{destroys}
 use Rattle.history_standing.proofs.Members.{in_either, in_image, in_kept}
 use Rattle.history_standing.proofs.TreeKept.{marked_number, marked_path}

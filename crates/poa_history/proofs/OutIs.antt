@@ -13,8 +13,8 @@ use Rattle.history_standing.specs.Trees.{In}
 use Rattle.history_standing.specs.Templates.{has_activator}
 use Rattle.history_standing.specs.Standings.{is_complete, is_ending, is_void, is_used}
 use Rattle.history_standing.specs.Ends.{is_left, let_out}
-use Rattle.poa_history.specs.Changes.{standing, changed, at_number, is_elsewhere}
-use Rattle.poa_history.specs.Situations.{is_changing}
+use Rattle.history_standing.specs.Changes.{standing, changed, at_number, is_elsewhere}
+use Rattle.history_standing.specs.Situations.{is_changing}
 use Rattle.poa_history.specs.Legal.{MayFollow, IsLegal}
 use Rattle.poa_history.specs.Sound.{IsGiven}
 use Rattle.poa_history.specs.Bounds.{IsWithinLimits}

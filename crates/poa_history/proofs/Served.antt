@@ -27,8 +27,8 @@ use Rattle.history_standing.specs.declared.found.Found.TheVariants.{Live, Dying,
 use Rattle.history_standing.specs.Walks.{walk, adapter_met}
 use Rattle.history_standing.specs.Trees.{In}
 use Rattle.history_standing.specs.Keys.{key_in}
-use Rattle.poa_history.specs.Changes.{standing}
-use Rattle.poa_history.specs.Situations.{walk_fact, slot_of, is_changing, key_fact, key_or_none, is_crowded, facts_met, facts_of}
+use Rattle.history_standing.specs.Changes.{standing}
+use Rattle.history_standing.specs.Situations.{walk_fact, slot_of, is_changing, key_fact, key_or_none, is_crowded, facts_met, facts_of}
 use Rattle.poa_history.specs.Verdicts.{verdict_on}
 use Rattle.poa_history.specs.Sound.{IsSound}
 use Rattle.history_standing.proofs.Finding.{find_in}

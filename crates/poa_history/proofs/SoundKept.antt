@@ -12,7 +12,7 @@ use Rattle.history_standing.specs.Standings.{Standing}
 use Rattle.history_standing.specs.Ends.{is_over}
 use Rattle.history_standing.specs.Commands.{is_bad_id}
 use Rattle.history_standing.specs.Opening.{with_node, with_activation}
-use Rattle.poa_history.specs.Changes.{with_flight, with_activations, with_dying}
+use Rattle.history_standing.specs.Changes.{with_flight, with_activations, with_dying}
 use Rattle.history_standing.specs.Nodes.{marked, created}
 use Rattle.history_standing.specs.Trees.{In, Stands, IsMissingChild, MayCreate}
 use Rattle.poa_history.specs.Sound.{IsHome, IsSound}

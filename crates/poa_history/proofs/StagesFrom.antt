@@ -22,7 +22,7 @@ use Rattle.history_standing.specs.Walks.{walk, adapter_met, child_met}
 use Rattle.history_standing.specs.Trees.{In}
 use Rattle.history_standing.specs.Keys.{key_in}
 use Rattle.history_standing.specs.Logs.{command_done}
-use Rattle.poa_history.specs.Changes.{standing, changed, with_admitted, without_flight, child_tried, with_tried, at_number, come_to, with_incarnated, with_etherealized}
+use Rattle.history_standing.specs.Changes.{standing, changed, with_admitted, without_flight, child_tried, with_tried, at_number, come_to, with_incarnated, with_etherealized}
 use Rattle.poa_history.specs.Legal.{MayFollow}
 use Rattle.poa_history.specs.InFlight.{Holds}
 use Rattle.history_standing.proofs.Members.{in_front, in_back, in_kept, kept_in}

@@ -27,8 +27,8 @@ use Rattle.history_standing.specs.Walks.{walk}
 use Rattle.history_standing.specs.Keys.{key_in}
 use Rattle.history_standing.specs.Logs.{is_accepted, command_in, command_done}
 use Rattle.history_standing.specs.Commands.{live_at, is_implicit, command_verdict, referred}
-use Rattle.poa_history.specs.Changes.{changed, standing, child_tried}
-use Rattle.poa_history.specs.Situations.{key_fact, key_or_none, is_crowded, facts_met, facts_of}
+use Rattle.history_standing.specs.Changes.{changed, standing, child_tried}
+use Rattle.history_standing.specs.Situations.{key_fact, key_or_none, is_crowded, facts_met, facts_of}
 use Rattle.poa_history.specs.Verdicts.{chosen, verdict_on, verdict}
 use Rattle.history_standing.specs.Rules.{brought}
 use Rattle.poa_history.specs.Turns.{attempt, going_on, activation_numbered}

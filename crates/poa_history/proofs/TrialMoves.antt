@@ -7,7 +7,7 @@ use Rattle.poa_base.specs.declared.Attempt.TheVariants.{Yes, No, Dying}
 use Rattle.history_standing.specs.declared.node.Node.{Node}
 use Rattle.history_standing.specs.declared.flight.Flight.{Flight}
 use Rattle.history_standing.specs.Standings.{Standing}
-use Rattle.poa_history.specs.Changes.{child_tried}
+use Rattle.history_standing.specs.Changes.{child_tried}
 use Rattle.history_standing.specs.Templates.{template_or_root}
 use Rattle.poa_history.specs.Turns.{node_of, attempt_by, attempt_at, attempt}
 use Rattle.history_standing.specs.Trees.{IsMissingChild, MayCreate}

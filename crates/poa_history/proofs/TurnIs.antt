@@ -12,7 +12,7 @@ use Rattle.history_standing.specs.declared.stage.Stage.TheVariants.{Free, Trying
 use Rattle.history_standing.specs.Searches.{first_given}
 use Rattle.history_standing.specs.Arrivals.{arrivals}
 use Rattle.history_standing.specs.Stages.{stage, is_unadmitted}
-use Rattle.poa_history.specs.Changes.{standing}
+use Rattle.history_standing.specs.Changes.{standing}
 use Rattle.poa_history.specs.Verdicts.{verdict}
 use Rattle.poa_history.specs.Turns.{going_on, is_due, removal, admission_of, admission, next_of, turn}
 use Rattle.history_standing.specs.Trees.{In}

@@ -13,7 +13,7 @@ use Rattle.history_standing.specs.declared.stage.Stage.TheVariants.{Free, Trying
 use Rattle.history_standing.specs.Arrivals.{arrivals, call_of}
 use Rattle.history_standing.specs.Stages.{stage, is_unadmitted}
 use Rattle.history_standing.specs.Standings.{Standing}
-use Rattle.poa_history.specs.Changes.{standing}
+use Rattle.history_standing.specs.Changes.{standing}
 use Rattle.history_standing.specs.Rules.{brought}
 use Rattle.poa_history.specs.Verdicts.{verdict, verdict_on}
 use Rattle.poa_history.specs.Turns.{attempt, going_on, activation_numbered, is_due}

@@ -7,7 +7,7 @@ use Rattle.history_standing.specs.declared.node.Node.{Node}
 use Rattle.history_standing.specs.declared.flight.Flight.{Flight}
 use Rattle.history_standing.specs.declared.activation.Activation.{Activation}
 use Rattle.history_standing.specs.Standings.{Standing}
-use Rattle.poa_history.specs.Changes.{child_tried, with_child, without_flight, with_tried}
+use Rattle.history_standing.specs.Changes.{child_tried, with_child, without_flight, with_tried}
 
 abbrev pub nodes_in : Standing → List Node
 nodes_in s = s.nodes

@@ -26,7 +26,7 @@ use Rattle.history_standing.specs.Ends.{is_over}
 use Rattle.history_standing.specs.declared.found.Found.{Found}
 use Rattle.history_standing.specs.declared.found.Found.TheVariants.{Live, Dying, Missing}
 use Rattle.history_standing.specs.Walks.{walk, adapter_met, child_met}
-use Rattle.poa_history.specs.Situations.{walk_fact, slot_of, key_fact, facts_met}
+use Rattle.history_standing.specs.Situations.{walk_fact, slot_of, key_fact, facts_met}
 use Rattle.history_standing.specs.Trees.{In, IsFreePath}
 use Rattle.poa_history.specs.Sound.{IsSound}
 use Rattle.history_standing.proofs.Finding.{find_none, same_path_self}

@@ -12,7 +12,7 @@ use Rattle.history_standing.specs.Trees.{In}
 use Rattle.history_standing.specs.Templates.{policies_at, is_unique, servant_number, servant_name}
 use Rattle.history_standing.specs.Standings.{Standing, is_mapped}
 use Rattle.history_standing.specs.Opening.{opening}
-use Rattle.poa_history.specs.Situations.{is_unfinished}
+use Rattle.history_standing.specs.Situations.{is_unfinished}
 
 -- under SINGLE_THREAD_MODEL at most one request is in flight in an adapter (CORBA 3.3 Part 1, section 15.3.8: the thread policy)
 abbrev pub RunsAlone : Config → Standing → Type 0

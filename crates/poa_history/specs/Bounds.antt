@@ -4,7 +4,7 @@ use Rattle.poa_base.specs.declared.limits.TheConstants.{CALLS, OBJECTS}
 use Rattle.poa_base.specs.declared.Config.{Config}
 use Rattle.poa_base.specs.declared.Entry.{Entry}
 use Rattle.history_standing.specs.Arrivals.{arrivals}
-use Rattle.poa_history.specs.Changes.{standing}
+use Rattle.history_standing.specs.Changes.{standing}
 
 -- the limits on objects and on arrivals that bear on how many ids are made
 pub record IsWithinLimits (c : Config) (limit : ℕ) : Type 0 where

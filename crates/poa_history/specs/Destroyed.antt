@@ -12,7 +12,7 @@ use Rattle.history_standing.specs.Trees.{In}
 use Rattle.history_standing.specs.Standings.{Standing, has_flights}
 use Rattle.history_standing.specs.Ends.{is_over, is_gone}
 use Rattle.history_standing.specs.Logs.{command_done}
-use Rattle.poa_history.specs.Changes.{standing}
+use Rattle.history_standing.specs.Changes.{standing}
 
 -- the command destroys the adapter of the path, or one above it
 abbrev pub destroys : List (List ℕ) → Option Command → Bool

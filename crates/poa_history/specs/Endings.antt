@@ -11,7 +11,7 @@ use Rattle.history_standing.specs.Templates.{has_activator, manager_at, manager_
 use Rattle.history_standing.specs.Standings.{Standing, is_of}
 use Rattle.history_standing.specs.Logs.{command_done}
 use Rattle.history_standing.specs.Opening.{number_at}
-use Rattle.poa_history.specs.Changes.{standing}
+use Rattle.history_standing.specs.Changes.{standing}
 
 -- the command deactivates the activation's id, destroys its adapter or one above it, or deactivates the manager of
 -- its adapter, which has a servant activator, so that it etherealizes

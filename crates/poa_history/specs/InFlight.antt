@@ -15,7 +15,7 @@ use Rattle.history_standing.specs.declared.stage.Stage.TheVariants.{Free, Trying
 use Rattle.history_standing.specs.Trees.{In}
 use Rattle.history_standing.specs.Stages.{stage, arrival_in, admitted}
 use Rattle.history_standing.specs.Standings.{Standing}
-use Rattle.poa_history.specs.Changes.{standing}
+use Rattle.history_standing.specs.Changes.{standing}
 
 -- the activation that a verdict names
 abbrev pub named : Option Verdict → Option ℕ

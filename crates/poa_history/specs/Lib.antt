@@ -1,5 +1,3 @@
-pub mod Changes
-pub mod Situations
 pub mod Verdicts
 pub mod Turns
 pub mod Settling
@@ -24,3 +22,6 @@ pub mod Leaving
 pub mod Phases
 pub mod Fits
 pub mod Heads
+pub mod Entries
+pub mod Numbers
+pub mod Waiting

@@ -11,7 +11,7 @@ use Rattle.history_standing.specs.declared.stage.Stage.TheVariants.{Serving, Rem
 use Rattle.history_standing.specs.Stages.{stage, admitted}
 use Rattle.history_standing.specs.Standings.{Standing, is_complete, is_ending, is_of, is_used}
 use Rattle.history_standing.specs.Ends.{is_over}
-use Rattle.poa_history.specs.Changes.{standing}
+use Rattle.history_standing.specs.Changes.{standing}
 use Rattle.poa_history.specs.Turns.{activation_numbered}
 use Rattle.poa_history.specs.InFlight.{named}
 use Rattle.poa_history.specs.Legal.{EachEntry}

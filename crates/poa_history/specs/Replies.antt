@@ -27,7 +27,7 @@ use Rattle.history_standing.specs.Arrivals.{arrivals, call_of, conn_of, target_o
 use Rattle.history_standing.specs.Stages.{stage, arrival_in, is_at, admitted, brings}
 use Rattle.history_standing.specs.Keys.{key_in}
 use Rattle.history_standing.specs.Logs.{forward_of}
-use Rattle.poa_history.specs.Situations.{key_or_none}
+use Rattle.history_standing.specs.Situations.{key_or_none}
 use Rattle.poa_history.specs.Settling.{settles}
 use Rattle.poa_history.specs.States.{Stored, state_of, servant_run, call_run, acted}
 

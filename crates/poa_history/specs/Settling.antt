@@ -14,7 +14,7 @@ use Rattle.history_standing.specs.Standings.{Standing}
 use Rattle.history_standing.specs.Ends.{is_over, is_gone}
 use Rattle.history_standing.specs.Logs.{command_in, command_done, order_for}
 use Rattle.history_standing.specs.Opening.{number_at}
-use Rattle.poa_history.specs.Changes.{standing}
+use Rattle.history_standing.specs.Changes.{standing}
 
 -- what stood when the arrival was admitted
 abbrev pub before_admit : List Entry → ℕ → List Entry

@@ -28,7 +28,7 @@ use Rattle.history_standing.specs.Arrivals.{call_of}
 use Rattle.history_standing.specs.Stages.{stage, admitted}
 use Rattle.history_standing.specs.Standings.{Standing, same_servant}
 use Rattle.history_standing.specs.Rules.{rule_for}
-use Rattle.poa_history.specs.Changes.{standing}
+use Rattle.history_standing.specs.Changes.{standing}
 use Rattle.poa_history.specs.Turns.{activation_numbered}
 
 -- the state stored for an id of a path, if any

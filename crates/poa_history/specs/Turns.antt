@@ -20,8 +20,8 @@ use Rattle.history_standing.specs.Arrivals.{arrivals}
 use Rattle.history_standing.specs.Stages.{stage, is_unadmitted}
 use Rattle.history_standing.specs.Standings.{Standing, is_complete, is_ending, is_used}
 use Rattle.history_standing.specs.Rules.{brought}
-use Rattle.poa_history.specs.Changes.{standing}
-use Rattle.poa_history.specs.Situations.{is_changing}
+use Rattle.history_standing.specs.Changes.{standing}
+use Rattle.history_standing.specs.Situations.{is_changing}
 use Rattle.poa_history.specs.Verdicts.{verdict}
 
 abbrev pub flight_of : Standing → ℕ → Option Flight

@@ -10,8 +10,8 @@ use Rattle.poa_choose.specs.declared.Choice.TheVariants.{Go, Held}
 use Rattle.poa_choose.specs.Table.{first_row}
 use Rattle.history_standing.specs.Arrivals.{call_of}
 use Rattle.history_standing.specs.Commands.{command_verdict}
-use Rattle.poa_history.specs.Changes.{standing}
-use Rattle.poa_history.specs.Situations.{facts_of}
+use Rattle.history_standing.specs.Changes.{standing}
+use Rattle.history_standing.specs.Situations.{facts_of}
 
 abbrev pub chosen : Choice → Option Verdict
 chosen (Go verdict) = Some verdict

@@ -8,7 +8,7 @@ ghost use Rattle.history_standing.specs.Trees.{In};
 ghost use Rattle.object_key.specs.Spelling.{key_spelling, IsKey};
 ghost use Rattle.poa_history.specs.Alone.{IsGivenAlone, StandsAlone};
 ghost use Rattle.poa_history.specs.Bounds.{IsWithinLimits, HasFewIds};
-ghost use Rattle.poa_history.specs.Changes.{standing};
+ghost use Rattle.history_standing.specs.Changes.{standing};
 ghost use Rattle.poa_history.specs.Legal.{IsLegal};
 ghost use Rattle.poa_history.specs.Endings.{was_ended, was_quieted};
 ghost use Rattle.history_standing.specs.Ends.{is_gone};

@@ -3,11 +3,14 @@
 //! and whose each entry is. The definitions are in `specs/`, over those of `history_standing`.
 #![tactic(auto)]
 
+pub mod calls;
 mod full;
 mod givens;
 pub mod laws;
 mod phase;
 pub mod run_laws;
+pub mod same;
+pub mod workers;
 
 pub use full::Full;
 pub use givens::Givens;

@@ -15,7 +15,7 @@ use Rattle.history_standing.specs.declared.stage.Stage.TheVariants.{Free, Trying
 use Rattle.history_standing.specs.Paths.{same_bytes, same_path}
 use Rattle.history_standing.specs.Stages.{stage}
 use Rattle.history_standing.specs.Standings.{Standing, same_servant}
-use Rattle.poa_history.specs.Changes.{standing}
+use Rattle.history_standing.specs.Changes.{standing}
 use Rattle.poa_history.specs.Turns.{activation_numbered}
 use Rattle.poa_history.specs.States.{Stored, servant_run, call_run, acted, restored, kind_brought, is_servant, is_stored_by, state_of, stored}
 use Rattle.poa_model.specs.Kept.{Kept, state_in, stored_in, with_run, with_fresh, opens_with, removed, fresh_of, with_left, with_removed, kept}

@@ -16,7 +16,7 @@ use Rattle.history_standing.specs.declared.stage.Stage.TheVariants.{Removing}
 use Rattle.history_standing.specs.Paths.{same_bytes, same_path}
 use Rattle.history_standing.specs.Stages.{stage}
 use Rattle.history_standing.specs.Standings.{Standing, same_servant}
-use Rattle.poa_history.specs.Changes.{standing}
+use Rattle.history_standing.specs.Changes.{standing}
 use Rattle.poa_history.specs.Turns.{activation_numbered}
 use Rattle.poa_history.specs.States.{Stored, configured_state, servant_run, call_run, acted, restored, kind_brought, fresh_only}
 use Rattle.poa_model.specs.declared.servant_state.ServantState.{ServantState}

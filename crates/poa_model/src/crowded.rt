@@ -2,12 +2,12 @@
 ghost use Rattle.std.specs.Prelude.{◌≡◌, ◌&&◌, reverse};
 ghost use Rattle.history_standing.specs.Arrivals as calls;
 ghost use Rattle.history_standing.specs.Stages as begun;
-ghost use Rattle.poa_history.specs.Situations as situations;
+ghost use Rattle.history_standing.specs.Situations as situations;
 
-use core_standing::calls::{arrivals, call_of, is_message};
-use core_standing::workers::admitted;
 use poa_base::Entry;
 use poa_base::limits::UNADMITTED;
+use poa_history::calls::{arrivals, call_of, is_message};
+use poa_history::workers::admitted;
 
 /// Whether an arrival is a request or locate that stands unadmitted.
 fn is_waiting(history: &[Entry], arrival: u64) -> bool

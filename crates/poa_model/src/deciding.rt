@@ -6,8 +6,8 @@ ghost use Rattle.history_standing.specs.Stages as begun;
 
 use crate::settling::settles;
 use core_outboxes::may_decide;
-use core_standing::workers::{admitted, arrival_in, brings, is_at, stage};
 use poa_base::{Attempt, Config, Entry, Verdict, WantMemory};
+use poa_history::workers::{admitted, arrival_in, brings, is_at, stage};
 use std::alloc::Global;
 
 /// Whether the arrival is the one that the worker is at.

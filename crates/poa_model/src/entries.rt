@@ -1,7 +1,7 @@
 //! The states that each entry leaves.
 ghost use Rattle.std.specs.Prelude.{◌≡◌, reverse, option_copied, IfOk, OnOk};
 ghost use Rattle.poa_base.specs.Store.{stored as stored_at_opening};
-ghost use Rattle.poa_history.specs.Changes.{standing as standing_after};
+ghost use Rattle.history_standing.specs.Changes.{standing as standing_after};
 ghost use Rattle.poa_history.specs.Turns as turns;
 ghost use Rattle.poa_model.specs.Kept as keeps;
 ghost use Rattle.core_standing.specs.Seen.{seen};
@@ -12,11 +12,11 @@ use crate::servant_state::ServantState;
 use crate::servants::{call_run, servant_run};
 use crate::stored_state::StoredState;
 use core_standing::searches::activation_numbered;
-use core_standing::workers::stage;
 use core_standing::{Standing, standing_of};
 use core_state::{kind_brought, restored};
 use history_standing::{Activation, Phase, Stage};
 use poa_base::{Call, Config, Entry, Incarnation, Sid, State, Store, WantMemory};
+use poa_history::workers::stage;
 use std::alloc::Global;
 
 /// The servant acts on the call.

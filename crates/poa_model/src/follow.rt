@@ -1,21 +1,21 @@
 //! Whether an entry may follow the ones before it, by the kind of the entry.
-ghost use Rattle.std.specs.Prelude.{◌≡◌, ◌↔◌, ◌⊎◌, ◌+◌, ◌<◌, ◌≤◌, ◌^◌, reverse, IfOk, IsTrue, Some, true, false};
+ghost use Rattle.std.specs.Prelude.{◌≡◌, ◌↔◌, ◌⊎◌, ◌+◌, ◌<◌, ◌≤◌, ◌^◌, reverse, option_copied, IfOk, IsTrue, Some, true, false};
 ghost use Rattle.poa_base.specs.declared.limits.TheConstants.{CONNECTIONS};
 ghost use Rattle.history_standing.specs.Arrivals as calls;
 ghost use Rattle.poa_history.specs.Legal as legal;
 ghost use Rattle.poa_history.specs.Replies as replies;
 ghost use Rattle.history_standing.specs.Stages as begun;
-ghost use Rattle.poa_model.specs.Workers.{is_step};
+ghost use Rattle.poa_history.specs.Entries.{is_turn as is_of_worker};
 
 use crate::arriving::{arrived_bytes, had_shutdown, has_left, is_filled};
 use crate::next_reply::slow_next_reply;
-use crate::same::is_that;
 use crate::turns::slow_next;
 use core_arrivals::is_shutdown;
-use core_standing::calls::{arrivals, connections};
-use core_standing::workers::is_abandoned;
 use poa_base::limits::CONNECTIONS;
 use poa_base::{Call, Config, Entry, Store, WantMemory};
+use poa_history::calls::{arrivals, connections};
+use poa_history::same::same_step;
+use poa_history::workers::is_abandoned;
 use std::alloc::Global;
 
 /// How many workers a run has.
@@ -115,6 +115,17 @@ fn is_at_work(past: &[Entry], worker: u32) -> bool
     worker < WORKERS && !is_abandoned(past, worker)
 }
 
+/// Whether a worker's next step is that entry.
+fn is_that(next: Option<&Entry>, entry: &Entry) -> bool
+    requires { is_of_worker entry.now ≡ true }
+    ensures { IsTrue result ↔ (option_copied next.entry ≡ Some entry.now) }
+{
+    match next {
+        Some(step) => same_step(step, entry),
+        None => false,
+    }
+}
+
 /// Whether an entry is the next turn of its worker.
 fn is_turn(
     alloc: Global,
@@ -125,7 +136,7 @@ fn is_turn(
     worker: u32,
     entry: &Entry,
 ) -> Result<bool, WantMemory>
-    requires { is_step entry.now ≡ true }
+    requires { is_of_worker entry.now ≡ true }
     ensures { IfOk result (λ is. IsTrue is ↔ legal.IsTurn config.now run (reverse past.now) worker entry.now) }
 {
     if !is_at_work(past, worker) {

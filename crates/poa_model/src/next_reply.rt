@@ -6,8 +6,8 @@ ghost use Rattle.history_standing.specs.Searches.{least};
 
 use crate::deciding::decided;
 use crate::owing::is_asked;
-use core_standing::calls::arrivals;
 use poa_base::{Config, Entry, WantMemory};
+use poa_history::calls::arrivals;
 use std::alloc::Global;
 
 /// Whether the reply to an arrival was collected.

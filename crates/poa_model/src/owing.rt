@@ -5,8 +5,8 @@ ghost use Rattle.history_standing.specs.Stages as begun;
 
 use crate::deciding::decided;
 use core_outboxes::asks;
-use core_standing::calls::{arrivals, call_of, conn_of};
 use poa_base::{Config, Entry, WantMemory};
+use poa_history::calls::{arrivals, call_of, conn_of};
 use std::alloc::Global;
 
 /// Whether a connection is that one.

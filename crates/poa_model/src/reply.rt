@@ -10,11 +10,11 @@ use crate::deciding::{decided, is_at_work};
 use crate::entries::kept_of;
 use crate::kept::state_in;
 use crate::servants::{call_run, servant_run};
+use crate::set::settings_of;
 use core_outboxes::{good, reply_admitted, reply_incarnated, reply_tried};
-use core_settings::settings_of;
-use core_standing::calls::call_of;
-use core_standing::workers::stage;
 use poa_base::{Attempt, Call, Config, Entry, Reply, Sid, Store, WantMemory};
+use poa_history::calls::call_of;
+use poa_history::workers::stage;
 use std::alloc::Global;
 
 /// The reply that the adapter activator's answer fixes, by what was set until then.

@@ -3,13 +3,13 @@ ghost use Rattle.std.specs.Prelude.{◌≡◌, reverse, option_copied, IfOk};
 ghost use Rattle.poa_history.specs.States as states;
 ghost use Rattle.core_standing.specs.Seen.{seen};
 
-use active_map::templates::servant_number;
-use core_standing::calls::call_of;
 use core_standing::searches::activation_numbered;
-use core_standing::workers::admitted;
 use core_standing::{Standing, standing_of};
+use history_standing::templates::servant_number;
 use history_standing::{Activation, Phase, Stage};
 use poa_base::{Call, Config, Entry, Name, Sid, Verdict, WantMemory};
+use poa_history::calls::call_of;
+use poa_history::workers::admitted;
 use std::alloc::Global;
 
 /// The servant of an activation, where it has one.

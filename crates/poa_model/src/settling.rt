@@ -2,17 +2,17 @@
 ghost use Rattle.std.specs.Prelude.{◌≡◌, reverse, option_copied, IfOk};
 ghost use Rattle.history_standing.specs.Ends as ends;
 ghost use Rattle.poa_history.specs.Settling as settling;
-ghost use Rattle.poa_history.specs.Changes.{standing};
+ghost use Rattle.history_standing.specs.Changes.{standing};
 ghost use Rattle.history_standing.specs.Opening.{number_at as number_of_path};
 
-use active_map::templates::manager_number;
 use core_settings::order_for;
 use core_standing::asked_commands::{command_in, done_by, number_at};
-use core_standing::calls::call_of;
 use core_standing::ends::is_gone;
 use core_standing::orders::{are_ended, is_quiet};
 use core_standing::standing_of;
+use history_standing::templates::manager_number;
 use poa_base::{Command, Config, Entry, Name, Order, WantMemory};
+use poa_history::calls::call_of;
 use std::alloc::Global;
 
 /// What stood when the arrival was admitted.

@@ -6,12 +6,12 @@ ghost use Rattle.history_standing.specs.declared.stage.Stage.TheVariants.{Free};
 ghost use Rattle.poa_history.specs.Turns as turns;
 
 use crate::verdicts::slow_verdict;
-use core_standing::calls::arrivals;
 use core_standing::standing_of;
-use core_standing::workers::{admitted, stage};
 use core_turns::{going_on, removal};
 use history_standing::Stage;
 use poa_base::{Config, Entry, Store, WantMemory};
+use poa_history::calls::arrivals;
+use poa_history::workers::{admitted, stage};
 use std::alloc::Global;
 
 /// The Admit of an arrival that is ready for the worker.

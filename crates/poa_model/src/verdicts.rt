@@ -3,11 +3,11 @@ ghost use Rattle.std.specs.Prelude.{◌≡◌, reverse, IfOk};
 ghost use Rattle.poa_history.specs.Verdicts as verdicts;
 
 use crate::crowded::is_crowded;
-use core_settings::settings_of;
-use core_standing::calls::call_of;
+use crate::set::settings_of;
 use core_standing::standing_of;
 use core_turns::verdict_on;
 use poa_base::{Config, Entry, Store, Verdict, WantMemory};
+use poa_history::calls::call_of;
 use std::alloc::Global;
 
 /// The verdict on an arrival for a worker, after a history that stands oldest first; none where the

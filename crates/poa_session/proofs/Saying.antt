@@ -3,8 +3,8 @@ use Rattle.std.proofs.Common.{◌≡◌, ℕ, List, ◌++◌, Some, sym, subst, 
 use Rattle.std.specs.Prelude.{Ok}
 use Rattle.poa_base.specs.declared.Entry.{Entry}
 use Rattle.poa_base.specs.declared.Head.{Head}
-use Rattle.giop_replies.specs.Calls.{IsGivenTo}
-use Rattle.giop_replies.proofs.Calls.{some_given}
+use Rattle.session_laws.specs.Calls.{IsGivenTo}
+use Rattle.session_laws.proofs.Calls.{some_given}
 use Rattle.history_standing.specs.Arrivals.{call_of, conn_of}
 use Rattle.poa_history.specs.declared.Givens.{Givens}
 use Rattle.poa_history.specs.Life.{life_at}

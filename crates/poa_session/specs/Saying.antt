@@ -1,7 +1,7 @@
 -- What a session knows of the calls that it let arrive.
 use Rattle.std.specs.Prelude.{◌≡◌, ℕ, Some}
 use Rattle.poa_base.specs.declared.Entry.{Entry}
-use Rattle.giop_replies.specs.Calls.{IsGivenTo}
+use Rattle.session_laws.specs.Calls.{IsGivenTo}
 use Rattle.poa_history.specs.declared.Givens.{Givens}
 use Rattle.poa_core.specs.declared.Collected.{Collected}
 use Rattle.poa_core.specs.declared.Collected.TheVariants as collected

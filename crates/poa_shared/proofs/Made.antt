@@ -8,7 +8,7 @@ use Rattle.poa_base.specs.declared.Entry.{Entry}
 use Rattle.poa_base.specs.declared.Entry.TheVariants.{Entered, Arrive, Filled, Left, Collect, Admit, Tried, Incarnated, Run, Done, TakeOut, Etherealized, Abandon}
 use Rattle.poa_history.specs.Legal.{is_filled}
 use Rattle.history_standing.specs.Stages.{is_abandoned}
-use Rattle.core_state.specs.State.{is_turn}
+use Rattle.poa_history.specs.Entries.{is_turn}
 use Rattle.seat_lock.specs.declared.view.View.{View}
 use Rattle.seat_lock.specs.Histories.{MayMake}
 use Rattle.seat_lock.specs.Steps.{Knows}

@@ -18,8 +18,8 @@ use Rattle.poa_core.specs.declared.StepOut.TheVariants as step_out
 use Rattle.poa_core.specs.declared.Collected.TheVariants as collected
 use Rattle.replay_player.specs.Collecting.{CollectsAll}
 use Rattle.replay_player.proofs.Turning.{turn_apart}
-use Rattle.giop_replies.specs.Calls.{IsHeaded, IsReplyTo}
-use Rattle.giop_replies.proofs.Calls.{each_none, each_same, each_more, given_answers}
+use Rattle.session_laws.specs.Calls.{IsHeaded, IsReplyTo}
+use Rattle.session_laws.proofs.Calls.{each_none, each_same, each_more, given_answers}
 use Rattle.replay_player.proofs.Arrived.{open_still}
 use Rattle.replay_player.proofs.Collected.{Did, did, did_still, collected_one, collected_still}
 use Rattle.poa_base.specs.declared.Config.{Config}

@@ -13,7 +13,7 @@ use Rattle.poa_history.specs.Lifetime.{HasLifetime}
 use Rattle.history_laws.specs.Lasting.{KeepsUpdates, LeavesNothing}
 use Rattle.poa_history.specs.Life.{Life, with_entry, opened}
 use Rattle.poa_core.specs.Answers.{is_taken}
-use Rattle.giop_replies.specs.Calls.{Each, IsHeaded}
+use Rattle.session_laws.specs.Calls.{Each, IsHeaded}
 use Rattle.replay_player.specs.Working.{IsIdle, Makes}
 use Rattle.replay_player.specs.Collecting.{CollectsAll}
 

@@ -4,7 +4,7 @@ ghost use Rattle.giop_frame.specs.Framer.{HasFirst};
 ghost use Rattle.outside.specs.Cause.{HasCause};
 ghost use Rattle.outside.specs.Told.{IfTold};
 ghost use Rattle.poa_policy.specs.Kept.{KeepsRules};
-ghost use Rattle.giop_replies.specs.Calls.{IsHeaded};
+ghost use Rattle.session_laws.specs.Calls.{IsHeaded};
 ghost use Rattle.poa_history.specs.Legal.{IsSize};
 ghost use Rattle.poad_answer.specs.Serving.{IsServing};
 ghost use Rattle.poad_files.specs.Delivery.{Hands};

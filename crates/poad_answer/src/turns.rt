@@ -5,9 +5,9 @@ ghost use Rattle.poad_answer.specs.Serving.{IsServing};
 ghost use Rattle.replay_player.specs.Collecting.{CollectsAll};
 ghost use Rattle.poad_answer.specs.Serving.{Works};
 
-use giop_replies::put_reply;
 use poa_base::WantMemory;
 use poa_core::{Collected, Core, StepOut};
+use session_laws::put_reply;
 use std::alloc::Global;
 
 /// How many bytes the replies to a message have mostly: those of one with a number or a short text.

@@ -7,7 +7,7 @@ use Rattle.poa_base.specs.declared.Entry.{Entry}
 use Rattle.poa_base.specs.declared.Entry.TheVariants.{Entered, Arrive, Filled, Left, Collect, Admit, Tried, Incarnated, Run, Done, TakeOut, Etherealized, Abandon}
 use Rattle.history_standing.specs.Arrivals.{connections}
 use Rattle.poa_history.specs.Legal.{has_left, is_filled}
-use Rattle.core_state.specs.State.{is_turn}
+use Rattle.poa_history.specs.Entries.{is_turn}
 use Rattle.poa_history.specs.Life.{Life, with_entry}
 use Rattle.poa_core.specs.Answers.{Enters, Arrives, Steps, Collects, filled_by}
 use Rattle.poa_core.specs.declared.enter_fault.EnterFault.{EnterFault}

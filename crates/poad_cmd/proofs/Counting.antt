@@ -11,7 +11,7 @@ use Rattle.history_standing.specs.Stages.{stage}
 use Rattle.history_standing.specs.Standings.{Standing}
 use Rattle.history_standing.specs.declared.stage.Stage.{Stage}
 use Rattle.history_standing.specs.declared.stage.Stage.TheVariants.{Free, Incarnating, Ran, Removing, Serving, Trying}
-use Rattle.poa_history.specs.Changes.{standing}
+use Rattle.history_standing.specs.Changes.{standing}
 use Rattle.poa_history.specs.Legal.{is_filled}
 use Rattle.poa_history.specs.Life.{Life, with_entry}
 use Rattle.poa_history.specs.Turns.{activation_numbered, attempt, going_on, turn}

@@ -4,7 +4,7 @@ use Rattle.std.proofs.lemmas.List.{append_assoc, drop_more}
 use Rattle.poa_base.specs.declared.Config.{Config}
 use Rattle.poa_base.specs.declared.Key.{Key}
 use Rattle.poa_base.specs.declared.ObjectConf.{ObjectConf}
-use Rattle.ior_text.specs.Reference.{reference_text}
+use Rattle.history_standing.specs.Reference.{reference_text}
 use Rattle.poad_files.specs.Numbers.{Numbers}
 use Rattle.poad_files.specs.Tags.{tag_at}
 use Rattle.poad_files.specs.Objects.{id_of, key_of, line, lines, made_with, object_line, type_in}

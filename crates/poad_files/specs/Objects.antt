@@ -8,7 +8,7 @@ use Rattle.poa_base.specs.declared.ObjectConf.{ObjectConf}
 use Rattle.poa_base.specs.declared.ServantConf.{ServantConf}
 use Rattle.servant_kinds.specs.Object.{type_id_of}
 use Rattle.text_words.specs.Path.{path_text}
-use Rattle.ior_text.specs.Reference.{reference_text}
+use Rattle.history_standing.specs.Reference.{reference_text}
 use Rattle.poad_files.specs.Numbers.{Numbers, numbers_of}
 use Rattle.poad_files.specs.Tags.{tag_at}
 

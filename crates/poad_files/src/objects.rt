@@ -4,7 +4,7 @@ ghost use Rattle.std.specs.List.{slice_get};
 ghost use Rattle.std.specs.Int.{w32, to_be_bytes};
 ghost use Rattle.std.specs.Option.{option_copied};
 ghost use Rattle.object_key.specs.Spelling.{TagsPersistent};
-ghost use Rattle.ior_text.specs.Reference.{reference_text};
+ghost use Rattle.history_standing.specs.Reference.{reference_text};
 ghost use Rattle.std.specs.BTreeMap as tree;
 ghost use Rattle.poa_base.specs.Store.{path_cmp};
 ghost use Rattle.poa_policy.specs.Kept.{KeepsRules};
@@ -13,7 +13,7 @@ ghost use Rattle.poad_files.specs.Objects.{references_text};
 
 use crate::numbering::{Numbers, adapter_numbers};
 use crate::tags::tag_at;
-use ior_text::write_reference;
+use history_standing::write_reference;
 use poa_base::{
     Bytes, Config, Endpoint, Key, ObjectConf, Oid, Path, ServantConf, Stamp, TryClone, WantMemory,
 };

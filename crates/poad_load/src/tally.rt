@@ -5,10 +5,10 @@ ghost use Rattle.poa_history.specs.Legal.{IsLegal};
 ghost use Rattle.poa_history.specs.Lifetime.{HasLifetime};
 ghost use Rattle.poad_load.specs.Counts as counts;
 
-use core_standing::workers::brings;
 use journal_entries::{Entries, EntryView, Row};
 use poa_base::Entry;
 use poa_core::Core;
+use poa_history::workers::brings;
 
 /// How many entries a run has made, and how many of two kinds.
 #[derive(Clone, Copy, Drop)]

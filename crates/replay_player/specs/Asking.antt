@@ -9,7 +9,7 @@ use Rattle.poa_base.specs.declared.Stamp.{Stamp}
 use Rattle.object_key.specs.Spelling.{key_spelling}
 use Rattle.giop_msg.specs.Ask.{request_bytes}
 use Rattle.history_standing.specs.Nodes.{node_at}
-use Rattle.poa_history.specs.Changes.{standing}
+use Rattle.history_standing.specs.Changes.{standing}
 use Rattle.history_standing.specs.Templates.{template, policies_at, lasts}
 use Rattle.poa_history.specs.Life.{Life}
 

@@ -3,8 +3,8 @@ ghost use Rattle.std.specs.Prelude.{◌≡◌, IfOk};
 ghost use Rattle.object_key.specs.Spelling.{key_spelling};
 ghost use Rattle.replay_player.specs.Asking.{asked, head_for, key_for, is_transient as is_transient_at, number_of as number_at, stamp_for};
 
-use active_map::templates::{has_template, policies_at};
 use giop_msg::write_request;
+use history_standing::templates::{has_template, policies_at};
 use object_key::write_key;
 use poa_base::{Ask, Bytes, Config, Datum, Head, Key, Name, Oid, Path, Stamp, WantMemory};
 use poa_core::Core;

@@ -1,6 +1,6 @@
 //! The replies that a connection is given.
 ghost use Rattle.std.specs.Prelude.{◌≡◌, ◌<◌, ◌++◌, IfOk, OnOk};
-ghost use Rattle.giop_replies.specs.Calls.{Each, IsGivenTo, IsSaid};
+ghost use Rattle.session_laws.specs.Calls.{Each, IsGivenTo, IsSaid};
 ghost use Rattle.history_standing.specs.Arrivals.{connections};
 ghost use Rattle.replay_player.specs.Lines.{reply_line};
 ghost use Rattle.replay_player.specs.Collecting.{CollectsAll};

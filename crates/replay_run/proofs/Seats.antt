@@ -12,9 +12,9 @@ use Rattle.poa_history.specs.Life.{Life, with_entry}
 use Rattle.poa_core.specs.Answers.{filled_at, filled_by, is_taken}
 use Rattle.giop_frame.specs.Stream.{Framed}
 use Rattle.giop_msg.specs.Call.{CallOf}
-use Rattle.giop_replies.specs.Calls.{Each, IsSaid}
-use Rattle.giop_replies.proofs.Answering.{message_headed}
-use Rattle.giop_replies.proofs.Calls.{each_more, each_same, headed_said}
+use Rattle.session_laws.specs.Calls.{Each, IsSaid}
+use Rattle.session_laws.proofs.Answering.{message_headed}
+use Rattle.session_laws.proofs.Calls.{each_more, each_same, headed_said}
 use Rattle.giop_msg.specs.declared.Incoming.{Incoming}
 use Rattle.giop_msg.specs.declared.Incoming.TheVariants as incoming
 use Rattle.giop_msg.specs.declared.MsgFault.{MsgFault}

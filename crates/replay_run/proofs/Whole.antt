@@ -32,8 +32,8 @@ use Rattle.replay_run.specs.Keeping.{IsAtFirst, IsNew, Keeps, Shows, world, IsSe
 use Rattle.poa_base.specs.declared.Datum.{Datum}
 use Rattle.replay_player.specs.Asking.{asked}
 use Rattle.replay_run.specs.Reading.{Feeds}
-use Rattle.giop_replies.specs.Calls.{Each, IsSaid}
-use Rattle.giop_replies.proofs.Calls.{each_none}
+use Rattle.session_laws.specs.Calls.{Each, IsSaid}
+use Rattle.session_laws.proofs.Calls.{each_none}
 use Rattle.replay_run.proofs.Seats.{keeps_still}
 use Rattle.replay_run.proofs.Steps.{plays_givens}
 use Rattle.replay_player.proofs.Given.{legal_for, run_for, lifetime_for, undone_for, updates_for}

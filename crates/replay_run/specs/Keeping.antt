@@ -9,7 +9,7 @@ use Rattle.poa_base.specs.declared.Entry.TheVariants.{Entered}
 use Rattle.history_standing.specs.Arrivals.{arrivals, arrived_bytes, connections}
 use Rattle.poa_history.specs.Legal.{has_left}
 use Rattle.poa_history.specs.Life.{with_entry}
-use Rattle.giop_replies.specs.Calls.{Each, IsSaid}
+use Rattle.session_laws.specs.Calls.{Each, IsSaid}
 use Rattle.replay_run.specs.declared.channel.Channel.{Channel}
 use Rattle.replay_player.specs.declared.player.Player.{Player}
 use Rattle.replay_run.specs.World.{World, Talk}

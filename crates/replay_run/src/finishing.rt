@@ -3,7 +3,7 @@ ghost use Rattle.std.specs.Prelude.{◌≡◌, ◌<◌, ℕ, OnOk};
 ghost use Rattle.history_standing.specs.Arrivals.{connections};
 ghost use Rattle.replay_player.specs.Working.{Rests, Then};
 ghost use Rattle.replay_run.specs.Playing.{CollectsEach, CollectsOf};
-ghost use Rattle.giop_replies.specs.Calls.{Each, IsSaid};
+ghost use Rattle.session_laws.specs.Calls.{Each, IsSaid};
 ghost use Rattle.replay_run.specs.Keeping.{AllEntered, Keeps};
 ghost use Rattle.replay_player.specs.Effects.{Works};
 

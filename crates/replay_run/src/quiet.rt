@@ -1,7 +1,7 @@
 //! Steps of scripts, played one by one, of which nothing is printed.
 ghost use Rattle.std.specs.Prelude.{◌≡◌, ◌<◌, ◌≤◌, ◌++◌, ℕ, Some, IfOk, OnOk};
 ghost use Rattle.poa_policy.specs.Kept.{KeepsRules};
-ghost use Rattle.giop_replies.specs.Calls.{Each, IsGivenTo, IsSaid};
+ghost use Rattle.session_laws.specs.Calls.{Each, IsGivenTo, IsSaid};
 ghost use Rattle.history_standing.specs.Arrivals.{connections};
 ghost use Rattle.replay_player.specs.Collecting.{CollectsAll};
 ghost use Rattle.replay_player.specs.Working.{Rests};
@@ -11,11 +11,11 @@ ghost use Rattle.replay_run.specs.Quiet.{Gathers, GathersEach, GathersOf, HasGiv
 
 use crate::channel::{Channel, channels_of};
 use crate::replaying::{play, player_of};
-use giop_replies::put_reply;
 use poa_base::{Config, Head, Name, Reply, WantMemory};
 use poa_core::{Collected, Core};
 use replay_player::Player;
 use replay_script::Step;
+use session_laws::put_reply;
 use std::alloc::Global;
 
 /// A run of a configuration on which steps of scripts are played one by one, with connections that have names. Nothing

@@ -3,7 +3,7 @@ ghost use Rattle.std.specs.Prelude.{◌≡◌, ◌<◌, ◌+◌, false, None, If
 ghost use Rattle.history_standing.specs.Arrivals.{connections};
 ghost use Rattle.poa_history.specs.Legal.{IsOpen};
 ghost use Rattle.replay_run.specs.Talking.{Collects, Commands, TalkEnds, OnLine, Talks, is_sized as is_sized_line};
-ghost use Rattle.giop_replies.specs.Calls.{Each, IsSaid};
+ghost use Rattle.session_laws.specs.Calls.{Each, IsSaid};
 ghost use Rattle.replay_run.specs.Keeping.{IsCounted, Keeps, Meets, Shows, Tells};
 
 use crate::channel::Channel;

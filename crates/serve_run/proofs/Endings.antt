@@ -13,7 +13,7 @@ use Rattle.poa_base.specs.declared.Call.{Call}
 use Rattle.poa_base.specs.declared.Entry.{Entry}
 use Rattle.poa_base.specs.declared.Entry.TheVariants.{Entered, Arrive}
 use Rattle.history_standing.specs.Arrivals.{arrivals, conn_of, connections}
-use Rattle.poa_history.specs.Changes.{standing}
+use Rattle.history_standing.specs.Changes.{standing}
 use Rattle.poa_history.specs.Replies.{decided}
 use Rattle.history_standing.specs.Stages.{stage}
 use Rattle.history_standing.specs.declared.stage.Stage.TheVariants.{Free}

@@ -11,7 +11,7 @@ use Rattle.poa_base.specs.declared.SessionEnd.{SessionEnd}
 use Rattle.poa_base.specs.declared.SessionEnd.TheVariants.{ReadFault, WriteFault}
 use Rattle.history_standing.specs.Arrivals.{arrivals, call_of, conn_of, connections}
 use Rattle.poa_history.specs.Legal.{is_filled}
-use Rattle.poa_history.specs.Changes.{standing}
+use Rattle.history_standing.specs.Changes.{standing}
 use Rattle.history_standing.specs.Ends.{is_over}
 use Rattle.poa_history.specs.Replies.{decided}
 use Rattle.history_standing.specs.Stages.{is_abandoned, is_at}

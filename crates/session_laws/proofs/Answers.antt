@@ -5,8 +5,8 @@ use Rattle.giop_frame.specs.Stream.{Framed, left_over}
 use Rattle.giop_frame.specs.Framing.{Framing}
 use Rattle.giop_frame.specs.Framer.{FramerAnswers}
 use Rattle.giop_frame.proofs.GoingOn.{framer_goes_on as some_given}
-use Rattle.giop_replies.proofs.Answering.{message_headed}
-use Rattle.giop_replies.proofs.Calls.{headed_said}
+use Rattle.session_laws.proofs.Answering.{message_headed}
+use Rattle.session_laws.proofs.Calls.{headed_said}
 use Rattle.std.proofs.Math.Seq.{drop-append-add}
 use Rattle.text_words.specs.Cuts.{lacks}
 use Rattle.session_laws.specs.Hearing.{bad, over}

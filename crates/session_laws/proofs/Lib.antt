@@ -1,3 +1,5 @@
+pub mod Answering
+pub mod Calls
 pub mod Expected
 pub mod Messages
 pub mod Lines

@@ -12,7 +12,7 @@ use Rattle.history_standing.specs.Stages.{is_at}
 use Rattle.poa_history.specs.Replies.{is_collected, next_reply}
 use Rattle.core_outboxes.specs.Decided.{answered}
 use Rattle.core_outboxes.proofs.Given.{within_is}
-use Rattle.giop_replies.specs.Calls.{IsSaid}
+use Rattle.session_laws.specs.Calls.{IsSaid}
 use Rattle.session_laws.specs.Hearing.{Heard, AreSaid}
 use Rattle.session_laws.specs.Lines.{is_spoken, spoken}
 use Rattle.session_laws.specs.Records.{arrived_by}

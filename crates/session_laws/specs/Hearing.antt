@@ -6,7 +6,7 @@ use Rattle.giop_msg.specs.declared.Incoming.{Incoming}
 use Rattle.giop_msg.specs.declared.Incoming.TheVariants as incoming
 use Rattle.giop_msg.specs.declared.MsgFault.{MsgFault}
 use Rattle.giop_msg.specs.Call.{CallOf}
-use Rattle.giop_replies.specs.Calls.{IsSaid}
+use Rattle.session_laws.specs.Calls.{IsSaid}
 
 -- a call that a peer sends, and the bytes of its message or line
 pub record Heard : Type 0 where

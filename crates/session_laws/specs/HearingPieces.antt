@@ -4,7 +4,7 @@ use Rattle.giop_frame.specs.Stream.{Framed}
 use Rattle.giop_msg.specs.declared.Incoming.TheVariants as incoming
 use Rattle.giop_msg.specs.declared.MsgFault.{MsgFault}
 use Rattle.giop_msg.specs.Call.{CallOf}
-use Rattle.giop_replies.specs.Calls.{IsSaid}
+use Rattle.session_laws.specs.Calls.{IsSaid}
 use Rattle.session_laws.specs.Lines.{spoken}
 use Rattle.giop_frame.specs.Framer.{reach, HasFirst}
 use Rattle.session_laws.specs.declared.peer.Peer.{Peer}

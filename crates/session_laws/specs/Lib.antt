@@ -1,3 +1,4 @@
+pub mod Calls
 pub mod Hearing
 pub mod Lines
 pub mod Records

@@ -4,7 +4,8 @@
 //! wait and to write.
 //!
 //! By them a peer is heard piece by piece: the calls that stand whole, however its bytes are cut, and where its input stops.
-//! A client sends messages of GIOP, an administrator lines.
+//! A client sends messages of GIOP, an administrator lines. A reply that fits a call which a message made can be written, so
+//! nobody has to ask whether it can.
 #![tactic(auto)]
 
 mod ear;
@@ -12,6 +13,8 @@ mod input;
 pub mod laws;
 mod line_cutter;
 mod peer;
+mod putting;
+pub mod reply_laws;
 mod telling;
 mod told;
 
@@ -19,5 +22,6 @@ pub use ear::Ear;
 pub use input::Input;
 pub use line_cutter::LineCutter;
 pub use peer::Peer;
+pub use putting::put_reply;
 pub use telling::tell;
 pub use told::Told;

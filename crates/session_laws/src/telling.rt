@@ -1,10 +1,10 @@
 //! What tells a peer a reply.
 ghost use Rattle.std.specs.Prelude.{◌≡◌, ◌++◌, OnOk};
-ghost use Rattle.giop_replies.specs.Calls.{IsGivenTo};
+ghost use Rattle.session_laws.specs.Calls.{IsGivenTo};
 ghost use Rattle.session_laws.specs.Records.{told};
 
+use crate::putting::put_reply;
 use admin_line::write_answer;
-use giop_replies::put_reply;
 use poa_base::{Head, Reply, WantMemory};
 use std::alloc::Global;
 

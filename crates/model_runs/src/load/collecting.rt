@@ -6,8 +6,8 @@
 use crate::fault::Fault;
 use crate::load::due::Due;
 use crate::load::play::{CONNECTIONS, Play};
-use core_standing::calls::conn_of;
 use poa_base::Entry;
+use poa_history::calls::conn_of;
 use poa_model::{decided, slow_next_reply};
 use std::mem;
 

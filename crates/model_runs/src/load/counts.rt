@@ -3,8 +3,8 @@ use crate::fault::Fault;
 use crate::load::calls::{object_id, path};
 use crate::load::play::Play;
 use crate::load::replies::reply_bytes;
-use core_standing::workers::brings;
 use poa_base::{Entry, State};
+use poa_history::workers::brings;
 use poa_model::{Kept, kept_of, stored_in};
 use std::alloc::Global;
 

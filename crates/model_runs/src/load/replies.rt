@@ -5,10 +5,10 @@
 use crate::fault::Fault;
 use crate::load::calls::head;
 use crate::load::play::Play;
-use core_standing::calls::call_of;
-use core_standing::workers::{arrival_in, stage};
 use giop_answer::write_reply;
 use poa_base::{Bytes, Call, Datum, Entry, Incarnation, Outcome, Reply, State};
+use poa_history::calls::call_of;
+use poa_history::workers::{arrival_in, stage};
 use poa_model::{Kept, ServantState, slow_reply};
 use std::alloc::Global;
 

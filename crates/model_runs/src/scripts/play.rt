@@ -1,13 +1,13 @@
 //! A script that is played.
 use crate::fault::Fault;
 use crate::scripts::replies::{put_reply, request_id};
-use active_map::templates::{has_template, policies_at};
 use conf_toml::read_config;
-use core_standing::calls::call_of;
 use core_standing::standing_of;
 use history_standing::nodes::node_at;
+use history_standing::templates::{has_template, policies_at};
 use object_key::write_key;
 use poa_base::{Body, Bytes, Call, Config, Entry, Head, Key, Path, Stamp, Store, WantMemory};
+use poa_history::calls::call_of;
 use poa_journal::print_entry;
 use poa_model::{first_illegal, slow_next, slow_next_reply, slow_owed, slow_reply};
 use std::alloc::Global;

@@ -2,10 +2,10 @@ use Rattle.std.specs.Prelude.{refl}
 use Rattle.std.proofs.Common.{sym, subst}
 use Rattle.history_standing.specs.Arrivals.{arrivals}
 use Rattle.history_standing.specs.Stages.{is_unadmitted}
-use Rattle.core_standing.specs.Numbers.{Ascends}
+use Rattle.poa_history.specs.Numbers.{Ascends}
 use Rattle.core_arrivals.specs.Queued.{is_waiting_line}
-use Rattle.held_queue.specs.Waiting.{is_waiting}
-use Rattle.core_standing.proofs.Numbers.{ascending}
+use Rattle.poa_history.specs.Waiting.{is_waiting}
+use Rattle.poa_history.proofs.Numbers.{ascending}
 use Rattle.core_arrivals.proofs.Queueing.{admits}
 use Rattle.core_arrivals.proofs.queue.admit.Goals as goal
 

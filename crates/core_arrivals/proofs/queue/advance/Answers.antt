@@ -2,7 +2,7 @@ use Rattle.std.proofs.Common.{sym, subst, ap, ◌∙◌}
 use Rattle.std.specs.Prelude.{◌∷◌}
 use Rattle.poa_history.specs.Legal.{MayFollow}
 use Rattle.history_standing.specs.Stages.{arrival_in}
-use Rattle.core_standing.specs.Entries.{stage_at}
+use Rattle.poa_history.specs.Entries.{stage_at}
 use Rattle.core_arrivals.specs.Queued.{IsQueue, call_tried}
 use Rattle.core_arrivals.proofs.Queueing.{kept, quiet}
 use Rattle.core_arrivals.proofs.queue.advance.Goals as goal

@@ -1,7 +1,7 @@
 use Rattle.std.proofs.Common.{length, sym, ap, ◌∙◌}
 use Rattle.history_standing.specs.Arrivals.{arrivals}
 use Rattle.history_standing.specs.Stages.{is_unadmitted}
-use Rattle.core_standing.proofs.Numbers.{counted}
+use Rattle.poa_history.proofs.Numbers.{counted}
 use Rattle.core_arrivals.proofs.queue.count.Goals as goal
 
 pub returns : goal.returns

@@ -1,9 +1,9 @@
 use Rattle.std.proofs.Common.{◌==◌, sym, subst, ap, ◌∙◌}
 use Rattle.std.specs.List.{list_any}
 use Rattle.history_standing.specs.Arrivals.{arrivals}
-use Rattle.poa_history.specs.Situations as situations
-use Rattle.core_standing.specs.Numbers.{Ascends}
-use Rattle.core_standing.proofs.Numbers.{ascending}
+use Rattle.history_standing.specs.Situations as situations
+use Rattle.poa_history.specs.Numbers.{Ascends}
+use Rattle.poa_history.proofs.Numbers.{ascending}
 use Rattle.core_arrivals.proofs.Queueing.{crowded_told}
 use Rattle.core_arrivals.proofs.queue.is_crowded.Goals as goal
 

@@ -1,7 +1,7 @@
 use Rattle.std.proofs.Common.{◌∙◌, ◌++◌, not, filter, map, sym, ap, subst}
 use Rattle.core_standing.specs.Seen.{seen}
 use Rattle.core_outboxes.specs.Desk as desks
-use Rattle.core_standing.specs.Numbers.{Ascends}
+use Rattle.poa_history.specs.Numbers.{Ascends}
 use Rattle.core_outboxes.specs.Owed.{arrivals_of}
 use Rattle.core_outboxes.proofs.Coming.{alone_then, ascend_then, before_then, owed_then, filed_after_all}
 use Rattle.core_outboxes.proofs.advancing.advance.Goals as goal

@@ -1,6 +1,6 @@
 use Rattle.std.proofs.Common.{◌∙◌, ap, subst, sym}
 use Rattle.std.proofs.lemmas.Bool.{true≢false}
-use Rattle.poa_history.specs.Changes.{changed}
+use Rattle.history_standing.specs.Changes.{changed}
 use Rattle.history_standing.specs.Ends.{settled}
 use Rattle.core_standing.specs.Seen.{seen}
 use Rattle.core_standing.specs.Touched.{Others, Still, is_touched}

@@ -1,5 +1,5 @@
 use Rattle.std.proofs.Common.{◌∙◌, sym, subst}
-use Rattle.poa_history.specs.Changes.{changed}
+use Rattle.history_standing.specs.Changes.{changed}
 use Rattle.core_standing.specs.Kept.{KeepsNoneOver}
 use Rattle.core_standing.specs.Seen.{seen}
 use Rattle.core_standing.specs.Touched.{Others, OverTouched, is_touched}

@@ -1,5 +1,5 @@
 use Rattle.std.proofs.Common.{◌∙◌, reverse, take, ap, sym}
-use Rattle.poa_history.specs.Changes.{standing}
+use Rattle.history_standing.specs.Changes.{standing}
 use Rattle.core_standing.proofs.Onward.{reversed_more}
 use Rattle.core_standing.proofs.changes.follow.Goals as goal
 

@@ -1,6 +1,6 @@
 use Rattle.std.proofs.Common.{◌≡◌, reverse, take}
 use Rattle.history_standing.specs.Opening as opens
-use Rattle.poa_history.specs.Changes as changes
+use Rattle.history_standing.specs.Changes as changes
 use Rattle.core_standing.specs.Seen.{seen}
 use Rattle.core_standing.proofs.changes.follow.Given as goal
 

@@ -1,7 +1,7 @@
 use Rattle.std.proofs.Common.{◌∙◌, ap, if◌then◌else◌, map}
 use Rattle.std.proofs.lemmas.Result.{on_ok_weaker}
 use Rattle.history_standing.specs.Nodes.{stands_under}
-use Rattle.poa_history.specs.Changes.{ended_by_destroy}
+use Rattle.history_standing.specs.Changes.{ended_by_destroy}
 use Rattle.core_standing.proofs.Still.{changed_each, still_below}
 use Rattle.core_standing.proofs.ending.end_below.Goals as goal
 

@@ -1,6 +1,6 @@
 use Rattle.std.proofs.Common.{◌==◌, ◌&&◌, true, if◌then◌else◌}
 use Rattle.std.proofs.lemmas.Result.{on_ok_weaker}
-use Rattle.poa_history.specs.Changes.{ended_by_destroy}
+use Rattle.history_standing.specs.Changes.{ended_by_destroy}
 use Rattle.history_standing.specs.Templates.{has_activator, manager_at}
 use Rattle.core_standing.proofs.Still.{changed_each, still_off}
 use Rattle.core_standing.proofs.ending.turn_off.Goals as goal

@@ -1,7 +1,7 @@
 use Rattle.std.proofs.Common.{◌==◌, ◌&&◌, ◌∙◌, not, sym}
 use Rattle.std.proofs.lemmas.Bool.{and_parts, eqb-true}
 use Rattle.history_standing.specs.Ends.{is_over}
-use Rattle.poa_history.proofs.GoneIs.{some_in}
+use Rattle.history_standing.proofs.Members.{some_in}
 use Rattle.core_standing.specs.Seen.{seen}
 use Rattle.core_standing.proofs.Dropping.{lives_on}
 use Rattle.core_standing.proofs.Forgotten.{in_behind}

@@ -4,7 +4,7 @@ use Rattle.history_standing.specs.Walks.{walk, adapter_met}
 use Rattle.history_standing.specs.declared.activation.Activation.{Activation}
 use Rattle.history_standing.specs.declared.activation.Phase.TheVariants.{Begun}
 use Rattle.history_standing.specs.declared.flight.Flight.{Flight}
-use Rattle.poa_history.specs.Changes.{with_request}
+use Rattle.history_standing.specs.Changes.{with_request}
 use Rattle.core_standing.specs.Seen.{seen, behind}
 use Rattle.active_map.specs.Tables.{Table}
 use Rattle.core_standing.proofs.Behind.{length_behind, pushed_behind}

@@ -1,4 +1,4 @@
-use Rattle.poa_history.specs.Changes.{at_number, come_to}
+use Rattle.history_standing.specs.Changes.{at_number, come_to}
 use Rattle.core_standing.proofs.Still.{changed_each, still_come}
 use Rattle.core_standing.proofs.lives.complete.Goals as goal
 

@@ -1,5 +1,5 @@
 use Rattle.std.proofs.Common.{true}
-use Rattle.poa_history.specs.Changes.{at_number}
+use Rattle.history_standing.specs.Changes.{at_number}
 use Rattle.core_standing.proofs.Still.{changed_each, still_told}
 use Rattle.core_standing.proofs.lives.etherealize.Goals as goal
 

@@ -1,5 +1,5 @@
 use Rattle.std.proofs.Common.{◌∙◌, true, ap}
-use Rattle.poa_history.specs.Changes.{at_number, is_elsewhere}
+use Rattle.history_standing.specs.Changes.{at_number, is_elsewhere}
 use Rattle.core_standing.specs.Seen.{seen}
 use Rattle.core_standing.proofs.Still.{changed_each, still_taken, elsewhere_behind, takes_alike}
 use Rattle.core_standing.proofs.lives.take_out.Goals as goal

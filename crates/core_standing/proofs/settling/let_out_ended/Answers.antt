@@ -1,5 +1,5 @@
 use Rattle.std.proofs.Common.{◌==◌, ◌∙◌, ap, sym}
-use Rattle.poa_history.specs.Changes.{at_number}
+use Rattle.history_standing.specs.Changes.{at_number}
 use Rattle.history_standing.specs.Ends.{let_out}
 use Rattle.core_standing.specs.Seen.{forgotten, seen}
 use Rattle.core_standing.specs.Touched.{is_touched}

@@ -3,7 +3,7 @@ use Rattle.std.specs.Option.{option_copied}
 use Rattle.std.proofs.lemmas.Bool.{and_parts, eqb-true}
 use Rattle.history_standing.proofs.Finding.{find_in}
 use Rattle.history_standing.specs.Ends.{is_over}
-use Rattle.poa_history.proofs.GoneIs.{some_in as one_of}
+use Rattle.history_standing.proofs.Members.{some_in as one_of}
 use Rattle.core_standing.proofs.Forgotten.{in_behind}
 use Rattle.core_standing.proofs.settling.lives_on.Goals as goal
 use Rattle.history_standing.proofs.Tests.{not_true}

@@ -1,5 +1,5 @@
 use Rattle.std.proofs.Common.{subst, sym}
-use Rattle.poa_history.specs.Changes as changes
+use Rattle.history_standing.specs.Changes as changes
 use Rattle.history_standing.specs.Trees.{In}
 use Rattle.core_standing.specs.Touched.{Others, SameOthers, is_touched}
 use Rattle.core_standing.proofs.Staying.{has_own, incarnated_others, incarnated_same}

@@ -1,6 +1,6 @@
 use Rattle.std.proofs.Common.{refl, subst, sym, true}
 use Rattle.std.proofs.lemmas.Bool.{eq-eqb}
-use Rattle.poa_history.specs.Changes as changes
+use Rattle.history_standing.specs.Changes as changes
 use Rattle.core_standing.specs.declared.touched.Touched.TheVariants.{One}
 use Rattle.core_standing.specs.Touched.{Others, SameOthers, is_touched}
 use Rattle.core_standing.proofs.Staying.{changed_others, same_changed, still_others}

@@ -1,10 +1,10 @@
 use Rattle.std.proofs.Common.{◌∙◌, true, inl, inr, refl, subst, sym, ap}
 use Rattle.std.proofs.lemmas.Bool.{eq-eqb}
-use Rattle.poa_history.specs.Changes as changes
+use Rattle.history_standing.specs.Changes as changes
 use Rattle.history_standing.specs.Stages.{arrival_in, stage}
 use Rattle.poa_history.proofs.Untouched.{activations_fewer, activations_tried}
 use Rattle.history_standing.specs.Trees.{In}
-use Rattle.core_standing.specs.Entries.{stage_at}
+use Rattle.poa_history.specs.Entries.{stage_at}
 use Rattle.core_standing.specs.declared.touched.Touched.TheVariants.{One}
 use Rattle.core_standing.specs.Touched.{Others, SameOthers, is_touched}
 use Rattle.core_standing.proofs.Staying.{changed_others, ended_others, same_all, same_changed, still_others, tried_others}

@@ -5,7 +5,7 @@ use Rattle.history_standing.specs.Rules as matching
 use Rattle.history_standing.specs.Standings as standings
 use Rattle.history_standing.specs.Templates as templates
 use Rattle.history_standing.specs.Walks as walks
-use Rattle.poa_history.specs.Situations as situations
+use Rattle.history_standing.specs.Situations as situations
 use Rattle.core_standing.specs.Seen.{seen}
 use Rattle.core_turns.proofs.FactsMet.{facts_same}
 use Rattle.core_turns.proofs.facts.facts_met.Goals as goal

@@ -2,7 +2,7 @@ use Rattle.std.proofs.Common.{◌≡◌, subst, ap, sym, refl, ◌∙◌}
 use Rattle.std.specs.Prelude.{IfOk, option_and_then}
 use Rattle.history_standing.specs.Walks.{walk}
 use Rattle.history_standing.specs.Keys.{key_of}
-use Rattle.poa_history.specs.Situations.{key_or_none, key_fact}
+use Rattle.history_standing.specs.Situations.{key_or_none, key_fact}
 use Rattle.core_standing.specs.Seen.{seen}
 use Rattle.core_turns.proofs.FactsAre.{facts_are}
 use Rattle.core_turns.proofs.facts.facts_of.Goals as goal

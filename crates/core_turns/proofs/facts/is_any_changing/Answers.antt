@@ -1,6 +1,6 @@
 use Rattle.std.proofs.Common.{◌==◌, ◌&&◌, sym, ◌∙◌}
 use Rattle.std.proofs.lemmas.Bool.{and_right, not-true}
-use Rattle.poa_history.specs.Situations.{is_unfinished}
+use Rattle.history_standing.specs.Situations.{is_unfinished}
 use Rattle.active_map.proofs.Moving.{any_still}
 use Rattle.core_turns.proofs.StillFacts.{still_finished}
 use Rattle.core_turns.proofs.facts.is_any_changing.Goals as goal

@@ -1,5 +1,5 @@
 use Rattle.std.proofs.Common.{◌∙◌, ◌==◌, ◌&&◌, sym, refl}
-use Rattle.poa_history.specs.Situations.{is_unfinished}
+use Rattle.history_standing.specs.Situations.{is_unfinished}
 use Rattle.core_standing.specs.Seen.{forgotten}
 use Rattle.core_standing.proofs.Behind.{any_behind, second_fails}
 use Rattle.core_turns.proofs.facts.is_changing.Goals as goal

@@ -1,7 +1,7 @@
 use Rattle.std.proofs.Common.{◌≡◌, sym, subst}
 use Rattle.std.specs.Prelude.{IfOk}
 use Rattle.object_key.specs.Spelling.{TagsPersistent}
-use Rattle.ior_text.specs.Reference.{reference_text as reference_at}
+use Rattle.history_standing.specs.Reference.{reference_text as reference_at}
 use Rattle.history_standing.specs.References as references
 use Rattle.core_turns.proofs.Referred.{tags_persistent}
 use Rattle.core_turns.proofs.references.reference_text.Goals as goal

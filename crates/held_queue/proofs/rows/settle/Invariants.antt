@@ -1,7 +1,7 @@
 use Rattle.std.proofs.Common.{◌≡◌, ◌<◌, ℕ, List, length, slice_index_or}
 use Rattle.poa_base.specs.declared.Config.{Config}
 use Rattle.poa_base.specs.declared.Entry.{Entry}
-use Rattle.poa_history.specs.Changes.{standing}
+use Rattle.history_standing.specs.Changes.{standing}
 use Rattle.held_queue.specs.Held.{KnowsCalls}
 use Rattle.held_queue.specs.Rows.{IsSettledRow}
 use Rattle.held_queue.specs.declared.row.Row.{Row}

@@ -1,4 +1,4 @@
-use Rattle.poa_history.specs.Changes.{standing}
+use Rattle.history_standing.specs.Changes.{standing}
 use Rattle.poa_history.proofs.LegalSound.{legal_sound}
 use Rattle.poa_history.proofs.GoneIs.{ends_where, stands_ungone, emptied_where}
 use Rattle.history_laws.proofs.opening_laws.gone_have_ended.Goals as goal

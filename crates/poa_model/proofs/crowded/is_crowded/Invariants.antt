@@ -1,5 +1,5 @@
 use Rattle.std.proofs.Common.{◌≡◌, take, reverse}
-use Rattle.poa_history.specs.Situations as situations
+use Rattle.history_standing.specs.Situations as situations
 use Rattle.poa_model.proofs.crowded.is_crowded.Given as goal
 
 abbrev pub invariant-loop-i : goal.invariant-loop-i

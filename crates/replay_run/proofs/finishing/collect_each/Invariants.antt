@@ -1,6 +1,6 @@
 use Rattle.replay_run.proofs.Listed.{Ahead}
 use Rattle.replay_run.specs.Playing.{CollectsEach}
-use Rattle.giop_replies.specs.Calls.{Each, IsSaid}
+use Rattle.session_laws.specs.Calls.{Each, IsSaid}
 use Rattle.replay_run.specs.Keeping.{AllEntered}
 use Rattle.replay_player.specs.Effects.{Works}
 use Rattle.replay_run.proofs.finishing.collect_each.Given as goal

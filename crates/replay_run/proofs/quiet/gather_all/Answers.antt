@@ -1,4 +1,4 @@
-use Rattle.giop_replies.proofs.Calls.{given_said}
+use Rattle.session_laws.proofs.Calls.{given_said}
 use Rattle.replay_player.proofs.Collected.{collected_none, collected_still}
 use Rattle.replay_player.proofs.Same.{Still}
 use Rattle.replay_run.specs.Quiet.{message_of}

@@ -1,6 +1,6 @@
 use Rattle.std.proofs.Common.{◌<◌}
 use Rattle.history_standing.specs.Arrivals.{connections}
-use Rattle.giop_replies.specs.Calls.{Each, IsSaid}
+use Rattle.session_laws.specs.Calls.{Each, IsSaid}
 use Rattle.replay_player.specs.Collecting.{CollectsAll}
 use Rattle.replay_player.proofs.Onward.{Onward}
 use Rattle.replay_run.specs.Quiet.{PutsBehind, message_of}

@@ -1,4 +1,4 @@
-use Rattle.giop_replies.specs.Calls.{Each, IsSaid}
+use Rattle.session_laws.specs.Calls.{Each, IsSaid}
 use Rattle.replay_run.proofs.Listed.{Ahead}
 use Rattle.replay_run.specs.Keeping.{AllEntered}
 use Rattle.replay_run.specs.Quiet.{GathersEach, PutsBehind}

@@ -1,7 +1,7 @@
 use Rattle.std.proofs.Common.{◌+◌, ◌-◌, ◌≤◌, ◌==◌, map, sym, ap, subst, ◌∙◌, arith}
 use Rattle.std.specs.Map.{values_of}
 use Rattle.std.specs.Option.{option_copied_mut}
-use Rattle.poa_history.specs.Changes.{at_number}
+use Rattle.history_standing.specs.Changes.{at_number}
 use Rattle.active_map.specs.Made.{made}
 use Rattle.active_map.specs.Tables.{Table, IsIndexed, Covers}
 use Rattle.active_map.proofs.MadeKeeps.{keeps_made, made_stays}

@@ -3,7 +3,7 @@ use Rattle.std.specs.Map.{values_of}
 use Rattle.history_standing.specs.declared.activation.Activation.{Activation}
 use Rattle.history_standing.specs.Standings.{is_of}
 use Rattle.history_standing.specs.Trees.{In}
-use Rattle.poa_history.specs.Changes.{at_number}
+use Rattle.history_standing.specs.Changes.{at_number}
 use Rattle.active_map.specs.Tables.{Table}
 use Rattle.active_map.specs.ById.{numbers_of}
 use Rattle.active_map.proofs.OneByOne.{alone_among, ended_id, number_among}

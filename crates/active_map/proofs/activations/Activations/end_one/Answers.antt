@@ -4,7 +4,7 @@ use Rattle.std.specs.Option.{option_copied_mut}
 use Rattle.std.proofs.lemmas.Bool.{eqb-true}
 use Rattle.history_standing.specs.declared.activation.Activation.{Activation}
 use Rattle.history_standing.specs.Trees.{In}
-use Rattle.poa_history.specs.Changes.{at_number}
+use Rattle.history_standing.specs.Changes.{at_number}
 use Rattle.active_map.specs.Endings.{ended}
 use Rattle.active_map.specs.Noted.{IsNoted}
 use Rattle.active_map.specs.Tables.{Table, Covers, IsIndexed, is_leaving}

@@ -1,6 +1,6 @@
 use Rattle.std.proofs.Common.{◌≡◌, ◌∙◌, false, sym, subst}
 use Rattle.std.specs.Map.{values_of}
-use Rattle.poa_history.specs.Changes.{is_elsewhere}
+use Rattle.history_standing.specs.Changes.{is_elsewhere}
 use Rattle.active_map.specs.Tables.{Table}
 use Rattle.active_map.proofs.NotedKept.{own_alone}
 use Rattle.active_map.proofs.activations.Activations.is_alone.Goals as goal

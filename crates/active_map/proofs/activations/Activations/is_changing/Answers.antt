@@ -3,7 +3,7 @@ use Rattle.std.specs.List.{list_any}
 use Rattle.std.specs.Option.{option_copied}
 use Rattle.std.proofs.lemmas.Bool.{and_parts, eqb-true}
 use Rattle.history_standing.specs.declared.activation.Activation.{Activation}
-use Rattle.poa_history.specs.Situations.{is_unfinished}
+use Rattle.history_standing.specs.Situations.{is_unfinished}
 use Rattle.active_map.specs.Tables.{Table}
 use Rattle.active_map.specs.Asked.{at_one}
 use Rattle.active_map.specs.Tables.{is_passing}

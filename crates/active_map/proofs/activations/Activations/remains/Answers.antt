@@ -1,6 +1,6 @@
 use Rattle.std.proofs.Common.{◌==◌, sym, ap, ◌∙◌, option_copied}
 use Rattle.std.proofs.lemmas.Bool.{eqb-true}
-use Rattle.poa_history.specs.Changes.{is_elsewhere}
+use Rattle.history_standing.specs.Changes.{is_elsewhere}
 use Rattle.history_standing.proofs.Finding.{find_in, find_none}
 use Rattle.active_map.proofs.activations.Activations.remains.Goals as goal
 

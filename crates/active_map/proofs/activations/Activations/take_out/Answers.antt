@@ -1,5 +1,5 @@
 use Rattle.std.proofs.Common.{true, ap, subst, sym, ◌∙◌}
-use Rattle.poa_history.specs.Changes.{is_elsewhere}
+use Rattle.history_standing.specs.Changes.{is_elsewhere}
 use Rattle.active_map.specs.Tables.{Table, Covers}
 use Rattle.active_map.proofs.Covering.{covers_struck, gone_out}
 use Rattle.active_map.proofs.MadeKeeps.{same_change}

@@ -1,5 +1,5 @@
 use Rattle.std.proofs.Common.{◌<◌}
-use Rattle.giop_replies.specs.Calls.{Each, IsSaid}
+use Rattle.session_laws.specs.Calls.{Each, IsSaid}
 use Rattle.history_standing.specs.Arrivals.{connections}
 use Rattle.replay_player.specs.Lines.{reply_line}
 use Rattle.replay_player.specs.Collecting.{CollectsAll}

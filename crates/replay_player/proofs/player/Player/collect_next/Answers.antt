@@ -1,4 +1,4 @@
-use Rattle.giop_replies.proofs.Calls.{given_said}
+use Rattle.session_laws.proofs.Calls.{given_said}
 use Rattle.replay_player.proofs.player.Player.collect_next.Goals as goal
 
 pub print_reply-requires : goal.print_reply-requires

@@ -1,5 +1,0 @@
-use Rattle.std.proofs.Common.{◌∙◌}
-use Rattle.core_arrivals.proofs.known.Known.removal.Goals as goal
-
-pub returns : goal.returns
-returns c = c.removal.ensures ∙ c.requires.stands.removal c.args.worker

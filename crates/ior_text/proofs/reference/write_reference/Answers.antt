@@ -1,7 +1,0 @@
-use Rattle.std.proofs.Common.{◌≡◌, IfOk, subst}
-use Rattle.poa_base.specs.declared.Ior.{Ior}
-use Rattle.ior_text.specs.Written.{ior_text}
-use Rattle.ior_text.proofs.reference.write_reference.Goals as goal
-
-pub returns : goal.returns
-returns c = subst (λ (ior : Ior). IfOk c.write_ior.result (λ text. text ≡ ior_text ior)) c.in_ok-reference.ensures c.write_ior.ensures.text

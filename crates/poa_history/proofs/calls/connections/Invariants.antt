@@ -1,0 +1,6 @@
+use Rattle.std.proofs.Common.{◌≡◌, ◌≤◌, take, reverse}
+use Rattle.history_standing.specs.Arrivals as calls
+use Rattle.poa_history.proofs.calls.connections.Given as goal
+
+abbrev pub invariant-loop-entry : goal.invariant-loop-entry
+invariant-loop-entry l = (l.count ≡ calls.connections (reverse (take l.entry-index l.history))) × (l.count ≤ l.entry-index)

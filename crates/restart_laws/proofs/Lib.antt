@@ -1,3 +1,0 @@
-mod KindStays
-mod Untouched
-pub mod Going
