@@ -83,9 +83,11 @@ fn boot_at(
     text: &str,
     table: &Table,
 ) -> Result<bool, ConfFault>
-    ensures value { FieldGives result (the_boot_at at (find_in paths.now) adapters.now text.now (table_view table.now)) }
+    ensures value { FieldGives result
+        (the_boot_at at (find_in paths.now) adapters.now text.now (table_view table.now)) }
     ensures parent { IfOk result
-        (λ boot. boot ≡ true → the_parent_boots (find_in paths.now) adapters.now (the_parent_text text.now) ≡ true) }
+        (λ boot. boot ≡ true
+        → the_parent_boots (find_in paths.now) adapters.now (the_parent_text text.now) ≡ true) }
 {
     let boot = flag_or(alloc, at, table, "boot", false)?;
     let rooted = parent_boots(paths, adapters, parent_text(text));
@@ -100,7 +102,8 @@ fn manager_number(
     managers: &Numbers,
     table: &Table,
 ) -> Result<u32, ConfFault>
-    ensures value { FieldGives result (the_manager_number at (find_in managers.now) (table_view table.now)) }
+    ensures value { FieldGives result
+        (the_manager_number at (find_in managers.now) (table_view table.now)) }
     ensures found { IfOk result (λ n. IsManagerNumber (find_in managers.now) n) }
 {
     if has(table, "manager") {
@@ -117,8 +120,10 @@ fn preset_given(
     policies: &PolicySet,
     table: &Table,
 ) -> Result<Option<u32>, ConfFault>
-    ensures value { FieldGives result (the_preset_given at (find_in servants.now) policies.now (table_view table.now)) }
-    ensures found { IfOk result (λ preset. IfSome preset (IsPreset (IsNumber (find_in servants.now)) policies.now)) }
+    ensures value { FieldGives result
+        (the_preset_given at (find_in servants.now) policies.now (table_view table.now)) }
+    ensures found { IfOk result
+        (λ preset. IfSome preset (IsPreset (IsNumber (find_in servants.now)) policies.now)) }
 {
     only_if(alloc, at, "default", policies.uses_default_servant())?;
     let servant = number_named(alloc, servants, at, table, "default")?;
@@ -133,8 +138,10 @@ fn preset_at(
     policies: &PolicySet,
     table: &Table,
 ) -> Result<Option<u32>, ConfFault>
-    ensures value { FieldGives result (the_preset_at at (find_in servants.now) policies.now (table_view table.now)) }
-    ensures found { IfOk result (λ preset. IfSome preset (IsPreset (IsNumber (find_in servants.now)) policies.now)) }
+    ensures value { FieldGives result
+        (the_preset_at at (find_in servants.now) policies.now (table_view table.now)) }
+    ensures found { IfOk result
+        (λ preset. IfSome preset (IsPreset (IsNumber (find_in servants.now)) policies.now)) }
 {
     if has(table, "default") {
         preset_given(alloc, at, servants, policies, table)
@@ -180,12 +187,15 @@ fn template_at(
 ) -> Result<AdapterConf, ConfFault>
     requires { text.now ≡ path_text path }
     ensures value { FieldGives result
-        (the_template_at i path (find_in earlier.now.managers.now) (find_in earlier.now.servants.now)
+        (the_template_at i path (find_in earlier.now.managers.now)
+        (find_in earlier.now.servants.now)
         (find_in earlier.now.paths.now) earlier.now.adapters.now (table_view table.now)) }
     ensures path { IfOk result (λ a. a.path ≡ path) }
     ensures boot { IfOk result
-        (λ a. a.boot ≡ true → the_parent_boots (find_in earlier.now.paths.now) earlier.now.adapters.now (the_parent_text text.now) ≡ true) }
-    ensures found { IfOk result (λ a. IsFound (find_in earlier.now.managers.now) (find_in earlier.now.servants.now) a) }
+        (λ a. a.boot ≡ true → the_parent_boots (find_in earlier.now.paths.now)
+        earlier.now.adapters.now (the_parent_text text.now) ≡ true) }
+    ensures found { IfOk result
+        (λ a. IsFound (find_in earlier.now.managers.now) (find_in earlier.now.servants.now) a) }
 {
     let at = Place::Adapter(i);
     let policies = policies_at(alloc, at, &path, table)?;
@@ -223,8 +233,11 @@ fn entry_at(
         (the_entry_at path i (find_in earlier.now.managers.now) (find_in earlier.now.servants.now)
         (find_in earlier.now.paths.now) earlier.now.adapters.now (table_view table.now)) }
     ensures path { IfOk result (λ a. a.path ≡ path) }
-    ensures boot { IfOk result (λ a. a.boot ≡ true → HasParent (find_in earlier.now.paths.now) earlier.now.adapters.now path) }
-    ensures found { IfOk result (λ a. IsFound (find_in earlier.now.managers.now) (find_in earlier.now.servants.now) a) }
+    ensures boot { IfOk result
+        (λ a. a.boot ≡ true → HasParent (find_in earlier.now.paths.now) earlier.now.adapters.now
+        path) }
+    ensures found { IfOk result
+        (λ a. IsFound (find_in earlier.now.managers.now) (find_in earlier.now.servants.now) a) }
 {
     if path.as_slice().is_empty() {
         root_at(alloc, Place::Adapter(i), table)
@@ -303,9 +316,11 @@ pub fn adapters(
     managers: &Numbers,
     servants: &Numbers,
 ) -> Result<(Items<AdapterConf>, Numbers), ConfFault>
-    ensures value { GivesView (λ p. p.0) result (adapters_of (find_in managers.now) (find_in servants.now) (table_view top.now)) }
+    ensures value { GivesView (λ p. p.0) result
+        (adapters_of (find_in managers.now) (find_in servants.now) (table_view top.now)) }
     ensures paths { IfOk result (λ p. find_in p.1 ≡ place_of (adapter_paths p.0)) }
-    ensures read { IfOk result (λ p. EachAfter (IsReadAfter (find_in managers.now) (find_in servants.now)) [] p.0) }
+    ensures read { IfOk result
+        (λ p. EachAfter (IsReadAfter (find_in managers.now) (find_in servants.now)) [] p.0) }
     ensures few { IfOk result (λ p. length p.0 ≤ 1024) }
 {
     let values = entries_at(alloc, Place::Top, top, "adapter", 1024)?;

@@ -29,10 +29,12 @@ fn forward_at<'a>(
     paths: &Numbers,
     table: &'a Table,
 ) -> Result<(ForwardConf, &'a str), ConfFault>
-    ensures value { GivesView (λ p. p.0) result (the_forward_at at (find_in paths.now) (table_view table.now)) }
+    ensures value { GivesView (λ p. p.0) result
+        (the_forward_at at (find_in paths.now) (table_view table.now)) }
     ensures name { IfOk result (λ p. p.1.now ≡ path_text p.0.path) }
     ensures fresh { IfOk result (λ p. find_in paths.now (path_text p.0.path) ≡ None) }
-    ensures written { IfOk result (λ p. (length p.0.path ≤ 16) × (list_all is_name p.0.path ≡ true)) }
+    ensures written { IfOk result
+        (λ p. (length p.0.path ≤ 16) × (list_all is_name p.0.path ≡ true)) }
     ensures endpoint { IfOk result (λ p. IsEndpoint p.0.endpoint) }
 {
     let (path, text) = path_at(alloc, at, table, "path")?;
@@ -51,11 +53,13 @@ fn next_forward(
     value: &Value,
     paths: &mut Numbers,
 ) -> Result<ForwardConf, ConfFault>
-    ensures entry { FieldGives result (forward_in (place.Forward i) (find_in paths.old) (view value.now)) }
+    ensures entry { FieldGives result
+        (forward_in (place.Forward i) (find_in paths.old) (view value.now)) }
     ensures fresh { IfOk result (λ f. find_in paths.old (path_text f.path) ≡ None) }
     ensures written { IfOk result (λ f. (length f.path ≤ 16) × (list_all is_name f.path ≡ true)) }
     ensures endpoint { IfOk result (λ f. IsEndpoint f.endpoint) }
-    ensures noted { IfOk result (λ f. find_in paths.new ≡ noted (path_text f.path) i (find_in paths.old)) }
+    ensures noted { IfOk result
+        (λ f. find_in paths.new ≡ noted (path_text f.path) i (find_in paths.old)) }
 {
     let at = Place::Forward(i);
     let table = table_in(alloc, at, value)?;

@@ -47,8 +47,10 @@ fn home_in(alloc: Global, at: Place, adapter: Option<&AdapterConf>) -> Result<Po
 
 #[tactic(auto, unfolding(crate::specs::Objects::home_below))]
 fn home_below(alloc: Global, at: Place, homes: &Homes, text: &str) -> Result<PolicySet, ConfFault>
-    ensures value { FieldGives result (the_home_below at (find_in homes.now.paths.now) homes.now.adapters.now text.now) }
-    ensures found { IfOk result (IsFoundHome (find_in homes.now.paths.now) homes.now.adapters.now text.now) }
+    ensures value { FieldGives result
+        (the_home_below at (find_in homes.now.paths.now) homes.now.adapters.now text.now) }
+    ensures found { IfOk result
+        (IsFoundHome (find_in homes.now.paths.now) homes.now.adapters.now text.now) }
 {
     let k = or_missing(alloc, at, "adapter", find(homes.paths, text))?;
     home_in(alloc, at, homes.adapters.get(k as usize))
@@ -63,8 +65,10 @@ fn home_of(
     text: &str,
 ) -> Result<PolicySet, ConfFault>
     requires { text.now ≡ path_text path.now }
-    ensures value { FieldGives result (the_home_of at (find_in homes.now.paths.now) homes.now.adapters.now path.now) }
-    ensures found { IfOk result (HomeFound (find_in homes.now.paths.now) homes.now.adapters.now path.now) }
+    ensures value { FieldGives result
+        (the_home_of at (find_in homes.now.paths.now) homes.now.adapters.now path.now) }
+    ensures found { IfOk result
+        (HomeFound (find_in homes.now.paths.now) homes.now.adapters.now path.now) }
 {
     if path.as_slice().is_empty() {
         Ok(defaults())
@@ -130,7 +134,8 @@ fn new_id(
     oid: &Option<Oid>,
 ) -> Result<(), ConfFault>
     ensures value { FieldGives result (the_new_id at (find_in ids.now) path.now oid.now) }
-    ensures new { OnOk result (IfSome oid.now (λ id. find_in ids.now (the_id_text path.now id) ≡ None)) }
+    ensures new { OnOk result
+        (IfSome oid.now (λ id. find_in ids.now (the_id_text path.now id) ≡ None)) }
 {
     let Some(id) = oid else {
         return Ok(());
@@ -147,9 +152,11 @@ fn new_servant(
     path: &str,
     servant: u32,
 ) -> Result<(), ConfFault>
-    ensures value { FieldGives result (the_new_servant at (find_in taken.now) policies.now path.now servant) }
+    ensures value { FieldGives result
+        (the_new_servant at (find_in taken.now) policies.now path.now servant) }
     ensures alone { OnOk result
-        ((the_multiple_id policies.now.uniqueness ≡ true) ⊎ (find_in taken.now (the_servant_text path.now servant) ≡ None)) }
+        ((the_multiple_id policies.now.uniqueness ≡ true)
+        ⊎ (find_in taken.now (the_servant_text path.now servant) ≡ None)) }
 {
     if policies.is_multiple() {
         return Ok(());
@@ -169,11 +176,13 @@ fn object_at<'a>(
     table: &'a Table,
 ) -> Result<(ObjectConf, &'a str), ConfFault>
     ensures value { GivesView (λ p. p.0) result
-        (the_object_at at (find_in homes.now.paths.now) homes.now.adapters.now (find_in homes.now.servants.now) (find_in ids.now)
+        (the_object_at at (find_in homes.now.paths.now) homes.now.adapters.now
+        (find_in homes.now.servants.now) (find_in ids.now)
         (find_in taken.now) (table_view table.now)) }
     ensures text { IfOk result (λ p. p.1.now ≡ path_text p.0.adapter) }
     ensures read { IfOk result
-        (λ p. IsRead (find_in homes.now.paths.now) homes.now.adapters.now (find_in homes.now.servants.now) (find_in ids.now)
+        (λ p. IsRead (find_in homes.now.paths.now) homes.now.adapters.now
+        (find_in homes.now.servants.now) (find_in ids.now)
         (find_in taken.now) p.0) }
 {
     let (adapter, text) = path_at(alloc, at, table, "adapter")?;
@@ -210,7 +219,8 @@ fn note_servant(
     path: &str,
     servant: u32,
 ) -> Result<(), ConfFault>
-    ensures noted { OnOk result (find_in taken.new ≡ noted (the_servant_text path.now servant) 0 (find_in taken.old)) }
+    ensures noted { OnOk result
+        (find_in taken.new ≡ noted (the_servant_text path.now servant) 0 (find_in taken.old)) }
     ensures memory { IfErr result (λ e. e ≡ fault.WantMemory) }
 {
     let text = servant_text(alloc, path, servant)?;
@@ -227,13 +237,18 @@ fn next_object(
     taken: &mut Numbers,
 ) -> Result<ObjectConf, ConfFault>
     ensures entry { FieldGives result
-        (object_in (place.Object i) (find_in homes.now.paths.now) homes.now.adapters.now (find_in homes.now.servants.now) (find_in ids.old)
+        (object_in (place.Object i) (find_in homes.now.paths.now) homes.now.adapters.now
+        (find_in homes.now.servants.now) (find_in ids.old)
         (find_in taken.old) (view value.now)) }
     ensures read { IfOk result
-        (IsRead (find_in homes.now.paths.now) homes.now.adapters.now (find_in homes.now.servants.now) (find_in ids.old)
+        (IsRead (find_in homes.now.paths.now) homes.now.adapters.now
+        (find_in homes.now.servants.now) (find_in ids.old)
         (find_in taken.old)) }
-    ensures ids { IfOk result (λ o. find_in ids.new ≡ noted_id (path_text o.adapter) o.oid (find_in ids.old)) }
-    ensures taken { IfOk result (λ o. find_in taken.new ≡ noted (the_servant_text (path_text o.adapter) o.servant) 0 (find_in taken.old)) }
+    ensures ids { IfOk result
+        (λ o. find_in ids.new ≡ noted_id (path_text o.adapter) o.oid (find_in ids.old)) }
+    ensures taken { IfOk result
+        (λ o. find_in taken.new
+        ≡ noted (the_servant_text (path_text o.adapter) o.servant) 0 (find_in taken.old)) }
 {
     let at = Place::Object(i);
     let table = table_in(alloc, at, value)?;
@@ -254,10 +269,13 @@ fn entries(
     requires ids { find_in ids.old ≡ seen_of (ids_of []) }
     requires taken { find_in taken.old ≡ seen_of (taken_of []) }
     ensures value { FieldGives result
-        (entries_of (object_after (find_in homes.now.paths.now) homes.now.adapters.now (find_in homes.now.servants.now)) []
+        (entries_of (object_after (find_in homes.now.paths.now) homes.now.adapters.now
+        (find_in homes.now.servants.now)) []
         (items_view values.now)) }
     ensures read { IfOk result
-        (λ objects. EachAfter (IsReadAfter (find_in homes.now.paths.now) homes.now.adapters.now (find_in homes.now.servants.now))
+        (λ objects. EachAfter
+        (IsReadAfter (find_in homes.now.paths.now) homes.now.adapters.now
+        (find_in homes.now.servants.now))
         [] objects) }
     ensures few { IfOk result (λ objects. length objects ≤ OBJECTS) }
 {
@@ -279,9 +297,12 @@ pub(crate) fn objects(
     homes: &Homes,
 ) -> Result<Items<ObjectConf>, ConfFault>
     ensures value { FieldGives result
-        (objects_of (find_in homes.now.paths.now) homes.now.adapters.now (find_in homes.now.servants.now) (table_view top.now)) }
+        (objects_of (find_in homes.now.paths.now) homes.now.adapters.now
+        (find_in homes.now.servants.now) (table_view top.now)) }
     ensures read { IfOk result
-        (λ objects. EachAfter (IsReadAfter (find_in homes.now.paths.now) homes.now.adapters.now (find_in homes.now.servants.now))
+        (λ objects. EachAfter
+        (IsReadAfter (find_in homes.now.paths.now) homes.now.adapters.now
+        (find_in homes.now.servants.now))
         [] objects) }
     ensures few { IfOk result (λ objects. length objects ≤ OBJECTS) }
 {

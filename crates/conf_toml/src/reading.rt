@@ -40,7 +40,8 @@ pub(crate) trait Reader {
         requires noted { find_in numbers.old ≡ place_of (names self.now done.now) }
         ensures value { FieldGives result (after self.now done.now (view value.now)) }
         ensures rule { IfOk result (rule self.now done.now) }
-        ensures noted { IfOk result (λ entry. find_in numbers.new ≡ place_of (names self.now (done.now ++ entry ∷ []))) };
+        ensures noted { IfOk result
+            (λ entry. find_in numbers.new ≡ place_of (names self.now (done.now ++ entry ∷ []))) };
 }
 
 /// Reads all entries, and notes their names.
@@ -53,7 +54,8 @@ pub(crate) fn read<R: Reader>(
     requires few { length values.now ≤ 1024 }
     requires start { find_in numbers.old ≡ place_of (R.names reader.now []) }
     ensures value { FieldGives result (entries_of (R.after reader.now) [] (items_view values.now)) }
-    ensures noted { IfOk result (λ entries. find_in numbers.new ≡ place_of (R.names reader.now entries)) }
+    ensures noted { IfOk result
+        (λ entries. find_in numbers.new ≡ place_of (R.names reader.now entries)) }
     ensures rule { IfOk result (EachAfter (R.rule reader.now) []) }
     ensures few { IfOk result (λ entries. length entries ≤ 1024) }
 {

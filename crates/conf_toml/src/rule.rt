@@ -104,7 +104,8 @@ fn fresh_at(
     table: &Table,
 ) -> Result<Gives, ConfFault>
     ensures value { Answers result (the_fresh_at at policies.now (table_view table.now)) }
-    ensures within { (servants : Find) → IfOk result (GivesWithin (IsNumber servants) policies.now) }
+    ensures within { (servants : Find)
+        → IfOk result (GivesWithin (IsNumber servants) policies.now) }
 {
     let kind = word_at(alloc, at, table, "fresh")?;
     only_if(alloc, at, "fresh", policies.retains())?;
@@ -119,8 +120,10 @@ fn servant_given(
     servants: &Numbers,
     table: &Table,
 ) -> Result<Gives, ConfFault>
-    ensures value { Answers result (the_servant_given at (find_in servants.now) (table_view table.now)) }
-    ensures within { (set : PolicySet) → IfOk result (GivesWithin (IsNumber (find_in servants.now)) set) }
+    ensures value { Answers result
+        (the_servant_given at (find_in servants.now) (table_view table.now)) }
+    ensures within { (set : PolicySet)
+        → IfOk result (GivesWithin (IsNumber (find_in servants.now)) set) }
 {
     let servant = number_named(alloc, servants, at, table, "servant")?;
     none_of(
@@ -135,7 +138,8 @@ fn servant_given(
 #[tactic(auto, unfolding(crate::specs::Rules::forward_given))]
 fn forward_given(alloc: Global, at: Place, table: &Table) -> Result<Gives, ConfFault>
     ensures value { Answers result (the_forward_given at (table_view table.now)) }
-    ensures within { (servants : Find) (set : PolicySet) → IfOk result (GivesWithin (IsNumber servants) set) }
+    ensures within { (servants : Find) (set : PolicySet)
+        → IfOk result (GivesWithin (IsNumber servants) set) }
 {
     let host = host_at(alloc, at, table, "forward_host")?;
     let port = port_at(alloc, at, table, "forward_port")?;
@@ -146,7 +150,8 @@ fn forward_given(alloc: Global, at: Place, table: &Table) -> Result<Gives, ConfF
 #[tactic(auto, unfolding(crate::specs::Rules::raise_given))]
 fn raise_given(alloc: Global, at: Place, table: &Table) -> Result<Gives, ConfFault>
     ensures value { Answers result (the_raise_given at (table_view table.now)) }
-    ensures within { (servants : Find) (set : PolicySet) → IfOk result (GivesWithin (IsNumber servants) set) }
+    ensures within { (servants : Find) (set : PolicySet)
+        → IfOk result (GivesWithin (IsNumber servants) set) }
 {
     let name = word_at(alloc, at, table, "raise")?;
     let minor = number_or(alloc, at, table, "minor", 0, u32::MAX, 0)?;
@@ -162,7 +167,8 @@ fn given_by(
     policies: &PolicySet,
     table: &Table,
 ) -> Result<Gives, ConfFault>
-    ensures value { Answers result (the_given_by way at (find_in servants.now) policies.now (table_view table.now)) }
+    ensures value { Answers result
+        (the_given_by way at (find_in servants.now) policies.now (table_view table.now)) }
     ensures within { IfOk result (GivesWithin (IsNumber (find_in servants.now)) policies.now) }
 {
     match way {
@@ -182,8 +188,10 @@ fn rule_at(
     policies: &PolicySet,
     table: &Table,
 ) -> Result<RuleConf, ConfFault>
-    ensures value { Answers result (the_rule_at at (find_in servants.now) policies.now (table_view table.now)) }
-    ensures within { IfOk result (λ r. GivesWithin (IsNumber (find_in servants.now)) policies.now r.gives) }
+    ensures value { Answers result
+        (the_rule_at at (find_in servants.now) policies.now (table_view table.now)) }
+    ensures within { IfOk result
+        (λ r. GivesWithin (IsNumber (find_in servants.now)) policies.now r.gives) }
 {
     let oid = matched_at(alloc, at, table)?;
     let gives = given_by(alloc, way_of(table), at, servants, policies, table)?;
@@ -199,8 +207,10 @@ fn next_rule(
     policies: &PolicySet,
     value: &Value,
 ) -> Result<RuleConf, ConfFault>
-    ensures value { Answers result (rule_in at (find_in servants.now) policies.now (view value.now)) }
-    ensures within { IfOk result (λ r. GivesWithin (IsNumber (find_in servants.now)) policies.now r.gives) }
+    ensures value { Answers result
+        (rule_in at (find_in servants.now) policies.now (view value.now)) }
+    ensures within { IfOk result
+        (λ r. GivesWithin (IsNumber (find_in servants.now)) policies.now r.gives) }
 {
     let table = table_in(alloc, at, value)?;
     rule_at(alloc, at, servants, policies, table)
@@ -214,8 +224,11 @@ fn entries(
     values: &[Value],
 ) -> Result<Items<RuleConf>, ConfFault>
     requires { length values.now ≤ 1024 }
-    ensures value { Answers result (entries_of (rule_after i (find_in servants.now) policies.now) [] (items_view values.now)) }
-    ensures within { IfOk result (λ rules. AllByRecursion (λ r. GivesWithin (IsNumber (find_in servants.now)) policies.now r.gives) rules) }
+    ensures value { Answers result
+        (entries_of (rule_after i (find_in servants.now) policies.now) [] (items_view values.now)) }
+    ensures within { IfOk result
+        (λ rules. AllByRecursion
+        (λ r. GivesWithin (IsNumber (find_in servants.now)) policies.now r.gives) rules) }
     ensures count { IfOk result (λ rules. length rules ≡ length values.now) }
 {
     let mut rules = Vec::new(alloc);
@@ -237,8 +250,10 @@ pub(crate) fn rules_at(
     policies: &PolicySet,
     table: &Table,
 ) -> Result<Items<RuleConf>, ConfFault>
-    ensures value { Answers result (the_rules_at i (find_in servants.now) policies.now (table_view table.now)) }
-    ensures rules { IfOk result (λ rules. AreRules (IsNumber (find_in servants.now)) policies.now rules) }
+    ensures value { Answers result
+        (the_rules_at i (find_in servants.now) policies.now (table_view table.now)) }
+    ensures rules { IfOk result
+        (λ rules. AreRules (IsNumber (find_in servants.now)) policies.now rules) }
 {
     let at = Place::Adapter(i);
     let values = items_at(alloc, at, table, "rule")?;
@@ -250,7 +265,8 @@ pub(crate) fn rules_at(
 
 #[tactic(auto, using(crate::proofs::Counting::emptiness))]
 fn may_have(values: &[Value], policies: &PolicySet) -> bool
-    ensures { result ≡ (the_empty (items_view values.now) || the_servant_manager policies.now.processing) }
+    ensures { result ≡ (the_empty (items_view values.now)
+        || the_servant_manager policies.now.processing) }
 {
     let none = values.is_empty();
     none || policies.uses_servant_manager()

@@ -52,7 +52,8 @@ fn servant_at<'a>(
     numbers: &Numbers,
     table: &'a Table,
 ) -> Result<(ServantConf, &'a str), ConfFault>
-    ensures value { GivesView (λ p. p.0) result (the_servant_at at (find_in numbers.now) (table_view table.now)) }
+    ensures value { GivesView (λ p. p.0) result
+        (the_servant_at at (find_in numbers.now) (table_view table.now)) }
     ensures name { IfOk result (λ p. p.1.now ≡ p.0.name) }
     ensures fresh { IfOk result (λ p. find_in numbers.now p.0.name ≡ None) }
     ensures named { IfOk result (λ p. is_name p.0.name ≡ true) }

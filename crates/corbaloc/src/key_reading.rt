@@ -42,7 +42,8 @@ fn first_byte(text: &[u8]) -> Option<(u8, &[u8])>
 
 // The byte whose digits stand in front, which stand behind a `%`.
 fn escaped(text: &[u8]) -> Option<(u8, &[u8])>
-    ensures { MatchOption result (IsWrong (37 ∷ text.now)) (λ x. BeginsWith x.0 x.1.now (37 ∷ text.now)) }
+    ensures { MatchOption result (IsWrong (37 ∷ text.now))
+        (λ x. BeginsWith x.0 x.1.now (37 ∷ text.now)) }
 {
     let [high, low, behind @ ..] = text else {
         return None;
@@ -54,7 +55,8 @@ fn escaped(text: &[u8]) -> Option<(u8, &[u8])>
 // The byte in front, where it stands for itself.
 fn plain(byte: u8, behind: &[u8]) -> Option<(u8, &[u8])>
     requires { byte ≢ 37 }
-    ensures { MatchOption result (IsWrong (byte ∷ behind.now)) (λ x. BeginsWith x.0 x.1.now (byte ∷ behind.now)) }
+    ensures { MatchOption result (IsWrong (byte ∷ behind.now))
+        (λ x. BeginsWith x.0 x.1.now (byte ∷ behind.now)) }
 {
     if stands_for_itself(byte) {
         Some((byte, behind))

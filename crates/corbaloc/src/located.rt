@@ -18,7 +18,8 @@ use std::alloc::Global;
 /// host or port outside the grammar, or another key than the first.
 pub(crate) fn locate(alloc: Global, ior: &Ior) -> Result<Option<Location>, WantMemory>
     ensures { IfOk result (λ found.
-        MatchOption found ((location : Location) → IsLocated ior.now location → ⊥) (λ location. IsLocated ior.now location)) }
+        MatchOption found ((location : Location) → IsLocated ior.now location → ⊥)
+        (λ location. IsLocated ior.now location)) }
 {
     let Some(key) = key_of(alloc, ior, 0)? else {
         return Ok(None);
@@ -52,7 +53,8 @@ fn addresses_with(
 // The address of a profile with this key.
 fn address_with(alloc: Global, profile: &Profile, key: &[u8]) -> Result<Option<Address>, WantMemory>
     ensures { IfOk result (λ found. MatchOption found
-        ((address : Address) → IsAt key.now address profile.now → ⊥) (λ address. IsAt key.now address profile.now)) }
+        ((address : Address) → IsAt key.now address profile.now → ⊥)
+        (λ address. IsAt key.now address profile.now)) }
 {
     let Some(body) = read_body(alloc, profile)? else {
         return Ok(None);

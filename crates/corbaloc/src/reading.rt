@@ -23,7 +23,8 @@ const SCHEME: &[u8] = b"corbaloc:";
 /// string is wrong, the first that is. `WantMemory`: no memory was left for the reference.
 pub fn read_corbaloc(alloc: Global, text: &[u8]) -> Result<Ior, LocFault>
     ensures ior { IfOk result (λ ior. reference_of text.now ≡ Ok ior) }
-    ensures fault { IfErr result (λ fault. (fault ≡ LocFault.WantMemory) ⊎ (reference_of text.now ≡ Err fault)) }
+    ensures fault { IfErr result
+        (λ fault. (fault ≡ LocFault.WantMemory) ⊎ (reference_of text.now ≡ Err fault)) }
 {
     let location = read_location(alloc, text)?;
     let ior = write_reference(alloc, &location)?;

@@ -29,7 +29,8 @@ fn write_profiles(
     addresses: &[Address],
     key: &[u8],
 ) -> Result<Items<Profile>, WantMemory>
-    ensures { IfOk result (λ profiles. profiles ≡ map (λ address. profile_of address key.now) addresses.now) }
+    ensures { IfOk result
+        (λ profiles. profiles ≡ map (λ address. profile_of address key.now) addresses.now) }
 {
     let mut profiles = Items::new(alloc);
     for address in addresses {

@@ -16,7 +16,9 @@ use std::alloc::Global;
 /// the reference has no profile, where one of them isn't of IIOP 1.0 to 1.2 or can't be read, where a host or a port is
 /// outside the grammar, and where two keys differ.
 pub fn write_corbaloc(alloc: Global, ior: &Ior) -> Result<Option<Bytes>, WantMemory>
-    ensures text { IfOk result (λ found. MatchOption found ((text : List ℕ) → HasText ior.now text → ⊥) (HasText ior.now)) }
+    ensures text { IfOk result
+        (λ found. MatchOption found ((text : List ℕ) → HasText ior.now text → ⊥)
+        (HasText ior.now)) }
     // What is written gives a reference with the same versions, endpoints and key.
     ensures back { IfOk result (λ found. IfSome found (LeadsBack ior.now)) }
 {

@@ -70,7 +70,8 @@ pub fn call<'a>(entries: &'a Entries, calls: &Calls, arrival: u64) -> Option<&'a
 
 /// The connection of an arrival.
 pub fn conn(entries: &Entries, calls: &Calls, arrival: u64) -> Option<u32>
-    ensures { KnowsCalls (reverse entries.now.items) calls.now.places.items → result ≡ arrived.conn_of (reverse entries.now.items) arrival }
+    ensures { KnowsCalls (reverse entries.now.items) calls.now.places.items
+        → result ≡ arrived.conn_of (reverse entries.now.items) arrival }
 {
     conn_in(entry_of(entries, &calls.places, arrival))
 }
@@ -89,7 +90,8 @@ pub fn call_admitted<'a>(entries: &'a Entries, calls: &Calls, entry: &Entry) -> 
 /// The call of an arrival, where there is one.
 fn call_at<'a>(entries: &'a Entries, calls: &Calls, arrival: Option<u64>) -> Option<&'a Call>
     ensures { KnowsCalls (reverse entries.now.items) calls.now.places.items
-        → option_copied result ≡ elim arrival [ Some r ↦ arrived.call_of (reverse entries.now.items) r | None ↦ None ] }
+        → option_copied result
+        ≡ elim arrival [ Some r ↦ arrived.call_of (reverse entries.now.items) r | None ↦ None ] }
 {
     match arrival {
         Some(arrival) => call(entries, calls, arrival),
@@ -105,7 +107,8 @@ pub fn call_tried<'a>(
     entry: &Entry,
     stage: Stage,
 ) -> Option<&'a Call>
-    ensures { KnowsCalls (reverse entries.now.items) calls.now.places.items → stage ≡ made.stage_at (reverse entries.now.items) entry.now
+    ensures { KnowsCalls (reverse entries.now.items) calls.now.places.items
+        → stage ≡ made.stage_at (reverse entries.now.items) entry.now
         → option_copied result ≡ queued.call_tried (reverse entries.now.items) entry.now }
 {
     match entry {
@@ -128,7 +131,8 @@ pub fn reserve(calls: &mut Calls) -> Result<(), WantMemory>
 
 /// Takes in an entry of the journal, by its place there. Takes no memory.
 pub fn advance(entry: &Entry, place: usize, calls: &mut Calls)
-    requires { placed.arrives entry.now ≡ true → vec_len calls.old.places < vec_capacity calls.old.places }
+    requires { placed.arrives entry.now ≡ true
+        → vec_len calls.old.places < vec_capacity calls.old.places }
     ensures { (past : List Entry) → place ≡ length past → KnowsCalls past calls.old.places.items
         → KnowsCalls (entry.now ∷ past) calls.new.places.items }
 {

@@ -70,7 +70,8 @@ fn mark(conn: u32, left: &mut Vec<bool>)
 /// A connection enters.
 fn enter(conn: u32, tally: &mut Tally)
     requires { HasRoomForOne tally.old }
-    ensures { (past : List EntryOf) → conn ≡ calls.connections past → conn < 4000000 → IsTally past tally.old
+    ensures { (past : List EntryOf) → conn ≡ calls.connections past → conn < 4000000
+        → IsTally past tally.old
         → IsTally (Entered conn ∷ past) tally.new }
 {
     tally.staying = with_one(conn, tally.staying);
@@ -79,7 +80,8 @@ fn enter(conn: u32, tally: &mut Tally)
 
 /// A call arrives.
 fn arrive(conn: u32, size: u64, call: &Call, tally: &mut Tally)
-    ensures { (past : List EntryOf) → tallies.AreFew (Arrive conn size call.now ∷ past) → IsTally past tally.old
+    ensures { (past : List EntryOf) → tallies.AreFew (Arrive conn size call.now ∷ past)
+        → IsTally past tally.old
         → IsTally (Arrive conn size call.now ∷ past) tally.new }
 {
     tally.arrivals = tally.arrivals.saturating_add(1);
@@ -89,7 +91,8 @@ fn arrive(conn: u32, size: u64, call: &Call, tally: &mut Tally)
 
 /// A call is refused, since the run takes no more.
 fn fill(conn: u32, size: u64, tally: &mut Tally)
-    ensures { (past : List EntryOf) → IsTally past tally.old → IsTally (Filled conn size ∷ past) tally.new }
+    ensures { (past : List EntryOf) → IsTally past tally.old
+        → IsTally (Filled conn size ∷ past) tally.new }
 {
     tally.filled = Some(Full {
         arrivals: tally.arrivals,
@@ -99,7 +102,8 @@ fn fill(conn: u32, size: u64, tally: &mut Tally)
 
 /// A connection leaves.
 fn leave(conn: u32, tally: &mut Tally)
-    ensures { (past : List EntryOf) → legal.IsOpen past conn → IsTally past tally.old → IsTally (Left conn ∷ past) tally.new }
+    ensures { (past : List EntryOf) → legal.IsOpen past conn → IsTally past tally.old
+        → IsTally (Left conn ∷ past) tally.new }
 {
     tally.staying = without_one(conn, tally.staying);
     mark(conn, &mut tally.left);
@@ -107,7 +111,8 @@ fn leave(conn: u32, tally: &mut Tally)
 
 /// A call is admitted, whatever it is answered.
 fn admit(worker: u32, arrival: u64, verdict: &Verdict, call: Option<&Call>, tally: &mut Tally)
-    ensures { (past : List EntryOf) → option_copied call.entry ≡ calls.call_of past arrival → IsTally past tally.old
+    ensures { (past : List EntryOf) → option_copied call.entry ≡ calls.call_of past arrival
+        → IsTally past tally.old
         → IsTally (Admit worker arrival verdict.now ∷ past) tally.new }
 {
     tally.shut = is_shut_by(call) || tally.shut;
@@ -115,7 +120,8 @@ fn admit(worker: u32, arrival: u64, verdict: &Verdict, call: Option<&Call>, tall
 
 /// A worker gives the run up; the first one is remembered.
 fn give_up(worker: u32, tally: &mut Tally)
-    ensures { (past : List EntryOf) → IsTally past tally.old → IsTally (Abandon worker ∷ past) tally.new }
+    ensures { (past : List EntryOf) → IsTally past tally.old
+        → IsTally (Abandon worker ∷ past) tally.new }
 {
     tally.given_up = tally.given_up.or(Some(worker));
 }
@@ -123,8 +129,10 @@ fn give_up(worker: u32, tally: &mut Tally)
 /// Takes in an entry, with the call of the arrival that it admits. Takes no memory.
 pub fn advance(entry: &Entry, call: Option<&Call>, tally: &mut Tally)
     requires { HasRoomFor entry.now tally.old }
-    ensures { (c : Config) (run limit : ℕ) (past : List EntryOf) → legal.IsLegal c run limit (entry.now ∷ past) → limit ≤ 4000000
-        → option_copied call.entry ≡ tallies.call_admitted past entry.now → IsTally past tally.old → IsTally (entry.now ∷ past) tally.new }
+    ensures { (c : Config) (run limit : ℕ) (past : List EntryOf)
+        → legal.IsLegal c run limit (entry.now ∷ past) → limit ≤ 4000000
+        → option_copied call.entry ≡ tallies.call_admitted past entry.now → IsTally past tally.old
+        → IsTally (entry.now ∷ past) tally.new }
 {
     match entry {
         Entry::Entered { conn } => enter(*conn, tally),

@@ -40,7 +40,8 @@ pub fn insert(numbers: &mut VecDeque<u64>, number: u64)
 /// Puts a number behind all, where it is to. Takes no memory.
 pub fn push_if(is: bool, numbers: &mut VecDeque<u64>, number: u64)
     requires { deque_len numbers.old < deque_capacity numbers.old }
-    ensures { numbers.new.items ≡ (if is then numbers.old.items ++ number ∷ [] else numbers.old.items) }
+    ensures { numbers.new.items
+        ≡ (if is then numbers.old.items ++ number ∷ [] else numbers.old.items) }
 {
     if is {
         numbers.push_back_reserved(number);
@@ -50,7 +51,8 @@ pub fn push_if(is: bool, numbers: &mut VecDeque<u64>, number: u64)
 /// Puts a number behind all that are less, where it is to. Takes no memory.
 pub fn insert_if(is: bool, numbers: &mut VecDeque<u64>, number: u64)
     requires { deque_len numbers.old < deque_capacity numbers.old }
-    ensures { numbers.new.items ≡ (if is then inserted number numbers.old.items else numbers.old.items) }
+    ensures { numbers.new.items
+        ≡ (if is then inserted number numbers.old.items else numbers.old.items) }
 {
     if is {
         insert(numbers, number);

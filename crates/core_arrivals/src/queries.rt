@@ -32,7 +32,8 @@ fn is_unmarked(conn: u32, left: &[bool]) -> bool
 
 /// Whether a connection entered and hasn't left.
 pub fn is_open(tally: &Tally, conn: u32) -> bool
-    ensures value { (h : List Entry) → IsTally h tally.now → result ≡ (nat_lt conn (calls.connections h) && not (legal.has_left h conn)) }
+    ensures value { (h : List Entry) → IsTally h tally.now
+        → result ≡ (nat_lt conn (calls.connections h) && not (legal.has_left h conn)) }
     ensures open_ { (h : List Entry) → IsTally h tally.now → IsTrue result ↔ legal.IsOpen h conn }
 {
     is_unmarked(conn, &tally.left)
@@ -69,7 +70,8 @@ fn has_room(limit: u64, size: u64, tally: &Tally) -> bool
 /// Whether a call of this size is taken by a run that takes so many arrivals: there is room for it, or it is
 /// the first `shutdown`.
 pub fn is_taken(limit: u64, call: &Call, size: u64, tally: &Tally) -> bool
-    ensures { (h : List Entry) → IsTally h tally.now → result ≡ limits.is_taken limit h size call.now }
+    ensures { (h : List Entry) → IsTally h tally.now
+        → result ≡ limits.is_taken limit h size call.now }
 {
     (is_shutdown(call) && !tally.ordered) || has_room(limit, size, tally)
 }
@@ -78,21 +80,24 @@ pub fn is_taken(limit: u64, call: &Call, size: u64, tally: &Tally) -> bool
 /// connection but the first has left, and every call is admitted.
 pub fn is_run_over(tally: &Tally, unadmitted: u64) -> bool
     ensures { (h : List Entry) → IsTally h tally.now
-        → result ≡ (leaving.is_shut h && (leaving.are_gone h (calls.connections h) && (unadmitted == 0))) }
+        → result ≡ (leaving.is_shut h
+        && (leaving.are_gone h (calls.connections h) && (unadmitted == 0))) }
 {
     tally.shut && tally.staying == 0 && unadmitted == 0
 }
 
 /// How many calls, and bytes of calls, stood when a run took no more, if it came to that.
 pub fn filled(tally: &Tally) -> Option<Full>
-    ensures { (h : List Entry) → IsTally h tally.now → option_map (λ f. (f.arrivals, f.bytes)) result ≡ limits.filled_at h }
+    ensures { (h : List Entry) → IsTally h tally.now
+        → option_map (λ f. (f.arrivals, f.bytes)) result ≡ limits.filled_at h }
 {
     tally.filled
 }
 
 /// How far a run has come that no worker gave up.
 fn phase_without(tally: &Tally) -> Phase
-    ensures { (h : List Entry) → IsTally h tally.now → result ≡ phases.phase_by None (leaving.is_shut h) (legal.is_filled h) }
+    ensures { (h : List Entry) → IsTally h tally.now
+        → result ≡ phases.phase_by None (leaving.is_shut h) (legal.is_filled h) }
 {
     if tally.shut {
         return Phase::Shut;

@@ -49,7 +49,8 @@ pub fn empty(alloc: Global) -> Queue
 
 /// How many arrivals wait to be admitted.
 pub fn count(queue: &Queue) -> u64
-    ensures { (h : List Entry) → IsQueue h queue.now → result ≡ count_below (begun.is_unadmitted h) (arrivals_in h) }
+    ensures { (h : List Entry) → IsQueue h queue.now
+        → result ≡ count_below (begun.is_unadmitted h) (arrivals_in h) }
 {
     queue.unadmitted.len() as u64
 }
@@ -87,7 +88,8 @@ pub fn reserve(queue: &mut Queue) -> Result<(), WantMemory>
 /// A call arrives. It is crowded where too many wait.
 fn arrive(call: &Call, arrival: u64, queue: &mut Queue)
     requires { HasPlace queue.old }
-    ensures { (past : List Entry) (conn size : ℕ) → arrival ≡ arrivals_in past → IsQueue past queue.old
+    ensures { (past : List Entry) (conn size : ℕ) → arrival ≡ arrivals_in past
+        → IsQueue past queue.old
         → IsQueue (entry_kinds.Arrive conn size call.now ∷ past) queue.new }
 {
     let crowded = queue.messages.len() as u64 >= UNADMITTED;
@@ -112,9 +114,11 @@ fn admit(arrival: u64, queue: &mut Queue)
 /// An arrival for which a child was made goes back to its place.
 fn put_back(call: Option<&Call>, arrival: u64, queue: &mut Queue)
     requires { HasPlace queue.old }
-    ensures { (c : Config) (run : ℕ) (past : List Entry) (w n : ℕ) → IsManned c run past → begun.stage past w ≡ stage_kinds.Trying arrival
+    ensures { (c : Config) (run : ℕ) (past : List Entry) (w n : ℕ) → IsManned c run past
+        → begun.stage past w ≡ stage_kinds.Trying arrival
         → option_copied call.entry ≡ call_of past arrival
-        → IsQueue past queue.old → IsQueue (entry_kinds.Tried w (attempt_kinds.Yes n) ∷ past) queue.new }
+        → IsQueue past queue.old
+        → IsQueue (entry_kinds.Tried w (attempt_kinds.Yes n) ∷ past) queue.new }
 {
     insert(&mut queue.unadmitted, arrival);
     let message = is_message(call);
@@ -126,10 +130,12 @@ fn put_back(call: Option<&Call>, arrival: u64, queue: &mut Queue)
 fn child_made(call: Option<&Call>, arrival: Option<u64>, queue: &mut Queue)
     requires { HasPlace queue.old }
     ensures { (c : Config) (run limit : ℕ) (past : List Entry) (w n : ℕ)
-        → MayFollow c run limit past (entry_kinds.Tried w (attempt_kinds.Yes n)) → IsManned c run past
+        → MayFollow c run limit past (entry_kinds.Tried w (attempt_kinds.Yes n))
+        → IsManned c run past
         → arrival ≡ begun.arrival_in (begun.stage past w)
         → option_copied call.entry ≡ call_tried past (entry_kinds.Tried w (attempt_kinds.Yes n))
-        → IsQueue past queue.old → IsQueue (entry_kinds.Tried w (attempt_kinds.Yes n) ∷ past) queue.new }
+        → IsQueue past queue.old
+        → IsQueue (entry_kinds.Tried w (attempt_kinds.Yes n) ∷ past) queue.new }
 {
     if let Some(arrival) = arrival {
         put_back(call, arrival, queue);
@@ -139,9 +145,11 @@ fn child_made(call: Option<&Call>, arrival: Option<u64>, queue: &mut Queue)
 /// A trial ends.
 fn tried(answer: Attempt, call: Option<&Call>, arrival: Option<u64>, queue: &mut Queue)
     requires { may_queue (entry_kinds.Tried 0 answer) ≡ true → HasPlace queue.old }
-    ensures { (c : Config) (run limit : ℕ) (past : List Entry) (w : ℕ) → MayFollow c run limit past (entry_kinds.Tried w answer)
+    ensures { (c : Config) (run limit : ℕ) (past : List Entry) (w : ℕ)
+        → MayFollow c run limit past (entry_kinds.Tried w answer)
         → IsManned c run past
-        → arrival ≡ begun.arrival_in (begun.stage past w) → option_copied call.entry ≡ call_tried past (entry_kinds.Tried w answer)
+        → arrival ≡ begun.arrival_in (begun.stage past w)
+        → option_copied call.entry ≡ call_tried past (entry_kinds.Tried w answer)
         → IsQueue past queue.old → IsQueue (entry_kinds.Tried w answer ∷ past) queue.new }
 {
     match answer {
@@ -154,8 +162,10 @@ fn tried(answer: Attempt, call: Option<&Call>, arrival: Option<u64>, queue: &mut
 /// begun, and the call that goes back to the queue where the entry says that a child was made. Takes no memory.
 pub fn advance(entry: &Entry, arrivals: u64, stage: Stage, call: Option<&Call>, queue: &mut Queue)
     requires { may_queue entry.now ≡ true → HasPlace queue.old }
-    ensures { (c : Config) (run limit : ℕ) (past : List Entry) → MayFollow c run limit past entry.now → IsManned c run past
-        → arrivals ≡ arrivals_in past → stage ≡ stage_at past entry.now → option_copied call.entry ≡ call_tried past entry.now
+    ensures { (c : Config) (run limit : ℕ) (past : List Entry)
+        → MayFollow c run limit past entry.now → IsManned c run past
+        → arrivals ≡ arrivals_in past → stage ≡ stage_at past entry.now
+        → option_copied call.entry ≡ call_tried past entry.now
         → IsQueue past queue.old → IsQueue (entry.now ∷ past) queue.new }
 {
     match entry {

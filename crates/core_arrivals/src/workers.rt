@@ -34,7 +34,8 @@ pub fn all_free(alloc: Global) -> Result<Workers, WantMemory>
 /// What a worker has begun and not ended.
 pub fn stage(workers: &Workers, worker: u32) -> Stage
     ensures there { result ≡ slice_index_or workers.now.stages.items worker stage_kinds.Free }
-    ensures begun { (h : List Entry) → worker < 16 → KnowsWorkers h workers.now → result ≡ history.stage h worker }
+    ensures begun { (h : List Entry) → worker < 16 → KnowsWorkers h workers.now
+        → result ≡ history.stage h worker }
 {
     match workers.stages.get(worker as usize) {
         Some(stage) => *stage,
@@ -44,7 +45,8 @@ pub fn stage(workers: &Workers, worker: u32) -> Stage
 
 /// Whether an Abandon of the worker stands.
 pub fn is_abandoned(workers: &Workers, worker: u32) -> bool
-    ensures { (h : List Entry) → worker < 16 → KnowsWorkers h workers.now → result ≡ history.is_abandoned h worker }
+    ensures { (h : List Entry) → worker < 16 → KnowsWorkers h workers.now
+        → result ≡ history.is_abandoned h worker }
 {
     match workers.abandoned.get(worker as usize) {
         Some(abandoned) => *abandoned,
@@ -70,7 +72,8 @@ fn worker_of(entry: &Entry) -> Option<u32>
 
 /// What the worker of an entry, where a worker makes it, has begun before.
 pub fn stage_at(workers: &Workers, entry: &Entry) -> Stage
-    ensures { (c : Config) (run limit : ℕ) (past : List Entry) → MayFollow c run limit past entry.now → KnowsWorkers past workers.now
+    ensures { (c : Config) (run limit : ℕ) (past : List Entry)
+        → MayFollow c run limit past entry.now → KnowsWorkers past workers.now
         → result ≡ entries.stage_at past entry.now }
 {
     match worker_of(entry) {
@@ -99,7 +102,8 @@ fn set_abandoned(flags: &mut Vec<bool>, worker: u32)
 
 /// What the workers have begun after an entry.
 fn advance_stages(entry: &Entry, workers: &mut Workers)
-    ensures stages { (past : List Entry) → AreStages past workers.old.stages.items → AreStages (entry.now ∷ past) workers.new.stages.items }
+    ensures stages { (past : List Entry) → AreStages past workers.old.stages.items
+        → AreStages (entry.now ∷ past) workers.new.stages.items }
     ensures abandoned { workers.new.abandoned.items ≡ workers.old.abandoned.items }
 {
     if let Some(worker) = worker_of(entry) {
@@ -110,7 +114,8 @@ fn advance_stages(entry: &Entry, workers: &mut Workers)
 
 /// Which workers gave up after an entry.
 fn advance_abandoned(entry: &Entry, flags: &mut Vec<bool>)
-    ensures { (past : List Entry) → AreAbandoned past flags.old.items → AreAbandoned (entry.now ∷ past) flags.new.items }
+    ensures { (past : List Entry) → AreAbandoned past flags.old.items
+        → AreAbandoned (entry.now ∷ past) flags.new.items }
 {
     if let Entry::Abandon { worker } = entry {
         set_abandoned(flags, *worker);
@@ -119,7 +124,8 @@ fn advance_abandoned(entry: &Entry, flags: &mut Vec<bool>)
 
 /// Takes in an entry of the journal. Takes no memory.
 pub fn advance(entry: &Entry, workers: &mut Workers)
-    ensures { (past : List Entry) → KnowsWorkers past workers.old → KnowsWorkers (entry.now ∷ past) workers.new }
+    ensures { (past : List Entry) → KnowsWorkers past workers.old
+        → KnowsWorkers (entry.now ∷ past) workers.new }
 {
     advance_stages(entry, workers);
     advance_abandoned(entry, &mut workers.abandoned);

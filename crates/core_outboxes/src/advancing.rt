@@ -16,7 +16,8 @@ use poa_base::{Config, Entry, Reply};
 
 /// An arrival that is admitted gets what it waits for from now on.
 fn set_wait(entry: &Entry, wait: Option<Wait>, desk: &mut Desk)
-    ensures owing { desk.new.owing.items ≡ map (desks.waited_by entry.now wait) desk.old.owing.items }
+    ensures owing { desk.new.owing.items
+        ≡ map (desks.waited_by entry.now wait) desk.old.owing.items }
     ensures files { (fs : List FiledRow) → Files desk.old fs → Files desk.new fs }
     ensures due { desk.new.due ≡ desk.old.due }
     ensures spare { (conn : ℕ) → HasRoomForOne conn desk.old → HasRoomForOne conn desk.new }
@@ -49,12 +50,17 @@ pub fn advance(
     ordered: Option<Ordered>,
     desk: &mut Desk,
 )
-    requires comes { Comes config.now entry.now (seen standing.now) decision wait ordered desk.old.owing.items }
-    ensures before { (k : Comes config.now entry.now (seen standing.now) decision wait ordered desk.old.owing.items)
+    requires comes { Comes config.now entry.now (seen standing.now) decision wait ordered
+        desk.old.owing.items }
+    ensures before { (k : Comes config.now entry.now (seen standing.now) decision wait ordered
+        desk.old.owing.items)
         → AreOwedBefore config.now k.run k.past entry.now desk.new.owing.items }
-    ensures owed { (k : Comes config.now entry.now (seen standing.now) decision wait ordered desk.old.owing.items)
-        → arrivals (entry.now ∷ k.past) ≡ arrivals k.past → AreOwed config.now k.run (entry.now ∷ k.past) desk.new.owing.items }
-    ensures filed { (k : Comes config.now entry.now (seen standing.now) decision wait ordered desk.old.owing.items)
+    ensures owed { (k : Comes config.now entry.now (seen standing.now) decision wait ordered
+        desk.old.owing.items)
+        → arrivals (entry.now ∷ k.past) ≡ arrivals k.past
+        → AreOwed config.now k.run (entry.now ∷ k.past) desk.new.owing.items }
+    ensures filed { (k : Comes config.now entry.now (seen standing.now) decision wait ordered
+        desk.old.owing.items)
         → HasFiled (AreLeft config.now k.run k.opened k.past entry.now) desk.old
         → HasFiled (AreFiled config.now k.run k.opened (entry.now ∷ k.past)) desk.new }
     ensures due { desk.new.due ≡ desk.old.due }

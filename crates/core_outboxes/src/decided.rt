@@ -70,8 +70,10 @@ fn reply_in(
     outcome: Option<Outcome>,
 ) -> Result<Option<Reply>, WantMemory>
     ensures told { (past : List Entry) → Tells config.now past settings.now
-        → IfOk result (λ reply. reply ≡ fixed.reply_in config.now past (option_copied call.entry) outcome entry.now) }
-    ensures ends { fixed.may_decide entry.now ≡ true → fixed.may_want entry.now ≡ false → IsOk result }
+        → IfOk result (λ reply. reply
+        ≡ fixed.reply_in config.now past (option_copied call.entry) outcome entry.now) }
+    ensures ends { fixed.may_decide entry.now ≡ true → fixed.may_want entry.now ≡ false
+        → IsOk result }
 {
     match entry {
         Entry::Admit { verdict, .. } => reply_admitted(alloc, call, verdict),
@@ -99,7 +101,8 @@ pub fn decision_of(
     outcome: Option<Outcome>,
 ) -> Result<Option<Decision>, WantMemory>
     ensures decides { (run : ℕ) (opened : Stored) (past : List Entry)
-        → Comes config.now run opened past entry.now stage (option_copied call.entry) settings.now outcome
+        → Comes config.now run opened past entry.now stage (option_copied call.entry) settings.now
+        outcome
         → IfOk result (Decides config.now run opened past entry.now) }
     ensures none { fixed.may_decide entry.now ≡ false → IfOk result (λ it. it ≡ None) }
     ensures ends { fixed.may_want entry.now ≡ false → IsOk result }

@@ -82,7 +82,8 @@ impl Desk {
 
     /// An arrival was admitted, and waits for this or for nothing.
     pub fn set_wait(&mut self, arrival: u64, wait: Option<Wait>)
-        ensures owing { self.new.owing.items ≡ map (desks.set_wait arrival wait) self.old.owing.items }
+        ensures owing { self.new.owing.items
+            ≡ map (desks.set_wait arrival wait) self.old.owing.items }
         ensures files { (fs : List FiledRow) → Files self.old fs → Files self.new fs }
         ensures due { self.new.due ≡ self.old.due }
         ensures spare { (conn : ℕ) → HasRoomForOne conn self.old → HasRoomForOne conn self.new }
@@ -106,9 +107,12 @@ impl Desk {
         requires alone { IsAlone target self.old.owing.items }
         requires ascends { Ascends (arrivals_of self.old.owing.items) }
         ensures owing { self.new.owing.items ≡ filter
-            (λ o. not (desks.is_decided config.now (seen standing.now) target ordered o)) self.old.owing.items }
-        ensures files { (fs : List FiledRow) → Files self.old fs → Files self.new (fs ++ map (desks.file target reply)
-            (filter (desks.is_decided config.now (seen standing.now) target ordered) self.old.owing.items)) }
+            (λ o. not (desks.is_decided config.now (seen standing.now) target ordered o))
+            self.old.owing.items }
+        ensures files { (fs : List FiledRow) → Files self.old fs
+            → Files self.new (fs ++ map (desks.file target reply)
+            (filter (desks.is_decided config.now (seen standing.now) target ordered)
+            self.old.owing.items)) }
         ensures due { self.new.due ≡ self.old.due }
         ensures spare { (conn : ℕ) → HasRoomForOne conn self.old → HasRoomForOne conn self.new }
     {
@@ -130,8 +134,10 @@ impl Desk {
 
     /// The first reply of a connection is given out. Takes no memory.
     pub fn collect(&mut self, conn: u32) -> Option<Filed>
-        ensures given { (fs : List FiledRow) → Files self.old fs → result ≡ find (λ f. f.conn == conn) fs }
-        ensures files { (fs : List FiledRow) → Files self.old fs → Files self.new (desks.without_first conn fs) }
+        ensures given { (fs : List FiledRow) → Files self.old fs
+            → result ≡ find (λ f. f.conn == conn) fs }
+        ensures files { (fs : List FiledRow) → Files self.old fs
+            → Files self.new (desks.without_first conn fs) }
         ensures owing { self.new.owing.items ≡ self.old.owing.items }
     {
         let filed = self.outboxes.take(conn)?;
@@ -151,7 +157,9 @@ impl Desk {
         ensures owing { self.new.owing.items ≡ self.old.owing.items }
         ensures files { (fs : List FiledRow) → Files self.old fs → Files self.new fs }
         ensures due { self.new.due ≡ self.old.due }
-        ensures room { (n : ℕ) → room_at self.new.outboxes.boxes.items n ≡ room_left conn self.old.outboxes.boxes.items n }
+        ensures room { (n : ℕ)
+            → room_at self.new.outboxes.boxes.items n
+            ≡ room_left conn self.old.outboxes.boxes.items n }
     {
         self.outboxes.release(conn);
     }

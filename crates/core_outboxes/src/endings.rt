@@ -25,7 +25,8 @@ pub fn reply_admitted(
     call: Option<&Call>,
     verdict: &Verdict,
 ) -> Result<Option<Reply>, WantMemory>
-    ensures { IfOk result (λ reply. reply ≡ replies.reply_admitted (option_copied call.entry) verdict.now) }
+    ensures { IfOk result
+        (λ reply. reply ≡ replies.reply_admitted (option_copied call.entry) verdict.now) }
 {
     match verdict {
         Verdict::Refuse(exception) => Ok(Some(raised_to(call, *exception))),
@@ -52,7 +53,8 @@ pub fn reply_incarnated(
     call: Option<&Call>,
     answer: &Incarnation,
 ) -> Result<Option<Reply>, WantMemory>
-    ensures { IfOk result (λ reply. reply ≡ replies.reply_incarnated (option_copied call.entry) answer.now) }
+    ensures { IfOk result
+        (λ reply. reply ≡ replies.reply_incarnated (option_copied call.entry) answer.now) }
 {
     match answer {
         Incarnation::Double => Ok(Some(raised_to(call, SERVANT_DOUBLE))),

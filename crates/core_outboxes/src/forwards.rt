@@ -12,7 +12,8 @@ pub fn forwarded_to(
     call: Option<&Call>,
     endpoint: &Endpoint,
 ) -> Result<Reply, WantMemory>
-    ensures { IfOk result (λ reply. reply ≡ replies.forwarded_to (option_copied call.entry) endpoint.now) }
+    ensures { IfOk result
+        (λ reply. reply ≡ replies.forwarded_to (option_copied call.entry) endpoint.now) }
 {
     let key = match target_of(call) {
         Some(bytes) => bytes.clone()?,

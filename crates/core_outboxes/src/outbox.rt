@@ -77,7 +77,8 @@ impl Outbox {
     pub fn release(&mut self)
         ensures replies { self.new.replies.items ≡ self.old.replies.items }
         ensures awaited { self.new.awaited ≡ self.old.awaited }
-        ensures room { deque_capacity self.new.replies ≡ (if is_idle self.old then 0 else deque_capacity self.old.replies) }
+        ensures room { deque_capacity self.new.replies
+            ≡ (if is_idle self.old then 0 else deque_capacity self.old.replies) }
     {
         if self.awaited == 0 && self.replies.is_empty() {
             self.replies.shrink_to_fit();

@@ -32,8 +32,10 @@ impl Outboxes {
 
     /// Makes room for the reply of one more call of a connection. Where there is room already it takes no memory.
     pub fn reserve(&mut self, conn: u32) -> Result<(), WantMemory>
-        ensures replies { (n : ℕ) → replies_at self.new.boxes.items n ≡ replies_at self.old.boxes.items n }
-        ensures awaited { (n : ℕ) → awaited_at self.new.boxes.items n ≡ awaited_at self.old.boxes.items n }
+        ensures replies { (n : ℕ)
+            → replies_at self.new.boxes.items n ≡ replies_at self.old.boxes.items n }
+        ensures awaited { (n : ℕ)
+            → awaited_at self.new.boxes.items n ≡ awaited_at self.old.boxes.items n }
         ensures more { OnOk result (HasRoomAt self.new.boxes.items conn) }
         ensures has_room { HasRoomAt self.old.boxes.items conn → IsOk result }
     {
@@ -47,9 +49,11 @@ impl Outboxes {
     /// One more call of a connection awaits a reply.
     pub fn expect(&mut self, conn: u32)
         requires { HasRoomAt self.old.boxes.items conn }
-        ensures replies { (n : ℕ) → replies_at self.new.boxes.items n ≡ replies_at self.old.boxes.items n }
+        ensures replies { (n : ℕ)
+            → replies_at self.new.boxes.items n ≡ replies_at self.old.boxes.items n }
         ensures awaited { (n : ℕ)
-            → awaited_at self.new.boxes.items n ≡ (if conn == n then 1 else 0) + awaited_at self.old.boxes.items n }
+            → awaited_at self.new.boxes.items n
+            ≡ (if conn == n then 1 else 0) + awaited_at self.old.boxes.items n }
     {
         if let Some(outbox) = self.boxes.get_mut(conn as usize) {
             outbox.expect();
@@ -59,11 +63,14 @@ impl Outboxes {
     /// A call that awaits a reply is given this one. Takes no memory.
     pub fn file(&mut self, filed: Filed)
         requires { 0 < awaited_at self.old.boxes.items filed.conn }
-        ensures replies { (n : ℕ) → replies_at self.new.boxes.items n ≡ replies_at self.old.boxes.items n
+        ensures replies { (n : ℕ)
+            → replies_at self.new.boxes.items n ≡ replies_at self.old.boxes.items n
             ++ (if filed.conn == n then filed ∷ [] else []) }
         ensures awaited { (n : ℕ)
-            → (if filed.conn == n then 1 else 0) + awaited_at self.new.boxes.items n ≡ awaited_at self.old.boxes.items n }
-        ensures room { (n : ℕ) → HasRoomAt self.old.boxes.items n → HasRoomAt self.new.boxes.items n }
+            → (if filed.conn == n then 1 else 0) + awaited_at self.new.boxes.items n
+            ≡ awaited_at self.old.boxes.items n }
+        ensures room { (n : ℕ) → HasRoomAt self.old.boxes.items n
+            → HasRoomAt self.new.boxes.items n }
     {
         self.fresh.note(&filed);
         file_in(&mut self.boxes, filed);
@@ -73,8 +80,10 @@ impl Outboxes {
     pub fn take(&mut self, conn: u32) -> Option<Filed>
         ensures given { result ≡ slice_get (replies_at self.old.boxes.items conn) 0 }
         ensures replies { (n : ℕ)
-            → replies_at self.new.boxes.items n ≡ drop (if conn == n then 1 else 0) (replies_at self.old.boxes.items n) }
-        ensures awaited { (n : ℕ) → awaited_at self.new.boxes.items n ≡ awaited_at self.old.boxes.items n }
+            → replies_at self.new.boxes.items n
+            ≡ drop (if conn == n then 1 else 0) (replies_at self.old.boxes.items n) }
+        ensures awaited { (n : ℕ)
+            → awaited_at self.new.boxes.items n ≡ awaited_at self.old.boxes.items n }
     {
         self.boxes.get_mut(conn as usize)?.take()
     }
@@ -91,9 +100,12 @@ impl Outboxes {
 
     /// A connection that is owed nothing gives its room back. Takes no memory.
     pub fn release(&mut self, conn: u32)
-        ensures replies { (n : ℕ) → replies_at self.new.boxes.items n ≡ replies_at self.old.boxes.items n }
-        ensures awaited { (n : ℕ) → awaited_at self.new.boxes.items n ≡ awaited_at self.old.boxes.items n }
-        ensures room { (n : ℕ) → room_at self.new.boxes.items n ≡ room_left conn self.old.boxes.items n }
+        ensures replies { (n : ℕ)
+            → replies_at self.new.boxes.items n ≡ replies_at self.old.boxes.items n }
+        ensures awaited { (n : ℕ)
+            → awaited_at self.new.boxes.items n ≡ awaited_at self.old.boxes.items n }
+        ensures room { (n : ℕ)
+            → room_at self.new.boxes.items n ≡ room_left conn self.old.boxes.items n }
     {
         if let Some(outbox) = self.boxes.get_mut(conn as usize) {
             outbox.release();
@@ -106,8 +118,11 @@ impl Outboxes {
 fn file_in(boxes: &mut Vec<Outbox>, filed: Filed)
     requires { 0 < awaited_at boxes.old.items filed.conn }
     ensures replies { (n : ℕ)
-        → replies_at boxes.new.items n ≡ replies_at boxes.old.items n ++ (if filed.conn == n then filed ∷ [] else []) }
-    ensures awaited { (n : ℕ) → (if filed.conn == n then 1 else 0) + awaited_at boxes.new.items n ≡ awaited_at boxes.old.items n }
+        → replies_at boxes.new.items n
+        ≡ replies_at boxes.old.items n ++ (if filed.conn == n then filed ∷ [] else []) }
+    ensures awaited { (n : ℕ)
+        → (if filed.conn == n then 1 else 0) + awaited_at boxes.new.items n
+        ≡ awaited_at boxes.old.items n }
     ensures room { (n : ℕ) → HasRoomAt boxes.old.items n → HasRoomAt boxes.new.items n }
 {
     let place = filed.conn as usize;

@@ -68,17 +68,27 @@ fn file_first(
     owing: &mut VecDeque<Owing>,
     outboxes: &mut Outboxes,
 )
-    requires awaited { (n : ℕ) → awaited_at outboxes.old.boxes.items n ≡ length (filter (λ o. o.conn == n) owing.old.items) }
+    requires awaited { (n : ℕ)
+        → awaited_at outboxes.old.boxes.items n
+        ≡ length (filter (λ o. o.conn == n) owing.old.items) }
     ensures kept { owing.new.items ≡ drop 1 owing.old.items ++ filter
-        (λ o. not (desks.is_decided config.now (seen standing.now) target ordered o)) (take 1 owing.old.items) }
-    ensures filed { (n : ℕ) → replies_at outboxes.new.boxes.items n ≡ replies_at outboxes.old.boxes.items n ++ filter (λ f. f.conn == n)
+        (λ o. not (desks.is_decided config.now (seen standing.now) target ordered o))
+        (take 1 owing.old.items) }
+    ensures filed { (n : ℕ)
+        → replies_at outboxes.new.boxes.items n
+        ≡ replies_at outboxes.old.boxes.items n ++ filter (λ f. f.conn == n)
         (map (desks.file target reply.old)
-        (filter (desks.is_decided config.now (seen standing.now) target ordered) (take 1 owing.old.items))) }
-    ensures awaited { (n : ℕ) → awaited_at outboxes.new.boxes.items n ≡ length (filter (λ o. o.conn == n) owing.new.items) }
-    ensures left { list_any (λ o. begun.is_at o.arrival target) (take 1 owing.old.items) ≡ false → reply.new ≡ reply.old }
+        (filter (desks.is_decided config.now (seen standing.now) target ordered)
+        (take 1 owing.old.items))) }
+    ensures awaited { (n : ℕ)
+        → awaited_at outboxes.new.boxes.items n
+        ≡ length (filter (λ o. o.conn == n) owing.new.items) }
+    ensures left { list_any (λ o. begun.is_at o.arrival target) (take 1 owing.old.items) ≡ false
+        → reply.new ≡ reply.old }
     ensures fewer { deque_len owing.new ≤ deque_len owing.old }
     ensures places { deque_capacity owing.new ≡ deque_capacity owing.old }
-    ensures room { (n : ℕ) → HasRoomAt outboxes.old.boxes.items n → HasRoomAt outboxes.new.boxes.items n }
+    ensures room { (n : ℕ) → HasRoomAt outboxes.old.boxes.items n
+        → HasRoomAt outboxes.new.boxes.items n }
 {
     let Some(row) = owing.pop_front() else {
         return;
@@ -101,14 +111,24 @@ pub(crate) fn file_decided(
     outboxes: &mut Outboxes,
 )
     requires alone { IsAlone target owing.old.items }
-    requires awaited { (n : ℕ) → awaited_at outboxes.old.boxes.items n ≡ length (filter (λ o. o.conn == n) owing.old.items) }
-    ensures kept { owing.new.items ≡ filter (λ o. not (desks.is_decided config.now (seen standing.now) target ordered o)) owing.old.items }
-    ensures filed { (n : ℕ) → replies_at outboxes.new.boxes.items n ≡ replies_at outboxes.old.boxes.items n ++ filter (λ f. f.conn == n)
-        (map (desks.file target reply) (filter (desks.is_decided config.now (seen standing.now) target ordered) owing.old.items)) }
-    ensures awaited { (n : ℕ) → awaited_at outboxes.new.boxes.items n ≡ length (filter (λ o. o.conn == n) owing.new.items) }
+    requires awaited { (n : ℕ)
+        → awaited_at outboxes.old.boxes.items n
+        ≡ length (filter (λ o. o.conn == n) owing.old.items) }
+    ensures kept { owing.new.items
+        ≡ filter (λ o. not (desks.is_decided config.now (seen standing.now) target ordered o))
+        owing.old.items }
+    ensures filed { (n : ℕ)
+        → replies_at outboxes.new.boxes.items n
+        ≡ replies_at outboxes.old.boxes.items n ++ filter (λ f. f.conn == n)
+        (map (desks.file target reply)
+        (filter (desks.is_decided config.now (seen standing.now) target ordered) owing.old.items)) }
+    ensures awaited { (n : ℕ)
+        → awaited_at outboxes.new.boxes.items n
+        ≡ length (filter (λ o. o.conn == n) owing.new.items) }
     ensures fewer { deque_len owing.new ≤ deque_len owing.old }
     ensures places { deque_capacity owing.new ≡ deque_capacity owing.old }
-    ensures room { (n : ℕ) → HasRoomAt outboxes.old.boxes.items n → HasRoomAt outboxes.new.boxes.items n }
+    ensures room { (n : ℕ) → HasRoomAt outboxes.old.boxes.items n
+        → HasRoomAt outboxes.new.boxes.items n }
 {
     let mut reply = reply;
     for i in 0..owing.len() {
@@ -147,8 +167,10 @@ pub(crate) fn any_waits(owing: &VecDeque<Owing>) -> bool
 /// The row of an arrival is taken out.
 fn take_row(owing: &mut VecDeque<Owing>, arrival: u64) -> Option<Owing>
     requires { Ascends (arrivals_of owing.old.items) }
-    ensures row { option_to_list result ≡ filter (λ o. begun.is_at o.arrival (Some arrival)) owing.old.items }
-    ensures kept { owing.new.items ≡ filter (λ o. not (begun.is_at o.arrival (Some arrival))) owing.old.items }
+    ensures row { option_to_list result
+        ≡ filter (λ o. begun.is_at o.arrival (Some arrival)) owing.old.items }
+    ensures kept { owing.new.items
+        ≡ filter (λ o. not (begun.is_at o.arrival (Some arrival))) owing.old.items }
     ensures fewer { deque_len owing.new ≤ deque_len owing.old }
     ensures places { deque_capacity owing.new ≡ deque_capacity owing.old }
 {
@@ -166,14 +188,23 @@ pub(crate) fn file_target(
     outboxes: &mut Outboxes,
 )
     requires ascends { Ascends (arrivals_of owing.old.items) }
-    requires awaited { (n : ℕ) → awaited_at outboxes.old.boxes.items n ≡ length (filter (λ o. o.conn == n) owing.old.items) }
-    ensures kept { owing.new.items ≡ filter (λ o. not (begun.is_at o.arrival target)) owing.old.items }
-    ensures filed { (n : ℕ) → replies_at outboxes.new.boxes.items n ≡ replies_at outboxes.old.boxes.items n ++ filter (λ f. f.conn == n)
-        (map (desks.file target reply) (filter (λ o. begun.is_at o.arrival target) owing.old.items)) }
-    ensures awaited { (n : ℕ) → awaited_at outboxes.new.boxes.items n ≡ length (filter (λ o. o.conn == n) owing.new.items) }
+    requires awaited { (n : ℕ)
+        → awaited_at outboxes.old.boxes.items n
+        ≡ length (filter (λ o. o.conn == n) owing.old.items) }
+    ensures kept { owing.new.items
+        ≡ filter (λ o. not (begun.is_at o.arrival target)) owing.old.items }
+    ensures filed { (n : ℕ)
+        → replies_at outboxes.new.boxes.items n
+        ≡ replies_at outboxes.old.boxes.items n ++ filter (λ f. f.conn == n)
+        (map (desks.file target reply)
+        (filter (λ o. begun.is_at o.arrival target) owing.old.items)) }
+    ensures awaited { (n : ℕ)
+        → awaited_at outboxes.new.boxes.items n
+        ≡ length (filter (λ o. o.conn == n) owing.new.items) }
     ensures fewer { deque_len owing.new ≤ deque_len owing.old }
     ensures places { deque_capacity owing.new ≡ deque_capacity owing.old }
-    ensures room { (n : ℕ) → HasRoomAt outboxes.old.boxes.items n → HasRoomAt outboxes.new.boxes.items n }
+    ensures room { (n : ℕ) → HasRoomAt outboxes.old.boxes.items n
+        → HasRoomAt outboxes.new.boxes.items n }
 {
     let Some(arrival) = target else {
         return;

@@ -22,7 +22,8 @@ fn reply_unmade(
     call: Option<&Call>,
     path: &[Name],
 ) -> Result<Reply, WantMemory>
-    ensures { IfOk result (λ reply. reply ≡ unmade config.now settings.now (option_copied call.entry) path.now) }
+    ensures { IfOk result
+        (λ reply. reply ≡ unmade config.now settings.now (option_copied call.entry) path.now) }
 {
     match forward_of(config, settings, path) {
         Some(endpoint) => forwarded_to(alloc, call, endpoint),
@@ -32,7 +33,8 @@ fn reply_unmade(
 
 /// The path of the key of a call, copied; the root's where there is none.
 fn path_asked(alloc: Global, call: Option<&Call>) -> Result<Path, WantMemory>
-    ensures { IfOk result (λ path. path ≡ (key_or_none (key_of_call (option_copied call.entry))).path) }
+    ensures { IfOk result
+        (λ path. path ≡ (key_or_none (key_of_call (option_copied call.entry))).path) }
 {
     match key_in(call) {
         Some(key) => key.path().to_path(alloc),
@@ -63,7 +65,8 @@ fn reply_told(
     call: Option<&Call>,
     answer: &Attempt,
 ) -> Result<Reply, WantMemory>
-    ensures { IfOk result (λ reply. reply ≡ tried_in config.now settings.now (option_copied call.entry) answer.now) }
+    ensures { IfOk result
+        (λ reply. reply ≡ tried_in config.now settings.now (option_copied call.entry) answer.now) }
 {
     match answer {
         Attempt::Raised => Ok(raised_to(call, ACTIVATOR_RAISED)),
@@ -82,7 +85,8 @@ pub fn reply_tried(
     answer: &Attempt,
 ) -> Result<Reply, WantMemory>
     ensures { (past : List Entry) → Tells config.now past settings.now
-        → IfOk result (λ reply. reply ≡ replies.reply_tried config.now past (option_copied call.entry) answer.now) }
+        → IfOk result (λ reply. reply
+        ≡ replies.reply_tried config.now past (option_copied call.entry) answer.now) }
 {
     reply_told(alloc, config, settings, call, answer)
 }

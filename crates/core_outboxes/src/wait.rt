@@ -66,7 +66,9 @@ fn wait_for_order(
     manager: &Name,
     order: Order,
 ) -> Result<Option<Wait>, WantMemory>
-    ensures { IfOk result (λ wait. wait ≡ waits.wait_of config.now (seen standing.now) (Some (Command.Manager manager.now order))) }
+    ensures { IfOk result
+        (λ wait. wait ≡ waits.wait_of config.now (seen standing.now)
+        (Some (Command.Manager manager.now order))) }
 {
     match manager_number(config, manager) {
         Some(number) => {
@@ -83,7 +85,9 @@ pub fn wait_of(
     standing: &Standing,
     command: Option<&Command>,
 ) -> Result<Option<Wait>, WantMemory>
-    ensures { IfOk result (λ wait. wait ≡ waits.wait_of config.now (seen standing.now) (option_copied command.entry)) }
+    ensures { IfOk result
+        (λ wait. wait ≡ waits.wait_of config.now (seen standing.now)
+        (option_copied command.entry)) }
 {
     match command {
         Some(Command::Manager { manager, order }) => {
@@ -135,7 +139,9 @@ pub fn has_come(
 
 /// The command that an Admit of this verdict does.
 fn command_done<'a>(verdict: &Verdict, call: Option<&'a Call>) -> Option<&'a Command>
-    ensures { option_copied result ≡ (if logs.is_accepted verdict.now then logs.command_in (option_copied call.entry) else None) }
+    ensures { option_copied result
+        ≡ (if logs.is_accepted verdict.now then logs.command_in
+        (option_copied call.entry) else None) }
 {
     if is_accepted(verdict) {
         command_in(call)
@@ -170,8 +176,10 @@ pub fn wait_by(
     entry: &Entry,
     call: Option<&Call>,
 ) -> Result<Option<Wait>, WantMemory>
-    ensures waits { (run : ℕ) (past : List EntryOf) → AnswersAs config.now run past (seen standing.now)
-        → option_copied call.entry ≡ call_told past entry.now → IfOk result (λ wait. WaitIs config.now run past entry.now wait) }
+    ensures waits { (run : ℕ) (past : List EntryOf)
+        → AnswersAs config.now run past (seen standing.now)
+        → option_copied call.entry ≡ call_told past entry.now
+        → IfOk result (λ wait. WaitIs config.now run past entry.now wait) }
     ensures ends { waits.admits entry.now ≡ false → IsOk result }
 {
     match entry {
@@ -182,7 +190,8 @@ pub fn wait_by(
 
 /// The manager that a command orders.
 fn manager_ordered(config: &Config, command: Option<&Command>) -> Result<Option<u32>, WantMemory>
-    ensures { IfOk result (λ manager. manager ≡ waits.manager_ordered config.now (option_copied command.entry)) }
+    ensures { IfOk result
+        (λ manager. manager ≡ waits.manager_ordered config.now (option_copied command.entry)) }
 {
     match command {
         Some(Command::Manager { manager, .. }) => match manager_number(config, manager) {

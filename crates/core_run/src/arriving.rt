@@ -51,7 +51,8 @@ pub fn arrive(inside: &mut Inside, conn: u32, call: Call, size: u64) -> Result<(
     requires kept { IsKept inside.old }
     requires may { MayArrive inside.old.limit (history inside.old) conn size call }
     ensures kept { IsKept inside.new }
-    ensures ok { OnOk result (life inside.new ≡ with_entry (Arrive conn size call) (life inside.old)) }
+    ensures ok { OnOk result
+        (life inside.new ≡ with_entry (Arrive conn size call) (life inside.old)) }
     ensures err { OnErr result (life inside.new ≡ life inside.old) }
 {
     if make_room_for_call(inside, conn).is_err() {

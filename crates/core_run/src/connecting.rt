@@ -20,7 +20,8 @@ const CONNECTIONS: u64 = 4_000_000;
 
 /// The number of the next connection; none where the run had all that it may.
 pub fn next_number(tally: &Tally) -> Option<u32>
-    ensures { (h : List EntryOf) → IsTally h tally.now → result ≡ (if nat_lt (connections h) 4000000 then Some (connections h) else None) }
+    ensures { (h : List EntryOf) → IsTally h tally.now
+        → result ≡ (if nat_lt (connections h) 4000000 then Some (connections h) else None) }
 {
     let conns = core_arrivals::connections(tally);
     if conns < CONNECTIONS {

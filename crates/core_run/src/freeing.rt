@@ -65,7 +65,8 @@ fn etherealizing(standing: &Standing, begun: Stage) -> Freed
 
 /// What an entry frees of what holds calls, by what stands before it and what its worker had begun.
 pub fn freed_by(standing: &Standing, begun: Stage, entry: &Entry) -> Freed
-    ensures { (c : Config) (run : ℕ) (past : List EntryOf) → AnswersAs c run past (seen standing.now) → begun ≡ stage_at past entry.now
+    ensures { (c : Config) (run : ℕ) (past : List EntryOf)
+        → AnswersAs c run past (seen standing.now) → begun ≡ stage_at past entry.now
         → result ≡ frees.freed_by c run past entry.now }
 {
     match entry {

@@ -66,7 +66,8 @@ fn is_ending(entry: &Entry) -> bool
 #[tactic(auto, using(crate::proofs::Ready::ending_room, crate::proofs::Ready::ending_space, crate::proofs::Ready::ready_space, crate::proofs::Ready::ready_entries))]
 pub fn make_room_for(inside: &mut Inside, entry: &Entry) -> Result<(), WantMemory>
     requires kept { IsKept inside.old }
-    requires follows { IsRun inside.old.config inside.old.run inside.old.limit (entry.now ∷ history inside.old) }
+    requires follows { IsRun inside.old.config inside.old.run inside.old.limit
+        (entry.now ∷ history inside.old) }
     ensures room { OnOk result (HasRoomForEntry entry.now inside.new) }
     ensures space { OnOk result (HasSpace (needed entry.now) inside.new) }
     ensures kept { IsKept inside.new }

@@ -136,7 +136,8 @@ impl Run {
     /// always taken.
     pub fn turn(&mut self, entry: Entry) -> Result<(), WantMemory>
         requires turn { is_turn entry ≡ true }
-        requires may { MayFollow self.old.config self.old.run self.old.limit self.old.history entry }
+        requires may { MayFollow self.old.config self.old.run self.old.limit self.old.history
+            entry }
         ensures ok { OnOk result (self.new ≡ with_entry entry self.old) }
         ensures err { OnErr result (self.new ≡ self.old) }
         ensures ends { is_ending entry ≡ true → IsOk result }
@@ -147,7 +148,8 @@ impl Run {
     /// The next turn of a worker below 16, if it has one. That it has only to end what it began can always be told.
     pub fn next_turn(&mut self, worker: u32) -> Result<Option<Entry>, WantMemory>
         requires { worker < 16 }
-        ensures next { IfOk result (λ entry. entry ≡ turn self.old.config self.old.run self.old.history worker) }
+        ensures next { IfOk result
+            (λ entry. entry ≡ turn self.old.config self.old.run self.old.history worker) }
         ensures ends { only_ends (begun.stage self.old.history worker) ≡ true → IsOk result }
         ensures same { self.new ≡ self.old }
     {
@@ -156,7 +158,8 @@ impl Run {
 
     /// The number of the next connection; none where 4,000,000 entered.
     pub fn next_connection(&self) -> Option<u32>
-        ensures { result ≡ (if nat_lt (connections self.now.history) 4000000 then Some (connections self.now.history) else None) }
+        ensures { result ≡ (if nat_lt (connections self.now.history) 4000000 then Some
+            (connections self.now.history) else None) }
     {
         connecting::next_number(&self.tables().tally)
     }
@@ -214,7 +217,8 @@ impl Run {
 
     /// How many arrivals are unadmitted.
     pub fn unadmitted(&self) -> u64
-        ensures { result ≡ count_below (begun.is_unadmitted self.now.history) (arrivals self.now.history) }
+        ensures { result ≡ count_below (begun.is_unadmitted self.now.history)
+            (arrivals self.now.history) }
     {
         queue::count(&self.tables().queue)
     }
@@ -222,8 +226,10 @@ impl Run {
     /// Whether nothing more can come: a `shutdown` was admitted, every connection but the first has left, and every
     /// call is admitted.
     pub fn is_over(&self) -> bool
-        ensures { result ≡ (is_shut self.now.history && (are_gone self.now.history (connections self.now.history)
-            && (count_below (begun.is_unadmitted self.now.history) (arrivals self.now.history) == 0))) }
+        ensures { result ≡ (is_shut self.now.history
+            && (are_gone self.now.history (connections self.now.history)
+            && (count_below (begun.is_unadmitted self.now.history) (arrivals self.now.history)
+            == 0))) }
     {
         core_arrivals::is_run_over(&self.tables().tally, self.unadmitted())
     }
@@ -237,7 +243,8 @@ impl Run {
 
     /// How many calls, and bytes of calls, stood when the run took no more, if it came to that.
     pub fn filled(&self) -> Option<Full>
-        ensures counts { option_map (λ f. (f.arrivals, f.bytes)) result ≡ limits.filled_at self.now.history }
+        ensures counts { option_map (λ f. (f.arrivals, f.bytes)) result
+            ≡ limits.filled_at self.now.history }
         ensures unfilled { is_none result ≡ not (is_filled self.now.history) }
     {
         core_arrivals::filled(&self.tables().tally)
@@ -255,7 +262,8 @@ impl Run {
         ensures runs { IsRun self.now.config self.now.run self.now.limit self.now.history }
         ensures lifetime { HasLifetime self.now.config self.now.run self.now.history }
         ensures undone { LeavesNothing self.now.config self.now.run self.now.history }
-        ensures updates { KeepsUpdates self.now.config self.now.run (opened self.now) self.now.history }
+        ensures updates { KeepsUpdates self.now.config self.now.run (opened self.now)
+            self.now.history }
     {
         lifetimes_are_kept();
         runs_last();
@@ -275,7 +283,8 @@ impl Run {
     pub fn state(&self) -> &State
         ensures counts { CountsAgree self.now result.now }
         ensures removals { RemovalsAgree self.now result.now }
-        ensures state { IsState self.now.config self.now.run (opened self.now) self.now.history result.now }
+        ensures state { IsState self.now.config self.now.run (opened self.now) self.now.history
+            result.now }
     {
         &self.inside.state
     }
@@ -322,14 +331,16 @@ impl Run {
     /// What is stored.
     pub fn store(&self) -> &Store
         ensures { (path : List (List ℕ)) (oid : List ℕ)
-            → stored_in result.now path oid ≡ stored self.now.config self.now.run (opened self.now) self.now.history path oid }
+            → stored_in result.now path oid
+            ≡ stored self.now.config self.now.run (opened self.now) self.now.history path oid }
     {
         &self.state().servants.store
     }
 
     /// The number of the adapter at a path, also while it is being destroyed; none where there is none.
     pub fn adapter_number(&self, path: &Path) -> Option<u32>
-        ensures { result ≡ option_map (λ n. n.number) (node_at (standing self.now.config self.now.run self.now.history).nodes path.now) }
+        ensures { result ≡ option_map (λ n. n.number)
+            (node_at (standing self.now.config self.now.run self.now.history).nodes path.now) }
     {
         let node = nodes::node_at(&self.state().standing.nodes, path.as_slice())?;
         Some(node.number)

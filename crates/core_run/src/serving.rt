@@ -28,7 +28,8 @@ fn admits(view: EntryView<'_>, arrival: u64) -> bool
 
 /// The newest Admit of an arrival. Looks from the last entry back.
 fn last_admit(entries: &Entries, arrival: u64) -> Option<EntryView<'_>>
-    ensures { turning.verdict_in (option_map entry_seen result) ≡ turning.last_verdict (reverse entries.now.items) arrival }
+    ensures { turning.verdict_in (option_map entry_seen result)
+        ≡ turning.last_verdict (reverse entries.now.items) arrival }
 {
     for place in (0..entries.len()).rev() {
         let view = entries.get(place)?;
@@ -46,7 +47,8 @@ fn servant_of(
     view: Option<EntryView<'_>>,
 ) -> Result<Option<Sid>, WantMemory>
     ensures { IfOk result
-        (λ servant. servant ≡ states.servant_by config.now (seen standing.now) (turning.verdict_in (option_map entry_seen view.entry))) }
+        (λ servant. servant ≡ states.servant_by config.now (seen standing.now)
+        (turning.verdict_in (option_map entry_seen view.entry))) }
 {
     match view {
         Some(Row::Serve { activation, .. }) => {
@@ -67,9 +69,12 @@ pub fn servant_in(
     entries: &Entries,
     stage: Stage,
 ) -> Result<Option<Sid>, WantMemory>
-    ensures servant { (run limit worker : ℕ) → IsRun config.now run limit (reverse entries.now.items)
-        → AnswersAs config.now run (reverse entries.now.items) (seen standing.now) → stage ≡ begun.stage (reverse entries.now.items) worker
-        → IfOk result (λ servant. servant ≡ states.servant_run config.now run (reverse entries.now.items) stage) }
+    ensures servant { (run limit worker : ℕ)
+        → IsRun config.now run limit (reverse entries.now.items)
+        → AnswersAs config.now run (reverse entries.now.items) (seen standing.now)
+        → stage ≡ begun.stage (reverse entries.now.items) worker
+        → IfOk result (λ servant. servant
+        ≡ states.servant_run config.now run (reverse entries.now.items) stage) }
     ensures ends { only_ends stage ≡ true → IsOk result }
 {
     match stage {

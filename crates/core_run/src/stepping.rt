@@ -14,7 +14,8 @@ use poa_base::{Entry, WantMemory};
 pub fn next(inside: &mut Inside, worker: u32) -> Result<Option<Entry>, WantMemory>
     requires kept { IsKept inside.old }
     requires worker { worker < 16 }
-    ensures next { IfOk result (λ entry. entry ≡ turn inside.new.config inside.new.run (history inside.new) worker) }
+    ensures next { IfOk result
+        (λ entry. entry ≡ turn inside.new.config inside.new.run (history inside.new) worker) }
     ensures ends { only_ends (begun.stage (history inside.new) worker) ≡ true → IsOk result }
     ensures kept { IsKept inside.new }
     ensures same { life inside.new ≡ life inside.old }

@@ -45,8 +45,10 @@ impl Tables {
 
     /// Makes room for a connection or a call; all else is as it was.
     pub fn reserve(&mut self) -> Result<(), WantMemory>
-        ensures same { (c : Config) (run : ℕ) (h : List EntryOf) → KnowsTables c run h self.old → KnowsTables c run h self.new }
-        ensures calls { OnOk result (vec_len self.new.calls.places < vec_capacity self.new.calls.places) }
+        ensures same { (c : Config) (run : ℕ) (h : List EntryOf) → KnowsTables c run h self.old
+            → KnowsTables c run h self.new }
+        ensures calls { OnOk result
+            (vec_len self.new.calls.places < vec_capacity self.new.calls.places) }
         ensures queue { OnOk result (HasPlace self.new.queue) }
         ensures held { OnOk result (HasRoom self.new.held.ready.heap) }
         ensures tally { OnOk result (HasRoomForOne self.new.tally) }
@@ -60,13 +62,16 @@ impl Tables {
     /// An entry comes behind the journal's, for which there is room. It is given what the entry's worker had begun, and
     /// what the entry frees. Takes no memory.
     pub fn advance(&mut self, entry: &Entry, entries: &Entries, stage: Stage, freed: Freed)
-        requires calls { arrives entry.now ≡ true → vec_len self.old.calls.places < vec_capacity self.old.calls.places }
+        requires calls { arrives entry.now ≡ true
+            → vec_len self.old.calls.places < vec_capacity self.old.calls.places }
         requires queue { may_queue entry.now ≡ true → HasPlace self.old.queue }
         requires held { may_queue entry.now ≡ true → HasRoom self.old.held.ready.heap }
         requires tally { HasRoomFor entry.now self.old.tally }
-        ensures { (c : Config) (run limit : ℕ) → IsRun c run limit (entry.now ∷ reverse entries.now.items)
+        ensures { (c : Config) (run limit : ℕ)
+            → IsRun c run limit (entry.now ∷ reverse entries.now.items)
             → stage ≡ stage_at (reverse entries.now.items) entry.now
-            → freed ≡ freed_by c run (reverse entries.now.items) entry.now → KnowsTables c run (reverse entries.now.items) self.old
+            → freed ≡ freed_by c run (reverse entries.now.items) entry.now
+            → KnowsTables c run (reverse entries.now.items) self.old
             → KnowsTables c run (entry.now ∷ reverse entries.now.items) self.new }
     {
         let arrivals = self.tally.arrivals;

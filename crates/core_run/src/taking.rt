@@ -20,7 +20,8 @@ use poa_base::{Entry, WantMemory};
 /// only ends what was begun is always taken.
 pub fn take(inside: &mut Inside, entry: Entry) -> Result<(), WantMemory>
     requires kept { IsKept inside.old }
-    requires follows { IsRun inside.old.config inside.old.run inside.old.limit (entry ∷ history inside.old) }
+    requires follows { IsRun inside.old.config inside.old.run inside.old.limit
+        (entry ∷ history inside.old) }
     requires turn { is_turn entry ≡ true }
     ensures kept { IsKept inside.new }
     ensures ok { OnOk result (life inside.new ≡ with_entry entry (life inside.old)) }

@@ -29,7 +29,8 @@ pub fn call_at<'a>(
     entry: &Entry,
     stage: Stage,
 ) -> Option<&'a Call>
-    ensures { KnowsCalls (reverse entries.now.items) known.now.places.items → stage ≡ stage_at (reverse entries.now.items) entry.now
+    ensures { KnowsCalls (reverse entries.now.items) known.now.places.items
+        → stage ≡ stage_at (reverse entries.now.items) entry.now
         → option_copied result ≡ the_call_at (reverse entries.now.items) entry.now }
 {
     let arrival = match entry {
@@ -41,7 +42,8 @@ pub fn call_at<'a>(
 
 /// The call that an entry admits or runs.
 fn call_in<'a>(coming: &Coming<'a>) -> Option<&'a Call>
-    ensures { option_copied result ≡ turning.call_in coming.now.entry.now (option_copied coming.now.call) }
+    ensures { option_copied result
+        ≡ turning.call_in coming.now.entry.now (option_copied coming.now.call) }
 {
     match coming.entry {
         Entry::Admit { .. } | Entry::Run { .. } => coming.call,
@@ -51,7 +53,8 @@ fn call_in<'a>(coming: &Coming<'a>) -> Option<&'a Call>
 
 /// The call that an entry admits.
 fn call_admitted<'a>(coming: &Coming<'a>) -> Option<&'a Call>
-    ensures { (past : List EntryOf) → option_copied coming.now.call ≡ the_call_at past coming.now.entry.now
+    ensures { (past : List EntryOf)
+        → option_copied coming.now.call ≡ the_call_at past coming.now.entry.now
         → option_copied result ≡ call_told past coming.now.entry.now }
 {
     match coming.entry {
@@ -71,11 +74,14 @@ fn ran(
     requires asked { (limit : ℕ) × (opened : Stored) × (past : List EntryOf)
         × IsAsked config.now run limit opened past coming.now state.old }
     requires kind { (w : ℕ) × (coming.now.entry.now ≡ EntryOf.Run w) }
-    ensures ok { (limit : ℕ) (opened : Stored) (past : List EntryOf) → IsAsked config.now run limit opened past coming.now state.old
+    ensures ok { (limit : ℕ) (opened : Stored) (past : List EntryOf)
+        → IsAsked config.now run limit opened past coming.now state.old
         → OnOk result (IsState config.now run opened (coming.now.entry.now ∷ past) state.new) }
-    ensures decides { (limit : ℕ) (opened : Stored) (past : List EntryOf) → IsAsked config.now run limit opened past coming.now state.old
+    ensures decides { (limit : ℕ) (opened : Stored) (past : List EntryOf)
+        → IsAsked config.now run limit opened past coming.now state.old
         → IfOk result (Decides config.now run opened past coming.now.entry.now) }
-    ensures err { (opened : Stored) (past : List EntryOf) → IsState config.now run opened past state.old
+    ensures err { (opened : Stored) (past : List EntryOf)
+        → IsState config.now run opened past state.old
         → OnErr result (IsState config.now run opened past state.new) }
 {
     let outcome = core_state::advance(alloc, config, run, coming, state)?;
@@ -102,11 +108,14 @@ fn told(
     requires asked { (limit : ℕ) × (opened : Stored) × (past : List EntryOf)
         × IsAsked config.now run limit opened past coming.now state.old }
     requires kind { turning.is_run coming.now.entry.now ≡ false }
-    ensures ok { (limit : ℕ) (opened : Stored) (past : List EntryOf) → IsAsked config.now run limit opened past coming.now state.old
+    ensures ok { (limit : ℕ) (opened : Stored) (past : List EntryOf)
+        → IsAsked config.now run limit opened past coming.now state.old
         → OnOk result (IsState config.now run opened (coming.now.entry.now ∷ past) state.new) }
-    ensures decides { (limit : ℕ) (opened : Stored) (past : List EntryOf) → IsAsked config.now run limit opened past coming.now state.old
+    ensures decides { (limit : ℕ) (opened : Stored) (past : List EntryOf)
+        → IsAsked config.now run limit opened past coming.now state.old
         → IfOk result (Decides config.now run opened past coming.now.entry.now) }
-    ensures err { (opened : Stored) (past : List EntryOf) → IsState config.now run opened past state.old
+    ensures err { (opened : Stored) (past : List EntryOf)
+        → IsState config.now run opened past state.old
         → OnErr result (IsState config.now run opened past state.new) }
     ensures ends { only_ends coming.now.entry.now ≡ true → IsOk result }
 {
@@ -135,12 +144,16 @@ fn decide(
     coming: &Coming<'_>,
     state: &mut State,
 ) -> Result<Option<Decision>, WantMemory>
-    requires { (limit : ℕ) × (opened : Stored) × (past : List EntryOf) × IsAsked config.now run limit opened past coming.now state.old }
-    ensures ok { (limit : ℕ) (opened : Stored) (past : List EntryOf) → IsAsked config.now run limit opened past coming.now state.old
+    requires { (limit : ℕ) × (opened : Stored) × (past : List EntryOf)
+        × IsAsked config.now run limit opened past coming.now state.old }
+    ensures ok { (limit : ℕ) (opened : Stored) (past : List EntryOf)
+        → IsAsked config.now run limit opened past coming.now state.old
         → OnOk result (IsState config.now run opened (coming.now.entry.now ∷ past) state.new) }
-    ensures decides { (limit : ℕ) (opened : Stored) (past : List EntryOf) → IsAsked config.now run limit opened past coming.now state.old
+    ensures decides { (limit : ℕ) (opened : Stored) (past : List EntryOf)
+        → IsAsked config.now run limit opened past coming.now state.old
         → IfOk result (Decides config.now run opened past coming.now.entry.now) }
-    ensures err { (opened : Stored) (past : List EntryOf) → IsState config.now run opened past state.old
+    ensures err { (opened : Stored) (past : List EntryOf)
+        → IsState config.now run opened past state.old
         → OnErr result (IsState config.now run opened past state.new) }
     ensures ends { only_ends coming.now.entry.now ≡ true → IsOk result }
 {
@@ -160,12 +173,16 @@ pub fn bring(
     coming: &Coming<'_>,
     state: &mut State,
 ) -> Result<Brought, WantMemory>
-    requires { (limit : ℕ) × (opened : Stored) × (past : List EntryOf) × IsAsked config.now run limit opened past coming.now state.old }
-    ensures ok { (limit : ℕ) (opened : Stored) (past : List EntryOf) → IsAsked config.now run limit opened past coming.now state.old
+    requires { (limit : ℕ) × (opened : Stored) × (past : List EntryOf)
+        × IsAsked config.now run limit opened past coming.now state.old }
+    ensures ok { (limit : ℕ) (opened : Stored) (past : List EntryOf)
+        → IsAsked config.now run limit opened past coming.now state.old
         → OnOk result (IsState config.now run opened (coming.now.entry.now ∷ past) state.new) }
-    ensures brought { (limit : ℕ) (opened : Stored) (past : List EntryOf) → IsAsked config.now run limit opened past coming.now state.old
+    ensures brought { (limit : ℕ) (opened : Stored) (past : List EntryOf)
+        → IsAsked config.now run limit opened past coming.now state.old
         → IfOk result (λ b. IsBrought config.now run opened past coming.now.entry.now b) }
-    ensures err { (opened : Stored) (past : List EntryOf) → IsState config.now run opened past state.old
+    ensures err { (opened : Stored) (past : List EntryOf)
+        → IsState config.now run opened past state.old
         → OnErr result (IsState config.now run opened past state.new) }
     ensures ends { only_ends coming.now.entry.now ≡ true → IsOk result }
 {

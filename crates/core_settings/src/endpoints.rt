@@ -44,7 +44,8 @@ impl Endpoints {
 
     /// Sets the endpoint of a path, or that it has none, in place of what was set before.
     pub fn set(&mut self, path: &Path, endpoint: Option<&Endpoint>) -> Result<(), WantMemory>
-        ensures ok { OnOk result (IsEndpointSet path.now (option_copied endpoint.entry) self.old self.new) }
+        ensures ok { OnOk result
+            (IsEndpointSet path.now (option_copied endpoint.entry) self.old self.new) }
         ensures err { OnErr result (self.new ≡ self.old) }
     {
         let row = EndpointRow {
@@ -127,7 +128,9 @@ fn forward_from<'a>(
     depth: usize,
 ) -> Option<&'a Endpoint>
     requires { depth ≤ length path.now }
-    ensures { option_copied result ≡ logs.forward_from (endpoint_in config.now settings.now) (take depth path.now) (drop depth path.now) }
+    ensures { option_copied result
+        ≡ logs.forward_from (endpoint_in config.now settings.now) (take depth path.now)
+        (drop depth path.now) }
 {
     if depth == path.len() {
         return endpoint_of(config, settings, path);

@@ -56,7 +56,8 @@ impl Presets {
 
     /// The default servant that was set for a path. Takes no memory.
     pub fn get(&self, path: &[Name]) -> Option<&Name>
-        ensures { option_copied result ≡ option_map (λ r. r.servant) (preset_row self.now path.now) }
+        ensures { option_copied result
+            ≡ option_map (λ r. r.servant) (preset_row self.now path.now) }
     {
         let row = self.rows.iter().find(|row| row.path.as_slice() == path)?;
         Some(&row.servant)

@@ -40,7 +40,8 @@ fn change(
     command: Option<&Command>,
     settings: &mut Settings,
 ) -> Result<(), WantMemory>
-    ensures ok { OnOk result (Follows config.now (option_copied command.entry) settings.old settings.new) }
+    ensures ok { OnOk result
+        (Follows config.now (option_copied command.entry) settings.old settings.new) }
     ensures err { OnErr result (settings.new ≡ settings.old) }
     ensures ends { may_grow (option_copied command.entry) ≡ false → IsOk result }
 {

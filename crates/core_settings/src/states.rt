@@ -61,7 +61,8 @@ pub fn manager_state(settings: &Settings, manager: u32) -> ManagerState
 /// Gives the manager of this name the state that the order brings. Takes no memory.
 pub fn set_state(config: &Config, name: &Name, order: Order, managers: &mut Managers)
     ensures count { length managers.new ≡ length managers.old }
-    ensures states { length managers.old ≡ suc (length config.now.managers) → (m : ℕ) → state_at managers.new m
+    ensures states { length managers.old ≡ suc (length config.now.managers) → (m : ℕ)
+        → state_at managers.new m
         ≡ elim (logs.order_for config.now m (Some (Command.Manager name.now order)))
         [ Some given ↦ logs.ordered_state given | None ↦ state_at managers.old m ] }
 {

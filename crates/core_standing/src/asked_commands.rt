@@ -38,7 +38,8 @@ pub fn command_in<'a>(call: Option<&'a Call>) -> Option<&'a Command>
 /// The command that the Admit of an arrival does, after the entries before it.
 pub fn done_by<'a>(past: &'a [Entry], arrival: u64, verdict: &Verdict) -> Option<&'a Command>
     ensures { option_copied result ≡
-        (if logs.is_accepted verdict.now then logs.command_in (calls.call_of (reverse past.now) arrival) else None) }
+        (if logs.is_accepted verdict.now then logs.command_in
+        (calls.call_of (reverse past.now) arrival) else None) }
 {
     if is_accepted(verdict) {
         command_in(call_of(past, arrival))

@@ -69,7 +69,9 @@ pub fn add_activation(
     oid: &Oid,
     phase: Phase,
 ) -> Result<(), WantMemory>
-    ensures ok { OnOk result (seen standing.new ≡ opens.with_activation adapter path.now oid.now phase (seen standing.old)) }
+    ensures ok { OnOk result
+        (seen standing.new ≡ opens.with_activation adapter path.now oid.now phase
+        (seen standing.old)) }
     ensures err { OnErr result (seen standing.new ≡ seen standing.old) }
 {
     let number = standing.begun()?;
@@ -130,7 +132,8 @@ fn add_object(
     object: &ObjectConf,
     standing: &mut Standing,
 ) -> Result<(), WantMemory>
-    ensures { OnOk result (seen standing.new ≡ opens.with_object run object.now (seen standing.old)) }
+    ensures { OnOk result
+        (seen standing.new ≡ opens.with_object run object.now (seen standing.old)) }
 {
     let adapter = number_at(standing, object.adapter.as_slice());
     let phase = Phase::Complete(Sid::Named(object.servant));
@@ -150,7 +153,8 @@ fn add_objects(
     objects: &[ObjectConf],
     standing: &mut Standing,
 ) -> Result<(), WantMemory>
-    ensures { OnOk result (seen standing.new ≡ opens.with_objects run objects.now (seen standing.old)) }
+    ensures { OnOk result
+        (seen standing.new ≡ opens.with_objects run objects.now (seen standing.old)) }
 {
     for object in objects {
         add_object(alloc, run, object, standing)?;

@@ -30,7 +30,8 @@ use std::alloc::Global;
 
 /// The path of the missing child for which the arrival is tried, copied.
 fn child_of(standing: &Standing, arrival: Option<u64>) -> Result<Option<Path>, WantMemory>
-    ensures { IfOk result (λ child. child ≡ changes.child_tried standing.now.flights.items arrival) }
+    ensures { IfOk result
+        (λ child. child ≡ changes.child_tried standing.now.flights.items arrival) }
 {
     match child_tried(&standing.flights, arrival) {
         Some(path) => Ok(Some(path.clone()?)),
@@ -51,7 +52,8 @@ fn add_child(child: Option<Path>, standing: &mut Standing) -> Result<(), WantMem
 
 /// A trial ends. Where the activator said yes the child is created first, since that may fail.
 fn tried(arrival: Option<u64>, answer: Attempt, standing: &mut Standing) -> Result<(), WantMemory>
-    ensures ok { OnOk result (seen standing.new ≡ changes.with_tried arrival answer (seen standing.old)) }
+    ensures ok { OnOk result
+        (seen standing.new ≡ changes.with_tried arrival answer (seen standing.old)) }
     ensures err { OnErr result (seen standing.new ≡ seen standing.old) }
     ensures ends { (w : ℕ) → entries.takes_no_memory (Tried w answer) ≡ true → IsOk result }
 {
@@ -70,7 +72,9 @@ fn incarnated(
     answer: &Incarnation,
     standing: &mut Standing,
 ) -> Result<(), WantMemory>
-    ensures ok { OnOk result (seen standing.new ≡ changes.with_incarnated config.now stage answer.now (seen standing.old)) }
+    ensures ok { OnOk result
+        (seen standing.new ≡ changes.with_incarnated config.now stage answer.now
+        (seen standing.old)) }
     ensures err { OnErr result (seen standing.new ≡ seen standing.old) }
     ensures ends { (w : ℕ) → entries.names_servant (Incarnated w answer.now) ≡ false → IsOk result }
     ensures named { length config.now.servants ≤ 2 ^ 32 → IsOk result }
@@ -116,7 +120,8 @@ fn admitted(
     ensures ok { OnOk result
         (seen standing.new ≡ changes.with_command config.now run
         (if accepts verdict.now then command_of (option_copied call.entry) else None)
-        (changes.with_admitted arrival (keys.key_in (option_copied call.entry)) verdict.now (seen standing.old))) }
+        (changes.with_admitted arrival (keys.key_in (option_copied call.entry)) verdict.now
+        (seen standing.old))) }
     ensures err { OnErr result (seen standing.new ≡ seen standing.old) }
 {
     if is_accepted(verdict) {
@@ -137,10 +142,13 @@ fn change(
 ) -> Result<(), WantMemory>
     ensures ok { (past : List Entry) → stage ≡ entries.stage_at past entry.now
         → option_copied call.entry ≡ entries.call_admitted past entry.now
-        → OnOk result (seen standing.new ≡ changes.changed config.now run past entry.now (seen standing.old)) }
+        → OnOk result (seen standing.new
+        ≡ changes.changed config.now run past entry.now (seen standing.old)) }
     ensures err { OnErr result (seen standing.new ≡ seen standing.old) }
-    ensures ends { entries.takes_no_memory entry.now ≡ true → entries.names_servant entry.now ≡ false → IsOk result }
-    ensures named { entries.takes_no_memory entry.now ≡ true → length config.now.servants ≤ 2 ^ 32 → IsOk result }
+    ensures ends { entries.takes_no_memory entry.now ≡ true
+        → entries.names_servant entry.now ≡ false → IsOk result }
+    ensures named { entries.takes_no_memory entry.now ≡ true → length config.now.servants ≤ 2 ^ 32
+        → IsOk result }
 {
     match entry {
         Entry::Admit {
@@ -195,12 +203,15 @@ pub fn advance(
     call: Option<&Call>,
     standing: &mut Standing,
 ) -> Result<(), WantMemory>
-    ensures ok { (past : List Entry) → seen standing.old ≡ changes.standing config.now run past → stage ≡ entries.stage_at past entry.now
+    ensures ok { (past : List Entry) → seen standing.old ≡ changes.standing config.now run past
+        → stage ≡ entries.stage_at past entry.now
         → option_copied call.entry ≡ entries.call_admitted past entry.now
         → OnOk result (seen standing.new ≡ changes.standing config.now run (entry.now ∷ past)) }
     ensures err { OnErr result (seen standing.new ≡ seen standing.old) }
-    ensures ends { entries.takes_no_memory entry.now ≡ true → entries.names_servant entry.now ≡ false → IsOk result }
-    ensures named { entries.takes_no_memory entry.now ≡ true → length config.now.servants ≤ 2 ^ 32 → IsOk result }
+    ensures ends { entries.takes_no_memory entry.now ≡ true
+        → entries.names_servant entry.now ≡ false → IsOk result }
+    ensures named { entries.takes_no_memory entry.now ≡ true → length config.now.servants ≤ 2 ^ 32
+        → IsOk result }
 {
     let touched = touched_by(entry, stage, &standing.flights);
     change(alloc, config, run, entry, stage, call, standing)?;
@@ -222,7 +233,8 @@ fn may_begin(entry: &Entry) -> bool
 
 /// Whether there is a number of 32 bits for the activation that an entry may begin.
 fn has_number(entry: &Entry, standing: &Standing) -> Result<(), WantMemory>
-    ensures few { OnOk result (entries.may_begin entry.now ≡ true → length (seen standing.now).activations < 4294967296) }
+    ensures few { OnOk result
+        (entries.may_begin entry.now ≡ true → length (seen standing.now).activations < 4294967296) }
     ensures ends { entries.may_begin entry.now ≡ false → IsOk result }
 {
     if may_begin(entry) {
@@ -242,16 +254,20 @@ pub fn advance_kept(
     call: Option<&Call>,
     standing: &mut Standing,
 ) -> Result<(), WantMemory>
-    ensures ok { (past : List Entry) → StandsAfter config.now run past (seen standing.old) → stage ≡ entries.stage_at past entry.now
+    ensures ok { (past : List Entry) → StandsAfter config.now run past (seen standing.old)
+        → stage ≡ entries.stage_at past entry.now
         → option_copied call.entry ≡ entries.call_admitted past entry.now
         → OnOk result (StandsAfter config.now run (entry.now ∷ past) (seen standing.new)) }
     ensures forgets { (past : List Entry) → StandsAfter config.now run past (seen standing.old)
         → KeepsNoneOver config.now (seen standing.old)
-        → stage ≡ entries.stage_at past entry.now → option_copied call.entry ≡ entries.call_admitted past entry.now
+        → stage ≡ entries.stage_at past entry.now
+        → option_copied call.entry ≡ entries.call_admitted past entry.now
         → OnOk result (list_any (is_over config.now) standing.new.activations.kept ≡ false) }
     ensures err { OnErr result (seen standing.new ≡ seen standing.old) }
-    ensures ends { entries.takes_no_memory entry.now ≡ true → entries.names_servant entry.now ≡ false → IsOk result }
-    ensures named { entries.takes_no_memory entry.now ≡ true → length config.now.servants ≤ 2 ^ 32 → IsOk result }
+    ensures ends { entries.takes_no_memory entry.now ≡ true
+        → entries.names_servant entry.now ≡ false → IsOk result }
+    ensures named { entries.takes_no_memory entry.now ≡ true → length config.now.servants ≤ 2 ^ 32
+        → IsOk result }
 {
     has_number(entry, standing)?;
     let touched = touched_by(entry, stage, &standing.flights);
@@ -320,7 +336,8 @@ pub fn standing_of(
     run: u32,
     history: &[Entry],
 ) -> Result<Standing, WantMemory>
-    ensures { IfOk result (λ standing. seen standing ≡ changes.standing config.now run (reverse history.now)) }
+    ensures { IfOk result
+        (λ standing. seen standing ≡ changes.standing config.now run (reverse history.now)) }
 {
     let mut standing = opening(alloc, config, run)?;
     follow(alloc, config, run, history, &mut standing)?;

@@ -35,7 +35,9 @@ fn add_made_activation(
     servant: &Name,
     standing: &mut Standing,
 ) -> Result<(), WantMemory>
-    ensures ok { OnOk result (seen standing.new ≡ changes.with_made_activation config.now run path.now servant.now (seen standing.old)) }
+    ensures ok { OnOk result
+        (seen standing.new ≡ changes.with_made_activation config.now run path.now servant.now
+        (seen standing.old)) }
     ensures err { OnErr result (seen standing.new ≡ seen standing.old) }
 {
     let adapter = number_at(standing, path.as_slice());
@@ -54,8 +56,11 @@ fn is_made_for(
     path: &Path,
     servant: &Name,
 ) -> Result<bool, WantMemory>
-    ensures { IfOk result (λ made. (run : ℕ) → changes.with_reference config.now run path.now servant.now (seen standing.now)
-        ≡ (if made then changes.with_made_activation config.now run path.now servant.now (seen standing.now) else seen standing.now)) }
+    ensures { IfOk result
+        (λ made. (run : ℕ) → changes.with_reference config.now run path.now servant.now
+        (seen standing.now)
+        ≡ (if made then changes.with_made_activation config.now run path.now servant.now
+        (seen standing.now) else seen standing.now)) }
 {
     let Some(node) = live_at(standing, path.as_slice()) else {
         return Ok(false);
@@ -74,7 +79,9 @@ fn add_reference(
     servant: &Name,
     standing: &mut Standing,
 ) -> Result<(), WantMemory>
-    ensures ok { OnOk result (seen standing.new ≡ changes.with_reference config.now run path.now servant.now (seen standing.old)) }
+    ensures ok { OnOk result
+        (seen standing.new ≡ changes.with_reference config.now run path.now servant.now
+        (seen standing.old)) }
     ensures err { OnErr result (seen standing.new ≡ seen standing.old) }
 {
     if is_made_for(config, standing, path, servant)? {
@@ -85,8 +92,11 @@ fn add_reference(
 
 /// The manager of this name is turned off.
 fn off(config: &Config, manager: &Name, standing: &mut Standing) -> Result<(), WantMemory>
-    ensures ok { OnOk result (seen standing.new ≡ elim (number_of_manager config.now manager.now)
-        [ Some m ↦ changes.with_manager_off config.now m (seen standing.old) | None ↦ seen standing.old ]) }
+    ensures ok { OnOk result (seen standing.new ≡ elim (number_of_manager config.now manager.now) [
+      | Some m ↦ changes.with_manager_off config.now m (seen standing.old)
+      | None ↦ seen
+          standing.old
+    ]) }
     ensures err { OnErr result (seen standing.new ≡ seen standing.old) }
 {
     match manager_number(config, manager) {
@@ -103,7 +113,9 @@ pub fn command(
     done: Option<&Command>,
     standing: &mut Standing,
 ) -> Result<(), WantMemory>
-    ensures ok { OnOk result (seen standing.new ≡ changes.with_command config.now run (option_copied done.entry) (seen standing.old)) }
+    ensures ok { OnOk result
+        (seen standing.new ≡ changes.with_command config.now run (option_copied done.entry)
+        (seen standing.old)) }
     ensures err { OnErr result (seen standing.new ≡ seen standing.old) }
 {
     let Some(done) = done else {

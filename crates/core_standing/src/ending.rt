@@ -12,7 +12,8 @@ use poa_base::{Config, Name, Oid, WantMemory};
 /// What is active in the adapters that stand at the path or below it is ending.
 fn end_below(standing: &mut Standing, path: &[Name], etherealize: bool) -> Result<(), WantMemory>
     ensures ok { OnOk result (seen standing.new ≡ changes.with_activations
-        (λ a. if tree.stands_under standing.old.nodes.items path.now a.adapter then changes.ended_by_destroy etherealize a else a)
+        (λ a. if tree.stands_under standing.old.nodes.items path.now
+        a.adapter then changes.ended_by_destroy etherealize a else a)
         (seen standing.old)) }
     ensures err { OnErr result (seen standing.new ≡ seen standing.old) }
 {
@@ -23,7 +24,8 @@ fn end_below(standing: &mut Standing, path: &[Name], etherealize: bool) -> Resul
 
 /// The adapter of the path and those below it are destroyed.
 pub fn destroy(standing: &mut Standing, path: &[Name], etherealize: bool) -> Result<(), WantMemory>
-    ensures ok { OnOk result (seen standing.new ≡ changes.with_destroyed path.now etherealize (seen standing.old)) }
+    ensures ok { OnOk result
+        (seen standing.new ≡ changes.with_destroyed path.now etherealize (seen standing.old)) }
     ensures err { OnErr result (seen standing.new ≡ seen standing.old) }
 {
     end_below(standing, path, etherealize)?;
@@ -33,7 +35,8 @@ pub fn destroy(standing: &mut Standing, path: &[Name], etherealize: bool) -> Res
 
 /// The manager's activations that have a servant activator are ending.
 pub fn turn_off(config: &Config, standing: &mut Standing, manager: usize) -> Result<(), WantMemory>
-    ensures ok { OnOk result (seen standing.new ≡ changes.with_manager_off config.now manager (seen standing.old)) }
+    ensures ok { OnOk result
+        (seen standing.new ≡ changes.with_manager_off config.now manager (seen standing.old)) }
     ensures err { OnErr result (seen standing.new ≡ seen standing.old) }
 {
     standing.activations.end_managed(config, manager)
@@ -41,7 +44,8 @@ pub fn turn_off(config: &Config, standing: &mut Standing, manager: usize) -> Res
 
 /// The activations of the id are ending.
 pub fn deactivate(standing: &mut Standing, adapter: u32, oid: &Oid) -> Result<(), WantMemory>
-    ensures ok { OnOk result (seen standing.new ≡ changes.with_deactivated adapter oid.now (seen standing.old)) }
+    ensures ok { OnOk result
+        (seen standing.new ≡ changes.with_deactivated adapter oid.now (seen standing.old)) }
     ensures err { OnErr result (seen standing.new ≡ seen standing.old) }
 {
     standing.activations.end_id(adapter, oid)

@@ -15,7 +15,8 @@ use poa_base::{Config, Name};
 
 /// Whether something is in flight at the path or below it.
 fn is_flown_under(standing: &Standing, path: &[Name]) -> bool
-    ensures { result ≡ list_any (λ f. stands_under standing.now.nodes.items path.now f.adapter) standing.now.flights.items }
+    ensures { result ≡ list_any (λ f. stands_under standing.now.nodes.items path.now f.adapter)
+        standing.now.flights.items }
 {
     standing.flights.iter().any(|flight| nodes::stands_under(&standing.nodes, path, flight.adapter))
 }
@@ -23,7 +24,8 @@ fn is_flown_under(standing: &Standing, path: &[Name]) -> bool
 /// Whether the adapter is at the path or below it, and one of its activations isn't over.
 fn is_lived_in(config: &Config, node: &Node, path: &[Name], activations: &Activations) -> bool
     ensures { result ≡ leads_to path.now node.now.path
-        && list_any (λ a. (a.adapter == node.now.number) && not (ends.is_over config.now a)) activations.now.kept }
+        && list_any (λ a. (a.adapter == node.now.number) && not (ends.is_over config.now a))
+        activations.now.kept }
 {
     leads_to(path, node.path.as_slice()) && activations.has_live(config, node.number)
 }
@@ -31,7 +33,8 @@ fn is_lived_in(config: &Config, node: &Node, path: &[Name], activations: &Activa
 /// Whether one of the adapters is at the path or below it, and one of its activations isn't over.
 fn are_lived_in(config: &Config, nodes: &[Node], path: &[Name], activations: &Activations) -> bool
     ensures { result ≡ list_any
-        (λ n. leads_to path.now n.path && list_any (λ a. (a.adapter == n.number) && not (ends.is_over config.now a))
+        (λ n. leads_to path.now n.path
+        && list_any (λ a. (a.adapter == n.number) && not (ends.is_over config.now a))
         activations.now.kept) nodes.now }
 {
     nodes
@@ -47,14 +50,18 @@ fn are_lived_under(
     path: &[Name],
     activations: &Activations,
 ) -> bool
-    ensures { result ≡ list_any (λ a. not (ends.is_over config.now a) && stands_under nodes.now path.now a.adapter) activations.now.kept }
+    ensures { result ≡ list_any
+        (λ a. not (ends.is_over config.now a) && stands_under nodes.now path.now a.adapter)
+        activations.now.kept }
 {
     are_lived_in(config, nodes, path, activations)
 }
 
 /// Whether an activation at the path or below it isn't over.
 fn is_lived_under(config: &Config, standing: &Standing, path: &[Name]) -> bool
-    ensures { result ≡ list_any (λ a. not (ends.is_over config.now a) && stands_under standing.now.nodes.items path.now a.adapter)
+    ensures { result ≡ list_any
+        (λ a. not (ends.is_over config.now a)
+        && stands_under standing.now.nodes.items path.now a.adapter)
         (seen standing.now).activations }
 {
     are_lived_under(config, &standing.nodes, path, &standing.activations)
@@ -70,14 +77,16 @@ pub fn is_done_with(config: &Config, standing: &Standing, node: &Node) -> bool
 
 /// Whether one of the adapter's own activations isn't over. Then an adapter that stands goes on standing.
 fn lives_itself(config: &Config, standing: &Standing, node: &Node) -> bool
-    ensures { result ≡ true → In node.now standing.now.nodes.items → ends.is_done_with config.now (seen standing.now) node.now ≡ false }
+    ensures { result ≡ true → In node.now standing.now.nodes.items
+        → ends.is_done_with config.now (seen standing.now) node.now ≡ false }
 {
     standing.activations.has_live(config, node.number)
 }
 
 /// Whether an adapter that stands isn't done with. Its own activations are asked first: those of an adapter are found at once.
 fn goes_on(config: &Config, standing: &Standing, node: &Node) -> bool
-    ensures { In node.now standing.now.nodes.items → result ≡ not (ends.is_done_with config.now (seen standing.now) node.now) }
+    ensures { In node.now standing.now.nodes.items
+        → result ≡ not (ends.is_done_with config.now (seen standing.now) node.now) }
 {
     if !node.dying {
         return true;
@@ -91,7 +100,8 @@ fn goes_on(config: &Config, standing: &Standing, node: &Node) -> bool
 /// Whether an adapter that stands goes on standing.
 pub fn stays(config: &Config, standing: &Standing, node: &Node) -> bool
     ensures { In node.now standing.now.nodes.items
-        → result ≡ is_root node.now.path || not (ends.is_done_with config.now (seen standing.now) node.now) }
+        → result ≡ is_root node.now.path
+        || not (ends.is_done_with config.now (seen standing.now) node.now) }
 {
     match node.path.as_slice() {
         [] => true,

@@ -21,7 +21,8 @@ fn add_request(
     key: &KeyView<'_>,
     activation: Option<u32>,
 ) -> Result<(), WantMemory>
-    ensures ok { OnOk result (seen standing.new ≡ changes.with_request arrival key.now activation (seen standing.old)) }
+    ensures ok { OnOk result
+        (seen standing.new ≡ changes.with_request arrival key.now activation (seen standing.old)) }
     ensures err { OnErr result (seen standing.new ≡ seen standing.old) }
 {
     let adapter = adapter_met(walk_to(alloc, &standing.nodes, key.path())?);
@@ -59,7 +60,8 @@ fn add_trial(
     arrival: u64,
     key: &KeyView<'_>,
 ) -> Result<(), WantMemory>
-    ensures ok { OnOk result (seen standing.new ≡ changes.with_trial arrival key.now (seen standing.old)) }
+    ensures ok { OnOk result
+        (seen standing.new ≡ changes.with_trial arrival key.now (seen standing.old)) }
     ensures err { OnErr result (seen standing.new ≡ seen standing.old) }
 {
     let path = key.path().to_path(alloc)?;
@@ -81,7 +83,8 @@ fn add_incarnation(
     arrival: u64,
     key: &KeyView<'_>,
 ) -> Result<(), WantMemory>
-    ensures ok { OnOk result (seen standing.new ≡ changes.with_incarnation arrival key.now (seen standing.old)) }
+    ensures ok { OnOk result
+        (seen standing.new ≡ changes.with_incarnation arrival key.now (seen standing.old)) }
     ensures err { OnErr result (seen standing.new ≡ seen standing.old) }
 {
     let number = standing.begun()?;
@@ -107,7 +110,9 @@ pub fn admit(
     key: Option<KeyView<'_>>,
     verdict: &Verdict,
 ) -> Result<(), WantMemory>
-    ensures ok { OnOk result (seen standing.new ≡ changes.with_admitted arrival key.entry verdict.now (seen standing.old)) }
+    ensures ok { OnOk result
+        (seen standing.new ≡ changes.with_admitted arrival key.entry verdict.now
+        (seen standing.old)) }
     ensures err { OnErr result (seen standing.new ≡ seen standing.old) }
 {
     let Some(key) = key else {

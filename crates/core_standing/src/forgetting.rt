@@ -11,7 +11,8 @@ use poa_base::Config;
 /// Those of the touched that are over are forgotten, but for their number.
 pub fn forget(config: &Config, standing: &mut Standing, touched: Touched)
     ensures same { StandsFor config.now (seen standing.old) (seen standing.new) }
-    ensures all { OverTouched config.now (is_touched touched) (seen standing.old) → KeepsNoneOver config.now (seen standing.new) }
+    ensures all { OverTouched config.now (is_touched touched) (seen standing.old)
+        → KeepsNoneOver config.now (seen standing.new) }
 {
     match touched {
         Touched::Nothing => {}

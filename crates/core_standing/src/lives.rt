@@ -9,7 +9,9 @@ use history_standing::Phase;
 
 /// The activation that is being incarnated has come so far.
 pub fn complete(standing: &mut Standing, number: u32, phase: Phase)
-    ensures { seen standing.new ≡ changes.with_activations (changes.at_number number (changes.come_to phase)) (seen standing.old) }
+    ensures { seen standing.new
+        ≡ changes.with_activations (changes.at_number number (changes.come_to phase))
+        (seen standing.old) }
 {
     standing.activations.bring(number, phase);
 }
@@ -23,7 +25,9 @@ pub fn take_out(standing: &mut Standing, number: u32)
 
 /// The servant of the activation that was taken out is etherealized.
 pub fn etherealize(standing: &mut Standing, number: u32)
-    ensures { seen standing.new ≡ changes.with_activations (changes.at_number number (λ a. record a { etherealized = true }))
+    ensures { seen standing.new
+        ≡ changes.with_activations
+        (changes.at_number number (λ a. record a { etherealized = true }))
         (seen standing.old) }
 {
     standing.activations.etherealize(number);

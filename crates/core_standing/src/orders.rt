@@ -15,7 +15,8 @@ use poa_base::Config;
 
 /// Whether it is the adapter of this number, and one of the manager's.
 fn is_manager_of(config: &Config, manager: u32, number: u32, node: &Node) -> bool
-    ensures { result ≡ (node.now.number == number) && (configured.manager_at config.now node.now.path == manager) }
+    ensures { result ≡ (node.now.number == number)
+        && (configured.manager_at config.now node.now.path == manager) }
 {
     node.number == number && manager_at(config, node.path.as_slice()) == manager
 }
@@ -32,7 +33,9 @@ fn is_managed(config: &Config, standing: &Standing, manager: u32, number: u32) -
 
 /// Whether something is in flight in the adapters of the manager.
 fn is_flown(config: &Config, standing: &Standing, manager: u32) -> bool
-    ensures { result ≡ list_any (λ f. settling.is_managed config.now (seen standing.now) manager f.adapter) standing.now.flights.items }
+    ensures { result ≡ list_any
+        (λ f. settling.is_managed config.now (seen standing.now) manager f.adapter)
+        standing.now.flights.items }
 {
     let mut flown = false;
     for flight in &standing.flights {
@@ -54,7 +57,8 @@ pub fn is_quiet(config: &Config, standing: &Standing, manager: u32) -> bool
 fn is_ended(config: &Config, manager: u32, begun: usize, activation: &Activation) -> bool
     ensures { result ≡ ends.is_over config.now activation.now ||
         (not (nat_lt activation.now.number begun) || not
-        (configured.has_activator config.now activation.now.path && (configured.manager_at config.now activation.now.path == manager))) }
+        (configured.has_activator config.now activation.now.path
+        && (configured.manager_at config.now activation.now.path == manager))) }
 {
     let path = activation.path.as_slice();
     is_over(config, activation)
@@ -67,7 +71,8 @@ fn all_ended(config: &Config, manager: u32, begun: usize, activations: &Activati
     ensures { result ≡ list_all
         (λ a. ends.is_over config.now a ||
         (not (nat_lt a.number begun) || not
-        (configured.has_activator config.now a.path && (configured.manager_at config.now a.path == manager)))) activations.now.kept }
+        (configured.has_activator config.now a.path
+        && (configured.manager_at config.now a.path == manager)))) activations.now.kept }
 {
     activations
         .iter()

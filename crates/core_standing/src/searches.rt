@@ -27,7 +27,8 @@ fn is_by(adapter: u32, servant: Sid, activation: &Activation) -> bool
 
 /// The first of them by which the servant is in the map of the adapter.
 fn first_mapped(activations: &Activations, adapter: u32, servant: Sid) -> Option<&Activation>
-    ensures { option_copied result ≡ find (λ a. (a.adapter == adapter) && (stands.is_mapped a && stands.has_servant servant a))
+    ensures { option_copied result
+        ≡ find (λ a. (a.adapter == adapter) && (stands.is_mapped a && stands.has_servant servant a))
         activations.now.kept }
 {
     activations
@@ -37,7 +38,8 @@ fn first_mapped(activations: &Activations, adapter: u32, servant: Sid) -> Option
 
 /// The first activation by which the servant is in the map of the adapter.
 pub fn mapped(standing: &Standing, adapter: u32, servant: Sid) -> Option<&Activation>
-    ensures { option_copied result ≡ find (λ a. (a.adapter == adapter) && (stands.is_mapped a && stands.has_servant servant a))
+    ensures { option_copied result
+        ≡ find (λ a. (a.adapter == adapter) && (stands.is_mapped a && stands.has_servant servant a))
         (seen standing.now).activations }
 {
     first_mapped(&standing.activations, adapter, servant)

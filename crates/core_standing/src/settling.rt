@@ -15,8 +15,10 @@ use poa_base::Config;
 /// What is to leave the map does, where none but what is touched is to.
 fn let_out_ended(config: &Config, standing: &mut Standing, touched: Touched)
     ensures { Others config.now (is_touched touched) (seen standing.old)
-        → seen standing.new ≡ record (seen standing.old)
-        { activations = map (ends.let_out config.now (seen standing.old)) (seen standing.old).activations } }
+        → seen standing.new ≡ record (seen standing.old) {
+          activations = map (ends.let_out config.now (seen standing.old))
+              (seen standing.old).activations;
+        } }
 {
     match touched {
         Touched::Nothing => {}
@@ -43,8 +45,11 @@ fn drop_gone(config: &Config, standing: &mut Standing)
 
 /// Whether the adapter of the activation that is touched has one that isn't over.
 fn lives_on(config: &Config, standing: &Standing, touched: Touched) -> bool
-    ensures { result ≡ true → (n : ℕ) × (touched ≡ One n) × (a : Activation) × (b : Activation) × In a (seen standing.now).activations
-        × (a.number ≡ n) × In b (seen standing.now).activations × (ends.is_over config.now b ≡ false) × (b.adapter ≡ a.adapter) }
+    ensures { result ≡ true
+        → (n : ℕ) × (touched ≡ One n) × (a : Activation) × (b : Activation)
+        × In a (seen standing.now).activations
+        × (a.number ≡ n) × In b (seen standing.now).activations
+        × (ends.is_over config.now b ≡ false) × (b.adapter ≡ a.adapter) }
 {
     let Touched::One(number) = touched else {
         return false;
@@ -59,7 +64,8 @@ fn lives_on(config: &Config, standing: &Standing, touched: Touched) -> bool
 /// are looked at only if nothing else lives in the adapter that it left.
 pub fn settle(config: &Config, standing: &mut Standing, touched: Touched, removes: bool)
     ensures { Others config.now (is_touched touched) (seen standing.old)
-        → (removes ≡ true → (n : ℕ) → touched ≡ One n → Lasts config.now n (left config.now (seen standing.old)))
+        → (removes ≡ true → (n : ℕ) → touched ≡ One n
+        → Lasts config.now n (left config.now (seen standing.old)))
         → seen standing.new ≡ ends.settled config.now (seen standing.old) }
 {
     let_out_ended(config, standing, touched);

@@ -45,7 +45,8 @@ fn with(touched: Touched, number: u32) -> Touched
 /// These, and that in which the flight is, where it is one of the arrival.
 fn with_flight(touched: Touched, flight: &Flight, arrival: u64) -> Touched
     ensures before { (k : ℕ) → is_touched result k ≡ false → is_touched touched k ≡ false }
-    ensures one { (k : ℕ) → (flight.now.arrival == arrival) ≡ true → is_touched result k ≡ false → uses k flight.now ≡ false }
+    ensures one { (k : ℕ) → (flight.now.arrival == arrival) ≡ true → is_touched result k ≡ false
+        → uses k flight.now ≡ false }
 {
     match flight.activation {
         Some(number) if flight.arrival == arrival => with(touched, number),
@@ -56,7 +57,8 @@ fn with_flight(touched: Touched, flight: &Flight, arrival: u64) -> Touched
 /// Those, and that of each flight of the arrival.
 fn with_flights(touched: Touched, flights: &[Flight], arrival: u64) -> Touched
     ensures before { (k : ℕ) → is_touched result k ≡ false → is_touched touched k ≡ false }
-    ensures each { (f : Flown) (k : ℕ) → In f flights.now → (f.arrival == arrival) ≡ true → is_touched result k ≡ false → uses k f ≡ false }
+    ensures each { (f : Flown) (k : ℕ) → In f flights.now → (f.arrival == arrival) ≡ true
+        → is_touched result k ≡ false → uses k f ≡ false }
 {
     let mut all = touched;
     for i in 0..flights.len() {
@@ -68,7 +70,8 @@ fn with_flights(touched: Touched, flights: &[Flight], arrival: u64) -> Touched
 /// Those, and that of each flight of an arrival, where one is given.
 fn with_ended(touched: Touched, flights: &[Flight], arrival: Option<u64>) -> Touched
     ensures before { (k : ℕ) → is_touched result k ≡ false → is_touched touched k ≡ false }
-    ensures each { (f : Flown) (q : ℕ) → In f flights.now → arrival ≡ Some q → (f.arrival == q) ≡ true
+    ensures each { (f : Flown) (q : ℕ) → In f flights.now → arrival ≡ Some q
+        → (f.arrival == q) ≡ true
         → (k : ℕ) → is_touched result k ≡ false → uses k f ≡ false }
 {
     match arrival {
@@ -79,10 +82,12 @@ fn with_ended(touched: Touched, flights: &[Flight], arrival: Option<u64>) -> Tou
 
 /// What an incarnation that ends touches: its activation, and that in which its request is in flight.
 fn by_incarnation(stage: Stage, flights: &[Flight]) -> Touched
-    ensures leaves { (c : Conf) (answer : Answered) (s : Stood) → s.flights ≡ flights.now → Still c s
+    ensures leaves { (c : Conf) (answer : Answered) (s : Stood) → s.flights ≡ flights.now
+        → Still c s
         → Others c (is_touched result) (changes.with_incarnated c stage answer s) }
     ensures same { (c : Conf) (answer : Answered) (s : Stood)
-        → SameOthers (is_touched result) s.activations (changes.with_incarnated c stage answer s).activations }
+        → SameOthers (is_touched result) s.activations
+        (changes.with_incarnated c stage answer s).activations }
 {
     match stage {
         Stage::Incarnating(arrival, number) => {
@@ -94,8 +99,11 @@ fn by_incarnation(stage: Stage, flights: &[Flight]) -> Touched
 
 /// What the servant that was taken down touches.
 fn by_removal(stage: Stage) -> Touched
-    ensures leaves { (c : Conf) (s : Stood) → Still c s → Others c (is_touched result) (changes.with_etherealized stage s) }
-    ensures same { (s : Stood) → SameOthers (is_touched result) s.activations (changes.with_etherealized stage s).activations }
+    ensures leaves { (c : Conf) (s : Stood) → Still c s
+        → Others c (is_touched result) (changes.with_etherealized stage s) }
+    ensures same { (s : Stood)
+        → SameOthers (is_touched result) s.activations
+        (changes.with_etherealized stage s).activations }
 {
     match stage {
         Stage::Removing(number) => Touched::One(number),
@@ -106,11 +114,14 @@ fn by_removal(stage: Stage) -> Touched
 /// What an entry touches: of the others none leaves the map, behind a standing in which nothing is left to go, and
 /// none comes or changes.
 pub fn touched_by(entry: &Entry, stage: Stage, flights: &[Flight]) -> Touched
-    ensures leaves { (c : Conf) (run : ℕ) (past : List EntryOf) (s : Stood) → s.flights ≡ flights.now
+    ensures leaves { (c : Conf) (run : ℕ) (past : List EntryOf) (s : Stood)
+        → s.flights ≡ flights.now
         → stage ≡ entries.stage_at past entry.now
         → Still c s → Others c (is_touched result) (changes.changed c run past entry.now s) }
-    ensures same { (c : Conf) (run : ℕ) (past : List EntryOf) (s : Stood) → stage ≡ entries.stage_at past entry.now
-        → SameOthers (is_touched result) s.activations (changes.changed c run past entry.now s).activations }
+    ensures same { (c : Conf) (run : ℕ) (past : List EntryOf) (s : Stood)
+        → stage ≡ entries.stage_at past entry.now
+        → SameOthers (is_touched result) s.activations
+        (changes.changed c run past entry.now s).activations }
 {
     match entry {
         Entry::Admit { .. } => Touched::All,

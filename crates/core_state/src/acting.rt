@@ -15,7 +15,8 @@ use std::collections::BTreeMap;
 
 /// A servant does what a call asks.
 fn act_on(servant: &mut Servant, call: Option<&Call>) -> Result<Outcome, WantMemory>
-    ensures ok { IfOk result (λ outcome. acted servant.old (option_copied call.entry) ≡ (servant.new, outcome)) }
+    ensures ok { IfOk result
+        (λ outcome. acted servant.old (option_copied call.entry) ≡ (servant.new, outcome)) }
     ensures err { OnErr result (servant.new ≡ servant.old) }
 {
     match call {
@@ -32,7 +33,8 @@ fn act_on(servant: &mut Servant, call: Option<&Call>) -> Result<Outcome, WantMem
 
 /// A servant that isn't there only fails.
 fn act_on_none(alloc: Global, call: Option<&Call>) -> Result<Outcome, WantMemory>
-    ensures { IfOk result (λ outcome. acted Held.Fault (option_copied call.entry) ≡ (Held.Fault, outcome)) }
+    ensures { IfOk result
+        (λ outcome. acted Held.Fault (option_copied call.entry) ≡ (Held.Fault, outcome)) }
 {
     let mut servant = Servant::new(alloc, State::Fault);
     act_on(&mut servant, call)
@@ -46,10 +48,12 @@ fn act_configured(
     call: Option<&Call>,
 ) -> Result<Outcome, WantMemory>
     ensures ok { OnOk result ((k : ℕ) → unwrap_or (slice_get configured.new.items k) Held.Fault
-        ≡ (if k == number then (acted (unwrap_or (slice_get configured.old.items k) Held.Fault) (option_copied call.entry)).0 else unwrap_or
+        ≡ (if k == number then (acted (unwrap_or (slice_get configured.old.items k) Held.Fault)
+        (option_copied call.entry)).0 else unwrap_or
         (slice_get configured.old.items k) Held.Fault)) }
     ensures outcome { IfOk result
-        (λ outcome. outcome ≡ (acted (unwrap_or (slice_get configured.old.items number) Held.Fault) (option_copied call.entry)).1) }
+        (λ outcome. outcome ≡ (acted (unwrap_or (slice_get configured.old.items number) Held.Fault)
+        (option_copied call.entry)).1) }
     ensures err { OnErr result (configured.new.items ≡ configured.old.items) }
 {
     let place = number as usize;
@@ -71,7 +75,8 @@ fn act_fresh(
         ≡ (if n == number then option_map (λ s. (acted s (option_copied call.entry)).0)
         (tree.get nat_cmp fresh.old n) else tree.get nat_cmp fresh.old n)) }
     ensures outcome { IfOk result
-        (λ outcome. outcome ≡ (acted (unwrap_or (tree.get nat_cmp fresh.old number) Held.Fault) (option_copied call.entry)).1) }
+        (λ outcome. outcome ≡ (acted (unwrap_or (tree.get nat_cmp fresh.old number) Held.Fault)
+        (option_copied call.entry)).1) }
     ensures err { OnErr result (fresh.new.entries ≡ fresh.old.entries) }
 {
     match fresh.get_mut(&number) {
@@ -88,8 +93,10 @@ pub fn act(
     runs: Option<Sid>,
     servants: &mut Servants,
 ) -> Result<Option<Outcome>, WantMemory>
-    ensures ok { OnOk result (IsActed runs (option_copied call.entry) (kept_in servants.old) (kept_in servants.new)) }
-    ensures outcome { IfOk result (λ outcome. outcome ≡ outcome_in runs (option_copied call.entry) (kept_in servants.old)) }
+    ensures ok { OnOk result
+        (IsActed runs (option_copied call.entry) (kept_in servants.old) (kept_in servants.new)) }
+    ensures outcome { IfOk result
+        (λ outcome. outcome ≡ outcome_in runs (option_copied call.entry) (kept_in servants.old)) }
     ensures err { OnErr result (kept_in servants.new ≡ kept_in servants.old) }
 {
     match runs {

@@ -17,7 +17,9 @@ use std::alloc::Global;
 
 /// The command that an Admit does.
 fn done<'a>(call: Option<&'a Call>, verdict: &Verdict) -> Option<&'a Command>
-    ensures { option_copied result ≡ (if logs.is_accepted verdict.now then logs.command_in (option_copied call.entry) else None) }
+    ensures { option_copied result
+        ≡ (if logs.is_accepted verdict.now then logs.command_in
+        (option_copied call.entry) else None) }
 {
     if is_accepted(verdict) {
         command_in(call)
@@ -46,9 +48,11 @@ fn admit(
     state: &mut State,
 ) -> Result<(), WantMemory>
     requires { (w : ℕ) × (r : ℕ) × (coming.now.entry.now ≡ Entry.Admit w r verdict.now) }
-    ensures ok { (limit : ℕ) (opened : Stored) (past : List Entry) → IsNext config.now run limit opened past coming.now state.old
+    ensures ok { (limit : ℕ) (opened : Stored) (past : List Entry)
+        → IsNext config.now run limit opened past coming.now state.old
         → OnOk result (IsState config.now run opened (coming.now.entry.now ∷ past) state.new) }
-    ensures err { (opened : Stored) (past : List Entry) → IsState config.now run opened past state.old
+    ensures err { (opened : Stored) (past : List Entry)
+        → IsState config.now run opened past state.old
         → OnErr result (IsState config.now run opened past state.new) }
 {
     let command = done(coming.call, verdict);
@@ -76,9 +80,11 @@ fn tried(
     state: &mut State,
 ) -> Result<(), WantMemory>
     requires { (w : ℕ) × (answer : Attempt) × (coming.now.entry.now ≡ Entry.Tried w answer) }
-    ensures ok { (limit : ℕ) (opened : Stored) (past : List Entry) → IsNext config.now run limit opened past coming.now state.old
+    ensures ok { (limit : ℕ) (opened : Stored) (past : List Entry)
+        → IsNext config.now run limit opened past coming.now state.old
         → OnOk result (IsState config.now run opened (coming.now.entry.now ∷ past) state.new) }
-    ensures err { (opened : Stored) (past : List Entry) → IsState config.now run opened past state.old
+    ensures err { (opened : Stored) (past : List Entry)
+        → IsState config.now run opened past state.old
         → OnErr result (IsState config.now run opened past state.new) }
 {
     core_standing::advance_kept(
@@ -101,13 +107,17 @@ fn served(
     coming: &Coming<'_>,
     state: &mut State,
 ) -> Result<Option<Outcome>, WantMemory>
-    requires next { (limit : ℕ) × (opened : Stored) × (past : List Entry) × IsNext config.now run limit opened past coming.now state.old }
+    requires next { (limit : ℕ) × (opened : Stored) × (past : List Entry)
+        × IsNext config.now run limit opened past coming.now state.old }
     requires kind { serves coming.now.entry.now ≡ true }
-    ensures ok { (limit : ℕ) (opened : Stored) (past : List Entry) → IsNext config.now run limit opened past coming.now state.old
+    ensures ok { (limit : ℕ) (opened : Stored) (past : List Entry)
+        → IsNext config.now run limit opened past coming.now state.old
         → OnOk result (IsState config.now run opened (coming.now.entry.now ∷ past) state.new) }
-    ensures outcome { (limit : ℕ) (opened : Stored) (past : List Entry) → IsNext config.now run limit opened past coming.now state.old
+    ensures outcome { (limit : ℕ) (opened : Stored) (past : List Entry)
+        → IsNext config.now run limit opened past coming.now state.old
         → IfOk result (λ outcome. outcome ≡ outcome_of config.now run opened past coming.now) }
-    ensures err { (opened : Stored) (past : List Entry) → IsState config.now run opened past state.old
+    ensures err { (opened : Stored) (past : List Entry)
+        → IsState config.now run opened past state.old
         → OnErr result (IsState config.now run opened past state.new) }
     ensures ends { OnErr result (may_want coming.now.entry.now ≡ true) }
 {
@@ -144,12 +154,16 @@ pub fn advance(
     coming: &Coming<'_>,
     state: &mut State,
 ) -> Result<Option<Outcome>, WantMemory>
-    requires { (limit : ℕ) × (opened : Stored) × (past : List Entry) × IsNext config.now run limit opened past coming.now state.old }
-    ensures ok { (limit : ℕ) (opened : Stored) (past : List Entry) → IsNext config.now run limit opened past coming.now state.old
+    requires { (limit : ℕ) × (opened : Stored) × (past : List Entry)
+        × IsNext config.now run limit opened past coming.now state.old }
+    ensures ok { (limit : ℕ) (opened : Stored) (past : List Entry)
+        → IsNext config.now run limit opened past coming.now state.old
         → OnOk result (IsState config.now run opened (coming.now.entry.now ∷ past) state.new) }
-    ensures outcome { (limit : ℕ) (opened : Stored) (past : List Entry) → IsNext config.now run limit opened past coming.now state.old
+    ensures outcome { (limit : ℕ) (opened : Stored) (past : List Entry)
+        → IsNext config.now run limit opened past coming.now state.old
         → IfOk result (λ outcome. outcome ≡ outcome_of config.now run opened past coming.now) }
-    ensures err { (opened : Stored) (past : List Entry) → IsState config.now run opened past state.old
+    ensures err { (opened : Stored) (past : List Entry)
+        → IsState config.now run opened past state.old
         → OnErr result (IsState config.now run opened past state.new) }
     ensures ends { only_ends coming.now.entry.now ≡ true → IsOk result }
 {

@@ -22,7 +22,9 @@ fn bring_for(
     activation: &Activation,
     servants: &mut Servants,
 ) -> Result<(), WantMemory>
-    ensures ok { OnOk result (Brings config.now number (Some activation.now) (kept_in servants.old) (kept_in servants.new)) }
+    ensures ok { OnOk result
+        (Brings config.now number (Some activation.now) (kept_in servants.old)
+        (kept_in servants.new)) }
     ensures err { OnErr result (IsUnchanged (kept_in servants.old) (kept_in servants.new)) }
 {
     let kind = kind_brought(config, activation);
@@ -47,7 +49,8 @@ pub fn bring(
     servants: &mut Servants,
 ) -> Result<(), WantMemory>
     ensures ok { OnOk result
-        (Brings config.now number (turns.activation_numbered (seen standing.now) number) (kept_in servants.old) (kept_in servants.new)) }
+        (Brings config.now number (turns.activation_numbered (seen standing.now) number)
+        (kept_in servants.old) (kept_in servants.new)) }
     ensures err { OnErr result (IsUnchanged (kept_in servants.old) (kept_in servants.new)) }
 {
     match activation_numbered(standing, number) {
@@ -65,7 +68,9 @@ pub fn incarnate(
     standing: &Standing,
     servants: &mut Servants,
 ) -> Result<(), WantMemory>
-    ensures ok { OnOk result (Incarnates config.now answer.now (seen standing.now) (kept_in servants.old) (kept_in servants.new)) }
+    ensures ok { OnOk result
+        (Incarnates config.now answer.now (seen standing.now) (kept_in servants.old)
+        (kept_in servants.new)) }
     ensures err { OnErr result (IsUnchanged (kept_in servants.old) (kept_in servants.new)) }
     ensures ends { OnErr result (is_new answer.now ≡ true) }
 {

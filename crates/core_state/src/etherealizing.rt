@@ -22,7 +22,8 @@ fn fresh_number(phase: Phase) -> Option<u32>
 
 /// An activation and the number of its fresh servant.
 fn removed_of(activation: Option<&Activation>) -> Option<(&Activation, u32)>
-    ensures { option_map (λ r. (r.0.now, r.1)) result ≡ steps.removed_of (option_copied activation.entry) }
+    ensures { option_map (λ r. (r.0.now, r.1)) result
+        ≡ steps.removed_of (option_copied activation.entry) }
 {
     match activation {
         Some(activation) => match fresh_number(activation.phase) {
@@ -50,7 +51,8 @@ fn removed(standing: &Standing, stage: Stage) -> Option<(&Activation, u32)>
 /// The fresh servant of the activation that is removed goes, and its state is stored. Takes no memory.
 pub fn etherealize(stage: Stage, standing: &Standing, servants: &mut Servants)
     requires { steps.HasRoom (steps.removed (seen standing.now) stage) (kept_in servants.old) }
-    ensures { steps.Etherealizes (steps.removed (seen standing.now) stage) (kept_in servants.old) (kept_in servants.new) }
+    ensures { steps.Etherealizes (steps.removed (seen standing.now) stage) (kept_in servants.old)
+        (kept_in servants.new) }
 {
     let Some((activation, number)) = removed(standing, stage) else {
         return;

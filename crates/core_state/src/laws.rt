@@ -13,7 +13,8 @@ ghost use Rattle.core_standing.specs.Kept.{StandsAfter};
 
 /// After a legal history what is kept, where some activations that are over may be forgotten, answers as what stands.
 pub fn what_is_kept_answers()
-    ensures { (c : Config) (run limit : ℕ) (h : List Entry) → IsGiven c run → IsGivenAlone c run → IsWithinLimits c limit
+    ensures { (c : Config) (run limit : ℕ) (h : List Entry) → IsGiven c run → IsGivenAlone c run
+        → IsWithinLimits c limit
         → IsLegal c run limit h
         → (t : Standing) → StandsAfter c run h t → AnswersAs c run h t }
 {}

@@ -16,13 +16,15 @@ ghost use Rattle.core_state.specs.Steps.{IsUnchanged};
 
 /// Where no memory was left, the servants are still in the states of their history.
 pub fn unchanged_servants_hold()
-    ensures { (c : Config) (run : ℕ) (opened : Stored) (past : List Entry) (old new : Kept) → IsUnchanged old new
+    ensures { (c : Config) (run : ℕ) (opened : Stored) (past : List Entry) (old new : Kept)
+        → IsUnchanged old new
         → Holds c run opened past old → Holds c run opened past new }
 {}
 
 /// A request that is to run has its servant: that of its activation, the default servant of its adapter, or the
 /// one that a servant locator gave.
 pub fn requests_have_their_servants()
-    ensures { (c : Config) (run limit : ℕ) (h : List Entry) → IsGiven c run → IsGivenAlone c run → IsWithinLimits c limit
+    ensures { (c : Config) (run limit : ℕ) (h : List Entry) → IsGiven c run → IsGivenAlone c run
+        → IsWithinLimits c limit
         → IsLegal c run limit h → (w r : ℕ) → stage h w ≡ Stage.Serving r → HasServant c run h r }
 {}

@@ -30,12 +30,15 @@ pub fn advance(
     standing: &Standing,
     servants: &mut Servants,
 ) -> Result<Option<Outcome>, WantMemory>
-    requires { Comes config.now entry.now stage (option_copied call) runs (seen standing.now) (kept_in servants.old) }
+    requires { Comes config.now entry.now stage (option_copied call) runs (seen standing.now)
+        (kept_in servants.old) }
     ensures ok { OnOk result
-        (HoldsThen config.now entry.now stage (option_copied call.entry) runs (seen standing.now) (kept_in servants.old)
+        (HoldsThen config.now entry.now stage (option_copied call.entry) runs (seen standing.now)
+        (kept_in servants.old)
         (kept_in servants.new)) }
     ensures outcome { IfOk result
-        (λ outcome. TellsThen config.now entry.now stage (option_copied call.entry) runs (seen standing.now)
+        (λ outcome. TellsThen config.now entry.now stage (option_copied call.entry) runs
+        (seen standing.now)
         (kept_in servants.old) outcome) }
     ensures err { OnErr result (IsUnchanged (kept_in servants.old) (kept_in servants.new)) }
     ensures ends { OnErr result (may_want entry.now ≡ true) }

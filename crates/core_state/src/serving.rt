@@ -25,7 +25,8 @@ fn servant_of(activation: Option<&Activation>) -> Option<Sid>
 
 /// The servant of this activation's number.
 fn servant_at(standing: &Standing, number: u32) -> Option<Sid>
-    ensures { result ≡ states.servant_of_activation (turns.activation_numbered (seen standing.now) number) }
+    ensures { result ≡ states.servant_of_activation
+        (turns.activation_numbered (seen standing.now) number) }
 {
     servant_of(activation_numbered(standing, number))
 }
@@ -47,7 +48,9 @@ pub fn servant_by(
     standing: &Standing,
     verdict: Option<&Verdict>,
 ) -> Result<Option<Sid>, WantMemory>
-    ensures { IfOk result (λ servant. servant ≡ states.servant_by config.now (seen standing.now) (option_copied verdict.entry)) }
+    ensures { IfOk result
+        (λ servant. servant ≡ states.servant_by config.now (seen standing.now)
+        (option_copied verdict.entry)) }
 {
     match verdict {
         Some(Verdict::Serve(number) | Verdict::Incarnate(number)) => Ok(servant_at(

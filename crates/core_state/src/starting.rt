@@ -23,7 +23,9 @@ fn configured(alloc: Global, config: &Config) -> Result<Vec<Servant>, WantMemory
 
 /// A store that has the same.
 fn copied(alloc: Global, store: &Store) -> Result<Store, WantMemory>
-    ensures { IfOk result (λ copy. (p : List (List ℕ)) (oid : List ℕ) → slots.stored copy p oid ≡ slots.stored store.now p oid) }
+    ensures { IfOk result
+        (λ copy. (p : List (List ℕ)) (oid : List ℕ)
+        → slots.stored copy p oid ≡ slots.stored store.now p oid) }
 {
     let mut copy = Store::new(alloc);
     for row in &store.rows()? {
@@ -36,7 +38,9 @@ fn copied(alloc: Global, store: &Store) -> Result<Store, WantMemory>
 /// The servants of a configuration before the first entry of a run: each configured one in its configured
 /// state, no fresh one, and what is stored in the store of the run's opening.
 pub fn opening(alloc: Global, config: &Config, store: &Store) -> Result<Servants, WantMemory>
-    ensures { IfOk result (λ servants. (run : ℕ) → Holds config.now run (slots.stored store.now) [] (kept_in servants)) }
+    ensures { IfOk result
+        (λ servants. (run : ℕ)
+        → Holds config.now run (slots.stored store.now) [] (kept_in servants)) }
 {
     Ok(Servants {
         configured: configured(alloc, config)?,

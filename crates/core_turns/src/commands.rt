@@ -79,7 +79,8 @@ fn manager_row(
 fn place_row(standing: &Standing, path: &[Name]) -> Option<Verdict>
     ensures { result ≡ elim (tree.node_at standing.now.nodes.items path.now) [
       | Some old ↦ (if old.dying then None else rows.refusal Reason.AdapterAlreadyExists)
-      | None ↦ (if nat_le ADAPTERS standing.now.count then rows.refusal (Reason.TooMany standing.now.count) else rows.good)
+      | None ↦ (if nat_le ADAPTERS standing.now.count then rows.refusal
+          (Reason.TooMany standing.now.count) else rows.good)
     ] }
 {
     match node_at(&standing.nodes, path) {
@@ -132,7 +133,9 @@ fn is_taken(config: &Config, standing: &Standing, node: &Node, servant: u32) -> 
 
 /// The answer with a new system-made id.
 fn made_row(alloc: Global, run: u32, standing: &Standing) -> Result<Option<Verdict>, WantMemory>
-    ensures { IfOk result (λ verdict. verdict ≡ Some (Verdict.Answer (Answer.GoodId (id_made run (suc standing.now.made))))) }
+    ensures { IfOk result
+        (λ verdict. verdict ≡ Some
+        (Verdict.Answer (Answer.GoodId (id_made run (suc standing.now.made))))) }
 {
     let oid = made_id(alloc, run, next(standing.made)?)?;
     Ok(Some(Verdict::Answer(Answer::GoodId(oid))))
@@ -146,7 +149,9 @@ fn activate_row(
     path: &Path,
     servant: &Name,
 ) -> Result<Option<Verdict>, WantMemory>
-    ensures { IfOk result (λ verdict. verdict ≡ rows.activate_row config.now run (seen standing.now) path.now servant.now) }
+    ensures { IfOk result
+        (λ verdict. verdict ≡ rows.activate_row config.now run (seen standing.now) path.now
+        servant.now) }
 {
     let Some(node) = live_at(standing, path.as_slice()) else {
         return Ok(refusal(Reason::AdapterNonExistent));
@@ -177,7 +182,8 @@ fn ulong(bytes: &[u8]) -> u32
 fn is_unmade(run: u32, made: u32, oid: &[u8]) -> bool
     requires { length oid.now ≡ 8 }
     ensures { result ≡ (from_be_bytes w32 (take 4 oid.now) == run) &&
-        ((from_be_bytes w32 (drop 4 oid.now) == 0) || nat_lt made (from_be_bytes w32 (drop 4 oid.now))) }
+        ((from_be_bytes w32 (drop 4 oid.now) == 0)
+        || nat_lt made (from_be_bytes w32 (drop 4 oid.now))) }
 {
     let ordinal = ulong(&oid[4..]);
     ulong(&oid[..4]) == run && (ordinal == 0 || made < ordinal)
@@ -192,28 +198,34 @@ pub fn is_bad_id(config: &Config, run: u32, made: u32, path: &[Name], oid: &[u8]
 
 /// Whether one of them is of the id and active.
 fn is_any_active(activations: &Activations, adapter: u32, oid: &[u8]) -> bool
-    ensures { result ≡ list_any (λ a. stands.is_of adapter oid.now a && stands.is_active a) activations.now.kept }
+    ensures { result ≡ list_any (λ a. stands.is_of adapter oid.now a && stands.is_active a)
+        activations.now.kept }
 {
     activations.active_of(adapter, oid).is_some()
 }
 
 /// Whether the id has an activation that is active.
 fn has_active(standing: &Standing, adapter: u32, oid: &Oid) -> bool
-    ensures { result ≡ list_any (λ a. stands.is_of adapter oid.now a && stands.is_active a) (seen standing.now).activations }
+    ensures { result ≡ list_any (λ a. stands.is_of adapter oid.now a && stands.is_active a)
+        (seen standing.now).activations }
 {
     is_any_active(&standing.activations, adapter, oid.as_slice())
 }
 
 /// Whether one of them is of the id and not over.
 fn is_any_kept(config: &Config, activations: &Activations, adapter: u32, oid: &[u8]) -> bool
-    ensures { result ≡ list_any (λ a. stands.is_of adapter oid.now a && not (ends.is_over config.now a)) activations.now.kept }
+    ensures { result ≡ list_any
+        (λ a. stands.is_of adapter oid.now a && not (ends.is_over config.now a))
+        activations.now.kept }
 {
     activations.live_of(config, adapter, oid).is_some()
 }
 
 /// Whether the id has an activation that isn't over.
 fn has_kept(config: &Config, standing: &Standing, adapter: u32, oid: &Oid) -> bool
-    ensures { result ≡ list_any (λ a. stands.is_of adapter oid.now a && not (ends.is_over config.now a)) (seen standing.now).activations }
+    ensures { result ≡ list_any
+        (λ a. stands.is_of adapter oid.now a && not (ends.is_over config.now a))
+        (seen standing.now).activations }
 {
     is_any_kept(config, &standing.activations, adapter, oid.as_slice())
 }
@@ -229,9 +241,11 @@ fn id_row(
     ensures { result ≡
         (if list_any (λ a. stands.is_of node.now.number oid.now a && stands.is_active a)
         (seen standing.now).activations then rows.refusal Reason.ObjectAlreadyActive
-        else if list_any (λ a. stands.is_of node.now.number oid.now a && not (ends.is_over config.now a))
+        else if list_any (λ a. stands.is_of node.now.number oid.now a
+        && not (ends.is_over config.now a))
         (seen standing.now).activations then None
-        else if rows.is_taken config.now (seen standing.now) node.now servant then rows.refusal Reason.ServantAlreadyActive
+        else if rows.is_taken config.now (seen standing.now) node.now servant then rows.refusal
+        Reason.ServantAlreadyActive
         else rows.good) }
 {
     if has_active(standing, node.number, oid) {
@@ -253,7 +267,9 @@ fn activate_id_row(
     oid: &Oid,
     servant: &Name,
 ) -> Result<Option<Verdict>, WantMemory>
-    ensures { IfOk result (λ verdict. verdict ≡ rows.activate_id_row config.now run (seen standing.now) path.now oid.now servant.now) }
+    ensures { IfOk result
+        (λ verdict. verdict ≡ rows.activate_id_row config.now run (seen standing.now) path.now
+        oid.now servant.now) }
 {
     let Some(node) = live_at(standing, path.as_slice()) else {
         return Ok(refusal(Reason::AdapterNonExistent));
@@ -292,7 +308,8 @@ fn preset_row(
     path: &Path,
     servant: &Name,
 ) -> Result<Option<Verdict>, WantMemory>
-    ensures { IfOk result (λ verdict. verdict ≡ rows.preset_row config.now (seen standing.now) path.now servant.now) }
+    ensures { IfOk result
+        (λ verdict. verdict ≡ rows.preset_row config.now (seen standing.now) path.now servant.now) }
 {
     if live_at(standing, path.as_slice()).is_none() {
         return Ok(refusal(Reason::AdapterNonExistent));
@@ -317,7 +334,8 @@ fn destroy_row(standing: &Standing, path: &[Name], wait: bool) -> Option<Verdict
 
 fn unforward_row(config: &Config, settings: &Settings, path: &Path) -> Option<Verdict>
     ensures { (past : List Entry) → Tells config.now past settings.now
-        → result ≡ (if is_some (endpoint_is config.now past path.now) then rows.good else rows.refusal Reason.NoForward) }
+        → result ≡ (if is_some
+        (endpoint_is config.now past path.now) then rows.good else rows.refusal Reason.NoForward) }
 {
     match endpoint_of(config, settings, path.as_slice()) {
         Some(_) => good(),
@@ -336,7 +354,8 @@ pub fn command_verdict(
     command: &Command,
 ) -> Result<Option<Verdict>, WantMemory>
     ensures { (past : List Entry) → Tells config.now past settings.now
-        → IfOk result (λ verdict. verdict ≡ rows.command_verdict config.now run past (seen standing.now) command.now) }
+        → IfOk result (λ verdict. verdict
+        ≡ rows.command_verdict config.now run past (seen standing.now) command.now) }
 {
     match command {
         Command::Manager { manager, order } => manager_row(config, settings, manager, *order),

@@ -30,7 +30,11 @@ use std::alloc::Global;
 
 /// What a key is to this run.
 fn lifespan_fact(run: u32, stamp: Option<Stamp>) -> KeyFact
-    ensures { result ≡ elim stamp [ None ↦ Persistent | Some stamp ↦ (if stamp.run == run then Transient else OtherRun) ] }
+    ensures { result ≡ elim stamp [
+      | None ↦ Persistent
+      | Some
+          stamp ↦ (if stamp.run == run then Transient else OtherRun)
+    ] }
 {
     match stamp {
         None => KeyFact::Persistent,
@@ -118,7 +122,8 @@ fn slot_among(config: &Config, activations: &Activations, adapter: u32, oid: &[u
 
 /// What the active object map has for an id.
 fn slot_of(config: &Config, standing: &Standing, adapter: u32, oid: &[u8]) -> MapFact
-    ensures { result ≡ situations.slot_of config.now (seen standing.now).activations adapter oid.now }
+    ensures { result ≡ situations.slot_of config.now (seen standing.now).activations adapter
+        oid.now }
 {
     slot_among(config, &standing.activations, adapter, oid)
 }
@@ -238,7 +243,8 @@ fn facts_at(
 ) -> Result<Facts, WantMemory>
     ensures { (past : List Entry) → path.now ≡ key.now.path → Tells config.now past settings.now
         → IfOk result (λ facts. facts ≡ situations.facts_met config.now run past (seen standing.now)
-        asked.locate asked.crowded asked.key key.now (walk_along (seen standing.now).nodes key.now.path)) }
+        asked.locate asked.crowded asked.key key.now
+        (walk_along (seen standing.now).nodes key.now.path)) }
 {
     let found = walk(&standing.nodes, path);
     let set = as_set(config, settings, place_met(found, path), path)?;
@@ -257,7 +263,8 @@ fn facts_about(
 ) -> Result<Facts, WantMemory>
     ensures { (past : List Entry) → Tells config.now past settings.now
         → IfOk result (λ facts. facts ≡ situations.facts_met config.now run past (seen standing.now)
-        asked.locate asked.crowded asked.key key.now (walk_along (seen standing.now).nodes key.now.path)) }
+        asked.locate asked.crowded asked.key key.now
+        (walk_along (seen standing.now).nodes key.now.path)) }
 {
     match adapter_at(&standing.nodes, key.path()) {
         Some(node) => {
@@ -282,7 +289,8 @@ pub fn facts_of(
     crowded: bool,
     call: &Call,
 ) -> Result<Facts, WantMemory>
-    ensures { (past : List Entry) (r : ℕ) → AnswersAs config.now run past (seen standing.now) → Tells config.now past settings.now
+    ensures { (past : List Entry) (r : ℕ) → AnswersAs config.now run past (seen standing.now)
+        → Tells config.now past settings.now
         → crowded ≡ situations.is_crowded past r → calls.call_of past r ≡ Some call.now
         → IfOk result (λ facts. facts ≡ situations.facts_of config.now run past r) }
 {

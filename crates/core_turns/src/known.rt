@@ -81,7 +81,9 @@ impl<'a> Known<'a> {
         arrival: u64,
     ) -> Result<Option<Verdict>, WantMemory>
         requires { IsTold self.now }
-        ensures { IfOk result (λ it. it ≡ verdict self.now.config.now self.now.run (history self.now) arrival worker) }
+        ensures { IfOk result
+            (λ it. it ≡ verdict self.now.config.now self.now.run (history self.now) arrival
+            worker) }
     {
         let Some(call) = call(self.entries, self.calls, arrival) else {
             return Ok(None);
@@ -103,7 +105,8 @@ impl<'a> Known<'a> {
         requires { IsTold self.now }
         ensures { IfOk result
             (λ found. IsFirst (is_waiting_line (history self.now))
-            (λ r. verdict self.now.config.now self.now.run (history self.now) r worker) (arrivals (history self.now)) found) }
+            (λ r. verdict self.now.config.now self.now.run (history self.now) r worker)
+            (arrivals (history self.now)) found) }
     {
         for i in 0..self.queue.lines.len() {
             let arrival = self.queue.lines[i];
@@ -120,7 +123,8 @@ impl<'a> Known<'a> {
         ensures { IfOk result
             (λ look. look ≡
             (if is_waiting (history self.now) arrival then Some
-            (looked (facts_of self.now.config.now self.now.run (history self.now) arrival) worker) else None)) }
+            (looked (facts_of self.now.config.now self.now.run (history self.now) arrival)
+            worker) else None)) }
     {
         if !waits(self.queue, arrival) {
             return Ok(None);
@@ -171,7 +175,8 @@ impl<'a> Known<'a> {
         requires held { AreHeld self.now.config.now self.now.run (history self.now) held.old }
         ensures held { AreHeld self.now.config.now self.now.run (history self.now) held.new }
         ensures first { IfOk result
-            (λ found. IsFirst (is_waiting (history self.now)) (λ r. verdict self.now.config.now self.now.run (history self.now) r worker)
+            (λ found. IsFirst (is_waiting (history self.now))
+            (λ r. verdict self.now.config.now self.now.run (history self.now) r worker)
             (arrivals (history self.now)) found) }
     {
         for _ in 0..u64::MAX {
@@ -194,7 +199,9 @@ impl<'a> Known<'a> {
         requires told { IsTold self.now }
         requires held { AreHeld self.now.config.now self.now.run (history self.now) held.old }
         ensures held { AreHeld self.now.config.now self.now.run (history self.now) held.new }
-        ensures admission { IfOk result (λ entry. entry ≡ turns.admission self.now.config.now self.now.run (history self.now) worker) }
+        ensures admission { IfOk result
+            (λ entry. entry ≡ turns.admission self.now.config.now self.now.run (history self.now)
+            worker) }
     {
         let line = self.first_line(alloc, worker)?;
         let message = self.first_message(alloc, worker, held)?;
@@ -211,7 +218,8 @@ impl<'a> Known<'a> {
     /// The removal that is due.
     fn removal(&self, worker: u32) -> Option<Entry>
         requires { IsTold self.now }
-        ensures { result ≡ turns.removal self.now.config.now (stands_after self.now.config.now self.now.run (history self.now)) worker }
+        ensures { result ≡ turns.removal self.now.config.now
+            (stands_after self.now.config.now self.now.run (history self.now)) worker }
     {
         removal(self.config, self.standing, worker)
     }
@@ -226,7 +234,9 @@ impl<'a> Known<'a> {
         requires told { IsTold self.now }
         requires held { AreHeld self.now.config.now self.now.run (history self.now) held.old }
         ensures held { AreHeld self.now.config.now self.now.run (history self.now) held.new }
-        ensures next { IfOk result (λ entry. entry ≡ turns.next_of self.now.config.now self.now.run (history self.now) worker Free) }
+        ensures next { IfOk result
+            (λ entry. entry ≡ turns.next_of self.now.config.now self.now.run (history self.now)
+            worker Free) }
     {
         match self.removal(worker) {
             Some(entry) => Ok(Some(entry)),
@@ -261,7 +271,9 @@ impl<'a> Known<'a> {
         requires told { IsTold self.now }
         requires held { AreHeld self.now.config.now self.now.run (history self.now) held.old }
         ensures held { AreHeld self.now.config.now self.now.run (history self.now) held.new }
-        ensures next { IfOk result (λ entry. entry ≡ turns.turn self.now.config.now self.now.run (history self.now) worker) }
+        ensures next { IfOk result
+            (λ entry. entry ≡ turns.turn self.now.config.now self.now.run (history self.now)
+            worker) }
         ensures ends { only_ends (begun.stage (history self.now) worker) ≡ true → IsOk result }
     {
         match stage(workers, worker) {

@@ -37,7 +37,8 @@ fn awaits_turn(facts: &Facts) -> bool
 
 /// What a cause stands for.
 fn hold_for(cause: Option<Cause>, awaits_turn: bool) -> Hold
-    ensures { (facts : FactsOf) → awaits_turn ≡ table.awaits_turn facts → result ≡ blocks.hold_for facts cause }
+    ensures { (facts : FactsOf) → awaits_turn ≡ table.awaits_turn facts
+        → result ≡ blocks.hold_for facts cause }
 {
     match cause {
         None => Hold::Main,
@@ -66,7 +67,8 @@ pub fn look_at(
     call: &Call,
     worker: u32,
 ) -> Result<Look, WantMemory>
-    ensures { (past : List Entry) (r : ℕ) → AnswersAs config.now run past (seen standing.now) → Tells config.now past settings.now
+    ensures { (past : List Entry) (r : ℕ) → AnswersAs config.now run past (seen standing.now)
+        → Tells config.now past settings.now
         → crowded ≡ situations.is_crowded past r → call_of past r ≡ Some call.now
         → IfOk result (λ look. look ≡ looked (situations.facts_of config.now run past r) worker) }
 {

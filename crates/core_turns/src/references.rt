@@ -61,7 +61,8 @@ fn type_of(config: &Config, servant: u32) -> &'static [u8]
 
 /// Where the server listens.
 fn endpoint(config: &Config) -> Result<Endpoint, WantMemory>
-    ensures { IfOk result (λ endpoint. endpoint ≡ record { host = config.now.host; port = config.now.port }) }
+    ensures { IfOk result
+        (λ endpoint. endpoint ≡ record { host = config.now.host; port = config.now.port }) }
 {
     Ok(Endpoint {
         host: config.host.clone()?,
@@ -79,7 +80,8 @@ pub fn reference_text(
     oid: &Oid,
     servant: u32,
 ) -> Result<Bytes, WantMemory>
-    ensures { IfOk result (λ text. text ≡ references.reference_text config.now run number path.now oid.now servant) }
+    ensures { IfOk result
+        (λ text. text ≡ references.reference_text config.now run number path.now oid.now servant) }
 {
     let key = key_for(config, run, number, path, oid)?;
     let endpoint = endpoint(config)?;

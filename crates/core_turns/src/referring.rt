@@ -24,7 +24,8 @@ fn ior_row(
     oid: &Oid,
     servant: u32,
 ) -> Result<Option<Verdict>, WantMemory>
-    ensures { IfOk result (λ verdict. verdict ≡ rows.ior_row config.now run node.now path.now oid.now servant) }
+    ensures { IfOk result
+        (λ verdict. verdict ≡ rows.ior_row config.now run node.now path.now oid.now servant) }
 {
     let text = reference_text(alloc, config, run, node.number, path, oid, servant)?;
     Ok(Some(Verdict::Answer(Answer::GoodIor(text))))
@@ -40,7 +41,9 @@ fn made_ior_row(
     path: &Path,
     servant: u32,
 ) -> Result<Option<Verdict>, WantMemory>
-    ensures { IfOk result (λ verdict. verdict ≡ rows.ior_row config.now run node.now path.now (id_made run (suc standing.now.made)) servant) }
+    ensures { IfOk result
+        (λ verdict. verdict ≡ rows.ior_row config.now run node.now path.now
+        (id_made run (suc standing.now.made)) servant) }
 {
     let ordinal = next(standing.made)?;
     let oid = made_id(alloc, run, ordinal)?;
@@ -57,7 +60,9 @@ fn implicit_row(
     path: &Path,
     servant: u32,
 ) -> Result<Option<Verdict>, WantMemory>
-    ensures { IfOk result (λ verdict. verdict ≡ rows.implicit_row config.now run (seen standing.now) node.now path.now servant) }
+    ensures { IfOk result
+        (λ verdict. verdict ≡ rows.implicit_row config.now run (seen standing.now) node.now path.now
+        servant) }
 {
     if is_implicit(config, standing, node, servant) {
         made_ior_row(alloc, config, run, standing, node, path, servant)
@@ -76,7 +81,9 @@ fn servant_row(
     path: &Path,
     servant: u32,
 ) -> Result<Option<Verdict>, WantMemory>
-    ensures { IfOk result (λ verdict. verdict ≡ rows.servant_row config.now run (seen standing.now) node.now path.now servant) }
+    ensures { IfOk result
+        (λ verdict. verdict ≡ rows.servant_row config.now run (seen standing.now) node.now path.now
+        servant) }
 {
     match referred(config, standing, node, servant) {
         Some(activation) => ior_row(alloc, config, run, node, path, &activation.oid, servant),
@@ -93,7 +100,9 @@ pub fn reference_row(
     path: &Path,
     servant: &Name,
 ) -> Result<Option<Verdict>, WantMemory>
-    ensures { IfOk result (λ verdict. verdict ≡ rows.reference_row config.now run (seen standing.now) path.now servant.now) }
+    ensures { IfOk result
+        (λ verdict. verdict ≡ rows.reference_row config.now run (seen standing.now) path.now
+        servant.now) }
 {
     let Some(node) = live_at(standing, path.as_slice()) else {
         return Ok(refusal(Reason::AdapterNonExistent));

@@ -26,7 +26,11 @@ const NOT_ACTIVE: SysExc = SysExc {
 /// A configured servant is brought.
 fn named(config: &Config, servant: u32) -> Result<Incarnation, WantMemory>
     ensures { IfOk result
-        (λ answer. answer ≡ elim (servant_name config.now servant) [ Some name ↦ Named name | None ↦ Raise rules.not_active ]) }
+        (λ answer. answer ≡ elim (servant_name config.now servant) [
+          | Some name ↦ Named
+              name
+          | None ↦ Raise rules.not_active
+        ]) }
 {
     match servant_name(config, servant) {
         Some(name) => Ok(Incarnation::Named(name.clone()?)),
@@ -41,7 +45,9 @@ fn named_or_double(
     activation: &Activation,
     servant: u32,
 ) -> Result<Incarnation, WantMemory>
-    ensures { IfOk result (λ answer. answer ≡ rules.named_or_double config.now (seen standing.now) activation.now servant) }
+    ensures { IfOk result
+        (λ answer. answer ≡ rules.named_or_double config.now (seen standing.now) activation.now
+        servant) }
 {
     if policies_at(config, activation.path.as_slice()).is_unique()
         && is_in_map(standing, activation.adapter, Sid::Named(servant))
@@ -58,7 +64,8 @@ pub fn brought(
     standing: &Standing,
     activation: &Activation,
 ) -> Result<Incarnation, WantMemory>
-    ensures { IfOk result (λ answer. answer ≡ rules.brought config.now (seen standing.now) activation.now) }
+    ensures { IfOk result
+        (λ answer. answer ≡ rules.brought config.now (seen standing.now) activation.now) }
 {
     let Some(rule) = rule_for(
         rules_at(config, activation.path.as_slice()),
@@ -77,7 +84,11 @@ pub fn brought(
 /// The servant of a locator's rule.
 fn located_servant(config: &Config, servant: u32) -> Result<Located, WantMemory>
     ensures { IfOk result
-        (λ found. found ≡ elim (servant_name config.now servant) [ Some name ↦ Located.Servant name | None ↦ Located.NoRule ]) }
+        (λ found. found ≡ elim (servant_name config.now servant) [
+          | Some name ↦ Located.Servant
+              name
+          | None ↦ Located.NoRule
+        ]) }
 {
     match servant_name(config, servant) {
         Some(name) => Ok(Located::Servant(name.clone()?)),

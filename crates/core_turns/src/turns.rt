@@ -49,7 +49,8 @@ fn attempt_at(
     parent: Option<&Node>,
     child: &[Name],
 ) -> Attempt
-    ensures { result ≡ turns.attempt_at config.now (seen standing.now) (option_copied parent.entry) child.now }
+    ensures { result ≡ turns.attempt_at config.now (seen standing.now) (option_copied parent.entry)
+        child.now }
 {
     match parent {
         Some(parent) => {
@@ -70,7 +71,8 @@ fn attempt_at(
 
 /// What the adapter activator of the adapter of this number answers for a child.
 fn attempt_in(config: &Config, standing: &Standing, adapter: u32, child: &[Name]) -> Attempt
-    ensures { result ≡ turns.attempt_at config.now (seen standing.now) (turns.node_of (seen standing.now) adapter) child.now }
+    ensures { result ≡ turns.attempt_at config.now (seen standing.now)
+        (turns.node_of (seen standing.now) adapter) child.now }
 {
     attempt_at(
         config,
@@ -84,7 +86,8 @@ fn attempt_in(config: &Config, standing: &Standing, adapter: u32, child: &[Name]
 fn attempt_for(config: &Config, standing: &Standing, flight: &Flight) -> Attempt
     ensures { result ≡ elim flight.now.child [
       | None ↦ Attempt.No
-      | Some child ↦ turns.attempt_at config.now (seen standing.now) (turns.node_of (seen standing.now) flight.now.adapter) child
+      | Some child ↦ turns.attempt_at config.now (seen standing.now)
+          (turns.node_of (seen standing.now) flight.now.adapter) child
     ] }
 {
     match &flight.child {
@@ -111,7 +114,8 @@ fn incarnation_entry(
     worker: u32,
     number: u32,
 ) -> Result<Option<Entry>, WantMemory>
-    ensures { IfOk result (λ entry. entry ≡ turns.incarnation_entry config.now (seen standing.now) worker number) }
+    ensures { IfOk result
+        (λ entry. entry ≡ turns.incarnation_entry config.now (seen standing.now) worker number) }
 {
     match activation_numbered(standing, number) {
         Some(activation) => Ok(Some(Entry::Incarnated {
@@ -142,7 +146,8 @@ pub fn going_on(
     worker: u32,
     stage: Stage,
 ) -> Result<Option<Entry>, WantMemory>
-    ensures next { IfOk result (λ entry. entry ≡ turns.going_on config.now (seen standing.now) worker stage) }
+    ensures next { IfOk result
+        (λ entry. entry ≡ turns.going_on config.now (seen standing.now) worker stage) }
     ensures ends { needs_memory stage ≡ false → IsOk result }
 {
     match stage {
@@ -161,7 +166,8 @@ pub fn going_on(
 /// Whether the servant activator is to be told of an activation that is ending.
 fn is_told(config: &Config, activation: &Activation) -> bool
     ensures { result ≡ stands.is_complete activation.now &&
-        (stands.is_ending activation.now && (configured.has_activator config.now activation.now.path && not activation.now.out)) }
+        (stands.is_ending activation.now
+        && (configured.has_activator config.now activation.now.path && not activation.now.out)) }
 {
     is_complete(activation)
         && (is_ending(activation)
@@ -179,7 +185,9 @@ fn is_due(config: &Config, standing: &Standing, activation: &Activation) -> bool
 
 /// The activation of a number, where it is to be taken out.
 fn due_at<'a>(config: &Config, standing: &'a Standing, number: u32) -> Option<&'a Activation>
-    ensures { option_copied result ≡ option_and_then (λ a. if turns.is_due config.now (seen standing.now) a then Some a else None)
+    ensures { option_copied result
+        ≡ option_and_then (λ a.
+        if turns.is_due config.now (seen standing.now) a then Some a else None)
         (find (λ a. a.number == number) standing.now.activations.kept) }
 {
     match standing.activations.numbered(number) {
@@ -196,7 +204,8 @@ fn due_at<'a>(config: &Config, standing: &'a Standing, number: u32) -> Option<&'
 
 /// The first that is due of those that are kept.
 fn first_due<'a>(config: &Config, standing: &'a Standing) -> Option<&'a Activation>
-    ensures { option_copied result ≡ find (turns.is_due config.now (seen standing.now)) standing.now.activations.kept }
+    ensures { option_copied result
+        ≡ find (turns.is_due config.now (seen standing.now)) standing.now.activations.kept }
 {
     for number in standing.activations.leaving() {
         if let Some(activation) = due_at(config, standing, *number) {

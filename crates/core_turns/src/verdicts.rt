@@ -41,8 +41,10 @@ pub fn verdict_on(
     call: &Call,
     worker: u32,
 ) -> Result<Option<Verdict>, WantMemory>
-    ensures { (past : List Entry) (r : ℕ) → AnswersAs config.now run past (seen standing.now) → Tells config.now past settings.now
-        → (is_message (Some call.now) ≡ true → crowded ≡ is_crowded past r) → call_of past r ≡ Some call.now
+    ensures { (past : List Entry) (r : ℕ) → AnswersAs config.now run past (seen standing.now)
+        → Tells config.now past settings.now
+        → (is_message (Some call.now) ≡ true → crowded ≡ is_crowded past r)
+        → call_of past r ≡ Some call.now
         → IfOk result (λ verdict. verdict ≡ verdicts.verdict config.now run past r worker) }
 {
     match call {

@@ -46,7 +46,9 @@ fn read_reply(alloc: Global, bytes: &[u8], id: u32) -> Result<Hop, WantMemory>
 fn read_answer(alloc: Global, bytes: &[u8], id: u32) -> Result<Option<Hop>, WantMemory>
     requires whole { HEADER ≤ length bytes.now }
     requires reply { message_type bytes.now ≡ REPLY }
-    ensures { IfOk result (λ found. MatchOption found ((said : HopData) → Answers id bytes.now said → ⊥) (λ said. Answers id bytes.now said)) }
+    ensures { IfOk result
+        (λ found. MatchOption found ((said : HopData) → Answers id bytes.now said → ⊥)
+        (λ said. Answers id bytes.now said)) }
 {
     let Ok(reply) = view_reply(bytes) else {
         return Ok(None);
@@ -77,7 +79,9 @@ fn unreadable(fault: CdrFault) -> Result<Option<Hop>, WantMemory>
 // What a Reply of this kind with this body says.
 fn read_told(alloc: Global, kind: ReplyKind, body: BodyView<'_>) -> Result<Hop, CdrFault>
     ensures ok { IfOk result (λ said. Tells kind (seen_body body.entry) said) }
-    ensures bad { IfErr result (λ fault. fault ≢ CdrFault.WantMemory → (said : HopData) → Tells kind (seen_body body.entry) said → ⊥) }
+    ensures bad { IfErr result
+        (λ fault. fault ≢ CdrFault.WantMemory → (said : HopData)
+        → Tells kind (seen_body body.entry) said → ⊥) }
 {
     match kind {
         ReplyKind::NoException => Ok(Hop::Result {
@@ -92,7 +96,9 @@ fn read_told(alloc: Global, kind: ReplyKind, body: BodyView<'_>) -> Result<Hop, 
 // A user exception, whose members aren't read.
 fn read_user(alloc: Global, body: BodyView<'_>) -> Result<Hop, CdrFault>
     ensures ok { IfOk result (λ said. TellsUser (seen_body body.entry) said) }
-    ensures bad { IfErr result (λ fault. fault ≢ CdrFault.WantMemory → (said : HopData) → TellsUser (seen_body body.entry) said → ⊥) }
+    ensures bad { IfErr result
+        (λ fault. fault ≢ CdrFault.WantMemory → (said : HopData)
+        → TellsUser (seen_body body.entry) said → ⊥) }
 {
     let mut reader = body.reader();
     let id = Bytes::from_vec(reader.text(alloc)?);
@@ -102,7 +108,9 @@ fn read_user(alloc: Global, body: BodyView<'_>) -> Result<Hop, CdrFault>
 // A system exception.
 fn read_system(alloc: Global, body: BodyView<'_>) -> Result<Hop, CdrFault>
     ensures ok { IfOk result (λ said. TellsSystem (seen_body body.entry) said) }
-    ensures bad { IfErr result (λ fault. fault ≢ CdrFault.WantMemory → (said : HopData) → TellsSystem (seen_body body.entry) said → ⊥) }
+    ensures bad { IfErr result
+        (λ fault. fault ≢ CdrFault.WantMemory → (said : HopData)
+        → TellsSystem (seen_body body.entry) said → ⊥) }
 {
     let mut reader = body.reader();
     let id = Bytes::from_vec(reader.text(alloc)?);
@@ -114,7 +122,9 @@ fn read_system(alloc: Global, body: BodyView<'_>) -> Result<Hop, CdrFault>
 // A forward.
 fn read_forward(alloc: Global, body: BodyView<'_>) -> Result<Hop, CdrFault>
     ensures ok { IfOk result (λ said. TellsForward (seen_body body.entry) said) }
-    ensures bad { IfErr result (λ fault. fault ≢ CdrFault.WantMemory → (said : HopData) → TellsForward (seen_body body.entry) said → ⊥) }
+    ensures bad { IfErr result
+        (λ fault. fault ≢ CdrFault.WantMemory → (said : HopData)
+        → TellsForward (seen_body body.entry) said → ⊥) }
 {
     let mut reader = body.reader();
     let ior = read_reference(alloc, &mut reader)?;

@@ -55,8 +55,10 @@ fn read_front<L: Link>(link: &mut L, buffer: &mut [u8], most: u64) -> Took
     ensures most { IsWithin result most }
     ensures len { length buffer.new ≡ length buffer.old }
     ensures bytes { IsRead result buffer.new (L.shown link.old) (L.shown link.new) }
-    ensures failed { HasCause (L.shown link.old).read_faults (L.shown link.new).read_faults (result ≡ Took.Failed) }
-    ensures quiet { HasCause (L.shown link.old).quiets (L.shown link.new).quiets (result ≡ Took.Quiet) }
+    ensures failed { HasCause (L.shown link.old).read_faults (L.shown link.new).read_faults
+        (result ≡ Took.Failed) }
+    ensures quiet { HasCause (L.shown link.old).quiets (L.shown link.new).quiets
+        (result ≡ Took.Quiet) }
 {
     let room = most.min(buffer.len() as u64) as usize;
     link.read(&mut buffer[..room], true)

@@ -31,7 +31,8 @@ struct Told {
 pub(crate) fn view_reply<'a>(bytes: &'a [u8]) -> Result<ReplyView<'a>, PartFault>
     requires whole { HEADER ≤ length bytes.now }
     ensures ok { IfOk result (λ seen. IsReply bytes.now seen.id seen.status (seen_body seen.body)) }
-    ensures bad { OnErr result ((id number : ℕ) (body : Body) → IsReply bytes.now id number body → ⊥) }
+    ensures bad { OnErr result
+        ((id number : ℕ) (body : Body) → IsReply bytes.now id number body → ⊥) }
 {
     let minor = bytes[5];
     let little = is_little(bytes);
@@ -57,7 +58,8 @@ fn is_little(bytes: &[u8]) -> bool
 // The id and the status, and the service contexts, which stand first before version 1.2.
 fn view_head(view: &mut View<'_>, minor: u8) -> Result<Told, PartFault>
     ensures ok { IfOk result (λ told. IsHead minor told.id told.status view.old view.new) }
-    ensures bad { OnErr result ((id number : ℕ) (after : Cursor) → IsHead minor id number view.old after → ⊥) }
+    ensures bad { OnErr result
+        ((id number : ℕ) (after : Cursor) → IsHead minor id number view.old after → ⊥) }
 {
     if minor == MINOR {
         view_new_head(view)
@@ -69,7 +71,8 @@ fn view_head(view: &mut View<'_>, minor: u8) -> Result<Told, PartFault>
 // The head of a Reply of GIOP 1.2.
 fn view_new_head(view: &mut View<'_>) -> Result<Told, PartFault>
     ensures ok { IfOk result (λ told. NewHead told.id told.status view.old view.new) }
-    ensures bad { OnErr result ((id number : ℕ) (after : Cursor) → NewHead id number view.old after → ⊥) }
+    ensures bad { OnErr result
+        ((id number : ℕ) (after : Cursor) → NewHead id number view.old after → ⊥) }
 {
     let told = view_told(view)?;
     pass_counted(view)?;
@@ -79,7 +82,8 @@ fn view_new_head(view: &mut View<'_>) -> Result<Told, PartFault>
 // The head of a Reply of an older version.
 fn view_old_head(view: &mut View<'_>) -> Result<Told, PartFault>
     ensures ok { IfOk result (λ told. OldHead told.id told.status view.old view.new) }
-    ensures bad { OnErr result ((id number : ℕ) (after : Cursor) → OldHead id number view.old after → ⊥) }
+    ensures bad { OnErr result
+        ((id number : ℕ) (after : Cursor) → OldHead id number view.old after → ⊥) }
 {
     pass_counted(view)?;
     let told = view_told(view)?;
@@ -89,7 +93,8 @@ fn view_old_head(view: &mut View<'_>) -> Result<Told, PartFault>
 // The id and the status.
 fn view_told(view: &mut View<'_>) -> Result<Told, PartFault>
     ensures ok { IfOk result (λ told. IsTold told.id told.status view.old view.new) }
-    ensures bad { OnErr result ((id number : ℕ) (after : Cursor) → IsTold id number view.old after → ⊥) }
+    ensures bad { OnErr result
+        ((id number : ℕ) (after : Cursor) → IsTold id number view.old after → ⊥) }
 {
     let id = view.ulong()?;
     let status = view.ulong()?;

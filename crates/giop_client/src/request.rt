@@ -21,7 +21,8 @@ pub(crate) fn request(
     number: u32,
 ) -> Result<Bytes, WantMemory>
     requires { target.now.minor ≤ MINOR }
-    ensures { IfOk result (λ bytes. bytes ≡ request_bytes (ask_of target.now operation.now argument.now number)) }
+    ensures { IfOk result
+        (λ bytes. bytes ≡ request_bytes (ask_of target.now operation.now argument.now number)) }
 {
     let ask = Ask {
         head: Head {

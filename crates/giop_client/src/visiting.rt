@@ -21,7 +21,8 @@ pub(crate) fn visit<C: Connector>(
     request: &[u8],
     id: u32,
 ) -> Step
-    ensures visited { IfTold (C.calls connector.old) (C.calls connector.new) (Visited endpoint.now request.now id result) }
+    ensures visited { IfTold (C.calls connector.old) (C.calls connector.new)
+        (Visited endpoint.now request.now id result) }
     ensures later { IsLater (C.tally connector.old) (C.tally connector.new) }
     ensures cause { BlamesStep result (C.tally connector.old) (C.tally connector.new) }
 {

@@ -8,7 +8,8 @@ use outside::{Link, Wrote};
 /// Writes all the bytes, and answers whether the link took them. Else a write failed.
 pub(crate) fn write_all<L: Link>(link: &mut L, bytes: &[u8]) -> bool
     ensures writes { Writes bytes.now (L.shown link.old) (L.shown link.new) result }
-    ensures failed { HasCause (L.shown link.old).write_faults (L.shown link.new).write_faults (result ≡ false) }
+    ensures failed { HasCause (L.shown link.old).write_faults (L.shown link.new).write_faults
+        (result ≡ false) }
 {
     let mut rest = bytes;
     while !rest.is_empty() {

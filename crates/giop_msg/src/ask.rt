@@ -54,7 +54,8 @@ fn request_fields(alloc: Global, ask: &Ask) -> Result<Vec<u8>, WantMemory>
 
 // The fields of version 1.2.
 fn newest_request(alloc: Global, ask: &Ask) -> Result<Vec<u8>, WantMemory>
-    ensures bytes { IfOk result (λ bytes. bytes.items ≡ (fields_draft ask.now.head.little (newest_fields ask.now)).bytes) }
+    ensures bytes { IfOk result
+        (λ bytes. bytes.items ≡ (fields_draft ask.now.head.little (newest_fields ask.now)).bytes) }
     ensures fits { OnOk result (Fitting ask.now) }
 {
     let mut writer = newest_opening(alloc, ask.head.little, ask.head.id, ask.head.flags)?;
@@ -67,7 +68,8 @@ fn newest_request(alloc: Global, ask: &Ask) -> Result<Vec<u8>, WantMemory>
 
 // The id, the response flags and three octets that are reserved.
 fn newest_opening(alloc: Global, little: bool, id: u32, flags: u8) -> Result<Writer, WantMemory>
-    ensures fields { IfOk result (λ writer. writer ≡ fields_draft little (opening_fields id flags 0 0 0)) }
+    ensures fields { IfOk result
+        (λ writer. writer ≡ fields_draft little (opening_fields id flags 0 0 0)) }
     ensures id { id < 2 ^ 32 }
     ensures flags { flags < 2 ^ 8 }
 {
@@ -82,7 +84,8 @@ fn newest_opening(alloc: Global, little: bool, id: u32, flags: u8) -> Result<Wri
 
 // The fields of the versions before it.
 fn earlier_request(alloc: Global, ask: &Ask) -> Result<Vec<u8>, WantMemory>
-    ensures bytes { IfOk result (λ bytes. bytes.items ≡ (fields_draft ask.now.head.little (earlier_fields ask.now)).bytes) }
+    ensures bytes { IfOk result
+        (λ bytes. bytes.items ≡ (fields_draft ask.now.head.little (earlier_fields ask.now)).bytes) }
     ensures fits { OnOk result (Fitting ask.now) }
 {
     let mut writer = earlier_opening(alloc, ask.head.little, ask.head.id, ask.head.flags)?;
@@ -95,7 +98,9 @@ fn earlier_request(alloc: Global, ask: &Ask) -> Result<Vec<u8>, WantMemory>
 
 // No service contexts, the id, and whether a reply is asked.
 fn earlier_opening(alloc: Global, little: bool, id: u32, flags: u8) -> Result<Writer, WantMemory>
-    ensures fields { IfOk result (λ writer. writer ≡ fields_draft little (counted_contexts [] ++ asked_fields id (asked_of flags))) }
+    ensures fields { IfOk result
+        (λ writer. writer ≡ fields_draft little
+        (counted_contexts [] ++ asked_fields id (asked_of flags))) }
     ensures id { id < 2 ^ 32 }
     ensures flags { flags < 2 ^ 8 }
 {
@@ -135,7 +140,8 @@ fn argument_bytes(
 ) -> Result<Vec<u8>, WantMemory>
     requires place { place < 2 ^ 33 }
     requires unit { (unit ≡ 1) ⊎ (unit ≡ 8) }
-    ensures { IfOk result (λ bytes. bytes.items ≡ bytes_of_argument unit little place argument.now) }
+    ensures { IfOk result
+        (λ bytes. bytes.items ≡ bytes_of_argument unit little place argument.now) }
 {
     let Some(datum) = argument else {
         return Ok(Vec::new(alloc));

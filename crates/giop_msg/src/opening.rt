@@ -20,8 +20,10 @@ pub(crate) struct Opening {
 
 /// The first fields of a Request of this minor version, and what is reserved behind them.
 pub(crate) fn view_opening(view: &mut View<'_>, minor: u8) -> Result<Opening, Unreadable>
-    ensures ok { IfOk result (λ opening. IsOpening minor opening.id opening.flags view.old view.new) }
-    ensures bad { OnErr result ((id flags : ℕ) (after : Cursor) → IsOpening minor id flags view.old after → ⊥) }
+    ensures ok { IfOk result
+        (λ opening. IsOpening minor opening.id opening.flags view.old view.new) }
+    ensures bad { OnErr result
+        ((id flags : ℕ) (after : Cursor) → IsOpening minor id flags view.old after → ⊥) }
 {
     if minor == MINOR {
         Ok(view_newest(view)?)
@@ -32,8 +34,10 @@ pub(crate) fn view_opening(view: &mut View<'_>, minor: u8) -> Result<Opening, Un
 
 // In version 1.2: the id, the response flags and three octets that are reserved.
 fn view_newest(view: &mut View<'_>) -> Result<Opening, PartFault>
-    ensures ok { IfOk result (λ opening. IsNewestOpening opening.id opening.flags view.old view.new) }
-    ensures bad { OnErr result ((id flags : ℕ) (after : Cursor) → IsNewestOpening id flags view.old after → ⊥) }
+    ensures ok { IfOk result
+        (λ opening. IsNewestOpening opening.id opening.flags view.old view.new) }
+    ensures bad { OnErr result
+        ((id flags : ℕ) (after : Cursor) → IsNewestOpening id flags view.old after → ⊥) }
 {
     let id = view.ulong()?;
     let flags = view.octet()?;
@@ -45,8 +49,10 @@ fn view_newest(view: &mut View<'_>) -> Result<Opening, PartFault>
 
 // In the versions before it: the service contexts, which aren't kept, the id, and whether a reply is asked.
 fn view_earlier(view: &mut View<'_>, minor: u8) -> Result<Opening, Unreadable>
-    ensures ok { IfOk result (λ opening. IsEarlierOpening minor opening.id opening.flags view.old view.new) }
-    ensures bad { OnErr result ((id flags : ℕ) (after : Cursor) → IsEarlierOpening minor id flags view.old after → ⊥) }
+    ensures ok { IfOk result
+        (λ opening. IsEarlierOpening minor opening.id opening.flags view.old view.new) }
+    ensures bad { OnErr result
+        ((id flags : ℕ) (after : Cursor) → IsEarlierOpening minor id flags view.old after → ⊥) }
 {
     pass_counted(view)?;
     let opening = view_asked(view)?;
@@ -57,7 +63,8 @@ fn view_earlier(view: &mut View<'_>, minor: u8) -> Result<Opening, Unreadable>
 // The id, and the octet that says whether a reply is asked.
 fn view_asked(view: &mut View<'_>) -> Result<Opening, Unreadable>
     ensures ok { IfOk result (λ opening. IsAsked opening.id opening.flags view.old view.new) }
-    ensures bad { OnErr result ((id flags : ℕ) (after : Cursor) → IsAsked id flags view.old after → ⊥) }
+    ensures bad { OnErr result
+        ((id flags : ℕ) (after : Cursor) → IsAsked id flags view.old after → ⊥) }
 {
     let id = view.ulong()?;
     let asked = view.octet()?;

@@ -20,7 +20,8 @@ use std::alloc::Global;
 /// `Malformed` and `NotForServer` where `view_call` answers so. `WantMemory` where no memory was left.
 pub fn read_call(alloc: Global, message: &Message) -> Result<Incoming, MsgFault>
     ensures call { IfOk result (λ asked. CallOf message.now.bytes (Ok asked)) }
-    ensures fault { IfErr result (λ fault. (fault ≡ MsgFault.WantMemory) ⊎ CallOf message.now.bytes (Err fault)) }
+    ensures fault { IfErr result
+        (λ fault. (fault ≡ MsgFault.WantMemory) ⊎ CallOf message.now.bytes (Err fault)) }
     // What the message gives is answered, and nothing else, unless memory runs out.
     ensures only { (answer : Result IncomingData MsgFaultData) → CallOf message.now.bytes answer
         → (result ≡ answer) ⊎ (result ≡ Err MsgFault.WantMemory) }
@@ -34,7 +35,8 @@ pub fn read_call(alloc: Global, message: &Message) -> Result<Incoming, MsgFault>
 // What a message asks, with one copy of each part.
 fn read_message(alloc: Global, message: &Message) -> Result<Incoming, MsgFault>
     ensures call { IfOk result (λ asked. CallOf message.now.bytes (Ok asked)) }
-    ensures fault { IfErr result (λ fault. (fault ≡ MsgFault.WantMemory) ⊎ CallOf message.now.bytes (Err fault)) }
+    ensures fault { IfErr result
+        (λ fault. (fault ≡ MsgFault.WantMemory) ⊎ CallOf message.now.bytes (Err fault)) }
 {
     let seen = view_call(message)?;
     let asked = copy_seen(alloc, seen)?;

@@ -60,7 +60,8 @@ pub(crate) fn view_request<'a>(bytes: &'a [u8]) -> Result<Seen<'a>, Unreadable>
 // The operation, and behind it what isn't kept: the service contexts, or the principal before version 1.2.
 fn view_closing<'a>(view: &mut View<'a>, minor: u8) -> Result<&'a [u8], PartFault>
     ensures ok { IfOk result (λ operation. IsClosing minor operation.now view.old view.new) }
-    ensures bad { OnErr result ((operation : List ℕ) (after : Cursor) → IsClosing minor operation view.old after → ⊥) }
+    ensures bad { OnErr result
+        ((operation : List ℕ) (after : Cursor) → IsClosing minor operation view.old after → ⊥) }
 {
     if minor == MINOR {
         view_newest_closing(view)
@@ -72,7 +73,8 @@ fn view_closing<'a>(view: &mut View<'a>, minor: u8) -> Result<&'a [u8], PartFaul
 // The operation and the service contexts.
 fn view_newest_closing<'a>(view: &mut View<'a>) -> Result<&'a [u8], PartFault>
     ensures ok { IfOk result (λ operation. IsNewestClosing operation.now view.old view.new) }
-    ensures bad { OnErr result ((operation : List ℕ) (after : Cursor) → IsNewestClosing operation view.old after → ⊥) }
+    ensures bad { OnErr result
+        ((operation : List ℕ) (after : Cursor) → IsNewestClosing operation view.old after → ⊥) }
 {
     let operation = view.text()?;
     let count = view.ulong()?;
@@ -83,7 +85,8 @@ fn view_newest_closing<'a>(view: &mut View<'a>) -> Result<&'a [u8], PartFault>
 // The operation and the principal.
 fn view_earlier_closing<'a>(view: &mut View<'a>) -> Result<&'a [u8], PartFault>
     ensures ok { IfOk result (λ operation. IsEarlierClosing operation.now view.old view.new) }
-    ensures bad { OnErr result ((operation : List ℕ) (after : Cursor) → IsEarlierClosing operation view.old after → ⊥) }
+    ensures bad { OnErr result
+        ((operation : List ℕ) (after : Cursor) → IsEarlierClosing operation view.old after → ⊥) }
 {
     let name = view.text()?;
     view.octets()?;
@@ -104,7 +107,11 @@ fn body_at<'a>(bytes: &'a [u8], place: u64, unit: u64) -> BodyView<'a>
     requires header { HEADER ≤ length bytes.now }
     requires within { place ≤ length bytes.now }
     requires unit { (unit ≡ 1) ⊎ (unit ≡ 8) }
-    ensures { record { bytes = result.bytes.now; little = little_flag bytes.now; base = result.base } ≡ body_from unit
+    ensures { record {
+      bytes = result.bytes.now;
+      little = little_flag bytes.now;
+      base = result.base;
+    } ≡ body_from unit
         (record { little = little_flag bytes.now; place = place; rest = drop place bytes.now }) }
 {
     let padding = (unit - place % unit) % unit;

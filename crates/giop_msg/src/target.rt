@@ -20,7 +20,8 @@ pub(crate) fn view_addressed<'a>(
     view: &mut View<'a>,
     minor: u8,
 ) -> Result<Option<&'a [u8]>, Unreadable>
-    ensures ok { IfOk result (λ target. IsAddressed minor (option_map (λ k. k.now) target) view.old view.new) }
+    ensures ok { IfOk result
+        (λ target. IsAddressed minor (option_map (λ k. k.now) target) view.old view.new) }
     ensures bad { OnErr result (NoneAddressed minor view.old) }
 {
     if minor == MINOR {
@@ -33,7 +34,8 @@ pub(crate) fn view_addressed<'a>(
 // The key that a target gives; none where it is told by a profile or by a reference from which no key can be
 // read. Unreadable where the target's fields can't be read, or it is told in another way.
 fn view_target<'a>(view: &mut View<'a>) -> Result<Option<&'a [u8]>, Unreadable>
-    ensures ok { IfOk result (λ target. IsTarget (option_map (λ k. k.now) target) view.old view.new) }
+    ensures ok { IfOk result
+        (λ target. IsTarget (option_map (λ k. k.now) target) view.old view.new) }
     ensures bad { OnErr result (NoTarget view.old) }
 {
     let disposition = view.ushort()?;
@@ -43,7 +45,8 @@ fn view_target<'a>(view: &mut View<'a>) -> Result<Option<&'a [u8]>, Unreadable>
 
 // What stands behind the disposition.
 fn view_address<'a>(view: &mut View<'a>, disposition: u16) -> Result<Option<&'a [u8]>, Unreadable>
-    ensures ok { IfOk result (λ target. IsAddress disposition (option_map (λ k. k.now) target) view.old view.new) }
+    ensures ok { IfOk result
+        (λ target. IsAddress disposition (option_map (λ k. k.now) target) view.old view.new) }
     ensures bad { OnErr result (NoAddress disposition view.old) }
 {
     match disposition {
@@ -56,7 +59,8 @@ fn view_address<'a>(view: &mut View<'a>, disposition: u16) -> Result<Option<&'a 
 
 // The key that a profile tells.
 fn by_profile<'a>(view: &mut View<'a>) -> Result<Option<&'a [u8]>, PartFault>
-    ensures ok { IfOk result (λ target. IsAddress PROFILE_ADDRESS (option_map (λ k. k.now) target) view.old view.new) }
+    ensures ok { IfOk result
+        (λ target. IsAddress PROFILE_ADDRESS (option_map (λ k. k.now) target) view.old view.new) }
     ensures bad { OnErr result (NoAddress PROFILE_ADDRESS view.old) }
 {
     let profile = view_profile(view)?;
@@ -65,7 +69,8 @@ fn by_profile<'a>(view: &mut View<'a>) -> Result<Option<&'a [u8]>, PartFault>
 
 // The key that the profile at an index tells, of a reference.
 fn by_reference<'a>(view: &mut View<'a>) -> Result<Option<&'a [u8]>, PartFault>
-    ensures ok { IfOk result (λ target. IsAddress REFERENCE_ADDRESS (option_map (λ k. k.now) target) view.old view.new) }
+    ensures ok { IfOk result
+        (λ target. IsAddress REFERENCE_ADDRESS (option_map (λ k. k.now) target) view.old view.new) }
     ensures bad { OnErr result (NoAddress REFERENCE_ADDRESS view.old) }
 {
     let index = view.ulong()?;

@@ -32,7 +32,8 @@ pub fn view_call(message: &Message) -> Result<Seen<'_>, ViewFault>
     // Each part is the slice of the message at the place that the spelling gives it.
     ensures lent { IfOk result (λ seen. LendsParts message.now.bytes (asked_by seen)) }
     // What the message gives is answered, and nothing else.
-    ensures only { (answer : Result IncomingData MsgFaultData) → CallOf message.now.bytes answer → answer_of result ≡ answer }
+    ensures only { (answer : Result IncomingData MsgFaultData) → CallOf message.now.bytes answer
+        → answer_of result ≡ answer }
 {
     view_message(message.bytes())
 }

@@ -65,7 +65,8 @@ impl Numbers {
 
     /// Takes the least of them away.
     pub fn pop(&mut self) -> Option<u64>
-        ensures taken { IfSome result (λ x. (r : ℕ) → has self.old.heap r ≡ (x == r) || has self.new.heap r) }
+        ensures taken { IfSome result
+            (λ x. (r : ℕ) → has self.old.heap r ≡ (x == r) || has self.new.heap r) }
         ensures least { IfSome result (λ x. (r : ℕ) → has self.old.heap r ≡ true → x ≤ r) }
         ensures none { IfNone result ((r : ℕ) → has self.old.heap r ≡ false) }
         ensures same { IfNone result ((r : ℕ) → has self.new.heap r ≡ false) }

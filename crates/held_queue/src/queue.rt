@@ -37,7 +37,8 @@ pub struct HeldQueue {
 
 /// The request or locate that comes into the queue with an entry, where one does.
 fn received(entry: &Entry, arrivals: u64, stage: Stage) -> Option<u64>
-    ensures received { (past : List EntryOf) → arrivals ≡ arrivals_in past → stage ≡ stage_at past entry.now
+    ensures received { (past : List EntryOf) → arrivals ≡ arrivals_in past
+        → stage ≡ stage_at past entry.now
         → result ≡ the_received past entry.now }
     ensures queues { IfSome result (λ _. may_queue entry.now ≡ true) }
 {
@@ -70,7 +71,8 @@ impl HeldQueue {
 
     /// Makes room for one call more.
     pub fn reserve(&mut self) -> Result<(), WantMemory>
-        ensures kept { (c : Config) (run : ℕ) (h : List EntryOf) → AreHeld c run h self.old → AreHeld c run h self.new }
+        ensures kept { (c : Config) (run : ℕ) (h : List EntryOf) → AreHeld c run h self.old
+            → AreHeld c run h self.new }
         ensures room { OnOk result (HasRoom self.new.ready.heap) }
     {
         self.ready.reserve()
@@ -79,7 +81,8 @@ impl HeldQueue {
     /// Makes those ready that a worker is to ask next: of each row that was freed the first call, and of the requests
     /// that take their turn in an adapter the first one, where nobody has the turn.
     pub fn settle(&mut self, flights: &[Flight], worker: u32) -> Result<(), WantMemory>
-        ensures kept { (c : Config) (run : ℕ) (h : List EntryOf) → flights.now ≡ (standing c run h).flights → AreHeld c run h self.old
+        ensures kept { (c : Config) (run : ℕ) (h : List EntryOf)
+            → flights.now ≡ (standing c run h).flights → AreHeld c run h self.old
             → AreHeld c run h self.new }
         ensures settled { OnOk result (IsSettled worker self.new) }
     {
@@ -99,7 +102,8 @@ impl HeldQueue {
     pub fn put(&mut self, alloc: Global, arrival: u64, hold: Hold) -> Result<(), WantMemory>
         requires there { has self.old.ready.heap arrival ≡ true }
         requires least { (r : ℕ) → has self.old.ready.heap r ≡ true → arrival ≤ r }
-        ensures { (c : Config) (run : ℕ) (h : List EntryOf) → arrival < arrivals_in h → Blocks (facts_of c run h arrival) hold
+        ensures { (c : Config) (run : ℕ) (h : List EntryOf) → arrival < arrivals_in h
+            → Blocks (facts_of c run h arrival) hold
             → AreHeld c run h self.old → AreHeld c run h self.new }
     {
         rows::put(alloc, hold, &mut self.rows, &mut self.ready)
@@ -109,7 +113,8 @@ impl HeldQueue {
     pub fn drop_least(&mut self, arrival: u64)
         requires there { has self.old.ready.heap arrival ≡ true }
         requires least { (r : ℕ) → has self.old.ready.heap r ≡ true → arrival ≤ r }
-        ensures { (c : Config) (run : ℕ) (h : List EntryOf) → is_waiting h arrival ≡ false → AreHeld c run h self.old
+        ensures { (c : Config) (run : ℕ) (h : List EntryOf) → is_waiting h arrival ≡ false
+            → AreHeld c run h self.old
             → AreHeld c run h self.new }
     {
         let _ = self.ready.pop();
@@ -119,9 +124,11 @@ impl HeldQueue {
     /// and what the entry frees. Takes no memory.
     pub fn advance(&mut self, entry: &Entry, arrivals: u64, stage: Stage, freed: Freed)
         requires { may_queue entry.now ≡ true → HasRoom self.old.ready.heap }
-        ensures held { (c : Config) (run limit : ℕ) (past : List EntryOf) → IsGiven c run → IsGivenAlone c run → IsWithinLimits c limit
+        ensures held { (c : Config) (run limit : ℕ) (past : List EntryOf) → IsGiven c run
+            → IsGivenAlone c run → IsWithinLimits c limit
             → IsLegal c run limit (entry.now ∷ past)
-            → arrivals ≡ arrivals_in past → stage ≡ stage_at past entry.now → freed ≡ freed_by c run past entry.now
+            → arrivals ≡ arrivals_in past → stage ≡ stage_at past entry.now
+            → freed ≡ freed_by c run past entry.now
             → AreHeld c run past self.old → AreHeld c run (entry.now ∷ past) self.new }
         ensures rows { self.new.rows.items ≡ map (freed_row freed) self.old.rows.items }
     {

@@ -17,8 +17,10 @@ pub struct Row {
 /// The least goes over to others, if there is one.
 pub fn move_least(from: &mut Numbers, to: &mut Numbers) -> Result<(), WantMemory>
     ensures goes { GoesOver from.old.heap from.new.heap to.old.heap to.new.heap }
-    ensures ahead { OnOk result ((r : ℕ) → has from.new.heap r ≡ true → (q : ℕ) × (has to.new.heap q ≡ true) × (q ≤ r)) }
-    ensures moved { OnOk result ((r : ℕ) → has from.old.heap r ≡ true → (q : ℕ) × (has to.new.heap q ≡ true) × (q ≤ r)) }
+    ensures ahead { OnOk result
+        ((r : ℕ) → has from.new.heap r ≡ true → (q : ℕ) × (has to.new.heap q ≡ true) × (q ≤ r)) }
+    ensures moved { OnOk result
+        ((r : ℕ) → has from.old.heap r ≡ true → (q : ℕ) × (has to.new.heap q ≡ true) × (q ≤ r)) }
 {
     to.reserve()?;
     if let Some(number) = from.pop() {

@@ -104,8 +104,10 @@ pub fn settle(
     flights: &[Flight],
     worker: u32,
 ) -> Result<(), WantMemory>
-    ensures kept { (c : Config) (run : ℕ) (h : List EntryOf) → flights.now ≡ (standing c run h).flights
-        → KnowsCalls c run h ready.old.heap rows.old.items → KnowsCalls c run h ready.new.heap rows.new.items }
+    ensures kept { (c : Config) (run : ℕ) (h : List EntryOf)
+        → flights.now ≡ (standing c run h).flights
+        → KnowsCalls c run h ready.old.heap rows.old.items
+        → KnowsCalls c run h ready.new.heap rows.new.items }
     ensures settled { OnOk result (AreSettled worker ready.new.heap rows.new.items) }
 {
     for i in 0..rows.len() {
@@ -118,14 +120,16 @@ pub fn settle(
 
 /// The place of the row that is held so, where there is one.
 fn place_of(rows: &[Row], grip: Grip) -> Option<usize>
-    ensures { IfSome result (λ i. (i < length rows.now) × ((d : Row) → (slice_index_or rows.now i d).grip ≡ grip)) }
+    ensures { IfSome result
+        (λ i. (i < length rows.now) × ((d : Row) → (slice_index_or rows.now i d).grip ≡ grip)) }
 {
     rows.iter().position(|row| row.grip == grip)
 }
 
 /// The place of a row without calls, where there is one.
 fn place_free(rows: &[Row]) -> Option<usize>
-    ensures { IfSome result (λ i. (i < length rows.now) × ((d : Row) → is_empty_row (slice_index_or rows.now i d))) }
+    ensures { IfSome result
+        (λ i. (i < length rows.now) × ((d : Row) → is_empty_row (slice_index_or rows.now i d))) }
 {
     rows.iter().position(|row| row.calls.is_empty())
 }
@@ -142,8 +146,10 @@ fn set_grip(rows: &mut Vec<Row>, place: usize, grip: Grip)
 /// The place of the row of the calls that are held by this, which is made where there is none.
 fn place_for(alloc: Global, hold: Hold, rows: &mut Vec<Row>) -> Result<usize, WantMemory>
     ensures place { IfOk result
-        (λ i. (i < length rows.new.items) × ((d : Row) → (slice_index_or rows.new.items i d).grip ≡ grips.Held hold)) }
-    ensures kept { (c : Config) (run : ℕ) (h : List EntryOf) (ready : Heap) → KnowsCalls c run h ready rows.old.items
+        (λ i. (i < length rows.new.items)
+        × ((d : Row) → (slice_index_or rows.new.items i d).grip ≡ grips.Held hold)) }
+    ensures kept { (c : Config) (run : ℕ) (h : List EntryOf) (ready : Heap)
+        → KnowsCalls c run h ready rows.old.items
         → KnowsCalls c run h ready rows.new.items }
 {
     if let Some(place) = place_of(rows, Grip::Held(hold)) {
@@ -168,9 +174,11 @@ pub fn put(
     rows: &mut Vec<Row>,
     ready: &mut Numbers,
 ) -> Result<(), WantMemory>
-    ensures { (c : Config) (run : ℕ) (h : List EntryOf) (arrival : ℕ) → IsLeast ready.old.heap arrival → arrival < arrivals_in h
+    ensures { (c : Config) (run : ℕ) (h : List EntryOf) (arrival : ℕ)
+        → IsLeast ready.old.heap arrival → arrival < arrivals_in h
         → Blocks (facts_of c run h arrival) hold
-        → KnowsCalls c run h ready.old.heap rows.old.items → KnowsCalls c run h ready.new.heap rows.new.items }
+        → KnowsCalls c run h ready.old.heap rows.old.items
+        → KnowsCalls c run h ready.new.heap rows.new.items }
 {
     let place = place_for(alloc, hold, rows)?;
     match rows.get_mut(place) {

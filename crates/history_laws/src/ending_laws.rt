@@ -14,23 +14,28 @@ ghost use Rattle.history_laws.specs.Closing.{HasNoTurn, IsClosed, IsOver};
 /// Where a `shutdown` was admitted, whatever it was answered, and no worker has a next entry, every activation is void or
 /// finished, and every call is decided.
 pub fn shut_runs_end()
-    ensures { (g : Givens) (h : List Entry) → IsHistory g h → AreIdle g.config g.run h → is_shut h ≡ true → IsAllOver g.config g.run h }
+    ensures { (g : Givens) (h : List Entry) → IsHistory g h → AreIdle g.config g.run h
+        → is_shut h ≡ true → IsAllOver g.config g.run h }
 {}
 
 /// A worker without a next entry has begun nothing.
 pub fn idle_workers_are_free()
-    ensures { (g : Givens) (h : List Entry) (worker : ℕ) → IsHistory g h → turn g.config g.run h worker ≡ None → stage h worker ≡ Free }
+    ensures { (g : Givens) (h : List Entry) (worker : ℕ) → IsHistory g h
+        → turn g.config g.run h worker ≡ None → stage h worker ≡ Free }
 {}
 
 /// Where one worker has closed, no worker has begun anything, and from then on none makes an entry, the run is over for
 /// good.
 pub fn closed_runs_are_over()
-    ensures { (g : Givens) (more h : List Entry) (worker : ℕ) → IsHistory g (more ++ h) → IsClosed g worker h → ((w : ℕ) → stage h w ≡ Free)
+    ensures { (g : Givens) (more h : List Entry) (worker : ℕ) → IsHistory g (more ++ h)
+        → IsClosed g worker h → ((w : ℕ) → stage h w ≡ Free)
         → HasNoTurn more → IsOver g more h }
 {}
 
 /// Once a worker has closed, a call can still arrive only on the first connection, or on one that entered since.
 pub fn late_calls_come_on_late_connections()
-    ensures { (g : Givens) (more h : List Entry) (worker r conn : ℕ) → IsHistory g (more ++ h) → IsClosed g worker h → arrivals h ≤ r
-        → r < arrivals (more ++ h) → conn_of (more ++ h) r ≡ Some conn → (conn ≡ 0) ⊎ (connections h ≤ conn) }
+    ensures { (g : Givens) (more h : List Entry) (worker r conn : ℕ) → IsHistory g (more ++ h)
+        → IsClosed g worker h → arrivals h ≤ r
+        → r < arrivals (more ++ h) → conn_of (more ++ h) r ≡ Some conn
+        → (conn ≡ 0) ⊎ (connections h ≤ conn) }
 {}

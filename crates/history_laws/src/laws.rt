@@ -29,9 +29,11 @@ ghost use Rattle.history_laws.specs.Undone.{AreIdle, IsInHand, IsHeldBack, IsAll
 /// nothing is in flight, every activation that is ending is finished, every adapter that was destroyed is gone,
 /// and each arrival that is unadmitted is held back by a manager in the state HOLDING.
 pub fn nothing_stays_undone()
-    ensures in_hand { (c : Config) (run limit : ℕ) (h : List Entry) → IsGiven c run → IsGivenAlone c run → IsWithinLimits c limit
+    ensures in_hand { (c : Config) (run limit : ℕ) (h : List Entry) → IsGiven c run
+        → IsGivenAlone c run → IsWithinLimits c limit
         → IsLegal c run limit h → IsInHand c run h }
-    ensures done { (c : Config) (run limit : ℕ) (h : List Entry) → IsGiven c run → IsGivenAlone c run → IsWithinLimits c limit
+    ensures done { (c : Config) (run limit : ℕ) (h : List Entry) → IsGiven c run
+        → IsGivenAlone c run → IsWithinLimits c limit
         → IsLegal c run limit h → AreIdle c run h → IsAllDone c run h }
 {}
 
@@ -39,37 +41,47 @@ pub fn nothing_stays_undone()
 /// too, or a manager in the state HOLDING holds it back. Where moreover a `shutdown` was done, every activation is
 /// void or finished, and every call is decided.
 pub fn calls_are_answered()
-    ensures answered { (c : Config) (run limit : ℕ) (h : List Entry) → IsGiven c run → IsGivenAlone c run → IsWithinLimits c limit
-        → IsLegal c run limit h → AreIdle c run h → (r : ℕ) → r < arrivals h → (decided c run h r ≡ true) ⊎ IsHeldBack c run h r }
-    ensures shut { (c : Config) (run limit : ℕ) (h : List Entry) → IsGiven c run → IsGivenAlone c run → IsWithinLimits c limit
+    ensures answered { (c : Config) (run limit : ℕ) (h : List Entry) → IsGiven c run
+        → IsGivenAlone c run → IsWithinLimits c limit
+        → IsLegal c run limit h → AreIdle c run h → (r : ℕ) → r < arrivals h
+        → (decided c run h r ≡ true) ⊎ IsHeldBack c run h r }
+    ensures shut { (c : Config) (run limit : ℕ) (h : List Entry) → IsGiven c run
+        → IsGivenAlone c run → IsWithinLimits c limit
         → IsLegal c run limit h → AreIdle c run h → was_shut h ≡ true → IsAllOver c run h }
 {}
 
 /// The first worker tells for all: where it has no next entry, and no worker has begun anything, none of the sixteen
 /// has a next entry. Another worker is held from more, since MAIN_THREAD_MODEL makes it wait for the first.
 pub fn first_worker_tells()
-    ensures { (c : Config) (run : ℕ) (h : List Entry) → turn c run h 0 ≡ None → ((w : ℕ) → stage h w ≡ Free) → AreIdle c run h }
+    ensures { (c : Config) (run : ℕ) (h : List Entry) → turn c run h 0 ≡ None
+        → ((w : ℕ) → stage h w ≡ Free) → AreIdle c run h }
 {}
 
 /// That a reply is given to its connection changes no worker's next entry. So a run that was idle stays so while
 /// its replies are collected.
 pub fn collecting_changes_no_turn()
-    ensures { (c : Config) (run limit : ℕ) (h : List Entry) → IsGiven c run → IsGivenAlone c run → IsWithinLimits c limit
-        → IsLegal c run limit h → (conn a w : ℕ) → turn c run (Collect conn a ∷ h) w ≡ turn c run h w }
+    ensures { (c : Config) (run limit : ℕ) (h : List Entry) → IsGiven c run → IsGivenAlone c run
+        → IsWithinLimits c limit
+        → IsLegal c run limit h → (conn a w : ℕ)
+        → turn c run (Collect conn a ∷ h) w ≡ turn c run h w }
 {}
 
 /// An activation is etherealized exactly where a worker that had it in hand said so.
 pub fn etherealized_are_told()
-    ensures { (c : Config) (run limit : ℕ) (h : List Entry) → IsGiven c run → IsGivenAlone c run → IsWithinLimits c limit
-        → IsLegal c run limit h → (a : Activation) → In a (standing c run h).activations → a.etherealized ≡ was_told h a.number }
+    ensures { (c : Config) (run limit : ℕ) (h : List Entry) → IsGiven c run → IsGivenAlone c run
+        → IsWithinLimits c limit
+        → IsLegal c run limit h → (a : Activation) → In a (standing c run h).activations
+        → a.etherealized ≡ was_told h a.number }
 {}
 
 /// A request that goes to a servant reaches the object of its key: the activation that its verdict names stands, with the
 /// path and the id of the key; and to another servant it goes only where the adapter has no servant activator. CORBA 3.3
 /// Part 1, section 15.2.6.
 pub fn requests_reach_their_key()
-    ensures { (c : Config) (run limit : ℕ) (h : List Entry) → IsGiven c run → IsGivenAlone c run → IsWithinLimits c limit
-        → IsLegal c run limit h → (r : ℕ) (v : Verdict) → admitted h r ≡ Some v → runs (Go v) ≡ true → IsKeyed c run h r v }
+    ensures { (c : Config) (run limit : ℕ) (h : List Entry) → IsGiven c run → IsGivenAlone c run
+        → IsWithinLimits c limit
+        → IsLegal c run limit h → (r : ℕ) (v : Verdict) → admitted h r ≡ Some v → runs (Go v) ≡ true
+        → IsKeyed c run h r v }
 {}
 
 /// The updates of an object are one line. Let a path have a servant activator whose first matching rule brings an id
@@ -79,13 +91,19 @@ pub fn requests_reach_their_key()
 /// it has is in that one servant's state; and where one was etherealized and each activation of the id is over, that
 /// state is what is stored. CORBA 3.3 Part 1, section 15.3.6.
 pub fn servants_are_one_line()
-    ensures line { (c : Config) (run limit : ℕ) (h : List Entry) → IsGiven c run → IsGivenAlone c run → IsWithinLimits c limit
-        → IsLegal c run limit h → (opened : Stored) (kind : Kind) (p : List (List ℕ)) (oid : List ℕ) → BringsFresh c p oid kind
+    ensures line { (c : Config) (run limit : ℕ) (h : List Entry) → IsGiven c run
+        → IsGivenAlone c run → IsWithinLimits c limit
+        → IsLegal c run limit h → (opened : Stored) (kind : Kind) (p : List (List ℕ)) (oid : List ℕ)
+        → BringsFresh c p oid kind
         → AreIncarnated c run h p oid → IsOneLine c run opened kind h p oid }
-    ensures state { (c : Config) (run limit : ℕ) (h : List Entry) → IsGiven c run → IsGivenAlone c run → IsWithinLimits c limit
-        → IsLegal c run limit h → (opened : Stored) (kind : Kind) (p : List (List ℕ)) (oid : List ℕ) → BringsFresh c p oid kind
+    ensures state { (c : Config) (run limit : ℕ) (h : List Entry) → IsGiven c run
+        → IsGivenAlone c run → IsWithinLimits c limit
+        → IsLegal c run limit h → (opened : Stored) (kind : Kind) (p : List (List ℕ)) (oid : List ℕ)
+        → BringsFresh c p oid kind
         → AreIncarnated c run h p oid → HasLineState c run opened kind h p oid }
-    ensures kept { (c : Config) (run limit : ℕ) (h : List Entry) → IsGiven c run → IsGivenAlone c run → IsWithinLimits c limit
-        → IsLegal c run limit h → (opened : Stored) (kind : Kind) (p : List (List ℕ)) (oid : List ℕ) → BringsFresh c p oid kind
+    ensures kept { (c : Config) (run limit : ℕ) (h : List Entry) → IsGiven c run
+        → IsGivenAlone c run → IsWithinLimits c limit
+        → IsLegal c run limit h → (opened : Stored) (kind : Kind) (p : List (List ℕ)) (oid : List ℕ)
+        → BringsFresh c p oid kind
         → AreIncarnated c run h p oid → KeepsLineState c run opened kind h p oid }
 {}

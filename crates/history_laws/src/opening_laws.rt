@@ -47,18 +47,21 @@ pub fn openings_are_alone()
 /// flight in an adapter that stands; of one child at most one trial is in flight, and then no adapter of the
 /// child's path stands. Of one id of one adapter at most one activation isn't over.
 pub fn runs_are_sound()
-    ensures { (c : Config) (run limit : ℕ) (h : List Entry) → IsRun c run limit h → IsSound c run (standing c run h) }
+    ensures { (c : Config) (run limit : ℕ) (h : List Entry) → IsRun c run limit h
+        → IsSound c run (standing c run h) }
 {}
 
 /// Each ordinal of a system-made object id fits 32 bits.
 pub fn ordinals_fit()
-    ensures { (c : Config) (run limit : ℕ) (h : List Entry) → IsRun c run limit h → suc (standing c run h).made < 2 ^ 32 }
+    ensures { (c : Config) (run limit : ℕ) (h : List Entry) → IsRun c run limit h
+        → suc (standing c run h).made < 2 ^ 32 }
 {}
 
 /// An adapter that stands is being destroyed exactly where a destroy of it, or of an adapter above it, was
 /// done since it was created.
 pub fn destroyed_are_dying()
-    ensures { (c : Config) (run limit : ℕ) (h : List Entry) → IsRun c run limit h → (n : Node) → In n (standing c run h).nodes
+    ensures { (c : Config) (run limit : ℕ) (h : List Entry) → IsRun c run limit h → (n : Node)
+        → In n (standing c run h).nodes
         → n.dying ≡ was_destroyed c run h n.number n.path }
 {}
 
@@ -66,12 +69,15 @@ pub fn destroyed_are_dying()
 /// activations are over and its children are gone. None that stands is gone but the root, which stays; and
 /// of one that is gone nothing is left.
 pub fn gone_have_ended()
-    ensures ends { (c : Config) (run limit : ℕ) (h : List Entry) → IsRun c run limit h → (n : Node) → In n (standing c run h).nodes
+    ensures ends { (c : Config) (run limit : ℕ) (h : List Entry) → IsRun c run limit h → (n : Node)
+        → In n (standing c run h).nodes
         → (is_gone c (standing c run h) n.number ≡ true → IsEnded c (standing c run h) n)
         × (IsEnded c (standing c run h) n → is_gone c (standing c run h) n.number ≡ true) }
-    ensures stays { (c : Config) (run limit : ℕ) (h : List Entry) → IsRun c run limit h → (n : Node) → In n (standing c run h).nodes
+    ensures stays { (c : Config) (run limit : ℕ) (h : List Entry) → IsRun c run limit h → (n : Node)
+        → In n (standing c run h).nodes
         → is_root n.path ≡ false → is_gone c (standing c run h) n.number ≡ false }
-    ensures emptied { (c : Config) (run limit : ℕ) (h : List Entry) → IsRun c run limit h → (k : ℕ) → is_gone c (standing c run h) k ≡ true
+    ensures emptied { (c : Config) (run limit : ℕ) (h : List Entry) → IsRun c run limit h → (k : ℕ)
+        → is_gone c (standing c run h) k ≡ true
         → IsEmptied c (standing c run h) k }
 {}
 
@@ -79,14 +85,16 @@ pub fn gone_have_ended()
 /// the map of an adapter by at most one activation; under SINGLE_THREAD_MODEL at most one request is in
 /// flight in an adapter; and a fresh servant is that of its activation.
 pub fn one_at_a_time()
-    ensures { (c : Config) (run limit : ℕ) (h : List Entry) → IsRun c run limit h → StandsAlone c (standing c run h) }
+    ensures { (c : Config) (run limit : ℕ) (h : List Entry) → IsRun c run limit h
+        → StandsAlone c (standing c run h) }
 {}
 
 /// What is in flight is what a worker has begun and not ended, once, and with one worker. What is in flight in
 /// an activation is so in that activation's adapter, and the activation isn't out. A request runs while its
 /// activation has its servant. What is being taken down is out, and wasn't etherealized yet.
 pub fn in_flight_has_its_worker()
-    ensures { (c : Config) (run limit : ℕ) (h : List Entry) → IsRun c run limit h → IsManned c run h }
+    ensures { (c : Config) (run limit : ℕ) (h : List Entry) → IsRun c run limit h
+        → IsManned c run h }
 {}
 
 /// Every run keeps the lifetime of its activations: an activation begins once, when every earlier one of its id
@@ -95,14 +103,16 @@ pub fn in_flight_has_its_worker()
 /// worker that took it out. No two configured objects of one adapter have one id. CORBA 3.3 Part 1, sections
 /// 15.2.4 and 15.3.6.
 pub fn lifetimes_are_kept()
-    ensures { (c : Config) (run limit : ℕ) (h : List Entry) → IsRun c run limit h → HasLifetime c run h }
+    ensures { (c : Config) (run limit : ℕ) (h : List Entry) → IsRun c run limit h
+        → HasLifetime c run h }
 {}
 
 /// A request that goes to a servant reaches the object of its key: the activation that its verdict names stands, with the
 /// path and the id of the key; and to another servant it goes only where the adapter has no servant activator. CORBA 3.3
 /// Part 1, section 15.2.6.
 pub fn requests_reach_their_key()
-    ensures { (c : Config) (run limit : ℕ) (h : List Entry) → IsRun c run limit h → (r : ℕ) (v : Verdict) → admitted h r ≡ Some v
+    ensures { (c : Config) (run limit : ℕ) (h : List Entry) → IsRun c run limit h
+        → (r : ℕ) (v : Verdict) → admitted h r ≡ Some v
         → runs (Go v) ≡ true → IsKeyed c run h r v }
 {}
 
@@ -111,17 +121,21 @@ pub fn requests_reach_their_key()
 /// nothing is in flight, every activation that is ending is finished, every adapter that was destroyed is gone,
 /// and each arrival that is unadmitted is held back by a manager in the state HOLDING.
 pub fn nothing_stays_undone()
-    ensures in_hand { (c : Config) (run limit : ℕ) (h : List Entry) → IsRun c run limit h → IsInHand c run h }
-    ensures done { (c : Config) (run limit : ℕ) (h : List Entry) → IsRun c run limit h → AreIdle c run h → IsAllDone c run h }
+    ensures in_hand { (c : Config) (run limit : ℕ) (h : List Entry) → IsRun c run limit h
+        → IsInHand c run h }
+    ensures done { (c : Config) (run limit : ℕ) (h : List Entry) → IsRun c run limit h
+        → AreIdle c run h → IsAllDone c run h }
 {}
 
 /// Every call is answered. Where no worker has a next entry, each call that arrived is decided, a command that waits
 /// too, or a manager in the state HOLDING holds it back. Where moreover a `shutdown` was done, every activation is
 /// void or finished, and every call is decided.
 pub fn calls_are_answered()
-    ensures answered { (c : Config) (run limit : ℕ) (h : List Entry) → IsRun c run limit h → AreIdle c run h → (r : ℕ) → r < arrivals h
+    ensures answered { (c : Config) (run limit : ℕ) (h : List Entry) → IsRun c run limit h
+        → AreIdle c run h → (r : ℕ) → r < arrivals h
         → (decided c run h r ≡ true) ⊎ IsHeldBack c run h r }
-    ensures shut { (c : Config) (run limit : ℕ) (h : List Entry) → IsRun c run limit h → AreIdle c run h → was_shut h ≡ true
+    ensures shut { (c : Config) (run limit : ℕ) (h : List Entry) → IsRun c run limit h
+        → AreIdle c run h → was_shut h ≡ true
         → IsAllOver c run h }
 {}
 
@@ -140,19 +154,24 @@ pub fn collecting_changes_no_turn()
 /// state is what is stored. CORBA 3.3 Part 1, section 15.3.6.
 pub fn servants_are_one_line()
     ensures line { (c : Config) (run limit : ℕ) (h : List Entry) → IsRun c run limit h
-        → (opened : Stored) (kind : Kind) (p : List (List ℕ)) (oid : List ℕ) → BringsFresh c p oid kind → AreIncarnated c run h p oid
+        → (opened : Stored) (kind : Kind) (p : List (List ℕ)) (oid : List ℕ)
+        → BringsFresh c p oid kind → AreIncarnated c run h p oid
         → IsOneLine c run opened kind h p oid }
     ensures state { (c : Config) (run limit : ℕ) (h : List Entry) → IsRun c run limit h
-        → (opened : Stored) (kind : Kind) (p : List (List ℕ)) (oid : List ℕ) → BringsFresh c p oid kind → AreIncarnated c run h p oid
+        → (opened : Stored) (kind : Kind) (p : List (List ℕ)) (oid : List ℕ)
+        → BringsFresh c p oid kind → AreIncarnated c run h p oid
         → HasLineState c run opened kind h p oid }
     ensures kept { (c : Config) (run limit : ℕ) (h : List Entry) → IsRun c run limit h
-        → (opened : Stored) (kind : Kind) (p : List (List ℕ)) (oid : List ℕ) → BringsFresh c p oid kind → AreIncarnated c run h p oid
+        → (opened : Stored) (kind : Kind) (p : List (List ℕ)) (oid : List ℕ)
+        → BringsFresh c p oid kind → AreIncarnated c run h p oid
         → KeepsLineState c run opened kind h p oid }
 {}
 
 /// The long laws together, as the calls of the adapter state them of a run.
 pub fn runs_last()
-    ensures undone { (c : Config) (run limit : ℕ) (h : List Entry) → IsRun c run limit h → LeavesNothing c run h }
-    ensures updates { (c : Config) (run limit : ℕ) (h : List Entry) → IsRun c run limit h → (opened : Stored)
+    ensures undone { (c : Config) (run limit : ℕ) (h : List Entry) → IsRun c run limit h
+        → LeavesNothing c run h }
+    ensures updates { (c : Config) (run limit : ℕ) (h : List Entry) → IsRun c run limit h
+        → (opened : Stored)
         → KeepsUpdates c run opened h }
 {}

@@ -12,10 +12,13 @@ ghost use Rattle.history_laws.specs.Restarts.{GoesOn, IsStoredAt, KeepsOn, OneRu
 /// id has in the second is in that one servant's state; and where one was etherealized in it, too, and all are over, that
 /// state is what is stored. CORBA 3.3 Part 1, section 15.3.6.
 pub fn updates_go_on()
-    ensures line { (kind : Kind) (p : List (List ℕ)) (oid : List ℕ) (first second : OneRun kind p oid) → GoesOn kind p oid first second
+    ensures line { (kind : Kind) (p : List (List ℕ)) (oid : List ℕ)
+        (first second : OneRun kind p oid) → GoesOn kind p oid first second
         → RepliesOn kind p oid first second }
-    ensures state { (kind : Kind) (p : List (List ℕ)) (oid : List ℕ) (first second : OneRun kind p oid) → GoesOn kind p oid first second
+    ensures state { (kind : Kind) (p : List (List ℕ)) (oid : List ℕ)
+        (first second : OneRun kind p oid) → GoesOn kind p oid first second
         → StandsOn kind p oid first second }
-    ensures kept { (kind : Kind) (p : List (List ℕ)) (oid : List ℕ) (first second : OneRun kind p oid) → GoesOn kind p oid first second
+    ensures kept { (kind : Kind) (p : List (List ℕ)) (oid : List ℕ)
+        (first second : OneRun kind p oid) → GoesOn kind p oid first second
         → IsStoredAt kind p oid second → KeepsOn kind p oid first second }
 {}

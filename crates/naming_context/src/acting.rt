@@ -28,7 +28,9 @@ impl Contexts {
         context: u32,
         asked: Asked,
     ) -> Result<Answer, WantMemory>
-        ensures { IfOk result (λ answer. IsDone (table.done (standing_of self.old) context asked) (standing_of self.old) answer (standing_of self.new)) }
+        ensures { IfOk result
+            (λ answer. IsDone (table.done (standing_of self.old) context asked)
+            (standing_of self.old) answer (standing_of self.new)) }
     {
         match asked {
             Asked::Bind { name, object } => self.bind_name(alloc, context, &name, object),
@@ -50,7 +52,8 @@ impl Contexts {
         object: Ior,
     ) -> Result<Answer, WantMemory>
         ensures { IfOk result (λ answer. IsDone
-            (table.done (standing_of self.old) context (asked.Bind name.now object)) (standing_of self.old) answer (standing_of self.new)) }
+            (table.done (standing_of self.old) context (asked.Bind name.now object))
+            (standing_of self.old) answer (standing_of self.new)) }
     {
         match self.lead(context, name.as_slice()) {
             Lead::Ends { context, component } => self.bind_at(alloc, context, component, object),
@@ -67,7 +70,8 @@ impl Contexts {
         object: Ior,
     ) -> Result<Answer, WantMemory>
         ensures { IfOk result (λ answer. IsDone
-            (table.bind_over ((standing_of self.old).find context component.now) (standing_of self.old) context component.now object)
+            (table.bind_over ((standing_of self.old).find context component.now)
+            (standing_of self.old) context component.now object)
             (standing_of self.old) answer (standing_of self.new)) }
     {
         if self.find(context, component).is_some() {
@@ -85,7 +89,8 @@ impl Contexts {
     ) -> Result<Answer, WantMemory>
         requires { (standing_of self.old).find context component.now ≡ None }
         ensures { IfOk result (λ answer. IsDone
-            (table.bound_first (standing_of self.old) context component.now (Reference object) (Outcome outcomes.nothing))
+            (table.bound_first (standing_of self.old) context component.now (Reference object)
+            (Outcome outcomes.nothing))
             (standing_of self.old) answer (standing_of self.new)) }
     {
         if self.bound() >= BINDINGS {
@@ -104,7 +109,8 @@ impl Contexts {
         object: Ior,
     ) -> Result<Answer, WantMemory>
         ensures { IfOk result (λ answer. IsDone
-            (table.done (standing_of self.old) context (asked.Rebind name.now object)) (standing_of self.old) answer (standing_of self.new)) }
+            (table.done (standing_of self.old) context (asked.Rebind name.now object))
+            (standing_of self.old) answer (standing_of self.new)) }
     {
         match self.lead(context, name.as_slice()) {
             Lead::Ends { context, component } => self.rebind_at(alloc, context, component, object),
@@ -121,7 +127,8 @@ impl Contexts {
         object: Ior,
     ) -> Result<Answer, WantMemory>
         ensures { IfOk result (λ answer. IsDone
-            (table.rebind_over ((standing_of self.old).find context component.now) (standing_of self.old) context component.now object)
+            (table.rebind_over ((standing_of self.old).find context component.now)
+            (standing_of self.old) context component.now object)
             (standing_of self.old) answer (standing_of self.new)) }
     {
         match self.find(context, component) {
@@ -139,7 +146,9 @@ impl Contexts {
         object: Ior,
     ) -> Result<Answer, WantMemory>
         requires { IsSome ((standing_of self.old).find context component.now) }
-        ensures { IfOk result (λ answer. IsDone (table.bound_again context component.now object) (standing_of self.old) answer (standing_of self.new)) }
+        ensures { IfOk result
+            (λ answer. IsDone (table.bound_again context component.now object)
+            (standing_of self.old) answer (standing_of self.new)) }
     {
         self.bind(context, component.try_clone()?, Target::Reference(object))?;
         Ok(Answer::Outcome(nothing()))
@@ -153,7 +162,8 @@ impl Contexts {
         name: &Items<Component>,
     ) -> Result<Answer, WantMemory>
         ensures { IfOk result (λ answer. IsDone
-            (table.done (standing_of self.now) context (asked.Resolve name.now)) (standing_of self.now) answer (standing_of self.now)) }
+            (table.done (standing_of self.now) context (asked.Resolve name.now))
+            (standing_of self.now) answer (standing_of self.now)) }
     {
         match self.lead(context, name.as_slice()) {
             Lead::Ends { context, component } => self.resolve_at(alloc, context, component),
@@ -168,7 +178,9 @@ impl Contexts {
         context: u32,
         component: &Component,
     ) -> Result<Answer, WantMemory>
-        ensures { IfOk result (λ answer. IsDone (table.resolve_over ((standing_of self.now).find context component.now) component.now)
+        ensures { IfOk result
+            (λ answer. IsDone (table.resolve_over
+            ((standing_of self.now).find context component.now) component.now)
             (standing_of self.now) answer (standing_of self.now)) }
     {
         match self.find(context, component) {
@@ -185,7 +197,8 @@ impl Contexts {
         name: &Items<Component>,
     ) -> Result<Answer, WantMemory>
         ensures { IfOk result (λ answer. IsDone
-            (table.done (standing_of self.old) context (asked.Unbind name.now)) (standing_of self.old) answer (standing_of self.new)) }
+            (table.done (standing_of self.old) context (asked.Unbind name.now))
+            (standing_of self.old) answer (standing_of self.new)) }
     {
         match self.lead(context, name.as_slice()) {
             Lead::Ends { context, component } => self.unbind_at(alloc, context, component),
@@ -201,7 +214,8 @@ impl Contexts {
         component: &Component,
     ) -> Result<Answer, WantMemory>
         ensures { IfOk result (λ answer. IsDone
-            (table.unbind_over ((standing_of self.old).find context component.now) context component.now)
+            (table.unbind_over ((standing_of self.old).find context component.now) context
+            component.now)
             (standing_of self.old) answer (standing_of self.new)) }
     {
         if self.find(context, component).is_none() {
@@ -219,7 +233,8 @@ impl Contexts {
         name: &Items<Component>,
     ) -> Result<Answer, WantMemory>
         ensures { IfOk result (λ answer. IsDone
-            (table.done (standing_of self.old) context (asked.BindNewContext name.now)) (standing_of self.old) answer (standing_of self.new)) }
+            (table.done (standing_of self.old) context (asked.BindNewContext name.now))
+            (standing_of self.old) answer (standing_of self.new)) }
     {
         match self.lead(context, name.as_slice()) {
             Lead::Ends { context, component } => self.new_context_at(alloc, context, component),
@@ -235,7 +250,8 @@ impl Contexts {
         component: &Component,
     ) -> Result<Answer, WantMemory>
         ensures { IfOk result (λ answer. IsDone
-            (table.new_context_over ((standing_of self.old).find context component.now) (standing_of self.old) context component.now)
+            (table.new_context_over ((standing_of self.old).find context component.now)
+            (standing_of self.old) context component.now)
             (standing_of self.old) answer (standing_of self.new)) }
     {
         if self.find(context, component).is_some() {

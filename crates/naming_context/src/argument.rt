@@ -57,8 +57,10 @@ pub(crate) fn read_asked(
 
 // A name and a reference.
 fn read_binding(alloc: Global, body: &Body) -> Result<Binding, CdrFault>
-    ensures ok { IfOk result (λ binding. ReadsBoth (body_start body.now) binding.name binding.object) }
-    ensures bad { IfErr result (λ fault. fault ≢ CdrFault.WantMemory → NoBoth (body_start body.now)) }
+    ensures ok { IfOk result
+        (λ binding. ReadsBoth (body_start body.now) binding.name binding.object) }
+    ensures bad { IfErr result
+        (λ fault. fault ≢ CdrFault.WantMemory → NoBoth (body_start body.now)) }
 {
     let mut reader = front(body);
     let name = read_name(alloc, &mut reader)?;
@@ -69,7 +71,8 @@ fn read_binding(alloc: Global, body: &Body) -> Result<Binding, CdrFault>
 // A name.
 fn read_name_alone(alloc: Global, body: &Body) -> Result<Items<Component>, CdrFault>
     ensures ok { IfOk result (λ name. ReadsName (body_start body.now) name) }
-    ensures bad { IfErr result (λ fault. fault ≢ CdrFault.WantMemory → NoName (body_start body.now)) }
+    ensures bad { IfErr result
+        (λ fault. fault ≢ CdrFault.WantMemory → NoName (body_start body.now)) }
 {
     read_name(alloc, &mut front(body))
 }
@@ -77,7 +80,8 @@ fn read_name_alone(alloc: Global, body: &Body) -> Result<Items<Component>, CdrFa
 // A type id.
 fn read_type(alloc: Global, body: &Body) -> Result<Bytes, CdrFault>
     ensures ok { IfOk result (λ type_id. ReadsType (body_start body.now) type_id) }
-    ensures bad { IfErr result (λ fault. fault ≢ CdrFault.WantMemory → NoType (body_start body.now)) }
+    ensures bad { IfErr result
+        (λ fault. fault ≢ CdrFault.WantMemory → NoType (body_start body.now)) }
 {
     Ok(Bytes::from_vec(front(body).text(alloc)?))
 }

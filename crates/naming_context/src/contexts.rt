@@ -71,9 +71,12 @@ impl Contexts {
         component: Component,
         target: Target,
     ) -> Result<(), WantMemory>
-        requires few { (standing_of self.old).find context component ≡ None → (standing_of self.old).bound < BINDINGS }
-        requires made { (n : ℕ) → target ≡ Target.Context n → (standing_of self.old).made < CONTEXTS }
-        ensures { OnOk result (standing_of self.new ≡ with_target context component target (standing_of self.old)) }
+        requires few { (standing_of self.old).find context component ≡ None
+            → (standing_of self.old).bound < BINDINGS }
+        requires made { (n : ℕ) → target ≡ Target.Context n
+            → (standing_of self.old).made < CONTEXTS }
+        ensures { OnOk result
+            (standing_of self.new ≡ with_target context component target (standing_of self.old)) }
     {
         let made = made_with(&target, self.made);
         if !put(self.alloc, &mut self.bindings, context, component, target)? {
@@ -85,7 +88,8 @@ impl Contexts {
 
     /// Drops the binding of a component in a context. Takes no memory.
     pub(crate) fn unbind(&mut self, context: u32, component: &Component)
-        ensures { standing_of self.new ≡ without_target context component.now (standing_of self.old) }
+        ensures { standing_of self.new
+            ≡ without_target context component.now (standing_of self.old) }
     {
         if take(&mut self.bindings, context, component) {
             self.bound = self.bound.saturating_sub(1);
@@ -113,7 +117,8 @@ fn put(
     target: Target,
 ) -> Result<bool, WantMemory>
     ensures was { IfOk result (λ was. was ≡ is_some (target_at bindings.old context component)) }
-    ensures now { OnOk result (HasTargetAt context component (Some target) bindings.old bindings.new) }
+    ensures now { OnOk result
+        (HasTargetAt context component (Some target) bindings.old bindings.new) }
 {
     match bindings.get_mut(&context) {
         Some(bindings) => put_in(bindings, component, target),

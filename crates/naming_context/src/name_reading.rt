@@ -31,7 +31,8 @@ fn read_components(
 ) -> Result<Items<Component>, CdrFault>
     ensures ok { IfOk result (λ name. ReadsAll (components_fields name) reader.old reader.new) }
     ensures count { IfOk result (λ name. length name ≡ count) }
-    ensures bad { IfErr result (λ fault. fault ≢ CdrFault.WantMemory → NoComponents count reader.old) }
+    ensures bad { IfErr result
+        (λ fault. fault ≢ CdrFault.WantMemory → NoComponents count reader.old) }
 {
     let mut name = Items::new(alloc);
     for _ in 0..count {
@@ -43,7 +44,8 @@ fn read_components(
 
 // A component: its id and its kind.
 fn read_component(alloc: Global, reader: &mut Reader<'_>) -> Result<Component, CdrFault>
-    ensures ok { IfOk result (λ component. ReadsAll (component_fields component) reader.old reader.new) }
+    ensures ok { IfOk result
+        (λ component. ReadsAll (component_fields component) reader.old reader.new) }
     ensures bad { IfErr result (λ fault. fault ≢ CdrFault.WantMemory → NoComponent reader.old) }
 {
     let id = Istring::from_vec(reader.text(alloc)?);

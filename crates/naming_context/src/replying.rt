@@ -51,7 +51,9 @@ pub(crate) fn put_answer(
 fn put_result(alloc: Global, out: &mut Vec<u8>, head: &Head, ior: &Ior) -> Result<(), WantMemory>
     requires minor { head.now.minor ≤ MINOR }
     requires request { IsFalse head.now.locate }
-    ensures ok { OnOk result (out.new.items ≡ out.old.items ++ reply_with head.now outcomes.nothing (with_reference ior.now)) }
+    ensures ok { OnOk result
+        (out.new.items ≡ out.old.items
+        ++ reply_with head.now outcomes.nothing (with_reference ior.now)) }
     ensures err { OnErr result (out.new.items ≡ out.old.items) }
 {
     if head.flags == 1 {
@@ -63,7 +65,8 @@ fn put_result(alloc: Global, out: &mut Vec<u8>, head: &Head, ior: &Ior) -> Resul
 
 fn result_message(alloc: Global, head: &Head, ior: &Ior) -> Result<Bytes, WantMemory>
     requires { hides_results head.now ≡ false }
-    ensures { IfOk result (λ bytes. bytes ≡ reply_with head.now outcomes.nothing (with_reference ior.now)) }
+    ensures { IfOk result
+        (λ bytes. bytes ≡ reply_with head.now outcomes.nothing (with_reference ior.now)) }
 {
     let mut writer = Writer::new(alloc, head.little, HEADER);
     put_opening(&mut writer, head, NO_EXCEPTION)?;
@@ -82,7 +85,8 @@ fn put_not_found(
     requires minor { head.now.minor ≤ MINOR }
     requires request { IsFalse head.now.locate }
     ensures ok { OnOk result
-        (out.new.items ≡ out.old.items ++ reply_with head.now (User outcomes.not_found_id) (with_not_found why rest.now)) }
+        (out.new.items ≡ out.old.items
+        ++ reply_with head.now (User outcomes.not_found_id) (with_not_found why rest.now)) }
     ensures err { OnErr result (out.new.items ≡ out.old.items) }
 {
     if head.flags == 1 {
@@ -99,7 +103,9 @@ fn not_found_message(
     rest: &[Component],
 ) -> Result<Bytes, WantMemory>
     requires { hides_results head.now ≡ false }
-    ensures { IfOk result (λ bytes. bytes ≡ reply_with head.now (User outcomes.not_found_id) (with_not_found why rest.now)) }
+    ensures { IfOk result
+        (λ bytes. bytes ≡ reply_with head.now (User outcomes.not_found_id)
+        (with_not_found why rest.now)) }
 {
     let mut writer = Writer::new(alloc, head.little, HEADER);
     put_opening(&mut writer, head, USER_EXCEPTION)?;

@@ -23,7 +23,9 @@ impl Contexts {
     /// Serves a call, and puts its reply, where it asks one, behind others. Where memory is wanting these are as they were.
     pub fn serve(&mut self, alloc: Global, call: &Call, out: &mut Vec<u8>) -> Result<(), WantMemory>
         requires { IsHeaded call.now }
-        ensures ok { OnOk result (ServesCall call.now (standing_of self.old) (standing_of self.new) out.old.items out.new.items) }
+        ensures ok { OnOk result
+            (ServesCall call.now (standing_of self.old) (standing_of self.new) out.old.items
+            out.new.items) }
         ensures err { OnErr result (out.new.items ≡ out.old.items) }
     {
         match call {
@@ -50,7 +52,9 @@ impl Contexts {
         word: &[u8],
         body: &Body,
     ) -> Result<Answer, WantMemory>
-        ensures { IfOk result (λ answer. IsDoneBy target.now word.now body.now (standing_of self.old) answer (standing_of self.new)) }
+        ensures { IfOk result
+            (λ answer. IsDoneBy target.now word.now body.now (standing_of self.old) answer
+            (standing_of self.new)) }
     {
         match target {
             None => Ok(Answer::Addressing),
@@ -69,7 +73,9 @@ impl Contexts {
         word: &[u8],
         body: &Body,
     ) -> Result<Answer, WantMemory>
-        ensures { IfOk result (λ answer. IsDoneAt reached word.now body.now (standing_of self.old) answer (standing_of self.new)) }
+        ensures { IfOk result
+            (λ answer. IsDoneAt reached word.now body.now (standing_of self.old) answer
+            (standing_of self.new)) }
     {
         match reached {
             Reached::NoKey => Ok(Answer::Outcome(no_key())),
@@ -89,7 +95,9 @@ impl Contexts {
         operation: Operation,
         body: &Body,
     ) -> Result<Answer, WantMemory>
-        ensures { IfOk result (λ answer. Operates operation context body.now (standing_of self.old) answer (standing_of self.new)) }
+        ensures { IfOk result
+            (λ answer. Operates operation context body.now (standing_of self.old) answer
+            (standing_of self.new)) }
     {
         match read_asked(alloc, operation, body) {
             Ok(asked) => self.act(alloc, context, asked),
@@ -132,7 +140,9 @@ fn put_asked(
 ) -> Result<(), WantMemory>
     requires minor { head.now.minor ≤ MINOR }
     requires request { IsFalse head.now.locate }
-    ensures ok { OnOk result (out.new.items ≡ out.old.items ++ (if asks_reply head.now then answer_bytes head.now answer else [])) }
+    ensures ok { OnOk result
+        (out.new.items ≡ out.old.items
+        ++ (if asks_reply head.now then answer_bytes head.now answer else [])) }
     ensures err { OnErr result (out.new.items ≡ out.old.items) }
 {
     if head.flags % 2 == 1 {

@@ -146,7 +146,8 @@ impl Core {
 
     /// How many calls, and bytes of calls, stood when the run took no more, if it came to that.
     pub fn filled(&self) -> Option<Full>
-        ensures { option_map (λ f. (f.arrivals, f.bytes)) result ≡ answers.filled_at self.now.history }
+        ensures { option_map (λ f. (f.arrivals, f.bytes)) result
+            ≡ answers.filled_at self.now.history }
     {
         self.run.filled()
     }
@@ -170,7 +171,8 @@ impl Core {
         ensures runs { IsRun self.now.config self.now.run self.now.limit self.now.history }
         ensures lifetime { HasLifetime self.now.config self.now.run self.now.history }
         ensures undone { LeavesNothing self.now.config self.now.run self.now.history }
-        ensures updates { KeepsUpdates self.now.config self.now.run (opened self.now) self.now.history }
+        ensures updates { KeepsUpdates self.now.config self.now.run (opened self.now)
+            self.now.history }
     {
         self.run.keeps_laws();
     }
@@ -184,7 +186,8 @@ impl Core {
         ensures runs { IsRun self.now.config self.now.run self.now.limit self.now.history }
         ensures lifetime { HasLifetime self.now.config self.now.run self.now.history }
         ensures undone { LeavesNothing self.now.config self.now.run self.now.history }
-        ensures updates { KeepsUpdates self.now.config self.now.run (opened self.now) self.now.history }
+        ensures updates { KeepsUpdates self.now.config self.now.run (opened self.now)
+            self.now.history }
     {
         self.keeps_laws();
         self.run.entries()
@@ -196,7 +199,8 @@ impl Core {
     pub fn state(&self) -> &State
         ensures counts { CountsAgree self.now result.now }
         ensures removals { RemovalsAgree self.now result.now }
-        ensures state { IsState self.now.config self.now.run (opened self.now) self.now.history result.now }
+        ensures state { IsState self.now.config self.now.run (opened self.now) self.now.history
+            result.now }
     {
         self.run.state()
     }
@@ -249,7 +253,8 @@ impl Core {
 
     /// The number of the adapter at a path, also while it is being destroyed; none where there is none.
     pub fn adapter_number(&self, path: &Path) -> Option<u32>
-        ensures { result ≡ option_map (λ n. n.number) (node_at (standing self.now.config self.now.run self.now.history).nodes path.now) }
+        ensures { result ≡ option_map (λ n. n.number)
+            (node_at (standing self.now.config self.now.run self.now.history).nodes path.now) }
     {
         self.run.adapter_number(path)
     }

@@ -14,7 +14,8 @@ use poa_base::Call;
 fn refuse(run: &mut Run, conn: u32, size: u64) -> ArriveFault
     requires conn { IsOpen run.old.history conn }
     requires size { IsSize size }
-    requires refused { (call : CallOf) × (limits.is_taken run.old.limit run.old.history size call ≡ false) }
+    requires refused { (call : CallOf)
+        × (limits.is_taken run.old.limit run.old.history size call ≡ false) }
     ensures { arriving.Refuses conn size run.old result run.new }
 {
     if let Some(full) = run.filled() {

@@ -53,7 +53,8 @@ fn flag(word: &[u8]) -> Result<Flag, WordFault>
 /// The entry of its words.
 pub fn read_entry(alloc: Global, words: &[&[u8]]) -> Result<Entry, WordFault>
     ensures value { WordGives result (entry_of (map (λ w. w.now) words.now)) }
-    ensures text { IfOk result (λ entry. (map (λ w. w.now) words.now) ≡ texts (entry_tokens entry)) }
+    ensures text { IfOk result
+        (λ entry. (map (λ w. w.now) words.now) ≡ texts (entry_tokens entry)) }
 {
     let [word, rest @ ..] = words else {
         return Err(WordFault::OutOfForm);
@@ -64,7 +65,8 @@ pub fn read_entry(alloc: Global, words: &[&[u8]]) -> Result<Entry, WordFault>
 
 fn body(alloc: Global, kind: Kind, words: &[&[u8]]) -> Result<Entry, WordFault>
     ensures value { WordGives result (body_of kind (map (λ w. w.now) words.now)) }
-    ensures text { IfOk result (λ entry. kind_word kind ∷ (map (λ w. w.now) words.now) ≡ texts (entry_tokens entry)) }
+    ensures text { IfOk result
+        (λ entry. kind_word kind ∷ (map (λ w. w.now) words.now) ≡ texts (entry_tokens entry)) }
 {
     match kind {
         Kind::Entered => {
@@ -106,7 +108,8 @@ fn body(alloc: Global, kind: Kind, words: &[&[u8]]) -> Result<Entry, WordFault>
 
 fn last_pair(words: &[&[u8]]) -> Result<(u32, u64), WordFault>
     ensures value { WordGives result (last_pair_of (map (λ w. w.now) words.now)) }
-    ensures text { IfOk result (λ p. (map (λ w. w.now) words.now) ≡ texts (n32 p.0 ∷ n64 p.1 ∷ [])) }
+    ensures text { IfOk result
+        (λ p. (map (λ w. w.now) words.now) ≡ texts (n32 p.0 ∷ n64 p.1 ∷ [])) }
 {
     let [first, rest @ ..] = words else {
         return Err(WordFault::OutOfForm);
@@ -118,7 +121,9 @@ fn last_pair(words: &[&[u8]]) -> Result<(u32, u64), WordFault>
 
 fn arrive(alloc: Global, words: &[&[u8]]) -> Result<Entry, WordFault>
     ensures value { WordGives result (arrive_of (map (λ w. w.now) words.now)) }
-    ensures text { IfOk result (λ entry. kind_word Kind.Arrive ∷ (map (λ w. w.now) words.now) ≡ texts (entry_tokens entry)) }
+    ensures text { IfOk result
+        (λ entry. kind_word Kind.Arrive ∷ (map (λ w. w.now) words.now)
+        ≡ texts (entry_tokens entry)) }
 {
     let [conn, size, rest @ ..] = words else {
         return Err(WordFault::OutOfForm);
@@ -131,7 +136,9 @@ fn arrive(alloc: Global, words: &[&[u8]]) -> Result<Entry, WordFault>
 
 fn admit(alloc: Global, words: &[&[u8]]) -> Result<Entry, WordFault>
     ensures value { WordGives result (admit_of (map (λ w. w.now) words.now)) }
-    ensures text { IfOk result (λ entry. kind_word Kind.Admit ∷ (map (λ w. w.now) words.now) ≡ texts (entry_tokens entry)) }
+    ensures text { IfOk result
+        (λ entry. kind_word Kind.Admit ∷ (map (λ w. w.now) words.now)
+        ≡ texts (entry_tokens entry)) }
 {
     let [worker, arrival, rest @ ..] = words else {
         return Err(WordFault::OutOfForm);
@@ -148,7 +155,9 @@ fn admit(alloc: Global, words: &[&[u8]]) -> Result<Entry, WordFault>
 
 fn tried(words: &[&[u8]]) -> Result<Entry, WordFault>
     ensures value { WordGives result (tried_of (map (λ w. w.now) words.now)) }
-    ensures text { IfOk result (λ entry. kind_word Kind.Tried ∷ (map (λ w. w.now) words.now) ≡ texts (entry_tokens entry)) }
+    ensures text { IfOk result
+        (λ entry. kind_word Kind.Tried ∷ (map (λ w. w.now) words.now)
+        ≡ texts (entry_tokens entry)) }
 {
     let [worker, rest @ ..] = words else {
         return Err(WordFault::OutOfForm);
@@ -160,7 +169,9 @@ fn tried(words: &[&[u8]]) -> Result<Entry, WordFault>
 
 fn incarnated(alloc: Global, words: &[&[u8]]) -> Result<Entry, WordFault>
     ensures value { WordGives result (incarnated_of (map (λ w. w.now) words.now)) }
-    ensures text { IfOk result (λ entry. kind_word Kind.Incarnated ∷ (map (λ w. w.now) words.now) ≡ texts (entry_tokens entry)) }
+    ensures text { IfOk result
+        (λ entry. kind_word Kind.Incarnated ∷ (map (λ w. w.now) words.now)
+        ≡ texts (entry_tokens entry)) }
 {
     let [worker, rest @ ..] = words else {
         return Err(WordFault::OutOfForm);
@@ -172,7 +183,9 @@ fn incarnated(alloc: Global, words: &[&[u8]]) -> Result<Entry, WordFault>
 
 fn take_out(words: &[&[u8]]) -> Result<Entry, WordFault>
     ensures value { WordGives result (take_out_of (map (λ w. w.now) words.now)) }
-    ensures text { IfOk result (λ entry. kind_word Kind.TakeOut ∷ (map (λ w. w.now) words.now) ≡ texts (entry_tokens entry)) }
+    ensures text { IfOk result
+        (λ entry. kind_word Kind.TakeOut ∷ (map (λ w. w.now) words.now)
+        ≡ texts (entry_tokens entry)) }
 {
     let [worker, activation, rest @ ..] = words else {
         return Err(WordFault::OutOfForm);
@@ -189,7 +202,8 @@ fn take_out(words: &[&[u8]]) -> Result<Entry, WordFault>
 
 fn last_removal(words: &[&[u8]]) -> Result<Removal, WordFault>
     ensures value { WordGives result (only removal_of (map (λ w. w.now) words.now)) }
-    ensures text { IfOk result (λ removal. (map (λ w. w.now) words.now) ≡ removal_word removal ∷ []) }
+    ensures text { IfOk result
+        (λ removal. (map (λ w. w.now) words.now) ≡ removal_word removal ∷ []) }
 {
     let [word, rest @ ..] = words else {
         return Err(WordFault::OutOfForm);
@@ -203,7 +217,9 @@ fn last_removal(words: &[&[u8]]) -> Result<Removal, WordFault>
 
 fn etherealized(words: &[&[u8]]) -> Result<Entry, WordFault>
     ensures value { WordGives result (etherealized_of (map (λ w. w.now) words.now)) }
-    ensures text { IfOk result (λ entry. kind_word Kind.Etherealized ∷ (map (λ w. w.now) words.now) ≡ texts (entry_tokens entry)) }
+    ensures text { IfOk result
+        (λ entry. kind_word Kind.Etherealized ∷ (map (λ w. w.now) words.now)
+        ≡ texts (entry_tokens entry)) }
 {
     let [worker, cleanup, rest @ ..] = words else {
         return Err(WordFault::OutOfForm);
@@ -316,7 +332,9 @@ fn put_take_out(
     activation: u32,
     etherealize: bool,
 ) -> Result<(), WantMemory>
-    ensures { OnOk result (out.new.items ≡ out.old.items ++ tails (body_tokens (Entry.TakeOut worker activation etherealize))) }
+    ensures { OnOk result
+        (out.new.items ≡ out.old.items
+        ++ tails (body_tokens (Entry.TakeOut worker activation etherealize))) }
 {
     put_pair(out, worker, u64::from(activation))?;
     put_word(out, Removal::of(etherealize).word())
@@ -328,7 +346,9 @@ fn put_etherealized(
     cleanup: bool,
     remaining: bool,
 ) -> Result<(), WantMemory>
-    ensures { OnOk result (out.new.items ≡ out.old.items ++ tails (body_tokens (Entry.Etherealized worker cleanup remaining))) }
+    ensures { OnOk result
+        (out.new.items ≡ out.old.items
+        ++ tails (body_tokens (Entry.Etherealized worker cleanup remaining))) }
 {
     put_number(out, u64::from(worker))?;
     put_word(out, Flag::of(cleanup).word())?;

@@ -19,8 +19,10 @@ use text_words::{WordFault, next_line, number32, words};
 /// The journal of a text. The last LF may be missing.
 pub fn read(alloc: Global, bytes: &[u8]) -> Result<Journal, JournalFault>
     ensures value { JournalReads contents result (contents_of bytes.now) }
-    ensures text { IfOk result (λ journal. lines_of bytes.now ≡ map spelled (journal_lines journal)) }
-    ensures bad { (line : ℕ) → result ≡ Err (JournalFault.BadLine line) → (journal : Journal) → IsJournal journal
+    ensures text { IfOk result
+        (λ journal. lines_of bytes.now ≡ map spelled (journal_lines journal)) }
+    ensures bad { (line : ℕ) → result ≡ Err (JournalFault.BadLine line) → (journal : Journal)
+        → IsJournal journal
         → take line (lines_of bytes.now) ≡ take line (map spelled (journal_lines journal)) → ⊥ }
     ensures back { (journal : Journal) → IsJournal journal → bytes.now ≡ journal_text journal
         → JournalReads contents result (Ok (contents journal)) }
@@ -30,7 +32,8 @@ pub fn read(alloc: Global, bytes: &[u8]) -> Result<Journal, JournalFault>
 
 fn read_lines(alloc: Global, bytes: &[u8]) -> Result<Journal, JournalFault>
     ensures value { JournalReads contents result (contents_of bytes.now) }
-    ensures text { IfOk result (λ journal. lines_of bytes.now ≡ map spelled (journal_lines journal)) }
+    ensures text { IfOk result
+        (λ journal. lines_of bytes.now ≡ map spelled (journal_lines journal)) }
 {
     let Some((head, rest)) = next_line(bytes) else {
         return Err(JournalFault::BadLine { line: 1 });
@@ -74,8 +77,10 @@ fn read_run(words: &[&[u8]]) -> Result<u32, WordFault>
 // The entries from line `first` on.
 fn read_entries(alloc: Global, text: &[u8], first: u64) -> Result<Items<Entry>, JournalFault>
     requires { first + length text.now < 2 ^ 64 }
-    ensures value { JournalReads (λ entries. entries) result (entries_of first (lines_of text.now)) }
-    ensures text { IfOk result (λ entries. lines_of text.now ≡ map spelled (map entry_tokens entries)) }
+    ensures value { JournalReads (λ entries. entries) result
+        (entries_of first (lines_of text.now)) }
+    ensures text { IfOk result
+        (λ entries. lines_of text.now ≡ map spelled (map entry_tokens entries)) }
 {
     let mut entries = Vec::new(alloc);
     let mut line = first;
@@ -91,7 +96,8 @@ fn read_entries(alloc: Global, text: &[u8], first: u64) -> Result<Items<Entry>, 
 
 /// The entry of the line with this number, which is told where it is out of the grammar.
 pub fn entry_at(alloc: Global, number: u64, line: &[u8]) -> Result<Entry, JournalFault>
-    ensures value { JournalReads (λ entry. entry) result (entry_at_of number (entry_of (words_of line.now))) }
+    ensures value { JournalReads (λ entry. entry) result
+        (entry_at_of number (entry_of (words_of line.now))) }
     ensures text { IfOk result (λ entry. line.now ≡ spelled (entry_tokens entry)) }
 {
     let words = words(alloc, line)?;

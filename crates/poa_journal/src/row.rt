@@ -36,8 +36,10 @@ fn holding(word: &[u8]) -> Result<Holding, WordFault>
 
 /// The words behind `store`, where a line is that of a row.
 pub fn row_words<'a, 'b>(words: &'b [&'a [u8]]) -> Option<&'b [&'a [u8]]>
-    ensures value { option_map (λ ws. map (λ w. w.now) ws.now) result ≡ row_words_of (map (λ w. w.now) words.now) }
-    ensures text { IfSome result (λ ws. map (λ w. w.now) words.now ≡ mark_word Mark.Store ∷ map (λ w. w.now) ws.now) }
+    ensures value { option_map (λ ws. map (λ w. w.now) ws.now) result
+        ≡ row_words_of (map (λ w. w.now) words.now) }
+    ensures text { IfSome result
+        (λ ws. map (λ w. w.now) words.now ≡ mark_word Mark.Store ∷ map (λ w. w.now) ws.now) }
 {
     match words {
         [word, rest @ ..] => {
@@ -54,7 +56,8 @@ pub fn row_words<'a, 'b>(words: &'b [&'a [u8]]) -> Option<&'b [&'a [u8]]>
 /// The id and the state of the words behind a row's path.
 pub(crate) fn read_slot(alloc: Global, words: &[&[u8]]) -> Result<(Oid, State), WordFault>
     ensures value { WordGives result (slot_behind (map (λ w. w.now) words.now)) }
-    ensures text { IfOk result (λ slot. map (λ w. w.now) words.now ≡ texts (Token.identity slot.0 ∷ state_tokens slot.1)) }
+    ensures text { IfOk result
+        (λ slot. map (λ w. w.now) words.now ≡ texts (Token.identity slot.0 ∷ state_tokens slot.1)) }
 {
     let [id, kind, rest @ ..] = words else {
         return Err(WordFault::OutOfForm);
@@ -67,7 +70,9 @@ pub(crate) fn read_slot(alloc: Global, words: &[&[u8]]) -> Result<(Oid, State), 
 
 fn read_state(alloc: Global, holding: Holding, words: &[&[u8]]) -> Result<State, WordFault>
     ensures value { WordGives result (state_behind holding (map (λ w. w.now) words.now)) }
-    ensures text { IfOk result (λ state. holding_word holding ∷ (map (λ w. w.now) words.now) ≡ texts (state_tokens state)) }
+    ensures text { IfOk result
+        (λ state. holding_word holding ∷ (map (λ w. w.now) words.now)
+        ≡ texts (state_tokens state)) }
 {
     match holding {
         Holding::Register => Ok(State::Register(last_signed(words)?)),
@@ -92,7 +97,8 @@ fn last_signed(words: &[&[u8]]) -> Result<i64, WordFault>
 // The entries of a log.
 fn read_pages(alloc: Global, words: &[&[u8]]) -> Result<Items<Bytes>, WordFault>
     ensures value { WordGives result (pages_of (map (λ w. w.now) words.now)) }
-    ensures text { IfOk result (λ pages. (map (λ w. w.now) words.now) ≡ texts (map page_token pages)) }
+    ensures text { IfOk result
+        (λ pages. (map (λ w. w.now) words.now) ≡ texts (map page_token pages)) }
 {
     let mut pages = Vec::new(alloc);
     for word in words {
@@ -107,7 +113,8 @@ fn read_pages(alloc: Global, words: &[&[u8]]) -> Result<Items<Bytes>, WordFault>
 /// Adds the line of a row without its end, to a text that stands at the start of a line. Where memory is wanting, a
 /// front of it may have been added.
 pub fn put_row(out: &mut Vec<u8>, row: Row) -> Result<(), WantMemory>
-    ensures { OnOk result (out.new.items ≡ out.old.items ++ spelled (row_tokens (row_seen row.entry))) }
+    ensures { OnOk result
+        (out.new.items ≡ out.old.items ++ spelled (row_tokens (row_seen row.entry))) }
 {
     out.extend_from_slice(Mark::Store.word())?;
     put_path(out, row.path)?;

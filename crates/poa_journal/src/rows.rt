@@ -30,8 +30,11 @@ pub struct Opening<'a> {
 pub fn read_rows(alloc: Global, text: &[u8], first: u64) -> Result<Opening<'_>, JournalFault>
     requires { first + length text.now < 2 ^ 64 }
     ensures value { JournalReads front_seen result (rows_front first None (lines_of text.now)) }
-    ensures text { IfOk result (λ front. lines_of text.now ≡ map spelled (map row_tokens (states front.store)) ++ lines_of front.rest.now) }
-    ensures bound { IfOk result (λ front. front.line + length front.rest.now ≤ first + length text.now) }
+    ensures text { IfOk result
+        (λ front. lines_of text.now
+        ≡ map spelled (map row_tokens (states front.store)) ++ lines_of front.rest.now) }
+    ensures bound { IfOk result
+        (λ front. front.line + length front.rest.now ≤ first + length text.now) }
 {
     let mut rows = Shelving::new(alloc);
     let mut line = first;

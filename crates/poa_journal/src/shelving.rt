@@ -48,7 +48,8 @@ impl<'a> Shelving<'a> {
     ) -> Result<(), JournalFault>
         requires shelving { IsShelving self.old }
         requires begun { HasBegun self.old }
-        ensures taken { Takes result line (map (λ w. w.now) words.now) (rows_in self.old) (rows_in self.new) }
+        ensures taken { Takes result line (map (λ w. w.now) words.now) (rows_in self.old)
+            (rows_in self.new) }
         ensures shelving { OnOk result (IsShelving self.new) }
         ensures begun { OnOk result (HasBegun self.new) }
     {
@@ -68,7 +69,8 @@ impl<'a> Shelving<'a> {
     ) -> Result<(), JournalFault>
         requires shelving { IsShelving self.old }
         requires begun { HasBegun self.old }
-        ensures taken { Takes result line (adapter.now ∷ map (λ w. w.now) slot.now) (rows_in self.old) (rows_in self.new) }
+        ensures taken { Takes result line (adapter.now ∷ map (λ w. w.now) slot.now)
+            (rows_in self.old) (rows_in self.new) }
         ensures shelving { OnOk result (IsShelving self.new) }
         ensures begun { OnOk result (HasBegun self.new) }
     {
@@ -96,7 +98,8 @@ impl<'a> Shelving<'a> {
     fn add(&mut self, line: u64, oid: Oid, state: State) -> Result<(), JournalFault>
         requires shelving { IsShelving self.old }
         requires begun { HasBegun self.old }
-        ensures shelves { Shelves result line ((self.old.path, oid), state) (rows_in self.old) (rows_in self.new) }
+        ensures shelves { Shelves result line ((self.old.path, oid), state) (rows_in self.old)
+            (rows_in self.new) }
         ensures shelving { OnOk result (IsShelving self.new) }
         ensures begun { OnOk result (HasBegun self.new) }
     {
@@ -120,7 +123,8 @@ impl<'a> Shelving<'a> {
         requires begun { HasBegun self.old }
         requires known { path_of word.now ≡ Some path }
         requires spells { word.now ≡ spell (Token.path path) }
-        ensures shelves { Shelves result line ((path, oid), state) (rows_in self.old) (rows_in self.new) }
+        ensures shelves { Shelves result line ((path, oid), state) (rows_in self.old)
+            (rows_in self.new) }
         ensures shelving { OnOk result (IsShelving self.new) }
         ensures begun { OnOk result (HasBegun self.new) }
     {
@@ -161,7 +165,8 @@ impl<'a> Shelving<'a> {
     fn push(&mut self, oid: Oid, state: State) -> Result<(), AllocError>
         requires shelving { IsShelving self.old }
         requires above { is_above (last_from None (rows_in self.old)) (self.old.path, oid) ≡ true }
-        ensures rows { OnOk result (rows_in self.new ≡ rows_in self.old ++ ((self.old.path, oid), state) ∷ []) }
+        ensures rows { OnOk result
+            (rows_in self.new ≡ rows_in self.old ++ ((self.old.path, oid), state) ∷ []) }
         ensures shelving { OnOk result (IsShelving self.new) }
         ensures begun { OnOk result (HasBegun self.new) }
     {
@@ -200,7 +205,8 @@ fn store_all(
 ) -> Result<(), AllocError>
     requires stored { StoresAll (states store.old) store.old }
     requires rises { Ascends None (states store.old ++ rows_at path.now waiting.old.items) }
-    ensures all { OnOk result (StoresAll (states store.old ++ rows_at path.now waiting.old.items) store.new) }
+    ensures all { OnOk result
+        (StoresAll (states store.old ++ rows_at path.now waiting.old.items) store.new) }
     ensures none_waits { OnOk result (waiting.new.items ≡ []) }
 {
     while let Some((oid, state)) = waiting.pop() {

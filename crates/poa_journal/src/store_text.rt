@@ -27,9 +27,11 @@ pub fn print_store(alloc: Global, store: &Store) -> Result<Bytes, WantMemory>
 pub fn read_store(alloc: Global, bytes: &[u8]) -> Result<Store, JournalFault>
     ensures value { JournalReads states result (rows_of bytes.now) }
     ensures text { IfOk result (λ store. lines_of bytes.now ≡ map spelled (store_lines store)) }
-    ensures bad { (line : ℕ) → result ≡ Err (JournalFault.BadLine line) → (store : Slots) → IsStore store
+    ensures bad { (line : ℕ) → result ≡ Err (JournalFault.BadLine line) → (store : Slots)
+        → IsStore store
         → take line (lines_of bytes.now) ≡ take line (map spelled (store_lines store)) → ⊥ }
-    ensures back { (store : Slots) → IsStore store → bytes.now ≡ store_text store → JournalReads states result (Ok (states store)) }
+    ensures back { (store : Slots) → IsStore store → bytes.now ≡ store_text store
+        → JournalReads states result (Ok (states store)) }
 {
     read_all(alloc, bytes)
 }

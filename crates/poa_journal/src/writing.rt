@@ -33,7 +33,9 @@ pub fn print_parts(
     opening: &Store,
     entries: &Entries,
 ) -> Result<Bytes, WantMemory>
-    ensures { IfOk result (λ text. text ≡ journal_text (record { run = run; opening = opening.now; entries = entries.now.items })) }
+    ensures { IfOk result
+        (λ text. text ≡ journal_text
+        (record { run = run; opening = opening.now; entries = entries.now.items })) }
 {
     let mut out = front(alloc, run, opening)?;
     put_kept(&mut out, entries)?;
@@ -42,7 +44,8 @@ pub fn print_parts(
 
 /// The head line, and the rows of what was stored when the run began.
 fn front(alloc: Global, run: u32, opening: &Store) -> Result<Vec<u8>, WantMemory>
-    ensures { IfOk result (λ out. out.items ≡ text_of (head_tokens run ∷ map row_tokens (states opening.now))) }
+    ensures { IfOk result
+        (λ out. out.items ≡ text_of (head_tokens run ∷ map row_tokens (states opening.now))) }
 {
     let mut out = head_line(alloc, run)?;
     let rows = opening.rows()?;
@@ -71,7 +74,8 @@ fn head_line(alloc: Global, run: u32) -> Result<Vec<u8>, WantMemory>
 }
 
 pub(crate) fn put_rows(out: &mut Vec<u8>, rows: &[Row]) -> Result<(), WantMemory>
-    ensures { OnOk result (out.new.items ≡ out.old.items ++ text_of (map row_tokens (map row_seen rows.entry.now))) }
+    ensures { OnOk result
+        (out.new.items ≡ out.old.items ++ text_of (map row_tokens (map row_seen rows.entry.now))) }
 {
     for row in rows {
         put_row(out, *row)?;
@@ -81,7 +85,8 @@ pub(crate) fn put_rows(out: &mut Vec<u8>, rows: &[Row]) -> Result<(), WantMemory
 }
 
 fn put_entries(out: &mut Vec<u8>, entries: &[Entry]) -> Result<(), WantMemory>
-    ensures { OnOk result (out.new.items ≡ out.old.items ++ text_of (map entry_tokens entries.now)) }
+    ensures { OnOk result
+        (out.new.items ≡ out.old.items ++ text_of (map entry_tokens entries.now)) }
 {
     for entry in entries {
         put_entry(out, entry)?;
@@ -91,7 +96,8 @@ fn put_entries(out: &mut Vec<u8>, entries: &[Entry]) -> Result<(), WantMemory>
 }
 
 fn put_kept(out: &mut Vec<u8>, entries: &Entries) -> Result<(), WantMemory>
-    ensures { OnOk result (out.new.items ≡ out.old.items ++ text_of (map entry_tokens entries.now.items)) }
+    ensures { OnOk result
+        (out.new.items ≡ out.old.items ++ text_of (map entry_tokens entries.now.items)) }
 {
     for place in 0..entries.len() {
         if let Some(view) = entries.get(place) {
@@ -102,7 +108,8 @@ fn put_kept(out: &mut Vec<u8>, entries: &Entries) -> Result<(), WantMemory>
 }
 
 fn put_line(out: &mut Vec<u8>, view: EntryView<'_>) -> Result<(), WantMemory>
-    ensures { OnOk result (out.new.items ≡ out.old.items ++ text_of (entry_tokens (seen view.entry) ∷ [])) }
+    ensures { OnOk result
+        (out.new.items ≡ out.old.items ++ text_of (entry_tokens (seen view.entry) ∷ [])) }
 {
     match view {
         KeptRow::Whole(entry) => put_entry(out, entry)?,

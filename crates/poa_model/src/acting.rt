@@ -21,7 +21,8 @@ fn requested(
     operation: &Bytes,
     body: &Body,
 ) -> Result<Acted, WantMemory>
-    ensures { IfOk result (λ done. act_of state operation.now body.now ≡ (done.state, done.outcome)) }
+    ensures { IfOk result
+        (λ done. act_of state operation.now body.now ≡ (done.state, done.outcome)) }
 {
     let mut servant = Servant::new(alloc, state);
     let outcome = servant.act(operation.as_slice(), body)?;
@@ -31,7 +32,8 @@ fn requested(
 
 /// What a servant with that state does on a call.
 pub fn act(alloc: Global, state: State, call: Option<&Call>) -> Result<Acted, WantMemory>
-    ensures { IfOk result (λ done. states.acted state (option_copied call.entry) ≡ (done.state, done.outcome)) }
+    ensures { IfOk result
+        (λ done. states.acted state (option_copied call.entry) ≡ (done.state, done.outcome)) }
 {
     match call {
         Some(

@@ -11,7 +11,8 @@ use poa_history::workers::admitted;
 
 /// Whether an arrival is a request or locate that stands unadmitted.
 fn is_waiting(history: &[Entry], arrival: u64) -> bool
-    ensures { result ≡ begun.is_unadmitted (reverse history.now) arrival && calls.is_message (calls.call_of (reverse history.now) arrival) }
+    ensures { result ≡ begun.is_unadmitted (reverse history.now) arrival
+        && calls.is_message (calls.call_of (reverse history.now) arrival) }
 {
     admitted(history, arrival).is_none() && is_message(call_of(history, arrival))
 }

@@ -12,7 +12,8 @@ use std::alloc::Global;
 
 /// Whether the arrival is the one that the worker is at.
 pub fn is_at_work(past: &[Entry], worker: u32, arrival: u64) -> bool
-    ensures { result ≡ begun.is_at arrival (begun.arrival_in (begun.stage (reverse past.now) worker)) }
+    ensures { result ≡ begun.is_at arrival
+        (begun.arrival_in (begun.stage (reverse past.now) worker)) }
 {
     is_at(arrival, arrival_in(stage(past, worker)))
 }
@@ -54,7 +55,8 @@ fn is_settled(
 ) -> Result<bool, WantMemory>
     ensures { IfOk result
         (λ settled. settled ≡
-        (replies.is_waiting (begun.admitted (reverse history.now) arrival) && settling.settles config.now run
+        (replies.is_waiting (begun.admitted (reverse history.now) arrival)
+        && settling.settles config.now run
         (reverse history.now) arrival)) }
 {
     if is_waiting(admitted(history, arrival)) {
@@ -72,7 +74,8 @@ pub fn decided(
     history: &[Entry],
     arrival: u64,
 ) -> Result<bool, WantMemory>
-    ensures { IfOk result (λ decided. decided ≡ replies.decided config.now run (reverse history.now) arrival) }
+    ensures { IfOk result
+        (λ decided. decided ≡ replies.decided config.now run (reverse history.now) arrival) }
 {
     let mut decided = false;
     for (i, entry) in history.iter().enumerate() {

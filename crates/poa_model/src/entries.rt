@@ -27,7 +27,9 @@ fn run_servant(
     call: Option<&Call>,
     kept: &mut Kept,
 ) -> Result<(), WantMemory>
-    ensures { OnOk result (keeps.seen kept.new ≡ keeps.with_run config.now servant (option_copied call.entry) (keeps.seen kept.old)) }
+    ensures { OnOk result
+        (keeps.seen kept.new
+        ≡ keeps.with_run config.now servant (option_copied call.entry) (keeps.seen kept.old)) }
 {
     let Some(servant) = servant else {
         return Ok(());
@@ -51,7 +53,8 @@ fn opens_with(
     activation: Option<&Activation>,
 ) -> Result<State, WantMemory>
     ensures { IfOk result
-        (λ state. state ≡ keeps.opens_with config.now (stored_at_opening store.now) (reverse places.now) (option_copied activation.entry)) }
+        (λ state. state ≡ keeps.opens_with config.now (stored_at_opening store.now)
+        (reverse places.now) (option_copied activation.entry)) }
 {
     match activation {
         Some(activation) => {
@@ -72,7 +75,9 @@ fn open_fresh(
     kept: &mut Kept,
 ) -> Result<(), WantMemory>
     ensures { OnOk result
-        (keeps.seen kept.new ≡ keeps.with_fresh config.now (stored_at_opening store.now) number (option_copied activation.entry)
+        (keeps.seen kept.new
+        ≡ keeps.with_fresh config.now (stored_at_opening store.now) number
+        (option_copied activation.entry)
         (keeps.seen kept.old)) }
 {
     let left = ServantState {
@@ -109,7 +114,9 @@ fn leave_fresh(
     activation: Option<&Activation>,
     kept: &mut Kept,
 ) -> Result<(), WantMemory>
-    ensures { OnOk result (keeps.seen kept.new ≡ keeps.with_removed config.now (option_copied activation.entry) (keeps.seen kept.old)) }
+    ensures { OnOk result
+        (keeps.seen kept.new
+        ≡ keeps.with_removed config.now (option_copied activation.entry) (keeps.seen kept.old)) }
 {
     let Some(activation) = activation else {
         return Ok(());
@@ -137,7 +144,8 @@ fn keep(
     kept: &mut Kept,
 ) -> Result<(), WantMemory>
     ensures { OnOk result
-        (keeps.seen kept.new ≡ keeps.with_entry config.now run (stored_at_opening store.now) (reverse past.now) entry.now
+        (keeps.seen kept.new
+        ≡ keeps.with_entry config.now run (stored_at_opening store.now) (reverse past.now) entry.now
         (keeps.seen kept.old)) }
 {
     match entry {
@@ -170,7 +178,9 @@ pub fn kept_of(
     store: &Store,
     history: &[Entry],
 ) -> Result<Kept, WantMemory>
-    ensures { IfOk result (λ kept. keeps.seen kept ≡ keeps.kept config.now run (stored_at_opening store.now) (reverse history.now)) }
+    ensures { IfOk result
+        (λ kept. keeps.seen kept
+        ≡ keeps.kept config.now run (stored_at_opening store.now) (reverse history.now)) }
 {
     let mut kept = Kept {
         servants: Vec::new(alloc),

@@ -57,14 +57,16 @@ fn has_room(limit: u64, past: &[Entry], size: u64) -> bool
 
 /// Whether a call is the first `shutdown`.
 fn is_first_shutdown(past: &[Entry], call: &Call) -> bool
-    ensures { IsTrue result ↔ ((legal.is_shutdown call.now ≡ true) × (legal.had_shutdown (reverse past.now) ≡ false)) }
+    ensures { IsTrue result
+        ↔ ((legal.is_shutdown call.now ≡ true) × (legal.had_shutdown (reverse past.now) ≡ false)) }
 {
     is_shutdown(call) && !had_shutdown(past)
 }
 
 /// Whether a connection may enter under that number.
 fn may_enter(past: &[Entry], conn: u32) -> bool
-    ensures { IsTrue result ↔ ((conn ≡ calls.connections (reverse past.now)) × (conn < CONNECTIONS)) }
+    ensures { IsTrue result
+        ↔ ((conn ≡ calls.connections (reverse past.now)) × (conn < CONNECTIONS)) }
 {
     conn as u64 == connections(past) && u64::from(conn) < CONNECTIONS
 }
@@ -79,7 +81,9 @@ fn may_arrive(limit: u64, past: &[Entry], conn: u32, size: u64, call: &Call) -> 
 
 /// Whether a call of this size is one too many: the run has its calls, or would pass its bytes.
 fn is_too_much(limit: u64, past: &[Entry], size: u64) -> bool
-    ensures { IsTrue result ↔ ((limit ≤ calls.arrivals (reverse past.now)) ⊎ (2 ^ 30 < calls.arrived_bytes (reverse past.now) + size)) }
+    ensures { IsTrue result
+        ↔ ((limit ≤ calls.arrivals (reverse past.now))
+        ⊎ (2 ^ 30 < calls.arrived_bytes (reverse past.now) + size)) }
 {
     limit <= arrivals(past) || !fits(past, size)
 }
@@ -100,7 +104,9 @@ fn may_collect(
     conn: u32,
     arrival: u64,
 ) -> Result<bool, WantMemory>
-    ensures { IfOk result (λ may. IsTrue may ↔ (replies.next_reply config.now run (reverse past.now) conn ≡ Some arrival)) }
+    ensures { IfOk result
+        (λ may. IsTrue may ↔ (replies.next_reply config.now run (reverse past.now) conn
+        ≡ Some arrival)) }
 {
     match slow_next_reply(alloc, config, run, past, conn)? {
         Some(next) => Ok(next == arrival),
@@ -110,7 +116,8 @@ fn may_collect(
 
 /// Whether there is such a worker, and it hasn't given the run up.
 fn is_at_work(past: &[Entry], worker: u32) -> bool
-    ensures { IsTrue result ↔ ((worker < 16) × (begun.is_abandoned (reverse past.now) worker ≡ false)) }
+    ensures { IsTrue result
+        ↔ ((worker < 16) × (begun.is_abandoned (reverse past.now) worker ≡ false)) }
 {
     worker < WORKERS && !is_abandoned(past, worker)
 }
@@ -137,7 +144,8 @@ fn is_turn(
     entry: &Entry,
 ) -> Result<bool, WantMemory>
     requires { is_of_worker entry.now ≡ true }
-    ensures { IfOk result (λ is. IsTrue is ↔ legal.IsTurn config.now run (reverse past.now) worker entry.now) }
+    ensures { IfOk result
+        (λ is. IsTrue is ↔ legal.IsTurn config.now run (reverse past.now) worker entry.now) }
 {
     if !is_at_work(past, worker) {
         return Ok(false);
@@ -157,7 +165,8 @@ pub fn may_follow(
     past: &[Entry],
     entry: &Entry,
 ) -> Result<bool, WantMemory>
-    ensures { IfOk result (λ may. IsTrue may ↔ legal.MayFollow config.now run limit (reverse past.now) entry.now) }
+    ensures { IfOk result
+        (λ may. IsTrue may ↔ legal.MayFollow config.now run limit (reverse past.now) entry.now) }
 {
     match entry {
         Entry::Entered { conn } => Ok(may_enter(past, *conn)),

@@ -36,7 +36,8 @@ fn state_found<'a>(
     servants: &'a [ServantState],
     servant: Sid,
 ) -> Option<&'a State>
-    ensures { unwrap_or (option_copied result) Fault ≡ keeps.state_in config.now (reverse servants.now) servant }
+    ensures { unwrap_or (option_copied result) Fault
+        ≡ keeps.state_in config.now (reverse servants.now) servant }
 {
     let mut found = configured_state(config, servant);
     for left in servants {
@@ -53,7 +54,8 @@ pub fn state_in(
     servants: &[ServantState],
     servant: Sid,
 ) -> Result<State, WantMemory>
-    ensures { IfOk result (λ state. state ≡ keeps.state_in config.now (reverse servants.now) servant) }
+    ensures { IfOk result
+        (λ state. state ≡ keeps.state_in config.now (reverse servants.now) servant) }
 {
     match state_found(config, servants, servant) {
         Some(state) => state.clone(),
@@ -68,7 +70,8 @@ pub fn stored_in<'a>(
     path: &Path,
     oid: &Oid,
 ) -> Option<&'a State>
-    ensures { option_copied result ≡ keeps.stored_in (stored_at_opening store.now) (reverse places.now) path.now oid.now }
+    ensures { option_copied result
+        ≡ keeps.stored_in (stored_at_opening store.now) (reverse places.now) path.now oid.now }
 {
     let mut found = store.get(path, oid);
     for left in places {

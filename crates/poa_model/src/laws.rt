@@ -11,6 +11,7 @@ ghost use Rattle.poa_model.specs.Kept.{kept, state_in, stored_in};
 pub fn left_last_is_what_is()
     ensures servants { (c : Config) (run : ℕ) (opened : Stored) (h : List Entry) (s : Sid)
         → state_in c (kept c run opened h).servants s ≡ state_of c run opened h s }
-    ensures places { (c : Config) (run : ℕ) (opened : Stored) (h : List Entry) (p : List (List ℕ)) (oid : List ℕ)
+    ensures places { (c : Config) (run : ℕ) (opened : Stored) (h : List Entry) (p : List (List ℕ))
+        (oid : List ℕ)
         → stored_in opened (kept c run opened h).places p oid ≡ stored c run opened h p oid }
 {}

@@ -7,6 +7,7 @@ ghost use Rattle.poa_model.specs.Illegal.{IsFirstIllegal};
 
 /// A history with an entry that isn't legal isn't legal, whatever follows that entry.
 pub fn one_illegal_entry_spoils_all()
-    ensures { (c : Config) (run limit : ℕ) (h : List Entry) (place : ℕ) → IsFirstIllegal c run limit h place
+    ensures { (c : Config) (run limit : ℕ) (h : List Entry) (place : ℕ)
+        → IsFirstIllegal c run limit h place
         → IsLegal c run limit (reverse h) → ⊥ }
 {}

@@ -37,7 +37,8 @@ fn is_newly_decided(
 ) -> Result<bool, WantMemory>
     requires { place < length history.now }
     ensures { IfOk result
-        (λ newly. newly ≡ (replies.is_asked (reverse history.now) conn arrival && (not (replies.is_collected (reverse history.now) arrival)
+        (λ newly. newly ≡ (replies.is_asked (reverse history.now) conn arrival
+        && (not (replies.is_collected (reverse history.now) arrival)
         && (replies.decided config.now run (reverse (take (place + 1) history.now)) arrival && not
         (replies.decided config.now run (reverse (take place history.now)) arrival))))) }
 {
@@ -61,9 +62,12 @@ fn first_decided(
 ) -> Result<Option<u64>, WantMemory>
     requires { place < length history.now }
     ensures { IfOk result
-        (λ found. found ≡ least (λ r. replies.is_asked (reverse history.now) conn r && (not (replies.is_collected (reverse history.now) r)
+        (λ found. found ≡ least
+        (λ r. replies.is_asked (reverse history.now) conn r
+        && (not (replies.is_collected (reverse history.now) r)
         && (replies.decided config.now run (reverse (take (place + 1) history.now)) r && not
-        (replies.decided config.now run (reverse (take place history.now)) r)))) (arrivals_in (reverse (take place history.now)))) }
+        (replies.decided config.now run (reverse (take place history.now)) r))))
+        (arrivals_in (reverse (take place history.now)))) }
 {
     let mut found = None;
     for arrival in 0..arrivals(&history[..place]) {
@@ -85,9 +89,12 @@ fn or_decided(
     found: Option<u64>,
 ) -> Result<Option<u64>, WantMemory>
     requires place { place < length history.now }
-    requires found { found ≡ replies.next_within config.now run (reverse history.now) conn (reverse (take place history.now)) }
+    requires found { found
+        ≡ replies.next_within config.now run (reverse history.now) conn
+        (reverse (take place history.now)) }
     ensures { IfOk result
-        (λ next. next ≡ replies.next_within config.now run (reverse history.now) conn (reverse (take (place + 1) history.now))) }
+        (λ next. next ≡ replies.next_within config.now run (reverse history.now) conn
+        (reverse (take (place + 1) history.now))) }
 {
     match found {
         Some(arrival) => Ok(Some(arrival)),
@@ -104,7 +111,8 @@ pub fn slow_next_reply(
     history: &[Entry],
     conn: u32,
 ) -> Result<Option<u64>, WantMemory>
-    ensures { IfOk result (λ next. next ≡ replies.next_reply config.now run (reverse history.now) conn) }
+    ensures { IfOk result
+        (λ next. next ≡ replies.next_reply config.now run (reverse history.now) conn) }
 {
     let mut found = None;
     for i in 0..history.len() {

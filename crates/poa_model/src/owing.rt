@@ -40,7 +40,8 @@ fn is_owed(
 ) -> Result<bool, WantMemory>
     ensures { IfOk result
         (λ owed. owed ≡
-        (replies.is_asked (reverse history.now) conn arrival && not (replies.decided config.now run (reverse history.now) arrival))) }
+        (replies.is_asked (reverse history.now) conn arrival
+        && not (replies.decided config.now run (reverse history.now) arrival))) }
 {
     if is_asked(history, conn, arrival) {
         Ok(!decided(alloc, config, run, history, arrival)?)

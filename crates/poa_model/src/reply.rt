@@ -25,7 +25,9 @@ fn reply_after_trial(
     call: Option<&Call>,
     answer: &Attempt,
 ) -> Result<Reply, WantMemory>
-    ensures { IfOk result (λ reply. reply ≡ replies.reply_tried config.now (reverse past.now) (option_copied call.entry) answer.now) }
+    ensures { IfOk result
+        (λ reply. reply ≡ replies.reply_tried config.now (reverse past.now)
+        (option_copied call.entry) answer.now) }
 {
     let settings = settings_of(alloc, config, past)?;
     reply_tried(alloc, config, &settings, call, answer)
@@ -42,7 +44,8 @@ fn reply_run(
     call: Option<&Call>,
 ) -> Result<Option<Reply>, WantMemory>
     ensures { IfOk result
-        (λ reply. reply ≡ replies.reply_run config.now run (stored_at_opening store.now) (reverse past.now) servant
+        (λ reply. reply ≡ replies.reply_run config.now run (stored_at_opening store.now)
+        (reverse past.now) servant
         (option_copied call.entry)) }
 {
     let Some(servant) = servant else {
@@ -63,8 +66,11 @@ fn reply_ran(
     past: &[Entry],
     worker: u32,
 ) -> Result<Option<Reply>, WantMemory>
-    ensures { IfOk result (λ reply. reply ≡ replies.reply_run config.now run (stored_at_opening store.now) (reverse past.now)
-        (states.servant_run config.now run (reverse past.now) (begun.stage (reverse past.now) worker))
+    ensures { IfOk result
+        (λ reply. reply ≡ replies.reply_run config.now run (stored_at_opening store.now)
+        (reverse past.now)
+        (states.servant_run config.now run (reverse past.now)
+        (begun.stage (reverse past.now) worker))
         (states.call_run (reverse past.now) (begun.stage (reverse past.now) worker))) }
 {
     let stage = stage(past, worker);
@@ -91,7 +97,8 @@ fn reply_by(
     arrival: u64,
 ) -> Result<Option<Reply>, WantMemory>
     ensures { IfOk result
-        (λ reply. reply ≡ replies.reply_by config.now run (stored_at_opening store.now) (reverse past.now) entry.now arrival) }
+        (λ reply. reply ≡ replies.reply_by config.now run (stored_at_opening store.now)
+        (reverse past.now) entry.now arrival) }
 {
     let call = call_of(past, arrival);
     match entry {
@@ -126,9 +133,11 @@ fn reply_after(
     before: Option<Reply>,
 ) -> Result<Option<Reply>, WantMemory>
     requires whole { reverse whole.now ≡ entry.now ∷ reverse past.now }
-    requires before { before ≡ replies.reply_of config.now run (stored_at_opening store.now) (reverse past.now) arrival }
+    requires before { before
+        ≡ replies.reply_of config.now run (stored_at_opening store.now) (reverse past.now) arrival }
     ensures { IfOk result
-        (λ reply. reply ≡ replies.reply_of config.now run (stored_at_opening store.now) (entry.now ∷ reverse past.now) arrival) }
+        (λ reply. reply ≡ replies.reply_of config.now run (stored_at_opening store.now)
+        (entry.now ∷ reverse past.now) arrival) }
 {
     if decided(alloc, config, run, past, arrival)? {
         return Ok(before);
@@ -150,7 +159,9 @@ pub fn slow_reply(
     history: &[Entry],
     arrival: u64,
 ) -> Result<Option<Reply>, WantMemory>
-    ensures { IfOk result (λ reply. reply ≡ replies.reply_of config.now run (stored_at_opening store.now) (reverse history.now) arrival) }
+    ensures { IfOk result
+        (λ reply. reply ≡ replies.reply_of config.now run (stored_at_opening store.now)
+        (reverse history.now) arrival) }
 {
     let mut reply = None;
     for (i, entry) in history.iter().enumerate() {

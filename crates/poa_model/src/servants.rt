@@ -38,7 +38,9 @@ fn servant_by(
     standing: &Standing,
     verdict: Option<&Verdict>,
 ) -> Result<Option<Sid>, WantMemory>
-    ensures { IfOk result (λ servant. servant ≡ states.servant_by config.now (seen standing.now) (option_copied verdict.entry)) }
+    ensures { IfOk result
+        (λ servant. servant ≡ states.servant_by config.now (seen standing.now)
+        (option_copied verdict.entry)) }
 {
     match verdict {
         Some(Verdict::Serve(number) | Verdict::Incarnate(number)) => {
@@ -57,7 +59,8 @@ pub fn servant_run(
     past: &[Entry],
     stage: Stage,
 ) -> Result<Option<Sid>, WantMemory>
-    ensures { IfOk result (λ servant. servant ≡ states.servant_run config.now run (reverse past.now) stage) }
+    ensures { IfOk result
+        (λ servant. servant ≡ states.servant_run config.now run (reverse past.now) stage) }
 {
     match stage {
         Stage::Serving(arrival) => {

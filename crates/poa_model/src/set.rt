@@ -9,7 +9,8 @@ use std::alloc::Global;
 
 /// Takes in the entries of a history that stands oldest first.
 fn follow(config: &Config, history: &[Entry], settings: &mut Settings) -> Result<(), WantMemory>
-    ensures { Tells config.now [] settings.old → OnOk result (Tells config.now (reverse history.now) settings.new) }
+    ensures { Tells config.now [] settings.old
+        → OnOk result (Tells config.now (reverse history.now) settings.new) }
 {
     for (i, entry) in history.iter().enumerate() {
         apply(config, command_done(&history[..i], entry), settings)?;

@@ -62,7 +62,9 @@ fn order_holds(
     manager: u32,
     order: Order,
 ) -> Result<bool, WantMemory>
-    ensures { IfOk result (λ holds. holds ≡ settling.order_holds config.now run (reverse history.now) arrival manager order) }
+    ensures { IfOk result
+        (λ holds. holds ≡ settling.order_holds config.now run (reverse history.now) arrival manager
+        order) }
 {
     let standing = standing_of(alloc, config, run, history)?;
     match order {
@@ -90,8 +92,10 @@ fn destroy_holds(
     arrival: u64,
     path: &[Name],
 ) -> Result<bool, WantMemory>
-    ensures { IfOk result (λ holds. holds ≡ ends.is_gone config.now (standing config.now run (reverse history.now))
-        (number_of_path (standing config.now run (settling.before_admit (reverse history.now) arrival)) path.now)) }
+    ensures { IfOk result
+        (λ holds. holds ≡ ends.is_gone config.now (standing config.now run (reverse history.now))
+        (number_of_path (standing config.now run
+        (settling.before_admit (reverse history.now) arrival)) path.now)) }
 {
     let before = standing_of(alloc, config, run, before_admit(history, arrival))?;
     let standing = standing_of(alloc, config, run, history)?;
@@ -108,7 +112,8 @@ fn settles_by(
     command: Option<&Command>,
 ) -> Result<bool, WantMemory>
     ensures { IfOk result
-        (λ holds. holds ≡ settling.settles_by config.now run (reverse history.now) arrival (option_copied command.entry)) }
+        (λ holds. holds ≡ settling.settles_by config.now run (reverse history.now) arrival
+        (option_copied command.entry)) }
 {
     match command {
         Some(Command::Manager { manager, order }) => match manager_number(config, manager) {
@@ -133,7 +138,8 @@ pub fn settles(
     history: &[Entry],
     arrival: u64,
 ) -> Result<bool, WantMemory>
-    ensures { IfOk result (λ holds. holds ≡ settling.settles config.now run (reverse history.now) arrival) }
+    ensures { IfOk result
+        (λ holds. holds ≡ settling.settles config.now run (reverse history.now) arrival) }
 {
     settles_by(
         alloc,

@@ -24,7 +24,8 @@ fn admission_of(
     worker: u32,
     arrival: u64,
 ) -> Result<Option<Entry>, WantMemory>
-    ensures { IfOk result (λ entry. entry ≡ turns.admission_of config.now run (reverse history.now) worker arrival) }
+    ensures { IfOk result
+        (λ entry. entry ≡ turns.admission_of config.now run (reverse history.now) worker arrival) }
 {
     if admitted(history, arrival).is_some() {
         return Ok(None);
@@ -50,7 +51,9 @@ fn or_admission(
     arrival: u64,
     found: Option<Entry>,
 ) -> Result<Option<Entry>, WantMemory>
-    ensures { IfOk result (λ entry. entry ≡ option_or found (turns.admission_of config.now run (reverse history.now) worker arrival)) }
+    ensures { IfOk result
+        (λ entry. entry ≡ option_or found
+        (turns.admission_of config.now run (reverse history.now) worker arrival)) }
 {
     match found {
         Some(entry) => Ok(Some(entry)),
@@ -67,7 +70,8 @@ fn admission(
     history: &[Entry],
     worker: u32,
 ) -> Result<Option<Entry>, WantMemory>
-    ensures { IfOk result (λ entry. entry ≡ turns.admission config.now run (reverse history.now) worker) }
+    ensures { IfOk result
+        (λ entry. entry ≡ turns.admission config.now run (reverse history.now) worker) }
 {
     let mut found = None;
     for arrival in 0..arrivals(history) {
@@ -85,7 +89,8 @@ fn next_free(
     history: &[Entry],
     worker: u32,
 ) -> Result<Option<Entry>, WantMemory>
-    ensures { IfOk result (λ entry. entry ≡ turns.next_of config.now run (reverse history.now) worker Free) }
+    ensures { IfOk result
+        (λ entry. entry ≡ turns.next_of config.now run (reverse history.now) worker Free) }
 {
     let standing = standing_of(alloc, config, run, history)?;
     match removal(config, &standing, worker) {
@@ -105,7 +110,8 @@ pub fn slow_next(
     history: &[Entry],
     worker: u32,
 ) -> Result<Option<Entry>, WantMemory>
-    ensures { IfOk result (λ entry. entry ≡ turns.turn config.now run (reverse history.now) worker) }
+    ensures { IfOk result
+        (λ entry. entry ≡ turns.turn config.now run (reverse history.now) worker) }
 {
     match stage(history, worker) {
         Stage::Free => next_free(alloc, config, run, store, history, worker),

@@ -24,7 +24,9 @@ pub fn slow_verdict(
     arrival: u64,
     worker: u32,
 ) -> Result<Option<Verdict>, WantMemory>
-    ensures { IfOk result (λ verdict. verdict ≡ verdicts.verdict config.now run (reverse history.now) arrival worker) }
+    ensures { IfOk result
+        (λ verdict. verdict ≡ verdicts.verdict config.now run (reverse history.now) arrival
+        worker) }
 {
     let Some(call) = call_of(history, arrival) else {
         return Ok(None);

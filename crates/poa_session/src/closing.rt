@@ -40,9 +40,11 @@ pub(crate) fn settle<R: Wait, L: Link>(
     ensures seat { IsIdle shared.now seat.new }
     ensures conn { HoldsConnection (view seat.new) conn }
     ensures settles { (g : Givens) → (view seat.old).givens ≡ Some g
-        → Settles g peer conn (view seat.old) (L.shown link.old) input (view seat.new) (L.shown link.new) end result }
+        → Settles g peer conn (view seat.old) (L.shown link.old) input (view seat.new)
+        (L.shown link.new) end result }
     ensures read { result ≡ SessionEnd.ReadFault → end ≡ SessionEnd.ReadFault }
-    ensures failed { HasCause (L.shown link.old).write_faults (L.shown link.new).write_faults (result ≡ SessionEnd.WriteFault) }
+    ensures failed { HasCause (L.shown link.old).write_faults (L.shown link.new).write_faults
+        (result ≡ SessionEnd.WriteFault) }
 {
     if !is_settling(end) {
         return end;
@@ -77,7 +79,8 @@ fn is_settling(end: SessionEnd) -> bool
 pub(crate) fn close<L: Link>(link: &mut L, peer: Peer, minor: u8, end: SessionEnd) -> bool
     requires { minor ≤ 2 }
     ensures writes { Writes (closing peer minor end) (L.shown link.old) (L.shown link.new) result }
-    ensures failed { HasCause (L.shown link.old).write_faults (L.shown link.new).write_faults (result ≡ false) }
+    ensures failed { HasCause (L.shown link.old).write_faults (L.shown link.new).write_faults
+        (result ≡ false) }
 {
     match peer {
         Peer::Client => close_client(link, minor, end),
@@ -88,8 +91,10 @@ pub(crate) fn close<L: Link>(link: &mut L, peer: Peer, minor: u8, end: SessionEn
 // The same for a client.
 fn close_client<L: Link>(link: &mut L, minor: u8, end: SessionEnd) -> bool
     requires { minor ≤ 2 }
-    ensures writes { Writes (closing_message minor end) (L.shown link.old) (L.shown link.new) result }
-    ensures failed { HasCause (L.shown link.old).write_faults (L.shown link.new).write_faults (result ≡ false) }
+    ensures writes { Writes (closing_message minor end) (L.shown link.old) (L.shown link.new)
+        result }
+    ensures failed { HasCause (L.shown link.old).write_faults (L.shown link.new).write_faults
+        (result ≡ false) }
 {
     match end {
         SessionEnd::Malformed { .. } => write_all(link, &write_error(minor)),

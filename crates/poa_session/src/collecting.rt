@@ -35,7 +35,8 @@ pub(crate) fn collect_all<R: Wait, L: Link>(
     ensures conn { HoldsConnection (view seat.new) conn }
     ensures pays { (g : Givens) → (view seat.old).givens ≡ Some g
         → Pays g conn (view seat.old) (L.shown link.old) (view seat.new) (L.shown link.new) result }
-    ensures failed { HasCause (L.shown link.old).write_faults (L.shown link.new).write_faults (result ≡ Err SessionEnd.WriteFault) }
+    ensures failed { HasCause (L.shown link.old).write_faults (L.shown link.new).write_faults
+        (result ≡ Err SessionEnd.WriteFault) }
     ensures unread { result ≢ Err SessionEnd.ReadFault }
 {
     let mut replies = Replies::new(alloc);

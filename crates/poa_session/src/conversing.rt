@@ -43,10 +43,13 @@ pub(crate) fn converse<R: Wait, L: Link>(
     ensures aids { Aids aid.old.seat aid.new.seat }
     ensures conn { HoldsConnection (view seat.new) conn }
     ensures converses { (g : Givens) → (view seat.old).givens ≡ Some g
-        → Converses g peer conn (view seat.old) (L.shown link.old) (view seat.new) (L.shown link.new) result }
+        → Converses g peer conn (view seat.old) (L.shown link.old) (view seat.new)
+        (L.shown link.new) result }
     ensures read { (g : Givens) → (view seat.old).givens ≡ Some g
-        → HasCause (L.shown link.old).read_faults (L.shown link.new).read_faults (result ≡ SessionEnd.ReadFault) }
-    ensures written { HasCause (L.shown link.old).write_faults (L.shown link.new).write_faults (result ≡ SessionEnd.WriteFault) }
+        → HasCause (L.shown link.old).read_faults (L.shown link.new).read_faults
+        (result ≡ SessionEnd.ReadFault) }
+    ensures written { HasCause (L.shown link.old).write_faults (L.shown link.new).write_faults
+        (result ≡ SessionEnd.WriteFault) }
 {
     let mut input = Input::new(alloc, peer);
     let Ok(mut buffers) = Buffers::new(alloc) else {
@@ -95,10 +98,13 @@ fn talk<R: Wait, L: Link>(
     ensures aids { Aids aid.old.seat aid.new.seat }
     ensures conn { HoldsConnection (view seat.new) conn }
     ensures converses { (g : Givens) → (view seat.old).givens ≡ Some g
-        → Converses g peer conn (view seat.old) (L.shown link.old) (view seat.new) (L.shown link.new) result }
+        → Converses g peer conn (view seat.old) (L.shown link.old) (view seat.new)
+        (L.shown link.new) result }
     ensures read { (g : Givens) → (view seat.old).givens ≡ Some g
-        → HasCause (L.shown link.old).read_faults (L.shown link.new).read_faults (result ≡ SessionEnd.ReadFault) }
-    ensures written { HasCause (L.shown link.old).write_faults (L.shown link.new).write_faults (result ≡ SessionEnd.WriteFault) }
+        → HasCause (L.shown link.old).read_faults (L.shown link.new).read_faults
+        (result ≡ SessionEnd.ReadFault) }
+    ensures written { HasCause (L.shown link.old).write_faults (L.shown link.new).write_faults
+        (result ≡ SessionEnd.WriteFault) }
 {
     for _ in rt.forever() {
         match round(rt, alloc, shared, seat, aid, link, input, buffers, conn) {

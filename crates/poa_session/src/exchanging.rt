@@ -50,11 +50,15 @@ pub(crate) fn exchange<R: Wait>(
     ensures ready { IsReady shared.now aid.new.seat }
     ensures aids { Aids aid.old.seat aid.new.seat }
     ensures conn { HoldsConnection (view seat.new) conn }
-    ensures first { (peer : Peer) (text : List ℕ) → KnowsFirst peer input.old.ear text → KnowsFirst peer input.new.ear text }
+    ensures first { (peer : Peer) (text : List ℕ) → KnowsFirst peer input.old.ear text
+        → KnowsFirst peer input.new.ear text }
     ensures exchanges { (g : Givens) → (view seat.old).givens ≡ Some g → (peer : Peer)
-        → Exchanges g peer conn (view seat.old) input.old (view seat.new) input.new replies.new.bytes.items result }
-    ensures unfaulted { (result ≢ Err (Flow.Ends end.WriteFault)) × (result ≢ Err (Flow.Ends end.ReadFault)) }
-    ensures broken { (result ≢ Err (Flow.Broke end.WriteFault)) × (result ≢ Err (Flow.Broke end.ReadFault)) }
+        → Exchanges g peer conn (view seat.old) input.old (view seat.new) input.new
+        replies.new.bytes.items result }
+    ensures unfaulted { (result ≢ Err (Flow.Ends end.WriteFault))
+        × (result ≢ Err (Flow.Ends end.ReadFault)) }
+    ensures broken { (result ≢ Err (Flow.Broke end.WriteFault))
+        × (result ≢ Err (Flow.Broke end.ReadFault)) }
 {
     replies.clear();
     let first = input.next(alloc);
@@ -91,12 +95,17 @@ fn hold<R: Wait>(
     ensures ready { IsReady shared.now aid.new.seat }
     ensures aids { Aids aid.old.seat aid.new.seat }
     ensures conn { HoldsConnection (view seat.new) conn }
-    ensures first { (peer : Peer) (text : List ℕ) → KnowsFirst peer input.old.ear text → KnowsFirst peer input.new.ear text }
+    ensures first { (peer : Peer) (text : List ℕ) → KnowsFirst peer input.old.ear text
+        → KnowsFirst peer input.new.ear text }
     ensures given { AreGiven given.old.items → OnOk result (AreGiven given.new.items) }
-    ensures holds { (g : Givens) → (view seat.old).givens ≡ Some g → (peer : Peer) (i : Intake) → IsNextTold i first input.old
-        → Holds g peer conn (view seat.old) i (view seat.new) input.new given.old.items given.new.items result }
-    ensures unfaulted { (result ≢ Err (Flow.Ends end.WriteFault)) × (result ≢ Err (Flow.Ends end.ReadFault)) }
-    ensures broken { (result ≢ Err (Flow.Broke end.WriteFault)) × (result ≢ Err (Flow.Broke end.ReadFault)) }
+    ensures holds { (g : Givens) → (view seat.old).givens ≡ Some g → (peer : Peer) (i : Intake)
+        → IsNextTold i first input.old
+        → Holds g peer conn (view seat.old) i (view seat.new) input.new given.old.items
+        given.new.items result }
+    ensures unfaulted { (result ≢ Err (Flow.Ends end.WriteFault))
+        × (result ≢ Err (Flow.Ends end.ReadFault)) }
+    ensures broken { (result ≢ Err (Flow.Broke end.WriteFault))
+        × (result ≢ Err (Flow.Broke end.ReadFault)) }
 {
     let mut news = News::besides(conn);
     let front = shared.front(rt);
@@ -131,12 +140,17 @@ fn hold_within<R: Wait>(
     ensures ready { IsReady shared.now aid.new.seat }
     ensures aids { Aids aid.old.seat aid.new.seat }
     ensures conn { HoldsConnection (view seat.new) conn }
-    ensures first { (peer : Peer) (text : List ℕ) → KnowsFirst peer input.old.ear text → KnowsFirst peer input.new.ear text }
+    ensures first { (peer : Peer) (text : List ℕ) → KnowsFirst peer input.old.ear text
+        → KnowsFirst peer input.new.ear text }
     ensures given { AreGiven given.old.items → OnOk result (AreGiven given.new.items) }
-    ensures holds { (g : Givens) → (view seat.old).givens ≡ Some g → (peer : Peer) (i : Intake) → IsNextTold i first input.old
-        → Holds g peer conn (view seat.old) i (view seat.new) input.new given.old.items given.new.items result }
-    ensures unfaulted { (result ≢ Err (Flow.Ends end.WriteFault)) × (result ≢ Err (Flow.Ends end.ReadFault)) }
-    ensures broken { (result ≢ Err (Flow.Broke end.WriteFault)) × (result ≢ Err (Flow.Broke end.ReadFault)) }
+    ensures holds { (g : Givens) → (view seat.old).givens ≡ Some g → (peer : Peer) (i : Intake)
+        → IsNextTold i first input.old
+        → Holds g peer conn (view seat.old) i (view seat.new) input.new given.old.items
+        given.new.items result }
+    ensures unfaulted { (result ≢ Err (Flow.Ends end.WriteFault))
+        × (result ≢ Err (Flow.Ends end.ReadFault)) }
+    ensures broken { (result ≢ Err (Flow.Broke end.WriteFault))
+        × (result ≢ Err (Flow.Broke end.ReadFault)) }
 {
     if let Some(end) = look_within(rt, shared, front, seat) {
         return Err(Flow::Ends(end));

@@ -35,8 +35,10 @@ pub(crate) fn listen_within<R: Wait>(
     requires next { Comes first input.old }
     ensures seat { IsIdle shared.now seat.new }
     ensures conn { HoldsConnection (view seat.new) conn }
-    ensures first { (peer : Peer) (text : List ℕ) → KnowsFirst peer input.old.ear text → KnowsFirst peer input.new.ear text }
-    ensures listens { (g : Givens) → (view seat.old).givens ≡ Some g → (peer : Peer) (i : Intake) → IsNextTold i first input.old
+    ensures first { (peer : Peer) (text : List ℕ) → KnowsFirst peer input.old.ear text
+        → KnowsFirst peer input.new.ear text }
+    ensures listens { (g : Givens) → (view seat.old).givens ≡ Some g → (peer : Peer) (i : Intake)
+        → IsNextTold i first input.old
         → Listens g peer conn (view seat.old) i (view seat.new) input.new result }
     ensures unwritten { (result ≢ Err SessionEnd.WriteFault) × (result ≢ Err SessionEnd.ReadFault) }
 {
@@ -67,10 +69,12 @@ fn hear<R: Wait>(
     requires conn { HoldsConnection (view seat.old) conn }
     ensures seat { IsIdle shared.now seat.new }
     ensures conn { HoldsConnection (view seat.new) conn }
-    ensures first { (peer : Peer) (text : List ℕ) → KnowsFirst peer input.old.ear text → KnowsFirst peer input.new.ear text }
+    ensures first { (peer : Peer) (text : List ℕ) → KnowsFirst peer input.old.ear text
+        → KnowsFirst peer input.new.ear text }
     ensures hears { (g : Givens) → (view seat.old).givens ≡ Some g → (peer : Peer)
         → Hears g peer conn (view seat.old) input.old (view seat.new) input.new result }
-    ensures unwritten { (result ≢ Progress.Ends SessionEnd.WriteFault) × (result ≢ Progress.Ends SessionEnd.ReadFault) }
+    ensures unwritten { (result ≢ Progress.Ends SessionEnd.WriteFault)
+        × (result ≢ Progress.Ends SessionEnd.ReadFault) }
 {
     let told = input.next(alloc);
     take(rt, shared, front, seat, told, conn, news)
@@ -91,9 +95,11 @@ fn take<R: Wait>(
     requires size { IsSized told }
     ensures seat { IsIdle shared.now seat.new }
     ensures conn { HoldsConnection (view seat.new) conn }
-    ensures hears { (g : Givens) → (view seat.old).givens ≡ Some g → (peer : Peer) (i j : Intake) → IsNextTold i told j
+    ensures hears { (g : Givens) → (view seat.old).givens ≡ Some g → (peer : Peer) (i j : Intake)
+        → IsNextTold i told j
         → Hears g peer conn (view seat.old) i (view seat.new) j result }
-    ensures unwritten { (result ≢ Progress.Ends SessionEnd.WriteFault) × (result ≢ Progress.Ends SessionEnd.ReadFault) }
+    ensures unwritten { (result ≢ Progress.Ends SessionEnd.WriteFault)
+        × (result ≢ Progress.Ends SessionEnd.ReadFault) }
 {
     let Ok(told) = told else {
         return Progress::Ends(SessionEnd::WantMemory);
@@ -125,8 +131,10 @@ fn arrive<R: Wait>(
     requires size { IsSize size }
     ensures seat { IsIdle shared.now seat.new }
     ensures conn { HoldsConnection (view seat.new) conn }
-    ensures arrives { (g : Givens) → (view seat.old).givens ≡ Some g → AsArrived g conn call size (view seat.old) (view seat.new) result }
-    ensures unwritten { (result ≢ Progress.Ends SessionEnd.WriteFault) × (result ≢ Progress.Ends SessionEnd.ReadFault) }
+    ensures arrives { (g : Givens) → (view seat.old).givens ≡ Some g
+        → AsArrived g conn call size (view seat.old) (view seat.new) result }
+    ensures unwritten { (result ≢ Progress.Ends SessionEnd.WriteFault)
+        × (result ≢ Progress.Ends SessionEnd.ReadFault) }
 {
     match shared.arrive_within(rt, front, seat, conn, call, size) {
         Ok(_) => Progress::On,

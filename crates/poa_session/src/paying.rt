@@ -32,8 +32,10 @@ pub(crate) fn pay<R: Wait, L: Link>(
     ensures seat { IsIdle shared.now seat.new }
     ensures conn { HoldsConnection (view seat.new) conn }
     ensures pays { (g : Givens) → (view seat.old).givens ≡ Some g
-        → PaysAll g conn (view seat.old) (L.shown link.old) (view seat.new) (L.shown link.new) result }
-    ensures failed { HasCause (L.shown link.old).write_faults (L.shown link.new).write_faults (result ≡ Err SessionEnd.WriteFault) }
+        → PaysAll g conn (view seat.old) (L.shown link.old) (view seat.new) (L.shown link.new)
+        result }
+    ensures failed { HasCause (L.shown link.old).write_faults (L.shown link.new).write_faults
+        (result ≡ Err SessionEnd.WriteFault) }
     ensures unread { result ≢ Err SessionEnd.ReadFault }
 {
     for _ in rt.forever() {
@@ -69,9 +71,12 @@ fn given_up(end: Option<SessionEnd>) -> Option<u32>
 fn look<R: Wait>(rt: &R, shared: &Shared, seat: &mut Seat) -> Option<SessionEnd>
     requires seat { IsIdle shared.now seat.old }
     ensures seat { IsIdle shared.now seat.new }
-    ensures looks { (g : Givens) → (view seat.old).givens ≡ Some g → Looks g (view seat.old) (view seat.new) result }
-    ensures holds { (c : ℕ) → HoldsConnection (view seat.old) c → HoldsConnection (view seat.new) c }
-    ensures unfaulted { (result ≢ Some SessionEnd.WriteFault) × (result ≢ Some SessionEnd.ReadFault) }
+    ensures looks { (g : Givens) → (view seat.old).givens ≡ Some g
+        → Looks g (view seat.old) (view seat.new) result }
+    ensures holds { (c : ℕ) → HoldsConnection (view seat.old) c
+        → HoldsConnection (view seat.new) c }
+    ensures unfaulted { (result ≢ Some SessionEnd.WriteFault)
+        × (result ≢ Some SessionEnd.ReadFault) }
 {
     let front = shared.front(rt);
     look_within(rt, shared, &front, seat)
@@ -86,9 +91,12 @@ pub(crate) fn look_within<R: Wait>(
 ) -> Option<SessionEnd>
     requires seat { IsIdle shared.now seat.old }
     ensures seat { IsIdle shared.now seat.new }
-    ensures looks { (g : Givens) → (view seat.old).givens ≡ Some g → Looks g (view seat.old) (view seat.new) result }
-    ensures holds { (c : ℕ) → HoldsConnection (view seat.old) c → HoldsConnection (view seat.new) c }
-    ensures unfaulted { (result ≢ Some SessionEnd.WriteFault) × (result ≢ Some SessionEnd.ReadFault) }
+    ensures looks { (g : Givens) → (view seat.old).givens ≡ Some g
+        → Looks g (view seat.old) (view seat.new) result }
+    ensures holds { (c : ℕ) → HoldsConnection (view seat.old) c
+        → HoldsConnection (view seat.new) c }
+    ensures unfaulted { (result ≢ Some SessionEnd.WriteFault)
+        × (result ≢ Some SessionEnd.ReadFault) }
 {
     match shared.phase_within(rt, front, seat) {
         Phase::Running | Phase::Full => None,

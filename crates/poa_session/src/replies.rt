@@ -39,7 +39,8 @@ impl Replies {
     /// Spells those that were given behind the bytes. Where memory is wanting only some of them may stand there.
     pub(crate) fn spell(&mut self, alloc: Global) -> Result<(), WantMemory>
         requires { AreGiven self.old.given.items }
-        ensures { OnOk result (self.new.bytes.items ≡ self.old.bytes.items ++ told_all self.old.given.items) }
+        ensures { OnOk result
+            (self.new.bytes.items ≡ self.old.bytes.items ++ told_all self.old.given.items) }
     {
         spell_all(alloc, &mut self.bytes, &self.given)
     }

@@ -47,10 +47,13 @@ pub(crate) fn round<R: Wait, L: Link>(
     ensures conn { HoldsConnection (view seat.new) conn }
     ensures room { length buffers.new.piece.items ≡ length buffers.old.piece.items }
     ensures rounds { (g : Givens) → (view seat.old).givens ≡ Some g → (peer : Peer)
-        → Rounds g peer conn (view seat.old) (L.shown link.old) input.old (view seat.new) (L.shown link.new) input.new result }
+        → Rounds g peer conn (view seat.old) (L.shown link.old) input.old (view seat.new)
+        (L.shown link.new) input.new result }
     ensures read { (g : Givens) → (view seat.old).givens ≡ Some g
-        → HasCause (L.shown link.old).read_faults (L.shown link.new).read_faults (result ≡ Flow.Ends end.ReadFault) }
-    ensures written { HasCause (L.shown link.old).write_faults (L.shown link.new).write_faults (result ≡ Flow.Broke end.WriteFault) }
+        → HasCause (L.shown link.old).read_faults (L.shown link.new).read_faults
+        (result ≡ Flow.Ends end.ReadFault) }
+    ensures written { HasCause (L.shown link.old).write_faults (L.shown link.new).write_faults
+        (result ≡ Flow.Broke end.WriteFault) }
     ensures ends { (result ≢ Flow.Ends end.WriteFault) × (result ≢ Flow.Broke end.ReadFault) }
 {
     // Before it looks: what is decided or shut from here on ends the read that waits.

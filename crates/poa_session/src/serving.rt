@@ -35,7 +35,8 @@ pub fn serve_link<R: Wait, L: Link>(
     requires aid { IsReady shared.now aid.old.seat }
     ensures seat { IsIdle shared.now seat.new }
     ensures served { (g : Givens) → (view seat.old).givens ≡ Some g
-        → Served g peers.Client (view seat.old) (view seat.new) (L.shown link.old) (L.shown link.new) result }
+        → Served g peers.Client (view seat.old) (view seat.new) (L.shown link.old)
+        (L.shown link.new) result }
     ensures ready { IsReady shared.now aid.new.seat }
     ensures aids { Aids aid.old.seat aid.new.seat }
 {
@@ -53,7 +54,8 @@ pub fn serve_admin<R: Wait, L: Link>(
     requires seat { IsIdle shared.now seat.old }
     ensures seat { IsIdle shared.now seat.new }
     ensures served { (g : Givens) → (view seat.old).givens ≡ Some g
-        → Served g peers.Administrator (view seat.old) (view seat.new) (L.shown link.old) (L.shown link.new) result }
+        → Served g peers.Administrator (view seat.old) (view seat.new) (L.shown link.old)
+        (L.shown link.new) result }
 {
     let mut aid = Aid::none();
     serve(rt, alloc, shared, seat, &mut aid, link, Peer::Administrator)
@@ -73,7 +75,8 @@ fn serve<R: Wait, L: Link>(
     requires aid { IsReady shared.now aid.old.seat }
     ensures seat { IsIdle shared.now seat.new }
     ensures served { (g : Givens) → (view seat.old).givens ≡ Some g
-        → Served g peer (view seat.old) (view seat.new) (L.shown link.old) (L.shown link.new) result }
+        → Served g peer (view seat.old) (view seat.new) (L.shown link.old) (L.shown link.new)
+        result }
     ensures ready { IsReady shared.now aid.new.seat }
     ensures aids { Aids aid.old.seat aid.new.seat }
 {

@@ -21,8 +21,10 @@ pub(crate) fn take_in<L: Link>(
     before: Exchanged,
 ) -> Option<SessionEnd>
     requires { 0 < length buffer.old }
-    ensures takes { Takes input.old input.new before.have (L.shown link.old) (L.shown link.new) result }
-    ensures failed { HasCause (L.shown link.old).read_faults (L.shown link.new).read_faults (result ≡ Some SessionEnd.ReadFault) }
+    ensures takes { Takes input.old input.new before.have (L.shown link.old) (L.shown link.new)
+        result }
+    ensures failed { HasCause (L.shown link.old).read_faults (L.shown link.new).read_faults
+        (result ≡ Some SessionEnd.ReadFault) }
     ensures unwritten { result ≢ Some SessionEnd.WriteFault }
     ensures buffer { length buffer.new ≡ length buffer.old }
 {
@@ -50,7 +52,8 @@ fn read_front<L: Link>(link: &mut L, buffer: &mut [u8], most: u64, is_owed: bool
     ensures within { IsWithin result (length buffer.old) }
     ensures most { IsWithin result most }
     ensures bytes { IsRead result buffer.new (L.shown link.old) (L.shown link.new) }
-    ensures failed { HasCause (L.shown link.old).read_faults (L.shown link.new).read_faults (result ≡ Took.Failed) }
+    ensures failed { HasCause (L.shown link.old).read_faults (L.shown link.new).read_faults
+        (result ≡ Took.Failed) }
     ensures buffer { length buffer.new ≡ length buffer.old }
 {
     let room = most.min(buffer.len() as u64) as usize;

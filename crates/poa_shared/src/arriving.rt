@@ -27,7 +27,8 @@ impl Shared {
         requires conn { HoldsConnection (view seat.old) conn }
         requires size { IsSize size }
         ensures seat { IsIdle self.now seat.new }
-        ensures arrived { Event (λ old new. answers.Arrives conn call size old result new) (view seat.old) (view seat.new) }
+        ensures arrived { Event (λ old new. answers.Arrives conn call size old result new)
+            (view seat.old) (view seat.new) }
         ensures holds { HoldsConnection (view seat.new) conn }
     {
         let front = self.front(rt);
@@ -51,7 +52,8 @@ impl Shared {
         requires conn { HoldsConnection (view seat.old) conn }
         requires size { IsSize size }
         ensures seat { IsIdle self.now seat.new }
-        ensures arrived { Event (λ old new. answers.Arrives conn call size old result new) (view seat.old) (view seat.new) }
+        ensures arrived { Event (λ old new. answers.Arrives conn call size old result new)
+            (view seat.old) (view seat.new) }
         ensures holds { HoldsConnection (view seat.new) conn }
     {
         let mut core = self.lock.take(rt, seat);

@@ -18,7 +18,8 @@ impl Shared {
         requires conn { Owns (view seat.old) conn }
         ensures seat { IsIdle self.now seat.new }
         ensures collected { Event (CollectsFitting conn result) (view seat.old) (view seat.new) }
-        ensures holds { (c : ℕ) → HoldsConnection (view seat.old) c → HoldsConnection (view seat.new) c }
+        ensures holds { (c : ℕ) → HoldsConnection (view seat.old) c
+            → HoldsConnection (view seat.new) c }
     {
         let front = self.front(rt);
         self.collect_within(rt, &front, seat, conn)
@@ -36,7 +37,8 @@ impl Shared {
         requires conn { Owns (view seat.old) conn }
         ensures seat { IsIdle self.now seat.new }
         ensures collected { Event (CollectsFitting conn result) (view seat.old) (view seat.new) }
-        ensures holds { (c : ℕ) → HoldsConnection (view seat.old) c → HoldsConnection (view seat.new) c }
+        ensures holds { (c : ℕ) → HoldsConnection (view seat.old) c
+            → HoldsConnection (view seat.new) c }
     {
         let mut core = self.lock.take(rt, seat);
         core.is_legal();

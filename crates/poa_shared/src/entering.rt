@@ -20,7 +20,8 @@ impl Shared {
         requires seat { IsIdle self.now seat.old }
         ensures seat { IsIdle self.now seat.new }
         ensures given { HasGivens (view seat.old) }
-        ensures entered { Event (λ old new. answers.Enters old result new) (view seat.old) (view seat.new) }
+        ensures entered { Event (λ old new. answers.Enters old result new) (view seat.old)
+            (view seat.new) }
         ensures holds { IfOk result (HoldsConnection (view seat.new)) }
     {
         let _front = self.front(rt);
@@ -37,7 +38,8 @@ impl Shared {
         requires seat { IsIdle self.now seat.old }
         requires conn { HoldsConnection (view seat.old) conn }
         ensures seat { IsIdle self.now seat.new }
-        ensures left { Event (λ old new. new ≡ with_entry (Left conn) old) (view seat.old) (view seat.new) }
+        ensures left { Event (λ old new. new ≡ with_entry (Left conn) old) (view seat.old)
+            (view seat.new) }
     {
         let front = self.front(rt);
         let mut core = self.lock.take(rt, seat);
@@ -54,7 +56,8 @@ impl Shared {
         requires seat { IsIdle self.now seat.old }
         requires worker { worker < 16 }
         ensures seat { IsIdle self.now seat.new }
-        ensures abandoned { Event (λ old new. answers.Abandons worker old new) (view seat.old) (view seat.new) }
+        ensures abandoned { Event (λ old new. answers.Abandons worker old new) (view seat.old)
+            (view seat.new) }
     {
         let front = self.front(rt);
         let mut core = self.lock.take(rt, seat);
@@ -70,8 +73,10 @@ impl Shared {
     pub fn phase<R: Wait>(&self, rt: &R, seat: &mut Seat) -> Phase
         requires { IsIdle self.now seat.old }
         ensures seat { IsIdle self.now seat.new }
-        ensures phase { Event (λ old new. (new ≡ old) × (result ≡ phase_of old.history)) (view seat.old) (view seat.new) }
-        ensures holds { (c : ℕ) → HoldsConnection (view seat.old) c → HoldsConnection (view seat.new) c }
+        ensures phase { Event (λ old new. (new ≡ old) × (result ≡ phase_of old.history))
+            (view seat.old) (view seat.new) }
+        ensures holds { (c : ℕ) → HoldsConnection (view seat.old) c
+            → HoldsConnection (view seat.new) c }
     {
         let front = self.front(rt);
         self.phase_within(rt, &front, seat)
@@ -81,8 +86,10 @@ impl Shared {
     pub fn phase_within<R: Wait>(&self, rt: &R, _front: &Front<'_>, seat: &mut Seat) -> Phase
         requires { IsIdle self.now seat.old }
         ensures seat { IsIdle self.now seat.new }
-        ensures phase { Event (λ old new. (new ≡ old) × (result ≡ phase_of old.history)) (view seat.old) (view seat.new) }
-        ensures holds { (c : ℕ) → HoldsConnection (view seat.old) c → HoldsConnection (view seat.new) c }
+        ensures phase { Event (λ old new. (new ≡ old) × (result ≡ phase_of old.history))
+            (view seat.old) (view seat.new) }
+        ensures holds { (c : ℕ) → HoldsConnection (view seat.old) c
+            → HoldsConnection (view seat.new) c }
     {
         let core = self.lock.take(rt, seat);
         core.is_legal();

@@ -48,7 +48,8 @@ fn help_within<R: Wait>(
 )
     requires { IsIdle shared.now seat.old }
     ensures seat { IsIdle shared.now seat.new }
-    ensures helps { (g : Givens) → (view seat.old).givens ≡ Some g → Helps (view seat.old) (view seat.new) }
+    ensures helps { (g : Givens) → (view seat.old).givens ≡ Some g
+        → Helps (view seat.old) (view seat.new) }
 {
     for _ in 0..TURNS {
         match shared.step_running(rt, front, seat, HELPED, news) {

@@ -31,7 +31,8 @@ impl Shared {
     /// Shares a core, and gives its first seat, from which all others are split.
     pub fn new(alloc: Global, core: Core) -> Result<(Shared, Seat), WantMemory>
         ensures seat { IfOk result (λ made. IsIdle made.0 made.1) }
-        ensures view { IfOk result (λ made. view made.1 ≡ first_view (givens_of core) (reverse core.history)) }
+        ensures view { IfOk result
+            (λ made. view made.1 ≡ first_view (givens_of core) (reverse core.history)) }
     {
         let belfry = Belfry::new(alloc)?;
         let (lock, seat) = SeatLock::new(alloc, core)?;

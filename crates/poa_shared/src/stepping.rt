@@ -18,7 +18,8 @@ impl Shared {
         requires seat { IsIdle self.now seat.old }
         requires worker { worker < 16 }
         ensures seat { IsIdle self.now seat.new }
-        ensures stepped { Event (λ old new. answers.Steps worker old result new) (view seat.old) (view seat.new) }
+        ensures stepped { Event (λ old new. answers.Steps worker old result new) (view seat.old)
+            (view seat.new) }
     {
         let mut news = News::none();
         let front = self.front(rt);
@@ -40,7 +41,8 @@ impl Shared {
         requires seat { IsIdle self.now seat.old }
         requires worker { worker < 16 }
         ensures seat { IsIdle self.now seat.new }
-        ensures stepped { Event (λ old new. answers.Steps worker old result new) (view seat.old) (view seat.new) }
+        ensures stepped { Event (λ old new. answers.Steps worker old result new) (view seat.old)
+            (view seat.new) }
     {
         let mut core = self.lock.take(rt, seat);
         core.is_legal();
@@ -62,7 +64,8 @@ impl Shared {
         requires seat { IsIdle self.now seat.old }
         requires worker { worker < 16 }
         ensures seat { IsIdle self.now seat.new }
-        ensures stepped { Event (λ old new. StepsRunning worker old result new) (view seat.old) (view seat.new) }
+        ensures stepped { Event (λ old new. StepsRunning worker old result new) (view seat.old)
+            (view seat.new) }
     {
         let mut core = self.lock.take(rt, seat);
         core.is_legal();

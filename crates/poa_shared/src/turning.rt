@@ -30,7 +30,8 @@ fn turns_within<R: Wait>(
     requires seat { IsIdle shared.now seat.old }
     requires worker { worker < 16 }
     ensures seat { IsIdle shared.now seat.new }
-    ensures turned { (g : Givens) → (view seat.old).givens ≡ Some g → Pauses g worker (view seat.old) result (view seat.new) }
+    ensures turned { (g : Givens) → (view seat.old).givens ≡ Some g
+        → Pauses g worker (view seat.old) result (view seat.new) }
 {
     for _ in 0..TURNS {
         match shared.step_within(rt, front, seat, worker, news)? {
@@ -58,7 +59,8 @@ pub fn take_turns<R: Wait>(
     requires seat { IsIdle shared.now seat.old }
     requires worker { worker < 16 }
     ensures seat { IsIdle shared.now seat.new }
-    ensures turned { (g : Givens) → (view seat.old).givens ≡ Some g → Pauses g worker (view seat.old) result (view seat.new) }
+    ensures turned { (g : Givens) → (view seat.old).givens ≡ Some g
+        → Pauses g worker (view seat.old) result (view seat.new) }
 {
     let mut news = News::none();
     let front = shared.front(rt);

@@ -26,7 +26,8 @@ pub fn work<R: Wait, G: Gate>(
     requires seat { IsIdle shared.now seat.old }
     requires worker { worker < 16 }
     ensures seat { IsIdle shared.now seat.new }
-    ensures worked { (g : Givens) → (view seat.old).givens ≡ Some g → Worked g worker (view seat.old) (view seat.new) result }
+    ensures worked { (g : Givens) → (view seat.old).givens ≡ Some g
+        → Worked g worker (view seat.old) (view seat.new) result }
 {
     for _ in rt.forever() {
         let heard = shared.listen(seat, Bell::Worker(worker));

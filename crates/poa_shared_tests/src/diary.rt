@@ -51,7 +51,8 @@ impl Diary {
 
     /// Adds the first entry of a new writer, and gives the writer's number.
     pub fn enter(&mut self) -> Result<u64, WantMemory>
-        ensures ok { IfOk result (λ writer. self.new.notes.items ≡ self.old.notes.items ++ note writer 0 ∷ []) }
+        ensures ok { IfOk result
+            (λ writer. self.new.notes.items ≡ self.old.notes.items ++ note writer 0 ∷ []) }
         ensures fresh { IfOk result (IsNew self.old.notes.items) }
         ensures err { OnErr result (self.new.notes.items ≡ self.old.notes.items) }
     {

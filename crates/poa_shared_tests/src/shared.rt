@@ -17,7 +17,9 @@ pub fn enter<R: Wait>(
     ensures free { IsSeatOf lock.now seat.new × IsFree seat.new }
     ensures ok { IfOk result (λ r. Makes (view seat.old) (note r.0 0) r.1 (view seat.new)) }
     ensures writer { IfOk result (λ r. IsWriter (view seat.new) r.0) }
-    ensures err { OnErr result (((view seat.new).mine ≡ (view seat.old).mine) × ((view seat.new).room ≡ (view seat.old).room)) }
+    ensures err { OnErr result
+        (((view seat.new).mine ≡ (view seat.old).mine)
+        × ((view seat.new).room ≡ (view seat.old).room)) }
 {
     let mut diary = lock.take(rt, seat);
     let at = diary.notes.len() as u64;
@@ -38,7 +40,9 @@ pub fn write<R: Wait>(
     ensures free { IsSeatOf lock.now seat.new × IsFree seat.new }
     ensures ok { IfOk result (λ at. Makes (view seat.old) entry at (view seat.new)) }
     ensures writer { IsWriter (view seat.new) entry.writer }
-    ensures err { OnErr result (((view seat.new).mine ≡ (view seat.old).mine) × ((view seat.new).room ≡ (view seat.old).room)) }
+    ensures err { OnErr result
+        (((view seat.new).mine ≡ (view seat.old).mine)
+        × ((view seat.new).room ≡ (view seat.old).room)) }
 {
     let mut diary = lock.take(rt, seat);
     let at = diary.notes.len() as u64;
@@ -53,7 +57,8 @@ pub fn count<R: Wait>(rt: &R, lock: &SeatLock<Diary>, seat: &mut Seat<Diary>) ->
     requires { IsSeatOf lock.now seat.old × IsFree seat.old }
     ensures free { IsSeatOf lock.now seat.new × IsFree seat.new }
     ensures count { result ≡ length (view seat.new).seen }
-    ensures same { ((view seat.new).mine ≡ (view seat.old).mine) × ((view seat.new).room ≡ (view seat.old).room) }
+    ensures same { ((view seat.new).mine ≡ (view seat.old).mine)
+        × ((view seat.new).room ≡ (view seat.old).room) }
     ensures writer { (w : ℕ) → IsWriter (view seat.old) w → IsWriter (view seat.new) w }
 {
     let diary = lock.take(rt, seat);

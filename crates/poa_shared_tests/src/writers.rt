@@ -29,7 +29,8 @@ pub fn write_one<R: Wait>(
     requires { IsSeatOf lock.now seat.old × IsFree seat.old }
     ensures free { IsSeatOf lock.now seat.new × IsFree seat.new }
     ensures room { (view seat.new).room ≡ (view seat.old).room }
-    ensures made { IfOk result (λ made. (view seat.new).mine ≡ (view seat.old).mine ++ made.positions.items) }
+    ensures made { IfOk result
+        (λ made. (view seat.new).mine ≡ (view seat.old).mine ++ made.positions.items) }
 {
     let mut positions = Vec::new(alloc);
     let (writer, first) = enter(rt, lock, seat)?;
@@ -66,14 +67,17 @@ pub fn write_all<R: Threads + Wait + Sync>(
         rt,
         move || -> (Seat<Diary>, Result<Made, WantMemory>)
             requires { IsSeatOf lock.now other × IsFree other }
-            ensures { IsSeatOf lock.entry.now result.0 × IsFree result.0 × ((view result.0).room ≡ (view other).room) }
+            ensures { IsSeatOf lock.entry.now result.0 × IsFree result.0
+                × ((view result.0).room ≡ (view other).room) }
         {
             let made = write_one(rt, alloc, lock, &mut other, notes);
             (other, made)
         },
         move || -> (Seat<Diary>, Result<Vec<Made>, WantMemory>)
-            requires { IsSync R.row × IsSeatOf lock.now seat × IsFree seat × (0 < writers) × (writers ≤ (view seat).room + 1) }
-            ensures { IsSeatOf lock.entry.now result.0 × IsFree result.0 × ((view result.0).room ≡ (view seat).room) }
+            requires { IsSync R.row × IsSeatOf lock.now seat × IsFree seat × (0 < writers)
+                × (writers ≤ (view seat).room + 1) }
+            ensures { IsSeatOf lock.entry.now result.0 × IsFree result.0
+                × ((view result.0).room ≡ (view seat).room) }
         { write_all(rt, alloc, lock, seat, writers - 1, notes) },
     );
     lock.join(&mut seat, other);

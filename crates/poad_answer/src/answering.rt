@@ -33,9 +33,12 @@ pub(crate) fn answer<S: Source, K: Sink>(
 ) -> Status
     requires patient { S.is_waiting source.old ≡ false }
     requires rules { KeepsRules config }
-    ensures answers { RunAnswers config result (S.left source.old) (S.left source.new) (K.held sink.old) (K.held sink.new) }
-    ensures read { HasCause (S.read_faults source.old) (S.read_faults source.new) (result ≡ Status.ReadFault) }
-    ensures written { HasCause (K.write_faults sink.old) (K.write_faults sink.new) (result ≡ Status.WriteFault) }
+    ensures answers { RunAnswers config result (S.left source.old) (S.left source.new)
+        (K.held sink.old) (K.held sink.new) }
+    ensures read { HasCause (S.read_faults source.old) (S.read_faults source.new)
+        (result ≡ Status.ReadFault) }
+    ensures written { HasCause (K.write_faults sink.old) (K.write_faults sink.new)
+        (result ≡ Status.WriteFault) }
 {
     let Ok(mut buffer) = Vec::from_elem(alloc, 0u8, PIECE) else {
         return Status::WantMemory;
@@ -72,7 +75,8 @@ fn read_front<S: Source>(source: &mut S, buffer: &mut [u8], most: u64) -> Took
     ensures most { IsWithin result most }
     ensures bytes { IfTold (S.left source.old) (S.left source.new) (Delivers result buffer.new) }
     ensures patient { S.is_waiting source.new ≡ false }
-    ensures failed { HasCause (S.read_faults source.old) (S.read_faults source.new) (result ≡ Took.Failed) }
+    ensures failed { HasCause (S.read_faults source.old) (S.read_faults source.new)
+        (result ≡ Took.Failed) }
     ensures loud { result ≢ Took.Quiet }
 {
     let room = most.min(buffer.len() as u64) as usize;
@@ -89,8 +93,10 @@ fn take_piece<K: Sink>(
     requires room { reach service.old.framer + length piece.now < 2 ^ 62 }
     requires delivered { service.old.replies.items ≡ [] }
     requires ready { IsReady service.old }
-    ensures takes { TakesPiece result piece.now service.old service.new (K.held sink.old) (K.held sink.new) }
-    ensures written { HasCause (K.write_faults sink.old) (K.write_faults sink.new) (result ≡ Some Status.WriteFault) }
+    ensures takes { TakesPiece result piece.now service.old service.new (K.held sink.old)
+        (K.held sink.new) }
+    ensures written { HasCause (K.write_faults sink.old) (K.write_faults sink.new)
+        (result ≡ Some Status.WriteFault) }
     ensures ready { result ≡ None → IsReady service.new }
 {
     // For its clauses: the history so far is legal.

@@ -32,14 +32,20 @@ pub fn answer_by<S: Source, K: Sink, F: Files>(
     sink: &mut K,
 ) -> Status
     requires patient { S.is_waiting source.old ≡ false }
-    ensures answers { AnswersBy (option_map (λ n. n.now) name.entry) result (F.contents files.old) (F.contents files.new)
+    ensures answers { AnswersBy (option_map (λ n. n.now) name.entry) result (F.contents files.old)
+        (F.contents files.new)
         (S.left source.old) (S.left source.new) (K.held sink.old) (K.held sink.new) }
     ensures contents { IfTold (F.contents files.old) (F.contents files.new) HoldsStill }
-    ensures file_fault { HasCause (F.take_faults files.old) (F.take_faults files.new) (result ≡ Status.FileFault) }
-    ensures no_file { HasCause (F.absents files.old) (F.absents files.new) (result ≡ Status.NoFile) }
-    ensures too_long { HasCause (F.long_ones files.old) (F.long_ones files.new) (result ≡ Status.FileTooLong) }
-    ensures read { HasCause (S.read_faults source.old) (S.read_faults source.new) (result ≡ Status.ReadFault) }
-    ensures written { HasCause (K.write_faults sink.old) (K.write_faults sink.new) (result ≡ Status.WriteFault) }
+    ensures file_fault { HasCause (F.take_faults files.old) (F.take_faults files.new)
+        (result ≡ Status.FileFault) }
+    ensures no_file { HasCause (F.absents files.old) (F.absents files.new)
+        (result ≡ Status.NoFile) }
+    ensures too_long { HasCause (F.long_ones files.old) (F.long_ones files.new)
+        (result ≡ Status.FileTooLong) }
+    ensures read { HasCause (S.read_faults source.old) (S.read_faults source.new)
+        (result ≡ Status.ReadFault) }
+    ensures written { HasCause (K.write_faults sink.old) (K.write_faults sink.new)
+        (result ≡ Status.WriteFault) }
 {
     match named_config(alloc, name, files) {
         Ok(config) => answer(alloc, config, source, sink),
@@ -53,12 +59,16 @@ fn named_config<F: Files>(
     name: Option<&str>,
     files: &mut F,
 ) -> Result<Config, Status>
-    ensures named { NamesConfig (option_map (λ n. n.now) name.entry) result (F.contents files.old) (F.contents files.new) }
+    ensures named { NamesConfig (option_map (λ n. n.now) name.entry) result (F.contents files.old)
+        (F.contents files.new) }
     ensures rules { IfOk result KeepsRules }
     ensures contents { IfTold (F.contents files.old) (F.contents files.new) HoldsStill }
-    ensures file_fault { HasCause (F.take_faults files.old) (F.take_faults files.new) (result ≡ Err Status.FileFault) }
-    ensures no_file { HasCause (F.absents files.old) (F.absents files.new) (result ≡ Err Status.NoFile) }
-    ensures too_long { HasCause (F.long_ones files.old) (F.long_ones files.new) (result ≡ Err Status.FileTooLong) }
+    ensures file_fault { HasCause (F.take_faults files.old) (F.take_faults files.new)
+        (result ≡ Err Status.FileFault) }
+    ensures no_file { HasCause (F.absents files.old) (F.absents files.new)
+        (result ≡ Err Status.NoFile) }
+    ensures too_long { HasCause (F.long_ones files.old) (F.long_ones files.new)
+        (result ≡ Err Status.FileTooLong) }
 {
     match name {
         Some(name) => take_config(alloc, name, files),

@@ -183,8 +183,10 @@ impl Service {
     /// where its call is refused, in this minor version. Answers whether the sink took them. No reply waits then.
     pub(crate) fn write_replies<K: Sink>(&mut self, why: Stop, minor: u8, sink: &mut K) -> bool
         requires { minor ≤ 2 }
-        ensures held { IfTold (K.held sink.old) (K.held sink.new) (Hands result (self.old.replies.items ++ last_words minor why)) }
-        ensures failed { HasCause (K.write_faults sink.old) (K.write_faults sink.new) (result ≡ false) }
+        ensures held { IfTold (K.held sink.old) (K.held sink.new)
+            (Hands result (self.old.replies.items ++ last_words minor why)) }
+        ensures failed { HasCause (K.write_faults sink.old) (K.write_faults sink.new)
+            (result ≡ false) }
         ensures framer { self.new.framer ≡ self.old.framer }
         ensures core { self.new.core ≡ self.old.core }
         ensures none_waits { self.new.replies.items ≡ [] }
@@ -241,7 +243,8 @@ fn has_closing(why: Stop) -> bool
 // Writes what stands behind the replies.
 fn write_last<K: Sink>(why: Stop, minor: u8, sink: &mut K) -> bool
     requires { minor ≤ 2 }
-    ensures held { IfTold (K.held sink.old) (K.held sink.new) (Hands result (last_words minor why)) }
+    ensures held { IfTold (K.held sink.old) (K.held sink.new)
+        (Hands result (last_words minor why)) }
     ensures failed { HasCause (K.write_faults sink.old) (K.write_faults sink.new) (result ≡ false) }
 {
     match why {

@@ -32,7 +32,8 @@ pub(crate) fn take_turns(core: &mut Core) -> Result<(), WantMemory>
 /// The bytes of the replies that the one connection is owed now, one behind the other.
 pub(crate) fn collected(alloc: Global, core: &mut Core) -> Result<Vec<u8>, WantMemory>
     requires { IsServing core.old.history }
-    ensures collects { IfOk result (λ bytes. CollectsAll reply_bytes 0 core.old bytes.items core.new) }
+    ensures collects { IfOk result
+        (λ bytes. CollectsAll reply_bytes 0 core.old bytes.items core.new) }
     ensures serving { IsServing core.new.history }
 {
     let mut bytes = Vec::with_capacity(alloc, REPLY)?;

@@ -33,8 +33,10 @@ impl<'a> Asked<'a> {
 
 // The argument that a word is, if there is a word.
 fn argument_of(alloc: Global, word: Option<&str>) -> Result<Option<Datum>, WordsFault>
-    ensures ok { IfOk result (λ argument. spec.argument_of (option_map (λ w. w.now) word.entry) ≡ Some argument) }
-    ensures bad { result ≡ Err BadWords → spec.argument_of (option_map (λ w. w.now) word.entry) ≡ None }
+    ensures ok { IfOk result
+        (λ argument. spec.argument_of (option_map (λ w. w.now) word.entry) ≡ Some argument) }
+    ensures bad { result ≡ Err BadWords
+        → spec.argument_of (option_map (λ w. w.now) word.entry) ≡ None }
 {
     let Some(word) = word else {
         return Ok(None);

@@ -36,10 +36,13 @@ pub fn run_call<S, K: Sink, F, C: Connector>(
     connector: &mut C,
 ) -> Status
     ensures bad_words { result ≡ Status.BadWords → asked_in words.now ≡ None }
-    ensures no_call { asked_in words.now ≡ None → (result ≡ Status.BadWords) ⊎ (result ≡ Status.WantMemory) }
-    ensures untouched { asked_in words.now ≡ None → (host.new ≡ host.old) × (connector.new ≡ connector.old) }
+    ensures no_call { asked_in words.now ≡ None
+        → (result ≡ Status.BadWords) ⊎ (result ≡ Status.WantMemory) }
+    ensures untouched { asked_in words.now ≡ None
+        → (host.new ≡ host.old) × (connector.new ≡ connector.old) }
     ensures calls { (asked : spec.Asked) → asked_in words.now ≡ Some asked
-        → CallGives asked result (connector.new ≡ connector.old) (C.calls connector.old) (C.calls connector.new)
+        → CallGives asked result (connector.new ≡ connector.old) (C.calls connector.old)
+        (C.calls connector.new)
         (K.held host.old.sink) (K.held host.new.sink) }
     ensures aside { (host.new.source ≡ host.old.source) × (host.new.files ≡ host.old.files) }
     ensures later { IsLater (C.tally connector.old) (C.tally connector.new) }
@@ -62,11 +65,13 @@ fn call<K: Sink, C: Connector>(
     connector: &mut C,
 ) -> Status
     requires { asked.now.words.hops ≤ 16 }
-    ensures calls { CallGives (seen_asked asked.now) result (connector.new ≡ connector.old) (C.calls connector.old)
+    ensures calls { CallGives (seen_asked asked.now) result (connector.new ≡ connector.old)
+        (C.calls connector.old)
         (C.calls connector.new) (K.held sink.old) (K.held sink.new) }
     ensures later { IsLater (C.tally connector.old) (C.tally connector.new) }
     ensures sink_later { K.write_faults sink.old ≤ K.write_faults sink.new }
-    ensures cause { BlamesStatus result (C.tally connector.old) (C.tally connector.new) (K.write_faults sink.old)
+    ensures cause { BlamesStatus result (C.tally connector.old) (C.tally connector.new)
+        (K.write_faults sink.old)
         (K.write_faults sink.new) }
 {
     let words = &asked.words;

@@ -32,7 +32,8 @@ fresh = \"register\"
 pub fn load<K: Sink>(alloc: Global, calls: u32, start: u64, sink: &mut K) -> Status
     requires { calls ≤ 200000 }
     ensures gives { LoadGives calls start result (K.held sink.old) (K.held sink.new) }
-    ensures written { HasCause (K.write_faults sink.old) (K.write_faults sink.new) (result ≡ Status.WriteFault) }
+    ensures written { HasCause (K.write_faults sink.old) (K.write_faults sink.new)
+        (result ≡ Status.WriteFault) }
 {
     let config = match configuration(alloc) {
         Ok(config) => config,

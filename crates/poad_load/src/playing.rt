@@ -96,7 +96,8 @@ pub(crate) fn end(
 // All workers run until none has anything to do, and then the replies are collected.
 fn finish(play: &mut QuietPlay, messages: &mut Vec<u8>) -> Result<(), WantMemory>
     requires { IsInPlay play.old }
-    ensures { OnOk result (Collected Finishes messages.old.items messages.new.items play.old play.new) }
+    ensures { OnOk result
+        (Collected Finishes messages.old.items messages.new.items play.old play.new) }
 {
     play.settle()?;
     play.gather(messages)?;

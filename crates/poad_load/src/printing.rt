@@ -38,7 +38,9 @@ fn six_lines(
     bytes: usize,
     sum: Sum,
 ) -> Result<Vec<u8>, WantMemory>
-    ensures { IfOk result (λ text. text.items ≡ lines_of calls counted.entries counted.incarnations counted.etherealized bytes sum.value) }
+    ensures { IfOk result
+        (λ text. text.items ≡ lines_of calls counted.entries counted.incarnations
+        counted.etherealized bytes sum.value) }
 {
     let mut out = Vec::new(alloc);
     put_count(&mut out, "calls", calls as usize)?;

@@ -25,7 +25,8 @@ pub(crate) fn tally_of(core: &Core) -> Tally
     ensures lifetime { HasLifetime core.now.config core.now.run core.now.history }
     ensures entries { result.entries ≡ length core.now.history }
     ensures incarnations { result.incarnations ≡ counts.count counts.has_brought core.now.history }
-    ensures etherealized { result.etherealized ≡ counts.count counts.is_etherealized core.now.history }
+    ensures etherealized { result.etherealized
+        ≡ counts.count counts.is_etherealized core.now.history }
 {
     let entries = core.entries();
     Tally {

@@ -36,11 +36,15 @@ const INPUT_LIMIT: u64 = 1 << 32;
 /// has whole messages that are calls and CancelRequests, it ends in `Ended` or `WantMemory`.
 pub fn names<S: Source, K: Sink>(alloc: Global, source: &mut S, sink: &mut K) -> NamesEnd
     requires patient { S.is_waiting source.old ≡ false }
-    ensures names { RunNames result (S.left source.old) (S.left source.new) (K.held sink.old) (K.held sink.new) }
-    ensures read { HasCause (S.read_faults source.old) (S.read_faults source.new) (result ≡ NamesEnd.ReadFault) }
-    ensures written { HasCause (K.write_faults sink.old) (K.write_faults sink.new) (result ≡ NamesEnd.WriteFault) }
+    ensures names { RunNames result (S.left source.old) (S.left source.new) (K.held sink.old)
+        (K.held sink.new) }
+    ensures read { HasCause (S.read_faults source.old) (S.read_faults source.new)
+        (result ≡ NamesEnd.ReadFault) }
+    ensures written { HasCause (K.write_faults sink.old) (K.write_faults sink.new)
+        (result ≡ NamesEnd.WriteFault) }
     ensures complete { (Rose (S.read_faults source.old) (S.read_faults source.new) → ⊥)
-        → (Rose (K.write_faults sink.old) (K.write_faults sink.new) → ⊥) → IsSomeAnd (S.left source.old) IsWholeInput
+        → (Rose (K.write_faults sink.old) (K.write_faults sink.new) → ⊥)
+        → IsSomeAnd (S.left source.old) IsWholeInput
         → (result ≡ NamesEnd.Ended) ⊎ (result ≡ NamesEnd.WantMemory) }
 {
     serve_source(alloc, source, sink)
@@ -49,9 +53,12 @@ pub fn names<S: Source, K: Sink>(alloc: Global, source: &mut S, sink: &mut K) ->
 // The same, piece by piece.
 fn serve_source<S: Source, K: Sink>(alloc: Global, source: &mut S, sink: &mut K) -> NamesEnd
     requires patient { S.is_waiting source.old ≡ false }
-    ensures names { RunNames result (S.left source.old) (S.left source.new) (K.held sink.old) (K.held sink.new) }
-    ensures read { HasCause (S.read_faults source.old) (S.read_faults source.new) (result ≡ NamesEnd.ReadFault) }
-    ensures written { HasCause (K.write_faults sink.old) (K.write_faults sink.new) (result ≡ NamesEnd.WriteFault) }
+    ensures names { RunNames result (S.left source.old) (S.left source.new) (K.held sink.old)
+        (K.held sink.new) }
+    ensures read { HasCause (S.read_faults source.old) (S.read_faults source.new)
+        (result ≡ NamesEnd.ReadFault) }
+    ensures written { HasCause (K.write_faults sink.old) (K.write_faults sink.new)
+        (result ≡ NamesEnd.WriteFault) }
 {
     let Ok(mut buffer) = Vec::from_elem(alloc, 0u8, PIECE) else {
         return NamesEnd::WantMemory;
@@ -84,7 +91,8 @@ fn read_front<S: Source>(source: &mut S, buffer: &mut [u8], most: u64) -> Took
     ensures most { IsWithin result most }
     ensures bytes { IfTold (S.left source.old) (S.left source.new) (Delivers result buffer.new) }
     ensures patient { S.is_waiting source.new ≡ false }
-    ensures failed { HasCause (S.read_faults source.old) (S.read_faults source.new) (result ≡ Took.Failed) }
+    ensures failed { HasCause (S.read_faults source.old) (S.read_faults source.new)
+        (result ≡ Took.Failed) }
     ensures loud { result ≢ Took.Quiet }
 {
     let room = most.min(buffer.len() as u64) as usize;
@@ -101,8 +109,10 @@ fn take_piece<K: Sink>(
     requires room { reach service.old.framer + length piece.now < 2 ^ 62 }
     requires delivered { service.old.replies.items ≡ [] }
     requires ready { IsReady service.old }
-    ensures takes { TakesPiece result piece.now service.old service.new (K.held sink.old) (K.held sink.new) }
-    ensures written { HasCause (K.write_faults sink.old) (K.write_faults sink.new) (result ≡ Some NamesEnd.WriteFault) }
+    ensures takes { TakesPiece result piece.now service.old service.new (K.held sink.old)
+        (K.held sink.new) }
+    ensures written { HasCause (K.write_faults sink.old) (K.write_faults sink.new)
+        (result ≡ Some NamesEnd.WriteFault) }
     ensures ready { result ≡ None → IsReady service.new }
 {
     let Ok(()) = service.framer.feed(piece) else {

@@ -23,7 +23,8 @@ pub fn request(
     operation: &Name,
     argument: &Option<Datum>,
 ) -> Result<Bytes, WantMemory>
-    ensures { IfOk result (λ bytes. bytes ≡ asked core.now id path.now oid.now operation.now argument.now) }
+    ensures { IfOk result
+        (λ bytes. bytes ≡ asked core.now id path.now oid.now operation.now argument.now) }
 {
     let ask = Ask {
         head: head(id),

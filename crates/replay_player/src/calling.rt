@@ -17,7 +17,9 @@ impl Player {
         requires open_ { IsOpen self.old.core.history conn }
         requires size { IsSize size }
         ensures life { OnOk result (self.new.core ≡ after_call conn call size self.old.core) }
-        ensures printed { OnOk result (self.new.printed.items ≡ self.old.printed.items ++ call_text name.now call size self.old.core) }
+        ensures printed { OnOk result
+            (self.new.printed.items
+            ≡ self.old.printed.items ++ call_text name.now call size self.old.core) }
         ensures filled { OnOk result (KnowsFilled self.old → KnowsFilled self.new) }
         ensures turned_away { self.new.turned_away ≡ self.old.turned_away }
         ensures open_ { IsOpen self.new.core.history conn }

@@ -58,7 +58,9 @@ impl Player {
         ensures core { self.new.core ≡ self.old.core }
         ensures filled { self.new.filled ≡ self.old.filled }
         ensures turned_away { self.new.turned_away ≡ self.old.turned_away }
-        ensures printed { OnOk result (self.new.printed.items ≡ self.old.printed.items ++ reply_line name.now head.now reply.now) }
+        ensures printed { OnOk result
+            (self.new.printed.items
+            ≡ self.old.printed.items ++ reply_line name.now head.now reply.now) }
     {
         if let Reply::Answer { number, answer } = reply {
             return print_answer(&mut self.printed, name, *number, answer);

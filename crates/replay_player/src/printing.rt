@@ -55,7 +55,8 @@ pub fn print_answer(
     number: u64,
     answer: &Answer,
 ) -> Result<(), WantMemory>
-    ensures { OnOk result (out.new.items ≡ out.old.items ++ answer_line name.now number answer.now) }
+    ensures { OnOk result
+        (out.new.items ≡ out.old.items ++ answer_line name.now number answer.now) }
 {
     out.extend_from_slice(Mark::Answer.word())?;
     put_word(out, name)?;

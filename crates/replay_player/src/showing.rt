@@ -20,7 +20,8 @@ impl Player {
 
     /// PlayerPrints the journal.
     pub fn show_journal(&mut self, alloc: Global) -> Result<(), WantMemory>
-        ensures { OnOk result (PlayerPrints (λ text. text ≡ history_text self.old.core) self.old self.new) }
+        ensures { OnOk result
+            (PlayerPrints (λ text. text ≡ history_text self.old.core) self.old self.new) }
     {
         let core = &self.core;
         let text = print_parts(alloc, core.run(), core.opening(), core.entries())?;

@@ -68,7 +68,8 @@ impl Player {
     fn run_worker(&mut self, worker: u32) -> Result<bool, WantMemory>
         requires { worker < 16 }
         ensures works { OnOk result (Works (Runs worker) self.old self.new) }
-        ensures moved { IfOk result (λ moved. Moved moved (λ life. IsIdle life worker) self.old self.new) }
+        ensures moved { IfOk result
+            (λ moved. Moved moved (λ life. IsIdle life worker) self.old self.new) }
     {
         let mut moved = false;
         // No memory holds so many entries.

@@ -41,9 +41,11 @@ fn collect_each(alloc: Global, player: &mut Player, channels: &[Channel]) -> Res
 impl Channel {
     // Collects the replies of a connection, if it entered.
     fn collect_of(&self, alloc: Global, player: &mut Player) -> Result<(), WantMemory>
-        requires entered { (n : ℕ) → self.now.number ≡ Some n → n < connections player.old.core.history }
+        requires entered { (n : ℕ) → self.now.number ≡ Some n
+            → n < connections player.old.core.history }
         requires said { Each IsSaid player.old.core.history }
-        ensures { OnOk result (Works (CollectsOf self.now.name self.now.number) player.old player.new) }
+        ensures { OnOk result
+            (Works (CollectsOf self.now.name self.now.number) player.old player.new) }
     {
         match self.number {
             Some(conn) => player.collect_all(alloc, self.name.as_slice(), conn),

@@ -53,7 +53,8 @@ impl QuietPlay {
     /// Plays a step of a script.
     pub fn play(&mut self, step: &Step) -> Result<(), WantMemory>
         requires { IsInPlay self.old }
-        ensures plays { OnOk result (Quietly (Plays step.now) (world_of self.old) (world_of self.new)) }
+        ensures plays { OnOk result
+            (Quietly (Plays step.now) (world_of self.old) (world_of self.new)) }
         ensures givens { OnOk result (HasGivens (world_of self.old).life (world_of self.new).life) }
         ensures in_play { OnOk result (IsInPlay self.new) }
     {
@@ -65,7 +66,8 @@ impl QuietPlay {
     /// All workers run, again and again until none has anything to do.
     pub fn settle(&mut self) -> Result<(), WantMemory>
         requires { IsInPlay self.old }
-        ensures rests { OnOk result (Quietly (OnLife Rests) (world_of self.old) (world_of self.new)) }
+        ensures rests { OnOk result
+            (Quietly (OnLife Rests) (world_of self.old) (world_of self.new)) }
         ensures givens { OnOk result (HasGivens (world_of self.old).life (world_of self.new).life) }
         ensures in_play { OnOk result (IsInPlay self.new) }
     {
@@ -78,7 +80,9 @@ impl QuietPlay {
     /// other bytes. The answer to an administrator's line is no message.
     pub fn gather(&mut self, out: &mut Vec<u8>) -> Result<(), WantMemory>
         requires { IsInPlay self.old }
-        ensures gathers { OnOk result (PutsBehind Gathers out.old.items out.new.items (world_of self.old) (world_of self.new)) }
+        ensures gathers { OnOk result
+            (PutsBehind Gathers out.old.items out.new.items (world_of self.old)
+            (world_of self.new)) }
         ensures givens { OnOk result (HasGivens (world_of self.old).life (world_of self.new).life) }
         ensures in_play { OnOk result (IsInPlay self.new) }
     {
@@ -102,7 +106,8 @@ fn gather_each(
 ) -> Result<(), WantMemory>
     requires entered { AllEntered channels.now core.old.history }
     requires said { Each IsSaid core.old.history }
-    ensures { OnOk result (PutsBehind (GathersEach channels.now) out.old.items out.new.items core.old core.new) }
+    ensures { OnOk result
+        (PutsBehind (GathersEach channels.now) out.old.items out.new.items core.old core.new) }
 {
     for channel in channels {
         channel.gather(alloc, core, out)?;
@@ -115,7 +120,8 @@ impl Channel {
     fn gather(&self, alloc: Global, core: &mut Core, out: &mut Vec<u8>) -> Result<(), WantMemory>
         requires entered { (n : ℕ) → self.now.number ≡ Some n → n < connections core.old.history }
         requires said { Each IsSaid core.old.history }
-        ensures { OnOk result (PutsBehind (GathersOf self.now.number) out.old.items out.new.items core.old core.new) }
+        ensures { OnOk result
+            (PutsBehind (GathersOf self.now.number) out.old.items out.new.items core.old core.new) }
     {
         match self.number {
             Some(conn) => gather_all(alloc, core, conn, out),
@@ -133,7 +139,8 @@ fn gather_all(
 ) -> Result<(), WantMemory>
     requires entered { conn < connections core.old.history }
     requires said { Each IsSaid core.old.history }
-    ensures { OnOk result (PutsBehind (CollectsAll message_of conn) out.old.items out.new.items core.old core.new) }
+    ensures { OnOk result
+        (PutsBehind (CollectsAll message_of conn) out.old.items out.new.items core.old core.new) }
 {
     // No memory holds so many replies.
     for _ in 0..u64::MAX {

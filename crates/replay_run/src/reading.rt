@@ -23,7 +23,8 @@ impl Channel {
     ) -> Result<(), WantMemory>
         requires open_ { self.old.ended ≡ false → IsOpen player.old.core.history conn }
         requires counted { IsCounted self.old }
-        ensures tells { OnOk result (Tells (Feeds bytes.now conn) player.old player.new self.old self.new) }
+        ensures tells { OnOk result
+            (Tells (Feeds bytes.now conn) player.old player.new self.old self.new) }
         ensures counted { OnOk result (IsCounted self.new) }
     {
         if self.dropped || self.ended {
@@ -58,7 +59,8 @@ impl Channel {
     ) -> Result<bool, WantMemory>
         requires open_ { IsOpen player.old.core.history conn }
         requires counted { IsCounted self.old }
-        ensures tells { IfOk result (λ more. Tells (ReadsNext more conn) player.old player.new self.old self.new) }
+        ensures tells { IfOk result
+            (λ more. Tells (ReadsNext more conn) player.old player.new self.old self.new) }
         ensures open_ { IsOpen player.new.core.history conn }
         ensures counted { IsCounted self.old → IsCounted self.new }
     {
@@ -86,7 +88,8 @@ impl Channel {
     ) -> Result<(), WantMemory>
         requires open_ { IsOpen player.old.core.history conn }
         requires sized { length message.now.bytes ≤ 1048588 }
-        ensures tells { OnOk result (Tells (Handles conn message.now) player.old player.new self.old self.new) }
+        ensures tells { OnOk result
+            (Tells (Handles conn message.now) player.old player.new self.old self.new) }
         ensures open_ { IsOpen player.new.core.history conn }
         ensures counted { IsCounted self.old → IsCounted self.new }
     {

@@ -71,11 +71,13 @@ fn result_of(player: Player) -> Played
     ensures printed { result.printed ≡ player.printed.items }
     ensures held { result.held ≡ unadmitted player.core.history }
     ensures full { result.full ≡ option_or player.filled player.turned_away }
-    ensures legal { IsLegal player.core.config player.core.run player.core.limit player.core.history }
+    ensures legal { IsLegal player.core.config player.core.run player.core.limit
+        player.core.history }
     ensures runs { IsRun player.core.config player.core.run player.core.limit player.core.history }
     ensures lifetime { HasLifetime player.core.config player.core.run player.core.history }
     ensures undone { LeavesNothing player.core.config player.core.run player.core.history }
-    ensures updates { KeepsUpdates player.core.config player.core.run (opened player.core) player.core.history }
+    ensures updates { KeepsUpdates player.core.config player.core.run (opened player.core)
+        player.core.history }
 {
     player.core.keeps_laws();
     let Player {
@@ -99,7 +101,8 @@ fn play_all(
     steps: &[ScriptStep],
 ) -> Result<(), WantMemory>
     requires { Keeps player.old channels.old.items }
-    ensures shows { OnOk result (Shows (PlaysAll steps.now) player.old player.new channels.old.items channels.new.items) }
+    ensures shows { OnOk result
+        (Shows (PlaysAll steps.now) player.old player.new channels.old.items channels.new.items) }
     ensures keeps { OnOk result (Keeps player.new channels.new.items) }
 {
     for step in steps {
@@ -116,7 +119,8 @@ pub(crate) fn play(
     step: &Step,
 ) -> Result<(), WantMemory>
     requires { Keeps player.old channels.old.items }
-    ensures shows { OnOk result (Shows (Plays step.now) player.old player.new channels.old.items channels.new.items) }
+    ensures shows { OnOk result
+        (Shows (Plays step.now) player.old player.new channels.old.items channels.new.items) }
     ensures keeps { OnOk result (Keeps player.new channels.new.items) }
 {
     match step {

@@ -26,7 +26,9 @@ pub(crate) fn take_line(
     line: Line<'_>,
 ) -> Result<(), WantMemory>
     requires { Keeps player.old channels.old.items }
-    ensures shows { OnOk result (Shows (OnLine (Talks line.entry) place) player.old player.new channels.old.items channels.new.items) }
+    ensures shows { OnOk result
+        (Shows (OnLine (Talks line.entry) place) player.old player.new channels.old.items
+        channels.new.items) }
     ensures keeps { OnOk result (Keeps player.new channels.new.items) }
 {
     let Some(channel) = channels.get_mut(place) else {
@@ -88,7 +90,8 @@ impl Channel {
         requires said { Each IsSaid player.old.core.history }
         requires open_ { self.old.ended ≡ false → IsOpen player.old.core.history conn }
         requires counted { IsCounted self.old }
-        ensures tells { OnOk result (Tells (Talks line.entry conn) player.old player.new self.old self.new) }
+        ensures tells { OnOk result
+            (Tells (Talks line.entry conn) player.old player.new self.old self.new) }
         ensures counted { OnOk result (IsCounted self.new) }
     {
         match line {
@@ -114,7 +117,8 @@ impl Channel {
         words: &[u8],
     ) -> Result<(), WantMemory>
         requires open_ { self.old.ended ≡ false → IsOpen player.old.core.history conn }
-        ensures tells { OnOk result (Tells (Commands words.now conn) player.old player.new self.old self.new) }
+        ensures tells { OnOk result
+            (Tells (Commands words.now conn) player.old player.new self.old self.new) }
         ensures counted { IsCounted self.old → IsCounted self.new }
     {
         if self.ended || !is_sized(words) {
@@ -146,7 +150,8 @@ impl Channel {
     fn collect(&mut self, alloc: Global, player: &mut Player, conn: u32) -> Result<(), WantMemory>
         requires entered { conn < connections player.old.core.history }
         requires said { Each IsSaid player.old.core.history }
-        ensures tells { OnOk result (Tells (Collects conn) player.old player.new self.old self.new) }
+        ensures tells { OnOk result
+            (Tells (Collects conn) player.old player.new self.old self.new) }
         ensures counted { IsCounted self.old → IsCounted self.new }
     {
         player.collect_all(alloc, self.name.as_slice(), conn)?;

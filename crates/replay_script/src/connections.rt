@@ -58,7 +58,8 @@ impl Connections {
 
     /// Takes a line in, whose connection is entered where this is its first.
     pub(crate) fn enter(&mut self, line: &ScriptLine) -> Result<(), WantMemory>
-        ensures rows { OnOk result (self.new.rows.items ≡ noted_by (the_role_of line.now) self.old.rows.items) }
+        ensures rows { OnOk result
+            (self.new.rows.items ≡ noted_by (the_role_of line.now) self.old.rows.items) }
         ensures names { OnOk result (self.new.names.items
             ≡ entered_by (entered_by_line line.now) self.old.names.items) }
     {
@@ -86,7 +87,8 @@ fn place(names: &[Name], name: &Name) -> usize
 }
 
 fn enter_line(names: &mut Vec<Name>, line: &ScriptLine) -> Result<(), WantMemory>
-    ensures { OnOk result (names.new.items ≡ entered_by (entered_by_line line.now) names.old.items) }
+    ensures { OnOk result
+        (names.new.items ≡ entered_by (entered_by_line line.now) names.old.items) }
 {
     match entering(line) {
         None => Ok(()),
@@ -149,7 +151,8 @@ fn note(rows: &mut Vec<Connection>, name: &Name, role: Role) -> Result<(), WantM
 }
 
 fn add(rows: &mut Vec<Connection>, name: &Name, traffic: Traffic) -> Result<(), WantMemory>
-    ensures { OnOk result (rows.new.items ≡ rows.old.items ++ record { name = name.now; traffic = traffic } ∷ []) }
+    ensures { OnOk result
+        (rows.new.items ≡ rows.old.items ++ record { name = name.now; traffic = traffic } ∷ []) }
 {
     let name = name.clone()?;
     rows.push(Connection { name, traffic })?;

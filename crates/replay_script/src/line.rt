@@ -111,7 +111,8 @@ fn request(
     words: &[&[u8]],
 ) -> Result<ScriptLine, WordFault>
     ensures { WordGives result
-        (ask_of (conn.now ∷ id.now ∷ adapter.now ∷ oid.now ∷ operation.now ∷ map (λ w. w.now) words.now)) }
+        (ask_of (conn.now ∷ id.now ∷ adapter.now ∷ oid.now ∷ operation.now
+        ∷ map (λ w. w.now) words.now)) }
 {
     let conn = name(alloc, conn)?;
     let id = number32(id)?;
@@ -148,7 +149,8 @@ fn requests(
     words: &[&[u8]],
 ) -> Result<ScriptLine, WordFault>
     ensures { WordGives result
-        (flood_of (conn.now ∷ count.now ∷ adapter.now ∷ oid.now ∷ operation.now ∷ map (λ w. w.now) words.now)) }
+        (flood_of (conn.now ∷ count.now ∷ adapter.now ∷ oid.now ∷ operation.now
+        ∷ map (λ w. w.now) words.now)) }
 {
     let conn = name(alloc, conn)?;
     let count = flood_count(count)?;

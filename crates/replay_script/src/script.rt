@@ -72,7 +72,8 @@ fn enter_line(
     number: u64,
     line: ScriptLine,
 ) -> Result<(), WantMemory>
-    ensures rows { OnOk result (connections.new.rows.items ≡ noted_by (the_role_of line) connections.old.rows.items) }
+    ensures rows { OnOk result
+        (connections.new.rows.items ≡ noted_by (the_role_of line) connections.old.rows.items) }
     ensures names { OnOk result (connections.new.names.items
         ≡ entered_by (entered_by_line line) connections.old.names.items) }
     ensures steps { OnOk result (steps.new.items ≡ steps.old.items
@@ -120,7 +121,8 @@ fn put_asks(
     request: &Request,
     count: u32,
 ) -> Result<(), WantMemory>
-    ensures { OnOk result (steps.new.items ≡ steps.old.items ++ numbered line (asks request.now count)) }
+    ensures { OnOk result
+        (steps.new.items ≡ steps.old.items ++ numbered line (asks request.now count)) }
 {
     for before in 0..count {
         let step = request.clone()?.ask(before + 1);

@@ -42,7 +42,8 @@ pub fn attend<R: Wait, A: Acceptor>(
     ensures ready { IsReady shared.now aid.new.seat }
     ensures aids { Aids aid.old.seat aid.new.seat }
     ensures served { (g : Givens) → (view seat.old).givens ≡ Some g
-        → DoorServed g peer A.Link.shown A.standing A.faults A.ends (view seat.old) (view seat.new) door.old door.new result.refused result.end }
+        → DoorServed g peer A.Link.shown A.standing A.faults A.ends (view seat.old) (view seat.new)
+        door.old door.new result.refused result.end }
 {
     let mut refused = None;
     for _ in rt.forever() {
@@ -96,7 +97,8 @@ pub fn serve_door<R: Wait, A: Acceptor>(
     ensures seat { IsIdle shared.now result.seat }
     ensures ready { IsReady shared.now result.aid.seat }
     ensures aids { Aids aid.seat result.aid.seat }
-    ensures served { (g : Givens) → (view seat).givens ≡ Some g → DoorKept g peer A.Link.shown A.standing A.faults A.ends door (view seat) result }
+    ensures served { (g : Givens) → (view seat).givens ≡ Some g
+        → DoorKept g peer A.Link.shown A.standing A.faults A.ends door (view seat) result }
 {
     let attendance = attend(rt, alloc, shared, &mut seat, &mut aid, &mut door, peer);
     Ran {

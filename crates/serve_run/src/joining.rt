@@ -43,7 +43,8 @@ where
     ensures seat { IsIdle (arc_value shared.now) seat.new }
     ensures ready { IsReady (arc_value shared.now) result.aid.seat }
     ensures aids { Aids ticket.promise.job.value.aid.seat result.aid.seat }
-    ensures joined { IsJoined A.Link.shown A.standing A.faults A.ends ticket.promise.job.value.task (view ticket.promise.job.value.seat)
+    ensures joined { IsJoined A.Link.shown A.standing A.faults A.ends ticket.promise.job.value.task
+        (view ticket.promise.job.value.seat)
         (view seat.old) (view seat.new) result.door result.refused result.end }
 {
     let ran = crew.join(ticket);

@@ -44,13 +44,15 @@ where
     requires given { HasGivens (view seat.old) }
     requires room { vec_len lanes.old + vec_len lanes.old ≤ (view seat.old).room }
     requires staff { staff.end ≤ 16 }
-    requires begun { (g : Givens) → (view seat.old).givens ≡ Some g → Holds g A.Link.shown A.standing A.faults A.ends None [] [] (view seat.old) }
+    requires begun { (g : Givens) → (view seat.old).givens ≡ Some g
+        → Holds g A.Link.shown A.standing A.faults A.ends None [] [] (view seat.old) }
     ensures seat { IsIdle (arc_value shared.now) seat.new }
     ensures given { HasGivens (view seat.new) }
     ensures len { vec_len lanes.new ≡ vec_len lanes.old }
     ensures capacity { vec_capacity lanes.new ≡ vec_capacity lanes.old }
     ensures served { (g : Givens) → (view seat.old).givens ≡ Some g
-        → LanesServed g A.Link.shown A.standing A.faults A.ends lanes.old.items lanes.new.items result (view seat.old) (view seat.new) }
+        → LanesServed g A.Link.shown A.standing A.faults A.ends lanes.old.items lanes.new.items
+        result (view seat.old) (view seat.new) }
     ensures threads { CountsThreads crew.old.faults crew.new.faults result.short }
 {
     let Some(lane) = lanes.pop() else {

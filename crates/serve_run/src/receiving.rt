@@ -36,7 +36,8 @@ fn serve<R: Wait, L: Link>(
     ensures ready { IsReady shared.now aid.new.seat }
     ensures aids { Aids aid.old.seat aid.new.seat }
     ensures served { (g : Givens) → (view seat.old).givens ≡ Some g
-        → Served g peer (view seat.old) (view seat.new) (L.shown link.old) (L.shown link.new) result }
+        → Served g peer (view seat.old) (view seat.new) (L.shown link.old) (L.shown link.new)
+        result }
 {
     match peer {
         Peer::Client => serve_link(rt, alloc, shared, seat, aid, link),
@@ -59,9 +60,12 @@ pub fn receive<R: Wait, A: Acceptor>(
     ensures seat { IsIdle shared.now seat.new }
     ensures ready { IsReady shared.now aid.new.seat }
     ensures aids { Aids aid.old.seat aid.new.seat }
-    ensures received { (g : Givens) (first : View Givens Entry) (closed : A) (visits : List (Visit A.Link)) → first.givens ≡ Some g
-        → Attending g peer A.Link.shown A.standing A.faults A.ends first closed visits (view seat.old) door.old
-        → AsReceived g peer A.Link.shown A.standing A.faults A.ends first closed visits result (view seat.new) door.new }
+    ensures received { (g : Givens) (first : View Givens Entry) (closed : A)
+        (visits : List (Visit A.Link)) → first.givens ≡ Some g
+        → Attending g peer A.Link.shown A.standing A.faults A.ends first closed visits
+        (view seat.old) door.old
+        → AsReceived g peer A.Link.shown A.standing A.faults A.ends first closed visits result
+        (view seat.new) door.new }
     ensures nobody { HasCause (A.quiets door.old) (A.quiets door.new) (result ≡ Received.Nothing) }
 {
     match door.next() {

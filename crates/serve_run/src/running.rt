@@ -75,8 +75,10 @@ where
     ensures unserved { IfNone result.run (result.doors ≡ doors) }
     ensures unstarted { IfNone result.run (crew.new.faults ≡ crew.old.faults) }
     ensures served { IfSome result.run (λ run.
-        IsServedRun (givens_of core) A.Link.shown A.standing A.faults A.ends workers doors result.doors run.outcome run.core) }
-    ensures threads { IfSome result.run (λ run. CountsThreads crew.old.faults crew.new.faults run.outcome.short) }
+        IsServedRun (givens_of core) A.Link.shown A.standing A.faults A.ends workers doors
+        result.doors run.outcome run.core) }
+    ensures threads { IfSome result.run
+        (λ run. CountsThreads crew.old.faults crew.new.faults run.outcome.short) }
 {
     let Some((shared, mut seat)) = open(rt, alloc, core) else {
         return Finished { doors, run: None };

@@ -44,11 +44,13 @@ where
     requires given { HasGivens (view seat.old) }
     requires room { vec_len doors.lanes + vec_len doors.lanes + 1 ≤ (view seat.old).room }
     requires staff { staff.end ≤ 16 }
-    requires begun { (g : Givens) → (view seat.old).givens ≡ Some g → Holds g A.Link.shown A.standing A.faults A.ends None [] [] (view seat.old) }
+    requires begun { (g : Givens) → (view seat.old).givens ≡ Some g
+        → Holds g A.Link.shown A.standing A.faults A.ends None [] [] (view seat.old) }
     ensures seat { IsIdle (arc_value shared.now) seat.new }
     ensures given { HasGivens (view seat.new) }
     ensures served { (g : Givens) → (view seat.old).givens ≡ Some g
-        → DoorsServed g A.Link.shown A.standing A.faults A.ends doors result.0 result.1 (view seat.old) (view seat.new) }
+        → DoorsServed g A.Link.shown A.standing A.faults A.ends doors result.0 result.1
+        (view seat.old) (view seat.new) }
     ensures threads { CountsThreads crew.old.faults crew.new.faults result.1.short }
 {
     let Doors { admin, mut lanes } = doors;
@@ -104,11 +106,13 @@ where
     requires given { HasGivens (view seat.old) }
     requires room { vec_len doors.lanes + vec_len doors.lanes + 1 ≤ (view seat.old).room }
     requires staff { staff.end ≤ 16 }
-    requires begun { (g : Givens) → (view seat.old).givens ≡ Some g → Holds g A.Link.shown A.standing A.faults A.ends None [] [] (view seat.old) }
+    requires begun { (g : Givens) → (view seat.old).givens ≡ Some g
+        → Holds g A.Link.shown A.standing A.faults A.ends None [] [] (view seat.old) }
     ensures seat { IsIdle (arc_value shared.now) seat.new }
     ensures given { HasGivens (view seat.new) }
     ensures served { (g : Givens) → (view seat.old).givens ≡ Some g
-        → AllServed g A.Link.shown A.standing A.faults A.ends 0 doors result.0 result.1 (view seat.old) (view seat.new) }
+        → AllServed g A.Link.shown A.standing A.faults A.ends 0 doors result.0 result.1
+        (view seat.old) (view seat.new) }
     ensures threads { CountsThreads crew.old.faults crew.new.faults result.1.short }
 {
     let (doors, outcome) = serve_doors::<T, R, A, G>(

@@ -28,7 +28,8 @@ fn give_up<R: Wait>(rt: &R, shared: &Shared, seat: &mut Seat, staff: Staff)
     requires seat { IsIdle shared.now seat.old }
     requires staff { staff.end ≤ 16 }
     ensures seat { IsIdle shared.now seat.new }
-    ensures same { (g : Givens) → (view seat.old).givens ≡ Some g → IsSameSeat (view seat.old) (view seat.new) }
+    ensures same { (g : Givens) → (view seat.old).givens ≡ Some g
+        → IsSameSeat (view seat.old) (view seat.new) }
 {
     for worker in staff.first..staff.end {
         shared.abandon(rt, seat, worker);
@@ -43,7 +44,8 @@ pub fn shut_down<R: Wait>(rt: &R, shared: &Shared, seat: &mut Seat, staff: Staff
     requires conn { HoldsConnection (view seat.old) 0 }
     requires staff { staff.end ≤ 16 }
     ensures seat { IsIdle shared.now seat.new }
-    ensures same { (g : Givens) → (view seat.old).givens ≡ Some g → IsSameSeat (view seat.old) (view seat.new) }
+    ensures same { (g : Givens) → (view seat.old).givens ≡ Some g
+        → IsSameSeat (view seat.old) (view seat.new) }
     ensures said { result ≡ false → Says (view seat.old) (view seat.new) }
 {
     let phase = shared.phase(rt, seat);

@@ -50,11 +50,14 @@ where
     ensures kept { IsKept (view seat.old) (view seat.new) }
     ensures taken { OnOk result ((view seat.new).room + 1 ≡ (view seat.old).room) }
     ensures same { OnErr result ((view seat.new).room ≡ (view seat.old).room) }
-    ensures started { IfOk result (λ ticket. IsStarted (arc_value shared.now) task aid.seat (view seat.old) ticket.promise.job.value) }
+    ensures started { IfOk result
+        (λ ticket. IsStarted (arc_value shared.now) task aid.seat (view seat.old)
+        ticket.promise.job.value) }
     ensures back { IfErr result (λ it. it.task ≡ task) }
     ensures aid { IfErr result (λ it. it.aid ≡ aid) }
     ensures counted { OnOk result (crew.new.faults ≡ crew.old.faults) }
-    ensures threads { IfErr result (λ it. CountsThreads crew.old.faults crew.new.faults (Some it.want)) }
+    ensures threads { IfErr result
+        (λ it. CountsThreads crew.old.faults crew.new.faults (Some it.want)) }
 {
     let own = shared.split(seat);
     let shared_too = match Arc::try_clone(shared) {

@@ -55,11 +55,13 @@ where
     requires room { count + (vec_len doors.lanes + vec_len doors.lanes + 1) ≤ (view seat.old).room }
     requires workers { workers ≤ 16 }
     requires count { count ≤ workers }
-    requires begun { (g : Givens) → (view seat.old).givens ≡ Some g → Holds g A.Link.shown A.standing A.faults A.ends None [] [] (view seat.old) }
+    requires begun { (g : Givens) → (view seat.old).givens ≡ Some g
+        → Holds g A.Link.shown A.standing A.faults A.ends None [] [] (view seat.old) }
     ensures seat { IsIdle (arc_value shared.now) seat.new }
     ensures given { HasGivens (view seat.new) }
     ensures served { (g : Givens) → (view seat.old).givens ≡ Some g
-        → AllServed g A.Link.shown A.standing A.faults A.ends count doors result.0 result.1 (view seat.old) (view seat.new) }
+        → AllServed g A.Link.shown A.standing A.faults A.ends count doors result.0 result.1
+        (view seat.old) (view seat.new) }
     ensures threads { CountsThreads crew.old.faults crew.new.faults result.1.short }
 {
     let staff = Staff {

@@ -64,8 +64,10 @@ impl Ear {
     pub fn next(&mut self, alloc: Global) -> Result<Told, WantMemory>
         requires { IsLimited self.old }
         ensures told { IfOk result (λ t. AsTold t (OfEar self.old) (OfEar self.new)) }
-        ensures first { (peer : Peers) (text : List ℕ) → KnowsFirst peer self.old text → KnowsFirst peer self.new text }
-        ensures shorter { IfOk result (λ t. TakesBytes t (unread_of self.old) (unread_of self.new)) }
+        ensures first { (peer : Peers) (text : List ℕ) → KnowsFirst peer self.old text
+            → KnowsFirst peer self.new text }
+        ensures shorter { IfOk result
+            (λ t. TakesBytes t (unread_of self.old) (unread_of self.new)) }
         ensures limited { IsLimited self.new }
         ensures reached { reach_of self.new ≤ reach_of self.old }
     {
@@ -95,8 +97,10 @@ impl Ear {
 fn next_message(alloc: Global, framer: &mut Framer) -> Result<Told, WantMemory>
     requires { framer.old.limit ≡ message_limit }
     ensures told { IfOk result (λ t. AsTold t (OfFramer framer.old) (OfFramer framer.new)) }
-    ensures first { (text : List ℕ) → HasFirst message_limit text framer.old → HasFirst message_limit text framer.new }
-    ensures shorter { IfOk result (λ t. TakesBytes t (length framer.old.unread) (length framer.new.unread)) }
+    ensures first { (text : List ℕ) → HasFirst message_limit text framer.old
+        → HasFirst message_limit text framer.new }
+    ensures shorter { IfOk result
+        (λ t. TakesBytes t (length framer.old.unread) (length framer.new.unread)) }
     ensures limited { framer.new.limit ≡ message_limit }
     ensures reached { reach framer.new ≤ reach framer.old }
 {

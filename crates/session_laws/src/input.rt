@@ -59,7 +59,8 @@ impl Input {
             ((next : List ℕ) (more : List Heard) (stop : Stop) → OfIntake self.new next more stop
             → OfIntake self.old (piece.now ++ next) more stop) }
         ensures first { OnOk result ((peer : Peers) (text : List ℕ)
-            → KnowsFirst peer self.old.ear text → KnowsFirst peer self.new.ear (text ++ piece.now)) }
+            → KnowsFirst peer self.old.ear text
+            → KnowsFirst peer self.new.ear (text ++ piece.now)) }
         ensures taken { OnOk result (self.new.taken ≡ self.old.taken + length piece.now) }
         ensures refused { OnErr result (self.new ≡ self.old) }
     {
@@ -71,8 +72,10 @@ impl Input {
     /// What the bytes say next. Where no memory is left for it, it is lost.
     pub fn next(&mut self, alloc: Global) -> Result<Told, WantMemory>
         ensures told { IfOk result (λ t. AsTold t (OfIntake self.old) (OfIntake self.new)) }
-        ensures first { (peer : Peers) (text : List ℕ) → KnowsFirst peer self.old.ear text → KnowsFirst peer self.new.ear text }
-        ensures shorter { IfOk result (λ t. TakesBytes t (unread_of self.old.ear) (unread_of self.new.ear)) }
+        ensures first { (peer : Peers) (text : List ℕ) → KnowsFirst peer self.old.ear text
+            → KnowsFirst peer self.new.ear text }
+        ensures shorter { IfOk result
+            (λ t. TakesBytes t (unread_of self.old.ear) (unread_of self.new.ear)) }
         ensures taken { self.new.taken ≡ self.old.taken }
     {
         self.ear.next(alloc)

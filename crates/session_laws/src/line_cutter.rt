@@ -57,7 +57,8 @@ impl LineCutter {
     /// Puts a piece behind the bytes fed so far. Where no memory is left, nothing is fed.
     pub fn feed(&mut self, piece: &[u8]) -> Result<(), WantMemory>
         requires { self.old.place + length self.old.unread + length piece.now < 2 ^ 62 }
-        ensures fed { OnOk result (self.new ≡ record self.old { unread = self.old.unread ++ piece.now }) }
+        ensures fed { OnOk result
+            (self.new ≡ record self.old { unread = self.old.unread ++ piece.now }) }
         ensures refused { OnErr result (self.new ≡ self.old) }
     {
         self.compact();
@@ -67,8 +68,10 @@ impl LineCutter {
     /// What the next line says. A line that is too long is told as soon as so many bytes are there.
     pub fn next(&mut self, alloc: Global) -> Result<Told, WantMemory>
         ensures told { IfOk result (λ t. AsTold t (OfLines self.old) (OfLines self.new)) }
-        ensures shorter { IfOk result (λ t. TakesBytes t (length self.old.unread) (length self.new.unread)) }
-        ensures reached { self.new.place + length self.new.unread ≤ self.old.place + length self.old.unread }
+        ensures shorter { IfOk result
+            (λ t. TakesBytes t (length self.old.unread) (length self.new.unread)) }
+        ensures reached { self.new.place + length self.new.unread
+            ≤ self.old.place + length self.old.unread }
     {
         let unread = self.unread();
         let Some((raw, _)) = split_line(unread) else {
@@ -97,8 +100,12 @@ impl LineCutter {
     /// Leaves a line of so many bytes behind, and its LF.
     fn skip_line(&mut self, count: usize)
         requires { count + 1 ≤ length self.old.unread }
-        ensures { self.new ≡ record
-            { place = self.old.place + count + 1; number = suc self.old.number; unread = drop (count + 1) self.old.unread } }
+        ensures { self.new ≡ record {
+          place = self.old.place + count
+              + 1;
+          number = suc self.old.number;
+          unread = drop (count + 1) self.old.unread;
+        } }
     {
         let end = self.start + count;
         self.start = end + 1;
@@ -122,7 +129,8 @@ impl LineCutter {
 // The first line, without its LF, and what stands behind that. None where no LF has come.
 fn split_line(text: &[u8]) -> Option<(&[u8], &[u8])>
     ensures clear { IfSome result (λ x. lacks 10 x.0.now ≡ true) }
-    ensures parts { MatchOption result (lacks 10 text.now ≡ true) (λ x. text.now ≡ x.0.now ++ 10 ∷ x.1.now) }
+    ensures parts { MatchOption result (lacks 10 text.now ≡ true)
+        (λ x. text.now ≡ x.0.now ++ 10 ∷ x.1.now) }
 {
     for (i, byte) in text.iter().enumerate() {
         if *byte == b'\n' {
