@@ -1,9 +1,8 @@
 -- A run of the server where nothing outside fails and no limit is met ends well.
-use Rattle.std.proofs.Common.{◌≡◌, ◌⊎◌, ℕ, ◌<◌, ◌≤◌, Bool, true, false, ◌||◌, List, [], ◌∷◌, ◌++◌, length, reverse, Option, None, Some, Ok, Err, inl, inr, refl, sym, ap, ap₂, ◌∙◌, subst, arith}
+use Rattle.std.proofs.Common.{◌≡◌, ◌⊎◌, ⊎_elim, ℕ, ◌<◌, ◌≤◌, Bool, true, false, ◌||◌, List, [], ◌∷◌, ◌++◌, length, reverse, Option, None, Some, Ok, Err, inl, inr, refl, sym, ap, ap₂, ◌∙◌, subst, arith}
 use Rattle.std.specs.Prelude.{◌≢◌, IfSome, MatchOption}
 use Rattle.std.specs.Option.{IsSomeAnd, is_some, option_or}
 use Rattle.std.specs.Result.{is_err}
-use Rattle.std.proofs.lemmas.List.{reverse-append, reverse-reverse}
 use Rattle.std.proofs.lemmas.Option.{same_Some}
 use Rattle.command_words.specs.Serving.{Serve}
 use Rattle.history_standing.specs.Arrivals.{connections}
@@ -13,7 +12,6 @@ use Rattle.outside.specs.Keeping.{Contents}
 use Rattle.outside.specs.Link.{Shown}
 use Rattle.poa_base.specs.Store.{states}
 use Rattle.poa_base.specs.declared.Entry.{Entry}
-use Rattle.poa_base.specs.declared.Entry.TheVariants.{Abandon, Admit, Arrive, Collect, Done, Entered, Etherealized, Filled, Incarnated, Left, Run, TakeOut, Tried}
 use Rattle.poa_base.specs.declared.SessionEnd.{SessionEnd}
 use Rattle.poa_base.specs.declared.SessionEnd.TheVariants as end
 use Rattle.poa_history.specs.Life.{Life, givens_of}
@@ -24,7 +22,10 @@ use Rattle.poad_cmd.specs.Beginning.{IsRefused, IsUnbegun, OpensWith}
 use Rattle.poad_cmd.specs.Complete.{AreCalm, CanBegin, IsRoomy, IsState, MayOpen, NoneRose}
 use Rattle.poad_cmd.specs.Ending.{AnyRose, IsLimit, is_unput, status_by, wants_memory}
 use Rattle.poad_cmd.specs.Serving.{HasServed, ServesOn}
+use Rattle.poad_cmd.proofs.Arriving.{entered_before}
+use Rattle.poad_cmd.specs.Sending.{AreSent, FitsRun}
 use Rattle.poad_cmd.proofs.Completed.{IsUntaken, config_untaken}
+use Rattle.poad_cmd.proofs.Linked.{few_or_none, never_filled}
 use Rattle.poad_files.specs.StateFile.{ReadsState, state_limit}
 use Rattle.poad_files.specs.Taking.{OfContent}
 use Rattle.poad_files.specs.declared.status.Status.{Status}
@@ -34,10 +35,12 @@ use Rattle.serve_run.specs.Lanes.{closed_doors, served_doors}
 use Rattle.serve_run.specs.Outcomes.{least_in}
 use Rattle.serve_run.specs.Refusals.{earlier, least_refusal, refusal_by}
 use Rattle.serve_run.specs.Served.{EachDoor, EachSession, IsTurnedAway}
+use Rattle.serve_run.specs.Running.{IsKeptRun, IsWholeRun}
 use Rattle.serve_run.specs.Tours.{Tour}
 use Rattle.serve_run.specs.Visits.{Visit}
 use Rattle.serve_run.specs.declared.doors.Doors.{Doors}
 use Rattle.serve_run.specs.declared.outcome.Want.{Want}
+use Rattle.session_laws.specs.Hearing.{Heard}
 use Rattle.session_laws.specs.declared.peer.Peer.{Peer}
 
 -- the status, where each cause of another is out
@@ -88,35 +91,6 @@ module _ {A : Type 0} (faults : A → ℕ) where
           | inr left ↦ lanes (subst (λ (ts : List (Tour A L)). AnyRose {A = A} {L = L} faults ts) left.0 rose)
         ]
 
--- connections that entered stay
-entered_one : (e : Entry) (past : List Entry) → connections past ≤ connections (e ∷ past)
-entered_one (Entered k) past = omega arith
-entered_one (Arrive k size call) past = omega arith
-entered_one (Filled k size) past = omega arith
-entered_one (Left k) past = omega arith
-entered_one (Collect k a) past = omega arith
-entered_one (Admit w r v) past = omega arith
-entered_one (Tried w a) past = omega arith
-entered_one (Incarnated w a) past = omega arith
-entered_one (Run w) past = omega arith
-entered_one (Done w) past = omega arith
-entered_one (TakeOut w n x) past = omega arith
-entered_one (Etherealized w x y) past = omega arith
-entered_one (Abandon w) past = omega arith
-
-entered_more : (more past : List Entry) → connections past ≤ connections (more ++ past)
-entered_more [] past = omega arith
-entered_more (e ∷ more) past =
-    let one : connections (more ++ past) ≤ connections (e ∷ (more ++ past)) = entered_one e (more ++ past) in
-    let rest : connections past ≤ connections (more ++ past) = entered_more more past in
-    omega (arith, one, rest)
-
-entered_before : (stood rest h : List Entry) → reverse h ≡ stood ++ rest → connections (reverse stood) ≤ connections h
-entered_before stood rest h cut =
-    subst (λ (now : List Entry). connections (reverse stood) ≤ connections now)
-    (sym (reverse-append stood rest) ∙ (ap reverse (sym cut) ∙ reverse-reverse h))
-    (entered_more (reverse rest) (reverse stood))
-
 -- where fewer connections entered than a run may have, none was turned away
 module _ {L : Type 0} (g : Givens) (shown : L → Shown) (h : List Entry) (few : connections h < 4000000) where
   taken_by : (conn : Option ℕ) (e : SessionEnd) (IsServed : ℕ → Type 0) → MatchOption conn (IsTurnedAway (reverse h) e) IsServed
@@ -147,21 +121,58 @@ no_limit None (Some full) calls bytes unfilled unrefused is = let e : Some full 
 module _ {A L : Type 0} (shown : L → Shown) (standing : A → Option (Standing L)) (faults ends : A → ℕ) (serve : Serve) (begun : Life) (status : Status)
     (old new : Doors A) (files_old files_new : Option Contents) (no_thread : status ≡ NoThread → ⊥) (calm : AreCalm faults old new) where
   served_fine : (life : Life) → HasServed {A = A} {L = L} shown standing faults ends serve begun status old new life files_old files_new
-      → (status ≡ FileFault → ⊥) → IsRoomy life → (status ≡ Fine) ⊎ (status ≡ WantMemory)
-  served_fine life s no_file roomy =
+      → (status ≡ FileFault → ⊥) → ((calls bytes : ℕ) → status ≡ Limit calls bytes → ⊥) → (status ≡ Fine) ⊎ (status ≡ WantMemory)
+  served_fine life s no_file limit =
       fine_or (wants_memory s.outcome || is_err s.put) (is_some s.outcome.short) (is_unput s.put) s.outcome.failed
       (option_or s.filled s.outcome.refused) status s.status_is no_thread no_file
-      (λ is. tours_calm faults s.ran.tours s.outcome.short old new calm s.ran.attended (s.tells.listen_fault is))
-      (λ calls bytes is. no_limit (filled_at life.history) (least_in s.ran.tours) calls bytes roomy.unfilled
-      (tours_taken {L = L} (givens_of begun) shown life.history roomy.few {A = A} s.ran.tours
-      (s.tells.sessions (λ memory. (let e : Limit calls bytes ≡ WantMemory = sym is ∙ memory in cc))).sessions)
-      (s.tells.limit calls bytes is))
+      (λ is. tours_calm faults s.ran.tours s.outcome.short old new calm s.ran.attended (s.tells.listen_fault is)) limit
+
+  module _ (life : Life) (s : HasServed {A = A} {L = L} shown standing faults ends serve begun status old new life files_old files_new) (calls bytes : ℕ)
+      (is : status ≡ Limit calls bytes) where
+    kept : IsKeptRun {A = A} {L = L} (givens_of begun) shown serve.workers s.ran.tours s.ran.last (reverse life.history)
+    kept = s.tells.sessions (λ memory. (let e : Limit calls bytes ≡ WantMemory = sym is ∙ memory in cc))
+
+    whole : IsWholeRun {A = A} {L = L} (givens_of begun) standing faults ends s.ran.tours s.ran.last (reverse life.history)
+    whole = s.tells.end (λ memory. (let e : Limit calls bytes ≡ WantMemory = sym is ∙ memory in cc))
+        (λ thread. (let e : Limit calls bytes ≡ NoThread = sym is ∙ thread in cc))
+
+    all_taken : filled_at life.history ≡ None → least_in s.ran.tours ≡ None → ⊥
+    all_taken unfilled unrefused = no_limit (filled_at life.history) (least_in s.ran.tours) calls bytes unfilled unrefused (s.tells.limit calls bytes is)
+
+    taken_few : connections life.history < 4000000 → least_in s.ran.tours ≡ None
+    taken_few few = tours_taken {L = L} (givens_of begun) shown life.history few {A = A} s.ran.tours kept.sessions
+
+    -- the run had room
+    no_limit_met : IsRoomy life → ⊥
+    no_limit_met roomy = all_taken roomy.unfilled (taken_few roomy.few)
+
+    -- what the links send fits the run
+    no_limit_sent : (sent : List (List Heard)) → AreSent {A = A} {L = L} shown standing old sent → FitsRun (givens_of begun).limit sent → ⊥
+    no_limit_sent sent are fits =
+        all_taken
+        (never_filled {A = A} {L = L} (givens_of begun) shown standing life.history s.ran.tours s.outcome.short old new sent s.ran.attended are s.ran.passed
+        kept.sessions (givens_of begun).config (givens_of begun).run (givens_of begun).limit s.ran.legal.legal kept.connections s.ran.last kept.first.word
+        kept.first.own whole.last_word whole.behind fits)
+        (⊎_elim taken_few (λ (none : least_in s.ran.tours ≡ None). none)
+        (few_or_none {A = A} {L = L} (givens_of begun) shown standing life.history s.ran.tours s.outcome.short old new sent s.ran.attended are s.ran.passed
+        kept.sessions kept.connections fits.links))
+
+  some_core : (life : Life) → (status ≡ FileFault → Some life ≢ None → ⊥) → status ≡ FileFault → ⊥
+  some_core life no_file is = no_file is (λ none. (let e : Some life ≡ None = none in cc))
 
   pub serves_fine : (core : Option Life)
       → ServesOn {A = A} {L = L} shown standing faults ends serve begun status old new core files_old files_new
       → (status ≡ FileFault → core ≢ None → ⊥) → IfSome core IsRoomy → (status ≡ Fine) ⊎ (status ≡ WantMemory)
   serves_fine None s no_file roomy = inr s.1
-  serves_fine (Some life) s no_file roomy = served_fine life s (λ is. no_file is (λ none. (let e : Some life ≡ None = none in cc))) roomy
+  serves_fine (Some life) s no_file roomy = served_fine life s (some_core life no_file) (λ calls bytes is. no_limit_met life s calls bytes is roomy)
+
+  pub serves_sent : (core : Option Life)
+      → ServesOn {A = A} {L = L} shown standing faults ends serve begun status old new core files_old files_new
+      → (status ≡ FileFault → core ≢ None → ⊥) → (sent : List (List Heard)) → AreSent {A = A} {L = L} shown standing old sent
+      → FitsRun (givens_of begun).limit sent → (status ≡ Fine) ⊎ (status ≡ WantMemory)
+  serves_sent None s no_file sent are fits = inr s.1
+  serves_sent (Some life) s no_file sent are fits =
+      served_fine life s (some_core life no_file) (λ calls bytes is. no_limit_sent life s calls bytes is sent are fits)
 
 -- a run that can begin begins, unless memory is wanting or a file can't be read
 module _ (name : List ℕ) (IsSuch : List ℕ → Type 0) where

@@ -1,5 +1,6 @@
 pub mod Playing
 pub mod Complete
+pub mod Sending
 pub mod Commands
 pub mod Beginning
 pub mod Putting

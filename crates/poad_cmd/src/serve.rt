@@ -1,13 +1,15 @@
 //! `serve` by the words of a command line.
-ghost use Rattle.std.specs.Prelude.{◌≡◌, ◌≢◌, ◌⊎◌, [], Some, None, IfSome, vec_len};
+ghost use Rattle.std.specs.Prelude.{◌≡◌, ◌≢◌, ◌⊎◌, List, [], Some, None, IfSome, vec_len};
 ghost use Rattle.command_words.specs.Serving.{Serve, seen_serve, serve_in};
 ghost use Rattle.outside.specs.Cause.{HasCause, Rose};
 ghost use Rattle.outside.specs.Told.{IfTold};
 ghost use Rattle.poa_history.specs.Life.{Life};
 ghost use Rattle.poad_cmd.specs.Complete.{AreCalm, CanBegin, IsRoomy, IsSteady};
 ghost use Rattle.poad_cmd.specs.Putting.{Keeps};
+ghost use Rattle.poad_cmd.specs.Sending.{AreSent, FitsRun};
 ghost use Rattle.poad_cmd.specs.Serving.{Ends, ServesOn};
 ghost use Rattle.poad_cmd.specs.Beginning.{IsInRange};
+ghost use Rattle.session_laws.specs.Hearing.{Heard};
 
 use crate::beginning::{Beginning, begin};
 use crate::ending::status_of;
@@ -39,8 +41,10 @@ use std::thread::Threads;
 /// - `Limit`: a call or a connection was refused for the limits of the run.
 /// - `Ok`: an administrator said `shutdown`, or each door ended.
 ///
-/// No other status comes. Where no count of faults rises, the run can begin by the files, and it met no limit, it ends in `Ok`
-/// or `WantMemory`.
+/// No other status comes. Where no count of faults rises and the run can begin by the files, it ends in `Ok` or `WantMemory`
+/// if it has room for what comes in: the doors tell fewer than 4,000,000 links, which send no more calls than the run takes,
+/// and no more than 1 GiB of them, with the run's own `shutdown` where a link sends one too. The same holds where doors tell
+/// nothing and its journal shows room: no call was refused, and fewer than 4,000,000 connections entered.
 pub fn run_serve<T, R, S, K, F, A, G>(
     rt: &R,
     alloc: Global,
@@ -74,7 +78,13 @@ where
     ensures all_put { result.status ≡ Status.Ok → F.put_faults host.new.files ≡ F.put_faults host.old.files }
     ensures no_thread { result.status ≡ Status.NoThread → Rose crew.old.faults crew.new.faults }
     ensures all_started { result.status ≡ Status.Ok → crew.new.faults ≡ crew.old.faults }
-    ensures complete { (serve : Serve) → serve_in words.now ≡ Some serve
+    ensures complete { (serve : Serve) (sent : List (List Heard)) → serve_in words.now ≡ Some serve
+        → IsSteady (F.take_faults host.old.files) (F.take_faults host.new.files) (F.put_faults host.old.files)
+        (F.put_faults host.new.files) crew.old.faults crew.new.faults
+        → AreCalm A.faults doors result.doors → CanBegin serve (F.contents host.old.files)
+        → AreSent A.Link.shown A.standing doors sent → FitsRun serve.limit sent
+        → (result.status ≡ Status.Ok) ⊎ (result.status ≡ Status.WantMemory) }
+    ensures roomy { (serve : Serve) → serve_in words.now ≡ Some serve
         → IsSteady (F.take_faults host.old.files) (F.take_faults host.new.files) (F.put_faults host.old.files)
         (F.put_faults host.new.files) crew.old.faults crew.new.faults
         → AreCalm A.faults doors result.doors → CanBegin serve (F.contents host.old.files) → IfSome result.core IsRoomy

@@ -1,5 +1,5 @@
 -- What a run promises, from what was served and the last look.
-use Rattle.std.proofs.Common.{◌≡◌, ℕ, ◌<◌, false, List, [], ◌∷◌, length, reverse, Option, Some, None, refl, sym, ap, ◌∙◌, subst, ⊎_elim, arith}
+use Rattle.std.proofs.Common.{◌≡◌, ℕ, ◌<◌, true, false, List, [], ◌∷◌, length, reverse, Option, Some, None, refl, sym, ap, ◌∙◌, subst, ⊎_elim, arith}
 use Rattle.std.proofs.lemmas.List.{reverse-reverse}
 use mathlib.Core.Option.{some}
 use lib.ListN.{get_elem?}
@@ -10,6 +10,7 @@ use Rattle.poa_base.specs.declared.Config.{Config}
 use Rattle.poa_base.specs.declared.Entry.{Entry}
 use Rattle.poa_base.specs.declared.Entry.TheVariants.{Entered, Arrive}
 use Rattle.poa_history.specs.Life.{Life, givens_of}
+use Rattle.poa_history.specs.Legal.{had_shutdown}
 use Rattle.poa_history.specs.Lifetime.{HasLifetime}
 use Rattle.poa_shared.specs.Events.{Event}
 use Rattle.poa_shared.specs.Seen.{past, Turns}
@@ -104,6 +105,7 @@ module _ {A L : Type 0} (g : Givens) (shown : L → Shown) (standing : A → Opt
           last.left place e is k c (made g shown standing faults ends own tours shifts w holds log is_whole runs k b.0 b.1)
           (came_by_door g shown standing faults ends own tours shifts w holds log is_whole runs c k b.0 b.1 b.2 above)
           (b.0, in_seen g shown standing faults ends own tours shifts w holds log is_whole runs k b.0 b.1, b.2);
+      behind = λ place size is. subst (λ l. had_shutdown (reverse l) ≡ true) (sym is_whole.seen) (last.behind place size is);
       over = over_by own tours shifts w log holds is_whole runs there;
       ended = ends_by own refl last;
     }

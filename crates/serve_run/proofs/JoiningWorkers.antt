@@ -24,6 +24,7 @@ use Rattle.serve_run.proofs.Closing.{belongs_before}
 use Rattle.serve_run.proofs.Uniting.{adds_other, ledger_both, other_apart}
 use Rattle.serve_run.proofs.Helping.{help_early, turns_more}
 use Rattle.serve_run.proofs.JoiningDoors.{each_toured, each_worked}
+use Rattle.serve_run.proofs.Lasting.{had_longer}
 use Rattle.serve_run.proofs.Numbers.{here_in, one_in}
 
 module _ (g : Givens) (worker : ℕ) (first u : View Givens Entry) (fresh : first.mine ≡ []) (worked : Worked g worker first u Closed) where
@@ -129,4 +130,5 @@ module _ {A L : Type 0} (g : Givens) (shown : L → Shown) (standing : A → Opt
         (λ (old : In k v.mine). last.left place e is k c old i (belongs_before owner_of v.seen j.seen unites.first k c (holds.ledger.within k old) b))
         (λ (new : In k u.mine). absurd (apart c (in_second c (0 ∷ []) (conns_in tours) i) k new b))
         (in_either k v.mine u.mine (subst (In k) mine there));
+    behind = λ place size is. had_longer v.seen j.seen unites.first (last.behind place size is);
   }

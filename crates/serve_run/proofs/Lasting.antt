@@ -15,6 +15,7 @@ use Rattle.history_standing.specs.Stages.{stage}
 use Rattle.poa_history.proofs.SettledKept.{or_second}
 use Rattle.poa_history.proofs.StagesFrom.{maker, stage_other}
 use Rattle.history_laws.specs.Closing.{HasNoTurn}
+use Rattle.poa_history.specs.Legal.{had_shutdown, is_shutdown}
 use Rattle.poa_history.specs.Owners.{worker_of}
 use Rattle.poa_history.specs.Leaving.{is_shut, is_shut_by}
 use Rattle.seat_lock.specs.Histories.{IsPrefix}
@@ -97,6 +98,30 @@ shut_still (Abandon w) past was = was
 pub shut_since : (more past : List Entry) → is_shut past ≡ true → is_shut (more ++ past) ≡ true
 shut_since [] past was = was
 shut_since (e ∷ more) past was = shut_still e (more ++ past) (shut_since more past was)
+
+-- a `shutdown` that arrived had arrived
+had_still : (e : Entry) (past : List Entry) → had_shutdown past ≡ true → had_shutdown (e ∷ past) ≡ true
+had_still (Arrive k size call) past was = or_second (is_shutdown call) (had_shutdown past) was
+had_still (Entered k) past was = was
+had_still (Filled k size) past was = was
+had_still (Left k) past was = was
+had_still (Collect k a) past was = was
+had_still (Admit w r v) past was = was
+had_still (Tried w a) past was = was
+had_still (Incarnated w a) past was = was
+had_still (Run w) past was = was
+had_still (Done w) past was = was
+had_still (TakeOut w n x) past was = was
+had_still (Etherealized w x y) past was = was
+had_still (Abandon w) past was = was
+
+had_since : (more past : List Entry) → had_shutdown past ≡ true → had_shutdown (more ++ past) ≡ true
+had_since [] past was = was
+had_since (e ∷ more) past was = had_still e (more ++ past) (had_since more past was)
+
+pub had_longer : (short long : List Entry) → IsPrefix short long → had_shutdown (reverse short) ≡ true → had_shutdown (reverse long) ≡ true
+had_longer short long p had =
+    subst (λ l. had_shutdown l ≡ true) (sym (reversed_more short long p.0 p.1)) (had_since (reverse p.0) (reverse short) had)
 
 -- where a call arrived
 pub arrived_at : (h : List Entry) (r c : ℕ) → conn_of h r ≡ Some c → (x : ℕ) × (size : ℕ) × (call : Call)

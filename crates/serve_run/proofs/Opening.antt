@@ -1,5 +1,5 @@
 -- The run's own seat enters first, and says `shutdown` last.
-use Rattle.std.proofs.Common.{◌≡◌, ℕ, suc, ◌≤◌, Bool, true, false, if◌then◌else◌, List, [], ◌∷◌, ◌++◌, length, reverse, Option, Some, None, Result, Ok, Err, refl, sym, ap, ◌∙◌, subst, inl, inr, ⊎_elim, arith}
+use Rattle.std.proofs.Common.{◌≡◌, ℕ, suc, ◌≤◌, Bool, true, false, not, ◌||◌, if◌then◌else◌, List, [], ◌∷◌, ◌++◌, length, reverse, Option, Some, None, Result, Ok, Err, refl, sym, ap, ◌∙◌, subst, inl, inr, ⊎_elim, arith}
 use Rattle.std.proofs.lemmas.List.{length-reverse, reverse-reverse}
 use mathlib.Core.Logic.{dite}
 use mathlib.Core.Option.{some}
@@ -16,7 +16,8 @@ use Rattle.poa_history.specs.Life.{life_at, with_entry}
 use Rattle.poa_core.specs.declared.arrive_fault.ArriveFault.{ArriveFault}
 use Rattle.poa_core.specs.declared.arrive_fault.ArriveFault.TheVariants as arrive_fault
 use Rattle.history_standing.specs.Arrivals.{connections}
-use Rattle.poa_history.specs.Legal.{is_filled}
+use Rattle.poa_history.specs.Legal.{had_shutdown, is_filled}
+use Rattle.poa_history.specs.Limits.{has_room, is_taken}
 use Rattle.poa_shared.specs.Events.{Event}
 use Rattle.poa_shared.specs.Seen.{past, Turns, HoldsConnection}
 use Rattle.poa_history.specs.declared.givens.Givens.{Givens}
@@ -29,6 +30,14 @@ use Rattle.serve_run.specs.Tours.{Tour, Shift, conns_in}
 use Rattle.serve_run.specs.Holding.{Holds, IsLast, IsWord}
 use Rattle.serve_run.proofs.Staying.{holds_looked, holds_own, last_own}
 use Rattle.serve_run.proofs.Numbers.{here_in, no_worker, one_in}
+
+-- a `shutdown` that isn't taken isn't the first
+had_before : (limit : ℕ) (h : List Entry) → is_taken limit h 8 (Line 1 Shutdown) ≡ false → had_shutdown h ≡ true
+had_before limit h refused =
+    elim (had_shutdown h) as (λ b. (not b || has_room limit h 8) ≡ false → b ≡ true) [
+      | true ↦ λ _. refl
+      | false ↦ λ is. absurd (let e : true ≡ false = is in cc)
+    ] refused
 
 no_length : (h : List Entry) → length h ≡ 0 → h ≡ []
 no_length [] none = refl
@@ -116,6 +125,7 @@ module _ {A L : Type 0} (g : Givens) (shown : L → Shown) (standing : A → Opt
             last = record {
               ended = λ place e same. absurd (let f : None ≡ Some (place, e) = same in cc);
               left = λ place e same. absurd (let f : None ≡ Some (place, e) = same in cc);
+              behind = λ place size same. absurd (let f : None ≡ Some (place, Filled 0 size) = same in cc);
             };
           }
 
@@ -127,20 +137,21 @@ module _ {A L : Type 0} (g : Givens) (shown : L → Shown) (standing : A → Opt
             own = Some (length it.0, Arrive 0 8 (Line 1 Shutdown));
             word = inl refl;
             holds_it = holds_own g shown standing faults ends tours shifts v w it.0 it.1 (Arrive 0 8 (Line 1 Shutdown)) is refl holds;
-            last = last_own g shown standing faults ends tours shifts v w it.0 it.1 (Arrive 0 8 (Line 1 Shutdown)) is refl holds;
+            last = last_own g shown standing faults ends tours shifts v w it.0 it.1 (Arrive 0 8 (Line 1 Shutdown)) is refl holds
+                (λ size (fills : Arrive 0 8 (Line 1 Shutdown) ≡ Filled 0 size). cc);
           })
       said (Err (arrive_fault.Limit calls bytes)) event =
-          (let it = event g given in by_filled it.0 it.1 (is_filled it.0) it.2.1)
+          (let it = event g given in by_filled it.0 it.1 (had_before g.limit it.0 it.2.0) (is_filled it.0) it.2.1)
         where
-          by_filled : (h : List Entry) → Turns g v h w → (b : Bool) → life_at g (past w) ≡ (if b then life_at g h else with_entry (Filled 0 8) (life_at g h))
-              → IsSaid w
-          by_filled h t true is = nothing_said h t (ap (λ l. l.history) is)
-          by_filled h t false is =
+          by_filled : (h : List Entry) → Turns g v h w → had_shutdown h ≡ true → (b : Bool)
+              → life_at g (past w) ≡ (if b then life_at g h else with_entry (Filled 0 8) (life_at g h)) → IsSaid w
+          by_filled h t had true is = nothing_said h t (ap (λ l. l.history) is)
+          by_filled h t had false is =
               (let one : past w ≡ Filled 0 8 ∷ h = ap (λ l. l.history) is in
               record {
                 own = Some (length h, Filled 0 8);
                 word = inr refl;
                 holds_it = holds_own g shown standing faults ends tours shifts v w h t (Filled 0 8) one refl holds;
-                last = last_own g shown standing faults ends tours shifts v w h t (Filled 0 8) one refl holds;
+                last = last_own g shown standing faults ends tours shifts v w h t (Filled 0 8) one refl holds (λ size fills. had);
               })
       said (Err arrive_fault.WantMemory) event = (let it = event g given in nothing_said it.0 it.1 (ap (λ l. l.history) it.2.1))

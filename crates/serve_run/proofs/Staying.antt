@@ -1,5 +1,5 @@
 -- The run's own seat sees more, or makes an entry of its own connection.
-use Rattle.std.proofs.Common.{◌≡◌, ℕ, ◌≤◌, List, [], ◌∷◌, ◌++◌, length, reverse, Option, Some, None, sym, ap, ◌∙◌, subst, inl, inr, ⊎_elim, arith}
+use Rattle.std.proofs.Common.{◌≡◌, ℕ, ◌≤◌, true, List, [], ◌∷◌, ◌++◌, length, reverse, Option, Some, None, sym, ap, ◌∙◌, subst, inl, inr, ⊎_elim, arith}
 use Rattle.std.proofs.lemmas.List.{append-nil, length-reverse, reverse-append, reverse-reverse}
 use mathlib.Core.List.{reverse-cons}
 use mathlib.Core.Option.{some}
@@ -7,8 +7,10 @@ use lib.ListN.{get_elem?}
 use Rattle.outside.specs.Accepting.{Standing}
 use Rattle.outside.specs.Link.{Shown}
 use Rattle.poa_base.specs.declared.Entry.{Entry}
+use Rattle.poa_base.specs.declared.Entry.TheVariants.{Filled}
 use Rattle.poa_shared.specs.Seen.{past, Turns}
 use Rattle.poa_history.specs.declared.givens.Givens.{Givens}
+use Rattle.poa_history.specs.Legal.{had_shutdown}
 use Rattle.poa_history.specs.Owners.{owner_of, worker_of}
 use Rattle.seat_lock.specs.declared.view.View.{View}
 use Rattle.seat_lock.specs.Histories.{Belongs, In, IsClosed, IsPrefix}
@@ -22,6 +24,7 @@ use Rattle.serve_run.specs.Holding.{AreBefore, Holds, IsLast, IsOwn}
 use Rattle.serve_run.proofs.Closing.{belongs_before, closed_longer}
 use Rattle.serve_run.proofs.Helping.{turns_more}
 use Rattle.serve_run.proofs.JoiningDoors.{each_toured, each_worked}
+use Rattle.serve_run.proofs.Lasting.{had_longer}
 use Rattle.serve_run.proofs.Numbers.{here_in, no_worker}
 
 some_pair : (k place : ℕ) (e d : Entry) → k ≡ place → e ≡ d → ◌≡◌ {A = Option (ℕ × Entry)} (Some (k, e)) (Some (place, d))
@@ -29,6 +32,9 @@ some_pair k place e d p q = λ i. Some (p i, q i)
 
 pub place_of : (p q : ℕ × Entry) → Some p ≡ Some q → p.0 ≡ q.0
 place_of p q same = (let e : p ≡ q = cc in ap (λ r. r.0) e)
+
+pub entry_of : (p q : ℕ × Entry) → Some p ≡ Some q → p.1 ≡ q.1
+entry_of p q same = (let e : p ≡ q = cc in ap (λ r. r.1) e)
 
 module _ {A L : Type 0} (g : Givens) (shown : L → Shown) (standing : A → Option (Standing L)) (faults ends : A → ℕ) (tours : List (Tour A L))
     (shifts : List Shift) where
@@ -65,6 +71,7 @@ module _ {A L : Type 0} (g : Givens) (shown : L → Shown) (standing : A → Opt
     ended = last.ended;
     left = λ place e is k c there i b.
         (let old = subst (In k) mine there in last.left place e is k c old i (belongs_before owner_of v.seen w.seen grows k c (holds.ledger.within k old) b));
+    behind = λ place size is. had_longer v.seen w.seen grows (last.behind place size is);
   }
 
   module _ (v w : View Givens Entry) (h : List Entry) (t : Turns g v h w) where
@@ -157,8 +164,9 @@ module _ {A L : Type 0} (g : Givens) (shown : L → Shown) (standing : A → Opt
       before n far [] each = tt
       before n far (t ∷ more) each = ((let low = prefix_below t.stood v.seen each.0.later in omega arith), before n far more each.1)
 
-      pub last_own : IsLast {A = A} {L = L} (Some (length h, e)) tours w
-      last_own = record {
+      -- it fills the run only behind a `shutdown`
+      pub last_own : ((size : ℕ) → e ≡ Filled 0 size → had_shutdown h ≡ true) → IsLast {A = A} {L = L} (Some (length h, e)) tours w
+      last_own had = record {
         ended = λ place d same.
             (let at : length h ≡ place = place_of (length h, e) (place, d) same in let far = longer in before place (omega arith) tours holds.tours_are);
         left = λ place d same k c there i b.
@@ -167,4 +175,7 @@ module _ {A L : Type 0} (g : Givens) (shown : L → Shown) (standing : A → Opt
             (λ (old : In k v.mine). (let low = holds.ledger.within k old in let far = longer in omega arith))
             (λ (new : k ≡ length h). absurd (not_other c i k (subst (λ x. In x (length h ∷ [])) (sym new) (here_in (length h))) b))
             (in_added k (length h) v.mine (subst (In k) mine there)));
+        behind = λ place size same.
+            (let fills : e ≡ Filled 0 size = entry_of (length h, e) (place, Filled 0 size) same in
+            subst (λ l. had_shutdown l ≡ true) (sym is) (subst (λ d. had_shutdown (d ∷ h) ≡ true) (sym fills) (had size fills)));
       }

@@ -1,5 +1,5 @@
 -- What the run's own seat holds: its own connection, which is the first, and what was joined into it.
-use Rattle.std.specs.Prelude.{◌≡◌, ℕ, ◌<◌, ◌≤◌, length, List, [], ◌∷◌, Option, Some, None, ◌⊎◌}
+use Rattle.std.specs.Prelude.{◌≡◌, ℕ, ◌<◌, ◌≤◌, true, length, reverse, List, [], ◌∷◌, Option, Some, None, ◌⊎◌}
 use mathlib.Core.Option.{some}
 use lib.ListN.{get_elem?}
 use Rattle.outside.specs.Accepting.{Standing}
@@ -10,6 +10,7 @@ use Rattle.poa_base.specs.declared.Entry.{Entry}
 use Rattle.poa_base.specs.declared.Entry.TheVariants.{Entered, Arrive, Filled}
 use Rattle.poa_shared.specs.Helping.{IsHelpAt}
 use Rattle.poa_history.specs.declared.givens.Givens.{Givens}
+use Rattle.poa_history.specs.Legal.{had_shutdown}
 use Rattle.poa_history.specs.Owners.{owner_of}
 use Rattle.seat_lock.specs.declared.view.View.{View}
 use Rattle.seat_lock.specs.Histories.{Belongs, In}
@@ -39,11 +40,16 @@ abbrev pub AreBefore : {A L : Type 0} → ℕ → List (Tour A L) → Type 0
 AreBefore place [] = Unit {0}
 AreBefore place (t ∷ more) = (length t.stood ≤ place) × AreBefore place more
 
+-- it fills the run only where a `shutdown` had arrived: the first one is taken whatever the limits
+abbrev pub FillsBehind : Option (ℕ × Entry) → List Entry → Type 0
+FillsBehind own log = (place size : ℕ) → own ≡ Some (place, Filled 0 size) → had_shutdown (reverse log) ≡ true
+
 -- what it made last came when all doors had ended, and the connections that entered by them had made all their entries
 pub record IsLast {A L : Type 0} (own : Option (ℕ × Entry)) (tours : List (Tour A L)) (v : View Givens Entry) : Type 0 where
   pub ended : (place : ℕ) (e : Entry) → own ≡ Some (place, e) → AreBefore place tours
   pub left : (place : ℕ) (e : Entry) → own ≡ Some (place, e) → (k c : ℕ) → In k v.mine → In c (conns_in tours) → Belongs owner_of v.seen k c
       → k < place
+  pub behind : FillsBehind own v.seen
 
 -- what the run says on its own connection: the line `shutdown`, of eight bytes, or where that isn't taken for the limits of
 -- the run, that it fills it

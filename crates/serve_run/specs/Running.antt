@@ -8,6 +8,7 @@ use Rattle.poa_history.specs.Lifetime.{HasLifetime}
 use Rattle.poa_history.specs.declared.givens.Givens.{Givens}
 use Rattle.poa_history.specs.GivenRuns.{IsHistory}
 use Rattle.serve_run.specs.Attending.{Attended}
+use Rattle.serve_run.specs.Holding.{FillsBehind}
 use Rattle.serve_run.specs.Outcomes.{any_failed, least_in}
 use Rattle.serve_run.specs.Served.{AreConnections, EachDoor, EachEnded, IsFirst, NoneGaveUp, IsLastWord, IsRunOver, WorkedBelow}
 use Rattle.serve_run.specs.Tours.{Tour, conns_in, EachPassed}
@@ -27,6 +28,7 @@ module _ {A L : Type 0} (g : Givens) (standing : A → Option (Standing L)) (fau
   -- every piece was started: all came to the end of the run
   pub record IsWholeRun (tours : List (Tour A L)) (last : Option (ℕ × Entry)) (log : List Entry) : Type 0 where
     pub last_word : IsLastWord last log
+    pub behind : FillsBehind last log
     pub over : IsRunOver g log
     pub ended : EachEnded standing faults ends log tours
 
