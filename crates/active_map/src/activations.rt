@@ -116,7 +116,8 @@ impl Activations {
     /// what a search of all would, where only one that is ending and in the map can pass.
     pub fn leaving(&self) -> Iter<'_, u32>
         ensures finds { (p : Kept → Bool) → ((a : Kept) → p a ≡ true → is_leaving a ≡ true)
-            → find p (filter_map (λ n. find (λ a. a.number == n) self.now.kept) result) ≡ find p self.now.kept }
+            → find p (filter_map (λ n. find (λ a. a.number == n) self.now.kept) result)
+            ≡ find p self.now.kept }
         ensures runs { ShowsInOrder (deref {X = ℕ}) }
     {
         self.leaving.iter()
@@ -125,7 +126,8 @@ impl Activations {
     /// What is known of the numbers of those that are kept: each has 32 bits, and is that of no other.
     pub fn numbers(&self)
         ensures fit { (a : Kept) → In a self.now.kept → a.number < 4294967296 }
-        ensures alone { (a b : Kept) → In a self.now.kept → In b self.now.kept → a.number ≡ b.number → a ≡ b }
+        ensures alone { (a b : Kept) → In a self.now.kept → In b self.now.kept → a.number ≡ b.number
+            → a ≡ b }
     {
         let _rows = &self.rows;
     }
@@ -139,21 +141,25 @@ impl Activations {
 
     /// The first of an id that is active.
     pub fn active_of(&self, adapter: u32, oid: &[u8]) -> Option<&Activation>
-        ensures { option_copied result ≡ find (λ a. stands.is_of adapter oid.now a && stands.is_active a) self.now.kept }
+        ensures { option_copied result
+            ≡ find (λ a. stands.is_of adapter oid.now a && stands.is_active a) self.now.kept }
     {
         first_active(&self.rows, numbers_of(&self.ids, adapter, oid))
     }
 
     /// The first of an id that isn't over.
     pub fn live_of(&self, config: &Config, adapter: u32, oid: &[u8]) -> Option<&Activation>
-        ensures { option_copied result ≡ find (λ a. stands.is_of adapter oid.now a && not (ends.is_over config.now a)) self.now.kept }
+        ensures { option_copied result
+            ≡ find (λ a. stands.is_of adapter oid.now a && not (ends.is_over config.now a))
+            self.now.kept }
     {
         first_live(&self.rows, config, numbers_of(&self.ids, adapter, oid))
     }
 
     /// Whether one of an adapter isn't over.
     pub fn has_live(&self, config: &Config, adapter: u32) -> bool
-        ensures { result ≡ list_any (λ a. (a.adapter == adapter) && not (ends.is_over config.now a)) self.now.kept }
+        ensures { result ≡ list_any (λ a. (a.adapter == adapter) && not (ends.is_over config.now a))
+            self.now.kept }
     {
         match self.ids.get(&adapter) {
             Some(ids) => has_live(&self.rows, ids, config, adapter),
@@ -180,7 +186,8 @@ impl Activations {
         requires next { activation.number ≡ self.old.forgotten + length self.old.kept }
         requires few { activation.number < 4294967296 }
         requires lasts { activation.ending ≡ false }
-        ensures ok { OnOk result (self.new ≡ record self.old { kept = self.old.kept ++ activation ∷ [] }) }
+        ensures ok { OnOk result
+            (self.new ≡ record self.old { kept = self.old.kept ++ activation ∷ [] }) }
         ensures err { OnErr result (self.new ≡ self.old) }
     {
         let number = activation.number;
@@ -205,7 +212,10 @@ impl Activations {
 
     /// That of a number is changed. Takes no memory.
     fn change(&mut self, number: u32, change: Change<'_>)
-        ensures { self.new ≡ record self.old { kept = map (changes.at_number number (changed.made change.entry)) self.old.kept } }
+        ensures { self.new ≡ record self.old {
+          kept = map
+              (changes.at_number number (changed.made change.entry)) self.old.kept;
+        } }
     {
         if let Some(activation) = self.rows.get_mut(&number) {
             self.moving -= moves(activation);
@@ -217,7 +227,10 @@ impl Activations {
 
     /// That of a number, which is being incarnated, has come so far.
     pub fn bring(&mut self, number: u32, phase: Phase)
-        ensures { self.new ≡ record self.old { kept = map (changes.at_number number (changes.come_to phase)) self.old.kept } }
+        ensures { self.new ≡ record self.old {
+          kept = map
+              (changes.at_number number (changes.come_to phase)) self.old.kept;
+        } }
     {
         self.change(number, Change::Come(phase));
     }
@@ -244,7 +257,8 @@ impl Activations {
 
     /// Whether the servant of that of a number stays in the map by another one.
     fn remains(&self, number: u32) -> bool
-        ensures { (a : Kept) → In a self.now.kept → (a.number == number) ≡ true → result ≡ changes.is_elsewhere self.now.kept a }
+        ensures { (a : Kept) → In a self.now.kept → (a.number == number) ≡ true
+            → result ≡ changes.is_elsewhere self.now.kept a }
     {
         self.numbers();
         match self.numbered(number) {
@@ -257,7 +271,9 @@ impl Activations {
     pub fn take_out(&mut self, number: u32)
         ensures { self.new ≡ record self.old {
           kept = map
-              (changes.at_number number (λ a. record a { out = true; remaining = changes.is_elsewhere self.old.kept a })) self.old.kept;
+              (changes.at_number number
+              (λ a. record a { out = true; remaining = changes.is_elsewhere self.old.kept a }))
+              self.old.kept;
         } }
     {
         let remaining = self.remains(number);
@@ -267,15 +283,18 @@ impl Activations {
 
     /// The servant of that of a number is etherealized.
     pub fn etherealize(&mut self, number: u32)
-        ensures { self.new ≡ record self.old
-            { kept = map (changes.at_number number (λ a. record a { etherealized = true })) self.old.kept } }
+        ensures { self.new ≡ record self.old {
+          kept = map (changes.at_number number (λ a. record a { etherealized = true }))
+              self.old.kept;
+        } }
     {
         self.change(number, Change::Etherealize);
     }
 
     /// Those that a command ends are ending. Their numbers are entered first, since that may fail.
     fn end(&mut self, ending: Ending<'_>) -> Result<(), WantMemory>
-        ensures ok { OnOk result (self.new ≡ record self.old { kept = map (ended ending.entry) self.old.kept }) }
+        ensures ok { OnOk result
+            (self.new ≡ record self.old { kept = map (ended ending.entry) self.old.kept }) }
         ensures err { OnErr result (self.new ≡ self.old) }
     {
         enter_ended(&mut self.leaving, &self.rows, ending)?;
@@ -287,7 +306,10 @@ impl Activations {
     /// That of a number is ending, as a command makes it. Its number is entered first, since that may fail.
     fn end_one(&mut self, number: u32, ending: Ending<'_>) -> Result<(), WantMemory>
         ensures ok { OnOk result
-            (self.new ≡ record self.old { kept = map (changes.at_number number (ended ending.entry)) self.old.kept }) }
+            (self.new ≡ record self.old {
+              kept = map (changes.at_number number (ended ending.entry))
+                  self.old.kept;
+            }) }
         ensures err { OnErr result (self.new ≡ self.old) }
     {
         enter(&mut self.leaving, number)?;
@@ -308,7 +330,8 @@ impl Activations {
     ) -> Result<(), WantMemory>
         ensures ok { OnOk result (self.new ≡ record self.old {
           kept = map
-              (λ a. if tree.stands_under nodes.now path.now a.adapter then changes.ended_by_destroy etherealize a else a) self.old.kept;
+              (λ a. if tree.stands_under nodes.now path.now a.adapter then changes.ended_by_destroy
+              etherealize a else a) self.old.kept;
         }) }
         ensures err { OnErr result (self.new ≡ self.old) }
     {
@@ -320,7 +343,8 @@ impl Activations {
         ensures ok { OnOk result (self.new ≡ record self.old {
           kept = map
               (λ a. if configured.has_activator config.now a.path &&
-              (configured.manager_at config.now a.path == manager) then changes.ended_by_destroy true a else a) self.old.kept;
+              (configured.manager_at config.now a.path == manager) then changes.ended_by_destroy
+              true a else a) self.old.kept;
         }) }
         ensures err { OnErr result (self.new ≡ self.old) }
     {
@@ -329,8 +353,10 @@ impl Activations {
 
     /// Those of an id are ending. Fails for want of memory; then nothing is changed.
     pub fn end_id(&mut self, adapter: u32, oid: &Oid) -> Result<(), WantMemory>
-        ensures ok { OnOk result (self.new ≡ record self.old
-            { kept = map (λ a. if stands.is_of adapter oid.now a then record a { ending = true } else a) self.old.kept }) }
+        ensures ok { OnOk result (self.new ≡ record self.old {
+          kept = map (λ a. if stands.is_of adapter oid.now
+              a then record a { ending = true } else a) self.old.kept;
+        }) }
         ensures err { OnErr result (self.new ≡ self.old) }
     {
         let numbers = numbers_of(&self.ids, adapter, oid.as_slice());
@@ -354,7 +380,8 @@ impl Activations {
 
     /// Whether none of those that are leaving is to leave the map now.
     fn has_none_to_go(&self, config: &Config, flights: &[Flight]) -> bool
-        ensures { result ≡ true → (s : Stood) → s.flights ≡ flights.now → map (ends.let_out config.now s) self.now.kept ≡ self.now.kept }
+        ensures { result ≡ true → (s : Stood) → s.flights ≡ flights.now
+            → map (ends.let_out config.now s) self.now.kept ≡ self.now.kept }
     {
         !is_any_to_go(&self.leaving, &self.rows, config, flights)
     }
@@ -363,7 +390,8 @@ impl Activations {
     fn let_one_out(&mut self, config: &Config, flights: &[Flight])
         ensures forgotten { self.new.forgotten ≡ self.old.forgotten }
         ensures kept { (s : Stood) → s.flights ≡ flights.now
-            → map (ends.let_out config.now s) self.new.kept ≡ map (ends.let_out config.now s) self.old.kept }
+            → map (ends.let_out config.now s) self.new.kept
+            ≡ map (ends.let_out config.now s) self.old.kept }
     {
         if let Some(number) = first_to_go(&self.leaving, &self.rows, config, flights) {
             let number = *number;
@@ -375,7 +403,8 @@ impl Activations {
     fn let_few_out(&mut self, config: &Config, flights: &[Flight])
         ensures forgotten { self.new.forgotten ≡ self.old.forgotten }
         ensures kept { (s : Stood) → s.flights ≡ flights.now
-            → map (ends.let_out config.now s) self.new.kept ≡ map (ends.let_out config.now s) self.old.kept }
+            → map (ends.let_out config.now s) self.new.kept
+            ≡ map (ends.let_out config.now s) self.old.kept }
     {
         if self.leaving.len() > MANY {
             return;
@@ -399,7 +428,10 @@ impl Activations {
     /// That of a number leaves the map where it is to.
     pub fn let_out_at(&mut self, config: &Config, flights: &[Flight], number: u32)
         ensures { (s : Stood) → s.flights ≡ flights.now
-            → self.new ≡ record self.old { kept = map (changes.at_number number (ends.let_out config.now s)) self.old.kept } }
+            → self.new ≡ record self.old {
+              kept = map
+                  (changes.at_number number (ends.let_out config.now s)) self.old.kept;
+            } }
     {
         self.change(number, Change::LetOut(config, flights));
     }
@@ -407,8 +439,10 @@ impl Activations {
     /// That of a number is forgotten where it is over, but for its number.
     pub fn forget_at(&mut self, config: &Config, number: u32)
         ensures forgotten { self.new.forgotten ≡ self.old.forgotten
-            + length (filter (λ a. (a.number == number) && ends.is_over config.now a) self.old.kept) }
-        ensures kept { self.new.kept ≡ filter (λ a. not ((a.number == number) && ends.is_over config.now a)) self.old.kept }
+            + length (filter (λ a. (a.number == number) && ends.is_over config.now a)
+            self.old.kept) }
+        ensures kept { self.new.kept
+            ≡ filter (λ a. not ((a.number == number) && ends.is_over config.now a)) self.old.kept }
     {
         let Some(activation) = self.rows.get(&number) else {
             return;
@@ -427,7 +461,8 @@ impl Activations {
 
     /// Those that are over are forgotten, but for their number. All are looked at.
     fn forget_all(&mut self, config: &Config)
-        ensures forgotten { self.new.forgotten ≡ self.old.forgotten + length (filter (ends.is_over config.now) self.old.kept) }
+        ensures forgotten { self.new.forgotten
+            ≡ self.old.forgotten + length (filter (ends.is_over config.now) self.old.kept) }
         ensures kept { self.new.kept ≡ live config.now self.old.kept }
     {
         if self.moving > 0 {
@@ -449,7 +484,8 @@ impl Activations {
     /// One that is over is forgotten, but for its number, where there is one.
     fn forget_one(&mut self, config: &Config)
         ensures live { live config.now self.new.kept ≡ live config.now self.old.kept }
-        ensures begun { self.new.forgotten + length self.new.kept ≡ self.old.forgotten + length self.old.kept }
+        ensures begun { self.new.forgotten + length self.new.kept
+            ≡ self.old.forgotten + length self.old.kept }
     {
         if let Some(number) = first_over(&self.rows, config, self.passing.numbers.as_slice()) {
             let number = *number;
@@ -460,7 +496,8 @@ impl Activations {
     /// A few that are over are forgotten, but for their number.
     fn forget_few(&mut self, config: &Config)
         ensures live { live config.now self.new.kept ≡ live config.now self.old.kept }
-        ensures begun { self.new.forgotten + length self.new.kept ≡ self.old.forgotten + length self.old.kept }
+        ensures begun { self.new.forgotten + length self.new.kept
+            ≡ self.old.forgotten + length self.old.kept }
     {
         for _ in 0..FEW {
             self.forget_one(config);
@@ -469,7 +506,8 @@ impl Activations {
 
     /// Those that are over are forgotten, but for their number. All are looked at only where they may be many.
     pub fn forget(&mut self, config: &Config)
-        ensures forgotten { self.new.forgotten ≡ self.old.forgotten + length (filter (ends.is_over config.now) self.old.kept) }
+        ensures forgotten { self.new.forgotten
+            ≡ self.old.forgotten + length (filter (ends.is_over config.now) self.old.kept) }
         ensures kept { self.new.kept ≡ live config.now self.old.kept }
     {
         self.forget_few(config);

@@ -17,7 +17,8 @@ use poa_base::Config;
 
 /// Whether the activation of a number is of the adapter, and isn't over.
 fn is_live_at(rows: &Rows, config: &Config, adapter: u32, number: u32) -> bool
-    ensures { result ≡ at_one (λ a. (a.adapter == adapter) && not (ends.is_over config.now a)) (get nat_cmp rows.now number) }
+    ensures { result ≡ at_one (λ a. (a.adapter == adapter) && not (ends.is_over config.now a))
+        (get nat_cmp rows.now number) }
 {
     match rows.get(&number) {
         Some(activation) => activation.adapter == adapter && !is_over(config, activation),
@@ -27,7 +28,9 @@ fn is_live_at(rows: &Rows, config: &Config, adapter: u32, number: u32) -> bool
 
 /// Whether one of the numbers is that of such an activation.
 fn is_any_live(rows: &Rows, config: &Config, adapter: u32, numbers: &[u32]) -> bool
-    ensures { result ≡ list_any (λ n. at_one (λ a. (a.adapter == adapter) && not (ends.is_over config.now a)) (get nat_cmp rows.now n))
+    ensures { result ≡ list_any
+        (λ n. at_one (λ a. (a.adapter == adapter) && not (ends.is_over config.now a))
+        (get nat_cmp rows.now n))
         numbers.now }
 {
     numbers
@@ -38,7 +41,8 @@ fn is_any_live(rows: &Rows, config: &Config, adapter: u32, numbers: &[u32]) -> b
 /// Whether one of the ids has such an activation.
 pub fn has_live(rows: &Rows, ids: &Ids, config: &Config, adapter: u32) -> bool
     ensures { result ≡ list_any (λ numbers. list_any
-        (λ n. at_one (λ a. (a.adapter == adapter) && not (ends.is_over config.now a)) (get nat_cmp rows.now n)) numbers.items)
+        (λ n. at_one (λ a. (a.adapter == adapter) && not (ends.is_over config.now a))
+        (get nat_cmp rows.now n)) numbers.items)
         (values ids.now) }
 {
     ids.values().any(|numbers| is_any_live(rows, config, adapter, numbers.as_slice()))
@@ -46,7 +50,8 @@ pub fn has_live(rows: &Rows, ids: &Ids, config: &Config, adapter: u32) -> bool
 
 /// Whether the activation of a number is of the adapter, and its incarnation or etherealization hasn't ended.
 fn is_changing_at(rows: &Rows, config: &Config, adapter: u32, number: u32) -> bool
-    ensures { result ≡ at_one (λ a. (a.adapter == adapter) && situations.is_unfinished config.now a) (get nat_cmp rows.now number) }
+    ensures { result ≡ at_one (λ a. (a.adapter == adapter) && situations.is_unfinished config.now a)
+        (get nat_cmp rows.now number) }
 {
     match rows.get(&number) {
         Some(activation) => activation.adapter == adapter && is_unfinished(config, activation),
@@ -56,7 +61,8 @@ fn is_changing_at(rows: &Rows, config: &Config, adapter: u32, number: u32) -> bo
 
 /// Whether one of the numbers is that of such an activation.
 pub fn is_any_changing(rows: &Rows, config: &Config, adapter: u32, numbers: &[u32]) -> bool
-    ensures { result ≡ list_any (λ n. at_one (λ a. (a.adapter == adapter) && situations.is_unfinished config.now a)
+    ensures { result ≡ list_any
+        (λ n. at_one (λ a. (a.adapter == adapter) && situations.is_unfinished config.now a)
         (get nat_cmp rows.now n)) numbers.now }
 {
     numbers
@@ -67,7 +73,8 @@ pub fn is_any_changing(rows: &Rows, config: &Config, adapter: u32, numbers: &[u3
 /// Whether one of the ids has such an activation.
 pub fn has_changing(rows: &Rows, ids: &Ids, config: &Config, adapter: u32) -> bool
     ensures { result ≡ list_any (λ numbers. list_any
-        (λ n. at_one (λ a. (a.adapter == adapter) && situations.is_unfinished config.now a) (get nat_cmp rows.now n)) numbers.items)
+        (λ n. at_one (λ a. (a.adapter == adapter) && situations.is_unfinished config.now a)
+        (get nat_cmp rows.now n)) numbers.items)
         (values ids.now) }
 {
     ids.values().any(|numbers| is_any_changing(rows, config, adapter, numbers.as_slice()))
@@ -85,7 +92,8 @@ fn is_other_at(rows: &Rows, activation: &Activation, number: u32) -> bool
 
 /// Whether one of the numbers is that of such an activation.
 fn is_any_other(rows: &Rows, activation: &Activation, numbers: &[u32]) -> bool
-    ensures { result ≡ list_any (λ n. at_one (is_other activation.now) (get nat_cmp rows.now n)) numbers.now }
+    ensures { result ≡ list_any (λ n. at_one (is_other activation.now) (get nat_cmp rows.now n))
+        numbers.now }
 {
     numbers
         .iter()
@@ -94,7 +102,9 @@ fn is_any_other(rows: &Rows, activation: &Activation, numbers: &[u32]) -> bool
 
 /// Whether one of the ids has such an activation.
 pub fn has_other(rows: &Rows, ids: &Ids, activation: &Activation) -> bool
-    ensures { result ≡ list_any (λ numbers. list_any (λ n. at_one (is_other activation.now) (get nat_cmp rows.now n)) numbers.items)
+    ensures { result ≡ list_any
+        (λ numbers. list_any (λ n. at_one (is_other activation.now) (get nat_cmp rows.now n))
+        numbers.items)
         (values ids.now) }
 {
     ids.values().any(|numbers| is_any_other(rows, activation, numbers.as_slice()))

@@ -53,8 +53,10 @@ fn one(alloc: Global, number: u32) -> Result<Vec<u32>, WantMemory>
 
 /// One more of an id.
 fn add_in(alloc: Global, ids: &mut Ids, oid: &[u8], number: u32) -> Result<(), WantMemory>
-    ensures ok { OnOk result (by_id.IsWithin oid.now (by_id.numbers_in ids.old oid.now ++ number ∷ []) ids.old ids.new) }
-    ensures err { OnErr result (by_id.IsWithin oid.now (by_id.numbers_in ids.old oid.now) ids.old ids.new) }
+    ensures ok { OnOk result
+        (by_id.IsWithin oid.now (by_id.numbers_in ids.old oid.now ++ number ∷ []) ids.old ids.new) }
+    ensures err { OnErr result
+        (by_id.IsWithin oid.now (by_id.numbers_in ids.old oid.now) ids.old ids.new) }
 {
     match ids.get_mut(oid) {
         Some(numbers) => {
@@ -76,8 +78,12 @@ pub fn add(
     oid: &[u8],
     number: u32,
 ) -> Result<(), WantMemory>
-    ensures ok { OnOk result (by_id.IsAt adapter oid.now (by_id.numbers_of index.old adapter oid.now ++ number ∷ []) index.old index.new) }
-    ensures err { OnErr result (by_id.IsAt adapter oid.now (by_id.numbers_of index.old adapter oid.now) index.old index.new) }
+    ensures ok { OnOk result
+        (by_id.IsAt adapter oid.now (by_id.numbers_of index.old adapter oid.now ++ number ∷ [])
+        index.old index.new) }
+    ensures err { OnErr result
+        (by_id.IsAt adapter oid.now (by_id.numbers_of index.old adapter oid.now) index.old
+        index.new) }
 {
     match index.get_mut(&adapter) {
         Some(ids) => add_in(alloc, ids, oid, number),
@@ -99,7 +105,8 @@ fn drop_number(numbers: &mut Vec<u32>, number: u32)
 
 /// One less of an id. Takes no memory, and gives back that of an id that has none.
 fn remove_in(ids: &mut Ids, oid: &[u8], number: u32)
-    ensures { by_id.IsWithin oid.now (filter (λ n. not (n == number)) (by_id.numbers_in ids.old oid.now)) ids.old ids.new }
+    ensures { by_id.IsWithin oid.now
+        (filter (λ n. not (n == number)) (by_id.numbers_in ids.old oid.now)) ids.old ids.new }
 {
     let Some(numbers) = ids.get_mut(oid) else {
         return;
@@ -112,7 +119,8 @@ fn remove_in(ids: &mut Ids, oid: &[u8], number: u32)
 
 /// One less of an id of an adapter. Takes no memory.
 pub fn remove(index: &mut Index, adapter: u32, oid: &[u8], number: u32)
-    ensures { by_id.IsAt adapter oid.now (filter (λ n. not (n == number)) (by_id.numbers_of index.old adapter oid.now))
+    ensures { by_id.IsAt adapter oid.now
+        (filter (λ n. not (n == number)) (by_id.numbers_of index.old adapter oid.now))
         index.old index.new }
 {
     if let Some(ids) = index.get_mut(&adapter) {

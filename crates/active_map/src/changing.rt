@@ -39,7 +39,12 @@ pub fn etherealize(activation: &mut Activation)
 
 /// Whether the activation has the servant of another.
 fn shares_servant(activation: &Activation, other: &Activation) -> bool
-    ensures { result ≡ elim activation.now.phase [ Complete s ↦ stands.has_servant s other.now | Begun ↦ false | Void ↦ false ] }
+    ensures { result ≡ elim activation.now.phase [
+      | Complete s ↦ stands.has_servant s
+          other.now
+      | Begun ↦ false
+      | Void ↦ false
+    ] }
 {
     match activation.phase {
         Phase::Complete(servant) => has_servant(servant, other),
@@ -49,9 +54,15 @@ fn shares_servant(activation: &Activation, other: &Activation) -> bool
 
 /// Whether another activation has the same servant in the map of the same adapter.
 pub fn is_other(activation: &Activation, other: &Activation) -> bool
-    ensures { result ≡ not (other.now.number == activation.now.number) && ((other.now.adapter == activation.now.adapter)
+    ensures { result ≡ not (other.now.number == activation.now.number)
+        && ((other.now.adapter == activation.now.adapter)
         && (stands.is_mapped other.now &&
-        (elim activation.now.phase [ Complete s ↦ stands.has_servant s other.now | Begun ↦ false | Void ↦ false ]))) }
+        (elim activation.now.phase [
+          | Complete s ↦ stands.has_servant s
+              other.now
+          | Begun ↦ false
+          | Void ↦ false
+        ]))) }
 {
     other.number != activation.number
         && (other.adapter == activation.adapter
@@ -63,7 +74,8 @@ pub fn is_other(activation: &Activation, other: &Activation) -> bool
 pub fn is_to_leave(config: &Config, flights: &[Flight], activation: &Activation) -> bool
     ensures goes { result ≡ is_to_go config.now flights.now activation.now }
     ensures left { (s : Stood) → s.flights ≡ flights.now
-        → ends.let_out config.now s activation.now ≡ (if result then record activation.now { out = true } else activation.now) }
+        → ends.let_out config.now s activation.now
+        ≡ (if result then record activation.now { out = true } else activation.now) }
 {
     activation.ending
         && !activation.out
@@ -74,7 +86,8 @@ pub fn is_to_leave(config: &Config, flights: &[Flight], activation: &Activation)
 
 /// The activation leaves the map where that is due.
 pub fn let_out(config: &Config, flights: &[Flight], activation: &mut Activation)
-    ensures { (s : Stood) → s.flights ≡ flights.now → activation.new ≡ ends.let_out config.now s activation.old }
+    ensures { (s : Stood) → s.flights ≡ flights.now
+        → activation.new ≡ ends.let_out config.now s activation.old }
 {
     if is_to_leave(config, flights, activation) {
         activation.out = true;

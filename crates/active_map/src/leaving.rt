@@ -31,7 +31,9 @@ pub fn enter(leaving: &mut Leaving, number: u32) -> Result<(), WantMemory>
 /// The numbers of those that a command ends are among them from now on. Some of them may be where it fails.
 pub fn enter_ended(leaving: &mut Leaving, rows: &Rows, ending: Ending<'_>) -> Result<(), WantMemory>
     ensures wider { (n : ℕ) → In n leaving.old.keys → In n leaving.new.keys }
-    ensures ok { OnOk result ((a : Kept) → In a (values rows.now) → takes ending.entry a ≡ true → In a.number leaving.new.keys) }
+    ensures ok { OnOk result
+        ((a : Kept) → In a (values rows.now) → takes ending.entry a ≡ true
+        → In a.number leaving.new.keys) }
 {
     for activation in rows.values() {
         if ending.takes(activation) {
@@ -44,7 +46,8 @@ pub fn enter_ended(leaving: &mut Leaving, rows: &Rows, ending: Ending<'_>) -> Re
 /// A number is among them no longer. Takes no memory.
 pub fn strike(leaving: &mut Leaving, number: u32)
     ensures gone { contains nat_cmp leaving.new number ≡ false }
-    ensures others { (n : ℕ) → In n leaving.old.keys → (n == number) ≡ false → In n leaving.new.keys }
+    ensures others { (n : ℕ) → In n leaving.old.keys → (n == number) ≡ false
+        → In n leaving.new.keys }
 {
     let _was = leaving.remove(&number);
 }
@@ -68,7 +71,8 @@ fn goes_at(rows: &Rows, config: &Config, flights: &[Flight], number: u32) -> boo
 
 /// Whether one of them is to leave the map now.
 pub fn is_any_to_go(leaving: &Leaving, rows: &Rows, config: &Config, flights: &[Flight]) -> bool
-    ensures { result ≡ list_any (λ n. at_one (is_to_go config.now flights.now) (get nat_cmp rows.now n)) leaving.now.keys }
+    ensures { result ≡ list_any
+        (λ n. at_one (is_to_go config.now flights.now) (get nat_cmp rows.now n)) leaving.now.keys }
 {
     leaving
         .iter()
@@ -82,7 +86,9 @@ pub fn first_to_go<'a>(
     config: &Config,
     flights: &[Flight],
 ) -> Option<&'a u32>
-    ensures { option_copied result ≡ find (λ n. at_one (is_to_go config.now flights.now) (get nat_cmp rows.now n)) leaving.now.keys }
+    ensures { option_copied result
+        ≡ find (λ n. at_one (is_to_go config.now flights.now) (get nat_cmp rows.now n))
+        leaving.now.keys }
 {
     leaving
         .iter()

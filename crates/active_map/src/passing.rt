@@ -72,7 +72,8 @@ impl Passing {
 
     /// Makes room for as many as there may be, so that no other call takes memory.
     pub fn reserve(&mut self) -> Result<(), WantMemory>
-        ensures { (activations : List Kept) → IsNoted self.old activations → IsNoted self.new activations }
+        ensures { (activations : List Kept) → IsNoted self.old activations
+            → IsNoted self.new activations }
     {
         if self.numbers.is_empty() {
             self.numbers.reserve(MOST)?;
@@ -112,7 +113,8 @@ impl Passing {
 
     /// A number is among them no longer.
     pub fn strike(&mut self, number: u32)
-        ensures others { (n : ℕ) → In n self.old.numbers.items → (n == number) ≡ false → In n self.new.numbers.items }
+        ensures others { (n : ℕ) → In n self.old.numbers.items → (n == number) ≡ false
+            → In n self.new.numbers.items }
         ensures whole { self.new.is_whole ≡ self.old.is_whole }
         ensures own { self.new.are_own ≡ self.old.are_own }
     {
@@ -122,8 +124,10 @@ impl Passing {
     /// The number of an activation is among them where it passes, and else isn't.
     fn place(&mut self, activation: &Activation)
         ensures whole { self.new.is_whole ≡ true → self.old.is_whole ≡ true }
-        ensures others { (n : ℕ) → In n self.old.numbers.items → (n == activation.now.number) ≡ false → In n self.new.numbers.items }
-        ensures its { self.new.is_whole ≡ true → tables.is_passing activation.now ≡ true → In activation.now.number self.new.numbers.items }
+        ensures others { (n : ℕ) → In n self.old.numbers.items
+            → (n == activation.now.number) ≡ false → In n self.new.numbers.items }
+        ensures its { self.new.is_whole ≡ true → tables.is_passing activation.now ≡ true
+            → In activation.now.number self.new.numbers.items }
         ensures own { self.new.are_own ≡ self.old.are_own }
     {
         self.strike(activation.number);
@@ -176,7 +180,8 @@ fn is_over_at(rows: &Rows, config: &Config, number: u32) -> bool
 
 /// Whether one of the numbers is that of an activation that is over.
 pub fn is_any_over(rows: &Rows, config: &Config, numbers: &[u32]) -> bool
-    ensures { result ≡ list_any (λ n. at_one (ends.is_over config.now) (get nat_cmp rows.now n)) numbers.now }
+    ensures { result ≡ list_any (λ n. at_one (ends.is_over config.now) (get nat_cmp rows.now n))
+        numbers.now }
 {
     numbers
         .iter()
@@ -185,7 +190,8 @@ pub fn is_any_over(rows: &Rows, config: &Config, numbers: &[u32]) -> bool
 
 /// The first of the numbers that is that of an activation that is over.
 pub fn first_over<'a>(rows: &Rows, config: &Config, numbers: &'a [u32]) -> Option<&'a u32>
-    ensures { option_copied result ≡ find (λ n. at_one (ends.is_over config.now) (get nat_cmp rows.now n)) numbers.now }
+    ensures { option_copied result
+        ≡ find (λ n. at_one (ends.is_over config.now) (get nat_cmp rows.now n)) numbers.now }
 {
     numbers
         .iter()

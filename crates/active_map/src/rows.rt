@@ -50,7 +50,9 @@ pub fn count_moving(rows: &Rows) -> usize
 
 /// The activation of a number, where it is active.
 fn active_at(rows: &Rows, number: u32) -> Option<&Activation>
-    ensures { option_copied result ≡ option_and_then (λ a. if stands.is_active a then Some a else None) (get nat_cmp rows.now number) }
+    ensures { option_copied result
+        ≡ option_and_then (λ a. if stands.is_active a then Some a else None)
+        (get nat_cmp rows.now number) }
 {
     match rows.get(&number) {
         Some(activation) => {
@@ -66,7 +68,8 @@ fn active_at(rows: &Rows, number: u32) -> Option<&Activation>
 
 /// The first of some numbers whose activation is active.
 pub fn first_active<'a>(rows: &'a Rows, numbers: &[u32]) -> Option<&'a Activation>
-    ensures { option_copied result ≡ find stands.is_active (filter_map (get nat_cmp rows.now) numbers.now) }
+    ensures { option_copied result
+        ≡ find stands.is_active (filter_map (get nat_cmp rows.now) numbers.now) }
 {
     for number in numbers {
         if let Some(activation) = active_at(rows, *number) {
@@ -78,7 +81,9 @@ pub fn first_active<'a>(rows: &'a Rows, numbers: &[u32]) -> Option<&'a Activatio
 
 /// The activation of a number, where it isn't over.
 fn live_at<'a>(rows: &'a Rows, config: &Config, number: u32) -> Option<&'a Activation>
-    ensures { option_copied result ≡ option_and_then (λ a. if is_live config.now a then Some a else None) (get nat_cmp rows.now number) }
+    ensures { option_copied result
+        ≡ option_and_then (λ a. if is_live config.now a then Some a else None)
+        (get nat_cmp rows.now number) }
 {
     match rows.get(&number) {
         Some(activation) => {
@@ -94,7 +99,8 @@ fn live_at<'a>(rows: &'a Rows, config: &Config, number: u32) -> Option<&'a Activ
 
 /// The first of some numbers whose activation isn't over.
 pub fn first_live<'a>(rows: &'a Rows, config: &Config, numbers: &[u32]) -> Option<&'a Activation>
-    ensures { option_copied result ≡ find (is_live config.now) (filter_map (get nat_cmp rows.now) numbers.now) }
+    ensures { option_copied result
+        ≡ find (is_live config.now) (filter_map (get nat_cmp rows.now) numbers.now) }
 {
     for number in numbers {
         if let Some(activation) = live_at(rows, config, *number) {
@@ -116,7 +122,8 @@ pub fn end_all(rows: &mut Rows, ending: Ending<'_>)
 
 /// The activations that are to leave the map do.
 pub fn let_all_out(rows: &mut Rows, config: &Config, flights: &[Flight])
-    ensures { (s : Stood) → s.flights ≡ flights.now → rows.new.entries ≡ tables.with_each (ends.let_out config.now s) rows.old.entries }
+    ensures { (s : Stood) → s.flights ≡ flights.now
+        → rows.new.entries ≡ tables.with_each (ends.let_out config.now s) rows.old.entries }
 {
     rows.retain(|_, activation| {
         let_out(config, flights, activation);

@@ -3,7 +3,7 @@ pub mod Placing
 pub mod Staging
 pub mod Queueing
 pub mod Taking
-mod Firsts
+pub mod Firsts
 pub mod Flags
 pub mod Staying
 pub mod Bounds

@@ -2,7 +2,7 @@
 use Rattle.std.specs.Prelude.{◌≡◌, ℕ, zero, suc, ◌<◌, Bool, true, false, not, ◌&&◌, ◌||◌, ◌==◌, List, [], ◌∷◌, ◌++◌, filter, take, drop, length, slice_index_or, refl}
 use Rattle.std.specs.List.{list_any, remove}
 use Rattle.std.proofs.Common.{inl, inr, sym, ap, ap₂, subst, ◌∙◌, arith}
-use Rattle.std.proofs.lemmas.Bool.{cond_both, and_from, and_parts, and_right, eq-eqb}
+use Rattle.std.proofs.lemmas.Bool.{cond_both, and_from, and_right, eq-eqb, or_parts}
 use Rattle.poa_base.specs.declared.Config.{Config}
 use Rattle.history_standing.specs.declared.node.Node.{Node}
 use Rattle.history_standing.specs.Nodes.{stands_under}
@@ -162,3 +162,17 @@ module _ (c : Config) (s : Standing) where
     node_removed ns is goes =
         ap₂ {A = Standing} {B = List Node} (λ u ms. record u { nodes = ms }) so_far_next (is ∙ ap (λ u. remove u.nodes k) so_far_next)
         ∙ ap (λ ms. record s { nodes = ms }) (gone_here (stays c s) k s.nodes n lt (asked ∙ goes))
+
+-- while none is being destroyed, each stays
+keeps_living : (r d k : Bool) → d ≡ false → (r || not (d && k)) ≡ true
+keeps_living true d k is = refl
+keeps_living false false k is = refl
+keeps_living false true k is = absurd (cc)
+
+pub all_stay : (c : Config) (s : Standing) (ns : List Node) → list_any (λ n. n.dying) ns ≡ false → ns ≡ filter (stays c s) ns
+all_stay c s [] none = refl
+all_stay c s (n ∷ ns) none =
+    let parts = or_parts n.dying (list_any (λ m. m.dying) ns) none in
+    cond_both (stays c s n) (n ∷ filter (stays c s) ns) (filter (stays c s) ns) (λ ms. n ∷ ns ≡ ms)
+    (λ _. ap (λ ms. n ∷ ms) (all_stay c s ns parts.1))
+    (λ goes. absurd (let e : true ≡ false = sym (keeps_living (is_root n.path) n.dying (is_clear c s n.path) parts.0) ∙ goes in cc))

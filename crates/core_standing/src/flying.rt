@@ -4,7 +4,6 @@ ghost use Rattle.history_standing.specs.Changes as changes;
 ghost use Rattle.core_standing.specs.Seen.{seen};
 
 use crate::beginning::begun;
-use crate::keys::walk_to;
 use crate::standing::Standing;
 use history_standing::flights::flight_of;
 use history_standing::walks::{adapter_met, child_met, walk};
@@ -15,7 +14,6 @@ use std::alloc::Global;
 
 /// A request is admitted to the adapter of its key.
 fn add_request(
-    alloc: Global,
     standing: &mut Standing,
     arrival: u64,
     key: &KeyView<'_>,
@@ -25,7 +23,7 @@ fn add_request(
         (seen standing.new ≡ changes.with_request arrival key.now activation (seen standing.old)) }
     ensures err { OnErr result (seen standing.new ≡ seen standing.old) }
 {
-    let adapter = adapter_met(walk_to(alloc, &standing.nodes, key.path())?);
+    let adapter = adapter_met(walk(&standing.nodes, key.path()));
     standing.flights.push(Flight {
         arrival,
         adapter,
@@ -65,7 +63,7 @@ fn add_trial(
     ensures err { OnErr result (seen standing.new ≡ seen standing.old) }
 {
     let path = key.path().to_path(alloc)?;
-    let found = walk(&standing.nodes, path.as_slice());
+    let found = walk(&standing.nodes, key.path());
     let child = path_of(alloc, child_met(found, path.as_slice()))?;
     standing.flights.push(Flight {
         arrival,
@@ -88,8 +86,8 @@ fn add_incarnation(
     ensures err { OnErr result (seen standing.new ≡ seen standing.old) }
 {
     let number = standing.begun()?;
+    let adapter = adapter_met(walk(&standing.nodes, key.path()));
     let key = key.to_key(alloc)?;
-    let adapter = adapter_met(walk(&standing.nodes, key.path.as_slice()));
     let activation = begun(number, adapter, key.path, key.oid, Phase::Begun);
     standing.flights.reserve(1)?;
     standing.activations.push(activation)?;
@@ -119,10 +117,8 @@ pub fn admit(
         return Ok(());
     };
     match verdict {
-        Verdict::Serve(number) => add_request(alloc, standing, arrival, &key, Some(*number)),
-        Verdict::Preset(_) | Verdict::Locator(_) => add_request(
-            alloc, standing, arrival, &key, None,
-        ),
+        Verdict::Serve(number) => add_request(standing, arrival, &key, Some(*number)),
+        Verdict::Preset(_) | Verdict::Locator(_) => add_request(standing, arrival, &key, None),
         Verdict::Incarnate(_) => add_incarnation(alloc, standing, arrival, &key),
         Verdict::Try => add_trial(alloc, standing, arrival, &key),
         _ => Ok(()),

@@ -1,15 +1,13 @@
 //! The key that a target spells, seen where it lies, and what stands at its path.
-ghost use Rattle.std.specs.Prelude.{◌≡◌, option_copied, IfOk};
+ghost use Rattle.std.specs.Prelude.{◌≡◌, option_copied, IfSome};
 ghost use Rattle.history_standing.specs.Keys as keys;
-ghost use Rattle.history_standing.specs.Nodes as tree;
-ghost use Rattle.history_standing.specs.Walks as walks;
 
-use history_standing::walks::walk;
+use history_standing::nodes::node_numbered;
+use history_standing::walks::adapter_met;
 use history_standing::{Found, Node};
 use object_key::{KeyView, PathView, view_key};
-use poa_base::{Call, WantMemory};
+use poa_base::{Call, Name};
 use poa_history::calls::target_of;
-use std::alloc::Global;
 
 /// The key whose spelling the bytes are, if there is one. Takes no memory.
 pub fn key_of(bytes: &[u8]) -> Option<KeyView<'_>>
@@ -28,20 +26,10 @@ pub fn key_in(call: Option<&Call>) -> Option<KeyView<'_>>
     }
 }
 
-/// The adapter that stands at the path of a key. Takes no memory.
-pub fn adapter_at<'a>(nodes: &'a [Node], path: &PathView<'_>) -> Option<&'a Node>
-    ensures { option_copied result ≡ tree.node_at nodes.now path.now }
+/// The path of the adapter that the walk along the path of a key met, where it has the same names. Takes no memory.
+pub fn path_met<'a>(nodes: &'a [Node], found: Found, path: &PathView<'_>) -> Option<&'a [Name]>
+    ensures { IfSome result (λ names. names.now ≡ path.now) }
 {
-    nodes.iter().find(|node| path.is(node.path.as_slice()))
-}
-
-/// The walk from the root along the path of a key. Where an adapter stands there its own path is walked; else a
-/// copy, for which `WantMemory` says that no memory was left.
-pub fn walk_to(alloc: Global, nodes: &[Node], path: &PathView<'_>) -> Result<Found, WantMemory>
-    ensures { IfOk result (λ found. found ≡ walks.walk nodes.now path.now) }
-{
-    match adapter_at(nodes, path) {
-        Some(node) => Ok(walk(nodes, node.path.as_slice())),
-        None => Ok(walk(nodes, path.to_path(alloc)?.as_slice())),
-    }
+    let names = node_numbered(nodes, adapter_met(found))?.path.as_slice();
+    if path.is(names) { Some(names) } else { None }
 }

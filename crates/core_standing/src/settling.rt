@@ -1,5 +1,6 @@
 //! What has ended goes. Each change is made in place and takes no memory.
 ghost use Rattle.std.specs.Prelude.{◌≡◌, ℕ, false, true, map};
+ghost use Rattle.std.specs.List.{list_any};
 ghost use Rattle.history_standing.specs.Ends as ends;
 ghost use Rattle.core_standing.specs.Seen.{seen};
 ghost use Rattle.core_standing.specs.Touched.{Lasts, Others, is_touched, left};
@@ -10,6 +11,7 @@ ghost use Rattle.history_standing.specs.Trees.{In};
 use crate::ends::stays;
 use crate::standing::Standing;
 use crate::touched::Touched;
+use history_standing::Node;
 use poa_base::Config;
 
 /// What is to leave the map does, where none but what is touched is to.
@@ -31,15 +33,31 @@ fn let_out_ended(config: &Config, standing: &mut Standing, touched: Touched)
     }
 }
 
+/// Whether one of the adapters is being destroyed.
+fn is_any_dying(nodes: &[Node]) -> bool
+    ensures { result ≡ list_any (λ n. n.dying) nodes.now }
+{
+    nodes.iter().any(|node| node.dying)
+}
+
 /// The adapters that are gone are dropped, from the last one down. The others are asked of those that are
 /// left, which makes no difference: nothing that hasn't ended is in one that is gone.
-fn drop_gone(config: &Config, standing: &mut Standing)
+fn drop_each(config: &Config, standing: &mut Standing)
     ensures { seen standing.new ≡ ends.without_ended config.now (seen standing.old) }
 {
     for i in (0..standing.nodes.len()).rev() {
         if !stays(config, standing, &standing.nodes[i]) {
             standing.nodes.remove(i);
         }
+    }
+}
+
+/// The adapters that are gone are dropped. While none is being destroyed, none is.
+fn drop_gone(config: &Config, standing: &mut Standing)
+    ensures { seen standing.new ≡ ends.without_ended config.now (seen standing.old) }
+{
+    if is_any_dying(&standing.nodes) {
+        drop_each(config, standing);
     }
 }
 

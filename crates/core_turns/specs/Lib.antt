@@ -3,3 +3,6 @@ pub mod Said
 pub mod Looks
 pub mod Told
 pub mod Answered
+pub mod Templates
+pub mod Ways
+pub mod Busy

@@ -16,6 +16,8 @@ ghost use Rattle.history_standing.specs.Opening.{made_id as id_made};
 ghost use Rattle.history_standing.specs.Nodes as tree;
 ghost use Rattle.core_standing.specs.Seen.{seen};
 ghost use Rattle.core_settings.specs.Told.{Tells};
+ghost use Rattle.poa_base.specs.declared.Config.{Config as Conf};
+ghost use Rattle.history_standing.specs.Templates as configured;
 
 use crate::answered::{good, good_or_wait, refusal};
 use crate::referring::reference_row;
@@ -32,7 +34,8 @@ use history_standing::paths::parent_path;
 use history_standing::templates::{has_template, manager_number, policies_at, servant_number};
 use poa_base::limits::ADAPTERS;
 use poa_base::{
-    Answer, Command, Config, ManagerState, Name, Oid, Order, Path, Reason, Sid, Verdict, WantMemory,
+    Answer, Command, Config, ManagerState, Name, Oid, Order, Path, PolicySet, Reason, Sid, Verdict,
+    WantMemory,
 };
 use std::alloc::Global;
 
@@ -189,11 +192,19 @@ fn is_unmade(run: u32, made: u32, oid: &[u8]) -> bool
     ulong(&oid[..4]) == run && (ordinal == 0 || made < ordinal)
 }
 
+/// Whether an id is none that an adapter of these policies has made, where it makes its ids.
+pub fn is_bad_for(policies: PolicySet, run: u32, made: u32, oid: &[u8]) -> bool
+    ensures { (c : Conf) (p : List (List ℕ)) → policies ≡ configured.policies_at c p
+        → result ≡ rows.is_bad_id c run made p oid.now }
+{
+    policies.makes_ids() && (oid.len() != 8 || is_unmade(run, made, oid))
+}
+
 /// Whether an id is none that an adapter that makes its ids has made.
-pub fn is_bad_id(config: &Config, run: u32, made: u32, path: &[Name], oid: &[u8]) -> bool
+fn is_bad_id(config: &Config, run: u32, made: u32, path: &[Name], oid: &[u8]) -> bool
     ensures { result ≡ rows.is_bad_id config.now run made path.now oid.now }
 {
-    policies_at(config, path).makes_ids() && (oid.len() != 8 || is_unmade(run, made, oid))
+    is_bad_for(policies_at(config, path), run, made, oid)
 }
 
 /// Whether one of them is of the id and active.

@@ -11,17 +11,22 @@ ghost use Rattle.core_standing.specs.Seen.{seen};
 ghost use Rattle.history_standing.specs.Walks.{place_met as place_is, walk as walk_along};
 ghost use Rattle.core_settings.specs.Told.{Tells};
 ghost use Rattle.core_turns.specs.Said.{IsAsSaid};
+ghost use Rattle.core_turns.specs.Templates.{IsTemplate};
+ghost use Rattle.core_turns.specs.Ways.{IsWay};
+ghost use Rattle.poa_base.specs.declared.Config.{Config as Conf};
+ghost use Rattle.history_standing.specs.declared.found.Found.{Found as FoundIs};
 
-use crate::commands::is_bad_id;
-use crate::rules::located;
+use crate::commands::is_bad_for;
+use crate::rules::located_among;
+use crate::template::{Template, template_met, template_of};
 use active_map::Activations;
 use core_settings::{Settings, forward_of, manager_state, preset_of};
 use core_standing::Standing;
-use core_standing::keys::{adapter_at, key_in};
+use core_standing::keys::{key_in, path_met};
 use history_standing::Found;
 use history_standing::flights::{is_running, is_tried};
-use history_standing::templates::{children_at, is_other_tag, manager_at, policies_at, rules_at};
-use history_standing::walks::{adapter_met, child_met, place_met, walk};
+use history_standing::templates::is_other;
+use history_standing::walks::{adapter_met, child_met, walk};
 use object_key::KeyView;
 use poa_base::{Bytes, Call, Config, Endpoint, ManagerState, Name, Stamp, WantMemory};
 use poa_choose::{Facts, KeyFact, MapFact, WalkFact};
@@ -73,10 +78,11 @@ fn walk_fact(found: Found) -> WalkFact
 }
 
 /// Whether the lifespan differs, or the number that a transient key gives.
-fn differs(config: &Config, key: &KeyView<'_>, path: &[Name], adapter: u32) -> bool
-    ensures { path.now ≡ key.now.path → result ≡ situations.differs config.now key.now adapter }
+fn differs(template: &Template<'_>, key: &KeyView<'_>, adapter: u32) -> bool
+    ensures { (c : Conf) → IsTemplate (templates.template_or_root c key.now.path) template.now
+        → result ≡ situations.differs c key.now adapter }
 {
-    let lasts = policies_at(config, path).lasts();
+    let lasts = template.policies.lasts();
     match key.stamp() {
         None => !lasts,
         Some(stamp) => lasts || stamp.number != adapter,
@@ -84,27 +90,28 @@ fn differs(config: &Config, key: &KeyView<'_>, path: &[Name], adapter: u32) -> b
 }
 
 /// Whether the key is persistent and has another tag than the template of its path.
-fn other_tag(config: &Config, key: &KeyView<'_>, path: &[Name]) -> bool
-    ensures { path.now ≡ key.now.path → result ≡ situations.other_tag config.now key.now }
+fn other_tag(template: &Template<'_>, key: &KeyView<'_>) -> bool
+    ensures { (c : Conf) → IsTemplate (templates.template_or_root c key.now.path) template.now
+        → result ≡ situations.other_tag c key.now }
 {
     match key.stamp() {
-        None => is_other_tag(config, path, key.tag()),
+        None => is_other(key.tag(), template.tag, template.old_keys),
         Some(_) => false,
     }
 }
 
-/// Whether the adapter of a path has an adapter activator.
-fn tries(config: &Config, path: &[Name]) -> bool
-    ensures { result ≡ is_some (templates.template_or_root config.now path.now).children }
+/// Whether its adapter has an adapter activator.
+fn tries(template: &Template<'_>) -> bool
+    ensures { result ≡ is_some template.now.children }
 {
-    children_at(config, path).is_some()
+    template.children.is_some()
 }
 
-/// Whether the adapter of a path has a servant manager.
-fn has_rules(config: &Config, path: &[Name]) -> bool
-    ensures { result ≡ elim (templates.rules_at config.now path.now) [ [] ↦ false | _ ∷ _ ↦ true ] }
+/// Whether its adapter has a servant manager.
+fn has_rules(template: &Template<'_>) -> bool
+    ensures { result ≡ elim template.now.rules.now [ [] ↦ false | _ ∷ _ ↦ true ] }
 {
-    !rules_at(config, path).is_empty()
+    !template.rules.is_empty()
 }
 
 /// What they are for an id.
@@ -153,16 +160,15 @@ struct AsSet {
     entry: Option<Endpoint>,
 }
 
-/// What is set: the state of the manager of a place that the walk along the path meets, the default servant
-/// of the path, and the endpoint of the longest path that leads to it.
+/// What is set: the state of a manager, the default servant of the path, and the endpoint of the longest path that leads to it.
 fn as_set(
     config: &Config,
     settings: &Settings,
-    place: &[Name],
+    manager: u32,
     path: &[Name],
 ) -> Result<AsSet, WantMemory>
     ensures { (past : List Entry) → Tells config.now past settings.now
-        → IfOk result (λ set. IsAsSaid config.now past place.now path.now set) }
+        → IfOk result (λ set. IsAsSaid config.now past manager path.now set) }
 {
     let preset = match preset_of(config, settings, path) {
         Some(name) => Some(name.clone()?),
@@ -173,7 +179,7 @@ fn as_set(
         None => None,
     };
     Ok(AsSet {
-        state: manager_state(settings, manager_at(config, place)),
+        state: manager_state(settings, manager),
         preset,
         entry,
     })
@@ -187,6 +193,28 @@ struct Asked {
     key: KeyFact,
 }
 
+/// The path of a key, what the walk along it meets, and the templates of the path and of the adapter met.
+#[derive(Clone, Copy, Drop)]
+struct Way<'a> {
+    path: &'a [Name],
+    found: Found,
+    own: Template<'a>,
+    met: Template<'a>,
+}
+
+/// The way along a path, of which the walk meets this.
+fn way_of<'a>(config: &'a Config, path: &'a [Name], found: Found) -> Way<'a>
+    ensures { IsWay config.now path.now found result }
+{
+    let own = template_of(config, path);
+    Way {
+        path,
+        found,
+        own,
+        met: template_met(config, found, path, own),
+    }
+}
+
 /// What stands about a key, given what the walk meets and what is set.
 fn facts_met(
     config: &Config,
@@ -195,43 +223,42 @@ fn facts_met(
     set: AsSet,
     asked: Asked,
     key: &KeyView<'_>,
-    path: &[Name],
-    found: Found,
+    way: Way<'_>,
 ) -> Result<Facts, WantMemory>
-    ensures { (past : List Entry) → path.now ≡ key.now.path
-        → IsAsSaid config.now past (place_is found key.now.path) key.now.path set
+    ensures { (past : List Entry) (found : FoundIs) → IsWay config.now key.now.path found way.entry
+        → IsAsSaid config.now past (templates.manager_at config.now (place_is found key.now.path))
+        key.now.path set
         → IfOk result (λ facts. facts ≡ situations.facts_met config.now run past (seen standing.now)
         asked.locate asked.crowded asked.key key.now found) }
 {
     let oid = key.oid();
-    let adapter = adapter_met(found);
-    let place = place_met(found, path);
+    let adapter = adapter_met(way.found);
     Ok(Facts {
         locate: asked.locate,
         crowded: asked.crowded,
         key: asked.key,
-        walk: walk_fact(found),
+        walk: walk_fact(way.found),
         adapter,
-        manager: manager_at(config, place),
+        manager: way.met.manager,
         state: set.state,
-        trial: is_tried(&standing.flights, child_met(found, path)),
-        tries: tries(config, place),
+        trial: is_tried(&standing.flights, child_met(way.found, way.path)),
+        tries: tries(&way.met),
         entry: set.entry,
-        differs: differs(config, key, path, adapter),
-        other_tag: other_tag(config, key, path),
-        policies: policies_at(config, path),
+        differs: differs(&way.own, key, adapter),
+        other_tag: other_tag(&way.own, key),
+        policies: way.own.policies,
         running: is_running(&standing.flights, adapter),
         slot: slot_of(config, standing, adapter, oid),
-        bad_id: is_bad_id(config, run, standing.made, path, oid),
+        bad_id: is_bad_for(way.own.policies, run, standing.made, oid),
         preset: set.preset,
-        rules: has_rules(config, path),
+        rules: has_rules(&way.own),
         busy: is_changing(config, standing, adapter),
         next: standing.begun()?,
-        located: located(config, path, oid)?,
+        located: located_among(config, way.own.rules, oid)?,
     })
 }
 
-/// What stands about a key of this path.
+/// What stands about a key of this path, given what the walk along it meets.
 fn facts_at(
     config: &Config,
     run: u32,
@@ -240,15 +267,15 @@ fn facts_at(
     asked: Asked,
     key: &KeyView<'_>,
     path: &[Name],
+    found: Found,
 ) -> Result<Facts, WantMemory>
     ensures { (past : List Entry) → path.now ≡ key.now.path → Tells config.now past settings.now
         → IfOk result (λ facts. facts ≡ situations.facts_met config.now run past (seen standing.now)
-        asked.locate asked.crowded asked.key key.now
-        (walk_along (seen standing.now).nodes key.now.path)) }
+        asked.locate asked.crowded asked.key key.now found) }
 {
-    let found = walk(&standing.nodes, path);
-    let set = as_set(config, settings, place_met(found, path), path)?;
-    facts_met(config, run, standing, set, asked, key, path, found)
+    let way = way_of(config, path, found);
+    let set = as_set(config, settings, way.met.manager, path)?;
+    facts_met(config, run, standing, set, asked, key, way)
 }
 
 /// What stands about a key. Its path is that of the adapter that stands there, or else a copy.
@@ -266,14 +293,21 @@ fn facts_about(
         asked.locate asked.crowded asked.key key.now
         (walk_along (seen standing.now).nodes key.now.path)) }
 {
-    match adapter_at(&standing.nodes, key.path()) {
-        Some(node) => {
-            let path = node.path.as_slice();
-            facts_at(config, run, standing, settings, asked, key, path)
-        }
+    let found = walk(&standing.nodes, key.path());
+    match path_met(&standing.nodes, found, key.path()) {
+        Some(path) => facts_at(config, run, standing, settings, asked, key, path, found),
         None => {
             let path = key.path().to_path(alloc)?;
-            facts_at(config, run, standing, settings, asked, key, path.as_slice())
+            facts_at(
+                config,
+                run,
+                standing,
+                settings,
+                asked,
+                key,
+                path.as_slice(),
+                found,
+            )
         }
     }
 }

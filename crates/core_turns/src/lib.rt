@@ -10,6 +10,7 @@ mod looks;
 mod references;
 mod referring;
 mod rules;
+mod template;
 mod turns;
 mod verdicts;
 

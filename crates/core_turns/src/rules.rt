@@ -12,7 +12,7 @@ use core_standing::searches::is_in_map;
 use history_standing::Activation;
 use history_standing::templates::{policies_at, rules_at, servant_name};
 use poa_base::{
-    Completion, Config, ExcName, Gives, Incarnation, Name, Sid, SysExc, WantMemory, minors,
+    Completion, Config, ExcName, Gives, Incarnation, RuleConf, Sid, SysExc, WantMemory, minors,
 };
 use poa_choose::Located;
 
@@ -96,11 +96,12 @@ fn located_servant(config: &Config, servant: u32) -> Result<Located, WantMemory>
     }
 }
 
-/// What the servant locator gives for an id.
-pub fn located(config: &Config, path: &[Name], oid: &[u8]) -> Result<Located, WantMemory>
-    ensures { IfOk result (λ found. found ≡ rules.located config.now path.now oid.now) }
+/// What a servant locator with these rules gives for an id.
+pub fn located_among(config: &Config, all: &[RuleConf], oid: &[u8]) -> Result<Located, WantMemory>
+    ensures { IfOk result
+        (λ found. found ≡ rules.located_by config.now (rules.rule_for all.now oid.now)) }
 {
-    let Some(rule) = rule_for(rules_at(config, path), oid) else {
+    let Some(rule) = rule_for(all, oid) else {
         return Ok(Located::NoRule);
     };
     match &rule.gives {

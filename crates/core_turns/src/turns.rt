@@ -5,7 +5,9 @@ ghost use Rattle.history_standing.specs.Standings as stands;
 ghost use Rattle.history_standing.specs.Templates as configured;
 ghost use Rattle.poa_history.specs.Turns as turns;
 ghost use Rattle.core_standing.specs.Seen.{seen};
+ghost use Rattle.core_turns.specs.Busy.{IsBusy};
 ghost use Rattle.core_turns.specs.Needs.{needs_memory};
+ghost use Rattle.history_standing.specs.Situations as situations;
 
 use crate::facts::is_changing;
 use crate::rules::brought;
@@ -174,31 +176,60 @@ fn is_told(config: &Config, activation: &Activation) -> bool
             && (has_activator(config, activation.path.as_slice()) && !activation.out))
 }
 
-/// Whether an activation is to be taken out.
-fn is_due(config: &Config, standing: &Standing, activation: &Activation) -> bool
-    ensures { result ≡ turns.is_due config.now (seen standing.now) activation.now }
+/// Whether an incarnation or etherealization is unfinished in an adapter, where it is known of `busy` that one is. Of
+/// several that are asked for one adapter the first alone is looked at, where it is.
+fn is_busy(config: &Config, standing: &Standing, adapter: u32, busy: &mut Option<u32>) -> bool
+    requires { IsBusy config.now (seen standing.now) busy.old }
+    ensures is { result
+        ≡ situations.is_changing config.now (seen standing.now).activations adapter }
+    ensures busy { IsBusy config.now (seen standing.now) busy.new }
 {
-    is_told(config, activation)
-        && (!is_used(&standing.flights, activation.number)
-            && !is_changing(config, standing, activation.adapter))
+    if *busy == Some(adapter) {
+        return true;
+    }
+    let changing = is_changing(config, standing, adapter);
+    if changing {
+        *busy = Some(adapter);
+    }
+    changing
+}
+
+/// Whether an activation is to be taken out, where it is known that the adapter `busy` is changing.
+fn is_due(
+    config: &Config,
+    standing: &Standing,
+    activation: &Activation,
+    busy: &mut Option<u32>,
+) -> bool
+    requires { IsBusy config.now (seen standing.now) busy.old }
+    ensures due { result ≡ turns.is_due config.now (seen standing.now) activation.now }
+    ensures busy { IsBusy config.now (seen standing.now) busy.new }
+{
+    if is_busy(config, standing, activation.adapter, busy) {
+        return false;
+    }
+    is_told(config, activation) && !is_used(&standing.flights, activation.number)
 }
 
 /// The activation of a number, where it is to be taken out.
-fn due_at<'a>(config: &Config, standing: &'a Standing, number: u32) -> Option<&'a Activation>
-    ensures { option_copied result
+fn due_at<'a>(
+    config: &Config,
+    standing: &'a Standing,
+    number: u32,
+    busy: &mut Option<u32>,
+) -> Option<&'a Activation>
+    requires { IsBusy config.now (seen standing.now) busy.old }
+    ensures due { option_copied result
         ≡ option_and_then (λ a.
         if turns.is_due config.now (seen standing.now) a then Some a else None)
         (find (λ a. a.number == number) standing.now.activations.kept) }
+    ensures busy { IsBusy config.now (seen standing.now) busy.new }
 {
-    match standing.activations.numbered(number) {
-        Some(activation) => {
-            if is_due(config, standing, activation) {
-                Some(activation)
-            } else {
-                None
-            }
-        }
-        None => None,
+    let activation = standing.activations.numbered(number)?;
+    if is_due(config, standing, activation, busy) {
+        Some(activation)
+    } else {
+        None
     }
 }
 
@@ -207,8 +238,9 @@ fn first_due<'a>(config: &Config, standing: &'a Standing) -> Option<&'a Activati
     ensures { option_copied result
         ≡ find (turns.is_due config.now (seen standing.now)) standing.now.activations.kept }
 {
+    let mut busy = None;
     for number in standing.activations.leaving() {
-        if let Some(activation) = due_at(config, standing, *number) {
+        if let Some(activation) = due_at(config, standing, *number, &mut busy) {
             return Some(activation);
         }
     }

@@ -8,3 +8,4 @@ mod Parents
 pub mod Tests
 pub mod CallsKept
 pub mod Clear
+mod Ends

@@ -32,7 +32,8 @@ pub fn is_used(flights: &[Flight], activation: u32) -> bool
 
 /// Whether a request, and not a trial, is in flight in the adapter.
 fn runs_in(flight: &Flight, adapter: u32) -> bool
-    ensures { result ≡ (flight.now.adapter == adapter) && (elim flight.now.child [ None ↦ true | Some p ↦ false ]) }
+    ensures { result ≡ (flight.now.adapter == adapter)
+        && (elim flight.now.child [ None ↦ true | Some p ↦ false ]) }
 {
     flight.adapter == adapter && flight.child.is_none()
 }
@@ -46,7 +47,11 @@ pub fn is_running(flights: &[Flight], adapter: u32) -> bool
 
 /// Whether it is a trial of this child.
 fn tries(flight: &Flight, child: &[Name]) -> bool
-    ensures { result ≡ elim flight.now.child [ Some q ↦ paths.same_path q child.now | None ↦ false ] }
+    ensures { result ≡ elim flight.now.child [
+      | Some q ↦ paths.same_path q
+          child.now
+      | None ↦ false
+    ] }
 {
     match &flight.child {
         Some(path) => path.as_slice() == child,

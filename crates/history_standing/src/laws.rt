@@ -18,8 +18,10 @@ pub fn calls_are_numbered()
 
 /// An adapter that goes has nothing left in it or below it: no request or trial is in flight, and each activation is over.
 pub fn nothing_is_left()
-    ensures idle { (c : Config) (s : Standing) (p : List (List ℕ)) (f : Flight) → is_clear c s p ≡ true → In f s.flights
+    ensures idle { (c : Config) (s : Standing) (p : List (List ℕ)) (f : Flight)
+        → is_clear c s p ≡ true → In f s.flights
         → stands_under s.nodes p f.adapter ≡ false }
-    ensures over { (c : Config) (s : Standing) (p : List (List ℕ)) (a : Activation) → is_clear c s p ≡ true → In a s.activations
+    ensures over { (c : Config) (s : Standing) (p : List (List ℕ)) (a : Activation)
+        → is_clear c s p ≡ true → In a s.activations
         → stands_under s.nodes p a.adapter ≡ true → is_over c a ≡ true }
 {}

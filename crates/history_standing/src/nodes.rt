@@ -16,7 +16,7 @@ pub fn node_at<'a>(nodes: &'a [Node], path: &[Name]) -> Option<&'a Node>
 }
 
 /// The child of this name.
-pub(crate) fn child_of<'a>(nodes: &'a [Node], parent: &[Name], name: &Name) -> Option<&'a Node>
+pub(crate) fn child_of<'a>(nodes: &'a [Node], parent: &[Name], name: &[u8]) -> Option<&'a Node>
     ensures { option_copied result ≡ tree.node_at nodes.now (parent.now ++ name.now ∷ []) }
 {
     nodes

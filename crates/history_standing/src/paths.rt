@@ -17,16 +17,13 @@ pub fn leads_to(path: &[Name], other: &[Name]) -> bool
     }
 }
 
-/// Whether the path is that of the child of this name.
-pub(crate) fn is_child(path: &[Name], parent: &[Name], name: &Name) -> bool
+/// Whether the path is that of the child of this name. Most paths that differ do so in their last names.
+pub(crate) fn is_child(path: &[Name], parent: &[Name], name: &[u8]) -> bool
     ensures { result ≡ paths.same_path path.now (parent.now ++ name.now ∷ []) }
 {
     match path {
         [] => false,
-        [first, path @ ..] => match parent {
-            [] => first == name && path.is_empty(),
-            [parent_name, parent @ ..] => first == parent_name && is_child(path, parent, name),
-        },
+        [above @ .., last] => last.as_slice() == name && above == parent,
     }
 }
 

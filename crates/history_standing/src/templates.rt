@@ -46,7 +46,7 @@ fn is_entry_of(entry: &AdapterConf, path: &[Name]) -> bool
 }
 
 /// The configured entry of a path.
-fn entry_of<'a>(config: &'a Config, path: &[Name]) -> Option<&'a AdapterConf>
+pub fn entry_of<'a>(config: &'a Config, path: &[Name]) -> Option<&'a AdapterConf>
     ensures { option_copied result ≡ configured.entry_of config.now path.now }
 {
     config
@@ -58,7 +58,8 @@ fn entry_of<'a>(config: &'a Config, path: &[Name]) -> Option<&'a AdapterConf>
 
 /// The configured entry of a path other than the root's.
 fn own_entry<'a>(config: &'a Config, path: &[Name]) -> Option<&'a AdapterConf>
-    ensures { option_copied result ≡ elim path.now [ [] ↦ None | x ∷ p ↦ configured.entry_of config.now path.now ] }
+    ensures { option_copied result
+        ≡ elim path.now [ [] ↦ None | x ∷ p ↦ configured.entry_of config.now path.now ] }
 {
     match path {
         [] => None,
@@ -117,20 +118,10 @@ pub fn tag_at(config: &Config, path: &[Name]) -> u16
 }
 
 /// Whether a tag is another than its template's own, and not none where that still serves old keys.
-fn is_other(tag: u16, own: u16, old_keys: bool) -> bool
+pub fn is_other(tag: u16, own: u16, old_keys: bool) -> bool
     ensures { result ≡ (not (tag == own) && not ((tag == 0) && old_keys)) }
 {
     tag != own && !(tag == 0 && old_keys)
-}
-
-/// Whether a persistent key of a path, with this tag, has another one than the template of the path.
-pub fn is_other_tag(config: &Config, path: &[Name], tag: u16) -> bool
-    ensures { result ≡ configured.is_other_tag (configured.template_or_root config.now path.now) tag }
-{
-    match own_entry(config, path) {
-        Some(entry) => is_other(tag, entry.tag, entry.old_keys),
-        None => is_other(tag, 0, true),
-    }
 }
 
 /// What the adapter activator of the adapter of a path does; none where it has none.
@@ -149,7 +140,8 @@ pub fn preset_at(config: &Config, path: &[Name]) -> Option<u32>
 
 /// Whether an adapter of the entry has a servant activator.
 fn activates(entry: &AdapterConf) -> bool
-    ensures { result ≡ configured.retains entry.now.policies && (configured.uses_servant_manager entry.now.policies
+    ensures { result ≡ configured.retains entry.now.policies
+        && (configured.uses_servant_manager entry.now.policies
         && (elim entry.now.rules [ [] ↦ false | _ ∷ _ ↦ true ])) }
 {
     let policies = entry.policies;

@@ -6,32 +6,32 @@ ghost use Rattle.history_standing.specs.declared.found.Found.{Found};
 use crate::found::Found;
 use crate::node::Node;
 use crate::nodes::{child_of, node_at};
+use object_key::PathView;
 use poa_base::Name;
 
 /// From an adapter along the rest of the path.
-fn walk_from(nodes: &[Node], here: &Node, rest: &[Name]) -> Found
+fn walk_from(nodes: &[Node], here: &Node, rest: &PathView<'_>) -> Found
     ensures { result ≡ walks.walk_from nodes.now here.now rest.now }
 {
-    match rest {
-        [] => arrived(here),
-        [name, rest @ ..] => {
-            if here.dying {
-                return Found::Dying(here.number);
-            }
-            match child_of(nodes, here.path.as_slice(), name) {
-                Some(child) => walk_from(nodes, child, rest),
-                None => Found::Missing {
-                    parent: here.number,
-                    depth: here.path.as_slice().len() as u32,
-                },
-            }
-        }
+    let Some((name, rest)) = rest.split_first() else {
+        return arrived(here);
+    };
+    if here.dying {
+        return Found::Dying(here.number);
+    }
+    match child_of(nodes, here.path.as_slice(), name) {
+        Some(child) => walk_from(nodes, child, &rest),
+        None => Found::Missing {
+            parent: here.number,
+            depth: here.path.as_slice().len() as u32,
+        },
     }
 }
 
 /// The path ends here.
 fn arrived(here: &Node) -> Found
-    ensures { result ≡ (if here.now.dying then Found.Dying here.now.number else Found.Live here.now.number) }
+    ensures { result ≡ (if here.now.dying then Found.Dying here.now.number else Found.Live
+        here.now.number) }
 {
     if here.dying {
         Found::Dying(here.number)
@@ -40,8 +40,8 @@ fn arrived(here: &Node) -> Found
     }
 }
 
-/// The walk from the root along a path.
-pub fn walk(nodes: &[Node], path: &[Name]) -> Found
+/// The walk from the root along the path of a key.
+pub fn walk(nodes: &[Node], path: &PathView<'_>) -> Found
     ensures { result ≡ walks.walk nodes.now path.now }
 {
     match node_at(nodes, &[]) {

@@ -29,7 +29,8 @@ ghost use Rattle.poa_history.specs.Sound.{IsGiven, IsSound};
 /// flight in an adapter that stands; of one child at most one trial is in flight, and then no adapter of
 /// the child's path stands. Of one id of one adapter at most one activation isn't over.
 pub fn what_stands_is_sound()
-    ensures { (c : Config) (run limit : ℕ) (h : List Entry) → IsGiven c run → IsWithinLimits c limit → IsLegal c run limit h
+    ensures { (c : Config) (run limit : ℕ) (h : List Entry) → IsGiven c run → IsWithinLimits c limit
+        → IsLegal c run limit h
         → IsSound c run (standing c run h) }
 {}
 
@@ -38,29 +39,34 @@ pub fn what_stands_is_sound()
 pub fn nothing_goes_back()
     ensures activations { (c : Config) (run : ℕ) (past more : List Entry)
         → AllLater c (standing c run past) (standing c run (more ++ past)) }
-    ensures gone { (c : Config) (run limit : ℕ) → IsGiven c run → IsWithinLimits c limit → (past more : List Entry)
+    ensures gone { (c : Config) (run limit : ℕ) → IsGiven c run → IsWithinLimits c limit
+        → (past more : List Entry)
         → IsLegal c run limit (more ++ past) → (k : ℕ) → is_gone c (standing c run past) k ≡ true
         → is_gone c (standing c run (more ++ past)) k ≡ true }
 {}
 
 /// Bytes have a key exactly where they are the spelling of one, and then it is that key.
 pub fn keys_are_spelled()
-    ensures spelled { (bytes : List ℕ) (key : Key) → key_of bytes ≡ Some key → IsKey key × (key_spelling key ≡ bytes) }
+    ensures spelled { (bytes : List ℕ) (key : Key) → key_of bytes ≡ Some key
+        → IsKey key × (key_spelling key ≡ bytes) }
     ensures found { (key : Key) → IsKey key → key_of (key_spelling key) ≡ Some key }
 {}
 
 /// A legal history makes at most one system-made object id for each configured object and each arrival, and
 /// has at most one arrival more than its limit. So under the limits of a run each ordinal fits 32 bits.
 pub fn ids_are_few()
-    ensures few { (c : Config) (run limit : ℕ) (h : List Entry) → IsLegal c run limit h → HasFewIds c run limit h }
-    ensures fits { (c : Config) (run limit : ℕ) (h : List Entry) → IsWithinLimits c limit → IsLegal c run limit h
+    ensures few { (c : Config) (run limit : ℕ) (h : List Entry) → IsLegal c run limit h
+        → HasFewIds c run limit h }
+    ensures fits { (c : Config) (run limit : ℕ) (h : List Entry) → IsWithinLimits c limit
+        → IsLegal c run limit h
         → suc (standing c run h).made < 2 ^ 32 }
 {}
 
 /// An adapter that stands is being destroyed exactly where a destroy of it, or of an adapter above it, was
 /// done since it was created.
 pub fn destroyed_are_dying()
-    ensures { (c : Config) (run limit : ℕ) (h : List Entry) → IsGiven c run → IsWithinLimits c limit → IsLegal c run limit h → (n : Node)
+    ensures { (c : Config) (run limit : ℕ) (h : List Entry) → IsGiven c run → IsWithinLimits c limit
+        → IsLegal c run limit h → (n : Node)
         → In n (standing c run h).nodes → n.dying ≡ was_destroyed c run h n.number n.path }
 {}
 
@@ -68,11 +74,16 @@ pub fn destroyed_are_dying()
 /// activations are over and its children are gone. After a legal history none that stands is gone but the
 /// root, which stays; and of one that is gone nothing is left.
 pub fn gone_have_ended()
-    ensures ends { (c : Config) (run : ℕ) (s : Standing) → IsSound c run s → (n : Node) → In n s.nodes
-        → (is_gone c s n.number ≡ true → IsEnded c s n) × (IsEnded c s n → is_gone c s n.number ≡ true) }
-    ensures stays { (c : Config) (run limit : ℕ) (h : List Entry) → IsGiven c run → IsWithinLimits c limit → IsLegal c run limit h
-        → (n : Node) → In n (standing c run h).nodes → is_root n.path ≡ false → is_gone c (standing c run h) n.number ≡ false }
-    ensures emptied { (c : Config) (run limit : ℕ) (h : List Entry) → IsGiven c run → IsWithinLimits c limit → IsLegal c run limit h
+    ensures ends { (c : Config) (run : ℕ) (s : Standing) → IsSound c run s → (n : Node)
+        → In n s.nodes
+        → (is_gone c s n.number ≡ true → IsEnded c s n)
+        × (IsEnded c s n → is_gone c s n.number ≡ true) }
+    ensures stays { (c : Config) (run limit : ℕ) (h : List Entry) → IsGiven c run
+        → IsWithinLimits c limit → IsLegal c run limit h
+        → (n : Node) → In n (standing c run h).nodes → is_root n.path ≡ false
+        → is_gone c (standing c run h) n.number ≡ false }
+    ensures emptied { (c : Config) (run limit : ℕ) (h : List Entry) → IsGiven c run
+        → IsWithinLimits c limit → IsLegal c run limit h
         → (k : ℕ) → is_gone c (standing c run h) k ≡ true → IsEmptied c (standing c run h) k }
 {}
 
@@ -80,7 +91,8 @@ pub fn gone_have_ended()
 /// UNIQUE_ID a servant is in the map of an adapter by at most one activation; under SINGLE_THREAD_MODEL at
 /// most one request is in flight in an adapter; and a fresh servant is that of its activation.
 pub fn one_at_a_time()
-    ensures { (c : Config) (run limit : ℕ) (h : List Entry) → IsGiven c run → IsGivenAlone c run → IsWithinLimits c limit
+    ensures { (c : Config) (run limit : ℕ) (h : List Entry) → IsGiven c run → IsGivenAlone c run
+        → IsWithinLimits c limit
         → IsLegal c run limit h → StandsAlone c (standing c run h) }
 {}
 
@@ -88,7 +100,8 @@ pub fn one_at_a_time()
 /// an activation is so in that activation's adapter, and the activation isn't out. A request runs while its
 /// activation has its servant. What is being taken down is out, and wasn't etherealized yet.
 pub fn in_flight_has_its_worker()
-    ensures { (c : Config) (run limit : ℕ) (h : List Entry) → IsGiven c run → IsGivenAlone c run → IsWithinLimits c limit
+    ensures { (c : Config) (run limit : ℕ) (h : List Entry) → IsGiven c run → IsGivenAlone c run
+        → IsWithinLimits c limit
         → IsLegal c run limit h → IsManned c run h }
 {}
 
@@ -98,7 +111,8 @@ pub fn in_flight_has_its_worker()
 /// that, by the worker that took it out. No two configured objects of one adapter have one id. CORBA 3.3 Part 1,
 /// sections 15.2.4 and 15.3.6.
 pub fn lifetimes_are_kept()
-    ensures { (c : Config) (run limit : ℕ) (h : List Entry) → IsGiven c run → IsGivenAlone c run → IsWithinLimits c limit
+    ensures { (c : Config) (run limit : ℕ) (h : List Entry) → IsGiven c run → IsGivenAlone c run
+        → IsWithinLimits c limit
         → IsLegal c run limit h → HasLifetime c run h }
 {}
 
@@ -106,19 +120,25 @@ pub fn lifetimes_are_kept()
 /// destroys its adapter or one above it, or that deactivates its manager so that a servant activator etherealizes.
 /// It is quiet exactly where the first of these was a destroy that etherealizes nothing.
 pub fn ended_are_ending()
-    ensures ending { (c : Config) (run limit : ℕ) → IsGiven c run → IsWithinLimits c limit → (h : List Entry) → IsLegal c run limit h
+    ensures ending { (c : Config) (run limit : ℕ) → IsGiven c run → IsWithinLimits c limit
+        → (h : List Entry) → IsLegal c run limit h
         → (a : Activation) → In a (standing c run h).activations → a.ending ≡ was_ended c run h a }
-    ensures quiet { (c : Config) (run limit : ℕ) → IsGiven c run → IsWithinLimits c limit → (h : List Entry) → IsLegal c run limit h
+    ensures quiet { (c : Config) (run limit : ℕ) → IsGiven c run → IsWithinLimits c limit
+        → (h : List Entry) → IsLegal c run limit h
         → (a : Activation) → In a (standing c run h).activations → a.quiet ≡ was_quieted c run h a }
 {}
 
 /// Where its adapter has a servant activator, an activation is out exactly where an entry took it out. Where
 /// it has none, it is out exactly where it has a servant, is ending, and nothing is in flight in it.
 pub fn out_when_removed()
-    ensures taken { (c : Config) (run limit : ℕ) → IsGiven c run → IsGivenAlone c run → IsWithinLimits c limit → (h : List Entry)
-        → IsLegal c run limit h → (a : Activation) → In a (standing c run h).activations → has_activator c a.path ≡ true
+    ensures taken { (c : Config) (run limit : ℕ) → IsGiven c run → IsGivenAlone c run
+        → IsWithinLimits c limit → (h : List Entry)
+        → IsLegal c run limit h → (a : Activation) → In a (standing c run h).activations
+        → has_activator c a.path ≡ true
         → a.out ≡ was_taken h a.number }
-    ensures left { (c : Config) (run limit : ℕ) → IsGiven c run → IsGivenAlone c run → IsWithinLimits c limit → (h : List Entry)
-        → IsLegal c run limit h → (a : Activation) → In a (standing c run h).activations → has_activator c a.path ≡ false
+    ensures left { (c : Config) (run limit : ℕ) → IsGiven c run → IsGivenAlone c run
+        → IsWithinLimits c limit → (h : List Entry)
+        → IsLegal c run limit h → (a : Activation) → In a (standing c run h).activations
+        → has_activator c a.path ≡ false
         → a.out ≡ has_run_out (standing c run h) a }
 {}

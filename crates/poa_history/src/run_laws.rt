@@ -9,6 +9,7 @@ ghost use Rattle.poa_history.specs.Owners.{owner_of};
 
 /// Each entry of a connection is one of a connection that entered.
 pub fn owners_entered()
-    ensures { (g : Givens) (h : List Entry) → IsHistory g h → (e : Entry) → In e h → (conn : ℕ) → owner_of e ≡ Some conn
+    ensures { (g : Givens) (h : List Entry) → IsHistory g h → (e : Entry) → In e h → (conn : ℕ)
+        → owner_of e ≡ Some conn
         → conn < connections h }
 {}

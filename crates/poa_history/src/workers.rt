@@ -67,7 +67,8 @@ pub fn stage(history: &[Entry], worker: u32) -> Stage
 
 /// What a worker has begun after an entry, by what it had begun before.
 pub fn stage_after(entry: &Entry, worker: u32, stage: Stage) -> Stage
-    ensures { (past : List Entry) → stage ≡ begun.stage past worker → result ≡ begun.stage (entry.now ∷ past) worker }
+    ensures { (past : List Entry) → stage ≡ begun.stage past worker
+        → result ≡ begun.stage (entry.now ∷ past) worker }
 {
     match entry {
         Entry::Admit {

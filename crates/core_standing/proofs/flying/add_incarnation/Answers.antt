@@ -26,7 +26,7 @@ returns-clause-ok c =
     (let s = c.args.standing.now in
     let key = c.args.key.now in
     let adapter : c.adapter_met-adapter.result ≡ adapter_met (walk s.nodes.items key.path) = c.adapter_met-adapter.ensures
-    ∙ ap adapter_met (c.walk.ensures ∙ ap₂ walk c.deref.ensures.value (c.as_slice.ensures.value ∙ ap (λ (k : Key). k.path) c.in_ok-key.ensures)) in
+    ∙ ap adapter_met (c.walk.ensures ∙ ap₂ walk c.deref.ensures.value c.path.ensures) in
     let numbered : Key → ℕ → ℕ → Activation = (λ whose n k. record {
       number = n;
       adapter = k;

@@ -1,23 +1,13 @@
-use Rattle.std.proofs.Common.{◌≡◌, ◌<◌, ◌-◌, suc, length, sym, arith}
+use Rattle.std.proofs.Common.{◌∙◌, List, ap, sym}
+use Rattle.std.specs.List.{list_any}
+use Rattle.history_standing.specs.declared.node.Node.{Node}
 use Rattle.core_standing.specs.Seen.{seen}
-use Rattle.core_standing.proofs.Dropping.{node_kept, node_removed, node_there}
+use Rattle.core_standing.proofs.Dropping.{all_stay}
 use Rattle.core_standing.proofs.settling.drop_gone.Goals as goal
 
-pub loop-i-preserved-then-not-stays : goal.loop-i-preserved-then-not-stays
-loop-i-preserved-then-not-stays c =
-    let next : c.loop-i.i ≡ suc (c.loop-i.i - 1) = omega arith in
-    let within : c.loop-i.i - 1 < length c.args.standing.now.nodes.items = omega arith in
-    node_removed c.args.config.now (seen c.args.standing.now) c.loop-i.i (c.loop-i.i - 1)
-    (seen c.loop-i.standing) c.index.result.now next within c.loop-i.invariant c.index.ensures
-    c.remove.new.self.items c.remove.ensures.items
-    (sym (c.if-not-stays.ensures (node_there c.args.config.now (seen c.args.standing.now) c.loop-i.i (c.loop-i.i - 1)
-    (seen c.loop-i.standing) c.index.result.now next within c.loop-i.invariant c.index.ensures)))
-
-pub loop-i-preserved : goal.loop-i-preserved
-loop-i-preserved c =
-    let next : c.loop-i.i ≡ suc (c.loop-i.i - 1) = omega arith in
-    let within : c.loop-i.i - 1 < length c.args.standing.now.nodes.items = omega arith in
-    node_kept c.args.config.now (seen c.args.standing.now) c.loop-i.i (c.loop-i.i - 1)
-    (seen c.loop-i.standing) c.index.result.now next within c.loop-i.invariant c.index.ensures
-    (sym (c.if-not-stays.ensures (node_there c.args.config.now (seen c.args.standing.now) c.loop-i.i (c.loop-i.i - 1)
-    (seen c.loop-i.standing) c.index.result.now next within c.loop-i.invariant c.index.ensures)))
+pub returns-else-is_any_dying : goal.returns-else-is_any_dying
+returns-else-is_any_dying c =
+    let s = c.args.standing.now in
+    ap (λ (ns : List Node). record (seen s) { nodes = ns })
+    (all_stay c.args.config.now (seen s) s.nodes.items
+    (ap (list_any (λ (n : Node). n.dying)) (sym c.deref.ensures.value) ∙ sym c.is_any_dying.ensures ∙ c.if-is_any_dying.false))

@@ -7,4 +7,5 @@ use Rattle.core_turns.proofs.turns.first_due.Goals as goal
 pub loop-number-init : goal.loop-number-init
 loop-number-init c =
     (let s = c.args.standing.now in
-    let finds = c.leaving-number-items.ensures.finds (is_due c.args.config.now (seen s)) (due_leaves c.args.config.now (seen s)) in search (rules, finds))
+    let finds = c.leaving-number-items.ensures.finds (is_due c.args.config.now (seen s)) (due_leaves c.args.config.now (seen s)) in
+    record { same = search (rules, finds); busy = λ k is. absurd (cc) })

@@ -2,7 +2,7 @@ use Rattle.std.proofs.Common.{◌≡◌, ◌||◌, ◌++◌, not, filter, take, 
 use Rattle.history_standing.specs.Paths.{is_root}
 use Rattle.history_standing.specs.Ends as ends
 use Rattle.core_standing.specs.Seen.{seen}
-use Rattle.core_standing.proofs.settling.drop_gone.Given as goal
+use Rattle.core_standing.proofs.settling.drop_each.Given as goal
 
 abbrev pub invariant-loop-i : goal.invariant-loop-i
 invariant-loop-i l =
