@@ -4,7 +4,7 @@ _poad() {
     local before=${COMP_WORDS[COMP_CWORD - 1]}
     case ${COMP_WORDS[1]} in
         serve) options='--lanes --workers --run --state --journal --limit --help' ;;
-        audit) options='--limit --help' ;;
+        audit) options='--limit --conn --in --out --help' ;;
         call) options='--as --hops --help' ;;
         build) options='--unproved --jobs --help' ;;
         *) options='--help' ;;
@@ -15,9 +15,9 @@ _poad() {
         mapfile -t COMPREPLY < <(compgen -W "$commands" -- "$word")
     elif [ "$before" = --as ]; then
         mapfile -t COMPREPLY < <(compgen -W 'v i u b o' -- "$word")
-    elif [[ $before = --hops || $before = --lanes || $before = --workers || $before = --run || $before = --jobs ]]; then
+    elif [[ $before = --hops || $before = --conn || $before = --lanes || $before = --workers || $before = --run || $before = --jobs ]]; then
         COMPREPLY=()
-    elif [[ $word = -* && $before != --journal && $before != --state ]]; then
+    elif [[ $word = -* && $before != --journal && $before != --state && $before != --in && $before != --out ]]; then
         mapfile -t COMPREPLY < <(compgen -W "$options" -- "$word")
     else
         compopt -o filenames

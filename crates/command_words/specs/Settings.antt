@@ -31,7 +31,8 @@ abbrev pub is_option : Optioned → List ℕ → Bool
 is_option Serve name = if bytes_eq name (codes "--lanes") then true else (if bytes_eq name (codes "--workers") then true else (
     if bytes_eq name (codes "--run") then true else (if bytes_eq name (codes "--state") then true else (
     if bytes_eq name (codes "--journal") then true else bytes_eq name (codes "--limit")))))
-is_option Audit name = bytes_eq name (codes "--limit")
+is_option Audit name = if bytes_eq name (codes "--limit") then true else (
+    if bytes_eq name (codes "--conn") then true else (if bytes_eq name (codes "--in") then true else bytes_eq name (codes "--out")))
 is_option Explain name = if bytes_eq name (codes "--arrival") then true else bytes_eq name (codes "--limit")
 is_option Call name = if bytes_eq name (codes "--as") then true else bytes_eq name (codes "--hops")
 

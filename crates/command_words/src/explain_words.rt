@@ -36,7 +36,8 @@ pub(crate) fn explain_words<'a>(
     alloc: Global,
     words: &'a [String],
 ) -> Result<ExplainWords<'a>, WordsFault>
-    ensures ok { IfOk result (λ asked. explain_behind (map string_bytes words.now) ≡ Some (seen_explain asked)) }
+    ensures ok { IfOk result (λ asked. explain_behind (map string_bytes words.now)
+        ≡ Some (seen_explain asked)) }
     ensures limit { IfOk result (λ asked. (1 ≤ asked.limit) × (asked.limit ≤ 4000000)) }
     ensures bad { result ≡ Err BadWords → explain_behind (map string_bytes words.now) ≡ None }
 {
@@ -46,7 +47,8 @@ pub(crate) fn explain_words<'a>(
 
 // The same of the settings that the words give.
 fn explain_by<'a>(alloc: Global, settings: &[Setting<'a>]) -> Result<ExplainWords<'a>, WordsFault>
-    ensures ok { IfOk result (λ asked. explain_of (map seen_setting settings.now) ≡ Some (seen_explain asked)) }
+    ensures ok { IfOk result (λ asked. explain_of (map seen_setting settings.now)
+        ≡ Some (seen_explain asked)) }
     ensures limit { IfOk result (λ asked. (1 ≤ asked.limit) × (asked.limit ≤ 4000000)) }
     ensures bad { result ≡ Err BadWords → explain_of (map seen_setting settings.now) ≡ None }
 {

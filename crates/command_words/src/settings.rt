@@ -136,7 +136,7 @@ fn is_option(command: Optioned, name: &str) -> bool
             "--lanes" | "--workers" | "--run" | "--state" | "--journal" | "--limit"
         ),
         Optioned::Call => matches!(name, "--as" | "--hops"),
-        Optioned::Audit => name == "--limit",
+        Optioned::Audit => matches!(name, "--limit" | "--conn" | "--in" | "--out"),
         Optioned::Explain => matches!(name, "--arrival" | "--limit"),
     }
 }

@@ -1,5 +1,12 @@
 pub mod Spoiled
+pub mod Briefly
 pub mod Stepping
+pub mod Listened
+pub mod Wrote
+pub mod Looked
+pub mod Ended
+pub mod Attended
+pub mod Watched
 pub mod Numbered
 pub mod LinesRead
 pub mod Sound

@@ -1,24 +1,25 @@
 -- What an audit of a whole text says.
-use Rattle.std.proofs.Common.{◌≡◌, ℕ, ◌+◌, ◌^◌, ◌<◌, ◌≤◌, List, ◌∷◌, length, reverse, Option, Some, None, Ok, Err, IfSome, refl, ◌∙◌, ap, subst, arith, length-append}
+use Rattle.std.proofs.Common.{◌≡◌, ℕ, ◌+◌, ◌^◌, ◌<◌, ◌≤◌, List, ◌∷◌, length, reverse, Option, Some, None, Ok, Err, IfSome, refl, sym, ◌∙◌, ap, subst, arith, length-append}
 use Rattle.std.proofs.lemmas.List.{length-reverse}
 use Rattle.poa_base.specs.declared.Config.{Config}
 use Rattle.poa_base.specs.declared.Entry.{Entry}
 use Rattle.poa_base.specs.Store.{states, stored}
 use Rattle.poa_history.specs.declared.Givens.{Givens}
-use Rattle.poa_history.specs.Life.{Life, begun, givens_of, opened}
+use Rattle.poa_history.specs.Life.{Life, begun, givens_of}
 use Rattle.text_words.specs.Cuts.{lines_of, words_of}
 use Rattle.poa_journal.specs.declared.fault.JournalFault.{JournalFault}
 use Rattle.poa_journal.specs.declared.fault.JournalFault.TheVariants.{BadLine, WantMemory}
 use Rattle.poa_journal.specs.Whole.{JournalReads, contents_of, contents_of_lines, entries_of, front_seen, head_of, rows_front, with_entries, with_front, with_run}
-use Rattle.journal_audit.specs.declared.auditor.Auditor.{Auditor}
 use Rattle.journal_audit.specs.declared.front.Front.{Front}
+use Rattle.journal_audit.specs.declared.matched.Matched.{Matched}
 use Rattle.journal_audit.specs.declared.refusal.Refusal.{Refusal}
+use Rattle.journal_audit.specs.declared.watch.Watch.{Watch}
 use Rattle.journal_audit.specs.Auditing.{AuditSays, Finds, IsRefused, IsSound}
-use Rattle.journal_audit.specs.Texts.{Audits, AuditsFront, AuditsText, HasRoom, IsFront, LinesTaken, ReadsFront, Tells, TakesLines, audit_of}
+use Rattle.journal_audit.specs.Looking.{MatchesIn, link_of}
+use Rattle.journal_audit.specs.Matching.{LinkBytes}
+use Rattle.journal_audit.specs.Texts.{Audits, AuditsFront, AuditsLines, AuditsText, HasRoom, IsFront, IsSoundRun, LinesAudited, ReadsFront, Tells, audit_of}
 use Rattle.journal_audit.proofs.Numbered.{numbered}
-
-abbrev pub IsSoundRun : Life → Type 0
-IsSoundRun life = IsSound life.config life.run life.limit (opened life) life.history
+use Rattle.journal_audit.proofs.Watched.{matches_of}
 
 -- what is found of the run that the audit began with
 module _ (g : Givens) (entries : List Entry) (run : Life) (given : givens_of run ≡ g) where
@@ -53,21 +54,28 @@ module _ (text head : List ℕ) (rest : List (List ℕ)) (cut : lines_of text �
   rows_refused run is_run WantMemory is = tt
 
 -- an audit of a text with this front
-module _ (c : Config) (limit : ℕ) (front : Front) (first last : Auditor) (began : first.run ≡ begun c front.run limit front.opening.store) where
+module _ (c : Config) (limit : ℕ) (link : Option LinkBytes) (front : Front) (first last : Watch)
+    (began : first.auditor.run ≡ begun c front.run limit front.opening.store) where
   module _ (text : List ℕ) (is : IsFront text front) where
     before : contents_of text ≡ with_entries front.run (states front.opening.store) (entries_of front.opening.line (lines_of front.opening.rest.now))
     before = ap contents_of_lines is.lines ∙ (ap (with_run is.rows) is.run ∙ ap (with_front front.run) is.opening)
 
-    refused_in : (fault : JournalFault) → TakesLines front.opening.line front.opening.rest.now first (Err fault) last → AuditsText c limit text (Err fault)
+    refused_in : (fault : JournalFault) → AuditsLines front.opening.line front.opening.rest.now first (Err fault) last
+        → AuditsText c limit text link (Err fault)
     refused_in (BadLine k) bad = before ∙ ap (with_entries front.run (states front.opening.store)) bad
     refused_in WantMemory bad = tt
 
-    audited_in : (count : ℕ) → LinesTaken front.opening.line front.opening.rest.now first count last → IsSoundRun last.run → HasRoom front
-        → Audits c limit text (record { entries = count; first_line = front.opening.line; refusal = last.refusal })
-    audited_in count t sound room =
-        let given : givens_of last.run ≡ givens_of (begun c front.run limit front.opening.store) = t.given ∙ ap givens_of began in
-        let told : Tells c front.run limit t.entries last.refusal =
-        tells_of (givens_of (begun c front.run limit front.opening.store)) t.entries last.run given last.refusal t.taken.found in
+    audited_in : (count : ℕ) (matched : Option Matched) → LinesAudited front.opening.line front.opening.rest.now first count matched last
+        → link_of first ≡ link → HasRoom front
+        → Audits c limit text link (record { entries = count; first_line = front.opening.line; refusal = last.auditor.refusal; matched = matched })
+    audited_in count matched found asked room =
+        let g : Givens = givens_of (begun c front.run limit front.opening.store) in
+        let t = found.taken in
+        let run = found.last.auditor.run in
+        let given : givens_of run ≡ g = t.given ∙ ap givens_of began in
+        let refusal_is : found.last.auditor.refusal ≡ last.auditor.refusal = sym found.refusal in
+        let finds : Finds t.entries run last.auditor.refusal = subst (λ (r : Option Refusal). Finds t.entries run r) refusal_is t.taken.found in
+        let told : Tells c front.run limit t.entries last.auditor.refusal = tells_of g t.entries run given last.auditor.refusal finds in
         record {
           journal = record { run = front.run; rows = states front.opening.store; entries = t.entries };
           reads = before ∙ ap (with_entries front.run (states front.opening.store)) t.read;
@@ -75,17 +83,21 @@ module _ (c : Config) (limit : ℕ) (front : Front) (first last : Auditor) (bega
           rows = refl;
           counted = t.counted;
           first = numbered 2 None is.rows (front_seen front.opening) is.opening;
-          says = says_of (givens_of (begun c front.run limit front.opening.store)) t.entries last.run given last.refusal sound t.taken.found;
+          says = says_of g t.entries run given last.auditor.refusal found.sound finds;
           tells = told;
+          matches = matches_of g t.entries run given last.auditor.refusal link matched finds
+              (subst (λ (o : Option LinkBytes). MatchesIn last.auditor.refusal run o matched) asked
+              (subst (λ (r : Option Refusal). MatchesIn r run (link_of first) matched) refusal_is found.told));
           numbered =
-              numbered_line c front.run limit t.entries front.opening.line (front.opening.line + length front.opening.rest.now) last.refusal told
+              numbered_line c front.run limit t.entries front.opening.line (front.opening.line + length front.opening.rest.now) last.auditor.refusal told
               (subst (λ (n : ℕ). front.opening.line + n ≤ front.opening.line + length front.opening.rest.now) t.counted t.fits) room;
         }
 
-  pub entries_refused : (fault : JournalFault) → TakesLines front.opening.line front.opening.rest.now first (Err fault) last
-      → AuditsFront c limit front (Err fault)
+  pub entries_refused : (fault : JournalFault) → AuditsLines front.opening.line front.opening.rest.now first (Err fault) last
+      → AuditsFront c limit link front (Err fault)
   entries_refused fault bad text is = refused_in text is fault bad
 
-  pub audited : (count : ℕ) → LinesTaken front.opening.line front.opening.rest.now first count last → IsSoundRun last.run → HasRoom front
-      → AuditsFront c limit front (Ok (record { entries = count; first_line = front.opening.line; refusal = last.refusal }))
-  audited count t sound room text is = audited_in text is count t sound room
+  pub audited : (count : ℕ) (matched : Option Matched) → LinesAudited front.opening.line front.opening.rest.now first count matched last
+      → link_of first ≡ link → HasRoom front
+      → AuditsFront c limit link front (Ok (record { entries = count; first_line = front.opening.line; refusal = last.auditor.refusal; matched = matched }))
+  audited count matched found asked room text is = audited_in text is count matched found asked room

@@ -3,10 +3,12 @@ ghost use Rattle.std.specs.Prelude.{◌≡◌, ◌≤◌, [], IfOk, OnOk};
 ghost use Rattle.poa_policy.specs.Kept.{KeepsRules};
 ghost use Rattle.poa_history.specs.Life.{begun};
 ghost use Rattle.journal_audit.specs.Auditing.{HasTaken, Takes};
+ghost use Rattle.journal_audit.specs.Judging.{GivesBack};
 
-use crate::breach::placed;
+use crate::judged::Judged;
 use crate::judging::judge;
 use crate::refusal::Refusal;
+use core_outboxes::Filed;
 use core_run::Run;
 use poa_base::{Config, Entry, Store, WantMemory};
 use std::alloc::Global;
@@ -50,12 +52,26 @@ impl Auditor {
         requires { self.old.limit ≡ self.old.run.limit }
         ensures { OnOk result (Takes entry self.old self.new) }
     {
+        let _given = self.follow(entry)?;
+        Ok(())
+    }
+
+    /// The same. Tells the reply that the entry gave, where it collects one and was taken.
+    pub(crate) fn follow(&mut self, entry: Entry) -> Result<Option<Filed>, WantMemory>
+        requires { self.old.limit ≡ self.old.run.limit }
+        ensures takes { OnOk result (Takes entry self.old self.new) }
+        ensures gives { IfOk result (GivesBack entry self.old.run self.new.refusal) }
+    {
         if self.refusal.is_some() {
-            return Ok(());
+            return Ok(None);
         }
         let place = self.run.entries().len() as u64;
-        let breach = judge(&mut self.run, self.limit, entry)?;
-        self.refusal = placed(breach, place);
-        Ok(())
+        match judge(&mut self.run, self.limit, entry)? {
+            Judged::Taken(given) => Ok(given),
+            Judged::Refused(breach) => {
+                self.refusal = Some(breach.at(place));
+                Ok(None)
+            }
+        }
     }
 }

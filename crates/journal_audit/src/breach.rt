@@ -1,5 +1,5 @@
 //! Why an entry may not follow.
-ghost use Rattle.std.specs.Prelude.{◌≡◌, option_map};
+ghost use Rattle.std.specs.Prelude.{◌≡◌};
 ghost use Rattle.journal_audit.specs.Judging.{placed as placed_at};
 
 use crate::refusal::Refusal;
@@ -24,15 +24,5 @@ impl Breach {
             rule: self.rule,
             due: self.due,
         }
-    }
-}
-
-/// What may not follow, if anything, at this place.
-pub(crate) fn placed(breach: Option<Breach>, place: u64) -> Option<Refusal>
-    ensures { result ≡ option_map (placed_at place) breach }
-{
-    match breach {
-        Some(breach) => Some(breach.at(place)),
-        None => None,
     }
 }

@@ -57,7 +57,8 @@ fn has_room(run: &Run, limit: u64, size: u64) -> bool
 
 /// Whether a call is the first `shutdown`.
 fn is_first_shutdown(run: &Run, call: &Call) -> bool
-    ensures { IsTrue result ↔ ((legal.is_shutdown call.now ≡ true) × (legal.had_shutdown run.now.history ≡ false)) }
+    ensures { IsTrue result ↔ ((legal.is_shutdown call.now ≡ true)
+        × (legal.had_shutdown run.now.history ≡ false)) }
 {
     is_shutdown(call) && !had_shutdown(run)
 }

@@ -3,11 +3,12 @@ ghost use Rattle.std.specs.Prelude.{◌≡◌, ◌↔◌, ◌<◌, IfOk, IsTrue,
 ghost use Rattle.poa_base.specs.declared.Entry.TheVariants.{Entered, Arrive, Filled, Left, Collect};
 ghost use Rattle.poa_base.specs.declared.limits.TheConstants.{CONNECTIONS};
 ghost use Rattle.history_standing.specs.Arrivals as calls;
-ghost use Rattle.journal_audit.specs.Judging.{GivesReply, Judges};
+ghost use Rattle.journal_audit.specs.Judging.{IsJudged, Judges};
 ghost use Rattle.journal_audit.specs.Rules.{next_connection};
 
 use crate::breach::Breach;
 use crate::calls::{is_open, may_arrive, may_fill};
+use crate::judged::Judged;
 use crate::rule::Rule;
 use core_run::Run;
 use poa_base::limits::CONNECTIONS;
@@ -95,16 +96,6 @@ pub(crate) fn leave(run: &mut Run, conn: u32) -> Option<Breach>
     None
 }
 
-/// Gives a connection its next reply, and tells to which arrival that is.
-fn give(run: &mut Run, conn: u32) -> Option<u64>
-    ensures { GivesReply conn run.old result run.new }
-{
-    match run.collect(conn) {
-        Some(filed) => Some(filed.arrival),
-        None => None,
-    }
-}
-
 /// Another reply was due than the one that was collected, or none.
 fn miscollected(due: Option<Entry>) -> Breach
     ensures { result ≡ record { rule = Rule.Collecting; due = due } }
@@ -116,14 +107,15 @@ fn miscollected(due: Option<Entry>) -> Breach
 }
 
 /// A connection is given the reply to an arrival. Where another one is due, the run has given it that.
-pub(crate) fn collect(run: &mut Run, conn: u32, arrival: u64) -> Option<Breach>
-    ensures { Judges (Collect conn arrival) run.old result run.new }
+pub(crate) fn collect(run: &mut Run, conn: u32, arrival: u64) -> Judged
+    ensures { IsJudged (Collect conn arrival) run.old result run.new }
 {
-    let Some(due) = give(run, conn) else {
-        return Some(miscollected(None));
+    let Some(filed) = run.collect(conn) else {
+        return Judged::Refused(miscollected(None));
     };
+    let due = filed.arrival;
     if due == arrival {
-        return None;
+        return Judged::Taken(Some(filed));
     }
-    Some(miscollected(Some(Entry::Collect { conn, arrival: due })))
+    Judged::Refused(miscollected(Some(Entry::Collect { conn, arrival: due })))
 }

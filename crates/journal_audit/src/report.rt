@@ -3,6 +3,7 @@ ghost use Rattle.std.specs.Prelude.{◌≡◌};
 ghost use Rattle.journal_audit.specs.Texts.{audit_of};
 
 use crate::finding::Audit;
+use crate::matched::Matched;
 use crate::refusal::Refusal;
 
 /// What an audit finds of a journal's text.
@@ -14,6 +15,8 @@ pub struct Report {
     pub first_line: u64,
     /// The first entry that isn't legal, if there is one.
     pub refusal: Option<Refusal>,
+    /// Where all entries are legal and a link was asked for: whether its bytes are a session of its connection.
+    pub matched: Option<Matched>,
 }
 
 impl Report {

@@ -1,4 +1,5 @@
 pub mod Printing
 pub mod Auditing
+pub mod Linking
 pub mod Story
 pub mod Explaining

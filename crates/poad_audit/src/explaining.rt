@@ -39,13 +39,18 @@ pub fn explain_files<K: Sink, F: Files>(
     sink: &mut K,
 ) -> Status
     requires { limit ≤ 4000000 }
-    ensures explains { ExplainsFiles file.now journal.now limit arrival result (F.contents files.old) (F.contents files.new)
+    ensures explains { ExplainsFiles file.now journal.now limit arrival result
+        (F.contents files.old) (F.contents files.new)
         (K.held sink.old) (K.held sink.new) }
     ensures contents { IfTold (F.contents files.old) (F.contents files.new) HoldsStill }
-    ensures file_fault { HasCause (F.take_faults files.old) (F.take_faults files.new) (result ≡ Status.FileFault) }
-    ensures no_file { HasCause (F.absents files.old) (F.absents files.new) (result ≡ Status.NoFile) }
-    ensures too_long { HasCause (F.long_ones files.old) (F.long_ones files.new) (result ≡ Status.FileTooLong) }
-    ensures written { HasCause (K.write_faults sink.old) (K.write_faults sink.new) (result ≡ Status.WriteFault) }
+    ensures file_fault { HasCause (F.take_faults files.old) (F.take_faults files.new) (result
+        ≡ Status.FileFault) }
+    ensures no_file { HasCause (F.absents files.old) (F.absents files.new) (result
+        ≡ Status.NoFile) }
+    ensures too_long { HasCause (F.long_ones files.old) (F.long_ones files.new) (result
+        ≡ Status.FileTooLong) }
+    ensures written { HasCause (K.write_faults sink.old) (K.write_faults sink.new) (result
+        ≡ Status.WriteFault) }
 {
     let config = match take_config(alloc, file, files) {
         Ok(config) => config,
@@ -68,8 +73,10 @@ fn explain<K: Sink>(
 ) -> Status
     requires rules { KeepsRules config }
     requires limit { limit ≤ 4000000 }
-    ensures explains { ExplainsJournal config limit arrival text.now result (K.held sink.old) (K.held sink.new) }
-    ensures written { HasCause (K.write_faults sink.old) (K.write_faults sink.new) (result ≡ Status.WriteFault) }
+    ensures explains { ExplainsJournal config limit arrival text.now result (K.held sink.old)
+        (K.held sink.new) }
+    ensures written { HasCause (K.write_faults sink.old) (K.write_faults sink.new) (result
+        ≡ Status.WriteFault) }
 {
     match explain_text(alloc, config, u64::from(limit), text, arrival) {
         Ok(found) => tell(alloc, arrival, &found, sink),
@@ -82,7 +89,8 @@ fn explain<K: Sink>(
 fn tell<K: Sink>(alloc: Global, arrival: u64, found: &Explanation, sink: &mut K) -> Status
     requires { HasLine found.now }
     ensures tells { Tells arrival found.now result (K.held sink.old) (K.held sink.new) }
-    ensures written { HasCause (K.write_faults sink.old) (K.write_faults sink.new) (result ≡ Status.WriteFault) }
+    ensures written { HasCause (K.write_faults sink.old) (K.write_faults sink.new) (result
+        ≡ Status.WriteFault) }
 {
     let Ok(text) = text_of(alloc, arrival, found) else {
         return Status::WantMemory;

@@ -1,9 +1,11 @@
-//! `audit`: the journal in a file is audited as one of a run of the configuration in another, and what is found is printed.
+//! `audit`: the journal in a file is audited as one of a run of the configuration in another, and what is found is printed; and
+//! so is whether the bytes of a link, in two files more, are what it says of that connection.
 //! `explain`: a call of such a journal, with what happened to it.
 #![tactic(auto)]
 
 mod auditing;
 mod explaining;
+mod linking;
 mod printing;
 mod row_text;
 mod story;

@@ -1,6 +1,7 @@
 //! A table of cases, played, and what came of each printed: of the commands of poad, as `run_words` does them over a source, a sink
 //! and files in memory, what each wrote and how it ended; and of `serve`, over doors, links and files in memory and with
-//! threads, how each link's session ended, what was written to it, what the journal of the run says, and how the run ended.
+//! threads, how each link's session ended, what was written to it, what the journal of the run says, and how the run ended. Each
+//! such journal is audited, and with it each link whose session ended well.
 //!
 //! Its lines are:
 //! - `file NAME`, and below it the lines of that file, each behind two spaces; it is there in every later case;
@@ -12,6 +13,7 @@
 //! - `send WORD ..`, what the link's peer sends, or what standard input gives where no door and no dial was begun: a message's name, or
 //!   hexadecimal behind `h:`; `times COUNT WORD ..`, the same so many times; `line TEXT`, a line with its LF;
 //! - `fill BYTE COUNT`, so many bytes of this value, which are sent too; between cases, of the last file;
+//!   `bytes WORD ..`, between cases, of the last file too;
 //! - `piece SIZE ..`, how many bytes the reads give at most, in turn;
 //! - `fails KIND N ..`: these calls fail, counted from 0; `N..M` is each from N on below M. `read` and `write` are of the
 //!   link or of standard input and output, `next` of the door, `take` and `put` of the files, `start` of the threads; `quiet`
@@ -36,6 +38,7 @@
 #![tactic(auto)]
 
 mod asking;
+mod auditing;
 mod calling;
 mod case;
 mod command;

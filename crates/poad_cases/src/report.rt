@@ -39,7 +39,7 @@ impl Report {
         self.put_line(&case.title)?;
         self.put_doors(case, &served.doors)?;
         match &served.core {
-            Some(core) => self.put_journal(case, core, files)?,
+            Some(core) => self.put_journal(case, core, &served.doors, files)?,
             None => self.put_line(b"not begun")?,
         }
         self.put_contents(case, files)?;

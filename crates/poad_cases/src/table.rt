@@ -1,7 +1,7 @@
 //! The lines of a table, each read as it comes.
 use crate::case::Case;
 use crate::files::File;
-use crate::words::{Messages, filling, put_octets, texts};
+use crate::words::{Messages, bytes_of, filling, put_octets, texts};
 use anyhow::{Context, Result, bail};
 use std::alloc::Global;
 use std::collections::BTreeMap;
@@ -65,6 +65,10 @@ impl Table {
             (Some(case), _) => case.ask(&self.messages, line, words),
             (None, [b"fill", value, count]) => {
                 self.fill_file(&filling(self.alloc, value, count)?)
+            }
+            (None, [b"bytes", rest @ ..]) => {
+                let bytes = bytes_of(self.alloc, &self.messages, rest)?;
+                self.fill_file(&bytes)
             }
             _ => bail!("no case yet"),
         }

@@ -2,7 +2,7 @@
 use Rattle.std.proofs.Common.{◌≡◌, ◌⊎◌, ℕ, ◌<◌, ◌≤◌, List, length, reverse, Option, None, Some, Ok as OkResult, Err, inl, inr, refl, sym, ◌∙◌, subst, arith}
 use Rattle.std.specs.Option.{IsSomeAnd}
 use Rattle.std.proofs.lemmas.Option.{same_Some}
-use Rattle.command_words.specs.Auditing.{Audit}
+use Rattle.command_words.specs.Auditing.{Audit, LinkNames}
 use Rattle.command_words.specs.Explaining.{Explain}
 use Rattle.command_words.specs.Words.{Meant, answer, audit, explain, load, names, show, check, iors, migrate, loc, replay}
 use Rattle.outside.specs.Cause.{HasCause}
@@ -13,18 +13,22 @@ use Rattle.poad_answer.specs.Answering.{AnswersBy, NamesConfig, served, unnamed}
 use Rattle.poad_answer.specs.Run.{RunAnswers}
 use Rattle.journal_audit.proofs.Spoiled.{spoiled}
 use Rattle.journal_audit.specs.Auditing.{AuditSays, IsRefused}
-use Rattle.journal_audit.specs.Texts.{Audits, audit_of}
+use Rattle.journal_audit.specs.Matching.{IsSession, LinkBytes, Matches}
+use Rattle.journal_audit.specs.Texts.{Audits, audit_of, givens_in}
+use Rattle.journal_audit.specs.declared.matched.Matched.{Matched}
 use Rattle.journal_audit.specs.declared.refusal.Refusal.{Refusal}
 use Rattle.journal_audit.specs.declared.report.Report.{Report}
 use Rattle.poa_base.specs.Store.{stored}
+use Rattle.poa_history.specs.declared.Givens.{Givens}
+use Rattle.poa_base.specs.declared.Entry.{Entry}
 use Rattle.poa_history.specs.Legal.{IsLegal}
 use Rattle.poa_journal.specs.Whole.{Contents as JournalContents}
 use Rattle.journal_explain.specs.declared.Explanation.{Explanation}
 use Rattle.journal_explain.specs.Explaining.{Explains, TellsCall}
 use Rattle.poad_audit.specs.Explaining.{ExplainsFiles, ExplainsJournal, Tells as TellsCallOf}
-use Rattle.poad_audit.specs.Auditing.{AuditsFiles, AuditsJournal, Tells as TellsAudit, NotTaken as NotAudited, journal_limit, no_config as no_audit_config, no_journal}
+use Rattle.poad_audit.specs.Auditing.{AuditsEntries, AuditsFiles, AuditsJournal, AuditsTaken, LinkRefused, NotAudited, NotTaken as NotExplained, RefusesLink, TakesLink, Tells as TellsAudit, journal_limit, link_limit, no_config as no_audit_config, no_input, no_journal, no_link, no_output, not_taken}
 use Rattle.poad_cmd.specs.Commands.{Does, RunsNames}
-use Rattle.poad_cmd.specs.Complete.{Configures, Fits, FitsAnswer, FitsAudit, FitsExplain, FitsReplay, HoldConfig, HoldScript, HoldSuch, IsCalm, IsConfigured, IsLegalJournal, IsLocatable, IsReference, IsScript, IsWholeInput, IsWholeScript}
+use Rattle.poad_cmd.specs.Complete.{Configures, Fits, FitsAnswer, FitsAudit, FitsExplain, FitsReplay, HoldConfig, HoldOutput, HoldScript, HoldSession, HoldSuch, IsAuditable, IsCalm, IsConfigured, IsLegalJournal, IsLocatable, IsReference, IsScript, IsSessionIn, IsWholeInput, IsWholeScript}
 use Rattle.poad_cmd.specs.Playing.{EndsPlay, NotTaken, PlaysFiles, PlaysTaken, no_config, no_script}
 use Rattle.poad_cmd.proofs.Wholly.{IsWell, run_well}
 use Rattle.poad_files.proofs.Accepted.{reads_accepted}
@@ -37,7 +41,7 @@ use Rattle.poad_files.specs.Taking.{IsAccepted, IsHeld, OfContent, Refused, Take
 use Rattle.poad_files.specs.declared.Asked.{Asked}
 use Rattle.poad_files.specs.declared.Asked.TheVariants.{Counts, References}
 use Rattle.poad_files.specs.declared.status.Status.{Status}
-use Rattle.poad_files.specs.declared.status.Status.TheVariants.{ConfigRefused, FileFault, FileTooLong, Held, Illegal, JournalRefused, Limit, LocRefused, NoFile, NoLoc, Ok, ReadFault, ScriptRefused, TextRefused, WantMemory, WriteFault}
+use Rattle.poad_files.specs.declared.status.Status.TheVariants.{ConfigRefused, FileFault, FileTooLong, Held, Illegal, JournalRefused, Limit, LocRefused, NoFile, NoLoc, NoMatch, Ok, ReadFault, ScriptRefused, TextRefused, WantMemory, WriteFault}
 use Rattle.poad_load.specs.Writing.{LoadGives}
 use Rattle.poad_names.specs.declared.names_end.NamesEnd.{NamesEnd}
 use Rattle.poad_names.specs.declared.names_end.NamesEnd.TheVariants as names_end
@@ -176,48 +180,107 @@ load_well n start WantMemory h k gives = tt
 load_well n start _ h k gives = absurd gives
 
 -- `audit`
+abbrev IsSessionOr : Givens → List Entry → Option LinkBytes → Type 0
+IsSessionOr g entries link = IfSome link (IsSession g entries)
+
+never_unmatched : (g : Givens) (entries : List Entry) (conn : ℕ) (refusal : Option Refusal) (link : Option LinkBytes) (matched : Option Matched)
+    → refusal ≡ None → Matches g entries refusal link matched → IsSessionOr g entries link
+    → IsSomeAnd matched (λ (m : Matched). (m.conn ≡ conn) × (m.is_session ≡ false)) → ⊥
+never_unmatched g entries conn (Some r) link matched none matches session is = (let e : Some r ≡ None = none in cc)
+never_unmatched g entries conn None None None none matches session is = is
+never_unmatched g entries conn None None (Some m) none matches session is = (let e : Some m ≡ None = matches in cc)
+never_unmatched g entries conn None (Some link) None none matches session is = is
+never_unmatched g entries conn None (Some link) (Some m) none matches session is =
+    (let yes : m.is_session ≡ true = matches.1.1 session in let no : m.is_session ≡ false = is.1 in let e : true ≡ false = sym yes ∙ no in cc)
+
 module _ (c : Config) (limit : ℕ) (text : List ℕ) (legal : IsLegalJournal c limit text) (h k : Option (List ℕ)) where
-  never_bad : (P : Refusal → Type 0) (report : Report) → Audits c limit text report → (found : Option Refusal) → report.refusal ≡ found
-      → IsSomeAnd found P → ⊥
-  never_bad P report audits None is some = some
-  never_bad P report audits (Some r) is some =
+  never_bad : (P : Refusal → Type 0) (link : Option LinkBytes) (report : Report) → Audits c limit text link report → (found : Option Refusal)
+      → report.refusal ≡ found → IsSomeAnd found P → ⊥
+  never_bad P link report audits None is some = some
+  never_bad P link report audits (Some r) is some =
       let read : OkResult audits.journal ≡ OkResult legal.journal = sym audits.reads ∙ legal.reads in
       let same : audits.journal ≡ legal.journal = cc in
       let bad = subst (λ (f : Option Refusal). AuditSays c audits.journal.run limit (stored audits.opening) audits.journal.entries (audit_of f)) is audits.says in
       spoiled c audits.journal.run limit audits.journal.entries r.entry r.rule bad
       (subst (λ (j : JournalContents). IsLegal c j.run limit (reverse j.entries)) (sym same) legal.legal)
 
-  found_well : (s : Status) (report : Report) → Audits c limit text report → TellsAudit report s h k → IsWell s
-  found_well Ok report audits tells = tt
-  found_well WriteFault report audits tells = tt
-  found_well WantMemory report audits tells = tt
-  found_well (Illegal entry line due) report audits tells = absurd (never_bad _ report audits report.refusal refl tells.0)
-  found_well _ report audits tells = absurd tells.0
+  -- with a link that is a session
+  module _ (link : Option LinkBytes) (session : IfSome link (IsSessionIn c limit text)) where
+    session_by : (o : Option LinkBytes) → IfSome o (IsSessionIn c limit text) → (report : Report) (audits : Audits c limit text link report)
+        → IsSessionOr (givens_in c limit audits.journal audits.opening) audits.journal.entries o
+    session_by None is report audits = tt
+    session_by (Some it) is report audits = is audits.journal audits.opening audits.reads audits.rows
 
-  journal_well : (s : Status) → AuditsJournal c limit text s h k → IsWell s
-  journal_well WantMemory audits = tt
-  journal_well (JournalRefused line) audits = absurd (let e : OkResult legal.journal ≡ Err line = sym legal.reads ∙ audits.0 in cc)
-  journal_well s audits = found_well s audits.report audits.audits audits.tells
+    found_well : (s : Status) (report : Report) → Audits c limit text link report → TellsAudit report s h k → IsWell s
+    found_well Ok report audits tells = tt
+    found_well WriteFault report audits tells = tt
+    found_well WantMemory report audits tells = tt
+    found_well (Illegal entry line due) report audits tells = absurd (never_bad _ link report audits report.refusal refl tells.0)
+    found_well (NoMatch conn) report audits tells =
+        absurd (never_unmatched (givens_in c limit audits.journal audits.opening) audits.journal.entries conn report.refusal link report.matched
+        tells.0.0 audits.matches (session_by link session report audits) tells.0.1)
+    found_well _ report audits tells = absurd tells.0
+
+  -- where the files hold it
+  module _ (old new : Option Contents) where
+    session_of : (names : Option LinkNames) (link : Option LinkBytes) → HoldSession old names c limit text → TakesLink names link old new
+        → IfSome link (IsSessionIn c limit text)
+    session_of None None holds taken = tt
+    session_of None (Some link) holds taken = absurd taken
+    session_of (Some names) None holds taken = absurd taken
+    session_of (Some names) (Some link) holds taken =
+        let output = such_held names.input link_limit (HoldOutput old names c limit text) old new link.input holds taken.input.held in
+        let is = such_held names.output link_limit
+        (λ (out : List ℕ). IsSessionIn c limit text (record { conn = names.conn; input = link.input; output = out })) old new link.output output
+        taken.output.held in
+        subst (λ (conn : ℕ). IsSessionIn c limit text (record { conn = conn; input = link.input; output = link.output })) (sym taken.conn) is
+
+    unlinked_by : (names : LinkNames) (s : Status) → HoldSession old (Some names) c limit text → LinkRefused names s old new → IsWell s
+    unlinked_by names s holds (no_input refused) =
+        untaken_well s (unrefused_file names.input link_limit (HoldOutput old names c limit text) s old new holds refused)
+    unlinked_by names s holds (no_output input held refused) =
+        let output = such_held names.input link_limit (HoldOutput old names c limit text) old new input holds held.held in
+        untaken_well s (unrefused_file names.output link_limit
+        (λ (out : List ℕ). IsSessionIn c limit text (record { conn = names.conn; input = input; output = out })) s old new output refused)
+
+    unlinked_well : (names : Option LinkNames) (s : Status) → HoldSession old names c limit text → RefusesLink names s old new → IsWell s
+    unlinked_well None s holds refused = absurd refused
+    unlinked_well (Some names) s holds refused = unlinked_by names s holds refused
+
+    journal_well : (names : Option LinkNames) (s : Status) → HoldSession old names c limit text → AuditsJournal c limit text names s old new h k → IsWell s
+    journal_well names WantMemory holds audits = tt
+    journal_well names FileFault holds audits = tt
+    journal_well names NoFile holds audits = unlinked_well names NoFile holds audits.0.refused
+    journal_well names FileTooLong holds audits = unlinked_well names FileTooLong holds audits.0.refused
+    journal_well names (JournalRefused line) holds audits = absurd (let e : OkResult legal.journal ≡ Err line = sym legal.reads ∙ audits.0 in cc)
+    journal_well names s holds audits =
+        found_well audits.link (session_of names audits.link holds audits.takes_link) s audits.audits.report audits.audits.audits audits.audits.tells
 
 module _ (a : Audit) (old new : Option Contents) (h k : Option (List ℕ)) (fits : FitsAudit a old) where
-  unaudited_well : (s : Status) → NotAudited a.config a.journal s old new → IsWell s
-  unaudited_well s (no_audit_config taken) = untaken_well s (config_untaken a.config s old new fits.config taken)
-  unaudited_well s (no_journal it) =
-      untaken_well s (unrefused_file a.journal journal_limit (IsLegalJournal it.config a.limit) s old new
+  untaken_audit : (s : Status) → NotExplained a.config a.journal s old new → IsWell s
+  untaken_audit s (no_audit_config taken) = untaken_well s (config_untaken a.config s old new fits.config taken)
+  untaken_audit s (no_journal it) =
+      untaken_well s (unrefused_file a.journal journal_limit (IsAuditable a old it.config) s old new
       (fits.legal it.config (hold_this a.config config_limit IsAccepted _ old new fits.config it.takes_config)) it.refused)
 
-  audit_well : (s : Status) → AuditsFiles a.config a.journal a.limit s old new h k → IsWell s
+  taken_audit : (s : Status) → AuditsTaken a s old new h k → IsWell s
+  taken_audit s audits =
+      let this = hold_this a.config config_limit IsAccepted _ old new fits.config audits.takes_config in
+      let such = such_held a.journal journal_limit (IsAuditable a old audits.config) old new audits.text (fits.legal audits.config this) audits.holds_journal.held in
+      journal_well audits.config a.limit audits.text such.0 h k old new a.link s such.1 audits.audits
+
+  unaudited_well : (s : Status) → NotAudited a s old new h k → IsWell s
+  unaudited_well s (not_taken refused held) = untaken_audit s refused
+  unaudited_well s (no_link audits) = taken_audit s audits
+
+  audit_well : (s : Status) → AuditsFiles a s old new h k → IsWell s
   audit_well FileFault audits = tt
   audit_well WantMemory audits = tt
   audit_well (ConfigRefused fault) audits =
       untaken_well (ConfigRefused fault) (config_untaken a.config (ConfigRefused fault) old new fits.config audits.0)
-  audit_well NoFile audits = unaudited_well NoFile audits.0
-  audit_well FileTooLong audits = unaudited_well FileTooLong audits.0
-  audit_well s audits =
-      let this = hold_this a.config config_limit IsAccepted _ old new fits.config audits.takes_config in
-      let legal = such_held a.journal journal_limit (IsLegalJournal audits.config a.limit) old new audits.text
-      (fits.legal audits.config this) audits.holds_journal.held in
-      journal_well audits.config a.limit audits.text legal h k s audits.audits
+  audit_well NoFile audits = unaudited_well NoFile audits
+  audit_well FileTooLong audits = unaudited_well FileTooLong audits
+  audit_well s audits = taken_audit s audits
 
 -- `explain`
 module _ (c : Config) (limit arrival : ℕ) (text : List ℕ) (legal : IsLegalJournal c limit text) (h k : Option (List ℕ)) where
@@ -245,7 +308,7 @@ module _ (c : Config) (limit arrival : ℕ) (text : List ℕ) (legal : IsLegalJo
   call_well s explains = told_well s explains.found explains.explains explains.tells
 
 module _ (e : Explain) (old new : Option Contents) (h k : Option (List ℕ)) (fits : FitsExplain e old) where
-  unexplained_well : (s : Status) → NotAudited e.config e.journal s old new → IsWell s
+  unexplained_well : (s : Status) → NotExplained e.config e.journal s old new → IsWell s
   unexplained_well s (no_audit_config taken) = untaken_well s (config_untaken e.config s old new fits.config taken)
   unexplained_well s (no_journal it) =
       untaken_well s (unrefused_file e.journal journal_limit (IsLegalJournal it.config e.limit) s old new

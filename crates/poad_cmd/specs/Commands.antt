@@ -42,7 +42,7 @@ Does (iors name) status old new left_old left_new held_old held_new source_old s
 Does (migrate name text) status old new left_old left_new held_old held_new source_old source_new files_old files_new =
     MigratesFile name text status old new held_old held_new × (source_new ≡ source_old)
 Does (audit a) status old new left_old left_new held_old held_new source_old source_new files_old files_new =
-    AuditsFiles a.config a.journal a.limit status old new held_old held_new × (source_new ≡ source_old)
+    AuditsFiles a status old new held_old held_new × (source_new ≡ source_old)
 Does (explain e) status old new left_old left_new held_old held_new source_old source_new files_old files_new =
     ExplainsFiles e.config e.journal e.limit e.arrival status old new held_old held_new × (source_new ≡ source_old)
 Does names status old new left_old left_new held_old held_new source_old source_new files_old files_new =

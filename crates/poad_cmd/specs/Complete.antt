@@ -2,7 +2,7 @@
 -- no limit is met.
 use Rattle.std.specs.Prelude.{◌≡◌, ◌⊎◌, ℕ, ◌+◌, ◌^◌, ◌<◌, ◌≤◌, List, [], ◌∷◌, length, reverse, Option, None, Some, IfSome, Ok, ⊤}
 use Rattle.std.specs.Option.{IsSomeAnd}
-use Rattle.command_words.specs.Auditing.{Audit}
+use Rattle.command_words.specs.Auditing.{Audit, LinkNames}
 use Rattle.command_words.specs.Explaining.{Explain}
 use Rattle.command_words.specs.Serving.{Serve}
 use Rattle.command_words.specs.Words.{Meant, answer, audit, explain, load, names, show, check, iors, migrate, loc, replay}
@@ -13,7 +13,7 @@ use Rattle.outside.specs.Keeping.{Contents}
 use Rattle.poa_base.specs.declared.Config.{Config}
 use Rattle.poa_base.specs.declared.Ior.{Ior}
 use Rattle.poa_base.specs.declared.limits.TheConstants.{CALLS}
-use Rattle.poa_base.specs.Store.{Slots}
+use Rattle.poa_base.specs.Store.{Slots, states}
 use Rattle.poa_core.specs.Answers.{unadmitted}
 use Rattle.poa_history.specs.Legal.{IsLegal}
 use Rattle.poa_history.specs.Life.{Life}
@@ -23,7 +23,9 @@ use Rattle.poad_answer.specs.Run.{life_at_answer}
 use Rattle.poad_answer.specs.Serving.{MessageGives, Serves}
 use Rattle.poad_answer.specs.Stop.{Comes, IsClosing, message_limit}
 use Rattle.poad_answer.specs.declared.naming.TheConstants.{BUILT_IN}
-use Rattle.poad_audit.specs.Auditing.{journal_limit}
+use Rattle.journal_audit.specs.Matching.{LinkBytes, IsSession}
+use Rattle.journal_audit.specs.Texts.{givens_in}
+use Rattle.poad_audit.specs.Auditing.{journal_limit, link_limit}
 use Rattle.poad_names.specs.Whole.{IsWholeInput as IsWholeNaming}
 use Rattle.poad_files.specs.Locating.{IsLocLine}
 use Rattle.poad_files.specs.Referring.{GivesWritten, Refers}
@@ -112,10 +114,29 @@ pub record IsLegalJournal (c : Config) (limit : ℕ) (text : List ℕ) : Type 0 
   pub reads : contents_of text ≡ Ok journal
   pub legal : IsLegal c journal.run limit (reverse journal.entries)
 
--- the configuration of `audit` is accepted, and legal is the journal by it
+-- the bytes of a link are a session of its connection that ended well, by the journal of the text
+abbrev pub IsSessionIn : Config → ℕ → List ℕ → LinkBytes → Type 0
+IsSessionIn c limit text link = (journal : JournalContents) (opening : Slots) → contents_of text ≡ Ok journal → states opening ≡ journal.rows
+    → IsSession (givens_in c limit journal opening) journal.entries link
+
+-- the files hold what was written to the peer of which this was read, and that is such a session
+abbrev pub HoldOutput : Option Contents → LinkNames → Config → ℕ → List ℕ → List ℕ → Type 0
+HoldOutput files names c limit text input =
+    HoldSuch files names.output link_limit (λ output. IsSessionIn c limit text (record { conn = names.conn; input = input; output = output }))
+
+-- they hold the bytes of the link that is asked for
+abbrev pub HoldSession : Option Contents → Option LinkNames → Config → ℕ → List ℕ → Type 0
+HoldSession files None c limit text = ⊤
+HoldSession files (Some names) c limit text = HoldSuch files names.input link_limit (HoldOutput files names c limit text)
+
+-- the text is a legal journal, and the bytes of the link that is asked for are such a session
+abbrev pub IsAuditable : Audit → Option Contents → Config → List ℕ → Type 0
+IsAuditable a files c text = IsLegalJournal c a.limit text × HoldSession files a.link c a.limit text
+
+-- the configuration of `audit` is accepted, and by it the journal and the link
 pub record FitsAudit (a : Audit) (files : Option Contents) : Type 0 where
   pub config : HoldConfig files a.config
-  pub legal : (c : Config) → HoldThisConfig files a.config c → HoldSuch files a.journal journal_limit (IsLegalJournal c a.limit)
+  pub legal : (c : Config) → HoldThisConfig files a.config c → HoldSuch files a.journal journal_limit (IsAuditable a files c)
 
 -- the same of `explain`
 pub record FitsExplain (e : Explain) (files : Option Contents) : Type 0 where

@@ -42,9 +42,11 @@ use std::alloc::Global;
 /// - `check FILE`: reads the configuration in the file, and prints how many there are of each kind.
 /// - `iors FILE`: reads the configuration in the file, and prints the references of its objects.
 /// - `migrate FILE IOR`: reads the configuration in the file, and prints the reference with the tags of its adapters.
-/// - `audit FILE JOURNAL [--limit N]`: reads the journal in the second file, as one of a run of the configuration in the
-///   first that takes N calls, and prints `legal N`, of so many entries, or `illegal K RULE`, of the first that may not
-///   follow those before it, counted from 0.
+/// - `audit FILE JOURNAL [--limit N] [--conn C --in NAME --out NAME]`: reads the journal in the second file, as one of a run of
+///   the configuration in the first that takes N calls, and prints `legal N`, of so many entries, or `illegal K RULE`, of the
+///   first that may not follow those before it, counted from 0. Where all are legal, and a connection is named, prints in a
+///   line more `session yes` or `session no`: whether the two other files hold what that connection read and what was
+///   written to it, by the journal, in a session that ended well.
 /// - `explain FILE JOURNAL --arrival A [--limit N]`: reads the journal in the second file as `audit` does, and prints what
 ///   happened to the call that arrived as the one of this number, counted from 0: a line for each entry that says something of
 ///   it.
@@ -62,6 +64,8 @@ use std::alloc::Global;
 /// - `ScriptRefused`: this line of the script is the first outside the grammar. Nothing was written.
 /// - `Illegal`: this entry of the journal is the first that isn't legal. By `audit` the line that says so was written, by
 ///   `explain` nothing.
+/// - `NoMatch`: the journal is legal, and the bytes of this connection aren't such a session of it. The lines that say so were
+///   written.
 /// - `JournalRefused`: this line of the journal is the first outside the grammar. Nothing was written.
 /// - `BadWords`: the words are none of these commands. Nothing was read or written.
 /// - `TextRefused`: the text of `show`, `migrate` or `loc` is no reference, with its first fault. Nothing was written.
@@ -90,51 +94,67 @@ pub fn run_words<S: Source, K: Sink, F: Files>(
     requires patient { S.is_waiting host.old.source ≡ false }
 
     ensures bad_words { result ≡ Status.BadWords → command_in words.now ≡ None }
-    ensures no_command { command_in words.now ≡ None → (result ≡ Status.BadWords) ⊎ (result ≡ Status.WantMemory) }
+    ensures no_command { command_in words.now ≡ None
+        → (result ≡ Status.BadWords) ⊎ (result ≡ Status.WantMemory) }
     ensures untouched { command_in words.now ≡ None → host.new ≡ host.old }
 
     ensures answers { (name : Option (List ℕ)) → command_in words.now ≡ Some (spec.answer name)
-        → AnswersBy name result (F.contents host.old.files) (F.contents host.new.files) (S.left host.old.source) (S.left host.new.source)
+        → AnswersBy name result (F.contents host.old.files) (F.contents host.new.files)
+        (S.left host.old.source) (S.left host.new.source)
         (K.held host.old.sink) (K.held host.new.sink) }
     ensures plays { (file script : List ℕ) → command_in words.now ≡ Some (spec.replay file script)
-        → PlaysFiles file script result (F.contents host.old.files) (F.contents host.new.files) (K.held host.old.sink)
-        (K.held host.new.sink) × (host.new.source ≡ host.old.source) }
+        → PlaysFiles file script result (F.contents host.old.files) (F.contents host.new.files)
+        (K.held host.old.sink) (K.held host.new.sink)
+        × (host.new.source ≡ host.old.source) }
     ensures loads { (n start : ℕ) → command_in words.now ≡ Some (spec.load n start)
-        → LoadGives n start result (K.held host.old.sink) (K.held host.new.sink) × (host.new.source ≡ host.old.source)
-        × (host.new.files ≡ host.old.files) }
+        → LoadGives n start result (K.held host.old.sink) (K.held host.new.sink)
+        × (host.new.source ≡ host.old.source) × (host.new.files ≡ host.old.files) }
     ensures shows { (text : List ℕ) → command_in words.now ≡ Some (spec.show text)
-        → Tells result text (K.held host.old.sink) (K.held host.new.sink) × (host.new.source ≡ host.old.source)
-        × (host.new.files ≡ host.old.files) }
+        → Tells result text (K.held host.old.sink) (K.held host.new.sink)
+        × (host.new.source ≡ host.old.source) × (host.new.files ≡ host.old.files) }
     ensures locates { (text : List ℕ) → command_in words.now ≡ Some (spec.loc text)
-        → Locates result text (K.held host.old.sink) (K.held host.new.sink) × (host.new.source ≡ host.old.source)
-        × (host.new.files ≡ host.old.files) }
+        → Locates result text (K.held host.old.sink) (K.held host.new.sink)
+        × (host.new.source ≡ host.old.source) × (host.new.files ≡ host.old.files) }
     ensures checks { (name : List ℕ) → command_in words.now ≡ Some (spec.check name)
-        → Filed Counts name result (F.contents host.old.files) (F.contents host.new.files) (K.held host.old.sink) (K.held host.new.sink)
+        → Filed Counts name result (F.contents host.old.files) (F.contents host.new.files)
+        (K.held host.old.sink) (K.held host.new.sink)
         × (host.new.source ≡ host.old.source) }
     ensures iors { (name : List ℕ) → command_in words.now ≡ Some (spec.iors name)
-        → Filed References name result (F.contents host.old.files) (F.contents host.new.files) (K.held host.old.sink) (K.held host.new.sink)
+        → Filed References name result (F.contents host.old.files) (F.contents host.new.files)
+        (K.held host.old.sink) (K.held host.new.sink)
         × (host.new.source ≡ host.old.source) }
     ensures migrates { (name text : List ℕ) → command_in words.now ≡ Some (spec.migrate name text)
-        → MigratesFile name text result (F.contents host.old.files) (F.contents host.new.files) (K.held host.old.sink) (K.held host.new.sink)
+        → MigratesFile name text result (F.contents host.old.files) (F.contents host.new.files)
+        (K.held host.old.sink) (K.held host.new.sink)
         × (host.new.source ≡ host.old.source) }
     ensures audits { (asked : Audit) → command_in words.now ≡ Some (spec.audit asked)
-        → AuditsFiles asked.config asked.journal asked.limit result (F.contents host.old.files) (F.contents host.new.files)
-        (K.held host.old.sink) (K.held host.new.sink) × (host.new.source ≡ host.old.source) }
+        → AuditsFiles asked result (F.contents host.old.files) (F.contents host.new.files)
+        (K.held host.old.sink) (K.held host.new.sink)
+        × (host.new.source ≡ host.old.source) }
     ensures explains { (asked : Explain) → command_in words.now ≡ Some (spec.explain asked)
-        → ExplainsFiles asked.config asked.journal asked.limit asked.arrival result (F.contents host.old.files)
-        (F.contents host.new.files) (K.held host.old.sink) (K.held host.new.sink) × (host.new.source ≡ host.old.source) }
+        → ExplainsFiles asked.config asked.journal asked.limit asked.arrival result
+        (F.contents host.old.files) (F.contents host.new.files)
+        (K.held host.old.sink) (K.held host.new.sink)
+        × (host.new.source ≡ host.old.source) }
     ensures names { command_in words.now ≡ Some spec.names
-        → RunsNames result (S.left host.old.source) (S.left host.new.source) (K.held host.old.sink) (K.held host.new.sink)
+        → RunsNames result (S.left host.old.source) (S.left host.new.source)
+        (K.held host.old.sink) (K.held host.new.sink)
         × (host.new.files ≡ host.old.files) }
     ensures contents { IfTold (F.contents host.old.files) (F.contents host.new.files) HoldsStill }
-    ensures read_fault { HasCause (S.read_faults host.old.source) (S.read_faults host.new.source) (result ≡ Status.ReadFault) }
-    ensures write_fault { HasCause (K.write_faults host.old.sink) (K.write_faults host.new.sink) (result ≡ Status.WriteFault) }
-    ensures file_fault { HasCause (F.take_faults host.old.files) (F.take_faults host.new.files) (result ≡ Status.FileFault) }
-    ensures no_file { HasCause (F.absents host.old.files) (F.absents host.new.files) (result ≡ Status.NoFile) }
-    ensures too_long { HasCause (F.long_ones host.old.files) (F.long_ones host.new.files) (result ≡ Status.FileTooLong) }
+    ensures read_fault { HasCause (S.read_faults host.old.source) (S.read_faults host.new.source)
+        (result ≡ Status.ReadFault) }
+    ensures write_fault { HasCause (K.write_faults host.old.sink) (K.write_faults host.new.sink)
+        (result ≡ Status.WriteFault) }
+    ensures file_fault { HasCause (F.take_faults host.old.files) (F.take_faults host.new.files)
+        (result ≡ Status.FileFault) }
+    ensures no_file { HasCause (F.absents host.old.files) (F.absents host.new.files)
+        (result ≡ Status.NoFile) }
+    ensures too_long { HasCause (F.long_ones host.old.files) (F.long_ones host.new.files)
+        (result ≡ Status.FileTooLong) }
     ensures complete { (meant : Meant) → command_in words.now ≡ Some meant
-        → IsCalm (S.read_faults host.old.source) (S.read_faults host.new.source) (K.write_faults host.old.sink)
-        (K.write_faults host.new.sink) (F.take_faults host.old.files) (F.take_faults host.new.files)
+        → IsCalm (S.read_faults host.old.source) (S.read_faults host.new.source)
+        (K.write_faults host.old.sink) (K.write_faults host.new.sink)
+        (F.take_faults host.old.files) (F.take_faults host.new.files)
         → Fits meant (F.contents host.old.files) (S.left host.old.source)
         → (result ≡ Status.Ok) ⊎ (result ≡ Status.WantMemory) }
 {
@@ -153,16 +173,23 @@ fn run_command<S: Source, K: Sink, F: Files>(
 ) -> Status
     requires patient { S.is_waiting host.old.source ≡ false }
     requires within { IsWithin (seen command) }
-    ensures does { Does (seen command.entry) result (F.contents host.old.files) (F.contents host.new.files) (S.left host.old.source)
-        (S.left host.new.source)
-        (K.held host.old.sink) (K.held host.new.sink) host.old.source host.new.source host.old.files host.new.files }
+    ensures does { Does (seen command.entry) result
+        (F.contents host.old.files) (F.contents host.new.files)
+        (S.left host.old.source) (S.left host.new.source)
+        (K.held host.old.sink) (K.held host.new.sink)
+        host.old.source host.new.source host.old.files host.new.files }
     ensures is_command { result ≢ Status.BadWords }
     ensures contents { IfTold (F.contents host.old.files) (F.contents host.new.files) HoldsStill }
-    ensures read_fault { HasCause (S.read_faults host.old.source) (S.read_faults host.new.source) (result ≡ Status.ReadFault) }
-    ensures write_fault { HasCause (K.write_faults host.old.sink) (K.write_faults host.new.sink) (result ≡ Status.WriteFault) }
-    ensures file_fault { HasCause (F.take_faults host.old.files) (F.take_faults host.new.files) (result ≡ Status.FileFault) }
-    ensures no_file { HasCause (F.absents host.old.files) (F.absents host.new.files) (result ≡ Status.NoFile) }
-    ensures too_long { HasCause (F.long_ones host.old.files) (F.long_ones host.new.files) (result ≡ Status.FileTooLong) }
+    ensures read_fault { HasCause (S.read_faults host.old.source) (S.read_faults host.new.source)
+        (result ≡ Status.ReadFault) }
+    ensures write_fault { HasCause (K.write_faults host.old.sink) (K.write_faults host.new.sink)
+        (result ≡ Status.WriteFault) }
+    ensures file_fault { HasCause (F.take_faults host.old.files) (F.take_faults host.new.files)
+        (result ≡ Status.FileFault) }
+    ensures no_file { HasCause (F.absents host.old.files) (F.absents host.new.files)
+        (result ≡ Status.NoFile) }
+    ensures too_long { HasCause (F.long_ones host.old.files) (F.long_ones host.new.files)
+        (result ≡ Status.FileTooLong) }
 {
     let Host {
         source,
@@ -193,8 +220,6 @@ fn run_command<S: Source, K: Sink, F: Files>(
                 sink,
             )
         }
-        Command::Audit(asked) => {
-            audit_files(alloc, asked.config, asked.journal, asked.limit, files, sink)
-        }
+        Command::Audit(asked) => audit_files(alloc, asked, files, sink),
     }
 }

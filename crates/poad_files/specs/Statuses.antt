@@ -1,7 +1,7 @@
 -- The number with which the program ends.
 use Rattle.std.specs.Prelude.{ℕ}
 use Rattle.poad_files.specs.declared.status.Status.{Status}
-use Rattle.poad_files.specs.declared.status.Status.TheVariants.{Ok, BadWords, ConfigRefused, ScriptRefused, TextRefused, ReadFault, WriteFault, FileFault, Malformed, Truncated, Held, Limit, ListenFault, NoThread, WantMemory, NoFile, FileTooLong, StateRefused, InputLimit, NoProfile, TooManyHops, ConnectFault, Closed, BadReply, NoAnswer, LocRefused, NoLoc, Illegal, JournalRefused}
+use Rattle.poad_files.specs.declared.status.Status.TheVariants.{Ok, BadWords, ConfigRefused, ScriptRefused, TextRefused, ReadFault, WriteFault, FileFault, Malformed, Truncated, Held, Limit, ListenFault, NoThread, WantMemory, NoFile, FileTooLong, StateRefused, InputLimit, NoProfile, TooManyHops, ConnectFault, Closed, BadReply, NoAnswer, LocRefused, NoLoc, Illegal, NoMatch, JournalRefused}
 
 -- no two have the same
 abbrev pub status_number : Status → ℕ
@@ -25,6 +25,7 @@ status_number FileTooLong = 17
 status_number (StateRefused line) = 18
 status_number (InputLimit taken) = 19
 status_number (Illegal entry line due) = 21
+status_number (NoMatch conn) = 22
 status_number (JournalRefused line) = 23
 status_number NoProfile = 24
 status_number (TooManyHops hops) = 25

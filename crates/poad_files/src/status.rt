@@ -54,6 +54,8 @@ pub enum Status {
     /// This entry of the journal, counted from 0, is the first that isn't legal. Beside it the number of its line, and the
     /// line of the one entry that would have been allowed there, which is empty where there is none.
     Illegal { entry: u64, line: u64, due: Bytes },
+    /// What was read and written over this connection isn't a session of it that ended well, by its journal.
+    NoMatch { conn: u32 },
     /// This line of the journal is no line of a journal.
     JournalRefused { line: u64 },
     /// The last reference of a call has no profile by which it can be asked.
@@ -100,6 +102,7 @@ impl Status {
             Status::StateRefused { .. } => 18,
             Status::InputLimit { .. } => 19,
             Status::Illegal { .. } => 21,
+            Status::NoMatch { .. } => 22,
             Status::JournalRefused { .. } => 23,
             Status::NoProfile => 24,
             Status::TooManyHops { .. } => 25,
@@ -136,6 +139,7 @@ impl fmt::Display for Status {
             Status::StateRefused { line } => write!(f, "state: line {line}"),
             Status::InputLimit { taken } => write!(f, "input limit {taken}"),
             Status::Illegal { entry, line, due } => write_illegal(f, *entry, *line, due),
+            Status::NoMatch { conn } => write!(f, "no match {conn}"),
             Status::JournalRefused { line } => write!(f, "journal: line {line}"),
             Status::NoProfile => write!(f, "no profile"),
             Status::TooManyHops { hops } => write!(f, "too many hops {hops}"),

@@ -1,0 +1,9 @@
+use Rattle.std.proofs.Common.{nat_eq, refl}
+use Rattle.std.specs.Cmp.Lexicographic.{pointwise}
+use Rattle.std.proofs.lemmas.Bool.Decides.{Decides-eqb}
+use Rattle.std.proofs.lemmas.Slice.Eq.{slice_eq-Decides}
+use Rattle.journal_audit.proofs.same_command.same_path.Goals as goal
+
+pub returns : goal.returns
+returns c =
+    slice_eq-Decides (λ x y. slice_eq-Decides Decides-eqb x y (pointwise nat_eq x y) refl) c.args.a.now c.args.b.now c.eq.result c.eq.ensures
