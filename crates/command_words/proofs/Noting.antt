@@ -2,7 +2,7 @@
 use Rattle.std.proofs.Common.{◌≡◌, ◌∙◌, ◌<◌, ℕ, ◌+◌, List, [], ◌∷◌, ◌++◌, Option, Some, None, refl, arith, sym, ap, map, option_map, length, drop, get_or, suc, drop-cons, String, string_bytes, append_assoc}
 use Rattle.std.specs.declared.alloc.Global.{Global}
 use Rattle.command_words.specs.declared.optioned.Optioned.{Optioned}
-use Rattle.command_words.specs.Settings.{Place, Setting, among, behind, last, followed, noted, settings_of, word_at}
+use Rattle.command_words.specs.Settings.{Place, Setting, among, before, behind, last, followed, noted, settings_of, word_at}
 
 pub noted_on : (s : Option Setting) (done : List Setting) (more : Option (List Setting))
     → option_map (λ m. noted s done ++ m) more ≡ option_map (λ m. done ++ m) (option_map (followed s) more)
@@ -15,6 +15,7 @@ pub settings_step : (command : Optioned) (place : Place) (w : List ℕ) (ws : Li
     → settings_of command place (w ∷ ws) ≡ option_map (followed s) (settings_of command next ws)
 settings_step command among w ws s next is = rw is refl
 settings_step command (behind name) w ws s next is = rw is refl
+settings_step command (before name) w ws s next is = rw is refl
 settings_step command last w ws s next is = rw is refl
 
 pub noted_next : (command : Optioned) (words : List (String Global)) (i : ℕ) (word : String Global) (place : Place) (s : Option Setting) (next : Place) (done : List Setting)

@@ -1,29 +1,53 @@
 -- The words behind `explain`: the file of a configuration, that of a journal, and options in any place.
-use Rattle.std.specs.Prelude.{ℕ, List, [], Option, Some, codes}
+use Rattle.std.specs.Prelude.{ℕ, List, [], ◌∷◌, Option, Some, None, option_map, codes}
 use Rattle.command_words.specs.Arguments.{exactly_two}
 use Rattle.command_words.specs.Numbers.{number_in}
 use Rattle.command_words.specs.Serving.{limit_of}
-use Rattle.command_words.specs.Settings.{◌>>=◌, Setting, among, only, perhaps, settings_of, values_of}
+use Rattle.command_words.specs.Settings.{◌>>=◌, Setting, among, perhaps, settings_of, values_of}
+use Rattle.command_words.specs.declared.calls_asked.CallsAsked.{CallsAsked}
+use Rattle.command_words.specs.declared.calls_asked.CallsAsked.TheVariants.{Arrival, Call, All}
 use Rattle.command_words.specs.declared.explain_words.ExplainWords.{ExplainWords}
 use Rattle.command_words.specs.declared.optioned.Optioned.TheVariants as optioned
 
--- the call of a journal that words ask for
+-- the calls of a journal that words ask for
 pub record Explain : Type 0 where
   pub config : List ℕ  -- the name of the file with the configuration of its run
   pub journal : List ℕ  -- the name of the journal's file
-  pub arrival : ℕ  -- the number of the call among those that arrived
+  pub calls : CallsAsked
   pub limit : ℕ  -- how many calls the run takes
 
-abbrev pub explain_with : List ℕ → List ℕ → ℕ → ℕ → Explain
-explain_with config journal arrival limit = record { config = config; journal = journal; arrival = arrival; limit = limit }
+abbrev pub explain_with : List ℕ → List ℕ → CallsAsked → ℕ → Explain
+explain_with config journal calls limit = record { config = config; journal = journal; calls = calls; limit = limit }
 
--- two files, the call, and the other option at most once
+-- the two values of an option that may be absent
+abbrev pub pair_of : List (List ℕ) → Option (Option (List ℕ × List ℕ))
+pair_of [] = Some None
+pair_of (a ∷ []) = None
+pair_of (a ∷ b ∷ []) = Some (Some (a, b))
+pair_of (a ∷ b ∷ c ∷ values) = None
+
+-- a request id on a connection
+abbrev pub call_of : List ℕ × List ℕ → Option CallsAsked
+call_of words = number_in 0 3999999 words.0 >>= (λ conn. option_map (Call conn) (number_in 0 4294967295 words.1))
+
+-- one call by its number or by its id, or what came of all
+abbrev pub calls_by : Option (List ℕ) → Option (List ℕ × List ℕ) → Option CallsAsked
+calls_by None None = Some All
+calls_by (Some word) None = option_map Arrival (number_in 0 3999999 word)
+calls_by None (Some words) = call_of words
+calls_by (Some word) (Some words) = None
+
+abbrev pub calls_of : List Setting → Option CallsAsked
+calls_of settings =
+    perhaps (codes "--arrival") settings >>= (λ arrival. pair_of (values_of (codes "--call") settings) >>= calls_by arrival)
+
+-- two files, the calls, and the other option at most once
 abbrev pub explain_of : List Setting → Option Explain
 explain_of settings =
     exactly_two (Some (values_of [] settings)) >>= (λ files.
-    (only (codes "--arrival") settings >>= number_in 0 3999999) >>= (λ arrival.
+    calls_of settings >>= (λ calls.
     (perhaps (codes "--limit") settings >>= limit_of) >>= (λ limit.
-    Some (explain_with files.0 files.1 arrival limit))))
+    Some (explain_with files.0 files.1 calls limit))))
 
 -- of the words behind `explain`
 abbrev pub explain_behind : List (List ℕ) → Option Explain
@@ -31,4 +55,4 @@ explain_behind ws = settings_of optioned.Explain among ws >>= explain_of
 
 -- the same, as the program has it
 abbrev pub seen_explain : ExplainWords → Explain
-seen_explain a = explain_with a.config.now a.journal.now a.arrival a.limit
+seen_explain a = explain_with a.config.now a.journal.now a.calls a.limit

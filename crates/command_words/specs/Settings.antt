@@ -23,7 +23,8 @@ pub record Setting : Type 0 where
 -- where a word stands
 pub data Place : Type 0 where
   among : Place  -- it may be an option, an argument, or the `--` behind which no options come
-  behind : List ℕ → Place  -- it is the value of this option
+  behind : List ℕ → Place  -- it is the value of this option, or the second one of its two
+  before : List ℕ → Place  -- it is the first of the two values of this option
   last : Place  -- it is an argument
 
 -- the names of the options of a command
@@ -33,8 +34,23 @@ is_option Serve name = if bytes_eq name (codes "--lanes") then true else (if byt
     if bytes_eq name (codes "--journal") then true else bytes_eq name (codes "--limit")))))
 is_option Audit name = if bytes_eq name (codes "--limit") then true else (
     if bytes_eq name (codes "--conn") then true else (if bytes_eq name (codes "--in") then true else bytes_eq name (codes "--out")))
-is_option Explain name = if bytes_eq name (codes "--arrival") then true else bytes_eq name (codes "--limit")
+is_option Explain name = if bytes_eq name (codes "--arrival") then true else (if bytes_eq name (codes "--call") then true else
+    bytes_eq name (codes "--limit"))
 is_option Call name = if bytes_eq name (codes "--as") then true else bytes_eq name (codes "--hops")
+
+-- the option has two values
+abbrev pub takes_two : Optioned → List ℕ → Bool
+takes_two Serve name = false
+takes_two Audit name = false
+takes_two Explain name = bytes_eq name (codes "--call")
+takes_two Call name = false
+
+-- the place of the word behind an option's name, and behind its first value
+abbrev pub behind_name : Optioned → List ℕ → Place
+behind_name command name = if takes_two command name then before name else behind name
+
+abbrev pub behind_value : Optioned → List ℕ → Place
+behind_value command name = if takes_two command name then behind name else among
 
 -- `=` has the code 61
 abbrev pub is_equals : ℕ → Bool
@@ -53,8 +69,8 @@ sets name next value = (Some (record { name = name; value = value }), next)
 
 -- an option whose name the word says, and perhaps its value
 abbrev pub option_of : Optioned → List ℕ → Option (List ℕ) → Option (Option Setting × Place)
-option_of command name None = if is_option command name then Some (None, behind name) else None
-option_of command name (Some value) = if is_option command name then option_map (sets name among) (argument false value) else None
+option_of command name None = if is_option command name then Some (None, behind_name command name) else None
+option_of command name (Some value) = if is_option command name then option_map (sets name (behind_value command name)) (argument false value) else None
 
 -- what a word in front of `--` gives; 45 is `-`
 abbrev pub free_word : Optioned → List ℕ → Option (Option Setting × Place)
@@ -67,6 +83,7 @@ free_word command (c ∷ cs) =
 abbrev pub word_at : Optioned → Place → List ℕ → Option (Option Setting × Place)
 word_at command among w = free_word command w
 word_at command (behind name) w = option_map (sets name among) (argument false w)
+word_at command (before name) w = option_map (sets name (behind name)) (argument false w)
 word_at command last w = option_map (sets [] last) (argument true w)
 
 -- with a setting more in front, and behind, if there is one
@@ -82,6 +99,7 @@ noted (Some s) done = done ++ s ∷ []
 abbrev pub settings_of : Optioned → Place → List (List ℕ) → Option (List Setting)
 settings_of command among [] = Some []
 settings_of command (behind name) [] = None
+settings_of command (before name) [] = None
 settings_of command last [] = Some []
 settings_of command place (w ∷ ws) = word_at command place w >>= (λ r. option_map (followed r.0) (settings_of command r.1 ws))
 
@@ -104,6 +122,7 @@ seen_setting s = record { name = s.name.now; value = s.value.now }
 abbrev pub seen_place : PlaceOfReader → Place
 seen_place place.Among = among
 seen_place (place.Behind name) = behind name.now
+seen_place (place.Before name) = before name.now
 seen_place place.Last = last
 
 abbrev pub seen_step : Option SettingAsRead × PlaceOfReader → Option Setting × Place

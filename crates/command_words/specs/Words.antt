@@ -20,7 +20,7 @@ pub data Meant : Type 0 where
   replay : List ℕ → List ℕ → Meant  -- to play, on the configuration in the first file, the script in the second
   load : ℕ → ℕ → Meant  -- to play so many draws of the generator that starts with the second number
   audit : Audit → Meant  -- to audit a journal
-  explain : Explain → Meant  -- to explain a call of a journal
+  explain : Explain → Meant  -- to explain calls of a journal
   names : Meant  -- to serve by naming contexts
 
 -- a load, of both its numbers

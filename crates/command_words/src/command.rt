@@ -37,7 +37,7 @@ pub enum Command<'a> {
     },
     /// To audit a journal.
     Audit(AuditWords<'a>),
-    /// To explain a call of a journal.
+    /// To explain calls of a journal.
     Explain(ExplainWords<'a>),
     /// To serve messages by naming contexts.
     Names,

@@ -5,6 +5,7 @@
 
 mod audit_words;
 mod calling;
+mod calls_asked;
 mod command;
 mod explain_words;
 mod fault;
@@ -25,6 +26,7 @@ mod words;
 
 pub use audit_words::AuditWords;
 pub use calling::{CallWords, call_words};
+pub use calls_asked::CallsAsked;
 pub use command::Command;
 pub use explain_words::ExplainWords;
 pub use fault::WordsFault;

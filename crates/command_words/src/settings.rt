@@ -31,7 +31,7 @@ pub(crate) fn read_settings<'a>(
         place = next;
     }
     match place {
-        Place::Behind(_) => Err(WordsFault::BadWords),
+        Place::Behind(_) | Place::Before(_) => Err(WordsFault::BadWords),
         Place::Among | Place::Last => Ok(settings),
     }
 }
@@ -64,6 +64,10 @@ fn word_at<'a>(
         Place::Behind(name) => {
             let setting = setting_of(name, word, false)?;
             Some((Some(setting), Place::Among))
+        }
+        Place::Before(name) => {
+            let setting = setting_of(name, word, false)?;
+            Some((Some(setting), Place::Behind(name)))
         }
         Place::Last => {
             let setting = setting_of("", word, true)?;
@@ -109,9 +113,9 @@ fn option_of<'a>(
     match value {
         Some(value) => {
             let setting = setting_of(name, value, false)?;
-            Some((Some(setting), Place::Among))
+            Some((Some(setting), behind_value(command, name)))
         }
-        None => Some((None, Place::Behind(name))),
+        None => Some((None, behind_name(command, name))),
     }
 }
 
@@ -127,6 +131,38 @@ fn setting_of<'a>(name: &'a str, word: &'a str, is_behind: bool) -> Option<Setti
     }
 }
 
+// The place of the word behind an option's name.
+fn behind_name<'a>(command: Optioned, name: &'a str) -> Place<'a>
+    ensures { seen_place result ≡ spec.behind_name command name.now }
+{
+    if takes_two(command, name) {
+        Place::Before(name)
+    } else {
+        Place::Behind(name)
+    }
+}
+
+// The place of the word behind an option's first value.
+fn behind_value<'a>(command: Optioned, name: &'a str) -> Place<'a>
+    ensures { seen_place result ≡ spec.behind_value command name.now }
+{
+    if takes_two(command, name) {
+        Place::Behind(name)
+    } else {
+        Place::Among
+    }
+}
+
+// Whether an option has two values.
+fn takes_two(command: Optioned, name: &str) -> bool
+    ensures { result ≡ spec.takes_two command name.now }
+{
+    match command {
+        Optioned::Explain => name == "--call",
+        Optioned::Serve | Optioned::Call | Optioned::Audit => false,
+    }
+}
+
 fn is_option(command: Optioned, name: &str) -> bool
     ensures { result ≡ spec.is_option command name.now }
 {
@@ -137,7 +173,7 @@ fn is_option(command: Optioned, name: &str) -> bool
         ),
         Optioned::Call => matches!(name, "--as" | "--hops"),
         Optioned::Audit => matches!(name, "--limit" | "--conn" | "--in" | "--out"),
-        Optioned::Explain => matches!(name, "--arrival" | "--limit"),
+        Optioned::Explain => matches!(name, "--arrival" | "--call" | "--limit"),
     }
 }
 

@@ -22,7 +22,7 @@ pub record HeardSoFar (first : ℕ) (text : List ℕ) (old : Explainer) (line : 
   pub counted : line ≡ first + length entries
   pub taken : HasTaken entries now.auditor
   pub given : givens_of now.auditor.run ≡ givens_of old.auditor.run
-  pub same : now.trail.arrival ≡ old.trail.arrival
+  pub same : now.watch.asked ≡ old.watch.asked
   pub sees : Sees now
 
 pub heard_begin : (first : ℕ) (text : List ℕ) (x : Explainer) → HasTaken [] x.auditor → Sees x → HeardSoFar first text x first text x

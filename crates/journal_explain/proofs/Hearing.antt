@@ -1,20 +1,18 @@
 -- An explainer hears one entry more.
-use Rattle.std.proofs.Common.{◌≡◌, ℕ, true, false, is_some, List, ◌∷◌, ◌++◌, length, Option, Some, None, Result, Ok, Err, OnOk, refl, sym, ◌∙◌, ap, subst, append_assoc}
+use Rattle.std.proofs.Common.{◌≡◌, ℕ, true, false, is_some, length, Option, Some, None, Result, Ok, Err, OnOk, refl, sym, ◌∙◌, subst}
 use Rattle.poa_base.specs.declared.Entry.{Entry}
 use Rattle.poa_history.specs.Life.{Life, with_entry}
 use Rattle.journal_audit.specs.declared.Auditor.{Auditor}
 use Rattle.journal_audit.specs.declared.Refusal.{Refusal}
-use Rattle.journal_audit.specs.Auditing.{Meets}
+use Rattle.journal_audit.specs.Auditing.{Meets, Takes}
 use Rattle.journal_audit.specs.Judging.{Follows}
-use Rattle.journal_explain.specs.declared.event.Event.{Event}
-use Rattle.journal_explain.specs.declared.step.Step.{Step}
-use Rattle.journal_explain.specs.declared.wait.Wait.{Wait}
-use Rattle.journal_explain.specs.declared.trail.Trail.{Trail}
-use Rattle.journal_explain.specs.Explaining.{HasSeen, SeesWhereLegal}
-use Rattle.journal_explain.specs.Stories.{IsNews, IsStory, event_of, step_at, wait_of}
+use Rattle.journal_explain.specs.declared.watch.Watch.{Watch}
+use Rattle.journal_explain.specs.Explaining.{HasWatched, SeesWhereLegal}
+use Rattle.journal_explain.specs.Watching.{HasLooked, HasNoted}
+use Rattle.journal_explain.proofs.Watched.{watched}
 
 -- behind an entry that isn't legal nothing is seen
-pub sees_none : (r : Option Refusal) (life : Life) (w : Trail) → is_some r ≡ true → SeesWhereLegal r life w
+pub sees_none : (r : Option Refusal) (life : Life) (w : Watch) → is_some r ≡ true → SeesWhereLegal r life w
 sees_none (Some r) life w some = tt
 sees_none None life w some = absurd (let f : false ≡ true = some in cc)
 
@@ -22,48 +20,23 @@ pub none_left : (r : Option Refusal) → is_some r ≡ false → r ≡ None
 none_left None none = refl
 none_left (Some r) none = absurd (let f : true ≡ false = none in cc)
 
--- the trail saw the entry
-module _ (e : Entry) (past new : Life) (told : Option Event) (old now : Trail) (first : List Step) (place : ℕ)
-    (here : place ≡ length past.history) (is : Follows past e → told ≡ event_of past.config past.run past.history e old.arrival)
-    (noted : first ≡ old.steps.items ++ step_at place told) (news : List Step) (waits : IsNews place old.wait now.wait news)
-    (all : now.steps.items ≡ first ++ news) (wait : now.wait ≡ wait_of new.config new.run new.history old.arrival)
-    (same : now.arrival ≡ old.arrival) where
-  saw : HasSeen past old → Follows past e → new ≡ with_entry e past → HasSeen new now
-  saw before follows one_more =
-      let wait_now : now.wait ≡ wait_of past.config past.run (e ∷ past.history) old.arrival =
-      wait ∙ ap (λ (l : Life). wait_of l.config l.run l.history old.arrival) one_more in
-      let story : IsStory past.config past.run (e ∷ past.history) old.arrival now.steps.items = (
-        old.steps.items,
-        before.steps,
-        record {
-          news = news;
-          waits =
-              subst (λ (k : ℕ). IsNews k (wait_of past.config past.run past.history old.arrival) (wait_of past.config past.run (e ∷ past.history) old.arrival) news) here
-              (subst (λ (w : Option Wait). IsNews place w (wait_of past.config past.run (e ∷ past.history) old.arrival) news) before.wait
-              (subst (λ (w : Option Wait). IsNews place old.wait w news) wait_now waits));
-          told = all ∙ (ap (λ (s : List Step). s ++ news) noted ∙ (append_assoc old.steps.items (step_at place told) news
-              ∙ (ap (λ (k : ℕ). old.steps.items ++ (step_at k told ++ news)) here
-              ∙ ap (λ (o : Option Event). old.steps.items ++ (step_at (length past.history) o ++ news)) (is follows))));
-        },
-      ) in
-      record {
-        steps = subst (λ (r : ℕ). IsStory new.config new.run new.history r now.steps.items) (sym same)
-            (subst (λ (l : Life). IsStory l.config l.run l.history old.arrival now.steps.items) (sym one_more) story);
-        wait = wait ∙ ap (λ (r : ℕ). wait_of new.config new.run new.history r) (sym same);
-      }
+-- the watch saw the entry
+module _ (e : Entry) (place : ℕ) (past after : Auditor) (old noted new : Watch) (here : place ≡ length past.run.history)
+    (notes : HasNoted past.run e place old noted) (looks : HasLooked after.run place noted new) where
+  saw : (a : Life) → after.run ≡ a → a ≡ with_entry e past.run → Follows past.run e → HasWatched past.run old → HasWatched a new
+  saw a is one_more follows before =
+      subst (λ (l : Life). HasWatched l new) (sym one_more)
+      (watched past.run e place here follows old noted new before notes
+      (subst (λ (l : Life). HasLooked l place noted new) (is ∙ one_more) looks))
 
-  pub sees_legal : (a b : Auditor) → a.run ≡ past → b.run ≡ new → (r s : Option Refusal) → Meets e a b r s → s ≡ None
-      → SeesWhereLegal r past old → SeesWhereLegal s new now
-  sees_legal a b runs after (Some r) s met none before = absurd (let f : Some r ≡ None = sym met ∙ none in cc)
-  sees_legal a b runs after None (Some s) met none before = absurd (let f : Some s ≡ None = none in cc)
-  sees_legal a b runs after None None met none before =
-      saw before (subst (λ (l : Life). Follows l e) runs met.0) (sym after ∙ (met.1 ∙ ap (with_entry e) runs))
+  sees_legal : (r s : Option Refusal) → Meets e past after r s → s ≡ None → SeesWhereLegal r past.run old → SeesWhereLegal s after.run new
+  sees_legal (Some r) s met none before = absurd (let f : Some r ≡ None = sym met ∙ none in cc)
+  sees_legal None (Some s) met none before = absurd (let f : Some s ≡ None = none in cc)
+  sees_legal None None met none before = saw after.run refl met.1 met.0 before
 
-pub both_ok : {T E A B C : Type 0} (r : Result T E) → OnOk r A → OnOk r B → (A → B → C) → OnOk r C
-both_ok (Ok x) a b f = f a b
-both_ok (Err e) a b f = tt
+  pub sees : Takes e past after → after.refusal ≡ None → SeesWhereLegal past.refusal past.run old → SeesWhereLegal after.refusal after.run new
+  sees takes none before = sees_legal past.refusal after.refusal takes.meets none before
 
--- what is waited for is noted for the wait that the trail has then
-pub news_between : (place : ℕ) (a b x y : Option Wait) (news : List Step) → a ≡ x → y ≡ b → IsNews place a b news → IsNews place x y news
-news_between place a b x y news was is n =
-    subst (λ (w : Option Wait). IsNews place w y news) was (subst (λ (w : Option Wait). IsNews place a w news) (sym is) n)
+pub on_ok : {T E A B : Type 0} (r : Result T E) → OnOk r A → (A → B) → OnOk r B
+on_ok (Ok x) a f = f a
+on_ok (Err e) a f = tt

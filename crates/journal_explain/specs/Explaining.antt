@@ -1,7 +1,8 @@
--- What is told of a call by the entries of a journal, and by its text.
-use Rattle.std.specs.Prelude.{◌≡◌, ℕ, ◌+◌, ◌^◌, ◌<◌, ◌≤◌, ⊤, IfSome, List, ◌∷◌, length, reverse, Option, Some, None, Result, Ok, Err}
+-- What is told of calls by the entries of a journal, and by its text.
+use Rattle.std.specs.Prelude.{◌≡◌, ℕ, ◌+◌, ◌^◌, ◌<◌, ◌≤◌, ⊤, IfSome, if◌then◌else◌, List, [], ◌∷◌, length, map, reverse, All, Option, Some, None, Result, Ok, Err}
 use Rattle.poa_base.specs.declared.Config.{Config}
 use Rattle.poa_base.specs.declared.Entry.{Entry}
+use Rattle.history_standing.specs.Arrivals.{arrivals, call_of}
 use Rattle.poa_history.specs.Legal.{IsLegal}
 use Rattle.poa_history.specs.Life.{Life, givens_of}
 use Rattle.text_words.specs.Cuts.{lines_of, words_of}
@@ -11,29 +12,45 @@ use Rattle.poa_journal.specs.declared.fault.JournalFault.TheVariants.{BadLine, W
 use Rattle.poa_journal.specs.Whole.{Contents, contents_of, entries_of, front_seen, head_of, rows_front}
 use Rattle.journal_audit.specs.declared.Refusal.{Refusal}
 use Rattle.journal_audit.specs.Auditing.{HasTaken, IsRefused, Takes}
+use Rattle.journal_explain.specs.declared.selection.Selection.{Selection}
+use Rattle.journal_explain.specs.declared.came.Came.{Came}
 use Rattle.journal_explain.specs.declared.explainer.Explainer.{Explainer}
 use Rattle.journal_explain.specs.declared.explanation.Explanation.{Explanation}
-use Rattle.journal_explain.specs.declared.step.Step.{Step}
 use Rattle.journal_explain.specs.declared.trail.Trail.{Trail}
+use Rattle.journal_explain.specs.declared.watch.Watch.{Watch}
+use Rattle.journal_explain.specs.Naming.{is_all, names_in}
+use Rattle.journal_explain.specs.Outcomes.{calls_in}
 use Rattle.journal_explain.specs.Stories.{IsStory, wait_of}
+
+-- what came of all calls, where that is asked
+abbrev pub came_in : Selection → Config → ℕ → List Entry → List Came
+came_in which c run h = if is_all which then calls_in c run h else []
 
 -- the trail of a call tells what happened in the run
 pub record HasSeen (life : Life) (t : Trail) : Type 0 where
-  pub steps : IsStory life.config life.run life.history t.arrival t.steps.items
-  pub wait : t.wait ≡ wait_of life.config life.run life.history t.arrival
+  pub call : call_of life.history t.name.arrival ≡ Some t.call
+  pub steps : IsStory life.config life.run life.history t.name.arrival t.steps.items
+  pub wait : t.wait ≡ wait_of life.config life.run life.history t.name.arrival
+  pub arrived : t.name.arrival < arrivals life.history
+
+-- so do the trails of all calls that are asked for, and what came of all
+pub record HasWatched (life : Life) (w : Watch) : Type 0 where
+  pub names : map (λ t. t.name) w.trails.items ≡ names_in w.asked life.history
+  pub each : All (HasSeen life) w.trails.items
+  pub came : w.came.items ≡ came_in w.asked life.config life.run life.history
 
 -- as long as each entry was legal
-abbrev pub SeesWhereLegal : Option Refusal → Life → Trail → Type 0
-SeesWhereLegal None life t = HasSeen life t
-SeesWhereLegal (Some refusal) life t = ⊤
+abbrev pub SeesWhereLegal : Option Refusal → Life → Watch → Type 0
+SeesWhereLegal None life w = HasWatched life w
+SeesWhereLegal (Some refusal) life w = ⊤
 
 abbrev pub Sees : Explainer → Type 0
-Sees x = SeesWhereLegal x.auditor.refusal x.auditor.run x.trail
+Sees x = SeesWhereLegal x.auditor.refusal x.auditor.run x.watch
 
 -- an entry comes
 pub record Hears (e : Entry) (old new : Explainer) : Type 0 where
   pub takes : Takes e old.auditor new.auditor
-  pub same : new.trail.arrival ≡ old.trail.arrival
+  pub same : new.watch.asked ≡ old.watch.asked
   pub sees : Sees old → Sees new
 
 -- the entries of lines, of which the first has this number, were heard
@@ -44,7 +61,7 @@ pub record LinesHeard (first : ℕ) (text : List ℕ) (old : Explainer) (count :
   pub fits : first + count ≤ first + length text
   pub taken : HasTaken entries new.auditor
   pub given : givens_of new.auditor.run ≡ givens_of old.auditor.run
-  pub same : new.trail.arrival ≡ old.trail.arrival
+  pub same : new.watch.asked ≡ old.watch.asked
   pub sees : Sees new
 
 abbrev pub HearsLines : ℕ → List ℕ → Explainer → Result ℕ JournalFault → Explainer → Type 0
@@ -64,26 +81,39 @@ pub record IsFront (text : List ℕ) (run : ℕ) (opening : Opening) : Type 0 wh
 abbrev pub HasRoom : Opening → Type 0
 HasRoom opening = opening.line + length opening.rest.now < 2 ^ 64
 
--- all entries are legal, and these are the steps of the call; or this entry is the first that isn't
-abbrev pub TellsCall : Config → ℕ → ℕ → ℕ → List Entry → Option Refusal → List Step → Type 0
-TellsCall c run limit arrival entries None steps = IsLegal c run limit (reverse entries) × IsStory c run (reverse entries) arrival steps
-TellsCall c run limit arrival entries (Some refusal) steps = IsRefused c run limit entries refusal
+-- what came as the call, and what happened to it
+pub record IsTold (c : Config) (run : ℕ) (h : List Entry) (t : Trail) : Type 0 where
+  pub call : call_of h t.name.arrival ≡ Some t.call
+  pub steps : IsStory c run h t.name.arrival t.steps.items
 
--- the text is a journal, of which the explanation tells whether it is legal, and what happened to the call of this number
-pub record Explains (c : Config) (limit arrival : ℕ) (text : List ℕ) (x : Explanation) : Type 0 where
+-- of each call that is asked for by itself, each once in the order of their arriving, what happened to it; and what came of
+-- all calls, where that is asked
+pub record TellsCalls (c : Config) (run : ℕ) (h : List Entry) (w : Watch) : Type 0 where
+  pub names : map (λ t. t.name) w.trails.items ≡ names_in w.asked h
+  pub told : All (IsTold c run h) w.trails.items
+  pub came : w.came.items ≡ came_in w.asked c run h
+
+-- all entries are legal, and this is told; or this entry is the first that isn't
+abbrev pub TellsWhereLegal : Config → ℕ → ℕ → List Entry → Option Refusal → Watch → Type 0
+TellsWhereLegal c run limit entries None w = IsLegal c run limit (reverse entries) × TellsCalls c run (reverse entries) w
+TellsWhereLegal c run limit entries (Some refusal) w = IsRefused c run limit entries refusal
+
+-- the text is a journal, of which the explanation tells whether it is legal, and what is asked
+pub record Explains (c : Config) (limit : ℕ) (which : Selection) (text : List ℕ) (x : Explanation) : Type 0 where
   pub journal : Contents
   pub reads : contents_of text ≡ Ok journal
   pub first : x.first_line ≡ 2 + length journal.rows
-  pub tells : TellsCall c journal.run limit arrival journal.entries x.refusal x.steps.items
+  pub asked : x.watch.asked ≡ which
+  pub tells : TellsWhereLegal c journal.run limit journal.entries x.refusal x.watch
   -- the line of the first entry that isn't legal has a number
   pub numbered : IfSome x.refusal (λ r. x.first_line + r.entry < 2 ^ 64)
 
 -- or this line is the first that is none of a journal's
-abbrev pub ExplainsText : Config → ℕ → ℕ → List ℕ → Result Explanation JournalFault → Type 0
-ExplainsText c limit arrival text (Ok x) = Explains c limit arrival text x
-ExplainsText c limit arrival text (Err (BadLine line)) = contents_of text ≡ Err line
-ExplainsText c limit arrival text (Err WantMemory) = ⊤
+abbrev pub ExplainsText : Config → ℕ → Selection → List ℕ → Result Explanation JournalFault → Type 0
+ExplainsText c limit which text (Ok x) = Explains c limit which text x
+ExplainsText c limit which text (Err (BadLine line)) = contents_of text ≡ Err line
+ExplainsText c limit which text (Err WantMemory) = ⊤
 
 -- the same of each text with this front
-abbrev pub ExplainsFront : Config → ℕ → ℕ → ℕ → Opening → Result Explanation JournalFault → Type 0
-ExplainsFront c limit arrival run opening result = (text : List ℕ) → IsFront text run opening → ExplainsText c limit arrival text result
+abbrev pub ExplainsFront : Config → ℕ → Selection → ℕ → Opening → Result Explanation JournalFault → Type 0
+ExplainsFront c limit which run opening result = (text : List ℕ) → IsFront text run opening → ExplainsText c limit which text result

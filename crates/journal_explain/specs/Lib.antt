@@ -1,3 +1,6 @@
 pub mod Rows
 pub mod Stories
+pub mod Naming
+pub mod Outcomes
+pub mod Watching
 pub mod Explaining

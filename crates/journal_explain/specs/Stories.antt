@@ -1,5 +1,5 @@
 -- What a journal tells of a call: what happened to it with each entry, and what it waited for from each on.
-use Rattle.std.specs.Prelude.{◌≡◌, ℕ, ◌==◌, if◌then◌else◌, List, [], ◌∷◌, ◌++◌, ◌⊎◌, length, Option, Some, None}
+use Rattle.std.specs.Prelude.{◌≡◌, ℕ, ◌==◌, nat_lt, Bool, true, false, if◌then◌else◌, List, [], ◌∷◌, ◌++◌, ◌⊎◌, length, Option, Some, None}
 use Rattle.poa_base.specs.declared.Config.{Config}
 use Rattle.poa_base.specs.declared.Entry.{Entry}
 use Rattle.poa_base.specs.declared.Entry.TheVariants.{Arrive, Collect, Admit, Tried, Incarnated, Run, Done}
@@ -65,8 +65,16 @@ pub record GoesOn (c : Config) (run : ℕ) (past : List Entry) (e : Entry) (r : 
   pub waits : IsNews (length past) (wait_of c run past r) (wait_of c run (e ∷ past) r) news
   pub told : after ≡ before ++ (step_at (length past) (event_of c run past e r) ++ news)
 
--- these are the steps of the call, the first one first: with each entry what it is to the call, and then what the call waits
--- for where that is another than before
+-- of a call that has arrived the one, and of another the other
+abbrev pub IfArrived : Bool → Type 0 → Type 0 → Type 0
+IfArrived true One Other = One
+IfArrived false One Other = Other
+
+-- these are the steps of the call, the first one first: none before it arrives, and from there on with each entry what it is to
+-- the call, and then what the call waits for where that is another than before
 abbrev pub IsStory : Config → ℕ → List Entry → ℕ → List Step → Type 0
 IsStory c run [] r steps = steps ≡ []
-IsStory c run (e ∷ past) r steps = (before : List Step) × IsStory c run past r before × GoesOn c run past e r before steps
+IsStory c run (e ∷ past) r steps =
+    IfArrived (nat_lt r (arrivals (e ∷ past)))
+    ((before : List Step) × IsStory c run past r before × GoesOn c run past e r before steps)
+    (steps ≡ [])

@@ -1,14 +1,14 @@
-//! What is found of a call.
-use crate::step::Step;
+//! What is found of the calls that are asked for.
+use crate::watch::Watch;
 use journal_audit::Refusal;
 
-/// What is found of a call in a journal's text.
+/// What is found in a journal's text of the calls that are asked for.
 #[derive(Drop)]
 pub struct Explanation {
     /// The number of the line of the journal's first entry, from 1 on; where it has none, that of the line behind the last.
     pub first_line: u64,
     /// The first entry that isn't legal, if there is one.
     pub refusal: Option<Refusal>,
-    /// What happened to the call, the first step first, where each entry is legal. There is none where no such call arrived.
-    pub steps: Vec<Step>,
+    /// What was asked, and where each entry is legal what is found of it.
+    pub watch: Watch,
 }

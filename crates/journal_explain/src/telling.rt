@@ -72,7 +72,12 @@ fn at_work(run: &Run, worker: u32, arrival: u64, event: Event) -> Option<Event>
 }
 
 /// The row of the table by which a request or a locate is admitted; none of a command.
-fn row_for(alloc: Global, run: &Run, worker: u32, arrival: u64) -> Result<Option<Row>, WantMemory>
+pub(crate) fn row_for(
+    alloc: Global,
+    run: &Run,
+    worker: u32,
+    arrival: u64,
+) -> Result<Option<Row>, WantMemory>
     ensures { IfOk result (λ row. row ≡ stories.row_for run.now.config run.now.run run.now.history arrival worker) }
 {
     match facts(alloc, run, arrival)? {

@@ -1,4 +1,4 @@
-//! A call, explained from a journal's text.
+//! Calls, explained from a journal's text.
 ghost use Rattle.std.specs.Prelude.{◌≡◌, ◌≤◌};
 ghost use Rattle.poa_policy.specs.Kept.{KeepsRules};
 ghost use Rattle.journal_explain.specs.Explaining.{ExplainsFront, ExplainsText, HasRoom};
@@ -6,49 +6,50 @@ ghost use Rattle.journal_explain.specs.Explaining.{ExplainsFront, ExplainsText, 
 use crate::explainer::Explainer;
 use crate::explanation::Explanation;
 use crate::lines::hear_lines;
+use crate::selection::Selection;
 use poa_base::Config;
 use poa_journal::{JournalFault, Opening, read_head, read_rows};
 use std::alloc::Global;
 use text_words::next_line;
 
-/// Explains the call of this number among those that arrived, from 0 on, by the journal of a text, which is audited as one of
-/// a run of this configuration, which keeps its rules, that takes so many calls. The run's number and what was stored before
-/// it are the journal's own. `BadLine`: this line is the first that is none of a journal's.
+/// Explains the calls that are asked for by the journal of a text, which is audited as one of a run of this configuration,
+/// which keeps its rules, that takes so many calls. The run's number and what was stored before it are the journal's own.
+/// `BadLine`: this line is the first that is none of a journal's.
 pub fn explain_text(
     alloc: Global,
     config: Config,
     limit: u64,
     text: &[u8],
-    arrival: u64,
+    asked: Selection,
 ) -> Result<Explanation, JournalFault>
     requires rules { KeepsRules config }
     requires limit { limit ≤ 4000000 }
-    ensures { ExplainsText config limit arrival text.now result }
+    ensures { ExplainsText config limit asked text.now result }
 {
     let Some((head, rest)) = next_line(text) else {
         return Err(JournalFault::BadLine { line: 1 });
     };
     let run = read_head(alloc, head)?;
     let opening = read_rows(alloc, rest, 2)?;
-    explain_entries(alloc, config, limit, run, opening, arrival)
+    explain_entries(alloc, config, limit, run, opening, asked)
 }
 
-/// Explains it by the entries behind the rows.
+/// Explains them by the entries behind the rows.
 fn explain_entries(
     alloc: Global,
     config: Config,
     limit: u64,
     run: u32,
     opening: Opening<'_>,
-    arrival: u64,
+    asked: Selection,
 ) -> Result<Explanation, JournalFault>
     requires rules { KeepsRules config }
     requires limit { limit ≤ 4000000 }
     requires room { HasRoom opening }
-    ensures { ExplainsFront config limit arrival run opening.entry result }
+    ensures { ExplainsFront config limit asked run opening.entry result }
 {
     let first_line = opening.line;
-    let mut explainer = Explainer::new(alloc, config, run, opening.store, limit, arrival)?;
+    let mut explainer = Explainer::new(alloc, config, run, opening.store, limit, asked)?;
     let heard = hear_lines(alloc, &mut explainer, first_line, opening.rest);
     let found = found_by(explainer, first_line);
     heard?;
@@ -59,12 +60,12 @@ fn explain_entries(
 fn found_by(explainer: Explainer, first_line: u64) -> Explanation
     ensures line { result.first_line ≡ first_line }
     ensures refusal { result.refusal ≡ explainer.auditor.refusal }
-    ensures steps { result.steps.items ≡ explainer.trail.steps.items }
+    ensures watch { result.watch ≡ explainer.watch }
 {
-    let Explainer { auditor, trail, .. } = explainer;
+    let Explainer { auditor, watch, .. } = explainer;
     Explanation {
         first_line,
         refusal: auditor.refusal,
-        steps: trail.steps,
+        watch,
     }
 }

@@ -3,30 +3,33 @@ ghost use Rattle.std.specs.Prelude.{◌≡◌, ◌++◌, [], List, None, OnOk};
 ghost use Rattle.journal_explain.specs.Stories.{IsNews, step_at};
 ghost use Rattle.journal_explain.specs.declared.step.Step.{Step as StepOf};
 
+use crate::call_name::CallName;
 use crate::event::Event;
 use crate::step::Step;
 use crate::wait::Wait;
-use poa_base::WantMemory;
+use poa_base::{Call, WantMemory};
 use std::alloc::Global;
 
 /// The trail of one call: its steps so far, and what it waits for now.
 #[derive(Drop)]
 pub struct Trail {
-    /// The number of the call among those that arrived, from 0 on.
-    pub arrival: u64,
+    pub name: CallName,
+    pub call: Call,
     pub steps: Vec<Step>,
     pub wait: Option<Wait>,
 }
 
 impl Trail {
     /// The trail of a call of which nothing has been seen.
-    pub(crate) fn new(alloc: Global, arrival: u64) -> Self
-        ensures arrival { result.arrival ≡ arrival }
+    pub(crate) fn new(alloc: Global, name: CallName, call: Call) -> Self
+        ensures name { result.name ≡ name }
+        ensures call { result.call ≡ call }
         ensures steps { result.steps.items ≡ [] }
         ensures wait { result.wait ≡ None }
     {
         Trail {
-            arrival,
+            name,
+            call,
             steps: Vec::new(alloc),
             wait: None,
         }
@@ -35,7 +38,8 @@ impl Trail {
     /// Notes what the entry at this place was to the call.
     pub(crate) fn note(&mut self, entry: u64, told: Option<Event>) -> Result<(), WantMemory>
         ensures steps { OnOk result (self.new.steps.items ≡ self.old.steps.items ++ step_at entry told) }
-        ensures arrival { self.new.arrival ≡ self.old.arrival }
+        ensures name { self.new.name ≡ self.old.name }
+        ensures call { self.new.call ≡ self.old.call }
         ensures wait { self.new.wait ≡ self.old.wait }
     {
         if let Some(event) = told {
@@ -48,7 +52,8 @@ impl Trail {
     pub(crate) fn wait_for(&mut self, entry: u64, wait: Option<Wait>) -> Result<(), WantMemory>
         ensures steps { OnOk result ((news : List StepOf) × IsNews entry self.old.wait wait news
             × (self.new.steps.items ≡ self.old.steps.items ++ news)) }
-        ensures arrival { self.new.arrival ≡ self.old.arrival }
+        ensures name { self.new.name ≡ self.old.name }
+        ensures call { self.new.call ≡ self.old.call }
         ensures wait { OnOk result (self.new.wait ≡ wait) }
     {
         if wait == self.wait {

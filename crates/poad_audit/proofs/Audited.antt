@@ -104,6 +104,20 @@ module _ (c : Config) (limit : ℕ) (text : List ℕ) (a b : Option Contents) wh
       subst (λ (r : Status). AuditsJournal c limit text (Some names) r a b h h) (sym it.0) (unlinked_by names s h it.1 it.2 refused)
   unlinked names s result h refused (inr it) = refused_by (Some names) result h it
 
+-- no other status is told than that of the file, or that of the text
+pub untaken_as : (text : List ℕ) (s result t : Status) → Untaken text s result → result ≡ t → (RefusesText text t → ⊥) → s ≡ t
+untaken_as text s result t (inl it) same never = sym it.0 ∙ same
+untaken_as text s result t (inr it) same never = absurd (never (subst (λ (x : Status). RefusesText text x) same it))
+
+pub link_unwritten : (names : LinkNames) (a b : Option Contents) → LinkRefused names status.WriteFault a b → ⊥
+link_unwritten names a b (no_input refused) = refused
+link_unwritten names a b (no_output input held refused) = refused
+
+-- what is audited ends with no status of a file
+pub never_status : (c : Config) (limit : ℕ) (text : List ℕ) (link : Option LinkBytes) (s t : Status) (h k : Option (List ℕ))
+    → (AuditsBytes c limit text link t h k → ⊥) → AuditsBytes c limit text link s h k → s ≡ t → ⊥
+never_status c limit text link s t h k never p same = never (subst (λ (x : Status). AuditsBytes c limit text link x h k) same p)
+
 -- the same by the files before all others
 module _ (c : Config) (limit : ℕ) (text : List ℕ) (a b d : Option Contents) (still : IfTold a b HoldsStill) where
   link_later : (names : Option LinkNames) (link : Option LinkBytes) → TakesLink names link b d → TakesLink names link a d
@@ -149,19 +163,19 @@ module _ (asked : Audit) (config : Config) (a b c : Option Contents) (t : TakesC
   -- the journal isn't
   pub audits_no_journal : (s : Status) (h : Option (List ℕ)) → Refused asked.journal journal_limit s b c → AuditsFiles asked s a c h h
   audits_no_journal status.NoFile h u = not_taken
-    (no_journal (record {
-      config = config;
-      takes_config = config_on asked.config config a b c t more;
-      refused = refused_before asked.journal journal_limit status.NoFile a b c still u;
-    }))
-    (same_held h)
+      (no_journal (record {
+        config = config;
+        takes_config = config_on asked.config config a b c t more;
+        refused = refused_before asked.journal journal_limit status.NoFile a b c still u;
+      }))
+      (same_held h)
   audits_no_journal status.FileTooLong h u = not_taken
-    (no_journal (record {
-      config = config;
-      takes_config = config_on asked.config config a b c t more;
-      refused = refused_before asked.journal journal_limit status.FileTooLong a b c still u;
-    }))
-    (same_held h)
+      (no_journal (record {
+        config = config;
+        takes_config = config_on asked.config config a b c t more;
+        refused = refused_before asked.journal journal_limit status.FileTooLong a b c still u;
+      }))
+      (same_held h)
   audits_no_journal status.FileFault h u = same_held h
   audits_no_journal status.WantMemory h u = same_held h
   audits_no_journal _ h u = absurd u

@@ -1,3 +1,4 @@
 pub mod Audited
 pub mod Explained
 pub mod Lines
+mod Keys

@@ -1,5 +1,7 @@
 pub mod Printing
 pub mod Auditing
 pub mod Linking
+pub mod Calls
 pub mod Story
+pub mod Table
 pub mod Explaining

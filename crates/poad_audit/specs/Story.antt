@@ -1,16 +1,19 @@
--- What is printed of a call.
+-- What is printed of calls.
 use Rattle.std.specs.Prelude.{ℕ, List, [], ◌++◌, ◌∷◌, codes, decimal, Bool, true, false, Option, Some, None}
 use Rattle.poa_base.specs.declared.Attempt.{Attempt}
 use Rattle.poa_base.specs.declared.Attempt.TheVariants as attempt
 use Rattle.held_queue.specs.declared.Hold.{Hold}
 use Rattle.held_queue.specs.declared.Hold.TheVariants as hold
+use Rattle.journal_explain.specs.declared.CallName.{CallName}
 use Rattle.journal_explain.specs.declared.Event.{Event}
 use Rattle.journal_explain.specs.declared.Event.TheVariants as event
 use Rattle.journal_explain.specs.declared.Row.{Row}
 use Rattle.journal_explain.specs.declared.Row.TheVariants as row
 use Rattle.journal_explain.specs.declared.Step.{Step}
+use Rattle.journal_explain.specs.declared.Trail.{Trail}
 use Rattle.journal_explain.specs.declared.Wait.{Wait}
 use Rattle.journal_explain.specs.declared.Wait.TheVariants.{Worker, Held}
+use Rattle.poad_audit.specs.Calls.{call_text}
 
 abbrev pub row_text : Row → List ℕ
 row_text row.Crowded = codes "when it arrived, 65536 requests and locates stood unadmitted"
@@ -81,14 +84,25 @@ event_text event.Collected = codes "its reply was taken for writing"
 abbrev pub step_line : Step → List ℕ
 step_line s = codes "entry " ++ (decimal s.entry ++ (codes " " ++ (event_text s.event ++ codes "\n")))
 
-abbrev pub step_lines : List Step → List ℕ
-step_lines [] = []
-step_lines (s ∷ more) = step_line s ++ step_lines more
+-- the text of each, one behind the other
+abbrev pub lines_by : {A : Type 0} → (A → List ℕ) → List A → List ℕ
+lines_by text [] = []
+lines_by text (x ∷ more) = text x ++ lines_by text more
 
--- the call, the line of the journal's entry 0, and what happened to the call with each entry
-abbrev pub head_line : ℕ → ℕ → List ℕ
-head_line arrival line = codes "call " ++ (decimal arrival ++ (codes ", entry 0 in line " ++ (decimal line ++ codes "\n")))
+-- the call, the line of the journal's entry 0, what the call asks, and what happened to it with each entry
+abbrev pub head_by : Option ℕ → ℕ → ℕ → ℕ → List ℕ
+head_by (Some id) r conn line = codes "call " ++ (decimal r ++ (codes ", id " ++ (decimal id ++ (codes " of connection " ++ (decimal conn
+    ++ (codes ", entry 0 in line " ++ (decimal line ++ codes "\n")))))))
+head_by None r conn line = codes "call " ++ (decimal r ++ (codes ", a command of connection " ++ (decimal conn
+    ++ (codes ", entry 0 in line " ++ (decimal line ++ codes "\n")))))
 
-abbrev pub story_text : ℕ → ℕ → List Step → List ℕ
-story_text arrival line [] = head_line arrival line ++ codes "it never arrived\n"
-story_text arrival line (s ∷ more) = head_line arrival line ++ step_lines (s ∷ more)
+abbrev pub head_line : CallName → ℕ → List ℕ
+head_line name line = head_by name.id name.arrival name.conn line
+
+abbrev pub story_text : ℕ → Trail → List ℕ
+story_text line t = head_line t.name line ++ (call_text t.call ++ lines_by step_line t.steps.items)
+
+-- each call that is asked for
+abbrev pub calls_text : ℕ → List Trail → List ℕ
+calls_text line [] = codes "no such call arrived\n"
+calls_text line (t ∷ more) = lines_by (story_text line) (t ∷ more)

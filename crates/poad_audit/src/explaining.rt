@@ -1,24 +1,25 @@
-//! `explain`: a call of a journal in a file.
+//! `explain`: calls of a journal in a file.
 ghost use Rattle.std.specs.Prelude.{◌≡◌, ◌≤◌, IfOk};
 ghost use Rattle.outside.specs.Cause.{HasCause};
 ghost use Rattle.outside.specs.Told.{IfTold};
 ghost use Rattle.poa_policy.specs.Kept.{KeepsRules};
 ghost use Rattle.poad_files.specs.Taking.{HoldsStill};
-ghost use Rattle.poad_audit.specs.Explaining.{EndsExplain, ExplainsFiles, ExplainsJournal, HasLine, Tells, told_text};
+ghost use Rattle.poad_audit.specs.Explaining.{EndsExplain, ExplainsFiles, ExplainsJournal, HasLine, Tells, told_text, watch_text as watch_text_of};
 
 use crate::auditing::JOURNAL_LIMIT;
 use crate::printing::due_line;
-use crate::story::story_text;
-use journal_explain::{Explanation, explain_text};
+use crate::story::calls_text;
+use crate::table::table_text;
+use journal_explain::{Explanation, Selection, Watch, explain_text};
 use outside::{Files, Sink};
 use poa_base::{Bytes, Config, WantMemory};
 use poa_journal::JournalFault;
 use poad_files::{Status, deliver, take, take_config};
 use std::alloc::Global;
 
-/// Explains the call of this number among those that arrived, from 0 on, by the journal in one file, which is one of a run of
-/// the configuration in another that takes so many calls, and writes what happened to it: a line for the call, and one for
-/// each entry that says something of it.
+/// Explains the calls that are asked for by the journal in one file, which is one of a run of the configuration in another that
+/// takes so many calls, and writes what happened to each: a line for the call, and one for each entry that says something of
+/// it. Or it writes what came of all: a line for each outcome, with how many calls it has.
 ///
 /// - `Ok`: all entries are legal.
 /// - `Illegal`: this entry is the first that isn't. Nothing was written.
@@ -33,14 +34,13 @@ pub fn explain_files<K: Sink, F: Files>(
     alloc: Global,
     file: &str,
     journal: &str,
-    arrival: u64,
+    asked: Selection,
     limit: u32,
     files: &mut F,
     sink: &mut K,
 ) -> Status
     requires { limit ≤ 4000000 }
-    ensures explains { ExplainsFiles file.now journal.now limit arrival result
-        (F.contents files.old) (F.contents files.new)
+    ensures explains { ExplainsFiles file.now journal.now limit asked result (F.contents files.old) (F.contents files.new)
         (K.held sink.old) (K.held sink.new) }
     ensures contents { IfTold (F.contents files.old) (F.contents files.new) HoldsStill }
     ensures file_fault { HasCause (F.take_faults files.old) (F.take_faults files.new) (result
@@ -57,42 +57,39 @@ pub fn explain_files<K: Sink, F: Files>(
         Err(status) => return status,
     };
     match take(journal, JOURNAL_LIMIT, files) {
-        Ok(content) => explain(alloc, config, limit, content.as_slice(), arrival, sink),
+        Ok(content) => explain(alloc, config, limit, content.as_slice(), asked, sink),
         Err(status) => status,
     }
 }
 
-// Explains a call by the journal of a text, and writes what is found.
+// Explains calls by the journal of a text, and writes what is found.
 fn explain<K: Sink>(
     alloc: Global,
     config: Config,
     limit: u32,
     text: &[u8],
-    arrival: u64,
+    asked: Selection,
     sink: &mut K,
 ) -> Status
     requires rules { KeepsRules config }
     requires limit { limit ≤ 4000000 }
-    ensures explains { ExplainsJournal config limit arrival text.now result (K.held sink.old)
-        (K.held sink.new) }
-    ensures written { HasCause (K.write_faults sink.old) (K.write_faults sink.new) (result
-        ≡ Status.WriteFault) }
+    ensures explains { ExplainsJournal config limit asked text.now result (K.held sink.old) (K.held sink.new) }
+    ensures written { HasCause (K.write_faults sink.old) (K.write_faults sink.new) (result ≡ Status.WriteFault) }
 {
-    match explain_text(alloc, config, u64::from(limit), text, arrival) {
-        Ok(found) => tell(alloc, arrival, &found, sink),
+    match explain_text(alloc, config, u64::from(limit), text, asked) {
+        Ok(found) => tell(alloc, &found, sink),
         Err(JournalFault::BadLine { line }) => Status::JournalRefused { line },
         Err(JournalFault::WantMemory) => Status::WantMemory,
     }
 }
 
 // Writes what was found.
-fn tell<K: Sink>(alloc: Global, arrival: u64, found: &Explanation, sink: &mut K) -> Status
+fn tell<K: Sink>(alloc: Global, found: &Explanation, sink: &mut K) -> Status
     requires { HasLine found.now }
-    ensures tells { Tells arrival found.now result (K.held sink.old) (K.held sink.new) }
-    ensures written { HasCause (K.write_faults sink.old) (K.write_faults sink.new) (result
-        ≡ Status.WriteFault) }
+    ensures tells { Tells found.now result (K.held sink.old) (K.held sink.new) }
+    ensures written { HasCause (K.write_faults sink.old) (K.write_faults sink.new) (result ≡ Status.WriteFault) }
 {
-    let Ok(text) = text_of(alloc, arrival, found) else {
+    let Ok(text) = text_of(alloc, found) else {
         return Status::WantMemory;
     };
     let Ok(status) = status_of(alloc, found) else {
@@ -120,12 +117,23 @@ fn status_of(alloc: Global, found: &Explanation) -> Result<Status, WantMemory>
     }
 }
 
-// The story of the call, where all entries are legal.
-fn text_of(alloc: Global, arrival: u64, found: &Explanation) -> Result<Bytes, WantMemory>
-    ensures { IfOk result (λ text. text ≡ told_text arrival found.now) }
+// What is told, where all entries are legal.
+fn text_of(alloc: Global, found: &Explanation) -> Result<Bytes, WantMemory>
+    ensures { IfOk result (λ text. text ≡ told_text found.now) }
 {
     match &found.refusal {
-        None => story_text(alloc, arrival, found.first_line, found.steps.as_slice()),
+        None => watch_text(alloc, found.first_line, &found.watch),
         Some(_) => Ok(Bytes::new(alloc)),
+    }
+}
+
+// What is told of calls; the entries of their journal begin at this line.
+fn watch_text(alloc: Global, line: u64, watch: &Watch) -> Result<Bytes, WantMemory>
+    ensures { IfOk result (λ text. text ≡ watch_text_of line watch.now) }
+{
+    if watch.asked.is_all() {
+        table_text(alloc, line, watch.came.as_slice())
+    } else {
+        calls_text(alloc, line, watch.trails.as_slice())
     }
 }

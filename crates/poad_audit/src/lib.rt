@@ -1,14 +1,17 @@
 //! `audit`: the journal in a file is audited as one of a run of the configuration in another, and what is found is printed; and
 //! so is whether the bytes of a link, in two files more, are what it says of that connection.
-//! `explain`: a call of such a journal, with what happened to it.
+//! `explain`: calls of such a journal, with what happened to each; or what came of all.
 #![tactic(auto)]
 
 mod auditing;
+mod call_text;
 mod explaining;
 mod linking;
 mod printing;
 mod row_text;
 mod story;
+mod table;
+mod tally;
 
 pub use auditing::audit_files;
 pub use explaining::explain_files;

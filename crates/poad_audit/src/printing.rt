@@ -78,10 +78,12 @@ fn ending_of(matched: Option<Matched>) -> Status
     ensures { EndsLink result matched }
 {
     match matched {
-        Some(Matched {
-            conn,
-            is_session: false,
-        }) => Status::NoMatch { conn },
+        Some(
+            Matched {
+                conn,
+                is_session: false,
+            },
+        ) => Status::NoMatch { conn },
         _ => Status::Ok,
     }
 }

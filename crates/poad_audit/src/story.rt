@@ -1,34 +1,69 @@
-//! What is printed of a call.
-ghost use Rattle.std.specs.Prelude.{◌≡◌, IfOk, ◌++◌, OnOk};
+//! What is printed of calls.
+ghost use Rattle.std.specs.Prelude.{◌≡◌, IfOk, ◌++◌, OnOk, string_bytes};
 ghost use Rattle.poad_audit.specs.Story as printed;
 
+use crate::call_text::put_call;
 use crate::row_text::reason_text;
 use held_queue::Hold;
-use journal_explain::{Event, Row, Step, Wait};
+use journal_explain::{CallName, Event, Row, Step, Trail, Wait};
 use poa_base::{Attempt, Bytes, WantMemory};
 use std::alloc::Global;
 
-/// The lines of a call's story; the entries of its journal begin at this line.
-pub(crate) fn story_text(
-    alloc: Global,
-    arrival: u64,
-    line: u64,
-    steps: &[Step],
-) -> Result<Bytes, WantMemory>
-    ensures { IfOk result (λ text. text ≡ printed.story_text arrival line steps.now) }
+/// The stories of the calls that are asked for; the entries of their journal begin at this line.
+pub(crate) fn calls_text(alloc: Global, line: u64, trails: &[Trail]) -> Result<Bytes, WantMemory>
+    ensures { IfOk result (λ text. text ≡ printed.calls_text line trails.now) }
 {
-    let head = format!(in alloc; "call {arrival}, entry 0 in line {line}\n")?;
-    let mut out = head.into_bytes();
-    if steps.is_empty() {
-        out.extend_from_slice(b"it never arrived\n")?;
+    if trails.is_empty() {
+        return fixed(alloc, "no such call arrived\n");
     }
-    put_steps(alloc, &mut out, steps)?;
+    let mut out = Vec::new(alloc);
+    put_stories(alloc, &mut out, line, trails)?;
     Ok(Bytes::from_vec(out))
+}
+
+/// Adds the lines of the calls.
+fn put_stories(
+    alloc: Global,
+    out: &mut Vec<u8>,
+    line: u64,
+    trails: &[Trail],
+) -> Result<(), WantMemory>
+    ensures { OnOk result (out.new.items ≡ out.old.items ++ printed.lines_by (printed.story_text line) trails.now) }
+{
+    for trail in trails {
+        let text = story_text(alloc, line, trail)?;
+        out.extend_from_slice(text.as_slice())?;
+    }
+    Ok(())
+}
+
+fn story_text(alloc: Global, line: u64, trail: &Trail) -> Result<Bytes, WantMemory>
+    ensures { IfOk result (λ text. text ≡ printed.story_text line trail.now) }
+{
+    let head = head_line(alloc, trail.name, line)?;
+    let mut out = head.into_bytes();
+    put_call(alloc, &mut out, &trail.call)?;
+    put_steps(alloc, &mut out, trail.steps.as_slice())?;
+    Ok(Bytes::from_vec(out))
+}
+
+fn head_line(alloc: Global, name: CallName, line: u64) -> Result<String, WantMemory>
+    ensures { IfOk result (λ text. string_bytes text ≡ printed.head_line name line) }
+{
+    let (arrival, conn) = (name.arrival, name.conn);
+    match name.id {
+        Some(id) => Ok(format!(in alloc;
+            "call {arrival}, id {id} of connection {conn}, entry 0 in line {line}\n"
+        )?),
+        None => Ok(format!(in alloc;
+            "call {arrival}, a command of connection {conn}, entry 0 in line {line}\n"
+        )?),
+    }
 }
 
 /// Adds the lines of the steps.
 fn put_steps(alloc: Global, out: &mut Vec<u8>, steps: &[Step]) -> Result<(), WantMemory>
-    ensures { OnOk result (out.new.items ≡ out.old.items ++ printed.step_lines steps.now) }
+    ensures { OnOk result (out.new.items ≡ out.old.items ++ printed.lines_by printed.step_line steps.now) }
 {
     for step in steps {
         let line = step_line(alloc, step)?;

@@ -104,11 +104,13 @@ fn audit(
     let limit = serve.limit;
     let mut host = host_of(alloc, config, text)?;
     let mut line = format!(in alloc; "audit config journal --limit {limit}")?;
-    if let Some(Exchange {
-        conn,
-        input,
-        output,
-    }) = link
+    if let Some(
+        Exchange {
+            conn,
+            input,
+            output,
+        },
+    ) = link
     {
         line = format!(in alloc; "{line} --conn {conn} --in input --out output")?;
         host.files.hold("input", input)?;

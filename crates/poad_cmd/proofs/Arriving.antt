@@ -1,18 +1,14 @@
 -- What arrived in a history is what arrived on its connections.
-use Rattle.std.proofs.Common.{◌≡◌, ℕ, suc, ◌+◌, ◌<◌, ◌≤◌, Bool, true, false, ◌==◌, ◌||◌, cond, if◌then◌else◌, List, [], ◌∷◌, ◌++◌, length, reverse, Option, Some, None, refl, sym, ap, ◌∙◌, subst, arith, eq-eqb, inl, inr, ⊎_elim, ◌⊎◌}
+use Rattle.std.proofs.Common.{◌≡◌, ℕ, ◌+◌, ◌<◌, ◌≤◌, Bool, true, false, ◌==◌, ◌||◌, cond, if◌then◌else◌, List, [], ◌∷◌, ◌++◌, reverse, refl, sym, ap, ◌∙◌, subst, arith, eq-eqb}
 use Rattle.std.proofs.lemmas.List.{reverse-append, reverse-reverse}
 use Rattle.history_standing.specs.Arrivals.{arrivals, arrived_bytes, connections}
-use Rattle.poa_base.specs.declared.Call.{Call}
 use Rattle.poa_base.specs.declared.Entry.{Entry}
 use Rattle.poa_base.specs.declared.Entry.TheVariants.{Abandon, Admit, Arrive, Collect, Done, Entered, Etherealized, Filled, Incarnated, Left, Run, TakeOut, Tried}
 use Rattle.poa_history.specs.Legal.{had_shutdown, is_shutdown}
-use Rattle.poa_history.specs.Limits.{filled_at}
-use Rattle.poad_cmd.proofs.Sums.{counted, total_both, total_more}
-use Rattle.poad_cmd.specs.Complete.{bytes_in}
-use Rattle.seat_lock.proofs.Totals.{total_le}
+use Rattle.poad_cmd.proofs.Sums.{total_both, total_more}
 use Rattle.seat_lock.specs.Histories.{In, total}
 use Rattle.session_laws.specs.Hearing.{Heard}
-use Rattle.session_laws.specs.Records.{arrived_by, filling_by}
+use Rattle.session_laws.specs.Records.{arrived_by}
 
 -- each call came on one of these connections
 abbrev pub CameOn : List ℕ → List Entry → Type 0

@@ -1,5 +1,5 @@
 -- Each command ends well where nothing outside fails and what it works on is accepted.
-use Rattle.std.proofs.Common.{◌≡◌, ◌⊎◌, ℕ, ◌<◌, ◌≤◌, List, length, reverse, Option, None, Some, Ok as OkResult, Err, inl, inr, refl, sym, ◌∙◌, subst, arith}
+use Rattle.std.proofs.Common.{◌≡◌, ◌⊎◌, IfSome, ℕ, true, false, ◌<◌, ◌≤◌, List, length, reverse, Option, None, Some, Ok as OkResult, Err, inl, inr, refl, sym, ◌∙◌, subst, arith}
 use Rattle.std.specs.Option.{IsSomeAnd}
 use Rattle.std.proofs.lemmas.Option.{same_Some}
 use Rattle.command_words.specs.Auditing.{Audit, LinkNames}
@@ -23,11 +23,12 @@ use Rattle.poa_history.specs.declared.Givens.{Givens}
 use Rattle.poa_base.specs.declared.Entry.{Entry}
 use Rattle.poa_history.specs.Legal.{IsLegal}
 use Rattle.poa_journal.specs.Whole.{Contents as JournalContents}
+use Rattle.journal_explain.specs.declared.Selection.{Selection}
 use Rattle.journal_explain.specs.declared.Explanation.{Explanation}
-use Rattle.journal_explain.specs.Explaining.{Explains, TellsCall}
+use Rattle.journal_explain.specs.Explaining.{Explains, TellsWhereLegal}
 use Rattle.poad_audit.specs.Explaining.{ExplainsFiles, ExplainsJournal, Tells as TellsCallOf}
 use Rattle.poad_audit.specs.Auditing.{AuditsEntries, AuditsFiles, AuditsJournal, AuditsTaken, LinkRefused, NotAudited, NotTaken as NotExplained, RefusesLink, TakesLink, Tells as TellsAudit, journal_limit, link_limit, no_config as no_audit_config, no_input, no_journal, no_link, no_output, not_taken}
-use Rattle.poad_cmd.specs.Commands.{Does, RunsNames}
+use Rattle.poad_cmd.specs.Commands.{Does, RunsNames, sought}
 use Rattle.poad_cmd.specs.Complete.{Configures, Fits, FitsAnswer, FitsAudit, FitsExplain, FitsReplay, HoldConfig, HoldOutput, HoldScript, HoldSession, HoldSuch, IsAuditable, IsCalm, IsConfigured, IsLegalJournal, IsLocatable, IsReference, IsScript, IsSessionIn, IsWholeInput, IsWholeScript}
 use Rattle.poad_cmd.specs.Playing.{EndsPlay, NotTaken, PlaysFiles, PlaysTaken, no_config, no_script}
 use Rattle.poad_cmd.proofs.Wholly.{IsWell, run_well}
@@ -223,38 +224,38 @@ module _ (c : Config) (limit : ℕ) (text : List ℕ) (legal : IsLegalJournal c 
 
   -- where the files hold it
   module _ (old new : Option Contents) where
-    session_of : (names : Option LinkNames) (link : Option LinkBytes) → HoldSession old names c limit text → TakesLink names link old new
+    session_of : (wanted : Option LinkNames) (link : Option LinkBytes) → HoldSession old wanted c limit text → TakesLink wanted link old new
         → IfSome link (IsSessionIn c limit text)
     session_of None None holds taken = tt
     session_of None (Some link) holds taken = absurd taken
-    session_of (Some names) None holds taken = absurd taken
-    session_of (Some names) (Some link) holds taken =
-        let output = such_held names.input link_limit (HoldOutput old names c limit text) old new link.input holds taken.input.held in
-        let is = such_held names.output link_limit
-        (λ (out : List ℕ). IsSessionIn c limit text (record { conn = names.conn; input = link.input; output = out })) old new link.output output
+    session_of (Some wanted) None holds taken = absurd taken
+    session_of (Some wanted) (Some link) holds taken =
+        let output = such_held wanted.input link_limit (HoldOutput old wanted c limit text) old new link.input holds taken.input.held in
+        let is = such_held wanted.output link_limit
+        (λ (out : List ℕ). IsSessionIn c limit text (record { conn = wanted.conn; input = link.input; output = out })) old new link.output output
         taken.output.held in
         subst (λ (conn : ℕ). IsSessionIn c limit text (record { conn = conn; input = link.input; output = link.output })) (sym taken.conn) is
 
-    unlinked_by : (names : LinkNames) (s : Status) → HoldSession old (Some names) c limit text → LinkRefused names s old new → IsWell s
-    unlinked_by names s holds (no_input refused) =
-        untaken_well s (unrefused_file names.input link_limit (HoldOutput old names c limit text) s old new holds refused)
-    unlinked_by names s holds (no_output input held refused) =
-        let output = such_held names.input link_limit (HoldOutput old names c limit text) old new input holds held.held in
-        untaken_well s (unrefused_file names.output link_limit
-        (λ (out : List ℕ). IsSessionIn c limit text (record { conn = names.conn; input = input; output = out })) s old new output refused)
+    unlinked_by : (wanted : LinkNames) (s : Status) → HoldSession old (Some wanted) c limit text → LinkRefused wanted s old new → IsWell s
+    unlinked_by wanted s holds (no_input refused) =
+        untaken_well s (unrefused_file wanted.input link_limit (HoldOutput old wanted c limit text) s old new holds refused)
+    unlinked_by wanted s holds (no_output input held refused) =
+        let output = such_held wanted.input link_limit (HoldOutput old wanted c limit text) old new input holds held.held in
+        untaken_well s (unrefused_file wanted.output link_limit
+        (λ (out : List ℕ). IsSessionIn c limit text (record { conn = wanted.conn; input = input; output = out })) s old new output refused)
 
-    unlinked_well : (names : Option LinkNames) (s : Status) → HoldSession old names c limit text → RefusesLink names s old new → IsWell s
+    unlinked_well : (wanted : Option LinkNames) (s : Status) → HoldSession old wanted c limit text → RefusesLink wanted s old new → IsWell s
     unlinked_well None s holds refused = absurd refused
-    unlinked_well (Some names) s holds refused = unlinked_by names s holds refused
+    unlinked_well (Some wanted) s holds refused = unlinked_by wanted s holds refused
 
-    journal_well : (names : Option LinkNames) (s : Status) → HoldSession old names c limit text → AuditsJournal c limit text names s old new h k → IsWell s
-    journal_well names WantMemory holds audits = tt
-    journal_well names FileFault holds audits = tt
-    journal_well names NoFile holds audits = unlinked_well names NoFile holds audits.0.refused
-    journal_well names FileTooLong holds audits = unlinked_well names FileTooLong holds audits.0.refused
-    journal_well names (JournalRefused line) holds audits = absurd (let e : OkResult legal.journal ≡ Err line = sym legal.reads ∙ audits.0 in cc)
-    journal_well names s holds audits =
-        found_well audits.link (session_of names audits.link holds audits.takes_link) s audits.audits.report audits.audits.audits audits.audits.tells
+    journal_well : (wanted : Option LinkNames) (s : Status) → HoldSession old wanted c limit text → AuditsJournal c limit text wanted s old new h k → IsWell s
+    journal_well wanted WantMemory holds audits = tt
+    journal_well wanted FileFault holds audits = tt
+    journal_well wanted NoFile holds audits = unlinked_well wanted NoFile holds audits.0.refused
+    journal_well wanted FileTooLong holds audits = unlinked_well wanted FileTooLong holds audits.0.refused
+    journal_well wanted (JournalRefused line) holds audits = absurd (let e : OkResult legal.journal ≡ Err line = sym legal.reads ∙ audits.0 in cc)
+    journal_well wanted s holds audits =
+        found_well audits.link (session_of wanted audits.link holds audits.takes_link) s audits.audits.report audits.audits.audits audits.audits.tells
 
 module _ (a : Audit) (old new : Option Contents) (h k : Option (List ℕ)) (fits : FitsAudit a old) where
   untaken_audit : (s : Status) → NotExplained a.config a.journal s old new → IsWell s
@@ -283,26 +284,26 @@ module _ (a : Audit) (old new : Option Contents) (h k : Option (List ℕ)) (fits
   audit_well s audits = taken_audit s audits
 
 -- `explain`
-module _ (c : Config) (limit arrival : ℕ) (text : List ℕ) (legal : IsLegalJournal c limit text) (h k : Option (List ℕ)) where
-  never_illegal : (P : Refusal → Type 0) (x : Explanation) → Explains c limit arrival text x → (found : Option Refusal) → x.refusal ≡ found
+module _ (c : Config) (limit : ℕ) (which : Selection) (text : List ℕ) (legal : IsLegalJournal c limit text) (h k : Option (List ℕ)) where
+  never_illegal : (P : Refusal → Type 0) (x : Explanation) → Explains c limit which text x → (found : Option Refusal) → x.refusal ≡ found
       → IsSomeAnd found P → ⊥
   never_illegal P x explains None is some = some
   never_illegal P x explains (Some r) is some =
       let read : OkResult explains.journal ≡ OkResult legal.journal = sym explains.reads ∙ legal.reads in
       let same : explains.journal ≡ legal.journal = cc in
       let bad : IsRefused c explains.journal.run limit explains.journal.entries r =
-      subst (λ (f : Option Refusal). TellsCall c explains.journal.run limit arrival explains.journal.entries f x.steps.items) is explains.tells in
+      subst (λ (f : Option Refusal). TellsWhereLegal c explains.journal.run limit explains.journal.entries f x.watch) is explains.tells in
       spoiled c explains.journal.run limit explains.journal.entries r.entry r.rule bad.first
       (subst (λ (j : JournalContents). IsLegal c j.run limit (reverse j.entries)) (sym same) legal.legal)
 
-  told_well : (s : Status) (x : Explanation) → Explains c limit arrival text x → TellsCallOf arrival x s h k → IsWell s
+  told_well : (s : Status) (x : Explanation) → Explains c limit which text x → TellsCallOf x s h k → IsWell s
   told_well Ok x explains tells = tt
   told_well WriteFault x explains tells = tt
   told_well WantMemory x explains tells = tt
   told_well (Illegal entry line due) x explains tells = absurd (never_illegal _ x explains x.refusal refl tells.0)
   told_well _ x explains tells = absurd tells.0
 
-  call_well : (s : Status) → ExplainsJournal c limit arrival text s h k → IsWell s
+  call_well : (s : Status) → ExplainsJournal c limit which text s h k → IsWell s
   call_well WantMemory explains = tt
   call_well (JournalRefused line) explains = absurd (let e : OkResult legal.journal ≡ Err line = sym legal.reads ∙ explains.0 in cc)
   call_well s explains = told_well s explains.found explains.explains explains.tells
@@ -314,7 +315,7 @@ module _ (e : Explain) (old new : Option Contents) (h k : Option (List ℕ)) (fi
       untaken_well s (unrefused_file e.journal journal_limit (IsLegalJournal it.config e.limit) s old new
       (fits.legal it.config (hold_this e.config config_limit IsAccepted _ old new fits.config it.takes_config)) it.refused)
 
-  explain_well : (s : Status) → ExplainsFiles e.config e.journal e.limit e.arrival s old new h k → IsWell s
+  explain_well : (s : Status) → ExplainsFiles e.config e.journal e.limit (sought e.calls) s old new h k → IsWell s
   explain_well FileFault explains = tt
   explain_well WantMemory explains = tt
   explain_well (ConfigRefused fault) explains =
@@ -325,7 +326,7 @@ module _ (e : Explain) (old new : Option Contents) (h k : Option (List ℕ)) (fi
       let this = hold_this e.config config_limit IsAccepted _ old new fits.config explains.takes_config in
       let legal = such_held e.journal journal_limit (IsLegalJournal explains.config e.limit) old new explains.text
       (fits.legal explains.config this) explains.holds_journal.held in
-      call_well explains.config e.limit e.arrival explains.text legal h k s explains.explains
+      call_well explains.config e.limit (sought e.calls) explains.text legal h k s explains.explains
 
 -- the commands of a text
 text_well : (s : Status) → s ≡ WantMemory → IsWell s

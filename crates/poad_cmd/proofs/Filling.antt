@@ -1,5 +1,5 @@
 -- A run whose calls all fit isn't filled.
-use Rattle.std.proofs.Common.{◌≡◌, ◌⊎◌, ℕ, suc, ◌+◌, ◌<◌, ◌≤◌, ◌^◌, true, false, ◌==◌, if◌then◌else◌, List, [], ◌∷◌, ◌++◌, length, reverse, Option, Some, None, refl, sym, ap, ◌∙◌, subst, arith, eq-eqb, inl, inr, ⊎_elim, append_assoc, length-append}
+use Rattle.std.proofs.Common.{◌≡◌, ℕ, suc, ◌+◌, ◌<◌, ◌≤◌, ◌^◌, true, if◌then◌else◌, List, [], ◌∷◌, ◌++◌, length, reverse, Option, Some, None, refl, sym, ap, ◌∙◌, subst, arith, eq-eqb, ⊎_elim, append_assoc, length-append}
 use Rattle.std.proofs.lemmas.List.{reverse-reverse}
 use mathlib.Core.Logic.{dite}
 use mathlib.Core.Option.{some}
@@ -12,7 +12,7 @@ use Rattle.poa_base.specs.declared.Command.TheVariants.{Shutdown}
 use Rattle.poa_base.specs.declared.Config.{Config}
 use Rattle.poa_base.specs.declared.Entry.{Entry}
 use Rattle.poa_base.specs.declared.Entry.TheVariants.{Abandon, Admit, Arrive, Collect, Done, Entered, Etherealized, Filled, Incarnated, Left, Run, TakeOut, Tried}
-use Rattle.poa_history.specs.Legal.{IsLegal, MayFill, had_shutdown}
+use Rattle.poa_history.specs.Legal.{IsLegal, had_shutdown}
 use Rattle.poa_history.specs.Limits.{filled_at}
 use Rattle.poa_history.specs.Owners.{owner_of}
 use Rattle.poad_cmd.proofs.Arriving.{CameOn, arrivals_are, bytes_are, entered_more, grown, is_end, one_each, size_of, some_end, weighed, weighed_by, weighed_within}
@@ -24,7 +24,7 @@ use Rattle.serve_run.proofs.Staying.{entry_of}
 use Rattle.serve_run.specs.Holding.{FillsBehind, IsOwn, IsWord}
 use Rattle.serve_run.specs.Served.{AreConnections, IsLastWord}
 use Rattle.session_laws.specs.Hearing.{Heard}
-use Rattle.session_laws.specs.Records.{arrived_by, filling_by}
+use Rattle.session_laws.specs.Records.{filling_by}
 
 -- the entry that filled the run, and the ones before it
 pub record Fills (h : List Entry) : Type 0 where
@@ -169,14 +169,10 @@ module _ (c : Config) (run limit : ℕ) (h : List Entry) (legal : IsLegal c run 
     heavier : (weight : Heard → ℕ) (least : ℕ → ℕ) → weighed_by weight f.past f.conn + least f.size ≤ asked weight least h f.conn
     heavier weight least =
         let told : refused least (filling_by h f.conn) ≡ least f.size = ap (refused least) f.told in
-        let more = grown_by weight (λ size. 0) f.conn in
-        let none : weighed_by weight f.past f.conn ≤ weighed_by weight h f.conn =
+        let grew : weighed_by weight f.past f.conn ≤ weighed_by weight h f.conn =
         subst (λ l. weighed_by weight f.past f.conn ≤ weighed_by weight l f.conn) (append_assoc f.more (fill ∷ []) f.past ∙ sym f.cut)
         (grown weight f.conn (f.more ++ fill ∷ []) f.past) in
-        omega (arith, told, none)
-
-    abbrev is_full : Type 0
-    is_full = (limit ≤ arrivals f.past) ⊎ (2 ^ 30 < arrived_bytes f.past + f.size)
+        omega (arith, told, grew)
 
     not_full : arrivals f.past < limit → arrived_bytes f.past + f.size ≤ 2 ^ 30 → ⊥
     not_full fewer less = ⊎_elim
@@ -227,8 +223,8 @@ module _ (c : Config) (run limit : ℕ) (h : List Entry) (legal : IsLegal c run 
 
       none_own : HasNoOwn h
       none_own more past size call is =
-          let both : Some (length f.past, fill) ≡ Some (length past, Arrive 0 size call) = sym last_is ∙ said more past size call is in
-          let same = entry_of (length f.past, fill) (length past, Arrive 0 size call) both in cc
+          let both : ◌≡◌ {A = Option (ℕ × Entry)} (Some (length f.past, fill)) (Some (length past, Arrive 0 size call)) = sym last_is ∙ said more past size call is in
+          let same : fill ≡ Arrive 0 size call = entry_of (length f.past, fill) (length past, Arrive 0 size call) both in cc
 
       none_past : HasNoOwn f.past
       none_past more past size call is = none_own (f.more ++ fill ∷ more) past size call (in_past more past (Arrive 0 size call) is)

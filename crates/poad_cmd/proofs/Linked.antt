@@ -1,7 +1,7 @@
 -- A run whose links send no more than it takes meets no limit.
-use Rattle.std.proofs.Common.{◌≡◌, ◌⊎◌, ℕ, suc, ◌+◌, ◌<◌, ◌≤◌, ◌^◌, true, false, Bool, ◌||◌, cond, List, [], ◌∷◌, ◌++◌, length, reverse, Option, Some, None, refl, sym, ap, ap₂, ◌∙◌, subst, arith, inl, inr, ⊎_elim}
+use Rattle.std.proofs.Common.{◌≡◌, ◌⊎◌, ℕ, suc, ◌+◌, ◌<◌, ◌≤◌, true, false, ◌||◌, cond, List, [], ◌∷◌, length, reverse, Option, Some, None, refl, sym, ap, ap₂, subst, arith, inl, inr, ⊎_elim}
 use Rattle.std.specs.Prelude.{MatchOption}
-use Rattle.std.proofs.lemmas.List.{length-append, reverse-reverse}
+use Rattle.std.proofs.lemmas.List.{reverse-reverse}
 use mathlib.Core.Option.{some}
 use lib.ListN.{get_elem?}
 use Rattle.history_standing.specs.Arrivals.{connections}
@@ -17,13 +17,13 @@ use Rattle.poa_history.specs.Owners.{owner_of}
 use Rattle.poa_history.specs.declared.full.Full.{Full}
 use Rattle.poa_history.specs.declared.givens.Givens.{Givens}
 use Rattle.poad_cmd.proofs.Arriving.{is_end, one_each, size_of}
-use Rattle.poad_cmd.proofs.Filling.{AreFew, asked, unfilled}
-use Rattle.poad_cmd.proofs.Sent.{IsVisited, asked_in, tours_in}
+use Rattle.poad_cmd.proofs.Filling.{asked, unfilled}
+use Rattle.poad_cmd.proofs.Sent.{asked_in, tours_in}
 use Rattle.poad_cmd.proofs.Sums.{counted, holds_as_many, total_both}
 use Rattle.poad_cmd.specs.Complete.{bytes_in}
 use Rattle.poad_cmd.specs.Sending.{AreSent, FitsRun, Sends, all_calls, has_shutdown}
 use Rattle.seat_lock.proofs.Totals.{total_le}
-use Rattle.seat_lock.specs.Histories.{In, total}
+use Rattle.seat_lock.specs.Histories.{total}
 use Rattle.serve_run.specs.Attending.{Attended}
 use Rattle.serve_run.specs.Holding.{FillsBehind, IsOwn, IsWord}
 use Rattle.serve_run.specs.Outcomes.{least_in}
@@ -133,9 +133,9 @@ module _ {L : Type 0} where
         (λ (fewer : all_entered more < all_came more). inr (omega (arith, fewer, few)))
         (tours_entered more)
 
-module _ {A L : Type 0} (g : Givens) (shown : L → Shown) (standing : A → Option (Standing L)) (h : List Entry) (tours : List (Tour A L)) (short : Option Want)
+module _ {A L : Type 0} (g : Givens) (shown : L → Shown) (standing : A → Option (Standing L)) (faults : A → ℕ) (h : List Entry) (tours : List (Tour A L)) (short : Option Want)
     (old new : Doors A) (sent : List (List Heard)) (at : Attended {A = A} {L = L} tours short old new) (are : AreSent {A = A} {L = L} shown standing old sent)
-    (passed : EachPassed {A = A} {L = L} standing tours) (each : EachDoor {A = A} {L = L} g shown (reverse h) tours) where
+    (passed : EachPassed {A = A} {L = L} standing faults tours) (each : EachDoor {A = A} {L = L} g shown (reverse h) tours) where
   -- what the connections asked for is among what the links send
   module _ (weight : Heard → ℕ) (least : ℕ → ℕ) (weighs : (call : Call) (size : ℕ) → least size ≤ weight (record { call = call; size = size })) where
     asked_at : (peer : Peer) (x : Visit L) (calls : List Heard) (conn : Option ℕ)
@@ -147,14 +147,14 @@ module _ {A L : Type 0} (g : Givens) (shown : L → Shown) (standing : A → Opt
     pub all_asked : total (asked weight least h) (conns_in tours) ≤ total weight (all_calls sent)
     all_asked =
         let within = tours_in {L = L} g shown h (λ x. at_conn (asked weight least h) x.session.conn) (total weight)
-        (λ peer x calls is sends. asked_at peer x calls x.session.conn is sends) {A = A} standing tours short old new sent at are passed each in
+        (λ peer x calls is sends. asked_at peer x calls x.session.conn is sends) {A = A} standing faults tours short old new sent at are passed each in
         let conns = all_measured {L = L} {A = A} (asked weight least h) tours in
         let all = all_weigh weight sent in
         omega (arith, within, conns, all)
 
   came_few : all_came {L = L} {A = A} tours ≤ length sent
   came_few =
-      let within = tours_in {L = L} g shown h (λ x. 1) (λ calls. 1) (λ peer x calls is sends. omega arith) {A = A} standing tours short old new sent at are passed each in
+      let within = tours_in {L = L} g shown h (λ x. 1) (λ calls. 1) (λ peer x calls is sends. omega arith) {A = A} standing faults tours short old new sent at are passed each in
       let all = counted sent in
       omega (arith, within, all)
 

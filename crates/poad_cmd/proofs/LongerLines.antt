@@ -1,6 +1,5 @@
 -- A text that goes on: its lines begin with the same calls.
-use Rattle.std.proofs.Common.{◌≡◌, ℕ, suc, ◌==◌, Bool, true, false, List, [], ◌∷◌, ◌++◌, refl, sym, ap, ◌∙◌, append_assoc, if◌then◌else◌}
-use Rattle.std.proofs.lemmas.Bool.{cond_both}
+use Rattle.std.proofs.Common.{◌≡◌, ℕ, suc, ◌==◌, true, false, List, [], ◌∷◌, ◌++◌, refl, sym, ap, ◌∙◌, append_assoc, if◌then◌else◌}
 use Rattle.session_laws.proofs.Lines.{has_parts}
 use Rattle.session_laws.specs.Hearing.{Heard}
 use Rattle.session_laws.specs.Lines.{calls_in, is_long, spoken, without_return}

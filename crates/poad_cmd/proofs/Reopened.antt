@@ -6,7 +6,6 @@ use Rattle.outside.specs.Keeping.{Contents}
 use Rattle.poa_base.specs.Store.{Slots, states, stored as stored_in}
 use Rattle.poa_history.specs.Life.{Life, opened}
 use Rattle.poa_history.specs.States.{stored}
-use Rattle.poa_journal.specs.Journal.{store_text}
 use Rattle.poa_journal.specs.Whole.{rows_of}
 use Rattle.poa_journal.proofs.States.{read_stored}
 use Rattle.poad_cmd.specs.Beginning.{IsBegun, OpensWith}

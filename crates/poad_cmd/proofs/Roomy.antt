@@ -1,5 +1,5 @@
 -- A run of the server where nothing outside fails and no limit is met ends well.
-use Rattle.std.proofs.Common.{◌≡◌, ◌⊎◌, ⊎_elim, ℕ, ◌<◌, ◌≤◌, Bool, true, false, ◌||◌, List, [], ◌∷◌, ◌++◌, length, reverse, Option, None, Some, Ok, Err, inl, inr, refl, sym, ap, ap₂, ◌∙◌, subst, arith}
+use Rattle.std.proofs.Common.{◌≡◌, ◌⊎◌, ⊎_elim, ℕ, ◌<◌, ◌≤◌, Bool, true, false, ◌||◌, List, [], ◌∷◌, ◌++◌, length, reverse, Option, None, Some, Ok, Err, inl, inr, refl, sym, ap₂, ◌∙◌, subst, arith}
 use Rattle.std.specs.Prelude.{◌≢◌, IfSome, MatchOption}
 use Rattle.std.specs.Option.{IsSomeAnd, is_some, option_or}
 use Rattle.std.specs.Result.{is_err}
@@ -150,11 +150,11 @@ module _ {A L : Type 0} (shown : L → Shown) (standing : A → Option (Standing
     no_limit_sent : (sent : List (List Heard)) → AreSent {A = A} {L = L} shown standing old sent → FitsRun (givens_of begun).limit sent → ⊥
     no_limit_sent sent are fits =
         all_taken
-        (never_filled {A = A} {L = L} (givens_of begun) shown standing life.history s.ran.tours s.outcome.short old new sent s.ran.attended are s.ran.passed
+        (never_filled {A = A} {L = L} (givens_of begun) shown standing faults life.history s.ran.tours s.outcome.short old new sent s.ran.attended are s.ran.passed
         kept.sessions (givens_of begun).config (givens_of begun).run (givens_of begun).limit s.ran.legal.legal kept.connections s.ran.last kept.first.word
         kept.first.own whole.last_word whole.behind fits)
         (⊎_elim taken_few (λ (none : least_in s.ran.tours ≡ None). none)
-        (few_or_none {A = A} {L = L} (givens_of begun) shown standing life.history s.ran.tours s.outcome.short old new sent s.ran.attended are s.ran.passed
+        (few_or_none {A = A} {L = L} (givens_of begun) shown standing faults life.history s.ran.tours s.outcome.short old new sent s.ran.attended are s.ran.passed
         kept.sessions kept.connections fits.links))
 
   some_core : (life : Life) → (status ≡ FileFault → Some life ≢ None → ⊥) → status ≡ FileFault → ⊥

@@ -1,29 +1,26 @@
 -- What arrived on the connections of a run's links, and what filled it, is among what the links send.
-use Rattle.std.proofs.Common.{◌≡◌, ◌⊎◌, ℕ, ◌+◌, ◌<◌, ◌≤◌, ◌^◌, true, false, Bool, ◌||◌, cond, List, [], ◌∷◌, ◌++◌, length, reverse, Option, Some, None, refl, sym, ap, ◌∙◌, subst, arith, append_assoc, append-nil, inl, inr, ⊎_elim}
+use Rattle.std.proofs.Common.{◌≡◌, ℕ, ◌+◌, ◌≤◌, List, [], ◌∷◌, ◌++◌, reverse, Option, Some, None, refl, sym, ap, ◌∙◌, subst, arith, append_assoc, append-nil, ⊎_elim}
 use Rattle.std.specs.Prelude.{MatchOption, IfSome}
 use Rattle.std.specs.Option.{IsSomeAnd}
 use Rattle.std.proofs.lemmas.List.{reverse-reverse}
-use Rattle.history_standing.specs.Arrivals.{connections}
 use Rattle.outside.specs.Accepting.{Standing}
-use Rattle.outside.specs.Link.{Moves, Shown}
+use Rattle.outside.specs.Link.{Shown}
 use Rattle.outside.specs.Told.{IfTold}
 use Rattle.poa_base.specs.declared.Call.{Call}
 use Rattle.poa_base.specs.declared.Entry.{Entry}
 use Rattle.poa_base.specs.declared.SessionEnd.{SessionEnd}
-use Rattle.poa_history.specs.Legal.{is_shutdown}
 use Rattle.poa_history.specs.declared.givens.Givens.{Givens}
-use Rattle.poad_cmd.proofs.Arriving.{is_end, one_each, size_of, weighed_by}
+use Rattle.poad_cmd.proofs.Arriving.{weighed_by}
 use Rattle.poad_cmd.proofs.Filling.{asked, refused}
 use Rattle.poad_cmd.proofs.LongerHearing.{begins_in}
 use Rattle.poad_cmd.proofs.Sums.{total_both}
-use Rattle.poad_cmd.specs.Complete.{bytes_in}
-use Rattle.poad_cmd.specs.Sending.{AreSent, DoorSends, DoorsSend, LinksSend, Sends, all_calls, has_shutdown}
-use Rattle.seat_lock.specs.Histories.{IsPrefix, total}
+use Rattle.poad_cmd.specs.Sending.{AreSent, DoorSends, DoorsSend, LinksSend, Sends}
+use Rattle.seat_lock.specs.Histories.{total}
 use Rattle.serve_run.specs.Attending.{Attended}
 use Rattle.serve_run.specs.Lanes.{AreOf, closed_doors}
 use Rattle.serve_run.specs.Served.{EachDoor, EachSession, IsSession, IsTurnedAway}
-use Rattle.serve_run.specs.Tours.{EachPassed, HasPassed, Tour, conns_in}
-use Rattle.serve_run.specs.Visits.{Passes, Visit, conn_in, conns_of, given}
+use Rattle.serve_run.specs.Tours.{EachPassed, HasPassed, Tour}
+use Rattle.serve_run.specs.Visits.{Passes, Visit, given}
 use Rattle.serve_run.specs.declared.doors.Doors.{Doors}
 use Rattle.serve_run.specs.declared.outcome.Want.{Want}
 use Rattle.session_laws.proofs.Ends.{input_begins}
@@ -77,7 +74,7 @@ module _ {L : Type 0} (g : Givens) (shown : L → Shown) (h : List Entry) (measu
   IsWithin = (peer : Peer) (x : Visit L) (calls : List Heard) → IsVisited peer x → Sends peer (shown x.before) calls → measure x ≤ room calls
 
   module _ (within : IsWithin) where
-    module _ {A : Type 0} (standing : A → Option (Standing L)) where
+    module _ {A : Type 0} (standing : A → Option (Standing L)) (faults : A → ℕ) where
       -- the visits of a door, of whose links these are left
       record OfVisits (peer : Peer) (visits : List (Visit L)) (left : List L) (sent : List (List Heard)) : Type 0 where
         pub theirs : List (List Heard)
@@ -114,7 +111,7 @@ module _ {L : Type 0} (g : Givens) (shown : L → Shown) (h : List Entry) (measu
       measured t = total measure t.visits
 
       one_door : (peer : Peer) (t : Tour A L) (sent : List (List Heard)) → t.peer ≡ peer → DoorSends {A = A} {L = L} shown standing peer t.closed sent
-          → HasPassed {A = A} {L = L} standing t → EachSession {L = L} g shown (reverse h) t.peer t.visits → measured t ≤ total room sent
+          → HasPassed {A = A} {L = L} standing faults t → EachSession {L = L} g shown (reverse h) t.peer t.visits → measured t ≤ total room sent
       one_door peer t sent is sends passed each =
           told_door peer t.visits sent (standing t.closed) (standing t.served) sends passed.passes
           (subst (λ (p : Peer). EachSession {L = L} g shown (reverse h) p t.visits) is each)
@@ -148,7 +145,7 @@ module _ {L : Type 0} (g : Givens) (shown : L → Shown) (h : List Entry) (measu
 
       lanes_in : (rest : List A) (lanes : List (Tour A L)) (sent : List (List Heard))
           → DoorsSend {A = A} {L = L} shown standing Client (closed_doors rest lanes) sent → AreOf Client lanes
-          → EachPassed {A = A} {L = L} standing lanes → EachDoor {A = A} {L = L} g shown (reverse h) lanes → total measured lanes ≤ total room sent
+          → EachPassed {A = A} {L = L} standing faults lanes → EachDoor {A = A} {L = L} g shown (reverse h) lanes → total measured lanes ≤ total room sent
       lanes_in rest [] sent sends of passed each = omega arith
       lanes_in rest (t ∷ more) sent sends of passed each =
           let p = parted Client (closed_doors rest more) t.closed sent sends in
@@ -160,16 +157,16 @@ module _ {L : Type 0} (g : Givens) (shown : L → Shown) (h : List Entry) (measu
       -- all doors
       pub tours_in : (tours : List (Tour A L)) (short : Option Want) (old new : Doors A) (sent : List (List Heard))
           → Attended {A = A} {L = L} tours short old new → AreSent {A = A} {L = L} shown standing old sent
-          → EachPassed {A = A} {L = L} standing tours → EachDoor {A = A} {L = L} g shown (reverse h) tours → total measured tours ≤ total room sent
+          → EachPassed {A = A} {L = L} standing faults tours → EachDoor {A = A} {L = L} g shown (reverse h) tours → total measured tours ≤ total room sent
       tours_in tours short old new sent at are passed each =
           let both : total room sent ≡ total room are.admins + total room are.clients = ap (total room) are.both ∙ total_both room are.admins are.clients in
-          let by_lanes : (ps : EachPassed {A = A} {L = L} standing at.lanes) (es : EachDoor {A = A} {L = L} g shown (reverse h) at.lanes)
+          let by_lanes : (ps : EachPassed {A = A} {L = L} standing faults at.lanes) (es : EachDoor {A = A} {L = L} g shown (reverse h) at.lanes)
           → total measured at.lanes ≤ total room are.clients =
           lanes_in at.rest at.lanes are.clients
           (subst (λ (ds : List A). DoorsSend {A = A} {L = L} shown standing Client ds are.clients) at.before are.lanes) at.clients in
           ⊎_elim
           (λ served.
-          (let ps : EachPassed {A = A} {L = L} standing (served.0 ∷ at.lanes) = subst (EachPassed {A = A} {L = L} standing) served.1 passed in
+          (let ps : EachPassed {A = A} {L = L} standing faults (served.0 ∷ at.lanes) = subst (EachPassed {A = A} {L = L} standing faults) served.1 passed in
           let es : EachDoor {A = A} {L = L} g shown (reverse h) (served.0 ∷ at.lanes) = subst (EachDoor {A = A} {L = L} g shown (reverse h)) served.1 each in
           let one = one_door Administrator served.0 are.admins served.2
           (subst (λ (d : A). DoorSends {A = A} {L = L} shown standing Administrator d are.admins) (sym served.3) are.admin) ps.0 es.0 in
@@ -177,7 +174,7 @@ module _ {L : Type 0} (g : Givens) (shown : L → Shown) (h : List Entry) (measu
           let all : total measured tours ≡ measured served.0 + total measured at.lanes = ap (total measured) served.1 in
           omega (arith, both, one, others, all)))
           (λ left.
-          (let others = by_lanes (subst (EachPassed {A = A} {L = L} standing) left.0 passed) (subst (EachDoor {A = A} {L = L} g shown (reverse h)) left.0 each) in
+          (let others = by_lanes (subst (EachPassed {A = A} {L = L} standing faults) left.0 passed) (subst (EachDoor {A = A} {L = L} g shown (reverse h)) left.0 each) in
           let all : total measured tours ≡ total measured at.lanes = ap (total measured) left.0 in
           omega (arith, both, others, all)))
           at.admin

@@ -2,6 +2,10 @@
 use Rattle.std.specs.Prelude.{◌≡◌, ℕ, List, Option}
 use Rattle.outside.specs.Keeping.{Contents}
 use Rattle.command_words.specs.Words.{Meant, answer, audit, explain, load, names, show, check, iors, migrate, loc, replay}
+use Rattle.command_words.specs.declared.CallsAsked.{CallsAsked}
+use Rattle.command_words.specs.declared.CallsAsked.TheVariants as words
+use Rattle.journal_explain.specs.declared.Selection.{Selection}
+use Rattle.journal_explain.specs.declared.Selection.TheVariants as calls
 use Rattle.poad_files.specs.declared.Asked.TheVariants.{Counts, References}
 use Rattle.poad_files.specs.Filing.{Filed}
 use Rattle.poad_files.specs.Migrating.{MigratesFile}
@@ -20,6 +24,12 @@ use Rattle.poad_names.specs.Run.{RunNames, status_of}
 abbrev pub RunsNames : Status → (left_old left_new held_old held_new : Option (List ℕ)) → Type 0
 RunsNames status left_old left_new held_old held_new =
     (end : NamesEnd) × (status ≡ status_of end) × RunNames end left_old left_new held_old held_new
+
+-- the calls that words ask for
+abbrev pub sought : CallsAsked → Selection
+sought (words.Arrival r) = calls.Arrival r
+sought (words.Call conn id) = calls.Call conn id
+sought words.All = calls.All
 
 -- by the contents of the files, what is left of the source and what the sink holds, before and after, and by the source and the files
 -- themselves
@@ -44,6 +54,6 @@ Does (migrate name text) status old new left_old left_new held_old held_new sour
 Does (audit a) status old new left_old left_new held_old held_new source_old source_new files_old files_new =
     AuditsFiles a status old new held_old held_new × (source_new ≡ source_old)
 Does (explain e) status old new left_old left_new held_old held_new source_old source_new files_old files_new =
-    ExplainsFiles e.config e.journal e.limit e.arrival status old new held_old held_new × (source_new ≡ source_old)
+    ExplainsFiles e.config e.journal e.limit (sought e.calls) status old new held_old held_new × (source_new ≡ source_old)
 Does names status old new left_old left_new held_old held_new source_old source_new files_old files_new =
     RunsNames status left_old left_new held_old held_new × (files_new ≡ files_old)

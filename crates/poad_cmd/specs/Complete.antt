@@ -121,13 +121,13 @@ IsSessionIn c limit text link = (journal : JournalContents) (opening : Slots) �
 
 -- the files hold what was written to the peer of which this was read, and that is such a session
 abbrev pub HoldOutput : Option Contents → LinkNames → Config → ℕ → List ℕ → List ℕ → Type 0
-HoldOutput files names c limit text input =
-    HoldSuch files names.output link_limit (λ output. IsSessionIn c limit text (record { conn = names.conn; input = input; output = output }))
+HoldOutput files wanted c limit text input =
+    HoldSuch files wanted.output link_limit (λ output. IsSessionIn c limit text (record { conn = wanted.conn; input = input; output = output }))
 
 -- they hold the bytes of the link that is asked for
 abbrev pub HoldSession : Option Contents → Option LinkNames → Config → ℕ → List ℕ → Type 0
 HoldSession files None c limit text = ⊤
-HoldSession files (Some names) c limit text = HoldSuch files names.input link_limit (HoldOutput files names c limit text)
+HoldSession files (Some wanted) c limit text = HoldSuch files wanted.input link_limit (HoldOutput files wanted c limit text)
 
 -- the text is a legal journal, and the bytes of the link that is asked for are such a session
 abbrev pub IsAuditable : Audit → Option Contents → Config → List ℕ → Type 0

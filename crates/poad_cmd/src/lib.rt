@@ -14,6 +14,7 @@ mod playing;
 mod putting;
 mod reopening;
 mod run;
+mod seeking;
 mod serve;
 mod served;
 

@@ -10,7 +10,7 @@ ghost use Rattle.poad_files.specs.declared.Asked.TheVariants.{Counts, References
 ghost use Rattle.poad_answer.specs.Answering.{AnswersBy};
 ghost use Rattle.poad_audit.specs.Auditing.{AuditsFiles};
 ghost use Rattle.poad_audit.specs.Explaining.{ExplainsFiles};
-ghost use Rattle.poad_cmd.specs.Commands.{Does, RunsNames};
+ghost use Rattle.poad_cmd.specs.Commands.{Does, RunsNames, sought as sought_of};
 ghost use Rattle.poad_cmd.specs.Complete.{Fits, IsCalm};
 ghost use Rattle.poad_cmd.specs.Playing.{PlaysFiles};
 ghost use Rattle.poad_files.specs.Migrating.{MigratesFile};
@@ -22,6 +22,7 @@ ghost use Rattle.poad_load.specs.Writing.{LoadGives};
 
 use crate::naming::serve_names;
 use crate::playing::play_files;
+use crate::seeking::sought;
 use command_words::{Command, WordsFault, command_of};
 use outside::{Files, Sink, Source};
 use poad_answer::answer_by;
@@ -47,9 +48,10 @@ use std::alloc::Global;
 ///   first that may not follow those before it, counted from 0. Where all are legal, and a connection is named, prints in a
 ///   line more `session yes` or `session no`: whether the two other files hold what that connection read and what was
 ///   written to it, by the journal, in a session that ended well.
-/// - `explain FILE JOURNAL --arrival A [--limit N]`: reads the journal in the second file as `audit` does, and prints what
-///   happened to the call that arrived as the one of this number, counted from 0: a line for each entry that says something of
-///   it.
+/// - `explain FILE JOURNAL [--arrival A | --call C ID] [--limit N]`: reads the journal in the second file as `audit` does, and
+///   prints what happened to the call that arrived as the one of number A, counted from 0, or to each request and locate of
+///   id ID on connection C: a line for each entry that says something of it. With neither it prints what came of all calls: a
+///   line for each outcome, with how many calls it has.
 /// - `names`: reads GIOP messages from the source, serves them by naming contexts, of which one alone is there at first, with
 ///   nothing bound, and writes the replies to the sink.
 ///
@@ -132,10 +134,8 @@ pub fn run_words<S: Source, K: Sink, F: Files>(
         (K.held host.old.sink) (K.held host.new.sink)
         × (host.new.source ≡ host.old.source) }
     ensures explains { (asked : Explain) → command_in words.now ≡ Some (spec.explain asked)
-        → ExplainsFiles asked.config asked.journal asked.limit asked.arrival result
-        (F.contents host.old.files) (F.contents host.new.files)
-        (K.held host.old.sink) (K.held host.new.sink)
-        × (host.new.source ≡ host.old.source) }
+        → ExplainsFiles asked.config asked.journal asked.limit (sought_of asked.calls) result (F.contents host.old.files)
+        (F.contents host.new.files) (K.held host.old.sink) (K.held host.new.sink) × (host.new.source ≡ host.old.source) }
     ensures names { command_in words.now ≡ Some spec.names
         → RunsNames result (S.left host.old.source) (S.left host.new.source)
         (K.held host.old.sink) (K.held host.new.sink)
@@ -209,12 +209,12 @@ fn run_command<S: Source, K: Sink, F: Files>(
         }
         Command::Names => serve_names(alloc, source, sink),
         Command::Explain(asked) => {
-            let arrival = u64::from(asked.arrival);
+            let calls = sought(asked.calls);
             explain_files(
                 alloc,
                 asked.config,
                 asked.journal,
-                arrival,
+                calls,
                 asked.limit,
                 files,
                 sink,

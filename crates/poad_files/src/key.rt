@@ -13,7 +13,7 @@ use poa_base::{Key, Path, Stamp, WantMemory};
 use text_words::path_text;
 
 /// Adds the line of octets in a key's place.
-pub(crate) fn put_key(out: &mut Vec<u8>, octets: &[u8]) -> Result<(), WantMemory>
+pub fn put_key(out: &mut Vec<u8>, octets: &[u8]) -> Result<(), WantMemory>
     ensures { OnOk result (Adds (KeyShown octets.now) out.old.items out.new.items) }
 {
     match read_key(*out.allocator(), octets) {

@@ -29,6 +29,7 @@ mod taking;
 pub use delivery::deliver;
 pub use filing::print_file;
 pub use host::Host;
+pub use key::put_key;
 pub use locating::print_loc;
 pub use migrating::migrate_file;
 pub use printed::put_printed;

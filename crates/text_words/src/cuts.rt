@@ -31,11 +31,14 @@ pub fn next_line(text: &[u8]) -> Option<(&[u8], &[u8])>
     Some((line, rest))
 }
 
+/// How many parts there is room for at first: most lines have no more words.
+const FEW: usize = 8;
+
 /// The parts of a text between the bytes `separator`, one more than there are such bytes.
 pub fn parts(alloc: Global, text: &[u8], separator: u8) -> Result<Vec<&[u8]>, AllocError>
     ensures { IfOk result (λ v. map (λ x. x.now) v.items ≡ parts_of separator text.now) }
 {
-    let mut found = Vec::new(alloc);
+    let mut found = Vec::with_capacity(alloc, FEW)?;
     let mut rest = text;
     loop {
         let (front, behind) = split_front(rest, separator);

@@ -12,6 +12,7 @@ returns-in-Ok-clause-audits g c =
 
 pub returns-in-Err-clause-audits : goal.returns-in-Err-clause-audits
 returns-in-Err-clause-audits g c =
-    subst (λ (s : Status). AuditsBytes c.args.config c.args.limit c.args.text.now c.args.link s _ _) (sym c.refusal.ensures)
-    (unread c.args.config c.args.limit c.args.text.now c.args.link c.in-Err.fault _
+    let held = g.K.Sink.held c.args.sink.now in
+    subst (λ (s : Status). AuditsBytes c.args.config c.args.limit c.args.text.now c.args.link s held held) (sym c.refusal.ensures)
+    (unread c.args.config c.args.limit c.args.text.now c.args.link c.in-Err.fault held
     (subst (λ (n : ℕ). AuditsText c.args.config n c.args.text.now c.args.link (Err c.in-Err.fault)) c.from.ensures c.in-Err.ensures))

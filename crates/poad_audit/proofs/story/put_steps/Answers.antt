@@ -1,8 +1,9 @@
 use Rattle.std.proofs.Common.{ap, ◌++◌, ◌∙◌}
+use Rattle.poad_audit.specs.Story.{step_line}
 use Rattle.poad_audit.proofs.Lines.{line_here}
 use Rattle.poad_audit.proofs.story.put_steps.Goals as goal
 
 pub loop-step-preserved : goal.loop-step-preserved
 loop-step-preserved c =
-    line_here c.args.steps.now c.loop-step.step-index _ c.loop-step-test.true _ c.in_ok-line.line _ _ c.in_ok-line.ensures
+    line_here step_line c.args.steps.now c.loop-step.step-index _ c.loop-step-test.true _ c.in_ok-line.line _ _ c.in_ok-line.ensures
     (c.in_ok-extend_from_slice.ensures.items ∙ ap (λ bs. c.loop-step.out.items ++ bs) c.as_slice.ensures) c.loop-step.invariant

@@ -2,6 +2,7 @@
 use Rattle.std.proofs.Common.{ℕ, List, refl, sym, subst}
 use Rattle.command_words.specs.declared.command.Command.{Command}
 use Rattle.command_words.specs.Words.{seen}
+use Rattle.journal_explain.specs.declared.Selection.{Selection}
 use Rattle.poad_audit.specs.Explaining.{ExplainsFiles}
 use Rattle.poad_files.specs.Migrating.{MigratesFile}
 use Rattle.poad_cmd.specs.Commands.{Does}
@@ -69,10 +70,10 @@ returns-in-Explain-clause-does g c =
     c.explain_files.new.files)
     (sym c.in-Explain.is) (
       subst
-          (λ (n : ℕ). ExplainsFiles c.in-Explain.asked.config.now c.in-Explain.asked.journal.now c.in-Explain.asked.limit n c.explain_files.result
+          (λ (a : Selection). ExplainsFiles c.in-Explain.asked.config.now c.in-Explain.asked.journal.now c.in-Explain.asked.limit a c.explain_files.result
           (g.F.Files.contents c.args.host.now.files) (g.F.Files.contents c.explain_files.new.files)
           (g.K.Sink.held c.args.host.now.sink) (g.K.Sink.held c.explain_files.new.sink))
-          c.from-arrival.ensures c.explain_files.ensures.explains,
+          c.sought-calls.ensures c.explain_files.ensures.explains,
       refl,
     )
 

@@ -1,0 +1,194 @@
+-- A watch sees one entry more.
+use Rattle.std.proofs.Common.{◌≡◌, ℕ, ◌<◌, ◌≤◌, Bool, true, false, ◌&&◌, nat_lt, if◌then◌else◌, List, [], ◌∷◌, ◌++◌, length, map, All, Option, Some, None, refl, sym, ◌∙◌, ap, ap₂, subst, arith, append_assoc}
+use Rattle.std.specs.List.{AllZip, AllByRecursion}
+use Rattle.std.proofs.lemmas.List.{map-append}
+use Rattle.std.proofs.lemmas.List.Elements.{All-from_recursion, All-push, All-weaker, recursion_from_All}
+use Rattle.std.proofs.lemmas.Bool.{eq-eqb, false_from_ne_true, lt-ltb, ltb-true}
+use Rattle.poa_base.specs.declared.Call.{Call}
+use Rattle.poa_base.specs.declared.Config.{Config}
+use Rattle.poa_base.specs.declared.Entry.{Entry}
+use Rattle.poa_base.specs.declared.Entry.TheVariants.{Arrive}
+use Rattle.history_standing.specs.Arrivals.{arrivals, call_of, is_message}
+use Rattle.history_standing.specs.Stages.{is_unadmitted}
+use Rattle.history_standing.specs.Situations.{facts_of}
+use Rattle.history_standing.proofs.CallsKept.{arrivals_kept, call_beyond, call_kept}
+use Rattle.poa_history.specs.Life.{Life, with_entry}
+use Rattle.journal_audit.specs.Judging.{Follows}
+use Rattle.core_turns.specs.Looks.{looked}
+use Rattle.journal_explain.specs.declared.selection.Selection.{Selection}
+use Rattle.journal_explain.specs.declared.call_name.CallName.{CallName}
+use Rattle.journal_explain.specs.declared.came.Came.{Came}
+use Rattle.journal_explain.specs.declared.step.Step.{Step}
+use Rattle.journal_explain.specs.declared.trail.Trail.{Trail}
+use Rattle.journal_explain.specs.declared.wait.Wait.{Wait}
+use Rattle.journal_explain.specs.declared.watch.Watch.{Watch}
+use Rattle.journal_explain.specs.Explaining.{HasSeen, HasWatched, came_in}
+use Rattle.journal_explain.specs.Naming.{asks, is_all, name_of, names_in}
+use Rattle.journal_explain.specs.Outcomes.{calls_in, came_with}
+use Rattle.journal_explain.specs.Stories.{GoesOn, IfArrived, IsNews, IsStory, event_of, step_at, wait_by, wait_of}
+use Rattle.journal_explain.specs.Watching.{Begins, BeginsIf, BeginsOne, HasLooked, HasNoted, Looks, Notes}
+use Rattle.journal_explain.proofs.Going.{named_still}
+
+below : (r n : ℕ) → r < n → nat_lt r n ≡ true
+below r n low = lt-ltb r n low
+
+above : (r n : ℕ) → n ≤ r → nat_lt r n ≡ false
+above r n high = false_from_ne_true (nat_lt r n) (λ less. (let low = ltb-true r n less in omega (arith, low, high)))
+
+-- of a call that hasn't arrived nothing is told
+untold : (c : Config) (run : ℕ) (h : List Entry) (r : ℕ) (steps : List Step) → arrivals h ≤ r → steps ≡ [] → IsStory c run h r steps
+untold c run [] r steps beyond none = none
+untold c run (e ∷ past) r steps beyond none =
+    subst (λ (b : Bool). IfArrived b ((before : List Step) × IsStory c run past r before × GoesOn c run past e r before steps) (steps ≡ []))
+    (sym (above r (arrivals (e ∷ past)) beyond)) none
+
+and_false : (b : Bool) → (b && false) ≡ false
+and_false true = refl
+and_false false = refl
+
+unwaited : (c : Config) (run : ℕ) (h : List Entry) (r : ℕ) → arrivals h ≤ r → wait_of c run h r ≡ None
+unwaited c run h r beyond =
+    let waits : (is_unadmitted h r && is_message (call_of h r)) ≡ false =
+    ap (λ (o : Option Call). is_unadmitted h r && is_message o) (call_beyond h r beyond) ∙ and_false (is_unadmitted h r) in
+    ap (λ (b : Bool). if b then Some (wait_by (looked (facts_of c run h r) 1)) else None) waits
+
+-- a trail of a call that has arrived with the next entry, if not before, tells what happened before it
+pub record IsBegun (past : Life) (e : Entry) (t : Trail) : Type 0 where
+  pub call : call_of (e ∷ past.history) t.name.arrival ≡ Some t.call
+  pub steps : IsStory past.config past.run past.history t.name.arrival t.steps.items
+  pub wait : t.wait ≡ wait_of past.config past.run past.history t.name.arrival
+  pub arrived : t.name.arrival < arrivals (e ∷ past.history)
+
+still_begun : (past : Life) (e : Entry) (t : Trail) → HasSeen past t → IsBegun past e t
+still_begun past e t seen = record {
+  call = call_kept e past.history t.name.arrival seen.arrived ∙ seen.call;
+  steps = seen.steps;
+  wait = seen.wait;
+  arrived = (let before = seen.arrived in let kept = arrivals_kept e past.history in omega (arith, before, kept));
+}
+
+fresh_begun : (past : Life) (e : Entry) (t : Trail) → t.name.arrival ≡ arrivals past.history → t.steps.items ≡ [] → t.wait ≡ None
+    → arrivals past.history < arrivals (e ∷ past.history) → call_of (e ∷ past.history) (arrivals past.history) ≡ Some t.call → IsBegun past e t
+fresh_begun past e t here none free more came = record {
+  call = ap (call_of (e ∷ past.history)) here ∙ came;
+  steps = untold past.config past.run past.history t.name.arrival t.steps.items (omega (arith, here)) none;
+  wait = free ∙ sym (unwaited past.config past.run past.history t.name.arrival (omega (arith, here)));
+  arrived = omega (arith, here, more);
+}
+
+names_of : List Trail → List CallName
+names_of ts = map (λ (t : Trail). t.name) ts
+
+record AreBegun (past : Life) (e : Entry) (which : Selection) (ts : List Trail) : Type 0 where
+  names : map (λ (t : Trail). t.name) ts ≡ names_in which (e ∷ past.history)
+  each : All (IsBegun past e) ts
+
+module _ (past : Life) (e : Entry) (which : Selection) (olds begun : List Trail) (each : All (HasSeen past) olds)
+    (names : map (λ (t : Trail). t.name) olds ≡ names_in which past.history) where
+  others : begun ≡ olds → names_in which (e ∷ past.history) ≡ names_in which past.history → AreBegun past e which begun
+  others same no_more = record {
+    names = ap (map (λ (t : Trail). t.name)) same ∙ (names ∙ sym no_more);
+    each =
+        subst (λ (ts : List Trail). All (IsBegun past e) ts) (sym same)
+        (All-weaker (HasSeen past) (IsBegun past e) (still_begun past e) olds each);
+  }
+
+  one_more : (name : CallName) (call : Call) → call_of (e ∷ past.history) (arrivals past.history) ≡ Some call → name.arrival ≡ arrivals past.history → arrivals past.history < arrivals (e ∷ past.history)
+      → names_in which (e ∷ past.history) ≡ names_in which past.history ++ name ∷ [] → BeginsOne name call olds begun → AreBegun past e which begun
+  one_more name call came here more is b = record {
+    names =
+        ap (map (λ (t : Trail). t.name)) b.behind
+        ∙ (map-append (λ (t : Trail). t.name) olds (b.trail ∷ [])
+        ∙ (ap₂ (λ (ns : List CallName) (n : CallName). ns ++ n ∷ []) names b.named ∙ sym is));
+    each =
+        subst (λ (ts : List Trail). All (IsBegun past e) ts) (sym b.behind)
+        (All-push (IsBegun past e) olds b.trail (All-weaker (HasSeen past) (IsBegun past e) (still_begun past e) olds each)
+        (fresh_begun past e b.trail (ap (λ (n : CallName). n.arrival) b.named ∙ here) b.steps b.wait more (came ∙ ap Some (sym b.came))));
+  }
+
+  begun_if : (b : Bool) (name : CallName) (call : Call) → call_of (e ∷ past.history) (arrivals past.history) ≡ Some call → name.arrival ≡ arrivals past.history → arrivals past.history < arrivals (e ∷ past.history)
+      → names_in which (e ∷ past.history) ≡ (if b then names_in which past.history ++ name ∷ [] else names_in which past.history)
+      → BeginsIf b name call olds begun → AreBegun past e which begun
+  begun_if true name call came here more is b = one_more name call came here more is b
+  begun_if false name call came here more is same = others same is
+
+begun_each : (past : Life) (e : Entry) (which : Selection) (olds begun : List Trail) → All (HasSeen past) olds
+    → map (λ (t : Trail). t.name) olds ≡ names_in which past.history → Begins which (arrivals past.history) e olds begun
+    → AreBegun past e which begun
+begun_each past (Arrive conn size call) which olds begun each names b =
+    let name = name_of (arrivals past.history) conn call in
+    begun_if past (Arrive conn size call) which olds begun each names (asks which name) name call
+    (ap (λ (t : Bool). if t then Some call else call_of past.history (arrivals past.history)) (eq-eqb (arrivals past.history) (arrivals past.history) refl))
+    refl (omega arith) refl b
+begun_each past e which olds begun each names same = others past e which olds begun each names same refl
+
+-- one trail
+module _ (past : Life) (e : Entry) (place : ℕ) (here : place ≡ length past.history) (follows : Follows past e) where
+  seen_one : (old noted new : Trail) → IsBegun past e old → Notes past e place old noted → Looks (with_entry e past) place noted new
+      → HasSeen (with_entry e past) new
+  seen_one old noted new begun notes looks =
+      let c = past.config in
+      let run = past.run in
+      let h = past.history in
+      let r = old.name.arrival in
+      let first : noted.name.arrival ≡ r = ap (λ (n : CallName). n.arrival) notes.name in
+      let same : new.name.arrival ≡ r = ap (λ (n : CallName). n.arrival) looks.name ∙ first in
+      let waits : new.wait ≡ wait_of c run (e ∷ h) r = looks.wait ∙ ap (wait_of c run (e ∷ h)) first in
+      let goes : GoesOn c run h e r old.steps.items new.steps.items = record {
+        news = looks.news;
+        waits =
+            subst (λ (k : ℕ). IsNews k (wait_of c run h r) (wait_of c run (e ∷ h) r) looks.news) here
+            (subst (λ (w : Option Wait). IsNews place w (wait_of c run (e ∷ h) r) looks.news) (notes.wait ∙ begun.wait)
+            (subst (λ (w : Option Wait). IsNews place noted.wait w looks.news) waits looks.is_news));
+        told =
+            looks.steps ∙ (ap (λ (s : List Step). s ++ looks.news) (notes.told follows)
+            ∙ (append_assoc old.steps.items (step_at place (event_of c run h e r)) looks.news
+            ∙ ap (λ (k : ℕ). old.steps.items ++ (step_at k (event_of c run h e r) ++ looks.news)) here));
+      } in
+      let story : IsStory c run (e ∷ h) r new.steps.items =
+      subst (λ (b : Bool). IfArrived b ((before : List Step) × IsStory c run h r before × GoesOn c run h e r before new.steps.items)
+      (new.steps.items ≡ [])) (sym (below r (arrivals (e ∷ h)) begun.arrived)) (old.steps.items, begun.steps, goes) in
+      record {
+        call = ap (call_of (e ∷ h)) same ∙ (begun.call ∙ ap Some (sym (looks.call ∙ notes.call)));
+        steps = subst (λ (k : ℕ). IsStory c run (e ∷ h) k new.steps.items) (sym same) story;
+        wait = waits ∙ ap (wait_of c run (e ∷ h)) (sym same);
+        arrived = subst (λ (k : ℕ). k < arrivals (e ∷ h)) (sym same) begun.arrived;
+      }
+
+  seen_each : (olds noted news : List Trail) → AllByRecursion (IsBegun past e) olds → AllZip (Notes past e place) olds noted
+      → AllZip (Looks (with_entry e past) place) noted news → AllByRecursion (HasSeen (with_entry e past)) news
+  seen_each [] [] [] begun notes looks = tt
+  seen_each [] [] (n ∷ news) begun notes looks = absurd looks
+  seen_each [] (m ∷ noted) news begun notes looks = absurd notes
+  seen_each (o ∷ olds) [] news begun notes looks = absurd notes
+  seen_each (o ∷ olds) (m ∷ noted) [] begun notes looks = absurd looks
+  seen_each (o ∷ olds) (m ∷ noted) (n ∷ news) begun notes looks =
+      (seen_one o m n begun.0 notes.0 looks.0, seen_each olds noted news begun.1 notes.1 looks.1)
+
+  came_now : (b : Bool) (old new : List Came) → old ≡ (if b then calls_in past.config past.run past.history else [])
+      → new ≡ (if b then came_with past.config past.run past.history e place old else old)
+      → new ≡ (if b then calls_in past.config past.run (e ∷ past.history) else [])
+  came_now true old new was is =
+      is ∙ (ap (came_with past.config past.run past.history e place) was
+      ∙ ap (λ (k : ℕ). came_with past.config past.run past.history e k (calls_in past.config past.run past.history)) here)
+  came_now false old new was is = is ∙ was
+
+  pub watched : (old noted new : Watch) → HasWatched past old → HasNoted past e place old noted → HasLooked (with_entry e past) place noted new
+      → HasWatched (with_entry e past) new
+  watched old noted new before notes looks =
+      let all : AreBegun past e old.asked notes.begun =
+      begun_each past e old.asked old.trails.items notes.begun before.each before.names notes.begins in
+      let same : new.asked ≡ old.asked = looks.asked ∙ notes.asked in
+      record {
+        names =
+            named_still (Looks (with_entry e past) place) (λ o n go. go.name) noted.trails.items new.trails.items looks.looks
+            ∙ (named_still (Notes past e place) (λ o n go. go.name) notes.begun noted.trails.items notes.notes
+            ∙ (all.names ∙ ap (λ (a : Selection). names_in a (e ∷ past.history)) (sym same)));
+        each =
+            All-from_recursion (HasSeen (with_entry e past)) new.trails.items
+            (seen_each notes.begun noted.trails.items new.trails.items (recursion_from_All (IsBegun past e) notes.begun all.each) notes.notes
+            looks.looks);
+        came =
+            came_now (is_all old.asked) old.came.items new.came.items before.came (looks.came ∙ notes.came)
+            ∙ ap (λ (a : Selection). came_in a past.config past.run (e ∷ past.history)) (sym same);
+      }

@@ -1,0 +1,61 @@
+//! What is watched of calls.
+ghost use Rattle.std.specs.Prelude.{◌≡◌, [], OnOk};
+ghost use Rattle.journal_explain.specs.Watching.{HasLooked, HasNoted};
+
+use crate::came::{Came, note_came};
+use crate::selection::Selection;
+use crate::trail::Trail;
+use crate::trails::{begin, look_at_each, note_each};
+use core_run::Run;
+use poa_base::{Entry, WantMemory};
+use std::alloc::Global;
+
+/// What is watched of calls: what happens to those that are asked for by themselves, and what came of all, where that is asked.
+#[derive(Drop)]
+pub struct Watch {
+    pub asked: Selection,
+    /// The calls that are asked for by themselves, in the order of their arriving.
+    pub trails: Vec<Trail>,
+    /// All calls, in the order of their arriving, where that is asked.
+    pub came: Vec<Came>,
+}
+
+impl Watch {
+    /// A watch that has seen no entry yet.
+    pub(crate) fn new(alloc: Global, asked: Selection) -> Self
+        ensures asked { result.asked ≡ asked }
+        ensures trails { result.trails.items ≡ [] }
+        ensures came { result.came.items ≡ [] }
+    {
+        Watch {
+            asked,
+            trails: Vec::new(alloc),
+            came: Vec::new(alloc),
+        }
+    }
+
+    /// Notes what the next entry of a run, at this place, is to the calls.
+    pub(crate) fn note(
+        &mut self,
+        alloc: Global,
+        run: &Run,
+        entry: &Entry,
+        place: u64,
+    ) -> Result<(), WantMemory>
+        ensures { OnOk result (HasNoted run.now entry.now place self.old self.new) }
+    {
+        begin(alloc, self.asked, run.arrivals(), entry, &mut self.trails)?;
+        note_each(alloc, run, entry, place, &mut self.trails)?;
+        if self.asked.is_all() {
+            note_came(alloc, run, entry, place, &mut self.came)?;
+        }
+        Ok(())
+    }
+
+    /// Notes what the calls wait for in a run behind the entry at this place.
+    pub(crate) fn look(&mut self, alloc: Global, run: &Run, place: u64) -> Result<(), WantMemory>
+        ensures { OnOk result (HasLooked run.now place self.old self.new) }
+    {
+        look_at_each(alloc, run, place, &mut self.trails)
+    }
+}
