@@ -57,9 +57,9 @@ fn copy_seen(alloc: Global, seen: Seen<'_>) -> Result<Incoming, WantMemory>
         } => Ok(Incoming::Call(Call::Request {
             head,
             target: copy_key(alloc, target)?,
-            operation: copy_part(alloc, operation)?,
+            operation: Bytes::copy_of(alloc, operation)?,
             body: Body {
-                bytes: copy_part(alloc, body)?,
+                bytes: Bytes::copy_of(alloc, body)?,
                 little: head.little,
                 base,
             },
@@ -78,14 +78,7 @@ fn copy_key(alloc: Global, key: Option<&[u8]>) -> Result<Option<Bytes>, WantMemo
     ensures { IfOk result (λ copy. copy ≡ option_map (λ k. k.now) key.entry) }
 {
     match key {
-        Some(key) => Ok(Some(copy_part(alloc, key)?)),
+        Some(key) => Ok(Some(Bytes::copy_of(alloc, key)?)),
         None => Ok(None),
     }
-}
-
-// A copy of a part.
-fn copy_part(alloc: Global, part: &[u8]) -> Result<Bytes, WantMemory>
-    ensures { IfOk result (λ copy. copy ≡ part.now) }
-{
-    Ok(Bytes::from_vec(Vec::from_slice(alloc, part)?))
 }
