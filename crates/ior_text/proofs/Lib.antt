@@ -15,3 +15,12 @@ pub mod Fields
 pub mod Lists
 pub mod CountedParts
 pub mod PartsBack
+pub mod Cutting
+pub mod Listing
+pub mod KeyStrings
+pub mod Numbers
+pub mod Profiles
+pub mod Locations
+pub mod Texts
+pub mod AddressTexts
+pub mod CorbalocBack

@@ -11,3 +11,14 @@ pub mod Encapsulation
 pub mod Text
 pub mod Written
 pub mod Seen
+pub mod Cut
+pub mod Gives
+pub mod Chain
+pub mod Endpoint
+pub mod Address
+pub mod CorbalocSeen
+pub mod AddressText
+pub mod KeyString
+pub mod CorbalocText
+pub mod CorbalocProfile
+pub mod Reference

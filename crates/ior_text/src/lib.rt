@@ -4,16 +4,32 @@
 //! the server's endpoint and the object's key.
 #![tactic(auto)]
 
+mod address;
+mod address_reading;
+mod address_view;
 mod body;
 mod components;
+mod corbaloc_fault;
+mod corbaloc_law;
+mod corbaloc_profile;
+mod corbaloc_reading;
+mod corbaloc_writing;
+mod cut;
 mod encapsulation;
+mod endpoint_view;
 mod fault;
 mod key;
+mod key_reading;
+mod key_writing;
 mod law;
+mod located;
+mod location;
 mod parts;
 mod parts_writing;
+mod port;
 mod profile;
 mod reading;
+mod reference;
 mod reference_fields;
 mod seen_encapsulation;
 mod seen_key;
@@ -22,11 +38,17 @@ mod seen_reference;
 mod writing;
 mod written_encapsulation;
 
+pub use address::Address;
 pub use body::{ProfileBody, read_body};
 pub use cdr_core::PartFault;
+pub use corbaloc_fault::LocFault;
+pub use corbaloc_law::one_text;
+pub use corbaloc_reading::read_corbaloc;
+pub use corbaloc_writing::write_corbaloc;
 pub use fault::IorFault;
 pub use key::{key_of, read_key};
 pub use law::one_answer;
+pub use location::Location;
 pub use parts::{ProfileParts, read_parts};
 pub use parts_writing::write_parts;
 pub use poa_base::WantMemory;

@@ -1,8 +1,8 @@
 -- What is told where a text gives no reference.
 use Rattle.std.proofs.Common.{◌≡◌, List, ℕ, Option, Result, Ok, Err, inl, inr, refl, sym, ◌∙◌, subst}
-use Rattle.corbaloc.specs.Reference.{HasText, reference_of}
-use Rattle.corbaloc.specs.declared.fault.LocFault.{LocFault}
-use Rattle.corbaloc.specs.declared.fault.LocFault.TheVariants.{NoScheme}
+use Rattle.ior_text.specs.Reference.{HasText, reference_of}
+use Rattle.ior_text.specs.declared.corbaloc_fault.LocFault.{LocFault}
+use Rattle.ior_text.specs.declared.corbaloc_fault.LocFault.TheVariants.{NoScheme}
 use Rattle.ior_text.proofs.OneText.{one_answer}
 use Rattle.ior_text.specs.Text.{TextGives}
 use Rattle.ior_text.specs.declared.fault.IorFault.{IorFault}

@@ -3,7 +3,7 @@ use Rattle.std.specs.Prelude.{◌≡◌, ℕ, List, ◌++◌, codes, Option, Ok 
 use Rattle.outside.specs.Told.{IfTold}
 use Rattle.poa_base.specs.declared.Ior.{Ior}
 use Rattle.ior_text.specs.Text.{TextGives}
-use Rattle.corbaloc.specs.Reference.{HasText}
+use Rattle.ior_text.specs.Reference.{HasText}
 use Rattle.poad_files.specs.Referring.{WrittenRefused}
 use Rattle.poad_files.specs.Showing.{GainsNothing}
 use Rattle.poad_files.specs.declared.status.Status.{Status}

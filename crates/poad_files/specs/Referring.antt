@@ -1,8 +1,8 @@
 -- The reference of a text that a command is given: a corbaloc text (CORBA 3.3 Part 2, 7.6.10.1) where the text begins as one, else the
 -- written form of a reference (7.6.9).
 use Rattle.std.specs.Prelude.{◌≡◌, ◌≢◌, ℕ, List, Result, Ok, Err, MatchResult, ⊤, ◌⊎◌}
-use Rattle.corbaloc.specs.declared.fault.LocFault.TheVariants.{NoScheme}
-use Rattle.corbaloc.specs.Reference.{reference_of as location_reference}
+use Rattle.ior_text.specs.declared.corbaloc_fault.LocFault.TheVariants.{NoScheme}
+use Rattle.ior_text.specs.Reference.{reference_of as location_reference}
 use Rattle.ior_text.specs.declared.IorFault.{IorFault}
 use Rattle.ior_text.specs.declared.IorFault.TheVariants as ior
 use Rattle.ior_text.specs.Text.{TextGives}

@@ -1,13 +1,13 @@
 //! `loc`: a reference as a corbaloc text.
 ghost use Rattle.std.specs.Prelude.{◌≡◌, ℕ, List, IfOk, MatchOption};
 ghost use Rattle.outside.specs.Cause.{HasCause};
-ghost use Rattle.corbaloc.specs.Reference.{HasText};
+ghost use Rattle.ior_text.specs.Reference.{HasText};
 ghost use Rattle.poad_files.specs.Locating.{IsLocLine, Locates};
 
 use crate::delivery::deliver;
 use crate::referring::read_written;
 use crate::status::Status;
-use corbaloc::write_corbaloc;
+use ior_text::write_corbaloc;
 use outside::Sink;
 use poa_base::{Bytes, Ior, WantMemory};
 use std::alloc::Global;

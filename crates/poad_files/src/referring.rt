@@ -1,11 +1,10 @@
 //! The reference of a text that a command is given.
 ghost use Rattle.std.specs.Prelude.{◌≡◌, ◌⊎◌, Err};
-ghost use Rattle.corbaloc.specs.Reference.{reference_of as location_reference};
+ghost use Rattle.ior_text.specs.Reference.{reference_of as location_reference};
 ghost use Rattle.poad_files.specs.Referring.{GivesReference, GivesWritten, Refuses};
 
 use crate::status::Status;
-use corbaloc::{LocFault, read_corbaloc};
-use ior_text::{IorFault, read_ior};
+use ior_text::{IorFault, LocFault, read_corbaloc, read_ior};
 use poa_base::Ior;
 use std::alloc::Global;
 

@@ -5,8 +5,7 @@ ghost use Rattle.poad_files.specs.Statuses.{status_number};
 use crate::fault_line::write_fault;
 use crate::illegal_line::write_illegal;
 use conf_toml::ConfFault;
-use corbaloc::LocFault;
-use ior_text::IorFault;
+use ior_text::{IorFault, LocFault};
 use poa_base::Bytes;
 use std::fmt;
 

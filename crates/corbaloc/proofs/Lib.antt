@@ -1,9 +1,0 @@
-pub mod Cutting
-pub mod Listing
-pub mod KeyStrings
-pub mod Numbers
-pub mod Profiles
-pub mod Locations
-pub mod Texts
-pub mod AddressTexts
-pub mod ReadingBack

@@ -1,6 +1,0 @@
-use Rattle.corbaloc.proofs.KeyStrings.{read_more}
-use Rattle.corbaloc.proofs.key_reading.read_key.Goals as goal
-
-pub loop-rest-preserved : goal.loop-rest-preserved
-loop-rest-preserved c =
-    rw c.in_ok-push.ensures.items (read_more _ _ _ _ _ _ c.loop-rest.invariant c.in-Some.ensures)

@@ -1,6 +1,0 @@
-use Rattle.std.proofs.Common.{◌≡◌, ◌++◌, drop}
-use Rattle.corbaloc.specs.KeyString.{key_text}
-use Rattle.corbaloc.proofs.key_writing.put_key.Given as goal
-
-abbrev pub invariant-loop-byte : goal.invariant-loop-byte
-invariant-loop-byte l = l.text.items ++ key_text (drop l.byte-index l.key) ≡ l.initial.text.items ++ key_text l.key

@@ -1,6 +1,0 @@
-use Rattle.std.proofs.Common.{take}
-use Rattle.corbaloc.specs.Reference.{AreAt}
-use Rattle.corbaloc.proofs.located.addresses_with.Given as goal
-
-abbrev pub invariant-loop-profile : goal.invariant-loop-profile
-invariant-loop-profile l = AreAt l.key l.addresses (take l.profile-index l.profiles)

@@ -1,9 +1,0 @@
-use Rattle.std.proofs.Common.{length}
-use Rattle.corbaloc.proofs.Listing.{FoundSome}
-use Rattle.corbaloc.proofs.reading.read_addresses.Given as goal
-
-abbrev pub invariant-loop-addresses : goal.invariant-loop-addresses
-invariant-loop-addresses l = FoundSome l.end l.list l.rest l.addresses
-
-abbrev pub decreases-loop-addresses : goal.decreases-loop-addresses
-decreases-loop-addresses l = length l.rest

@@ -1,7 +1,0 @@
-use Rattle.std.proofs.Common.{◌≡◌, ◌++◌, drop}
-use Rattle.corbaloc.specs.Text.{behind_commas}
-use Rattle.corbaloc.proofs.writing.put_list.Given as goal
-
-abbrev pub invariant-loop-address : goal.invariant-loop-address
-invariant-loop-address l =
-    l.text.items ++ behind_commas (drop l.address-index l.others) ≡ l.initial.text.items ++ behind_commas l.others
