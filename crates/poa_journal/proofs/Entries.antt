@@ -4,7 +4,7 @@ use Rattle.poa_base.specs.declared.Entry.{Entry}
 use Rattle.poa_base.specs.declared.Entry.TheVariants.{Entered, Arrive, Filled, Left, Collect, Admit, Tried, Incarnated, Run, Done, TakeOut, Etherealized, Abandon}
 use Rattle.text_words.specs.Token.{texts}
 use Rattle.text_words.proofs.Numbers.{back32, back64}
-use Rattle.journal_words.proofs.ReadBack.{attempt_back, call_back, incarnation_back, verdict_back}
+use Rattle.poa_journal.proofs.ReadBack.{attempt_back, call_back, incarnation_back, verdict_back}
 use Rattle.poa_journal.specs.Fixed.{kind_word, removal_word, flag_word, flag_for}
 use Rattle.poa_journal.specs.Entry.{entry_tokens, IsWritten}
 use Rattle.poa_journal.specs.Reading.{entry_of, flag_of}

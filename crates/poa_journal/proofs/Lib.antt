@@ -1,3 +1,4 @@
+pub mod ReadBack
 pub mod Pages
 pub mod LineRows
 pub mod Entries

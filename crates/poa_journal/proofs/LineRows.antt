@@ -6,8 +6,8 @@ use Rattle.poa_base.specs.declared.State.TheVariants.{Register, Book, Echo, Faul
 use Rattle.poa_base.specs.Store.{Place}
 use Rattle.text_words.specs.Token.{AllFit, texts, path, identity}
 use Rattle.text_words.proofs.ReadBack.{path_back, printed_id_back, signed_back, prefixed_back}
-use Rattle.journal_words.specs.declared.fixed.Mark.TheVariants as mark
-use Rattle.journal_words.specs.Fixed.{mark_word}
+use Rattle.poa_journal.specs.declared.value_words.Mark.TheVariants as mark
+use Rattle.poa_journal.specs.ValueWords.{mark_word}
 use Rattle.poa_journal.specs.declared.fixed.Kind.{Kind}
 use Rattle.poa_journal.specs.declared.fixed.Kind.TheVariants as kind
 use Rattle.poa_journal.specs.Fixed.{holding_word, kind_word}

@@ -9,9 +9,9 @@ use Rattle.text_words.specs.Cuts.{lines_of, words_of}
 use Rattle.text_words.specs.Token.{Token, AllFit, texts, spelled, keyword, number, path, identity}
 use Rattle.text_words.proofs.Lines.{words_spelled, line_first}
 use Rattle.text_words.proofs.Numbers.{number_back}
-use Rattle.journal_words.specs.Fixed.{mark_word}
+use Rattle.poa_journal.specs.ValueWords.{mark_word}
 use Rattle.poa_journal.specs.Fixed.{kind_word}
-use Rattle.journal_words.specs.declared.fixed.Mark.TheVariants as mark
+use Rattle.poa_journal.specs.declared.value_words.Mark.TheVariants as mark
 use Rattle.poa_journal.specs.Row.{row_tokens, state_tokens}
 use Rattle.poa_journal.specs.Entry.{entry_tokens, body_tokens, kind_in, IsWritten}
 use Rattle.poa_journal.specs.Journal.{head_tokens, text_of, journal_lines, journal_text, IsRow, IsJournal, store_lines, store_text, IsStore}

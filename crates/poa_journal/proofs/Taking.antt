@@ -4,8 +4,8 @@ use Rattle.poa_base.specs.declared.State.{State}
 use Rattle.poa_base.specs.Store.{Place}
 use Rattle.text_words.specs.Path.{path_of}
 use Rattle.text_words.specs.Token.{identity, path, spell, texts}
-use Rattle.journal_words.specs.declared.fixed.Mark.TheVariants as mark
-use Rattle.journal_words.specs.Fixed.{mark_word}
+use Rattle.poa_journal.specs.declared.value_words.Mark.TheVariants as mark
+use Rattle.poa_journal.specs.ValueWords.{mark_word}
 use Rattle.poa_journal.specs.Row.{row_behind, slot_behind, state_tokens}
 use Rattle.poa_journal.specs.Shelving.{Shelves, Takes, last_from}
 use Rattle.poa_journal.specs.Whole.{is_above, row_above}

@@ -6,9 +6,9 @@ use Rattle.text_words.specs.Token.{Token, keyword, number, AllFit}
 use Rattle.poa_journal.specs.declared.fixed.Kind.{Kind}
 use Rattle.poa_journal.specs.declared.fixed.Kind.TheVariants as kind
 use Rattle.poa_journal.specs.Fixed.{kind_word, removal_word, removal_for, flag_word, flag_for}
-use Rattle.journal_words.specs.Call as call
-use Rattle.journal_words.specs.Verdict as verdict
-use Rattle.journal_words.specs.Outcome as outcome
+use Rattle.poa_journal.specs.Call as call
+use Rattle.poa_journal.specs.Verdict as verdict
+use Rattle.poa_journal.specs.Outcome as outcome
 
 abbrev pub n32 : ℕ → Token
 n32 n = number (2 ^ 32) n

@@ -6,8 +6,8 @@ use Rattle.poa_base.specs.declared.Journal.{Journal}
 use Rattle.poa_base.specs.declared.State.{State}
 use Rattle.poa_base.specs.Store.{Place, Slots, states}
 use Rattle.text_words.specs.Token.{Token, keyword, number, spelled, AllFit}
-use Rattle.journal_words.specs.declared.fixed.Mark.TheVariants as mark
-use Rattle.journal_words.specs.Fixed.{mark_word}
+use Rattle.poa_journal.specs.declared.value_words.Mark.TheVariants as mark
+use Rattle.poa_journal.specs.ValueWords.{mark_word}
 use Rattle.poa_journal.specs.Row.{row_tokens}
 use Rattle.poa_journal.specs.Entry.{entry_tokens, IsWritten}
 

@@ -1,3 +1,8 @@
+pub mod ValueWords
+pub mod Exception
+pub mod Verdict
+pub mod Call
+pub mod Outcome
 pub mod Fixed
 pub mod Entry
 pub mod Row

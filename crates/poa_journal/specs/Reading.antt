@@ -11,9 +11,9 @@ use Rattle.poa_journal.specs.declared.fixed.Removal.{Removal}
 use Rattle.poa_journal.specs.declared.fixed.Flag.{Flag}
 use Rattle.poa_journal.specs.Fixed.{kind_word, kinds, removal_word, removals, is_etherealizing, flag_word, flags, holds}
 use Rattle.text_words.specs.Parts.{only, last_number}
-use Rattle.journal_words.specs.Call.{call_of}
-use Rattle.journal_words.specs.Verdict.{verdict_of}
-use Rattle.journal_words.specs.Outcome.{attempt_of, incarnation_of}
+use Rattle.poa_journal.specs.Call.{call_of}
+use Rattle.poa_journal.specs.Verdict.{verdict_of}
+use Rattle.poa_journal.specs.Outcome.{attempt_of, incarnation_of}
 
 abbrev pub removal_of : List ℕ → Option Removal
 removal_of w = named_in removal_word removals w

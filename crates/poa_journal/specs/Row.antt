@@ -13,8 +13,8 @@ use Rattle.text_words.specs.Hexadecimal.{prefixed_of}
 use Rattle.text_words.specs.Token.{Token, keyword, signed, path, identity, octets}
 use Rattle.poa_journal.specs.declared.fixed.Holding.{Holding}
 use Rattle.poa_journal.specs.declared.fixed.Holding.TheVariants as holding
-use Rattle.journal_words.specs.declared.fixed.Mark.TheVariants as mark
-use Rattle.journal_words.specs.Fixed.{mark_word}
+use Rattle.poa_journal.specs.declared.value_words.Mark.TheVariants as mark
+use Rattle.poa_journal.specs.ValueWords.{mark_word}
 use Rattle.poa_journal.specs.Fixed.{holding_word, holdings}
 use Rattle.text_words.specs.Parts.{alone, only}
 

@@ -8,8 +8,8 @@ use Rattle.text_words.specs.Token as token
 use Rattle.text_words.specs.Token.{spell, texts}
 use Rattle.text_words.specs.declared.fault.WordFault.{WordFault}
 use Rattle.text_words.specs.declared.fault.WordFault.TheVariants as word_fault
-use Rattle.journal_words.specs.declared.fixed.Mark.TheVariants as mark
-use Rattle.journal_words.specs.Fixed.{mark_word}
+use Rattle.poa_journal.specs.declared.value_words.Mark.TheVariants as mark
+use Rattle.poa_journal.specs.ValueWords.{mark_word}
 use Rattle.poa_journal.specs.Row.{row_behind, row_tokens}
 use Rattle.poa_journal.specs.Whole.{is_above, row_above}
 use Rattle.poa_journal.specs.declared.fault.JournalFault.{JournalFault}

@@ -11,8 +11,8 @@ use Rattle.poa_journal.specs.declared.rows.Opening.{Opening}
 use Rattle.poa_journal.specs.declared.fault.JournalFault.{JournalFault}
 use Rattle.poa_journal.specs.declared.fault.JournalFault.TheVariants.{BadLine, WantMemory}
 use Rattle.text_words.specs.Chain.{◌>>=◌}
-use Rattle.journal_words.specs.declared.fixed.Mark.TheVariants as mark
-use Rattle.journal_words.specs.Fixed.{expected}
+use Rattle.poa_journal.specs.declared.value_words.Mark.TheVariants as mark
+use Rattle.poa_journal.specs.ValueWords.{expected}
 use Rattle.poa_journal.specs.Row.{row_behind, row_words_of}
 use Rattle.poa_journal.specs.Reading.{entry_of}
 

@@ -6,11 +6,10 @@ ghost use Rattle.poa_journal.specs.Entry.{body_tokens, entry_tokens, kind_in, n3
 ghost use Rattle.text_words.specs.Parts.{only};
 ghost use Rattle.poa_journal.specs.Reading.{admit_of, arrive_of, body_of, entry_of, etherealized_of, flag_of, incarnated_of, kind_of, last_pair as last_pair_of, removal_of, take_out_of, tried_of};
 
+use crate::call::{put_call, read_call};
 use crate::fixed::{Flag, Kind, Removal};
-use journal_words::{
-    put_attempt, put_call, put_incarnation, put_verdict, read_attempt, read_call, read_incarnation,
-    read_verdict,
-};
+use crate::outcome::{put_attempt, put_incarnation, read_attempt, read_incarnation};
+use crate::verdict::{put_verdict, read_verdict};
 use poa_base::{Entry, WantMemory};
 use std::alloc::Global;
 use text_words::{

@@ -7,22 +7,31 @@
 //! each entry.
 #![tactic(auto)]
 
+mod call;
 mod entry;
+mod exception;
 mod fault;
 mod fixed;
 mod laws;
+mod outcome;
 mod reading;
 mod row;
 mod rows;
 mod shelving;
 mod store_text;
+mod value_words;
+mod verdict;
 mod writing;
 
+pub use call::{put_call, read_call};
 pub use entry::{put_entry, read_entry};
 pub use fault::JournalFault;
 pub use laws::a_text_keeps_what_is_stored;
+pub use outcome::{put_attempt, put_incarnation, read_attempt, read_incarnation};
 pub use reading::{entry_at, read, read_head};
 pub use row::{put_row, row_words};
 pub use rows::{Opening, read_rows};
 pub use store_text::{print_store, read_store};
+pub use value_words::{Mark, expect, is_mark};
+pub use verdict::{put_verdict, read_verdict};
 pub use writing::{print, print_entry, print_parts};

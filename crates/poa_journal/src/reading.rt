@@ -11,7 +11,7 @@ ghost use Rattle.poa_journal.specs.Whole.{JournalReads, contents, contents_of, e
 use crate::entry::read_entry;
 use crate::fault::JournalFault;
 use crate::rows::read_rows;
-use journal_words::{Mark, expect};
+use crate::value_words::{Mark, expect};
 use poa_base::{Entry, Items, Journal};
 use std::alloc::Global;
 use text_words::{WordFault, next_line, number32, words};

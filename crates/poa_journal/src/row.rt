@@ -4,13 +4,13 @@ ghost use Rattle.text_words.specs.WordGives.{WordGives};
 ghost use Rattle.text_words.specs.Token.{Token, spelled, tails, texts};
 ghost use Rattle.text_words.specs.Number.{signed_of};
 ghost use Rattle.poa_base.specs.Rows.{row_seen};
-ghost use Rattle.journal_words.specs.Fixed.{mark_word};
+ghost use Rattle.poa_journal.specs.ValueWords.{mark_word};
 ghost use Rattle.poa_journal.specs.Fixed.{holding_word};
 ghost use Rattle.text_words.specs.Parts.{only};
 ghost use Rattle.poa_journal.specs.Row.{row_words_of, holding_of, page_token, pages_of, row_tokens, slot_behind, state_behind, state_tokens};
 
 use crate::fixed::Holding;
-use journal_words::{Mark, is_mark};
+use crate::value_words::{Mark, is_mark};
 use poa_base::{Bytes, Items, Oid, Row, State, WantMemory};
 use std::alloc::Global;
 use text_words::{

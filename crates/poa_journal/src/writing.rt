@@ -10,8 +10,8 @@ ghost use Rattle.poa_journal.specs.Journal.{head_tokens, journal_text, text_of};
 
 use crate::entry::put_entry;
 use crate::row::put_row;
+use crate::value_words::Mark;
 use journal_entries::{Entries, EntryView, Row as KeptRow};
-use journal_words::Mark;
 use poa_base::{Bytes, Entry, Journal, Row, Store, WantMemory};
 use std::alloc::Global;
 use text_words::{Worded, put_number, put_word};

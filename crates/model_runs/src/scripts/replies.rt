@@ -1,8 +1,8 @@
 //! The text of a reply.
 use crate::fault::Fault;
 use admin_line::put_answer;
-use journal_words::put_verdict;
 use poa_base::{Call, Datum, Outcome, Reply, Verdict};
+use poa_journal::put_verdict;
 use text_words::{put_number, put_octets, put_signed, put_word};
 
 /// The id of a request; an administrator's line has none.

@@ -1,8 +1,8 @@
 use Rattle.std.proofs.Common.{◌∙◌, ◌∷◌, [], ◌^◌, sym, ap, map}
 use Rattle.text_words.specs.Token.{keyword, number}
 use Rattle.text_words.proofs.Lines.{line_spelled}
-use Rattle.journal_words.specs.declared.fixed.Mark.TheVariants as mark
-use Rattle.journal_words.specs.Fixed.{mark_word}
+use Rattle.poa_journal.specs.declared.value_words.Mark.TheVariants as mark
+use Rattle.poa_journal.specs.ValueWords.{mark_word}
 use Rattle.poa_journal.proofs.reading.read_head.Goals as goal
 
 pub returns-in-Ok-clause-text : goal.returns-in-Ok-clause-text

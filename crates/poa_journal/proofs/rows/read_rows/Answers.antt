@@ -5,8 +5,8 @@ use Rattle.poa_base.specs.Store.{Place}
 use Rattle.text_words.specs.Cuts.{words_of}
 use Rattle.text_words.specs.Token.{keyword, path, identity}
 use Rattle.text_words.proofs.Lines.{line_spelled}
-use Rattle.journal_words.specs.declared.fixed.Mark.TheVariants as mark
-use Rattle.journal_words.specs.Fixed.{mark_word}
+use Rattle.poa_journal.specs.declared.value_words.Mark.TheVariants as mark
+use Rattle.poa_journal.specs.ValueWords.{mark_word}
 use Rattle.poa_journal.specs.Row.{state_tokens, row_words_of}
 use Rattle.poa_journal.specs.Shelving.{rows_in}
 use Rattle.poa_journal.proofs.Fronts.{RowsRead, rows_step}

@@ -1,11 +1,11 @@
 ghost use Rattle.std.specs.Prelude.{◌≡◌, ◌∷◌, ◌++◌, IfOk, OnOk, map};
 ghost use Rattle.text_words.specs.WordGives.{WordGives};
 ghost use Rattle.text_words.specs.Token.{tails, texts};
-ghost use Rattle.journal_words.specs.Fixed.{bringing_word, trial_word};
-ghost use Rattle.journal_words.specs.Outcome.{attempt_behind as attempt_behind_of, attempt_of, attempt_tokens, bringing_of, incarnation_behind as incarnation_behind_of, incarnation_of, incarnation_tokens, trial_of};
+ghost use Rattle.poa_journal.specs.ValueWords.{bringing_word, trial_word};
+ghost use Rattle.poa_journal.specs.Outcome.{attempt_behind as attempt_behind_of, attempt_of, attempt_tokens, bringing_of, incarnation_behind as incarnation_behind_of, incarnation_of, incarnation_tokens, trial_of};
 
 use crate::exception::{put_exception, read_exception};
-use crate::fixed::{Bringing, Trial};
+use crate::value_words::{Bringing, Trial};
 use poa_base::{Attempt, Incarnation, WantMemory};
 use std::alloc::Global;
 use text_words::{

@@ -1,11 +1,11 @@
 ghost use Rattle.std.specs.Prelude.{◌≡◌, ◌∷◌, ◌++◌, IfOk, OnOk, map};
 ghost use Rattle.text_words.specs.WordGives.{WordGives};
 ghost use Rattle.text_words.specs.Token.{tails, texts};
-ghost use Rattle.journal_words.specs.Fixed.{ruling_word};
-ghost use Rattle.journal_words.specs.Verdict.{ruling_of, verdict_behind, verdict_of, verdict_tokens};
+ghost use Rattle.poa_journal.specs.ValueWords.{ruling_word};
+ghost use Rattle.poa_journal.specs.Verdict.{ruling_of, verdict_behind, verdict_of, verdict_tokens};
 
 use crate::exception::{put_exception, read_exception};
-use crate::fixed::Ruling;
+use crate::value_words::Ruling;
 use admin_line::{put_answer, read_answer};
 use poa_base::{Verdict, WantMemory};
 use std::alloc::Global;

@@ -2,20 +2,20 @@
 use Rattle.std.specs.Prelude.{ℕ, Bool, true, false, List, [], ◌∷◌, codes, Option, Some, None, if◌then◌else◌}
 use Rattle.std.specs.Str.{bytes_eq}
 use Rattle.poa_base.specs.declared.ExcName.{ExcName}
-use Rattle.journal_words.specs.declared.fixed.Raised.{Raised}
+use Rattle.poa_journal.specs.declared.value_words.Raised.{Raised}
 use Rattle.poa_base.specs.declared.ExcName.TheVariants as exception
-use Rattle.journal_words.specs.declared.fixed.CallKind.{CallKind}
-use Rattle.journal_words.specs.declared.fixed.CallKind.TheVariants as call
-use Rattle.journal_words.specs.declared.fixed.ByteOrder.{ByteOrder}
-use Rattle.journal_words.specs.declared.fixed.ByteOrder.TheVariants as order
-use Rattle.journal_words.specs.declared.fixed.Ruling.{Ruling}
-use Rattle.journal_words.specs.declared.fixed.Ruling.TheVariants as ruling
-use Rattle.journal_words.specs.declared.fixed.Trial.{Trial}
-use Rattle.journal_words.specs.declared.fixed.Trial.TheVariants as trial
-use Rattle.journal_words.specs.declared.fixed.Bringing.{Bringing}
-use Rattle.journal_words.specs.declared.fixed.Bringing.TheVariants as bringing
-use Rattle.journal_words.specs.declared.fixed.Mark.{Mark}
-use Rattle.journal_words.specs.declared.fixed.Mark.TheVariants as mark
+use Rattle.poa_journal.specs.declared.value_words.CallKind.{CallKind}
+use Rattle.poa_journal.specs.declared.value_words.CallKind.TheVariants as call
+use Rattle.poa_journal.specs.declared.value_words.ByteOrder.{ByteOrder}
+use Rattle.poa_journal.specs.declared.value_words.ByteOrder.TheVariants as order
+use Rattle.poa_journal.specs.declared.value_words.Ruling.{Ruling}
+use Rattle.poa_journal.specs.declared.value_words.Ruling.TheVariants as ruling
+use Rattle.poa_journal.specs.declared.value_words.Trial.{Trial}
+use Rattle.poa_journal.specs.declared.value_words.Trial.TheVariants as trial
+use Rattle.poa_journal.specs.declared.value_words.Bringing.{Bringing}
+use Rattle.poa_journal.specs.declared.value_words.Bringing.TheVariants as bringing
+use Rattle.poa_journal.specs.declared.value_words.Mark.{Mark}
+use Rattle.poa_journal.specs.declared.value_words.Mark.TheVariants as mark
 
 unfoldable pub call_word : CallKind → List ℕ
 call_word call.Request = codes "request"

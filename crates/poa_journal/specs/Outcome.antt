@@ -8,12 +8,12 @@ use Rattle.text_words.specs.Chain.{◌>>=◌}
 use Rattle.text_words.specs.Keyword.{named_in}
 use Rattle.text_words.specs.Token.{Token, keyword, number, named}
 use Rattle.text_words.specs.Parts.{endpoint_tokens, alone, last_number, last_name, last_endpoint}
-use Rattle.journal_words.specs.declared.fixed.Trial.{Trial}
-use Rattle.journal_words.specs.declared.fixed.Trial.TheVariants as trial
-use Rattle.journal_words.specs.declared.fixed.Bringing.{Bringing}
-use Rattle.journal_words.specs.declared.fixed.Bringing.TheVariants as bringing
-use Rattle.journal_words.specs.Fixed.{trial_word, trials, bringing_word, bringings}
-use Rattle.journal_words.specs.Exception as exception
+use Rattle.poa_journal.specs.declared.value_words.Trial.{Trial}
+use Rattle.poa_journal.specs.declared.value_words.Trial.TheVariants as trial
+use Rattle.poa_journal.specs.declared.value_words.Bringing.{Bringing}
+use Rattle.poa_journal.specs.declared.value_words.Bringing.TheVariants as bringing
+use Rattle.poa_journal.specs.ValueWords.{trial_word, trials, bringing_word, bringings}
+use Rattle.poa_journal.specs.Exception as exception
 
 abbrev pub attempt_tokens : Attempt → List Token
 attempt_tokens (attempt.Yes n) = keyword (trial_word trial.Yes) ∷ number (2 ^ 32) n ∷ []

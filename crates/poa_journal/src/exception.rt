@@ -1,10 +1,10 @@
 ghost use Rattle.std.specs.Prelude.{◌≡◌, ◌++◌, IfOk, OnOk, map};
 ghost use Rattle.text_words.specs.WordGives.{WordGives};
 ghost use Rattle.text_words.specs.Token.{tails, texts};
-ghost use Rattle.journal_words.specs.Fixed.{exception_word};
-ghost use Rattle.journal_words.specs.Exception.{exception_name_of, exception_of, exception_tokens};
+ghost use Rattle.poa_journal.specs.ValueWords.{exception_word};
+ghost use Rattle.poa_journal.specs.Exception.{exception_name_of, exception_of, exception_tokens};
 
-use crate::fixed::Raised;
+use crate::value_words::Raised;
 use poa_base::minors::completion_of;
 use poa_base::{ExcName, SysExc, WantMemory};
 use text_words::{WordFault, Worded, find_word, minor, nothing, put_minor, put_word};

@@ -13,11 +13,11 @@ use Rattle.text_words.specs.Token.{Token, keyword, number, octets}
 use Rattle.admin_line.specs.Command.{command_tokens}
 use Rattle.admin_line.specs.Reading.{command_of}
 use Rattle.admin_line.specs.declared.Source.TheVariants.{Journal}
-use Rattle.journal_words.specs.declared.fixed.CallKind.{CallKind}
-use Rattle.journal_words.specs.declared.fixed.CallKind.TheVariants as call
-use Rattle.journal_words.specs.declared.fixed.ByteOrder.{ByteOrder}
-use Rattle.journal_words.specs.declared.fixed.Mark.TheVariants as mark
-use Rattle.journal_words.specs.Fixed.{call_word, calls, order_word, orders, order_for, is_little, mark_word}
+use Rattle.poa_journal.specs.declared.value_words.CallKind.{CallKind}
+use Rattle.poa_journal.specs.declared.value_words.CallKind.TheVariants as call
+use Rattle.poa_journal.specs.declared.value_words.ByteOrder.{ByteOrder}
+use Rattle.poa_journal.specs.declared.value_words.Mark.TheVariants as mark
+use Rattle.poa_journal.specs.ValueWords.{call_word, calls, order_word, orders, order_for, is_little, mark_word}
 
 -- the target of a message, `-` where it gives no key
 abbrev pub target_token : Option (List ℕ) → Token

@@ -7,10 +7,10 @@ use Rattle.text_words.specs.Keyword.{named_in}
 use Rattle.text_words.specs.Token.{Token, keyword, number, named}
 use Rattle.text_words.specs.Parts.{endpoint_tokens, alone, last_number, last_name, last_endpoint}
 use Rattle.admin_line.specs.Answer.{answer_tokens, answer_of}
-use Rattle.journal_words.specs.declared.fixed.Ruling.{Ruling}
-use Rattle.journal_words.specs.declared.fixed.Ruling.TheVariants as ruling
-use Rattle.journal_words.specs.Fixed.{ruling_word, rulings}
-use Rattle.journal_words.specs.Exception as exception
+use Rattle.poa_journal.specs.declared.value_words.Ruling.{Ruling}
+use Rattle.poa_journal.specs.declared.value_words.Ruling.TheVariants as ruling
+use Rattle.poa_journal.specs.ValueWords.{ruling_word, rulings}
+use Rattle.poa_journal.specs.Exception as exception
 
 abbrev pub verdict_tokens : Verdict → List Token
 verdict_tokens (Serve n) = keyword (ruling_word ruling.Serve) ∷ number (2 ^ 32) n ∷ []

@@ -4,10 +4,10 @@ ghost use Rattle.text_words.specs.Token.{Token, spell, tails, texts};
 ghost use Rattle.admin_line.specs.Command.{command_tokens};
 ghost use Rattle.admin_line.specs.Reading.{command_of};
 ghost use Rattle.admin_line.specs.declared.Source.TheVariants.{Journal};
-ghost use Rattle.journal_words.specs.Fixed.{call_word, order_for, order_word};
-ghost use Rattle.journal_words.specs.Call.{accepted, arguments_of, body_of, call_behind, call_kind_of, call_of, call_tokens, line_of, locate_of, order_of, request_of, start_of, target_of, target_token};
+ghost use Rattle.poa_journal.specs.ValueWords.{call_word, order_for, order_word};
+ghost use Rattle.poa_journal.specs.Call.{accepted, arguments_of, body_of, call_behind, call_kind_of, call_of, call_tokens, line_of, locate_of, order_of, request_of, start_of, target_of, target_token};
 
-use crate::fixed::{ByteOrder, CallKind, Mark};
+use crate::value_words::{ByteOrder, CallKind, Mark};
 use admin_line::{Source, Wrong, command_text, read_words};
 use poa_base::{Body, Bytes, Call, Command, Head, WantMemory};
 use std::alloc::Global;

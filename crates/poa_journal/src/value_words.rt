@@ -2,7 +2,7 @@
 ghost use Rattle.std.specs.Prelude.{◌≡◌, IfOk, true};
 ghost use Rattle.std.specs.Str.{bytes_eq};
 ghost use Rattle.text_words.specs.WordGives.{WordGives};
-ghost use Rattle.journal_words.specs.Fixed.{expected, is_little, mark_word, order_for};
+ghost use Rattle.poa_journal.specs.ValueWords.{expected, is_little, mark_word, order_for};
 
 use poa_base::ExcName;
 use text_words::{WordFault, Worded};
@@ -16,11 +16,11 @@ pub(crate) enum CallKind {
 }
 
 impl Worded for CallKind {
-    ghost use Rattle.journal_words.specs.Fixed.{call_word};
+    ghost use Rattle.poa_journal.specs.ValueWords.{call_word};
 
     ghost text = { call_word };
 
-    #[tactic(auto, unfolding(crate::specs::Fixed::call_word))]
+    #[tactic(auto, unfolding(crate::specs::ValueWords::call_word))]
     fn word(self) -> &'static [u8] {
         match self {
             CallKind::Request => b"request",
@@ -38,11 +38,11 @@ pub(crate) enum ByteOrder {
 }
 
 impl Worded for ByteOrder {
-    ghost use Rattle.journal_words.specs.Fixed.{order_word};
+    ghost use Rattle.poa_journal.specs.ValueWords.{order_word};
 
     ghost text = { order_word };
 
-    #[tactic(auto, unfolding(crate::specs::Fixed::order_word))]
+    #[tactic(auto, unfolding(crate::specs::ValueWords::order_word))]
     fn word(self) -> &'static [u8] {
         match self {
             ByteOrder::Big => b"big",
@@ -90,11 +90,11 @@ pub(crate) enum Ruling {
 }
 
 impl Worded for Ruling {
-    ghost use Rattle.journal_words.specs.Fixed.{ruling_word};
+    ghost use Rattle.poa_journal.specs.ValueWords.{ruling_word};
 
     ghost text = { ruling_word };
 
-    #[tactic(auto, unfolding(crate::specs::Fixed::ruling_word))]
+    #[tactic(auto, unfolding(crate::specs::ValueWords::ruling_word))]
     fn word(self) -> &'static [u8] {
         match self {
             Ruling::Serve => b"serve",
@@ -123,11 +123,11 @@ pub(crate) enum Trial {
 }
 
 impl Worded for Trial {
-    ghost use Rattle.journal_words.specs.Fixed.{trial_word};
+    ghost use Rattle.poa_journal.specs.ValueWords.{trial_word};
 
     ghost text = { trial_word };
 
-    #[tactic(auto, unfolding(crate::specs::Fixed::trial_word))]
+    #[tactic(auto, unfolding(crate::specs::ValueWords::trial_word))]
     fn word(self) -> &'static [u8] {
         match self {
             Trial::Yes => b"yes",
@@ -149,11 +149,11 @@ pub(crate) enum Bringing {
 }
 
 impl Worded for Bringing {
-    ghost use Rattle.journal_words.specs.Fixed.{bringing_word};
+    ghost use Rattle.poa_journal.specs.ValueWords.{bringing_word};
 
     ghost text = { bringing_word };
 
-    #[tactic(auto, unfolding(crate::specs::Fixed::bringing_word))]
+    #[tactic(auto, unfolding(crate::specs::ValueWords::bringing_word))]
     fn word(self) -> &'static [u8] {
         match self {
             Bringing::Fresh => b"fresh",
@@ -172,11 +172,11 @@ pub(crate) struct Raised {
 }
 
 impl Worded for Raised {
-    ghost use Rattle.journal_words.specs.Fixed.{exception_word};
+    ghost use Rattle.poa_journal.specs.ValueWords.{exception_word};
 
     ghost text = { λ raised. exception_word raised.name };
 
-    #[tactic(auto, unfolding(crate::specs::Fixed::exception_word))]
+    #[tactic(auto, unfolding(crate::specs::ValueWords::exception_word))]
     fn word(self) -> &'static [u8] {
         match self.name {
             ExcName::ObjectNotExist => b"OBJECT_NOT_EXIST",
@@ -204,11 +204,11 @@ pub enum Mark {
 }
 
 impl Worded for Mark {
-    ghost use Rattle.journal_words.specs.Fixed.{mark_word};
+    ghost use Rattle.poa_journal.specs.ValueWords.{mark_word};
 
     ghost text = { mark_word };
 
-    #[tactic(auto, unfolding(crate::specs::Fixed::mark_word))]
+    #[tactic(auto, unfolding(crate::specs::ValueWords::mark_word))]
     fn word(self) -> &'static [u8] {
         match self {
             Mark::Journal => b"journal",

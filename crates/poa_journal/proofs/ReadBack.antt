@@ -15,16 +15,16 @@ use Rattle.poa_base.specs.declared.ExcName.{ExcName}
 use Rattle.poa_base.specs.declared.ExcName.TheVariants as exception
 use Rattle.poa_base.specs.declared.SysExc.{SysExc}
 use Rattle.admin_line.specs.declared.Source.TheVariants.{Journal}
-use Rattle.journal_words.specs.Fixed.{call_word, order_word, order_for, is_little, ruling_word, trial_word, bringing_word, mark_word, exception_word}
+use Rattle.poa_journal.specs.ValueWords.{call_word, order_word, order_for, is_little, ruling_word, trial_word, bringing_word, mark_word, exception_word}
 use Rattle.poa_base.specs.Minors.{completion_of}
-use Rattle.journal_words.specs.Exception.{exception_tokens, exception_of, exception_name_of}
-use Rattle.journal_words.specs.Verdict.{verdict_tokens, verdict_of}
-use Rattle.journal_words.specs.Call.{call_tokens, call_of, target_token, target_of, order_of}
-use Rattle.journal_words.specs.Outcome.{attempt_tokens, attempt_of, incarnation_tokens, incarnation_of}
-use Rattle.journal_words.specs.Exception as exceptions
-use Rattle.journal_words.specs.Verdict as verdicts
-use Rattle.journal_words.specs.Call as calls
-use Rattle.journal_words.specs.Outcome as outcomes
+use Rattle.poa_journal.specs.Exception.{exception_tokens, exception_of, exception_name_of}
+use Rattle.poa_journal.specs.Verdict.{verdict_tokens, verdict_of}
+use Rattle.poa_journal.specs.Call.{call_tokens, call_of, target_token, target_of, order_of}
+use Rattle.poa_journal.specs.Outcome.{attempt_tokens, attempt_of, incarnation_tokens, incarnation_of}
+use Rattle.poa_journal.specs.Exception as exceptions
+use Rattle.poa_journal.specs.Verdict as verdicts
+use Rattle.poa_journal.specs.Call as calls
+use Rattle.poa_journal.specs.Outcome as outcomes
 use Rattle.text_words.specs.Token.{AllFit, Fits, texts, spell}
 use Rattle.text_words.proofs.Numbers.{back8, back32, back64}
 use Rattle.text_words.proofs.ReadBack.{endpoint_back, name_back, minor_back, prefixed_back}

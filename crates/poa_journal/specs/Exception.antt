@@ -8,7 +8,7 @@ use Rattle.text_words.specs.Chain.{◌>>=◌}
 use Rattle.text_words.specs.Keyword.{named_in}
 use Rattle.text_words.specs.Hexadecimal.{minor_of}
 use Rattle.text_words.specs.Token.{Token, keyword, minor}
-use Rattle.journal_words.specs.Fixed.{exception_word, exceptions}
+use Rattle.poa_journal.specs.ValueWords.{exception_word, exceptions}
 use Rattle.text_words.specs.Parts.{alone}
 
 abbrev pub exception_tokens : SysExc → List Token
