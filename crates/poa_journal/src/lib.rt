@@ -4,7 +4,8 @@
 //! entry; the text of a store, as a state file has it, is the rows alone. `specs/Entry.antt` and `specs/Row.antt` say which
 //! words each line has, `specs/Journal.antt` what is printed, `specs/Whole.antt` what a text gives: what is printed reads
 //! back, and the first line outside the grammar is told. A long journal can be read line by line: its head, its rows, and
-//! each entry.
+//! each entry. `specs/Call.antt`, `specs/Verdict.antt`, `specs/Outcome.antt` and `specs/Exception.antt` say which words the values in
+//! an entry have: a reader takes the last words of a line, and a writer adds words to one.
 #![tactic(auto)]
 
 mod call;

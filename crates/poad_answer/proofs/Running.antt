@@ -22,9 +22,9 @@ use Rattle.poad_answer.specs.Piece.{TakesPiece, EndsPiece, EndsAt}
 use Rattle.poad_files.proofs.Told.{told_then, told_here, told_so, told_last}
 use Rattle.poa_history.specs.Legal.{IsLegal}
 use Rattle.poa_history.specs.Lifetime.{HasLifetime}
-use Rattle.replay_player.specs.Opening.{life_at_first}
-use Rattle.replay_player.proofs.Same.{Givens, givens_life, givens_then}
-use Rattle.replay_player.proofs.Given.{legal_for, lifetime_for, undone_for, updates_for}
+use Rattle.replay_run.specs.Opening.{life_at_first}
+use Rattle.replay_run.proofs.Same.{Givens, givens_life, givens_then}
+use Rattle.replay_run.proofs.Given.{legal_for, lifetime_for, undone_for, updates_for}
 use Rattle.poad_answer.proofs.Worked.{asked_givens}
 use Rattle.poad_answer.proofs.Serving.{serves_then}
 

@@ -16,17 +16,17 @@ use Rattle.poad_answer.specs.Service.{Does, GivesReplies, IsReady}
 use Rattle.poad_answer.specs.Stop.{message_limit}
 use Rattle.poa_core.specs.declared.StepOut.TheVariants as step_out
 use Rattle.poa_core.specs.declared.Collected.TheVariants as collected
-use Rattle.replay_player.specs.Collecting.{CollectsAll}
-use Rattle.replay_player.proofs.Turning.{turn_apart}
+use Rattle.replay_run.specs.Collecting.{CollectsAll}
+use Rattle.replay_run.proofs.Turning.{turn_apart}
 use Rattle.session_laws.specs.Calls.{IsHeaded, IsReplyTo}
 use Rattle.session_laws.proofs.Calls.{each_none, each_same, each_more, given_answers}
-use Rattle.replay_player.proofs.Arrived.{open_still}
-use Rattle.replay_player.proofs.Collected.{Did, did, did_still, collected_one, collected_still}
+use Rattle.replay_run.proofs.Arrived.{open_still}
+use Rattle.replay_run.proofs.Collected.{Did, did, did_still, collected_one, collected_still}
 use Rattle.poa_base.specs.declared.Config.{Config}
 use Rattle.poa_base.specs.declared.Entry.TheVariants.{Arrive}
 use Rattle.giop_msg.specs.declared.Incoming.{Incoming}
 use Rattle.giop_msg.specs.declared.Incoming.TheVariants as incoming
-use Rattle.replay_player.proofs.Same.{Givens, Still, givens_life, givens_then, same_givens, still_collects}
+use Rattle.replay_run.proofs.Same.{Givens, Still, givens_life, givens_then, same_givens, still_collects}
 use Rattle.poad_answer.specs.declared.service.Service.{Service}
 use Rattle.poad_answer.specs.Run.{life_at_answer}
 use Rattle.poad_answer.specs.Serving.{GivesAsked, Works, works_out, works_on}

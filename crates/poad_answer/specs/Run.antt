@@ -8,7 +8,7 @@ use Rattle.poa_history.specs.Lifetime.{HasLifetime}
 use Rattle.history_laws.specs.Lasting.{KeepsUpdates, LeavesNothing}
 use Rattle.poa_history.specs.Life.{Life, with_entry, opened}
 use Rattle.poa_core.specs.Answers.{unadmitted}
-use Rattle.replay_player.specs.Opening.{life_at_first}
+use Rattle.replay_run.specs.Opening.{life_at_first}
 use Rattle.giop_frame.specs.Stream.{Framed}
 use Rattle.poad_files.specs.declared.status.Status.{Status}
 use Rattle.poad_files.specs.declared.status.Status.TheVariants.{Ok, Malformed, ReadFault, WriteFault, Truncated, Held, Limit, WantMemory, InputLimit}

@@ -15,7 +15,7 @@ use Rattle.poad_answer.specs.declared.stop.Stop.{Stop}
 use Rattle.poad_answer.specs.declared.stop.Stop.TheVariants.{Waits, Closed, Refused, Full, NoMemory}
 use Rattle.poa_base.specs.declared.Config.{Config}
 use Rattle.giop_answer.specs.Reply.{reply_bytes}
-use Rattle.replay_player.specs.Collecting.{CollectsAll}
+use Rattle.replay_run.specs.Collecting.{CollectsAll}
 use Rattle.poad_answer.specs.Serving.{MessageGives, GivesAsked, IsLegalRun, IsServing, Serves, Works}
 use Rattle.poad_answer.specs.Run.{life_at_answer}
 use Rattle.poad_answer.specs.Stop.{message_limit, StopsAt, IsBadMessage, IsClosing, IsRefused}

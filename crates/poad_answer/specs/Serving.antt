@@ -14,8 +14,8 @@ use Rattle.history_laws.specs.Lasting.{KeepsUpdates, LeavesNothing}
 use Rattle.poa_history.specs.Life.{Life, with_entry, opened}
 use Rattle.poa_core.specs.Answers.{is_taken}
 use Rattle.session_laws.specs.Calls.{Each, IsHeaded}
-use Rattle.replay_player.specs.Working.{IsIdle, Makes}
-use Rattle.replay_player.specs.Collecting.{CollectsAll}
+use Rattle.replay_run.specs.Working.{IsIdle, Makes}
+use Rattle.replay_run.specs.Collecting.{CollectsAll}
 
 -- the one connection stays, and each call that arrived is one of a message
 pub record IsServing (h : List Entry) : Type 0 where

@@ -2,7 +2,7 @@
 ghost use Rattle.std.specs.Prelude.{◌<◌, IfOk, OnOk};
 ghost use Rattle.giop_answer.specs.Reply.{reply_bytes};
 ghost use Rattle.poad_answer.specs.Serving.{IsServing};
-ghost use Rattle.replay_player.specs.Collecting.{CollectsAll};
+ghost use Rattle.replay_run.specs.Collecting.{CollectsAll};
 ghost use Rattle.poad_answer.specs.Serving.{Works};
 
 use poa_base::WantMemory;

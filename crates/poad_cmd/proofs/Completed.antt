@@ -49,7 +49,7 @@ use Rattle.poad_names.specs.declared.names_end.NamesEnd.TheVariants as names_end
 use Rattle.poad_names.specs.Run.{status_of}
 use Rattle.poad_names.specs.Whole.{IsWholeInput as IsWholeNaming}
 use Rattle.poad_names.proofs.Whole.{IsWell as IsWellNaming, names_well}
-use Rattle.replay_player.specs.declared.Full.{Full}
+use Rattle.replay_run.specs.declared.Full.{Full}
 
 -- why a file that is held such as it has to be may still not be taken
 abbrev pub IsUntaken : Status → Type 0

@@ -17,7 +17,7 @@ use Rattle.poa_history.specs.Life.{Life, with_entry}
 use Rattle.poa_history.specs.Turns.{activation_numbered, attempt, going_on, turn}
 use Rattle.poa_history.proofs.TurnIs.{admits, goes_on, mapped_by, takes, turned}
 use Rattle.poad_answer.specs.Serving.{Works, works_on, works_out}
-use Rattle.replay_player.specs.Collecting.{CollectsAll, collects_on, none_left}
+use Rattle.replay_run.specs.Collecting.{CollectsAll, collects_on, none_left}
 
 -- an entry that lets no call arrive, and fills no run
 record IsUncounted (e : Entry) : Type 0 where

@@ -12,7 +12,7 @@ use Rattle.poad_cmd.specs.Beginning.{IsBegun, OpensWith}
 use Rattle.poad_cmd.specs.Putting.{HoldsState, Keeps}
 use Rattle.poad_cmd.specs.Reopening.{CanBeWritten, OpensAfter}
 use Rattle.poad_files.specs.StateFile.{TakesState}
-use Rattle.replay_player.specs.Showing.{IsStoreText}
+use Rattle.replay_run.specs.Showing.{IsStoreText}
 
 module _ (name : List ℕ) (first : Life) (can : CanBeWritten first) (text : List ℕ) (is : IsStoreText first text) (slots : Slots) where
   reads_back : (content : List ℕ) → content ≡ text → rows_of content ≡ Ok (states slots) → (path : List (List ℕ)) (oid : List ℕ)

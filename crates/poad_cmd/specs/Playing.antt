@@ -5,7 +5,7 @@ use Rattle.outside.specs.Told.{IfTold}
 use Rattle.poa_base.specs.declared.Config.{Config}
 use Rattle.poa_base.specs.declared.limits.TheConstants.{CALLS}
 use Rattle.replay_script.specs.declared.Script.{Script}
-use Rattle.replay_player.specs.declared.full.Full.{Full}
+use Rattle.replay_run.specs.declared.full.Full.{Full}
 use Rattle.replay_run.specs.declared.Played.{Played}
 use Rattle.replay_run.specs.Playing.{IsPlayed}
 use Rattle.poad_files.specs.Showing.{GainsNothing}

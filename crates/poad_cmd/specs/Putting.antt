@@ -8,7 +8,7 @@ use Rattle.outside.specs.declared.keeping.Put.{Put}
 use Rattle.outside.specs.declared.keeping.Put.TheVariants.{Done, Failed}
 use Rattle.poa_history.specs.Life.{Life}
 use Rattle.poa_journal.specs.Journal.{journal_text}
-use Rattle.replay_player.specs.Showing.{IsStoreText}
+use Rattle.replay_run.specs.Showing.{IsStoreText}
 
 -- the text of the journal of a run
 abbrev pub journal_of : Life → List ℕ

@@ -10,8 +10,7 @@ use outside::{Files, Sink};
 use poa_base::Config;
 use poa_base::limits::CALLS;
 use poad_files::{Status, deliver, take_config, take_script};
-use replay_player::Full;
-use replay_run::replay;
+use replay_run::{Full, replay};
 use replay_script::Script;
 use std::alloc::Global;
 

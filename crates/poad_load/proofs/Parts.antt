@@ -7,10 +7,10 @@ use Rattle.poa_history.specs.Legal.{IsLegal}
 use Rattle.poa_history.specs.Lifetime.{HasLifetime}
 use Rattle.poa_history.specs.Life.{Life, givens_of}
 use Rattle.poa_history.specs.declared.Givens.{Givens}
-use Rattle.replay_player.specs.Opening.{life_at_first}
+use Rattle.replay_run.specs.Opening.{life_at_first}
 use Rattle.poa_core.specs.Stored.{Stores}
-use Rattle.replay_player.specs.Working.{Rests, Stays, Then}
-use Rattle.replay_player.proofs.Onward.{printed_then}
+use Rattle.replay_run.specs.Working.{Rests, Stays, Then}
+use Rattle.replay_run.proofs.PlayedOnward.{printed_then}
 use Rattle.replay_run.specs.World.{World}
 use Rattle.replay_run.specs.Playing.{IsOpening, OnLife, Plays}
 use Rattle.replay_run.specs.Quiet.{Gathers, HasGivens, IsInPlay, PutsBehind, Quietly, world_of}

@@ -2,7 +2,7 @@
 use Rattle.std.specs.Prelude.{◌≡◌, ℕ, zero, suc, List, ◌++◌}
 use Rattle.poa_base.specs.declared.Config.{Config}
 use Rattle.replay_script.specs.declared.Step.TheVariants as step
-use Rattle.replay_player.specs.Working.{Rests, Stays, Then}
+use Rattle.replay_run.specs.Working.{Rests, Stays, Then}
 use Rattle.replay_run.specs.World.{World}
 use Rattle.replay_run.specs.Playing.{IsOpening, OnLife, Plays}
 use Rattle.replay_run.specs.Quiet.{Gathers, Quietly}

@@ -8,13 +8,13 @@ use Rattle.history_standing.specs.Arrivals.{connections}
 use Rattle.poa_core.specs.Answers.{Collects}
 use Rattle.poa_core.specs.declared.Collected.TheVariants as collected
 use Rattle.replay_script.specs.declared.Step.{Step}
-use Rattle.replay_player.specs.declared.player.Player.{Player}
-use Rattle.replay_player.specs.Collecting.{CollectsAll}
-use Rattle.replay_player.specs.Working.{Rests}
-use Rattle.replay_player.specs.Effects.{Works}
-use Rattle.replay_player.proofs.Onward.{Onward, onward_then, printed_then}
-use Rattle.replay_player.proofs.Same.{Still, Same, Givens, same_givens, still_life, still_then, still_stays, still_collects, still_settles}
-use Rattle.replay_player.proofs.Collected.{collected_one}
+use Rattle.replay_run.specs.declared.player.Player.{Player}
+use Rattle.replay_run.specs.Collecting.{CollectsAll}
+use Rattle.replay_run.specs.Working.{Rests}
+use Rattle.replay_run.specs.Effects.{Works}
+use Rattle.replay_run.proofs.PlayedOnward.{Onward, onward_then, printed_then}
+use Rattle.replay_run.proofs.Same.{Still, Same, Givens, same_givens, still_life, still_then, still_stays, still_collects, still_settles}
+use Rattle.replay_run.proofs.Collected.{collected_one}
 use Rattle.replay_run.specs.declared.channel.Channel.{Channel}
 use Rattle.replay_run.specs.Playing.{OnLife, Plays}
 use Rattle.replay_run.specs.Keeping.{Keeps, Shows, world}

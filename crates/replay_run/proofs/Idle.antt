@@ -12,11 +12,11 @@ use Rattle.history_standing.specs.Stages.{is_abandoned}
 use Rattle.poa_history.specs.Turns.{turn}
 use Rattle.poa_history.specs.Life.{Life, with_entry}
 use Rattle.replay_run.specs.declared.channel.Channel.{Channel}
-use Rattle.replay_player.specs.Lines.{reply_line}
-use Rattle.replay_player.specs.Working.{AllIdle, Rests, rested, settles_on, Then, Stays}
-use Rattle.replay_player.specs.Collecting.{CollectsAll, none_left, collects_on}
+use Rattle.replay_run.specs.Lines.{reply_line}
+use Rattle.replay_run.specs.Working.{AllIdle, Rests, rested, settles_on, Then, Stays}
+use Rattle.replay_run.specs.Collecting.{CollectsAll, none_left, collects_on}
 use Rattle.replay_run.specs.Playing.{CollectsOf, CollectsEach}
-use Rattle.replay_player.proofs.Same.{still_settles}
+use Rattle.replay_run.proofs.Same.{still_settles}
 
 rests_idle : (life : Life) (text : List ℕ) (last : Life) → Rests life text last → AllIdle last
 rests_idle life text last (rested a idle) = idle

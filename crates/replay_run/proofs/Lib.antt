@@ -1,3 +1,11 @@
+pub mod Turning
+pub mod Same
+pub mod PlayedOnward
+pub mod Turned
+pub mod Collected
+pub mod Arrived
+pub mod Given
+pub mod Asked
 pub mod Onward
 pub mod Seats
 pub mod Idle

@@ -6,14 +6,14 @@ use Rattle.history_standing.specs.Arrivals.{connections}
 use Rattle.poa_history.specs.Life.{Life}
 use Rattle.replay_script.specs.declared.ScriptStep.{ScriptStep}
 use Rattle.replay_run.specs.declared.channel.Channel.{Channel}
-use Rattle.replay_player.specs.declared.player.Player.{Player}
+use Rattle.replay_run.specs.declared.player.Player.{Player}
 use Rattle.replay_run.specs.Playing.{AreFresh, IsFresh, CollectsEach, CollectsOf, Plays, PlaysAll}
 use Rattle.replay_run.specs.Keeping.{AllEntered, IsNew, IsCounted, Shows, world}
-use Rattle.replay_player.specs.Effects.{Works}
-use Rattle.replay_player.proofs.Same.{Still}
-use Rattle.replay_player.proofs.Onward.{works_join}
+use Rattle.replay_run.specs.Effects.{Works}
+use Rattle.replay_run.proofs.Same.{Still}
+use Rattle.replay_run.proofs.PlayedOnward.{works_join}
 use Rattle.replay_run.proofs.Onward.{shows_join}
-use Rattle.replay_player.specs.Working.{Then}
+use Rattle.replay_run.specs.Working.{Then}
 
 -- one connection more
 pub fresh_more : (names : List (List ℕ)) (channels : List Channel) (name : List ℕ) (channel : Channel) → AreFresh names channels → IsFresh name channel

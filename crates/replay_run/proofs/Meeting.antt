@@ -5,13 +5,13 @@ use Rattle.poa_base.specs.declared.Entry.TheVariants.{Entered}
 use Rattle.history_standing.specs.Arrivals.{arrivals, arrived_bytes, connections}
 use Rattle.poa_history.specs.Life.{Life, with_entry}
 use Rattle.replay_run.specs.declared.channel.Channel.{Channel}
-use Rattle.replay_player.specs.declared.full.Full.{Full}
-use Rattle.replay_player.specs.declared.player.Player.{Player}
+use Rattle.replay_run.specs.declared.full.Full.{Full}
+use Rattle.replay_run.specs.declared.player.Player.{Player}
 use Rattle.replay_run.specs.World.{World, Talk}
-use Rattle.replay_player.specs.Lines.{limit_line}
+use Rattle.replay_run.specs.Lines.{limit_line}
 use Rattle.replay_run.specs.Talking.{Enters, OnChannel, OnPlace, OnLine, entered, turned_away, numbered, has_room, Carries}
 use Rattle.replay_run.specs.Keeping.{Keeps, Meets, knows, enters, refuses, Shows, Tells, talk, world}
-use Rattle.replay_player.proofs.Same.{Still, still_life}
+use Rattle.replay_run.proofs.Same.{Still, still_life}
 use Rattle.replay_run.proofs.Seats.{keeps_still}
 
 -- a place that is set to what it has

@@ -1,10 +1,10 @@
 -- The same of a connection, and of the world.
 use Rattle.std.proofs.Common.{ℕ, List, [], ◌++◌, refl, sym, ◌∙◌, append-nil}
 use Rattle.replay_run.specs.declared.channel.Channel.{Channel}
-use Rattle.replay_player.specs.declared.player.Player.{Player}
+use Rattle.replay_run.specs.declared.player.Player.{Player}
 use Rattle.replay_run.specs.World.{World, Talk}
 use Rattle.replay_run.specs.Keeping.{Tells, Shows, talk, world}
-use Rattle.replay_player.proofs.Onward.{Onward, onward_then, printed_then}
+use Rattle.replay_run.proofs.PlayedOnward.{Onward, onward_then, printed_then}
 
 module _ (P Q R : Talk → List ℕ → Talk → Type 0) (a b c : Player) (x y z : Channel) where
   pub tells_join : ((s t : List ℕ) → P (talk a x) s (talk b y) → Q (talk b y) t (talk c z) → R (talk a x) (s ++ t) (talk c z)) → Tells P a b x y

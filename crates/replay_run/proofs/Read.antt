@@ -1,27 +1,27 @@
 -- The messages of a connection, as the player reads them.
 use Rattle.std.proofs.Common.{◌≡◌, ℕ, ◌+◌, length, Bool, true, false, ◌||◌, not, option_map, List, [], ◌++◌, refl, sym, ap, ◌∙◌, subst, append-nil}
 use Rattle.replay_run.specs.declared.channel.Channel.{Channel}
-use Rattle.replay_player.specs.declared.player.Player.{Player}
+use Rattle.replay_run.specs.declared.player.Player.{Player}
 use Rattle.poa_base.specs.declared.Call.{Call}
 use Rattle.poa_base.specs.declared.Call.TheVariants.{Line}
 use Rattle.poa_base.specs.declared.Command.{Command}
 use Rattle.admin_line.specs.Reading.{command_of_line}
 use Rattle.poa_history.specs.Life.{Life}
 use Rattle.replay_run.specs.World.{Talk}
-use Rattle.replay_player.specs.Working.{Either, Stays}
+use Rattle.replay_run.specs.Working.{Either, Stays}
 use Rattle.giop_frame.specs.declared.Next.TheVariants as next
 use Rattle.giop_frame.specs.declared.Why.{Why}
 use Rattle.giop_frame.specs.Framer.{FramerAnswers}
 use Rattle.giop_frame.specs.Framing.{Framing}
 use Rattle.giop_frame.specs.Stream.{Framed}
 use Rattle.poa_core.specs.Answers.{filled_at}
-use Rattle.replay_player.specs.Lines.{bad_line}
-use Rattle.replay_player.specs.Effects.{numbers, KnowsFilled}
+use Rattle.replay_run.specs.Lines.{bad_line}
+use Rattle.replay_run.specs.Effects.{numbers, KnowsFilled}
 use Rattle.replay_run.specs.Reading.{ReadsOn, waits, fails, stops, reads_on, Handles, ReadsBytes, Feeds, with_fed}
-use Rattle.replay_player.specs.Calling.{after_call, call_text}
+use Rattle.replay_run.specs.Calling.{after_call, call_text}
 use Rattle.replay_run.specs.Talking.{Commands, TakesLine, is_sized}
 use Rattle.replay_run.specs.Keeping.{Tells, ReadsOne, ReadsNext, Puts, talk}
-use Rattle.replay_player.proofs.Onward.{Onward}
+use Rattle.replay_run.proofs.PlayedOnward.{Onward}
 
 -- a message in front of others
 pub one_onward : (conn : ℕ) (a b : Player) (x y : Channel) → Tells (ReadsOne conn) a b x y → Tells (Onward (ReadsOn conn)) a b x y

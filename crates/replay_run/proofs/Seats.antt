@@ -21,17 +21,17 @@ use Rattle.giop_msg.specs.declared.MsgFault.{MsgFault}
 use Rattle.replay_run.specs.declared.channel.Channel.{Channel}
 use Rattle.replay_run.specs.declared.line.Line.{Line as LineData}
 use Rattle.replay_run.specs.declared.line.Line.TheVariants as line
-use Rattle.replay_player.specs.declared.player.Player.{Player}
+use Rattle.replay_run.specs.declared.player.Player.{Player}
 use Rattle.replay_run.specs.World.{Talk}
-use Rattle.replay_player.specs.Lines.{reply_line}
-use Rattle.replay_player.specs.Working.{Either, Stays}
-use Rattle.replay_player.specs.Calling.{after_call}
+use Rattle.replay_run.specs.Lines.{reply_line}
+use Rattle.replay_run.specs.Working.{Either, Stays}
+use Rattle.replay_run.specs.Calling.{after_call}
 use Rattle.replay_run.specs.Reading.{did, dropped, with_stream, with_fed, Handles, ReadsOn, waits, fails, stops, reads_on, Feeds, ReadsBytes}
 use Rattle.replay_run.specs.Talking.{Commands, TakesLine, is_sized, TalkEnds, Leaves, left, Collects, Talks, numbered}
-use Rattle.replay_player.specs.Effects.{numbers, KnowsFilled}
+use Rattle.replay_run.specs.Effects.{numbers, KnowsFilled}
 use Rattle.replay_run.specs.Keeping.{Keeps, IsSeated, IsCounted, Meets, knows, enters, refuses, talk}
-use Rattle.replay_player.proofs.Same.{Same, Still, Givens, same_givens, same_life, same_then, still_collects}
-use Rattle.replay_player.proofs.Arrived.{same_call}
+use Rattle.replay_run.proofs.Same.{Same, Still, Givens, same_givens, same_life, same_then, still_collects}
+use Rattle.replay_run.proofs.Arrived.{same_call}
 
 -- what lets no call arrive
 pub said_still : (old new : Life) → Still old new → Each IsSaid old.history → Each IsSaid new.history

@@ -7,12 +7,12 @@ use Rattle.replay_script.specs.declared.Step.{Step}
 use Rattle.replay_script.specs.declared.Step.TheVariants as step
 use Rattle.replay_run.specs.declared.channel.Channel.{Channel}
 use Rattle.replay_run.specs.World.{World, Talk}
-use Rattle.replay_player.specs.Working.{Turns, Runs, ByWorker}
+use Rattle.replay_run.specs.Working.{Turns, Runs, ByWorker}
 use Rattle.replay_run.specs.Reading.{Feeds}
-use Rattle.replay_player.specs.Asking.{asked}
+use Rattle.replay_run.specs.Asking.{asked}
 use Rattle.replay_run.specs.Talking.{Carries, Enters, OnChannel, OnPlace, OnLine, Commands, TalkEnds, Collects, entered, numbered, has_room}
 use Rattle.replay_run.specs.Playing.{OnLife, Plays, PlaysAll}
-use Rattle.replay_player.proofs.Same.{Givens, givens_life, givens_then, same_givens, still_worker_turns, still_worker_runs}
+use Rattle.replay_run.proofs.Same.{Givens, givens_life, givens_then, same_givens, still_worker_turns, still_worker_runs}
 use Rattle.replay_run.proofs.Seats.{feeds_givens, commands_givens, ends_givens, collects_givens}
 
 -- where nothing of the run changes

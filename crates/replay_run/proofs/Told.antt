@@ -1,13 +1,13 @@
 -- The line of a connection that collects.
 use Rattle.std.proofs.Common.{ℕ, option_map, refl, sym, ap, ◌∙◌}
-use Rattle.replay_player.specs.declared.player.Player.{Player}
-use Rattle.replay_player.specs.Lines.{reply_line}
-use Rattle.replay_player.specs.Collecting.{CollectsAll}
+use Rattle.replay_run.specs.declared.player.Player.{Player}
+use Rattle.replay_run.specs.Lines.{reply_line}
+use Rattle.replay_run.specs.Collecting.{CollectsAll}
 use Rattle.replay_run.specs.Talking.{Collects as Collecting}
-use Rattle.replay_player.specs.Effects.{numbers, Works}
+use Rattle.replay_run.specs.Effects.{numbers, Works}
 use Rattle.replay_run.specs.declared.channel.Channel.{Channel}
 use Rattle.replay_run.specs.Keeping.{Tells}
-use Rattle.replay_player.proofs.Same.{still_collects}
+use Rattle.replay_run.proofs.Same.{still_collects}
 
 -- the replies of a connection, collected by its line
 pub collects_told : (conn : ℕ) (old new : Player) (channel : Channel) → Works (CollectsAll (reply_line channel.name) conn) old new

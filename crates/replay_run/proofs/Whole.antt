@@ -18,26 +18,26 @@ use Rattle.history_standing.specs.Stages.{is_abandoned}
 use Rattle.poa_history.specs.Turns.{turn}
 use Rattle.replay_run.proofs.Idle.{idle_at_end}
 use Rattle.replay_run.specs.declared.channel.Channel.{Channel}
-use Rattle.replay_player.specs.declared.full.Full.{Full}
+use Rattle.replay_run.specs.declared.full.Full.{Full}
 use Rattle.replay_run.specs.declared.played.Played.{Played}
-use Rattle.replay_player.specs.declared.player.Player.{Player}
-use Rattle.replay_player.specs.Lines.{reply_line}
+use Rattle.replay_run.specs.declared.player.Player.{Player}
+use Rattle.replay_run.specs.Lines.{reply_line}
 use Rattle.replay_run.specs.World.{World, Talk}
-use Rattle.replay_player.specs.Working.{Then, Rests}
+use Rattle.replay_run.specs.Working.{Then, Rests}
 use Rattle.replay_run.specs.Talking.{OnLine, entered, turned_away, Carries, Collects}
 use Rattle.replay_run.specs.Playing.{AreFresh, CollectsEach, CollectsOf, IsPlayed, OnLife, Plays, PlaysAll, IsOpening, Outputs}
-use Rattle.replay_player.specs.Opening.{life_at_first}
-use Rattle.replay_player.specs.Effects.{numbers, PlayerPrints, Works}
+use Rattle.replay_run.specs.Opening.{life_at_first}
+use Rattle.replay_run.specs.Effects.{numbers, PlayerPrints, Works}
 use Rattle.replay_run.specs.Keeping.{IsAtFirst, IsNew, Keeps, Shows, world, IsSeated}
 use Rattle.poa_base.specs.declared.Datum.{Datum}
-use Rattle.replay_player.specs.Asking.{asked}
+use Rattle.replay_run.specs.Asking.{asked}
 use Rattle.replay_run.specs.Reading.{Feeds}
 use Rattle.session_laws.specs.Calls.{Each, IsSaid}
 use Rattle.session_laws.proofs.Calls.{each_none}
 use Rattle.replay_run.proofs.Seats.{keeps_still}
 use Rattle.replay_run.proofs.Steps.{plays_givens}
-use Rattle.replay_player.proofs.Given.{legal_for, run_for, lifetime_for, undone_for, updates_for}
-use Rattle.replay_player.proofs.Same.{Still, Givens, givens_then, same_givens, still_life, still_then, still_stays, still_settles, still_collects}
+use Rattle.replay_run.proofs.Given.{legal_for, run_for, lifetime_for, undone_for, updates_for}
+use Rattle.replay_run.proofs.Same.{Still, Givens, givens_then, same_givens, still_life, still_then, still_stays, still_settles, still_collects}
 
 -- a step of the workers
 pub life_shows : (P : Life → List ℕ → Life → Type 0) (old new : Player) (xs : List Channel) → Works P old new → Shows (OnLife P) old new xs xs

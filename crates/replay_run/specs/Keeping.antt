@@ -11,13 +11,13 @@ use Rattle.poa_history.specs.Legal.{has_left}
 use Rattle.poa_history.specs.Life.{with_entry}
 use Rattle.session_laws.specs.Calls.{Each, IsSaid}
 use Rattle.replay_run.specs.declared.channel.Channel.{Channel}
-use Rattle.replay_player.specs.declared.player.Player.{Player}
+use Rattle.replay_run.specs.declared.player.Player.{Player}
 use Rattle.replay_run.specs.World.{World, Talk}
-use Rattle.replay_player.specs.Lines.{limit_line}
+use Rattle.replay_run.specs.Lines.{limit_line}
 use Rattle.replay_run.specs.Reading.{ReadsOn, Handles, Grows, with_stream}
 use Rattle.replay_run.specs.Talking.{has_room, numbered}
-use Rattle.replay_player.specs.Opening.{life_at_first}
-use Rattle.replay_player.specs.Effects.{KnowsFilled}
+use Rattle.replay_run.specs.Opening.{life_at_first}
+use Rattle.replay_run.specs.Effects.{KnowsFilled}
 use Rattle.giop_frame.specs.Stream.{Framed}
 use Rattle.giop_frame.specs.Framing.{Framing}
 

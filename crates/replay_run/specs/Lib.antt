@@ -1,3 +1,11 @@
+pub mod Lines
+pub mod Opening
+pub mod Working
+pub mod Calling
+pub mod Collecting
+pub mod Showing
+pub mod Asking
+pub mod Effects
 pub mod World
 pub mod Reading
 pub mod Talking

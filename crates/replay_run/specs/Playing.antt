@@ -14,18 +14,18 @@ use Rattle.replay_script.specs.declared.ScriptStep.{ScriptStep}
 use Rattle.replay_script.specs.declared.Step.{Step as StepData}
 use Rattle.replay_script.specs.declared.Step.TheVariants as step
 use Rattle.replay_run.specs.declared.channel.Channel.{Channel}
-use Rattle.replay_player.specs.declared.full.Full.{Full}
+use Rattle.replay_run.specs.declared.full.Full.{Full}
 use Rattle.replay_run.specs.declared.played.Played.{Played}
 use Rattle.replay_run.specs.World.{World}
-use Rattle.replay_player.specs.Lines.{reply_line}
-use Rattle.replay_player.specs.Working.{Turns, Runs, ByWorker, Then, Stays, Rests}
+use Rattle.replay_run.specs.Lines.{reply_line}
+use Rattle.replay_run.specs.Working.{Turns, Runs, ByWorker, Then, Stays, Rests}
 use Rattle.replay_run.specs.Reading.{Feeds}
-use Rattle.replay_player.specs.Asking.{asked}
+use Rattle.replay_run.specs.Asking.{asked}
 use Rattle.replay_run.specs.Talking.{OnLine, Commands, TalkEnds, Collects}
-use Rattle.replay_player.specs.Collecting.{CollectsAll}
-use Rattle.replay_player.specs.Effects.{numbers}
-use Rattle.replay_player.specs.Showing.{IsStoreText, history_text}
-use Rattle.replay_player.specs.Opening.{life_at_first}
+use Rattle.replay_run.specs.Collecting.{CollectsAll}
+use Rattle.replay_run.specs.Effects.{numbers}
+use Rattle.replay_run.specs.Showing.{IsStoreText, history_text}
+use Rattle.replay_run.specs.Opening.{life_at_first}
 
 -- what the workers do is done
 pub record OnLife (P : Life → List ℕ → Life → Type 0) (before : World) (text : List ℕ) (after : World) : Type 0 where

@@ -5,8 +5,8 @@ use Rattle.poa_base.specs.declared.Reply.{Reply}
 use Rattle.poa_base.specs.declared.Reply.TheVariants.{Answer}
 use Rattle.giop_answer.specs.Reply.{reply_bytes}
 use Rattle.poa_history.specs.Life.{Life, givens_of}
-use Rattle.replay_player.specs.Collecting.{CollectsAll}
-use Rattle.replay_player.specs.Working.{Stays, Then}
+use Rattle.replay_run.specs.Collecting.{CollectsAll}
+use Rattle.replay_run.specs.Working.{Stays, Then}
 use Rattle.replay_run.specs.World.{World}
 use Rattle.replay_run.specs.Playing.{OnLife}
 use Rattle.replay_run.specs.Keeping.{Keeps, world}

@@ -11,9 +11,9 @@ use Rattle.giop_msg.specs.declared.Incoming.TheVariants as incoming
 use Rattle.giop_msg.specs.declared.MsgFault.{MsgFault}
 use Rattle.giop_msg.specs.Call.{CallOf}
 use Rattle.replay_run.specs.World.{Talk}
-use Rattle.replay_player.specs.Lines.{bad_line}
-use Rattle.replay_player.specs.Working.{Either, Stays}
-use Rattle.replay_player.specs.Calling.{after_call, call_text}
+use Rattle.replay_run.specs.Lines.{bad_line}
+use Rattle.replay_run.specs.Working.{Either, Stays}
+use Rattle.replay_run.specs.Calling.{after_call, call_text}
 
 -- no more bytes of the connection are read
 abbrev pub dropped : Talk → Talk

@@ -9,13 +9,13 @@ use Rattle.poa_history.specs.Life.{Life, with_entry}
 use Rattle.replay_run.specs.declared.channel.Channel.{Channel}
 use Rattle.replay_run.specs.declared.line.Line.{Line as LineData}
 use Rattle.replay_run.specs.declared.line.Line.TheVariants as line
-use Rattle.replay_player.specs.declared.full.Full.{Full}
+use Rattle.replay_run.specs.declared.full.Full.{Full}
 use Rattle.replay_run.specs.World.{World, Talk}
-use Rattle.replay_player.specs.Lines.{limit_line, reply_line}
-use Rattle.replay_player.specs.Working.{Either, Stays}
-use Rattle.replay_player.specs.Calling.{after_call, call_text}
+use Rattle.replay_run.specs.Lines.{limit_line, reply_line}
+use Rattle.replay_run.specs.Working.{Either, Stays}
+use Rattle.replay_run.specs.Calling.{after_call, call_text}
 use Rattle.replay_run.specs.Reading.{Feeds}
-use Rattle.replay_player.specs.Collecting.{CollectsAll}
+use Rattle.replay_run.specs.Collecting.{CollectsAll}
 
 -- an administrator's line has so many bytes; a script has no other
 abbrev pub is_sized : List ℕ → Bool

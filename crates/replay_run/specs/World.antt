@@ -2,7 +2,7 @@
 use Rattle.std.specs.Prelude.{List, Option}
 use Rattle.poa_history.specs.Life.{Life}
 use Rattle.replay_run.specs.declared.channel.Channel.{Channel}
-use Rattle.replay_player.specs.declared.full.Full.{Full}
+use Rattle.replay_run.specs.declared.full.Full.{Full}
 
 pub record World : Type 0 where
   pub life : Life

@@ -1,15 +1,15 @@
 //! The end of a script.
 ghost use Rattle.std.specs.Prelude.{◌≡◌, ◌<◌, ℕ, OnOk};
 ghost use Rattle.history_standing.specs.Arrivals.{connections};
-ghost use Rattle.replay_player.specs.Working.{Rests, Then};
+ghost use Rattle.replay_run.specs.Working.{Rests, Then};
 ghost use Rattle.replay_run.specs.Playing.{CollectsEach, CollectsOf};
 ghost use Rattle.session_laws.specs.Calls.{Each, IsSaid};
 ghost use Rattle.replay_run.specs.Keeping.{AllEntered, Keeps};
-ghost use Rattle.replay_player.specs.Effects.{Works};
+ghost use Rattle.replay_run.specs.Effects.{Works};
 
 use crate::channel::Channel;
+use crate::player::Player;
 use poa_base::WantMemory;
-use replay_player::Player;
 use std::alloc::Global;
 
 /// All workers run until none has anything to do, and then each connection's replies are collected.

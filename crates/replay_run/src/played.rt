@@ -1,6 +1,6 @@
 //! What comes of a script.
+use crate::full::Full;
 use poa_base::Bytes;
-use replay_player::Full;
 
 /// What a script printed, how many calls were unadmitted at its end, and where the run was full.
 #[derive(Drop)]

@@ -3,17 +3,17 @@ ghost use Rattle.std.specs.Prelude.{◌≡◌, ◌<◌, ◌≤◌, ◌++◌, ℕ
 ghost use Rattle.poa_policy.specs.Kept.{KeepsRules};
 ghost use Rattle.session_laws.specs.Calls.{Each, IsGivenTo, IsSaid};
 ghost use Rattle.history_standing.specs.Arrivals.{connections};
-ghost use Rattle.replay_player.specs.Collecting.{CollectsAll};
-ghost use Rattle.replay_player.specs.Working.{Rests};
+ghost use Rattle.replay_run.specs.Collecting.{CollectsAll};
+ghost use Rattle.replay_run.specs.Working.{Rests};
 ghost use Rattle.replay_run.specs.Keeping.{AllEntered};
 ghost use Rattle.replay_run.specs.Playing.{IsOpening, OnLife, Plays};
 ghost use Rattle.replay_run.specs.Quiet.{Gathers, GathersEach, GathersOf, HasGivens, IsInPlay, PutsBehind, Quietly, message_of, world_of};
 
 use crate::channel::{Channel, channels_of};
+use crate::player::Player;
 use crate::replaying::{play, player_of};
 use poa_base::{Config, Head, Name, Reply, WantMemory};
 use poa_core::{Collected, Core};
-use replay_player::Player;
 use replay_script::Step;
 use session_laws::put_reply;
 use std::alloc::Global;

@@ -6,10 +6,11 @@ ghost use Rattle.replay_run.specs.Reading.{Handles, ReadsOn, Feeds};
 ghost use Rattle.replay_run.specs.Keeping.{IsCounted, Puts, ReadsNext, Tells};
 
 use crate::channel::Channel;
+use crate::player::Player;
+use crate::printing::print_bad;
 use giop_frame::{Message, Next};
 use giop_msg::{Incoming, MsgFault, read_call};
 use poa_base::WantMemory;
-use replay_player::{Player, print_bad};
 use std::alloc::Global;
 
 impl Channel {

@@ -11,15 +11,16 @@ ghost use Rattle.poa_policy.specs.Kept.{KeepsRules};
 ghost use Rattle.replay_run.specs.Playing.{IsPlayed, Plays, PlaysAll};
 ghost use Rattle.replay_run.specs.Keeping.{Keeps, Shows, IsAtFirst};
 
+use crate::asking::request;
 use crate::channel::{Channel, channels_of};
 use crate::finishing::finish;
 use crate::line::Line;
 use crate::played::Played;
+use crate::player::Player;
 use crate::talking::take_line;
 use history_laws::opening_laws::collecting_changes_no_turn;
 use poa_base::{Bytes, Config, Store, WantMemory};
 use poa_core::Core;
-use replay_player::{Player, request};
 use replay_script::{Script, ScriptStep, Step};
 use std::alloc::Global;
 

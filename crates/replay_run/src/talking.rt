@@ -7,11 +7,13 @@ ghost use Rattle.session_laws.specs.Calls.{Each, IsSaid};
 ghost use Rattle.replay_run.specs.Keeping.{IsCounted, Keeps, Meets, Shows, Tells};
 
 use crate::channel::Channel;
+use crate::full::Full;
 use crate::line::Line;
+use crate::player::Player;
+use crate::printing::print_limit;
 use admin_line::read_line;
 use poa_base::{Call, WantMemory};
 use poa_core::EnterFault;
-use replay_player::{Full, Player, print_limit};
 use std::alloc::Global;
 
 /// The most bytes that an administrator's line has.

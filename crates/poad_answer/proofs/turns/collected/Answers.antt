@@ -1,7 +1,7 @@
 use Rattle.std.proofs.Common.{List, ℕ, [], append-nil, subst}
 use Rattle.giop_answer.specs.Reply.{reply_bytes}
-use Rattle.replay_player.specs.Collecting.{CollectsAll}
-use Rattle.replay_player.proofs.Collected.{collected_none}
+use Rattle.replay_run.specs.Collecting.{CollectsAll}
+use Rattle.replay_run.proofs.Collected.{collected_none}
 use Rattle.poad_answer.proofs.Worked.{given_to, replies_more, serving_collected}
 use Rattle.poad_answer.proofs.turns.collected.Goals as goal
 

@@ -2,7 +2,7 @@ use Rattle.std.proofs.Common.{List, ℕ, ◌++◌}
 use Rattle.giop_answer.specs.Reply.{reply_bytes}
 use Rattle.poad_answer.specs.Serving.{IsServing}
 use Rattle.poa_history.specs.Life.{Life}
-use Rattle.replay_player.specs.Collecting.{CollectsAll}
+use Rattle.replay_run.specs.Collecting.{CollectsAll}
 use Rattle.poad_answer.proofs.turns.collected.Given as goal
 
 -- the replies so far, with those that follow, are all

@@ -2,7 +2,7 @@ use Rattle.replay_run.proofs.Listed.{Ahead}
 use Rattle.replay_run.specs.Playing.{CollectsEach}
 use Rattle.session_laws.specs.Calls.{Each, IsSaid}
 use Rattle.replay_run.specs.Keeping.{AllEntered}
-use Rattle.replay_player.specs.Effects.{Works}
+use Rattle.replay_run.specs.Effects.{Works}
 use Rattle.replay_run.proofs.finishing.collect_each.Given as goal
 
 -- the connections so far are the front of all

@@ -1,8 +1,8 @@
 use Rattle.std.proofs.Common.{refl}
-use Rattle.replay_player.specs.Working.{Rests, Then}
+use Rattle.replay_run.specs.Working.{Rests, Then}
 use Rattle.replay_run.specs.Playing.{CollectsEach}
-use Rattle.replay_player.proofs.Onward.{works_join}
-use Rattle.replay_player.proofs.Same.{still_settles}
+use Rattle.replay_run.proofs.PlayedOnward.{works_join}
+use Rattle.replay_run.proofs.Same.{still_settles}
 use Rattle.replay_run.proofs.Listed.{entered_still}
 use Rattle.replay_run.proofs.Seats.{said_still}
 use Rattle.replay_run.proofs.finishing.finish.Goals as goal

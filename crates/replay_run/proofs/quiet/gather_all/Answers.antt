@@ -1,6 +1,6 @@
 use Rattle.session_laws.proofs.Calls.{given_said}
-use Rattle.replay_player.proofs.Collected.{collected_none, collected_still}
-use Rattle.replay_player.proofs.Same.{Still}
+use Rattle.replay_run.proofs.Collected.{collected_none, collected_still}
+use Rattle.replay_run.proofs.Same.{Still}
 use Rattle.replay_run.specs.Quiet.{message_of}
 use Rattle.replay_run.proofs.Gathered.{entered_conn, gathers_end, gathers_one}
 use Rattle.replay_run.proofs.Seats.{said_still}

@@ -1,8 +1,8 @@
 use Rattle.std.proofs.Common.{◌<◌}
 use Rattle.history_standing.specs.Arrivals.{connections}
 use Rattle.session_laws.specs.Calls.{Each, IsSaid}
-use Rattle.replay_player.specs.Collecting.{CollectsAll}
-use Rattle.replay_player.proofs.Onward.{Onward}
+use Rattle.replay_run.specs.Collecting.{CollectsAll}
+use Rattle.replay_run.proofs.PlayedOnward.{Onward}
 use Rattle.replay_run.specs.Quiet.{PutsBehind, message_of}
 use Rattle.replay_run.proofs.quiet.gather_all.Given as goal
 

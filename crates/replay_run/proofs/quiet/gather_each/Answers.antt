@@ -1,6 +1,6 @@
 use Rattle.std.proofs.Common.{◌≡◌, Some, length, slice_get, refl}
 use Rattle.std.proofs.lemmas.Option.{slice_get_read}
-use Rattle.replay_player.proofs.Same.{Still}
+use Rattle.replay_run.proofs.Same.{Still}
 use Rattle.replay_run.proofs.Gathered.{each_end, each_more, still_of}
 use Rattle.replay_run.proofs.Listed.{entered_still}
 use Rattle.replay_run.proofs.Seats.{said_still}

@@ -1,6 +1,6 @@
 use Rattle.std.proofs.Common.{◌∙◌}
-use Rattle.replay_player.specs.Working.{Turns, Runs, ByWorker}
-use Rattle.replay_player.proofs.Same.{still_worker_turns, still_worker_runs}
+use Rattle.replay_run.specs.Working.{Turns, Runs, ByWorker}
+use Rattle.replay_run.proofs.Same.{still_worker_turns, still_worker_runs}
 use Rattle.replay_run.proofs.Seats.{keeps_still}
 use Rattle.replay_run.proofs.Whole.{on_ok, life_shows, step_shows, ask_shows, keeps_printed}
 use Rattle.replay_run.proofs.replaying.play.Goals as goal

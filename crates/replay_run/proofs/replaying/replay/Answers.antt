@@ -1,10 +1,10 @@
 use Rattle.std.proofs.Common.{◌≡◌, List, ℕ, rules, subst}
 use Rattle.replay_script.specs.declared.ScriptStep.{ScriptStep}
 use Rattle.replay_run.specs.declared.channel.Channel.{Channel}
-use Rattle.replay_player.specs.Working.{Rests, Then}
+use Rattle.replay_run.specs.Working.{Rests, Then}
 use Rattle.replay_run.specs.Playing.{AreFresh, CollectsEach, PlaysAll}
 use Rattle.replay_run.specs.Keeping.{Shows}
-use Rattle.replay_player.specs.Effects.{Works}
+use Rattle.replay_run.specs.Effects.{Works}
 use Rattle.replay_run.proofs.Whole.{keeps_first, is_played}
 use Rattle.replay_run.proofs.replaying.replay.Goals as goal
 

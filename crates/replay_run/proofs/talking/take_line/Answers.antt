@@ -4,7 +4,7 @@ use Rattle.std.proofs.lemmas.Option.{slice_get_read}
 use Rattle.replay_run.specs.Talking.{Talks}
 use Rattle.replay_run.specs.Keeping.{Keeps, Meets, talk}
 use Rattle.replay_run.specs.declared.channel.Channel.{Channel}
-use Rattle.replay_player.specs.declared.player.Player.{Player}
+use Rattle.replay_run.specs.declared.player.Player.{Player}
 use Rattle.replay_run.proofs.Seats.{Seat, seat_met, moves_talked, keeps_line}
 use Rattle.replay_run.proofs.Meeting.{line_told, line_refused, keeps_refused}
 use Rattle.replay_run.proofs.talking.take_line.Goals as goal

@@ -1,7 +1,7 @@
 use Rattle.std.proofs.Common.{List, ℕ, subst}
-use Rattle.replay_player.specs.Lines.{reply_line}
-use Rattle.replay_player.specs.Collecting.{CollectsAll}
-use Rattle.replay_player.specs.Effects.{Works}
+use Rattle.replay_run.specs.Lines.{reply_line}
+use Rattle.replay_run.specs.Collecting.{CollectsAll}
+use Rattle.replay_run.specs.Effects.{Works}
 use Rattle.replay_run.proofs.Told.{collects_told}
 use Rattle.replay_run.proofs.channel.Channel.collect.Goals as goal
 

@@ -1,7 +1,7 @@
 use Rattle.poa_history.specs.Legal.{IsOpen}
 use Rattle.replay_run.specs.Reading.{ReadsOn}
 use Rattle.replay_run.specs.Keeping.{Tells, IsCounted}
-use Rattle.replay_player.proofs.Onward.{Onward}
+use Rattle.replay_run.proofs.PlayedOnward.{Onward}
 use Rattle.replay_run.proofs.channel.Channel.read_on.Given as goal
 
 -- the messages so far are the front of what is read

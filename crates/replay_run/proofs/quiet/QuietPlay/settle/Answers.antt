@@ -1,5 +1,5 @@
 use Rattle.std.proofs.Common.{refl}
-use Rattle.replay_player.proofs.Same.{still_settles}
+use Rattle.replay_run.proofs.Same.{still_settles}
 use Rattle.replay_run.proofs.Gathered.{keeps_cleared, settled, still_givens}
 use Rattle.replay_run.proofs.Seats.{keeps_still}
 use Rattle.replay_run.proofs.quiet.QuietPlay.settle.Goals as goal
