@@ -28,6 +28,7 @@ mod servant;
 mod session;
 mod stage;
 mod store;
+mod templates;
 mod verdict;
 
 pub use answer::{Answer, Reason};
@@ -58,4 +59,5 @@ pub use session::{Session, SessionEnd};
 pub use stage::{Cause, Point};
 pub use std::alloc::AllocError as WantMemory;
 pub use store::{Row, Store, stores_change_one_place};
+pub use templates::Templates;
 pub use verdict::Verdict;
