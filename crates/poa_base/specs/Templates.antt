@@ -1,5 +1,5 @@
 -- The templates of a configuration, found by path.
-use Rattle.std.specs.Prelude.{◌≡◌, ℕ, ◌+◌, ◌*◌, ◌%◌, ◌^◌, Bool, List, Option, None, Some, find, fold, nat_eq}
+use Rattle.std.specs.Prelude.{◌≡◌, ℕ, ◌+◌, ◌*◌, ◌%◌, ◌^◌, Bool, List, Option, find, fold, nat_eq}
 use Rattle.std.specs.BTreeMap as tree
 use Rattle.std.specs.BTreeMap.{BTreeMap}
 use Rattle.std.specs.Cmp.Lexicographic.{pointwise}
@@ -11,7 +11,7 @@ use Rattle.poa_base.specs.declared.config.AdapterConf.{AdapterConf}
 abbrev pub of_path : List AdapterConf → List (List ℕ) → Option AdapterConf
 of_path entries path = find (λ a. pointwise (pointwise nat_eq) a.path path) entries
 
--- a number that equal paths share, and others seldom: the multiples of FNV-1a, with 256 behind each name
+-- the digest of a path: its bytes, with 256 behind each name, are the digits of a number in that base, of which the low 64 bits count
 abbrev pub with_byte : ℕ → ℕ → ℕ
 with_byte sum byte = (sum * 1099511628211 + byte) % 2 ^ 64
 
@@ -27,7 +27,3 @@ has_digest sum a = tree.is_at (nat_cmp (digest a.path)) sum
 -- a table has for each digest the place of the first entry that has it
 abbrev pub IsPlaced : BTreeMap ℕ ℕ → List AdapterConf → Type 0
 IsPlaced places entries = (sum : ℕ) → tree.get nat_cmp places sum ≡ position_from (has_digest sum) 0 entries
-
-abbrev pub or_first : {X : Type 0} → Option X → Option X → Option X
-or_first None y = y
-or_first (Some x) y = Some x

@@ -1,9 +1,10 @@
 //! The templates of adapters, found by their paths.
 ghost use Rattle.std.specs.Prelude.{◌≡◌, ℕ, IfOk, OnOk, option_copied, slice_get, fold, if◌then◌else◌, Some, None};
 ghost use Rattle.std.specs.BTreeMap as tree;
+ghost use Rattle.std.specs.Option.{option_or};
 ghost use Rattle.std.specs.Ordering.{nat_cmp};
 ghost use Rattle.poa_base.specs.Templates as templates;
-ghost use Rattle.poa_base.specs.Templates.{IsPlaced, or_first};
+ghost use Rattle.poa_base.specs.Templates.{IsPlaced};
 
 use crate::config::AdapterConf;
 use crate::name::Name;
@@ -11,10 +12,10 @@ use std::alloc::AllocError;
 use std::collections::BTreeMap;
 use std::marker::Model;
 
-/// The factor of the digest: the prime of FNV-1a of 64 bits.
+/// The factor of the digest: the prime of the hash FNV of 64 bits.
 const FACTOR: u64 = 1_099_511_628_211;
 
-/// A list of templates, with a table of their places. To find one takes a step of that table and a look at the entry.
+/// A list of templates, and a table of the digests of their paths, by which one is found without a walk.
 #[derive(Drop)]
 pub struct Templates {
     entries: Vec<AdapterConf>,
@@ -39,7 +40,10 @@ impl Templates {
     pub fn from_vec(entries: Vec<AdapterConf>) -> Result<Self, AllocError>
         ensures { IfOk result (λ t. t ≡ entries.items) }
     {
-        let places = places_of(entries.as_slice(), BTreeMap::new(entries.allocator().clone()?))?;
+        let places = places_of(
+            entries.as_slice(),
+            BTreeMap::new(entries.allocator().clone()?),
+        )?;
         Ok(Templates { entries, places })
     }
 
@@ -69,7 +73,7 @@ fn entry_at(entries: &[AdapterConf], place: usize) -> Option<&AdapterConf>
     entries.get(place)
 }
 
-/// The first entry of a path, looked for from the front: where paths share a digest.
+/// The first entry of a path, found by a walk: where two paths share a digest.
 fn first_of<'a>(entries: &'a [AdapterConf], path: &[Name]) -> Option<&'a AdapterConf>
     ensures { option_copied result ≡ templates.of_path entries.now path.now }
 {
@@ -98,6 +102,7 @@ fn with_name(digest: u64, name: &Name) -> u64
     with_byte(with_bytes(digest, name.as_slice()), 256)
 }
 
+/// The digest of a path. Behind each name stands 256, which is no byte, so that it tells where names end.
 fn digest(path: &[Name]) -> u64
     ensures { result ≡ templates.digest path.now }
 {
@@ -111,7 +116,7 @@ fn digest(path: &[Name]) -> u64
 /// Puts a place at a digest that has none.
 fn place_at(places: &mut BTreeMap<u64, usize>, digest: u64, place: usize) -> Result<(), AllocError>
     ensures { OnOk result ((other : ℕ) → tree.get nat_cmp places.new other
-        ≡ or_first (tree.get nat_cmp places.old other)
+        ≡ option_or (tree.get nat_cmp places.old other)
         (if tree.is_at (nat_cmp digest) other then Some place else None)) }
 {
     if !places.contains_key(&digest) {

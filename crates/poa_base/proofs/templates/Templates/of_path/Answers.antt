@@ -1,4 +1,4 @@
-use Rattle.std.proofs.Common.{◌≡◌, true, arith, None, Some, sym, ap, ◌∙◌}
+use Rattle.std.proofs.Common.{◌≡◌, true, arith, None, Some}
 use Rattle.std.specs.Prelude.{slice_get, nat_eq}
 use Rattle.std.specs.BTreeMap as tree
 use Rattle.std.specs.Cmp.Lexicographic.{pointwise}
@@ -10,8 +10,14 @@ use Rattle.poa_base.proofs.templates.Templates.of_path.Goals as goal
 
 pub returns-in_err-place : goal.returns-in_err-place
 returns-in_err-place c =
-    grind (arith, common_steps, c.self.view_is, c.get.ensures.value, c.digest.ensures,
-    none_of_digest c.self.inside.places c.self.inside.entries.items c.self.invariant c.args.path.now)
+    grind (
+      arith,
+      common_steps,
+      c.self.view_is,
+      c.get.ensures.value,
+      c.digest.ensures,
+      none_of_digest c.self.inside.places c.self.inside.entries.items c.self.invariant c.args.path.now,
+    )
 
 pub returns-in_err-entry : goal.returns-in_err-entry
 returns-in_err-entry c =
