@@ -1,6 +1,6 @@
 //! What the configuration says of an adapter, a manager and a servant. A path is its names.
 ghost use Rattle.std.specs.Prelude.{◌≡◌, ◌==◌, ◌&&◌, not, ◌<◌, ◌≤◌, ◌^◌, [], ◌∷◌, None, IfOk, IsOk, IfSome, codes, length, option_copied, is_some, position, false, true};
-ghost use Rattle.history_standing.specs.Paths.{same_bytes, same_path};
+ghost use Rattle.history_standing.specs.Paths.{same_bytes};
 ghost use Rattle.history_standing.specs.Templates as configured;
 
 use poa_base::{AdapterConf, Children, Config, Name, Policy, PolicySet, RuleConf, WantMemory};
@@ -16,44 +16,11 @@ const ROOT: PolicySet = PolicySet {
     processing: Policy::MapOnly,
 };
 
-/// Whether both have the same name at a place where each has one.
-fn same_at(path: &[Name], other: &[Name], place: usize) -> bool
-    requires one { place < length path.now }
-    requires other { place < length other.now }
-    ensures { path.now ≡ other.now → result ≡ true }
-{
-    path[place] == other[place]
-}
-
-/// Whether both have as many names, and the same last one. Most paths of one configuration that differ do so there.
-fn ends_alike(path: &[Name], other: &[Name]) -> bool
-    ensures { path.now ≡ other.now → result ≡ true }
-{
-    if path.len() != other.len() {
-        return false;
-    }
-    if path.is_empty() {
-        return true;
-    }
-    same_at(path, other, path.len() - 1)
-}
-
-/// Whether the entry is that of the path.
-fn is_entry_of(entry: &AdapterConf, path: &[Name]) -> bool
-    ensures { result ≡ same_path entry.now.path path.now }
-{
-    ends_alike(entry.path.as_slice(), path) && entry.path.as_slice() == path
-}
-
 /// The configured entry of a path.
 pub fn entry_of<'a>(config: &'a Config, path: &[Name]) -> Option<&'a AdapterConf>
     ensures { option_copied result ≡ configured.entry_of config.now path.now }
 {
-    config
-        .adapters
-        .as_slice()
-        .iter()
-        .find(|entry| is_entry_of(entry, path))
+    config.adapters.of_path(path)
 }
 
 /// The configured entry of a path other than the root's.

@@ -1,3 +1,4 @@
 pub mod Rows
 pub mod Shelves
 pub mod Stored
+pub mod Finding

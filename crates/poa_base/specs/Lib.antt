@@ -5,3 +5,4 @@ pub mod Minors
 pub mod Rows
 pub mod Shelves
 pub mod Store
+pub mod Templates

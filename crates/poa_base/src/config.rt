@@ -9,6 +9,7 @@ use crate::oid::Oid;
 use crate::path::Path;
 use crate::policy::PolicySet;
 use crate::servant::State;
+use crate::templates::Templates;
 
 /// What a server is configured with. Manager 0 is `root`, and the configured managers follow from 1
 /// on; a servant's number is its place in `servants`, from 0 on.
@@ -25,7 +26,7 @@ pub struct Config {
     pub root: ManagerState,
     pub managers: Items<ManagerConf>,
     pub servants: Items<ServantConf>,
-    pub adapters: Items<AdapterConf>,
+    pub adapters: Templates,
     pub objects: Items<ObjectConf>,
     pub forwards: Items<ForwardConf>,
 }

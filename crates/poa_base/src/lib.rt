@@ -30,6 +30,7 @@ mod session;
 mod short;
 mod stage;
 mod store;
+mod templates;
 mod verdict;
 
 pub use answer::{Answer, Reason};
@@ -60,4 +61,5 @@ pub use session::{Session, SessionEnd};
 pub use stage::{Cause, Point};
 pub use std::alloc::AllocError as WantMemory;
 pub use store::{Row, Store, stores_change_one_place};
+pub use templates::Templates;
 pub use verdict::Verdict;

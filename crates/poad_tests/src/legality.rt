@@ -1,14 +1,15 @@
 //! What no clause says: that each call succeeds with ample memory, on a run with one `shutdown`.
 use poa_base::{
-    Answer, Bytes, Call, Command, Config, Entry, Items, ManagerState, Store, Verdict, WantMemory,
+    Answer, Bytes, Call, Command, Config, Entry, Items, ManagerState, Store, Templates, Verdict,
+    WantMemory,
 };
 use poa_model::{first_illegal, may_follow};
 use std::alloc::Global;
 use std::test::Fail;
 
 /// No adapter but the root.
-fn config(alloc: Global) -> Config {
-    Config {
+fn config(alloc: Global) -> Result<Config, WantMemory> {
+    Ok(Config {
         run: 1,
         host: Bytes::new(alloc),
         port: 1,
@@ -17,10 +18,10 @@ fn config(alloc: Global) -> Config {
         root: ManagerState::Active,
         managers: Items::new(alloc),
         servants: Items::new(alloc),
-        adapters: Items::new(alloc),
+        adapters: Templates::from_vec(Vec::new(alloc))?,
         objects: Items::new(alloc),
         forwards: Items::new(alloc),
-    }
+    })
 }
 
 fn shutdown(number: u64) -> Entry {
@@ -54,14 +55,14 @@ fn whole(alloc: Global) -> Result<Vec<Entry>, Fail> {
 
 /// The place of the first illegal entry of a history.
 fn illegal_place(alloc: Global, history: &[Entry]) -> Result<Option<usize>, WantMemory> {
-    let config = config(alloc);
+    let config = config(alloc)?;
     let store = Store::new(alloc);
     first_illegal(alloc, &config, 1, 0, &store, history)
 }
 
 /// Whether an entry may come behind these.
 fn may_come(alloc: Global, past: &[Entry], entry: &Entry) -> Result<bool, WantMemory> {
-    let config = config(alloc);
+    let config = config(alloc)?;
     let store = Store::new(alloc);
     may_follow(alloc, &config, 1, 0, &store, past, entry)
 }
