@@ -1,6 +1,7 @@
 //! The adapters of a configuration.
-ghost use Rattle.std.specs.Prelude.{◌≡◌, ◌≤◌, true, false, [], length, None, IfOk, IfSome, Option};
+ghost use Rattle.std.specs.Prelude.{◌≡◌, ◌≤◌, true, false, [], length, None, IfErr, IfOk, IfSome, Option};
 ghost use Rattle.toml.specs.View.{table_view};
+ghost use Rattle.conf_fields.specs.declared.ConfFault.TheVariants as fault;
 ghost use Rattle.conf_fields.specs.FieldGives.{FieldGives, GivesView};
 ghost use Rattle.conf_fields.specs.Look.{only_known};
 ghost use Rattle.conf_fields.specs.Numbers.{Find, IsNumber, find_in, place_of};
@@ -18,7 +19,7 @@ use conf_fields::{
     ConfFault, Numbers, Place, entries_at, find, flag_or, has, known_keys, no_numbers, none_of,
     not_twice, note, number_named, only_if, path_at, table_in, word_maybe,
 };
-use poa_base::{AdapterConf, Items, Path, PolicySet};
+use poa_base::{AdapterConf, Items, Path, PolicySet, Templates};
 use poa_policy::defaults;
 use std::alloc::Global;
 use toml::{Table, Value};
@@ -308,6 +309,14 @@ impl<'a> Reader for AdapterRows<'a> {
     }
 }
 
+/// The same adapters, to be found by their paths.
+fn templates(entries: Items<AdapterConf>) -> Result<Templates, ConfFault>
+    ensures same { IfOk result (λ adapters. adapters ≡ entries) }
+    ensures memory { IfErr result (λ e. e ≡ fault.WantMemory) }
+{
+    Ok(Templates::from_vec(entries.into_vec())?)
+}
+
 /// The adapters of the document, and the places of their paths, by the numbers of managers and servants.
 #[tactic(auto, unfolding(crate::specs::Adapters::adapters_of))]
 pub fn adapters(
@@ -315,7 +324,7 @@ pub fn adapters(
     top: &Table,
     managers: &Numbers,
     servants: &Numbers,
-) -> Result<(Items<AdapterConf>, Numbers), ConfFault>
+) -> Result<(Templates, Numbers), ConfFault>
     ensures value { GivesView (λ p. p.0) result
         (adapters_of (find_in managers.now) (find_in servants.now) (table_view top.now)) }
     ensures paths { IfOk result (λ p. find_in p.1 ≡ place_of (adapter_paths p.0)) }
@@ -326,6 +335,6 @@ pub fn adapters(
     let values = entries_at(alloc, Place::Top, top, "adapter", 1024)?;
     let mut paths = no_numbers(alloc);
     let reader = AdapterRows { managers, servants };
-    let adapters = read(alloc, &reader, values, &mut paths)?;
-    Ok((adapters, paths))
+    let entries = read(alloc, &reader, values, &mut paths)?;
+    Ok((templates(entries)?, paths))
 }

@@ -12,7 +12,7 @@ use crate::object::{Homes, objects};
 use crate::servant::servants;
 use crate::settings::top_settings;
 use conf_fields::ConfFault;
-use poa_base::{Config, Templates};
+use poa_base::Config;
 use std::alloc::Global;
 use toml::Table;
 
@@ -33,7 +33,6 @@ fn config(alloc: Global, top: &Table) -> Result<Config, ConfFault>
     };
     let objects = objects(alloc, top, &homes)?;
     let forwards = forwards(alloc, top)?;
-    let templates = Templates::from_vec(adapters.into_vec())?;
     Ok(Config {
         run: settings.run,
         host: settings.host,
@@ -43,7 +42,7 @@ fn config(alloc: Global, top: &Table) -> Result<Config, ConfFault>
         root: settings.root,
         managers,
         servants,
-        adapters: templates,
+        adapters,
         objects,
         forwards,
     })
