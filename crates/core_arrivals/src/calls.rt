@@ -1,5 +1,5 @@
 //! Where in the journal each call arrived.
-ghost use Rattle.std.specs.Prelude.{◌≡◌, [], ◌∷◌, ◌<◌, ℕ, true, List, length, Some, None, reverse, option_copied, option_map, vec_len, vec_capacity, IfOk, IsOk, OnOk};
+ghost use Rattle.std.specs.Prelude.{◌≡◌, [], ◌<◌, ℕ, true, Some, None, reverse, option_copied, option_map, vec_len, vec_capacity, IfOk, IsOk, OnOk};
 ghost use Rattle.std.specs.List.{slice_get};
 ghost use Rattle.poa_base.specs.declared.Entry.{Entry};
 ghost use Rattle.journal_entries.specs.Rows.{seen};
@@ -7,7 +7,7 @@ ghost use Rattle.history_standing.specs.Arrivals as arrived;
 ghost use Rattle.poa_history.specs.Entries as made;
 ghost use Rattle.core_arrivals.specs.Queued as queued;
 ghost use Rattle.core_arrivals.specs.Placed as placed;
-ghost use Rattle.core_arrivals.specs.Placed.{KnowsCalls};
+ghost use Rattle.core_arrivals.specs.Placed.{KnowsCalls, CallsFollow};
 
 use history_standing::Stage;
 use journal_entries::{Entries, EntryView, Row};
@@ -133,8 +133,7 @@ pub fn reserve(calls: &mut Calls) -> Result<(), WantMemory>
 pub fn advance(entry: &Entry, place: usize, calls: &mut Calls)
     requires { placed.arrives entry.now ≡ true
         → vec_len calls.old.places < vec_capacity calls.old.places }
-    ensures { (past : List Entry) → place ≡ length past → KnowsCalls past calls.old.places.items
-        → KnowsCalls (entry.now ∷ past) calls.new.places.items }
+    ensures { CallsFollow place entry.now calls.old.places.items calls.new.places.items }
 {
     if let Entry::Arrive { .. } = entry {
         calls.places.push_reserved(place);
