@@ -1,14 +1,23 @@
 -- What the rows know of the calls that wait.
-use Rattle.std.specs.Prelude.{◌≡◌, ℕ, ◌<◌, Bool, true, ◌||◌, List}
+use Rattle.std.specs.Prelude.{◌≡◌, ℕ, ◌<◌, Bool, true, ◌||◌, List, ◌∷◌}
 use Rattle.poa_base.specs.declared.Config.{Config}
 use Rattle.poa_base.specs.declared.Entry.{Entry}
 use Rattle.history_standing.specs.Arrivals.{arrivals}
 use Rattle.history_standing.specs.Situations.{facts_of}
 use Rattle.history_standing.specs.Trees.{In}
+use Rattle.history_standing.specs.declared.stage.Stage.{Stage}
+use Rattle.poa_history.specs.Alone.{IsGivenAlone}
+use Rattle.poa_history.specs.Bounds.{IsWithinLimits}
+use Rattle.poa_history.specs.Entries.{stage_at}
+use Rattle.poa_history.specs.Legal.{IsLegal}
+use Rattle.poa_history.specs.Sound.{IsGiven}
 use Rattle.held_queue.specs.Blocks.{Blocks, TakesTurn}
+use Rattle.held_queue.specs.Frees.{freed_by}
 use Rattle.held_queue.specs.Numbers.{Heap, has}
 use Rattle.held_queue.specs.Rows.{in_rows, IsSettledRow}
 use Rattle.poa_history.specs.Waiting.{is_waiting}
+use Rattle.held_queue.specs.declared.freed.Freed.{Freed}
+use Rattle.held_queue.specs.declared.hold.Hold.{Hold}
 use Rattle.held_queue.specs.declared.grip.Grip.{Grip}
 use Rattle.held_queue.specs.declared.grip.Grip.TheVariants.{Held, Turn, Loose}
 use Rattle.held_queue.specs.declared.row.Row.{Row}
@@ -38,3 +47,23 @@ AreSettled w ready rows = (row : Row) → In row rows → IsSettledRow w ready r
 
 abbrev pub IsSettled : ℕ → HeldQueue → Type 0
 IsSettled w q = AreSettled w q.ready.heap q.rows.items
+
+-- the queue agrees with each history that it agreed with
+abbrev pub HeldStays : HeldQueue → HeldQueue → Type 0
+HeldStays old new = (c : Config) (run : ℕ) (h : List Entry) → AreHeld c run h old → AreHeld c run h new
+
+-- the same of the histories of which this holds
+abbrev pub HeldStaysWhere : (Config → ℕ → List Entry → Type 0) → HeldQueue → HeldQueue → Type 0
+HeldStaysWhere given old new = (c : Config) (run : ℕ) (h : List Entry) → given c run h → AreHeld c run h old → AreHeld c run h new
+
+-- the same of the histories in which the arrival is held by this
+abbrev pub HeldPuts : ℕ → Hold → HeldQueue → HeldQueue → Type 0
+HeldPuts r hold old new = (c : Config) (run : ℕ) (h : List Entry) → r < arrivals h → Blocks (facts_of c run h r) hold → AreHeld c run h old
+    → AreHeld c run h new
+
+-- the queue took a legal entry in, with how many calls arrived, what its worker had begun and what the entry frees
+abbrev pub HeldFollows : Entry → ℕ → Stage → Freed → HeldQueue → HeldQueue → Type 0
+HeldFollows e count begun freed old new =
+    (c : Config) (run limit : ℕ) (past : List Entry) → IsGiven c run → IsGivenAlone c run → IsWithinLimits c limit
+    → IsLegal c run limit (e ∷ past) → count ≡ arrivals past → begun ≡ stage_at past e → freed ≡ freed_by c run past e
+    → AreHeld c run past old → AreHeld c run (e ∷ past) new
