@@ -1,5 +1,5 @@
 -- What stands, what is set, and the servants, after a history.
-use Rattle.std.specs.Prelude.{◌≡◌, ℕ, Bool, true, false, List, ◌∷◌, Option, option_copied}
+use Rattle.std.specs.Prelude.{◌≡◌, ℕ, Bool, true, false, List, ◌∷◌, Option, option_copied, Result, IfOk, OnOk, OnErr}
 use Rattle.poa_base.specs.declared.Config.{Config}
 use Rattle.poa_base.specs.declared.Call.{Call}
 use Rattle.poa_base.specs.declared.Outcome.{Outcome}
@@ -59,3 +59,24 @@ only_ends (Done w) = true
 only_ends (TakeOut w n etherealize) = true
 only_ends (Etherealized w cleanup remaining) = true
 only_ends e = false
+
+-- the entry comes next in some run
+abbrev pub ComesNext : Config → ℕ → Coming → State → Type 0
+ComesNext c run k s = (limit : ℕ) × (opened : Stored) × (past : List Entry) × IsNext c run limit opened past k s
+
+-- where it succeeds, the state took in the entry that comes next
+abbrev pub StateFollows : {T E : Type 0} → Config → ℕ → Coming → State → Result T E → State → Type 0
+StateFollows c run k old result new =
+    (limit : ℕ) (opened : Stored) (past : List Entry) → IsNext c run limit opened past k old
+    → OnOk result (IsState c run opened (k.entry.now ∷ past) new)
+
+-- where it fails, the state agrees with each history that it agreed with
+abbrev pub StateStays : {T E : Type 0} → Config → ℕ → State → Result T E → State → Type 0
+StateStays c run old result new =
+    (opened : Stored) (past : List Entry) → IsState c run opened past old → OnErr result (IsState c run opened past new)
+
+-- where it succeeds, it is the outcome of the servant that runs with the entry that comes next
+abbrev pub GivesOutcome : {E : Type 0} → Config → ℕ → Coming → State → Result (Option Outcome) E → Type 0
+GivesOutcome c run k old result =
+    (limit : ℕ) (opened : Stored) (past : List Entry) → IsNext c run limit opened past k old
+    → IfOk result (λ outcome. outcome ≡ outcome_of c run opened past k)
