@@ -20,3 +20,7 @@ pub record KnowsTables (c : Config) (run : ℕ) (h : List Entry) (t : Tables) : 
   pub workers : KnowsWorkers h t.workers
   -- the connections, calls and bytes that were counted
   pub tally : IsTally h t.tally
+
+-- the tables agree with each history that they agreed with
+abbrev pub TablesStay : Tables → Tables → Type 0
+TablesStay old new = (c : Config) (run : ℕ) (h : List Entry) → KnowsTables c run h old → KnowsTables c run h new

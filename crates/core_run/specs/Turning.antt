@@ -1,5 +1,5 @@
 -- How an entry of a worker takes effect.
-use Rattle.std.specs.Prelude.{◌≡◌, ℕ, ◌==◌, Bool, true, false, if◌then◌else◌, List, [], ◌∷◌, Option, Some, None, option_copied}
+use Rattle.std.specs.Prelude.{◌≡◌, ℕ, ◌==◌, Bool, true, false, if◌then◌else◌, List, [], ◌∷◌, Option, Some, None, option_copied, Result, IfOk, OnOk}
 use Rattle.poa_base.specs.declared.Call.{Call}
 use Rattle.poa_base.specs.declared.Config.{Config}
 use Rattle.poa_base.specs.declared.Entry.{Entry}
@@ -10,6 +10,7 @@ use Rattle.poa_history.specs.Runs.{IsRun}
 use Rattle.poa_history.specs.Entries.{stage_at}
 use Rattle.held_queue.specs.Frees.{freed_by}
 use Rattle.core_outboxes.specs.Decided.{Decides}
+use Rattle.core_outboxes.specs.declared.decision.Decision.{Decision}
 use Rattle.core_outboxes.specs.Desk.{WaitIs}
 use Rattle.core_outboxes.specs.Waits.{ordered_by}
 use Rattle.core_state.specs.declared.state.State.{State}
@@ -59,3 +60,25 @@ pub record IsBrought (c : Config) (run : ℕ) (opened : Stored) (past : List Ent
   pub waits : WaitIs c run past e b.wait
   pub orders : b.ordered ≡ ordered_by c past e
   pub frees : b.freed ≡ freed_by c run past e
+
+-- the entry comes next in some run
+abbrev pub ComesInTurn : Config → ℕ → Coming → State → Type 0
+ComesInTurn c run k s = (limit : ℕ) × (opened : Stored) × (past : List Entry) × IsAsked c run limit opened past k s
+
+-- where it succeeds, the state took in the entry that comes next
+abbrev pub TurnFollows : {T E : Type 0} → Config → ℕ → Coming → State → Result T E → State → Type 0
+TurnFollows c run k old result new =
+    (limit : ℕ) (opened : Stored) (past : List Entry) → IsAsked c run limit opened past k old
+    → OnOk result (IsState c run opened (k.entry.now ∷ past) new)
+
+-- where it succeeds, it is what the entry that comes next decides
+abbrev pub TurnDecides : {E : Type 0} → Config → ℕ → Coming → State → Result (Option Decision) E → Type 0
+TurnDecides c run k old result =
+    (limit : ℕ) (opened : Stored) (past : List Entry) → IsAsked c run limit opened past k old
+    → IfOk result (Decides c run opened past k.entry.now)
+
+-- where it succeeds, it is what the entry that comes next brings
+abbrev pub TurnBrings : {E : Type 0} → Config → ℕ → Coming → State → Result Brought E → Type 0
+TurnBrings c run k old result =
+    (limit : ℕ) (opened : Stored) (past : List Entry) → IsAsked c run limit opened past k old
+    → IfOk result (λ b. IsBrought c run opened past k.entry.now b)
