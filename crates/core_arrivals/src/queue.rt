@@ -12,7 +12,7 @@ ghost use Rattle.history_standing.specs.Searches.{count_below};
 ghost use Rattle.history_standing.specs.Situations as situations;
 ghost use Rattle.history_standing.specs.Stages as begun;
 ghost use Rattle.core_arrivals.specs.Queued as queued;
-ghost use Rattle.core_arrivals.specs.Queued.{IsQueue, HasPlace, QueueStays, QueueTells};
+ghost use Rattle.core_arrivals.specs.Queued.{QueueAgrees, HasPlace, QueueStays, QueueTells};
 ghost use Rattle.poa_history.specs.Waiting.{is_waiting, may_queue};
 
 use crate::ordered::{has, insert, insert_if, push_if, remove};
@@ -36,7 +36,7 @@ pub struct Queue {
 
 /// The queue before the first arrival.
 pub fn empty(alloc: Global) -> Queue
-    ensures { IsQueue [] result }
+    ensures { QueueAgrees [] result }
 {
     Queue {
         unadmitted: VecDeque::new(alloc),
@@ -125,8 +125,8 @@ fn child_made(call: Option<&Call>, arrival: Option<u64>, queue: &mut Queue)
         → IsManned c run past
         → arrival ≡ begun.arrival_in (begun.stage past w)
         → option_copied call.entry ≡ call_tried past (entry_kinds.Tried w (attempt_kinds.Yes n))
-        → IsQueue past queue.old
-        → IsQueue (entry_kinds.Tried w (attempt_kinds.Yes n) ∷ past) queue.new }
+        → QueueAgrees past queue.old
+        → QueueAgrees (entry_kinds.Tried w (attempt_kinds.Yes n) ∷ past) queue.new }
 {
     if let Some(arrival) = arrival {
         put_back(call, arrival, queue);

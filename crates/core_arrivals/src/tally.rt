@@ -1,6 +1,6 @@
 //! The tally of a run.
 ghost use Rattle.std.specs.Prelude.{◌≡◌, [], OnOk};
-ghost use Rattle.core_arrivals.specs.Tallies.{IsTally, HasRoomForOne, TallyStays};
+ghost use Rattle.core_arrivals.specs.Tallies.{TallyAgrees, HasRoomForOne, TallyStays};
 
 use poa_base::WantMemory;
 use poa_history::Full;
@@ -29,7 +29,7 @@ pub struct Tally {
 
 /// The tally of a run that hasn't begun. Takes no memory.
 pub fn none(alloc: Global) -> Tally
-    ensures { IsTally [] result }
+    ensures { TallyAgrees [] result }
 {
     Tally {
         left: Vec::new(alloc),

@@ -5,7 +5,7 @@ ghost use Rattle.history_standing.specs.declared.stage.Stage.TheVariants as stag
 ghost use Rattle.history_standing.specs.Stages as history;
 ghost use Rattle.poa_history.specs.Entries as entries;
 ghost use Rattle.core_arrivals.specs.Begun as tables;
-ghost use Rattle.core_arrivals.specs.Begun.{KnowsWorkers, WorkersTell};
+ghost use Rattle.core_arrivals.specs.Begun.{WorkersAgree, WorkersTell};
 
 use history_standing::Stage;
 use poa_base::{Entry, WantMemory};
@@ -21,7 +21,7 @@ pub struct Workers {
 
 /// The workers before the first entry.
 pub fn all_free(alloc: Global) -> Result<Workers, WantMemory>
-    ensures { IfOk result (λ workers. KnowsWorkers [] workers) }
+    ensures { IfOk result (λ workers. WorkersAgree [] workers) }
 {
     Ok(Workers {
         stages: vec![in alloc; Stage::Free; 16]?,

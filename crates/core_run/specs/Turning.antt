@@ -15,7 +15,7 @@ use Rattle.core_outboxes.specs.Desk.{WaitIs}
 use Rattle.core_outboxes.specs.Waits.{ordered_by}
 use Rattle.core_state.specs.declared.state.State.{State}
 use Rattle.core_state.specs.declared.coming.Coming.{Coming}
-use Rattle.core_state.specs.State.{IsState}
+use Rattle.core_state.specs.State.{StateAgrees}
 use Rattle.poa_history.specs.Entries.{is_turn}
 use Rattle.core_outboxes.specs.Comes.{call_at}
 use Rattle.core_run.specs.declared.brought.Brought.{Brought}
@@ -52,7 +52,7 @@ pub record IsAsked (c : Config) (run limit : ℕ) (opened : Stored) (past : List
   pub begun_is : k.stage ≡ stage_at past k.entry.now
   pub call_is : option_copied k.call ≡ call_at past k.entry.now
   pub servant_is : k.runs ≡ servant_run c run past k.stage
-  pub state : IsState c run opened past s
+  pub state : StateAgrees c run opened past s
 
 -- what it brings is what the history says
 pub record IsBrought (c : Config) (run : ℕ) (opened : Stored) (past : List Entry) (e : Entry) (b : Brought) : Type 0 where
@@ -69,7 +69,7 @@ ComesInTurn c run k s = (limit : ℕ) × (opened : Stored) × (past : List Entry
 abbrev pub TurnFollows : {T E : Type 0} → Config → ℕ → Coming → State → Result T E → State → Type 0
 TurnFollows c run k old result new =
     (limit : ℕ) (opened : Stored) (past : List Entry) → IsAsked c run limit opened past k old
-    → OnOk result (IsState c run opened (k.entry.now ∷ past) new)
+    → OnOk result (StateAgrees c run opened (k.entry.now ∷ past) new)
 
 -- where it succeeds, it is what the entry that comes next decides
 abbrev pub TurnDecides : {E : Type 0} → Config → ℕ → Coming → State → Result (Option Decision) E → Type 0

@@ -9,7 +9,7 @@ ghost use Rattle.held_queue.specs.Frees.{freed_by};
 ghost use Rattle.held_queue.specs.Numbers.{HasRoom};
 ghost use Rattle.poa_history.specs.Waiting.{may_queue};
 ghost use Rattle.core_arrivals.specs.Tallies.{HasRoomFor, HasRoomForOne};
-ghost use Rattle.core_run.specs.Known.{KnowsTables, TablesStay};
+ghost use Rattle.core_run.specs.Known.{TablesAgree, TablesStay};
 
 use core_arrivals::{Calls, Queue, Tally, Workers, calls, queue, workers};
 use held_queue::{Freed, HeldQueue};
@@ -31,7 +31,7 @@ pub struct Tables {
 impl Tables {
     /// The tables of a run that hasn't begun.
     pub fn new(alloc: Global) -> Result<Tables, WantMemory>
-        ensures { (c : Config) (run : ℕ) → IfOk result (λ tables. KnowsTables c run [] tables) }
+        ensures { (c : Config) (run : ℕ) → IfOk result (λ tables. TablesAgree c run [] tables) }
     {
         Ok(Tables {
             calls: calls::none(alloc),
@@ -69,8 +69,8 @@ impl Tables {
             → IsRun c run limit (entry.now ∷ reverse entries.now.items)
             → stage ≡ stage_at (reverse entries.now.items) entry.now
             → freed ≡ freed_by c run (reverse entries.now.items) entry.now
-            → KnowsTables c run (reverse entries.now.items) self.old
-            → KnowsTables c run (entry.now ∷ reverse entries.now.items) self.new }
+            → TablesAgree c run (reverse entries.now.items) self.old
+            → TablesAgree c run (entry.now ∷ reverse entries.now.items) self.new }
     {
         let arrivals = self.tally.arrivals;
         let admitted = calls::call_admitted(entries, &self.calls, entry);

@@ -1,7 +1,7 @@
 //! The entries that workers make.
 ghost use Rattle.std.specs.Prelude.{◌≡◌, ℕ, true, false, List, reverse, option_copied, IsOk};
 ghost use Rattle.poa_history.specs.Entries.{stage_at};
-ghost use Rattle.core_arrivals.specs.Placed.{KnowsCalls};
+ghost use Rattle.core_arrivals.specs.Placed.{CallsAgree};
 ghost use Rattle.core_outboxes.specs.Comes.{call_at as the_call_at};
 ghost use Rattle.core_state.specs.State.{only_ends, StateStays};
 ghost use Rattle.poa_base.specs.declared.Entry.{Entry as EntryOf};
@@ -27,7 +27,7 @@ pub fn call_at<'a>(
     entry: &Entry,
     stage: Stage,
 ) -> Option<&'a Call>
-    ensures { KnowsCalls (reverse entries.now.items) known.now.places.items
+    ensures { CallsAgree (reverse entries.now.items) known.now.places.items
         → stage ≡ stage_at (reverse entries.now.items) entry.now
         → option_copied result ≡ the_call_at (reverse entries.now.items) entry.now }
 {

@@ -47,7 +47,7 @@ abbrev pub forward_in : Config → Settings → List (List ℕ) → Option Endpo
 forward_in c s p = forward_from (endpoint_in c s) [] p
 
 -- they say of each manager and each path what the history says
-pub record Tells (c : Config) (past : List Entry) (s : Settings) : Type 0 where
+pub record SettingsAgree (c : Config) (past : List Entry) (s : Settings) : Type 0 where
   -- each manager has its state here, 0 being `root`
   pub managed : length s.managers ≡ suc (length c.managers)
   pub states : (m : ℕ) → state_in s m ≡ manager_state c past m
@@ -63,9 +63,9 @@ may_grow command = false
 
 -- what holds of each history that they agree with
 abbrev pub SettingsTell : Config → Settings → (List Entry → Type 0) → Type 0
-SettingsTell c s says = (past : List Entry) → Tells c past s → says past
+SettingsTell c s says = (past : List Entry) → SettingsAgree c past s → says past
 
 -- where it succeeds, they took in each entry that does the command
 abbrev pub SettingsFollow : {T E : Type 0} → Config → Option Command → Settings → Result T E → Settings → Type 0
-SettingsFollow c command old result new = (past : List Entry) (e : Entry) → Tells c past old → command ≡ command_done past e
-    → OnOk result (Tells c (e ∷ past) new)
+SettingsFollow c command old result new = (past : List Entry) (e : Entry) → SettingsAgree c past old → command ≡ command_done past e
+    → OnOk result (SettingsAgree c (e ∷ past) new)

@@ -1,7 +1,7 @@
 //! What the administrator's commands have set.
 ghost use Rattle.std.specs.Prelude.{◌≡◌, [], false, option_copied, IfOk, IsOk, OnOk, OnErr};
 ghost use Rattle.history_standing.specs.Logs as logs;
-ghost use Rattle.core_settings.specs.Told.{Tells, may_grow, SettingsFollow};
+ghost use Rattle.core_settings.specs.Told.{SettingsAgree, may_grow, SettingsFollow};
 ghost use Rattle.core_settings.specs.Changed.{Follows};
 
 use crate::endpoints::Endpoints;
@@ -24,7 +24,7 @@ pub struct Settings {
 
 /// What is set before the first entry: the managers are as configured.
 pub fn opening(alloc: Global, config: &Config) -> Result<Settings, WantMemory>
-    ensures { IfOk result (λ settings. Tells config.now [] settings) }
+    ensures { IfOk result (λ settings. SettingsAgree config.now [] settings) }
 {
     Ok(Settings {
         managers: Managers::new(alloc, config)?,

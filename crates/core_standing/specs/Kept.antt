@@ -32,7 +32,7 @@ abbrev pub KeepsNoneOver : Config → Standing → Type 0
 KeepsNoneOver c t = (a : Activation) → In a t.activations → is_over c a ≡ true → a ≡ forgotten
 
 -- what is kept after a history: no more activations were begun than 32 bits number
-pub record StandsAfter (c : Config) (run : ℕ) (h : List Entry) (t : Standing) : Type 0 where
+pub record StandingAgrees (c : Config) (run : ℕ) (h : List Entry) (t : Standing) : Type 0 where
   pub stands : StandsFor c (standing c run h) t
   pub few : length t.activations ≤ 4294967296
 
@@ -47,5 +47,5 @@ StandingFollows c run e begun call old result new = (past : List Entry) → old 
 
 -- the same of what is kept
 abbrev pub KeptFollows : {T E : Type 0} → Config → ℕ → Entry → Stage → Option Call → Standing → Result T E → Standing → Type 0
-KeptFollows c run e begun call old result new = (past : List Entry) → StandsAfter c run past old → begun ≡ stage_at past e
-    → call ≡ call_admitted past e → OnOk result (StandsAfter c run (e ∷ past) new)
+KeptFollows c run e begun call old result new = (past : List Entry) → StandingAgrees c run past old → begun ≡ stage_at past e
+    → call ≡ call_admitted past e → OnOk result (StandingAgrees c run (e ∷ past) new)

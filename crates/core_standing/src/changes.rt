@@ -9,7 +9,7 @@ ghost use Rattle.history_standing.specs.Opening as opens;
 ghost use Rattle.history_standing.specs.Keys as keys;
 ghost use Rattle.history_standing.specs.Logs.{command_in as command_of, is_accepted as accepts};
 ghost use Rattle.poa_history.specs.Entries as entries;
-ghost use Rattle.core_standing.specs.Kept.{KeepsNoneOver, StandsAfter, KeptFollows, StandingFollows, WhereItComes};
+ghost use Rattle.core_standing.specs.Kept.{KeepsNoneOver, StandingAgrees, KeptFollows, StandingFollows, WhereItComes};
 ghost use Rattle.core_standing.specs.Seen.{seen};
 
 use crate::asked_commands::{command_in, is_accepted};
@@ -253,7 +253,7 @@ pub fn advance_kept(
 ) -> Result<(), WantMemory>
     ensures ok { KeptFollows config.now run entry.now stage (option_copied call.entry)
         (seen standing.old) result (seen standing.new) }
-    ensures forgets { (past : List Entry) → StandsAfter config.now run past (seen standing.old)
+    ensures forgets { (past : List Entry) → StandingAgrees config.now run past (seen standing.old)
         → KeepsNoneOver config.now (seen standing.old)
         → stage ≡ entries.stage_at past entry.now
         → option_copied call.entry ≡ entries.call_admitted past entry.now

@@ -8,7 +8,7 @@ ghost use Rattle.history_standing.specs.Keys as keys;
 ghost use Rattle.history_standing.specs.Templates as templates;
 ghost use Rattle.core_standing.specs.Seen.{seen};
 ghost use Rattle.history_standing.specs.Walks.{place_met as place_is, walk as walk_along};
-ghost use Rattle.core_settings.specs.Told.{Tells, SettingsTell};
+ghost use Rattle.core_settings.specs.Told.{SettingsAgree, SettingsTell};
 ghost use Rattle.core_turns.specs.Said.{IsAsSaid};
 ghost use Rattle.core_turns.specs.Templates.{IsTemplate};
 ghost use Rattle.core_turns.specs.Ways.{IsWay};
@@ -269,7 +269,8 @@ fn facts_at(
     path: &[Name],
     found: Found,
 ) -> Result<Facts, WantMemory>
-    ensures { (past : List Entry) → path.now ≡ key.now.path → Tells config.now past settings.now
+    ensures { (past : List Entry) → path.now ≡ key.now.path
+        → SettingsAgree config.now past settings.now
         → IfOk result (λ facts. facts ≡ situations.facts_met config.now run past (seen standing.now)
         asked.locate asked.crowded asked.key key.now found) }
 {

@@ -34,12 +34,12 @@ abbrev pub IsRow : Config → ℕ → List Entry → Row → Type 0
 IsRow c run h row = (r : ℕ) → has row.calls.heap r ≡ true → (r < arrivals h) × IsGripped c run h r row.grip
 
 -- each call that waits is ready to be asked, or in a row of calls that are held
-pub record KnowsCalls (c : Config) (run : ℕ) (h : List Entry) (ready : Heap) (rows : List Row) : Type 0 where
+pub record RowsAgree (c : Config) (run : ℕ) (h : List Entry) (ready : Heap) (rows : List Row) : Type 0 where
   pub covered : (r : ℕ) → r < arrivals h → is_waiting h r ≡ true → (has ready r || in_rows rows r) ≡ true
   pub held : (row : Row) → In row rows → IsRow c run h row
 
-abbrev pub AreHeld : Config → ℕ → List Entry → HeldQueue → Type 0
-AreHeld c run h q = KnowsCalls c run h q.ready.heap q.rows.items
+abbrev pub HeldAgrees : Config → ℕ → List Entry → HeldQueue → Type 0
+HeldAgrees c run h q = RowsAgree c run h q.ready.heap q.rows.items
 
 -- of the calls that the worker asks, the least is ready
 abbrev pub AreSettled : ℕ → Heap → List Row → Type 0
@@ -50,20 +50,20 @@ IsSettled w q = AreSettled w q.ready.heap q.rows.items
 
 -- the queue agrees with each history that it agreed with
 abbrev pub HeldStays : HeldQueue → HeldQueue → Type 0
-HeldStays old new = (c : Config) (run : ℕ) (h : List Entry) → AreHeld c run h old → AreHeld c run h new
+HeldStays old new = (c : Config) (run : ℕ) (h : List Entry) → HeldAgrees c run h old → HeldAgrees c run h new
 
 -- the same of the histories of which this holds
 abbrev pub HeldStaysWhere : (Config → ℕ → List Entry → Type 0) → HeldQueue → HeldQueue → Type 0
-HeldStaysWhere given old new = (c : Config) (run : ℕ) (h : List Entry) → given c run h → AreHeld c run h old → AreHeld c run h new
+HeldStaysWhere given old new = (c : Config) (run : ℕ) (h : List Entry) → given c run h → HeldAgrees c run h old → HeldAgrees c run h new
 
 -- the same of the histories in which the arrival is held by this
 abbrev pub HeldPuts : ℕ → Hold → HeldQueue → HeldQueue → Type 0
-HeldPuts r hold old new = (c : Config) (run : ℕ) (h : List Entry) → r < arrivals h → Blocks (facts_of c run h r) hold → AreHeld c run h old
-    → AreHeld c run h new
+HeldPuts r hold old new = (c : Config) (run : ℕ) (h : List Entry) → r < arrivals h → Blocks (facts_of c run h r) hold → HeldAgrees c run h old
+    → HeldAgrees c run h new
 
 -- the queue took a legal entry in, with how many calls arrived, what its worker had begun and what the entry frees
 abbrev pub HeldFollows : Entry → ℕ → Stage → Freed → HeldQueue → HeldQueue → Type 0
 HeldFollows e count begun freed old new =
     (c : Config) (run limit : ℕ) (past : List Entry) → IsGiven c run → IsGivenAlone c run → IsWithinLimits c limit
     → IsLegal c run limit (e ∷ past) → count ≡ arrivals past → begun ≡ stage_at past e → freed ≡ freed_by c run past e
-    → AreHeld c run past old → AreHeld c run (e ∷ past) new
+    → HeldAgrees c run past old → HeldAgrees c run (e ∷ past) new

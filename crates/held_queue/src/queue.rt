@@ -4,7 +4,7 @@ ghost use Rattle.poa_base.specs.declared.Config.{Config};
 ghost use Rattle.poa_base.specs.declared.Entry.{Entry as EntryOf};
 ghost use Rattle.history_standing.specs.Arrivals.{arrivals as arrivals_in};
 ghost use Rattle.history_standing.specs.Changes.{standing};
-ghost use Rattle.held_queue.specs.Held.{AreHeld, IsSettled, HeldStays, HeldStaysWhere, HeldPuts, HeldFollows};
+ghost use Rattle.held_queue.specs.Held.{HeldAgrees, IsSettled, HeldStays, HeldStaysWhere, HeldPuts, HeldFollows};
 ghost use Rattle.held_queue.specs.Numbers.{has, HasRoom};
 ghost use Rattle.held_queue.specs.Rows.{freed_row};
 ghost use Rattle.poa_history.specs.Waiting.{is_waiting, may_queue, received as the_received};
@@ -54,7 +54,7 @@ fn received(entry: &Entry, arrivals: u64, stage: Stage) -> Option<u64>
 impl HeldQueue {
     /// The queue before the first arrival.
     pub fn empty(alloc: Global) -> HeldQueue
-        ensures { (c : Config) (run : ℕ) → AreHeld c run [] result }
+        ensures { (c : Config) (run : ℕ) → HeldAgrees c run [] result }
     {
         HeldQueue {
             ready: Numbers::new(alloc),
