@@ -68,6 +68,13 @@ QueueTakesBack r call old new =
     (c : Config) (run : ℕ) (past : List Entry) (w n : ℕ) → IsManned c run past → stage past w ≡ Trying r → call ≡ call_of past r
     → QueueAgrees past old → QueueAgrees (Tried w (Yes n) ∷ past) new
 
+-- a trial made the child, of the arrival that its worker was at
+abbrev pub QueueMakesChild : Option ℕ → Option Call → Queue → Queue → Type 0
+QueueMakesChild r call old new =
+    (c : Config) (run limit : ℕ) (past : List Entry) (w n : ℕ) → MayFollow c run limit past (Tried w (Yes n)) → IsManned c run past
+    → r ≡ arrival_in (stage past w) → call ≡ call_tried past (Tried w (Yes n)) → QueueAgrees past old
+    → QueueAgrees (Tried w (Yes n) ∷ past) new
+
 -- a trial ended, of the arrival that its worker was at
 abbrev pub QueueTries : Attempt → Option ℕ → Option Call → Queue → Queue → Type 0
 QueueTries answer r call old new =

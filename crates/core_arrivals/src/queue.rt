@@ -1,13 +1,8 @@
 //! Which arrivals wait to be admitted, and which came when too many waited.
-ghost use Rattle.std.specs.Prelude.{◌≡◌, ◌∷◌, ℕ, [], true, List, option_copied, IfOk, OnOk};
-ghost use Rattle.poa_base.specs.declared.Config.{Config};
+ghost use Rattle.std.specs.Prelude.{◌≡◌, [], true, option_copied, IfOk, OnOk};
 ghost use Rattle.poa_base.specs.declared.Entry.{Entry};
 ghost use Rattle.poa_base.specs.declared.Entry.TheVariants as entry_kinds;
-ghost use Rattle.poa_base.specs.declared.Attempt.TheVariants as attempt_kinds;
-ghost use Rattle.history_standing.specs.declared.stage.Stage.TheVariants as stage_kinds;
 ghost use Rattle.history_standing.specs.Arrivals.{arrivals as arrivals_in};
-ghost use Rattle.poa_history.specs.InFlight.{IsManned};
-ghost use Rattle.poa_history.specs.Legal.{MayFollow};
 ghost use Rattle.history_standing.specs.Searches.{count_below};
 ghost use Rattle.history_standing.specs.Situations as situations;
 ghost use Rattle.history_standing.specs.Stages as begun;
@@ -120,13 +115,7 @@ fn put_back(call: Option<&Call>, arrival: u64, queue: &mut Queue)
 /// A trial made the child.
 fn child_made(call: Option<&Call>, arrival: Option<u64>, queue: &mut Queue)
     requires { HasPlace queue.old }
-    ensures { (c : Config) (run limit : ℕ) (past : List Entry) (w n : ℕ)
-        → MayFollow c run limit past (entry_kinds.Tried w (attempt_kinds.Yes n))
-        → IsManned c run past
-        → arrival ≡ begun.arrival_in (begun.stage past w)
-        → option_copied call.entry ≡ call_tried past (entry_kinds.Tried w (attempt_kinds.Yes n))
-        → QueueAgrees past queue.old
-        → QueueAgrees (entry_kinds.Tried w (attempt_kinds.Yes n) ∷ past) queue.new }
+    ensures { queued.QueueMakesChild arrival (option_copied call.entry) queue.old queue.new }
 {
     if let Some(arrival) = arrival {
         put_back(call, arrival, queue);

@@ -1,6 +1,5 @@
 //! What the administrator's commands have set.
 ghost use Rattle.std.specs.Prelude.{◌≡◌, [], false, option_copied, IfOk, IsOk, OnOk, OnErr};
-ghost use Rattle.history_standing.specs.Logs as logs;
 ghost use Rattle.core_settings.specs.Told.{SettingsAgree, may_grow, SettingsFollow};
 ghost use Rattle.core_settings.specs.Changed.{Follows};
 

@@ -2,7 +2,6 @@
 ghost use Rattle.std.specs.Prelude.{◌≡◌, ◌==◌, ◌∷◌, [], true, false, is_some, List, Some, None, if◌then◌else◌, option_and_then, option_copied, IfOk};
 ghost use Rattle.poa_base.specs.declared.Entry.{Entry};
 ghost use Rattle.poa_choose.specs.declared.KeyFact.TheVariants.{OtherRun, Persistent, Transient};
-ghost use Rattle.history_standing.specs.Arrivals as calls;
 ghost use Rattle.history_standing.specs.Situations as situations;
 ghost use Rattle.history_standing.specs.Keys as keys;
 ghost use Rattle.history_standing.specs.Templates as templates;
