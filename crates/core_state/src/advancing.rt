@@ -108,10 +108,7 @@ fn served(
     let outcome = crate::servants_follow::advance(
         alloc,
         config,
-        coming.entry,
-        coming.stage,
-        coming.call,
-        coming.runs,
+        coming,
         &state.standing,
         &mut state.servants,
     )?;
